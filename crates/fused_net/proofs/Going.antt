@@ -11,14 +11,15 @@ use Rattle.port_core.specs.Wire.{JointPorts, Delivery, nothing, pull, cancel, ar
 use Rattle.port_core.specs.declared.act.Act.{Act}
 use Rattle.port_core.specs.declared.act.Act.TheVariants.{Pull, Push, Complete, FailOut, Cancel}
 use Rattle.wire_core.specs.Cell.{WireState, moved_by}
-use Rattle.wire_core.specs.Counts.{spent, asks}
-use Rattle.wire_core.proofs.Counting.{pull_spent, push_spent, close_spent, cancel_spent, deliver_spent, pull_asks, push_asks, close_asks, cancel_asks}
+use Rattle.wire_core.specs.Marks.{IsMarked}
+use Rattle.wire_core.specs.Counts.{spent, asks, heard}
+use Rattle.wire_core.proofs.Counting.{pull_spent, push_spent, close_spent, cancel_spent, deliver_spent, pull_asks, push_asks, close_asks, cancel_asks, pull_heard, push_heard, close_heard, cancel_heard, deliver_heard}
 use Rattle.fused_net.specs.declared.net.WireEnds.{WireEnds}
 use Rattle.wire_core.specs.Reading.{no_wire}
 use Rattle.fused_net.specs.Net.{Net, end_at, target, told, wire_at, ports_at, wire_for, acted, acted_all, event_told, with_node, before}
 use Rattle.stage_core.specs.Handling.{Pulls}
 use Rattle.fused_net.specs.Laws.{AnyRow, AnyLaw, IsAsking, MovesGrow, IsMinded, AllAsked, AllMoments, Settled, Busy, GoesOn, Responds}
-use Rattle.fused_net.specs.Costs.{total, all_asks, Uses}
+use Rattle.fused_net.specs.Costs.{total, all_asks, all_heard, Uses}
 use Rattle.fused_net.proofs.Reading.{same_or_not, some_same, get_there, get_set_same}
 use Rattle.fused_net.proofs.Sums.{sum_le, sum_up, sum_up_most, by_place}
 use Rattle.fused_net.proofs.Nets.{holds_put_same, holds_put_other}
@@ -43,6 +44,13 @@ move_asks (Complete j) c f = close_asks None c.wire
 move_asks (FailOut j d) c f = close_asks (Some d) c.wire
 move_asks (Cancel i) c f = cancel_asks c.wire
 
+move_heard : (a : Act) (c : WireState) → IsMarked c → Fits a c.wire → heard (moved_by a c) ≤ heard c
+move_heard (Pull i) c m f = pull_heard i c
+move_heard (Push j e) c m f = push_heard j e c m f
+move_heard (Complete j) c m f = close_heard None c
+move_heard (FailOut j d) c m f = close_heard (Some d) c
+move_heard (Cancel i) c m f = cancel_heard c
+
 deliver_asks : (d : Delivery) (w : JointPorts) → asks (after_delivery d w) ≤ asks w + 1
 deliver_asks nothing w = omega arith
 deliver_asks pull w = omega arith
@@ -53,12 +61,12 @@ deliver_asks (arrived (item.Failed c) more) w = omega arith
 
 module _ {N : Type 0} where
   pub uses_trans : (a b c : Net N) (k l : ℕ) → Uses a b k → Uses b c l → Uses a c (k + l)
-  uses_trans a b c k l f g = record { least = omega (arith, f.least, g.least); most = omega (arith, f.most, g.most) }
+  uses_trans a b c k l f g = record { least = omega (arith, f.least, g.least); most = omega (arith, f.most, g.most); each = omega (arith, f.each, g.each) }
 
   pub uses_none : (net : Net N) → Uses net net 0
-  uses_none net = record { least = omega arith; most = omega arith }
+  uses_none net = record { least = omega arith; most = omega arith; each = omega arith }
 
-  -- an action lowers no cost, and raises no pull
+  -- an action lowers no cost, raises no pull, and no end hears of it
   acted_uses : (net : Net N) (n : ℕ) (a : Act) (acts : List Act) → Busy AnyRow AnyLaw net n (a ∷ acts) → Uses net (acted net n a) 0
   acted_uses net n a acts busy =
       let x = get_there net.nodes n busy.within in
@@ -74,14 +82,18 @@ module _ {N : Type 0} where
         | inl e ↦ rw e (rw (get_or-set_same net.wires (wire_for a (ports_at net n)) (moved_by a (wire_at net (wire_for a (ports_at net n)))) no_wire h) (move_asks a (wire_at net (wire_for a (ports_at net n))) f.1))
         | inr ne ↦ rw (get_or-set_other net.wires (wire_for a (ports_at net n)) k (moved_by a (wire_at net (wire_for a (ports_at net n)))) no_wire ne) (omega arith)
       ])) in
-      record { least = omega (arith, cost); most = omega (arith, asked) }
+      let told : all_heard (acted net n a) ≤ all_heard net = rw length-set (sum_le _ _ (length net.wires) (λ k l. elim (same_or_not k (wire_for a (ports_at net n))) [
+        | inl e ↦ rw e (rw (get_or-set_same net.wires (wire_for a (ports_at net n)) (moved_by a (wire_at net (wire_for a (ports_at net n)))) no_wire h) (move_heard a (wire_at net (wire_for a (ports_at net n))) (busy.marked _ h) f.1))
+        | inr ne ↦ rw (get_or-set_other net.wires (wire_for a (ports_at net n)) k (moved_by a (wire_at net (wire_for a (ports_at net n)))) no_wire ne) (omega arith)
+      ])) in
+      record { least = omega (arith, cost); most = omega (arith, asked); each = omega (arith, told) }
 
   pub acts_uses : (acts : List Act) (net : Net N) (n : ℕ) → Busy AnyRow AnyLaw net n acts → Uses net (acted_all net n acts) 0
   acts_uses [] net n busy = uses_none net
   acts_uses (a ∷ acts) net n busy =
       let one = acted_uses net n a acts busy in
       let more = acts_uses acts (acted net n a) n (acted_busy AnyRow AnyLaw net n a acts busy) in
-      record { least = omega (arith, one.least, more.least); most = omega (arith, one.most, more.most) }
+      record { least = omega (arith, one.least, more.least); most = omega (arith, one.most, more.most); each = omega (arith, one.each, more.each) }
 
   -- in the loop over the actions
   pub few_next : (net on : Net N) (n : ℕ) (a : Act) (old new : List Act) → old ≡ a ∷ new → on ≡ acted net n a → Busy AnyRow AnyLaw net n old → all_asks net ≤ MOST_COUNT → all_asks on ≤ MOST_COUNT
@@ -105,7 +117,10 @@ module _ {N : Type 0} (row : N → View → Type 0) (law : N → N → View → 
       let asked : all_asks (event_told net w) ≤ all_asks (before net w) + 1 = rw length-set (sum_up_most _ _ (length net.wires) w
       (λ k l ne. rw (get_or-set_other net.wires w k _ no_wire ne) (omega arith))
       (rw (get_or-set_same net.wires w _ no_wire h) (deliver_asks (delivery_of (wire_at net w).wire) (wire_at net w).wire))) in
-      record { least = cost; most = asked }
+      let told : all_heard (event_told net w) ≤ all_heard (before net w) + 1 = rw length-set (sum_up_most _ _ (length net.wires) w
+      (λ k l ne. rw (get_or-set_other net.wires w k _ no_wire ne) (omega arith))
+      (rw (get_or-set_same net.wires w _ no_wire h) (deliver_heard (delivery_of (wire_at net w).wire) (wire_at net w)))) in
+      record { least = cost; most = asked; each = told }
 
   -- a node responded
   pub response_goes : (old new : Net N) (n : ℕ) → Responds row law asking moves old new n → GoesOn old new
@@ -127,7 +142,7 @@ module _ {N : Type 0} (row : N → View → Type 0) (law : N → N → View → 
   response_uses : (old new : Net N) (n : ℕ) → Responds row law asking moves old new n → Uses old new 0
   response_uses old new n r =
       let u = acts_uses r.acts (with_node old n r.node) n (busy_any row law _ n r.acts r.busy) in
-      rw r.is (record { least = u.least; most = u.most })
+      rw r.is (record { least = u.least; most = u.most; each = u.each })
 
   -- what is left once an event was handled
   pub record Handled (net new : Net N) (w : ℕ) : Type 0 where
@@ -153,7 +168,7 @@ module _ {N : Type 0} (row : N → View → Type 0) (law : N → N → View → 
       record {
         laws = response_settled v new n r asked moments;
         on = goes_trans net v new on (response_goes v new n r);
-        uses = record { least = omega (arith, event.least, done.least); most = omega (arith, event.most, done.most) };
+        uses = record { least = omega (arith, event.least, done.least); most = omega (arith, event.most, done.most); each = omega (arith, event.each, done.each) };
       }
 
   pub handled_nothing : (net new : Net N) (w : ℕ) → Settled row law asking moves (before net w) → w < length net.wires → holds net.queue w ≡ false → delivery_of (wire_at net w).wire ≡ nothing → new ≡ event_told net w → Handled net new w

@@ -168,4 +168,4 @@ pub node_goes : {N : Type 0} (net v new : Net N) (n : ℕ) (y : N) → v ≡ net
 node_goes net v new n y e is = rw (is, e) (goes_node net n y)
 
 pub node_uses : {N : Type 0} (net v new : Net N) (n : ℕ) (y : N) → v ≡ net → new ≡ with_node v n y → Uses net new 0
-node_uses net v new n y e is = rw (is, e) (record { least = omega arith; most = omega arith })
+node_uses net v new n y e is = rw (is, e) (record { least = omega arith; most = omega arith; each = omega arith })

@@ -43,7 +43,7 @@ module _ {N : Type 0} where
   moved_total net q r same = sum_same _ _ (length net.wires) (λ w. ap (spent (wire_at net w).wire) (same w))
 
   moved_uses : (net new : Net N) (q r : List ℕ) (units : ℕ) → Same q r → Uses (queued net q) new units → Uses (queued net r) new units
-  moved_uses net new q r units same u = let cost = moved_total net q r same in let least = u.least in record { least = omega (arith, cost, least); most = u.most }
+  moved_uses net new q r units same u = let cost = moved_total net q r same in let least = u.least in record { least = omega (arith, cost, least); most = u.most; each = u.each }
 
 module _ {N : Type 0} (row : N → View → Type 0) (law : N → N → View → List (List Item) → List (List Item) → Type 0) (asking : N → View → Type 0) (moves : N → List ℕ) where
   moved_settled : (net : Net N) (q r : List ℕ) → Same q r → Settled row law asking moves (queued net q) → Settled row law asking moves (queued net r)

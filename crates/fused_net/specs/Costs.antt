@@ -1,7 +1,7 @@
--- What a graph's wires have cost, and how that is tied to the units that were used: each event is one unit.
+-- What a graph's wires have cost and what their ends have heard, and how both are tied to the units that were used: each event is one unit.
 use Rattle.std.specs.Prelude.{ℕ, zero, suc, ◌+◌, ◌≤◌, length}
 use Rattle.port_core.specs.Ring.{holds}
-use Rattle.wire_core.specs.Counts.{spent, asks}
+use Rattle.wire_core.specs.Counts.{spent, asks, heard}
 use Rattle.fused_net.specs.Net.{Net, wire_at}
 
 -- f 0 + .. + f (n - 1)
@@ -18,7 +18,12 @@ module _ {N : Type 0} where
   abbrev pub all_asks : Net N → ℕ
   all_asks net = sum_below (λ w. asks (wire_at net w).wire) (length net.wires)
 
-  -- So many units lead from one to the other: each raises the cost, and each brings one pull at most.
+  -- the events that the ends of all wires have heard
+  abbrev pub all_heard : Net N → ℕ
+  all_heard net = sum_below (λ w. heard (wire_at net w)) (length net.wires)
+
+  -- So many units lead from one to the other: each raises the cost, and each brings one pull at most. No event is heard without one.
   pub record Uses (old new : Net N) (units : ℕ) : Type 0 where
     pub least : total old + units ≤ total new
     pub most : all_asks new ≤ all_asks old + units
+    pub each : all_heard new ≤ all_heard old + units

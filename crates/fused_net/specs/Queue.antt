@@ -2,6 +2,7 @@
 -- which may come first.
 use Rattle.std.specs.Prelude.{◌≡◌, ℕ, ◌+◌, ◌<◌, ◌≤◌, Bool, false, if◌then◌else◌, Option, None, Some, List, [], ◌∷◌, ◌++◌, max, ⊤}
 use Rattle.port_core.specs.Ring.{holds}
+use Rattle.fused_net.specs.declared.queue.TheConstants.{MOST_CHASES}
 
 -- how many wires there are; those in the ring, first in first out; the chased wire, if there is one; whether a pull was chased since one
 -- came from the ring or a chase began anew; how many events were chased since one came from the ring, and the most that were chased for
@@ -13,10 +14,6 @@ pub record Queue : Type 0 where
   pub pulling : Bool
   pub chases : ℕ
   pub longest : ℕ
-
--- at most so many events are chased for one that comes from the ring
-abbrev pub most_chases : ℕ
-most_chases = 16
 
 abbrev pub listed : Option ℕ → List ℕ
 listed None = []
@@ -51,13 +48,13 @@ HasPlace size ring (Some w) = (w < size) × (holds ring w ≡ false)
 -- what every queue keeps
 pub record IsQueue (q : Queue) : Type 0 where
   pub place : HasPlace q.size q.ring q.chased
-  pub few : q.chases ≤ most_chases
-  pub fewest : q.longest ≤ most_chases
+  pub few : q.chases ≤ MOST_CHASES
+  pub fewest : q.longest ≤ MOST_CHASES
 
 -- the chased wire comes, where fewer than so many were chased since one came from the ring
 pub record Chases (old : Queue) (w : ℕ) (new : Queue) : Type 0 where
   pub was : old.chased ≡ Some w
-  pub few : old.chases < most_chases
+  pub few : old.chases < MOST_CHASES
   pub is : new ≡ record old { chased = None; chases = old.chases + 1 }
 
 -- the first of the ring comes: then no event was chased for it yet, and so no pull

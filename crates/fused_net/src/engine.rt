@@ -10,7 +10,7 @@ ghost use Rattle.stage_core.specs.declared.stage.TheConstants.{MOST_ACTS};
 ghost use Rattle.stage_core.specs.Handling.{PullsAs, StaysPassive, Handles};
 ghost use Rattle.wire_core.specs.Cell.{new_cell, delivery_in, brought_in, Tells};
 ghost use Rattle.fused_net.specs.Net.{acted, acted_all, event_told, put, wire_at, end_at, Able, port_at, target, call_of, before, Takes};
-ghost use Rattle.fused_net.specs.Queue.{most_chases};
+ghost use Rattle.fused_net.specs.declared.queue.TheConstants.{MOST_CHASES};
 ghost use Rattle.fused_net.specs.Laws.{AnyRow, AnyLaw, Wired, first_view, Settled, Busy, Starting, GoesOn, Awaits, TellsAsking, MeetsAt, Responds, AllKept, BreaksOff, IsMinded};
 ghost use Rattle.fused_net.specs.Costs.{all_asks, Uses};
 ghost use Rattle.fused_net.specs.Poking.{AtNode, HandsAt, TellsPoked};
@@ -688,7 +688,7 @@ impl<S: Stage> Engine<S> {
     /// The most events that were chased for one that waited for its turn: handled at once, since a handler that had just been called
     /// asked for them or gave them. It takes no memory.
     pub fn longest_chase(&self) -> u32
-        ensures { result ≤ most_chases }
+        ensures { result ≤ MOST_CHASES }
     {
         self.queue.longest()
     }

@@ -1,18 +1,19 @@
 ghost use Rattle.std.specs.Prelude.{◌≡◌, ◌<◌, ◌≤◌, ◌∷◌, [], ◌++◌, false, true, None, Some, if◌then◌else◌, IsTrue, IfNone, IfSome, ◌↔◌, ◌⊎◌, max};
 ghost use Rattle.port_core.specs.Ring.{holds};
-ghost use Rattle.fused_net.specs.Queue.{waiting, settled, pushed_on, most_chases, Chases, Dequeues};
+ghost use Rattle.fused_net.specs.Queue.{waiting, settled, pushed_on, Chases, Dequeues};
+ghost use Rattle.fused_net.specs.declared.queue.TheConstants.{MOST_CHASES};
 
 use port_core::ring::EventRing;
 use std::marker::Model;
 
-/// How many events may be chased for one that comes from the ring. Rule: Akka Streams 2.6 interpreter, which chases as many.
+/// How many events may be chased for one that comes from the ring. Own: a limit, so that a chase cannot starve the wires that wait.
 pub const MOST_CHASES: u32 = 16;
 
 /// The wires that have an event, each at most once: first in first out, but that the one wire at which a handler just pushed or pulled
 /// may come first. So an event's consequence is handled at once, and at most 16 such events for each one that waited for its turn. A
 /// chase goes down by pushes and then up by pulls: an element that a chased pull brought waits for its turn where others wait. So a
-/// stage that pulls again and again, as a buffer that drops, cannot run ahead of the nodes below it. Rule: Akka Streams 2.6
-/// interpreter.
+/// stage that pulls again and again, as a buffer that drops, cannot run ahead of the nodes below it. After the chasing of the Akka
+/// Streams 2.6 interpreter; the limit of 16 is own.
 #[derive(Drop)]
 pub struct EventQueue {
     ring: EventRing,
@@ -57,7 +58,7 @@ impl EventQueue {
     /// The most events that were chased for one that came from the ring.
     pub fn longest(&self) -> u32
         ensures is { result ≡ max self.now.longest self.now.chases }
-        ensures few { result ≤ most_chases }
+        ensures few { result ≤ MOST_CHASES }
     {
         if self.longest < self.chases {
             self.chases
@@ -114,6 +115,7 @@ impl EventQueue {
     pub fn close(&mut self, w: u32, queued: bool)
         requires within { w < self.old.size }
         requires absent { queued ≡ true → holds (waiting self.old) w ≡ false }
+        ensures is { self.new ≡ (if queued then record (settled self.old) { ring = waiting self.old ++ w ∷ [] } else settled self.old) }
         ensures size { self.new.size ≡ self.old.size }
         ensures waits { waiting self.new ≡ (if queued then waiting self.old ++ w ∷ [] else waiting self.old) }
     {

@@ -4,7 +4,7 @@ ghost use Rattle.fused_net.specs.Laws.{Starting, GoesOn, BreaksOff};
 ghost use Rattle.fused_net.specs.Net.{wire_at};
 ghost use Rattle.fused_net.specs.Costs.{all_asks, Uses};
 ghost use Rattle.fused_net.specs.Outside.{BreaksAside, StandsStill, Untouched};
-ghost use Rattle.fused_net.specs.Queue.{most_chases};
+ghost use Rattle.fused_net.specs.declared.queue.TheConstants.{MOST_CHASES};
 ghost use Rattle.nodes.specs.Nodes.{node_fresh, node_port_state, node_law, node_asking, node_moves, node_gone, node_passive, KeepsNode};
 ghost use Rattle.interpreter.specs.Parts.{AreParts, AllBecome, ends_of, number_of, place_of};
 ghost use Rattle.interpreter.specs.Picks.{node_number, pick_of, with_picks, picks_of};
@@ -241,7 +241,7 @@ impl<S: Source, D: Drain, L: Logic, B: PlugBook> Island<S, D, L, B> {
     /// The most events that were chased for one that waited for its turn: handled at once, since a handler that had just been called
     /// asked for them or gave them. It takes no memory.
     pub fn longest_chase(&self) -> u32
-        ensures { result ≤ most_chases }
+        ensures { result ≤ MOST_CHASES }
     {
         self.engine.longest_chase()
     }

@@ -278,7 +278,25 @@ impl<S: Stage> Engine<S> {
             self.push(n, j, e);
             return false;
         }
-        self.perform_after_pull(n, acts)
+        self.perform_pull(n, acts)
+    }
+
+    // The same where it does not push: then it mostly pulls.
+    #[inline(never)]
+    fn perform_pull(&mut self, n: usize, acts: &mut Acts) -> bool
+        requires within { n < length self.old.nodes }
+        requires busy { Busy AnyRow AnyLaw self.old n acts.old.items }
+        requires few { all_asks self.old ≤ MOST_COUNT }
+        requires still { AtNode self.old n (λ x. S.passive x ≡ true → acts.old.items ≡ []) }
+        ensures after { self.new ≡ acted_all self.old n acts.old.items }
+        ensures acts { acts.new ≡ record acts.old { items = [] } }
+        ensures passive { AtNode self.new n (λ x. result ≡ S.passive x) }
+    {
+        if let Some(i) = acts.only_pull() {
+            self.pull(n, i);
+            return false;
+        }
+        self.perform(n, acts)
     }
 
     // The same once it was pulled: then it mostly pulls.

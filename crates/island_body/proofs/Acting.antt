@@ -4,7 +4,6 @@ use Rattle.std.proofs.lemmas.List.{length-set}
 use Rattle.std.proofs.lemmas.Option.{slice_get_within}
 use Rattle.stream_io.specs.State.{SourceState, DrainState}
 use Rattle.nodes.specs.Nodes.{node_port_state, node_law, node_asking, node_moves, node_gone, node_passive, KeepsNode}
-use Rattle.fused_net.specs.Costs.{Uses}
 use Rattle.fused_net.specs.Laws.{Settled}
 use Rattle.fused_net.specs.Outside.{StandsStill, BreaksAside}
 use Rattle.lane_core.specs.Ends.{taken, IsSameIn, IsSameOut}
@@ -30,12 +29,6 @@ use Rattle.stream_model.specs.Linear.{Book}
 -- the one that was borrowed stands there
 pub at_index : {A : Type 0} (xs : List A) (k : ℕ) (x : A) → k < length xs → x ≡ get_or xs k x → slice_get xs k ≡ Some x
 at_index xs k x h e = get_here xs k x h ∙ ap (λ z. Some z) (sym e)
-
-pub uses_none : {N : Type 0} (net : Rattle.fused_net.specs.Net.Net N) → Uses net net 0
-uses_none net = record { least = omega arith; most = omega arith }
-
-pub uses_then : {N : Type 0} (a b c : Rattle.fused_net.specs.Net.Net N) → Uses a b 0 → Uses b c 0 → Uses a c 0
-uses_then a b c f g = let l = f.least in let m = g.least in let p = f.most in let q = g.most in record { least = omega (arith, l, m); most = omega (arith, p, q) }
 
 pub in_lanes : (ins : List IslandInput) (outs : List OutputBoundary) (k : ℕ) (x y : IslandInput) → slice_get ins k ≡ Some x → y.wire ≡ x.wire → IsSameIn x.boundary.lane y.boundary.lane → SameLanes ins (set ins k y) outs outs
 in_lanes ins outs k x y at wire same = record {

@@ -1,7 +1,7 @@
 -- The goals of `body::Body::take_from` that the search leaves.
 use Rattle.std.proofs.Common.{◌∙◌, arith}
+use Rattle.fused_net.proofs.Going.{uses_trans}
 use Rattle.island_body.specs.Lasting.{goes_on}
-use Rattle.island_body.proofs.Acting.{uses_then}
 use Rattle.island_body.proofs.Looking.{only_in_on, left_none_on}
 use Rattle.island_body.proofs.Telling.{wakes_on}
 use Rattle.island_body.proofs.body.Body.take_from.Goals as goal
@@ -17,7 +17,7 @@ loop-count-preserved g c =
       goes = goes_on _ _ _ i.goes t.goes;
       wakes = wakes_on _ _ _ i.wakes t.wakes;
       only = only_in_on _ _ _ _ i.goes i.only t.only;
-      uses = uses_then _ _ _ i.uses t.uses;
+      uses = uses_trans _ _ _ 0 0 i.uses t.uses;
       more = let m = i.more in omega (arith, m);
       less = let l = c.loop-count-test.true in omega (arith, l);
       took = let a = i.took in let b = t.took c.if-not-take_at.false in omega (arith, a, b);

@@ -1,7 +1,8 @@
 -- The goals of `body::Body::visit_all` that the search leaves.
 use Rattle.std.proofs.Common.{◌≡◌, ◌∙◌, sym, arith, rules, length}
+use Rattle.fused_net.proofs.Going.{uses_trans}
 use Rattle.island_body.specs.Lasting.{goes_on}
-use Rattle.island_body.proofs.Acting.{uses_then, found_more}
+use Rattle.island_body.proofs.Acting.{found_more}
 use Rattle.island_body.specs.Moving.{SawAll}
 use Rattle.island_body.proofs.Looking.{above_next, below_next, below_all}
 use Rattle.island_body.proofs.Telling.{wakes_on}
@@ -17,7 +18,7 @@ loop-k-preserved g c =
       ends = t.count ∙ i.ends;
       goes = goes_on _ _ _ i.goes t.goes;
       wakes = wakes_on _ _ _ i.wakes t.wakes;
-      uses = uses_then _ _ _ i.uses t.uses;
+      uses = uses_trans _ _ _ 0 0 i.uses t.uses;
       more = let a = t.between.0 in let b = i.more in omega (arith, a, b);
       less = t.between.1;
       taken = t.taken ∙ i.taken;

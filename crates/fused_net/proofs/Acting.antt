@@ -1,7 +1,7 @@
 -- A node's action keeps the graph's laws, and may be done where the node's view allows it.
-use Rattle.std.proofs.Common.{◌≡◌, ◌≢◌, inl, inr, ℕ, ◌<◌, ◌≤◌, Bool, None, Some, List, [], ◌∷◌, length, get_or, slice_get, refl, sym, ap, ◌∙◌, arith}
+use Rattle.std.proofs.Common.{◌≡◌, ◌≢◌, inl, inr, ℕ, ◌<◌, ◌≤◌, Bool, None, Some, List, [], ◌∷◌, ◌++◌, length, reverse, get_or, slice_get, refl, sym, ap, ◌∙◌, arith}
 use Rattle.std.proofs.Math.ListN.{set}
-use Rattle.std.proofs.lemmas.List.{length-set, set-get_or}
+use Rattle.std.proofs.lemmas.List.{length-set, reverse-append, reverse-reverse, set-get_or}
 use Rattle.std.proofs.lemmas.Option.{slice_get_within}
 use Rattle.elem_core.specs.declared.item.Item.{Item}
 use Rattle.elem_core.specs.declared.count.TheConstants.{MOST_COUNT}
@@ -75,6 +75,13 @@ stands_next (Push j x) acts h = h
 stands_next (Complete j) acts h = h
 stands_next (FailOut j c) acts h = h
 stands_next (Cancel i) acts h = h
+
+-- of actions that were turned round the last comes first, and turned again they stand as before
+pub turned : (old new : List Act) (a : Act) → old ≡ new ++ a ∷ [] → reverse old ≡ a ∷ reverse new
+turned old new a e = ap reverse e ∙ reverse-append new (a ∷ [])
+
+pub turned_back : (old new : List Act) → new ≡ reverse old → reverse new ≡ old
+turned_back old new e = ap reverse e ∙ reverse-reverse old
 
 -- what is read at a port and written there again
 pub keep_at : {X : Type 0} (f : WireState → X) (wires : List WireState) (ws : List ℕ) (i w : ℕ) (d : X) → slice_get ws i ≡ Some w → set (read_all f wires ws) i (f (get_or wires w no_wire)) ≡ read_all f wires ws

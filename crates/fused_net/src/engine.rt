@@ -367,7 +367,8 @@ impl<S: Stage> Engine<S> {
         ensures after { self.new ≡ acted_all self.old n acts.old.items }
         ensures acts { acts.new ≡ record acts.old { items = [] } }
     {
-        while let Some(act) = acts.take() {
+        acts.reverse();
+        while let Some(act) = acts.take_last() {
             self.act(n, act);
         }
         self.settle();

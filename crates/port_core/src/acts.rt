@@ -1,5 +1,5 @@
 ghost use Rattle.port_core.specs.declared.act.Act.TheVariants as act;
-ghost use Rattle.std.specs.Prelude.{◌≡◌, ◌<◌, ◌∷◌, [], ◌++◌, length, IfOk, IfSome, IfNone, IsNone, ◌↔◌, ◌≢◌};
+ghost use Rattle.std.specs.Prelude.{◌≡◌, ◌<◌, ◌∷◌, [], ◌++◌, length, reverse, IfOk, IfSome, IfNone, IsNone, ◌↔◌, ◌≢◌};
 
 use crate::act::Act;
 use elem_core::elem::Elem;
@@ -101,5 +101,22 @@ impl Acts {
         } else {
             self.items.pop()
         }
+    }
+
+    /// Turns the list round, so that `take_last` then takes the actions in their order: whoever takes several moves each once. It
+    /// takes no memory.
+    pub fn reverse(&mut self)
+        ensures { self.new ≡ record self.old { items = reverse self.old.items } }
+    {
+        self.items.reverse();
+    }
+
+    /// Takes out the last action, in constant time. It takes no memory.
+    pub fn take_last(&mut self) -> Option<Act>
+        ensures empty { IsNone result ↔ (self.old.items ≡ []) }
+        ensures unchanged { IfNone result (self.new ≡ self.old) }
+        ensures last { IfSome result (λ a. self.old ≡ record self.new { items = self.new.items ++ a ∷ [] }) }
+    {
+        self.items.pop()
     }
 }

@@ -11,34 +11,26 @@ use Rattle.port_core.specs.Joint.{IsSound, Heard}
 use Rattle.port_core.specs.View.{View, IsOutOpen}
 use Rattle.port_core.specs.View as view
 use Rattle.port_core.specs.Asking.{PullsStand}
-use Rattle.port_core.specs.Call.{Call, CallAllowed, MayCome, seen}
+use Rattle.port_core.specs.Call.{Call, CallAllowed, MayCome, Meets, seen}
 use Rattle.port_core.specs.Wire.{Delivery, nothing, pull, cancel, arrived, delivery_of, after_delivery, again}
 use Rattle.port_core.specs.declared.act.Act.{Act}
 use Rattle.port_core.specs.declared.view.InView.TheVariants.{Cancelled}
 use Rattle.port_core.specs.declared.view.OutView.TheVariants.{Closed}
 use Rattle.port_core.proofs.Wires.{deliver_kept, deliver_heard}
-use Rattle.wire_core.specs.Cell.{WireState, delivery_in, brought_in, delivered, Brings, Brought}
-use Rattle.wire_core.specs.declared.wire.Delivered.{Delivered}
-use Rattle.wire_core.specs.declared.wire.Delivered.TheVariants as delivery
+use Rattle.wire_core.specs.Cell.{WireState, brought_in, delivered, Brings, Brought}
 use Rattle.wire_core.specs.Marks.{IsMarked}
 use Rattle.wire_core.proofs.Marking.{deliver_marked}
 use Rattle.stage_core.specs.Histories.{brought_by}
-use Rattle.stage_core.specs.Handling.{Handles}
+use Rattle.stage_core.specs.Handling.{Pulls, PullsAs, Handles}
 use Rattle.fused_net.specs.declared.net.WireEnds.{WireEnds}
 use Rattle.wire_core.specs.Reading.{inp_of, out_of, got_of, sent_of}
 use Rattle.fused_net.specs.Net.{Net, end_at, wire_at, ports_at, view_of, took, gave, target, call_of, put, told_by, told, event_told, with_node, before}
-use Rattle.fused_net.specs.Laws.{AnyLaw, Wired, Minds, IsMinded, Settled, Busy, MeetsAt, Awaits, TellsAsking}
+use Rattle.fused_net.specs.Laws.{AnyLaw, Wired, Minds, IsMinded, Settled, Busy}
 use Rattle.fused_net.proofs.Reading.{read_same, read_at, some_same, get_there, get_set_same, get_set_other}
 use Rattle.fused_net.proofs.Nets.{sound_put, marked_put, minds_along, others_in, others_out, here_in, here_out}
 use Rattle.fused_net.proofs.Acting.{keep_at}
 use Rattle.fused_net.proofs.Asking.{told_asked}
 use Rattle.fused_net.proofs.Moments.{told_moments}
-
--- what the code says of an event is more than nothing
-pub some : (d : Delivered) → delivery_in d ≢ nothing
-some delivery.Pull e = cc
-some delivery.Cancel e = cc
-some (delivery.Arrived x more) e = cc
 
 -- ---- an event that is told in two steps, where it brings an element
 
@@ -142,6 +134,15 @@ module _ {N : Type 0} (row : N → View → Type 0) (law : N → N → View → 
         others k within ne x first (sym (get_set_other net.nodes n k y ne) ∙ xi) fi;
   }
 
+module _ {N : Type 0} (row : N → View → Type 0) (law : N → N → View → List (List Item) → List (List Item) → Type 0) where
+  -- whatever the handler of node n does for this call, the laws stand with its actions still to do
+  abbrev pub Awaits : Call → Net N → ℕ → Type 0
+  Awaits call net n = (x y : N) (acts : List Act) → slice_get net.nodes n ≡ Some x → Handles row law call x y acts → Busy row law (with_node net n y) n acts
+
+  -- and what it tells as it pulls is told of the graph
+  abbrev pub TellsAsking : (N → View → Type 0) → Call → Net N → ℕ → Type 0
+  TellsAsking asking call net n = (x y : N) (acts : List Act) → slice_get net.nodes n ≡ Some x → Handles row law call x y acts → PullsAs call (row x) (asking y) acts → Pulls acts → asking y (view.acted_all (view_of net n) acts)
+
 module _ {N : Type 0} (row : N → View → Type 0) (law : N → N → View → List (List Item) → List (List Item) → Type 0) (asking : N → View → Type 0) (moves : N → List ℕ) where
   pub sound_here : (net : Net N) (w : ℕ) → Settled row law asking moves (before net w) → w < length net.wires → IsSound (wire_at net w).wire true
   sound_here net w s h = subst (IsSound (wire_at net w).wire) (queued_here net.queue w) (s.sound w h)
@@ -201,14 +202,14 @@ module _ {N : Type 0} (row : N → View → Type 0) (law : N → N → View → 
       (λ k hk ne. others_told row law d net w n s.wired h k hk ne (s.minded k hk))
 
   -- what a handler's call needs, once the wire's event was delivered
-  pub record Called (d : Delivery) (e : WireEnds) (v : Net N) (n : ℕ) : Type 0 where
+  pub record Called (call : Call) (v : Net N) (n : ℕ) : Type 0 where
     pub within : n < length v.nodes
-    pub meets : MeetsAt row law (call_of d e) v n
-    pub awaits : Awaits row law (call_of d e) v n
-    pub tells : TellsAsking row law asking moves (call_of d e) v n
+    pub meets : (x : N) → slice_get v.nodes n ≡ Some x → Meets call (row x)
+    pub awaits : Awaits row law call v n
+    pub tells : TellsAsking row law asking call v n
 
   called : (net : Net N) (w : ℕ) (d : Delivery) → Settled row law asking moves (before net w) → w < length net.wires → holds net.queue w ≡ false
-      → d ≡ delivery_of (wire_at net w).wire → d ≢ nothing → Called d (end_at net.ends w) (event_told net w) (target d (end_at net.ends w))
+      → d ≡ delivery_of (wire_at net w).wire → d ≢ nothing → Called (call_of d (end_at net.ends w)) (event_told net w) (target d (end_at net.ends w))
   called net w d s h absent e n =
       let heard : Heard d (wire_at net w).wire = rw e (deliver_heard (wire_at net w).wire (sound_here net w s h)) in
       let hn : target d (end_at net.ends w) < length net.nodes = target_within d net w s.wired h in
@@ -230,5 +231,5 @@ module _ {N : Type 0} (row : N → View → Type 0) (law : N → N → View → 
       }
 
   pub call_at : (net v : Net N) (w n : ℕ) (d : Delivery) (ends : WireEnds) → Settled row law asking moves (before net w) → w < length net.wires → holds net.queue w ≡ false
-      → d ≡ delivery_of (wire_at net w).wire → d ≢ nothing → v ≡ event_told net w → ends ≡ end_at net.ends w → n ≡ target d ends → Called d ends v n
+      → d ≡ delivery_of (wire_at net w).wire → d ≢ nothing → v ≡ event_told net w → ends ≡ end_at net.ends w → n ≡ target d ends → Called (call_of d ends) v n
   call_at net v w n d ends s h absent e ne is same at = rw (at, same, is) (called net w d s h absent e ne)

@@ -1,12 +1,14 @@
 -- The graph goes on: its wiring stays, and each unit raises what its wires have cost.
-use Rattle.std.proofs.Common.{◌≡◌, ◌≢◌, inl, inr, ℕ, ◌+◌, ◌<◌, ◌≤◌, Bool, false, ◌||◌, None, Some, List, [], ◌∷◌, length, refl, sym, ap, ◌∙◌, subst, arith, get_or-set_same, get_or-set_other}
+use Rattle.std.proofs.Common.{◌≡◌, ◌≢◌, inl, inr, ℕ, ◌+◌, ◌<◌, ◌≤◌, Bool, false, ◌||◌, None, Some, List, [], ◌∷◌, length, slice_get, refl, sym, ap, ◌∙◌, subst, arith, get_or-set_same, get_or-set_other}
 use Rattle.std.proofs.lemmas.List.{length-set}
+use Rattle.elem_core.specs.Prefix.{IsPrefix}
 use Rattle.elem_core.specs.declared.item.Item.{Item}
 use Rattle.elem_core.specs.declared.item.Item.TheVariants as item
 use Rattle.elem_core.specs.declared.count.TheConstants.{MOST_COUNT}
 use Rattle.port_core.specs.Ring.{holds}
 use Rattle.port_core.specs.Joint.{IsSound}
 use Rattle.port_core.specs.View.{View}
+use Rattle.port_core.specs.View as view
 use Rattle.port_core.specs.Wire.{JointPorts, Delivery, nothing, pull, cancel, arrived, delivery_of, after_delivery, again}
 use Rattle.port_core.specs.declared.act.Act.{Act}
 use Rattle.port_core.specs.declared.act.Act.TheVariants.{Pull, Push, Complete, FailOut, Cancel}
@@ -16,9 +18,9 @@ use Rattle.wire_core.specs.Counts.{spent, asks, heard}
 use Rattle.wire_core.proofs.Counting.{pull_spent, push_spent, close_spent, cancel_spent, deliver_spent, pull_asks, push_asks, close_asks, cancel_asks, pull_heard, push_heard, close_heard, cancel_heard, deliver_heard}
 use Rattle.fused_net.specs.declared.net.WireEnds.{WireEnds}
 use Rattle.wire_core.specs.Reading.{no_wire}
-use Rattle.fused_net.specs.Net.{Net, end_at, target, told, wire_at, ports_at, wire_for, acted, acted_all, event_told, with_node, before}
+use Rattle.fused_net.specs.Net.{Net, end_at, target, told, wire_at, ports_at, view_of, wire_for, acted, acted_all, event_told, with_node, before}
 use Rattle.stage_core.specs.Handling.{Pulls}
-use Rattle.fused_net.specs.Laws.{AnyRow, AnyLaw, IsAsking, MovesGrow, IsMinded, AllAsked, AllMoments, Settled, Busy, GoesOn, Responds}
+use Rattle.fused_net.specs.Laws.{AnyRow, AnyLaw, IsAsking, MovesGrow, IsMinded, AllAsked, AllMoments, Settled, Busy, GoesOn}
 use Rattle.fused_net.specs.Costs.{total, all_asks, all_heard, Uses}
 use Rattle.fused_net.proofs.Reading.{same_or_not, some_same, get_there, get_set_same}
 use Rattle.fused_net.proofs.Sums.{sum_le, sum_up, sum_up_most, by_place}
@@ -100,6 +102,16 @@ module _ {N : Type 0} where
   few_next net on n a old new e is busy few =
       let at : Busy AnyRow AnyLaw net n (a ∷ new) = rw e at busy in
       rw is (let one = acted_uses net n a new at in omega (arith, one.most, few))
+
+module _ {N : Type 0} (row : N → View → Type 0) (law : N → N → View → List (List Item) → List (List Item) → Type 0) (asking : N → View → Type 0) (moves : N → List ℕ) where
+  -- the handler of node n was called, and its actions were done
+  pub record Responds (old new : Net N) (n : ℕ) : Type 0 where
+    pub node : N
+    pub acts : List Act
+    pub busy : Busy row law (with_node old n node) n acts
+    pub asks : Pulls acts → asking node (view.acted_all (view_of old n) acts)
+    pub grows : (x : N) → slice_get old.nodes n ≡ Some x → IsPrefix (moves x) (moves node)
+    pub is : new ≡ acted_all (with_node old n node) n acts
 
 module _ {N : Type 0} (row : N → View → Type 0) (law : N → N → View → List (List Item) → List (List Item) → Type 0) (asking : N → View → Type 0) (moves : N → List ℕ) where
   -- an event is delivered

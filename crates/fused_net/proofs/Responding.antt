@@ -12,12 +12,13 @@ use Rattle.port_core.specs.declared.act.Act.{Act}
 use Rattle.stage_core.specs.Handling.{PullsAs, Starts, Handles}
 use Rattle.fused_net.specs.declared.net.WireEnds.{WireEnds}
 use Rattle.fused_net.specs.Net.{Net, no_ends, end_at, view_of, acted_all, event_told, with_node, before}
-use Rattle.fused_net.specs.Laws.{AnyRow, AnyLaw, Busy, Awaits, TellsAsking, Responds, Settled, Starting, GoesOn}
+use Rattle.fused_net.specs.Laws.{AnyRow, AnyLaw, Busy, Settled, Starting, GoesOn}
 use Rattle.fused_net.specs.Costs.{all_asks, Uses}
 use Rattle.fused_net.proofs.Reading.{some_same, get_there}
 use Rattle.fused_net.proofs.Acting.{busy_any}
 use Rattle.fused_net.proofs.Ongoing.{goes_trans, goes_acts, goes_node}
-use Rattle.fused_net.proofs.Going.{acts_uses, event_uses}
+use Rattle.fused_net.proofs.Delivering.{Awaits, TellsAsking}
+use Rattle.fused_net.proofs.Going.{Responds, acts_uses, event_uses}
 use Rattle.fused_net.proofs.Starting.{start_busy, start_done}
 
 module _ {N : Type 0} where
@@ -39,7 +40,7 @@ module _ {N : Type 0} (row : N → View → Type 0) (law : N → N → View → 
   awaited call net v n x y acts e h is awaits handles = rw e (busy_any row law (with_node net n y) n acts (awaits x y acts (node_is net v n x e h is) handles))
 
 module _ {N : Type 0} (row : N → View → Type 0) (law : N → N → View → List (List Item) → List (List Item) → Type 0) (asking : N → View → Type 0) (moves : N → List ℕ) where
-  pub responded : (call : Call) (net v new : Net N) (n : ℕ) (x y : N) (acts : List Act) → v ≡ net → n < length net.nodes → x ≡ get_or v.nodes n x → Awaits row law call net n → TellsAsking row law asking moves call net n → Handles row law call x y acts
+  pub responded : (call : Call) (net v new : Net N) (n : ℕ) (x y : N) (acts : List Act) → v ≡ net → n < length net.nodes → x ≡ get_or v.nodes n x → Awaits row law call net n → TellsAsking row law asking call net n → Handles row law call x y acts
       → PullsAs call (row x) (asking y) acts → IsPrefix (moves x) (moves y) → new ≡ acted_all (with_node v n y) n acts → Responds row law asking moves net new n
   responded call net v new n x y acts e h is awaits tells handles asks grows on =
       let at : slice_get net.nodes n ≡ Some x = node_is net v n x e h is in

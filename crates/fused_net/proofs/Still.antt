@@ -17,7 +17,7 @@ use Rattle.fused_net.specs.Net.{Net, end_at, target, wire_at, ports_at, wire_for
 use Rattle.fused_net.specs.Laws.{AnyRow, AnyLaw, Wired, Busy, Settled, GoesOn, AllKept}
 use Rattle.fused_net.specs.PortLists.{PortLists}
 use Rattle.fused_net.specs.Poking.{AtNode}
-use Rattle.fused_net.specs.Outside.{BreaksAside, IsPassiveAt, StandsStill, touched, IsElse, HasOnly, Untouched, HeardBy}
+use Rattle.fused_net.specs.Outside.{BreaksAside, IsPassiveAt, StandsStill, touched, IsElse, HasOnly, Untouched}
 use Rattle.fused_net.proofs.Reading.{same_or_not, some_same, get_there, get_set_same, get_set_other}
 use Rattle.fused_net.proofs.Ongoing.{nodes-acts}
 use Rattle.fused_net.proofs.Acting.{PortAt, fits, act_allowed, port_within, acted_busy}
@@ -291,6 +291,13 @@ out_only p u w i only at = behind p.ins p.outs i only at
     behind : (xs ys : List ℕ) (i : ℕ) → xs ++ ys ≡ u ∷ [] → slice_get ys i ≡ Some w → u ≡ w
     behind [] ys i e at = one ys i e at
     behind (x ∷ xs) ys i e at = let t : xs ++ ys ≡ [] = cc in none xs ys i t at
+
+module _ {N : Type 0} (passive : N → Bool) where
+  -- node n heard of an event, and did what it wants done: the passive nodes know of their ports what they knew, and the other nodes are as they were
+  pub record HeardBy (n : ℕ) (old new : Net N) : Type 0 where
+    pub outs : (u : ℕ) → IsPassiveAt passive old (end_at old.ends u).from → (wire_at new u).wire.out ≡ (wire_at old u).wire.out
+    pub ins : (u : ℕ) → IsPassiveAt passive old (end_at old.ends u).to → ((wire_at new u).wire.inp ≡ (wire_at old u).wire.inp) × ((wire_at new u).wire.got ≡ (wire_at old u).wire.got)
+    pub nodes : (k : ℕ) → k ≢ n → slice_get new.nodes k ≡ slice_get old.nodes k
 
 module _ {N : Type 0} (passive : N → Bool) where
   -- node n was called, and did what it wants done

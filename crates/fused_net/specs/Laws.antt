@@ -6,17 +6,15 @@ use Rattle.port_core.specs.Ring.{holds}
 use Rattle.port_core.specs.Joint.{IsSound}
 use Rattle.port_core.specs.View.{View, in_at, ActsAllowed, acted_all}
 use Rattle.port_core.specs.Asking.{PullsStand}
-use Rattle.port_core.specs.Call.{Call, starts, CallAllowed, Meets}
+use Rattle.port_core.specs.Call.{starts, CallAllowed}
 use Rattle.port_core.specs.declared.view.InView.TheVariants.{Idle, Pulled}
 use Rattle.port_core.specs.declared.view.OutView.TheVariants.{Unpulled}
 use Rattle.port_core.specs.declared.act.Act.{Act}
 use Rattle.wire_core.specs.Marks.{IsMarked, wanted, Grown}
 use Rattle.stage_core.specs.Histories.{given_all, AllEmpty}
-use Rattle.stage_core.specs.Handling.{Pulls, PullsAs, Handles}
 use Rattle.fused_net.specs.PortLists.{PortLists}
 use Rattle.fused_net.specs.declared.net.WireEnds.{WireEnds}
-use Rattle.fused_net.specs.Net.{Net, end_at, port_at, ports_at, wire_at, view_of, took, gave, with_node}
-use Rattle.fused_net.specs.Net as net
+use Rattle.fused_net.specs.Net.{Net, end_at, port_at, ports_at, wire_at, view_of, took, gave}
 
 -- Nodes and wires name each other: each wire stands at the ports at its ends, and each port of a node has the wire that ends there.
 pub record Wired (ends : List WireEnds) (ports : List PortLists) (nodes wires : ℕ) : Type 0 where
@@ -93,14 +91,6 @@ module _ {N : Type 0} (row : N → View → Type 0) (law : N → N → View → 
     pub here : IsMinded net n acts
     pub others : (k : ℕ) → k < length net.nodes → k ≢ n → IsMinded net k []
 
-  -- the port rules allow the call of the handler of node n
-  abbrev pub MeetsAt : Call → Net N → ℕ → Type 0
-  MeetsAt call net n = (x : N) → slice_get net.nodes n ≡ Some x → Meets call (row x)
-
-  -- whatever the handler of node n does for this call, the laws stand with its actions still to do
-  abbrev pub Awaits : Call → Net N → ℕ → Type 0
-  Awaits call net n = (x y : N) (acts : List Act) → slice_get net.nodes n ≡ Some x → Handles row law call x y acts → Busy (with_node net n y) n acts
-
 module _ {N : Type 0} (row : N → View → Type 0) (law : N → N → View → List (List Item) → List (List Item) → Type 0) (asking : N → View → Type 0) (moves : N → List ℕ) where
   -- The last ask of wire w that took effect: an earlier moment from which the graph went on, and at which the node at the
   -- wire's input had pulled. It waited there, its row and its law held, and so did what it tells whenever it has just pulled.
@@ -152,19 +142,6 @@ module _ {N : Type 0} (row : N → View → Type 0) (law : N → N → View → 
     pub minded : (n : ℕ) → n < length net.nodes → IsMinded row law net n []
     pub asked : AllAsked net
     pub moments : AllMoments net
-
-  -- whatever the handler of node n does for this call, what it tells as it pulls is told of the graph
-  abbrev pub TellsAsking : Call → Net N → ℕ → Type 0
-  TellsAsking call net n = (x y : N) (acts : List Act) → slice_get net.nodes n ≡ Some x → Handles row law call x y acts → PullsAs call (row x) (asking y) acts → Pulls acts → asking y (acted_all (view_of net n) acts)
-
-  -- the handler of node n was called, and its actions were done
-  pub record Responds (old new : Net N) (n : ℕ) : Type 0 where
-    pub node : N
-    pub acts : List Act
-    pub busy : Busy row law (with_node old n node) n acts
-    pub asks : Pulls acts → asking node (acted_all (view_of old n) acts)
-    pub grows : (x : N) → slice_get old.nodes n ≡ Some x → IsPrefix (moves x) (moves node)
-    pub is : new ≡ net.acted_all (with_node old n node) n acts
 
   -- Memory was wanting in a handler: the graph had gone on to a last moment between two events, and since then each node has
   -- kept what outlives that.

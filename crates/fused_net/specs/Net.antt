@@ -12,6 +12,8 @@ use Rattle.wire_core.specs.Reading.{no_wire, inp_of, out_of, got_of, sent_of}
 use Rattle.wire_core.specs.Counts.{elements}
 use Rattle.fused_net.specs.PortLists.{PortLists}
 use Rattle.fused_net.specs.declared.net.WireEnds.{WireEnds}
+use Rattle.fused_net.specs.declared.engine.Delivered.{Delivered}
+use Rattle.fused_net.specs.declared.engine.Delivered.TheVariants as brings
 
 -- the nodes, and as they were handed in; the wires; of each wire the ports at its ends, and of each node its wires, which no
 -- step changes; and the wires that have an event, first in first out
@@ -72,6 +74,19 @@ call_of nothing e = starts
 call_of pull e = pulls e.output
 call_of cancel e = cancels e.output
 call_of (arrived x more) e = arrives e.input x
+
+-- what the code says that a delivery brings; where it goes, and the call of its handler
+abbrev pub IsBrought : Delivered → Delivery → Type 0
+IsBrought brings.Cancel d = d ≡ cancel
+IsBrought (brings.Arrived x) d = (more : Bool) × (d ≡ arrived x more)
+
+abbrev pub node_for : Delivered → WireEnds → ℕ
+node_for brings.Cancel e = e.from
+node_for (brings.Arrived x) e = e.to
+
+abbrev pub call_for : Delivered → WireEnds → Call
+call_for brings.Cancel e = cancels e.output
+call_for (brings.Arrived x) e = arrives e.input x
 
 -- the wire once this was delivered
 abbrev pub told_by : Delivery → WireState → WireState

@@ -44,12 +44,6 @@ module _ {N : Type 0} (passive : N → Bool) where
     pub ins : (u : ℕ) → IsElse at u → IsPassiveAt passive old (end_at old.ends u).to → ((wire_at new u).wire.inp ≡ (wire_at old u).wire.inp) × ((wire_at new u).wire.got ≡ (wire_at old u).wire.got)
     pub nodes : (u k : ℕ) → IsElse at u → IsPassiveAt passive old k → HasOnly (ports_at old k) u → slice_get new.nodes k ≡ slice_get old.nodes k
 
-  -- node n heard of an event, and did what it wants done: the passive nodes know of their ports what they knew, and the other nodes are as they were
-  pub record HeardBy (n : ℕ) (old new : Net N) : Type 0 where
-    pub outs : (u : ℕ) → IsPassiveAt passive old (end_at old.ends u).from → (wire_at new u).wire.out ≡ (wire_at old u).wire.out
-    pub ins : (u : ℕ) → IsPassiveAt passive old (end_at old.ends u).to → ((wire_at new u).wire.inp ≡ (wire_at old u).wire.inp) × ((wire_at new u).wire.got ≡ (wire_at old u).wire.got)
-    pub nodes : (k : ℕ) → k ≢ n → slice_get new.nodes k ≡ slice_get old.nodes k
-
 module _ {N : Type 0} (row : N → View → Type 0) (law : N → N → View → List (List Item) → List (List Item) → Type 0) (asking : N → View → Type 0) (moves : N → List ℕ) (gone : N → List Item) (passive : N → Bool) where
   -- Memory was wanting in a handler: up to the last moment between two events only their peers acted at the wires of passive nodes,
   -- from which nothing left the graph.

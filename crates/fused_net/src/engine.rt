@@ -1,20 +1,21 @@
 // Nodes joined by wires: one action, one event, and `execute`.
-ghost use Rattle.std.specs.Prelude.{◌≡◌, ℕ, true, ◌+◌, ◌<◌, ◌≤◌, [], ◌∷◌, false, None, Some, OnOk, OnErr, IfOk, IfNone, IfSome, IsSome, IsTrue, ◌↔◌, length, map, replicate, slice_get};
+ghost use Rattle.std.specs.Prelude.{◌≡◌, ℕ, true, ◌+◌, ◌<◌, ◌≤◌, [], ◌∷◌, false, None, Some, OnOk, OnErr, IfOk, IfNone, IfSome, IsSome, IsTrue, ◌↔◌, ◌≢◌, length, map, replicate, slice_get};
 ghost use Rattle.elem_core.specs.Prefix.{IsPrefix};
 ghost use Rattle.elem_core.specs.declared.count.TheConstants.{MOST_COUNT};
 ghost use Rattle.port_core.specs.Call.{Meets};
 ghost use Rattle.port_core.specs.Ring.{holds};
-ghost use Rattle.port_core.specs.Wire.{delivery_of};
+ghost use Rattle.port_core.specs.Wire.{nothing, delivery_of};
 ghost use Rattle.port_core.specs.declared.act.Act.TheVariants as act;
+ghost use Rattle.port_core.specs.declared.conn.Event.TheVariants as events;
 ghost use Rattle.stage_core.specs.declared.stage.TheConstants.{MOST_ACTS};
 ghost use Rattle.stage_core.specs.Handling.{PullsAs, StaysPassive, Handles};
-ghost use Rattle.wire_core.specs.Cell.{new_cell, delivery_in, brought_in, Tells};
-ghost use Rattle.fused_net.specs.Net.{acted, acted_all, event_told, put, wire_at, end_at, Able, port_at, target, call_of, before, Takes};
+ghost use Rattle.wire_core.specs.Cell.{new_cell, brought_in, Tells};
+ghost use Rattle.fused_net.specs.Net.{acted, acted_all, event_told, put, wire_at, end_at, Able, port_at, node_for, call_for, IsBrought, before, Takes};
 ghost use Rattle.fused_net.specs.declared.queue.TheConstants.{MOST_CHASES};
-ghost use Rattle.fused_net.specs.Laws.{AnyRow, AnyLaw, Wired, first_view, Settled, Busy, Starting, GoesOn, Awaits, TellsAsking, MeetsAt, Responds, AllKept, BreaksOff, IsMinded};
+ghost use Rattle.fused_net.specs.Laws.{AnyRow, AnyLaw, Wired, first_view, Settled, Busy, Starting, GoesOn, AllKept, BreaksOff, IsMinded};
 ghost use Rattle.fused_net.specs.Costs.{all_asks, Uses};
 ghost use Rattle.fused_net.specs.Poking.{AtNode, HandsAt, TellsPoked};
-ghost use Rattle.fused_net.specs.Outside.{BreaksAside, StandsStill, HeardBy, Untouched, touched};
+ghost use Rattle.fused_net.specs.Outside.{BreaksAside, StandsStill, Untouched, touched};
 
 use crate::net::{Ports, WireEnds};
 use crate::queue::EventQueue;
@@ -29,7 +30,7 @@ use stage_core::stage::Stage;
 use std::alloc::Global;
 use std::marker::Model;
 use std::snapshot::Snapshot;
-use wire_core::wire::{Delivered, Wire};
+use wire_core::wire::Wire;
 
 /// Nodes joined by wires, and the wires that have an event.
 #[derive(Drop)]
@@ -78,15 +79,25 @@ pub fn unused_wires(alloc: Global, count: usize) -> Result<Vec<Wire>, NoMemory>
     Ok(wires)
 }
 
+// What an event but a pull brings to an end of its wire.
+#[derive(Drop)]
+enum Delivered {
+    // The input's cancel, to the output.
+    Cancel,
+    // An element or an end, to the input.
+    Arrived(Item),
+}
+
 fn node_of(event: &Delivered, ends: WireEnds) -> u32
-    ensures { result ≡ target (delivery_in event.now) ends }
+    ensures { result ≡ node_for event.now ends }
 {
     match event {
-        Delivered::Arrived(_, _) => ends.to,
-        _ => ends.from,
+        Delivered::Cancel => ends.from,
+        Delivered::Arrived(_) => ends.to,
     }
 }
 
+// Calls the handler of a node that the event is for.
 #[inline(always)]
 fn call<S: Stage>(
     node: &mut S,
@@ -95,11 +106,11 @@ fn call<S: Stage>(
     event: Delivered,
     acts: &mut Acts,
 ) -> Result<(), NoMemory>
-    requires meets { Meets (call_of (delivery_in event) ends) (S.port_state node.old) }
+    requires meets { Meets (call_for event ends) (S.port_state node.old) }
     requires empty { acts.old.items ≡ [] }
     requires room { MOST_ACTS ≤ acts.old.room }
-    ensures handles { OnOk result (Handles S.port_state S.law (call_of (delivery_in event) ends) node.old node.new acts.new.items) }
-    ensures pulls { OnOk result (PullsAs (call_of (delivery_in event) ends) (S.port_state node.old) (S.asking node.new) acts.new.items) }
+    ensures handles { OnOk result (Handles S.port_state S.law (call_for event ends) node.old node.new acts.new.items) }
+    ensures pulls { OnOk result (PullsAs (call_for event ends) (S.port_state node.old) (S.asking node.new) acts.new.items) }
     ensures grows { OnOk result (IsPrefix (S.moves node.old) (S.moves node.new)) }
     ensures passive { OnOk result (StaysPassive (S.passive node.old) (S.passive node.new) acts.new.items) }
     ensures gone { OnOk result (S.gone node.new ≡ S.gone node.old) }
@@ -107,11 +118,10 @@ fn call<S: Stage>(
     ensures kept { OnErr result (S.keeps node.old node.new) }
 {
     match event {
-        Delivered::Pull => node.on_pull(alloc, ends.output, acts),
         Delivered::Cancel => node.on_cancel(alloc, ends.output, acts),
-        Delivered::Arrived(Item::Elem(e), _) => node.on_push(alloc, ends.input, e, acts),
-        Delivered::Arrived(Item::Ended, _) => node.on_finish(alloc, ends.input, acts),
-        Delivered::Arrived(Item::Failed(cause), _) => node.on_fail(alloc, ends.input, cause, acts),
+        Delivered::Arrived(Item::Elem(e)) => node.on_push(alloc, ends.input, e, acts),
+        Delivered::Arrived(Item::Ended) => node.on_finish(alloc, ends.input, acts),
+        Delivered::Arrived(Item::Failed(cause)) => node.on_fail(alloc, ends.input, cause, acts),
     }
 }
 
@@ -374,70 +384,6 @@ impl<S: Stage> Engine<S> {
         self.settle();
     }
 
-    // Calls the handler of node n, does what it wants done, and says whether the node is passive.
-    #[inline(always)]
-    fn respond(
-        &mut self,
-        alloc: Global,
-        n: usize,
-        ends: WireEnds,
-        event: Delivered,
-        acts: &mut Acts,
-    ) -> Result<bool, NoMemory>
-        requires within { n < length self.old.nodes }
-        requires meets { MeetsAt S.port_state S.law (call_of (delivery_in event) ends) self.old n }
-        requires awaits { Awaits S.port_state S.law (call_of (delivery_in event) ends) self.old n }
-        requires tells { TellsAsking S.port_state S.law S.asking S.moves (call_of (delivery_in event) ends) self.old n }
-        requires few { all_asks self.old ≤ MOST_COUNT }
-        requires empty { acts.old.items ≡ [] }
-        requires room { MOST_ACTS ≤ acts.old.room }
-        ensures responds { OnOk result (Responds S.port_state S.law S.asking S.moves self.old self.new n) }
-        ensures heard { OnOk result (HeardBy S.passive n self.old self.new) }
-        ensures gone { OnOk result (map S.gone self.new.nodes ≡ map S.gone self.old.nodes) }
-        ensures still { OnOk result (StandsStill S.passive self.old self.new) }
-        ensures passive { IfOk result (λ passive. AtNode self.new n (λ x. passive ≡ S.passive x)) }
-        ensures acts { OnOk result (acts.new ≡ acts.old) }
-        ensures kept { OnErr result (AllKept S.keeps self.old.nodes self.new.nodes) }
-    {
-        call(&mut self.nodes[n], alloc, ends, event, acts)?;
-        Ok(self.perform(n, acts))
-    }
-
-    // Calls the handler of node n with what the event of wire w brought. It was delivered: `since` is the graph before that.
-    #[inline(always)]
-    fn finish(
-        &mut self,
-        alloc: Global,
-        w: u32,
-        n: u32,
-        ends: WireEnds,
-        event: Delivered,
-        since: Snapshot<Engine<S>>,
-        acts: &mut Acts,
-    ) -> Result<bool, NoMemory>
-        requires within { w < length since.value.wires }
-        requires absent { holds since.value.queue w ≡ false }
-        requires laws { Settled S.port_state S.law S.asking S.moves (before since.value w) }
-        requires few { all_asks since.value + 1 ≤ MOST_COUNT }
-        requires event { delivery_in event ≡ delivery_of (wire_at since.value w).wire }
-        requires after { self.old ≡ event_told since.value w }
-        requires ends { ends ≡ end_at since.value.ends w }
-        requires node { n ≡ target (delivery_in event) ends }
-        requires empty { acts.old.items ≡ [] }
-        requires room { MOST_ACTS ≤ acts.old.room }
-        ensures laws { OnOk result (Settled S.port_state S.law S.asking S.moves self.new) }
-        ensures on { OnOk result (GoesOn since.value self.new) }
-        ensures uses { OnOk result (Uses (before since.value w) self.new 1) }
-        ensures gone { OnOk result (map S.gone self.new.nodes ≡ map S.gone since.value.nodes) }
-        ensures still { OnOk result (StandsStill S.passive since.value self.new) }
-        ensures untouched { IfOk result (λ heard. Untouched S.passive (touched heard w) since.value self.new) }
-        ensures acts { OnOk result (acts.new ≡ acts.old) }
-        ensures kept { OnErr result (AllKept S.keeps since.value.nodes self.new.nodes) }
-    {
-        let is_passive = self.respond(alloc, n as usize, ends, event, acts)?;
-        Ok(is_passive)
-    }
-
     // Tells an end of the event of a wire that was taken out of the queue.
     #[inline(always)]
     fn tell(&mut self, w: u32) -> Event
@@ -502,7 +448,29 @@ impl<S: Stage> Engine<S> {
         }
     }
 
-    // Handles any other event, which an end of wire w was told of: `since` is the graph before that.
+    // Delivers any other event, which an end of wire w was told of, and says what it brings: `since` is the graph before that.
+    #[inline(always)]
+    fn deliver(&mut self, w: u32, event: Event, since: Snapshot<Engine<S>>) -> Option<Delivered>
+        requires within { w < length since.value.wires }
+        requires absent { holds since.value.queue w ≡ false }
+        requires no_push { event ≢ events.Push }
+        requires no_pull { event ≢ events.Pull }
+        requires tells { Tells event (wire_at since.value w) (wire_at self.old w) }
+        requires after { self.old ≡ put since.value w (wire_at self.old w) false }
+        ensures none { IfNone result (delivery_of (wire_at since.value w).wire ≡ nothing) }
+        ensures some { IfSome result (λ b. IsBrought b (delivery_of (wire_at since.value w).wire)) }
+        ensures after { self.new ≡ event_told since.value w }
+    {
+        match event {
+            Event::Nothing => None,
+            Event::Cancel => Some(Delivered::Cancel),
+            Event::PushThenClose => Some(Delivered::Arrived(Item::Elem(self.take(w, true)))),
+            Event::Finish | Event::Fail => Some(Delivered::Arrived(self.wires[w as usize].end())),
+            Event::Push | Event::Pull => unreachable!(),
+        }
+    }
+
+    // Handles such an event.
     #[inline(never)]
     fn handle_closing(
         &mut self,
@@ -516,6 +484,8 @@ impl<S: Stage> Engine<S> {
         requires absent { holds since.value.queue w ≡ false }
         requires laws { Settled S.port_state S.law S.asking S.moves (before since.value w) }
         requires few { all_asks since.value + 1 ≤ MOST_COUNT }
+        requires no_push { event ≢ events.Push }
+        requires no_pull { event ≢ events.Pull }
         requires tells { Tells event (wire_at since.value w) (wire_at self.old w) }
         requires after { self.old ≡ put since.value w (wire_at self.old w) false }
         requires empty { acts.old.items ≡ [] }
@@ -530,16 +500,12 @@ impl<S: Stage> Engine<S> {
         ensures kept { OnErr result (AllKept S.keeps since.value.nodes self.new.nodes) }
     {
         let ends = self.ends[w as usize];
-        let event = match event {
-            Event::Nothing => return Ok(false),
-            Event::Pull => Delivered::Pull,
-            Event::Cancel => Delivered::Cancel,
-            Event::Push => Delivered::Arrived(Item::Elem(self.take(w, false)), false),
-            Event::PushThenClose => Delivered::Arrived(Item::Elem(self.take(w, true)), true),
-            Event::Finish | Event::Fail => Delivered::Arrived(self.wires[w as usize].end(), false),
+        let Some(event) = self.deliver(w, event, since) else {
+            return Ok(false);
         };
-        let n = node_of(&event, ends);
-        self.finish(alloc, w, n, ends, event, since, acts)
+        let n = node_of(&event, ends) as usize;
+        call(&mut self.nodes[n], alloc, ends, event, acts)?;
+        Ok(self.perform(n, acts))
     }
 
     // Takes out the wire whose event comes next: the one that waits first, or the one that was queued last, where it is chased.

@@ -12,8 +12,6 @@ use Rattle.port_core.specs.declared.conn.Event.TheVariants as event
 use Rattle.port_core.specs.declared.view.InView.TheVariants.{Idle}
 use Rattle.port_core.specs.declared.act.Act.{Act}
 use Rattle.port_core.specs.declared.act.Act.TheVariants.{Pull, Push, Complete, FailOut, Cancel}
-use Rattle.wire_core.specs.declared.wire.Delivered.{Delivered}
-use Rattle.wire_core.specs.declared.wire.Delivered.TheVariants as delivery
 
 -- A pull that a closing forbids, which has not come to the input, is none. A push answers the pull, also one that a cancel
 -- forbids which has not come to the output. A closing leaves the pull as it is.
@@ -40,12 +38,6 @@ queues_by (Push j e) p = can_push p
 queues_by (Complete j) p = is_at_rest p
 queues_by (FailOut j cause) p = is_at_rest p
 queues_by (Cancel i) p = is_at_rest p
-
--- what the event of the wire brings, as the code says it
-abbrev pub delivery_in : Delivered → Delivery
-delivery_in delivery.Pull = pull
-delivery_in delivery.Cancel = cancel
-delivery_in (delivery.Arrived x more) = arrived x more
 
 -- an element that waits to be grabbed goes to the input
 abbrev pub brought_in : Tree → WireState → WireState

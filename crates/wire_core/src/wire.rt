@@ -16,17 +16,6 @@ use port_core::view::{InView, OutView};
 use std::marker::Model;
 use std::snapshot::Snapshot;
 
-/// What the event of a wire brings to an end of it. After the events of the Akka Streams 2.6 interpreter.
-#[derive(Drop)]
-pub enum Delivered {
-    /// A pull, to the output.
-    Pull,
-    /// The input's cancel, to the output.
-    Cancel,
-    /// An element or an end, to the input; and whether the wire has to be queued again.
-    Arrived(Item, bool),
-}
-
 // Out of line, since to drop an element takes a frame, and few pushes drop theirs.
 #[inline(never)]
 fn drop_item(_item: Item) {}

@@ -1,6 +1,6 @@
 -- The flag word of a connection, and the connection that it stands for.
-use Rattle.std.specs.Prelude.{◌≡◌, ℕ, ◌+◌, ◌==◌, Bool, true, false, not, if◌then◌else◌, Option, None, Some, List, [], ◌∷◌, ◌++◌, bit_and}
-use Rattle.elem_core.specs.Tree.{Tree}
+use Rattle.std.specs.Prelude.{◌≡◌, ℕ, ◌+◌, ◌==◌, Bool, true, false, not, if◌then◌else◌, Option, None, Some, List, [], ◌∷◌, ◌++◌, pos, bit_and}
+use Rattle.elem_core.specs.Tree.{Tree, num}
 use Rattle.elem_core.specs.declared.why.Cause.{Cause}
 use Rattle.port_core.specs.Connection.{ConnStep, quiet, pulled, ready, pushed, Connection}
 use Rattle.port_core.specs.Ring.{holds}
@@ -17,10 +17,12 @@ words = with_low 0 ++ with_low 32 ++ with_low 96 ++ with_low 16 ++ with_low 48 +
 abbrev pub has : ℕ → ℕ → Bool
 has bit w = not (bit_and w bit == 0)
 
--- What every connection keeps: its word is one of these, and an element that was delivered is held only where nobody pulled.
-pub record IsWord (w : ℕ) (held : Bool) : Type 0 where
+-- What every connection keeps: its word is one of these, an element that was delivered is held only where nobody pulled, and where
+-- no element is held or on its way the number 0 stands in its place.
+pub record IsWord (w : ℕ) (held : Bool) (e : Tree) : Type 0 where
   pub word : holds words w ≡ true
   pub quiet : held ≡ true → has 1 w ≡ true
+  pub empty : held ≡ false → has 4 w ≡ false → e ≡ num (pos 0)
 
 -- where the pull and the element stand
 abbrev pub step_by : ℕ → Tree → ConnStep

@@ -1,5 +1,5 @@
-ghost use Rattle.std.specs.Prelude.{◌≡◌, ◌↔◌, IsTrue, true, false, not, IsSome};
-ghost use Rattle.elem_core.specs.Tree.{Tree};
+ghost use Rattle.std.specs.Prelude.{◌≡◌, ◌↔◌, IsTrue, true, false, not, IsSome, pos};
+ghost use Rattle.elem_core.specs.Tree.{Tree, num};
 ghost use Rattle.port_core.specs.Connection.{unasked, pushed};
 ghost use Rattle.port_core.specs.PortRules as rule;
 ghost use Rattle.port_core.specs.PortRules.{Allowed, Rule};
@@ -56,7 +56,7 @@ pub struct Conn {
     word: u8,
     // Whether an element was delivered and not grabbed.
     held: bool,
-    // The element that is on its way or was delivered; where there is none, a number that nobody reads.
+    // The element that is on its way or was delivered; where there is none, the number 0.
     elem: Elem,
     // The cause of the failure; where there was none, one that nobody reads.
     cause: Cause,
@@ -74,11 +74,13 @@ impl Model for Conn {
 
     ghost view = { λ c. connection_of c.word c.held c.elem c.cause };
 
-    ghost invariant = { λ c. IsWord c.word c.held };
+    ghost invariant = { λ c. IsWord c.word c.held c.elem };
 }
 
 // The element that stands where there is none.
-fn no_elem() -> Elem {
+fn no_elem() -> Elem
+    ensures { result ≡ num (pos 0) }
+{
     Elem::of(Form::Num(0))
 }
 

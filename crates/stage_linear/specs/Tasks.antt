@@ -72,6 +72,18 @@ ReactedBy book old t new (Fails why) = (reaction book old t ≡ breaks why) × S
 abbrev pub Reacted : Work → Tree → Work → LinearReaction → Type 0
 Reacted old t new o = (book : Book) → ReactedBy book old t new o
 
+-- what comes of an element of this task may not be known at once
+abbrev pub IsUnsaid : LinearWork → Type 0
+IsUnsaid (Map f) = ⊤
+IsUnsaid (Filter p) = ⊥
+IsUnsaid (FilterNot p) = ⊥
+IsUnsaid (Take n) = ⊥
+IsUnsaid (TakeWhile p) = ⊤
+IsUnsaid (Drop n) = ⊥
+IsUnsaid (DropWhile p passes) = ⊤
+IsUnsaid (Limit n) = n ≡ 0
+IsUnsaid (Expand x) = ⊤
+
 -- what comes of the element t at once, as an outcome
 abbrev pub outcome_of : AtOnce → Tree → LinearReaction
 outcome_of at_once.Passes t = Gives t

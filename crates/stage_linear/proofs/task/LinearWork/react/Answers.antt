@@ -3,12 +3,6 @@ use Rattle.stage_linear.proofs.task.LinearWork.react.Goals as goal
 pub returns-in-Map : goal.returns-in-Map
 returns-in-Map c = rw c.in-Map.is c.map.ensures
 
-pub returns-in-Filter : goal.returns-in-Filter
-returns-in-Filter c = rw c.in-Filter.is c.filter.ensures
-
-pub returns-in-FilterNot : goal.returns-in-FilterNot
-returns-in-FilterNot c = rw c.in-FilterNot.is c.filter_not.ensures
-
 pub returns-in-TakeWhile : goal.returns-in-TakeWhile
 returns-in-TakeWhile c = rw c.in-TakeWhile.is c.take_while.ensures
 

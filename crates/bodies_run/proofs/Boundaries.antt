@@ -1,6 +1,6 @@
 -- What an input boundary keeps between any two calls.
 use Rattle.std.proofs.Common.{◌≤◌, ◌<◌, ◌+◌, ◌/◌, max, sym, subst}
-use Rattle.lane_core.specs.Lane.{elements}
+use Rattle.elem_core.specs.Items.{elements}
 use Rattle.lane_core.specs.Ends.{asked, asks, in_size}
 use Rattle.input_boundary.specs.Boundary.{BoundaryKeeps}
 use Rattle.input_boundary.specs.Flow.{AsksByHalves}

@@ -1,6 +1,7 @@
 // Lanes whose two ends are used by turns, and by two threads.
 ghost use Rattle.std.specs.Prelude.{◌≡◌, ◌+◌, true, false, IfSome};
-ghost use Rattle.lane_core.specs.Lane.{elements, ends, weight};
+ghost use Rattle.lane_core.specs.Lane.{ends, weight};
+ghost use Rattle.elem_core.specs.Items.{elements};
 ghost use Rattle.lane_core.specs.Ends.{taken, asked, has_cancelled, has_ended, saw_cancel, out_lane, in_lane, AreOneLane, IsSameIn, IsSameOut};
 
 use elem_core::elem::{Elem, Form};

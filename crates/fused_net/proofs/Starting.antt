@@ -2,6 +2,7 @@
 use Rattle.std.proofs.Common.{◌≡◌, ◌≢◌, inl, inr, ℕ, zero, suc, ◌+◌, ◌<◌, ◌≤◌, Bool, true, false, if◌then◌else◌, Some, List, [], ◌∷◌, length, get_or, slice_get, replicate, refl, sym, ap, ◌∙◌, subst, arith}
 use Rattle.std.proofs.lemmas.List.{length-set, get_or-replicate, length-replicate}
 use Rattle.elem_core.specs.Prefix.{IsPrefix}
+use Rattle.elem_core.specs.Items.{elements}
 use Rattle.elem_core.specs.declared.item.Item.{Item}
 use Rattle.port_core.specs.Wire.{JointPorts}
 use Rattle.port_core.specs.Joint.{Joint, idle, asking, asked, moving, ending, closing, leaving, finished, parted, refused, wire_of, Histories, IsSound}
@@ -16,7 +17,7 @@ use Rattle.wire_core.specs.Cell.{WireState, new_cell}
 use Rattle.wire_core.proofs.Marking.{new_marked, cell}
 use Rattle.wire_core.specs.Marks.{IsMarked, wanted}
 use Rattle.wire_core.proofs.Counting.{elements_end}
-use Rattle.wire_core.specs.Counts.{elements, asks}
+use Rattle.wire_core.specs.Counts.{asks}
 use Rattle.fused_net.specs.PortLists.{PortLists}
 use Rattle.fused_net.specs.declared.net.WireEnds.{WireEnds}
 use Rattle.wire_core.specs.Reading.{no_wire, inp_of, out_of, got_of, sent_of}

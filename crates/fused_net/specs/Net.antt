@@ -1,5 +1,6 @@
 -- A fused graph as contracts see it, and what each step makes of it. The nodes are of any type.
 use Rattle.std.specs.Prelude.{◌≡◌, ℕ, ◌+◌, ◌^◌, ◌<◌, ◌⊎◌, Bool, true, false, if◌then◌else◌, List, [], ◌∷◌, ◌++◌, length, slice_index_or, slice_set}
+use Rattle.elem_core.specs.Items.{elements}
 use Rattle.elem_core.specs.declared.item.Item.{Item}
 use Rattle.port_core.specs.Ring.{holds}
 use Rattle.port_core.specs.View.{View}
@@ -9,7 +10,6 @@ use Rattle.port_core.specs.declared.act.Act.{Act}
 use Rattle.port_core.specs.declared.act.Act.TheVariants.{Pull, Push, Complete, FailOut, Cancel}
 use Rattle.wire_core.specs.Cell.{WireState, moved_by, queues_by}
 use Rattle.wire_core.specs.Reading.{no_wire, inp_of, out_of, got_of, sent_of}
-use Rattle.wire_core.specs.Counts.{elements}
 use Rattle.fused_net.specs.PortLists.{PortLists}
 use Rattle.fused_net.specs.declared.net.WireEnds.{WireEnds}
 use Rattle.fused_net.specs.declared.engine.Delivered.{Delivered}

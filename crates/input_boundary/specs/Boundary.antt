@@ -1,8 +1,8 @@
 -- What contracts see of an input boundary.
 use Rattle.std.specs.Prelude.{◌≡◌, ◌≢◌, ◌+◌, ◌/◌, ◌<◌, ◌≤◌, max, ℕ, Bool, List, ◌++◌}
 use Rattle.elem_core.specs.Tree.{Tree}
+use Rattle.elem_core.specs.Items.{elements}
 use Rattle.elem_core.specs.declared.item.Item.{Item}
-use Rattle.lane_core.specs.Lane.{elements}
 use Rattle.lane_core.specs.Ends.{taken, asked, asks, has_cancelled, in_size}
 use Rattle.stream_model.specs.Outlook.{End, unended}
 use Rattle.stream_model.specs.Lane.{Carries}

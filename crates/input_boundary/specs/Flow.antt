@@ -1,9 +1,9 @@
 -- What passed an input boundary: what was taken off its lane, what was handed on, and what waits between.
 use Rattle.std.specs.Prelude.{◌≡◌, ◌≢◌, ◌+◌, ◌*◌, ◌<◌, ◌≤◌, ℕ, Bool, true, false, cond, List, [], ◌∷◌, ◌++◌, length, Option}
 use Rattle.elem_core.specs.Tree.{Tree}
+use Rattle.elem_core.specs.Items.{elements}
 use Rattle.elem_core.specs.declared.item.Item.{Item}
 use Rattle.elem_core.specs.declared.item.Item.TheVariants as item
-use Rattle.lane_core.specs.Lane.{elements}
 use Rattle.stream_model.specs.Outlook.{unended}
 use Rattle.stage_law.specs.Held.{told, items_of}
 use Rattle.input_boundary.specs.declared.state.State.{State}

@@ -1,8 +1,9 @@
 // The end of a lane at which what enters an island is taken.
 ghost use Rattle.std.specs.Prelude.{◌≡◌, ◌⊎◌, ◌+◌, ◌<◌, ◌≤◌, ◌/◌, ◌^◌, ◌++◌, [], ◌∷◌, ℕ, max, true, false, cond, length, IfOk, IfSome, IfNone, IsOk};
+ghost use Rattle.elem_core.specs.Items.{elements};
 ghost use Rattle.elem_core.specs.declared.item.Item.{Item};
 ghost use Rattle.elem_core.specs.declared.count.TheConstants.{MOST_COUNT};
-ghost use Rattle.lane_core.specs.Lane.{elements, ends};
+ghost use Rattle.lane_core.specs.Lane.{ends};
 ghost use Rattle.lane_core.specs.Ends.{taken, asked, asks, has_cancelled, found_sent, told_sent, in_size, learnt, IsSameIn, AreOneLane, IsLaneHistory, WaitsAre};
 ghost use Rattle.lane_meet.specs.Meeting.{KeepsIn, KeepsOut, AreTold};
 ghost use Rattle.input_boundary.specs.Flow.{Flow, AsksByHalves};

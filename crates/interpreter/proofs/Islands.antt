@@ -27,7 +27,7 @@ use Rattle.nodes.specs.Kinds.{maker_of}
 use Rattle.stream_model.specs.declared.outcome.WireCount.{WireCount}
 use Rattle.port_core.specs.Decoding.{is_open}
 use Rattle.wire_core.specs.Cell.{WireState}
-use Rattle.wire_core.specs.Counts.{elements}
+use Rattle.elem_core.specs.Items.{elements}
 use Rattle.interpreter.specs.Island.{Keeps, count_of, counts_of, sinks_of, readers_of, writers_of}
 use Rattle.interpreter.specs.Picks.{node_number}
 use Rattle.interpreter.specs.Room.{HasRoom}

@@ -7,7 +7,7 @@ use Rattle.fused_net.proofs.Reading.{get_there}
 use Rattle.lane_core.specs.declared.room.Waits.{Waits}
 use Rattle.lane_core.specs.declared.lane_out.LaneOut.{LaneOut}
 use Rattle.lane_core.specs.declared.lane_in.LaneIn.{LaneIn}
-use Rattle.lane_core.specs.Lane.{elements}
+use Rattle.elem_core.specs.Items.{elements}
 use Rattle.lane_core.specs.Ends.{finds, taken}
 use Rattle.lane_meet.specs.Meeting.{KeepsOut, KeepsIn}
 use Rattle.lane_meet.proofs.Standing.{history_stands, waits_stand}

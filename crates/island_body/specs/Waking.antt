@@ -2,14 +2,14 @@
 use Rattle.std.specs.Prelude.{◌≡◌, ◌⊎◌, ℕ, zero, suc, ◌+◌, ◌-◌, ◌<◌, ◌≤◌, Bool, true, false, cond, List, [], ◌∷◌, ◌++◌, length, take, IsTrue}
 use Rattle.std.proofs.Common.{refl, sym, ap, ◌∙◌, subst, arith, inl, inr, length-append}
 use Rattle.fused_net.proofs.Reading.{get_there}
+use Rattle.elem_core.specs.Items.{elements}
 use Rattle.elem_core.specs.declared.item.Item.{Item}
 use Rattle.stream_model.specs.Outlook.{unended}
 use Rattle.stage_law.specs.Held.{told}
 use Rattle.lane_core.specs.declared.room.Waits.{Waits}
 use Rattle.lane_core.specs.declared.lane_out.LaneOut.{LaneOut}
 use Rattle.lane_core.specs.declared.lane_in.LaneIn.{LaneIn}
-use Rattle.lane_core.specs.Lane.{elements}
-use Rattle.lane_core.proofs.Lists.{weight_le}
+use Rattle.lane_core.proofs.Lists.{weight_le, elements_first}
 use Rattle.lane_core.specs.Ends.{sent, saw_cancel, taken, has_cancelled, IsLaneHistory, WaitsAre}
 use Rattle.lane_meet.specs.Meeting.{AreTold}
 use Rattle.input_boundary.specs.Boundary.{is_over}
@@ -50,7 +50,7 @@ over_count b over =
 elements_take : (n : ℕ) (l : List Item) → elements (take n l) ≤ n
 elements_take zero l = omega arith
 elements_take (suc n) [] = omega arith
-elements_take (suc n) (x ∷ l) = let rest = elements_take n l in let one = weight_le x in omega (arith, rest, one)
+elements_take (suc n) (x ∷ l) = let rest = elements_take n l in let one = weight_le x in let first = elements_first x (take n l) in omega (arith, rest, one, first)
 
 take_past : (a b : List Item) (n m : ℕ) → m ≡ length a + n → take m (a ++ b) ≡ a ++ take n b
 take_past [] b n m e = let same : m ≡ n = omega (arith, e) in ap (λ (k : ℕ). take k b) same

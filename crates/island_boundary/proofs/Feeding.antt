@@ -1,6 +1,7 @@
 -- What an input boundary keeps as it hands on, while others act, and while its island runs.
 use Rattle.std.specs.Prelude.{Option}
 use Rattle.std.proofs.Common.{◌≡◌, ◌≢◌, inl, inr, ℕ, ◌+◌, ◌*◌, ◌/◌, ◌<◌, max, Bool, true, false, cond, List, [], ◌∷◌, ◌++◌, length, refl, sym, ap, ◌∙◌, subst, arith, get_or-set_same}
+use Rattle.elem_core.specs.Items.{elements}
 use Rattle.elem_core.specs.declared.item.Item.{Item}
 use Rattle.elem_core.specs.declared.item.Item.TheVariants as item
 use Rattle.elem_core.specs.declared.why.Cause.{Cause}
@@ -13,14 +14,12 @@ use Rattle.port_core.specs.Decoding.{can_push}
 use Rattle.port_core.specs.declared.view.OutView.{OutView}
 use Rattle.port_core.specs.declared.view.OutView.TheVariants as outlet
 use Rattle.wire_core.specs.Cell.{WireState, moved_by}
-use Rattle.wire_core.specs.Counts.{elements}
 use Rattle.wire_core.specs.Reading.{no_wire}
 use Rattle.nodes.specs.Nodes.{node_port_state, node_law, node_asking, node_moves, node_passive}
 use Rattle.fused_net.specs.Net.{wire_at}
 use Rattle.fused_net.specs.Laws.{Settled, GoesOn}
 use Rattle.fused_net.specs.Outside.{StandsStill, Untouched, IsElse}
 use Rattle.lane_core.specs.Lane.{ends}
-use Rattle.lane_core.specs.Lane as lane
 use Rattle.lane_core.specs.Ends.{taken, asked, asks, in_size}
 use Rattle.input_boundary.specs.declared.boundary.InputBoundary.{InputBoundary}
 use Rattle.input_boundary.specs.declared.state.State.{State}
@@ -73,13 +72,6 @@ open_live outlet.Unpulled a b = refl
 open_live outlet.Available a b = refl
 open_live outlet.Closed a b = absurd (a refl)
 open_live outlet.Cancelled a b = absurd (b refl)
-
--- both count elements alike
-counts_same : (l : List Item) → lane.elements l ≡ elements l
-counts_same [] = refl
-counts_same (item.Elem e ∷ l) = let r = counts_same l in omega (arith, r)
-counts_same (item.Ended ∷ l) = let r = counts_same l in omega (arith, r)
-counts_same (item.Failed c ∷ l) = let r = counts_same l in omega (arith, r)
 
 -- ---- an item is handed on
 
@@ -175,12 +167,12 @@ module _ {S D L B : Type 0} (b : InputBoundary) (i : Kept S D L B) (u : ℕ) whe
   given_away s en w e = inr (cancel_away (cell_in i u).wire _ (s.sound (way_in i u) en.place) e (wanted_quiet (cell_in i u).wire.out (can_push (cell_in i u).wire.conn) w).0)
 
   -- so few elements were handed on
-  pub few_given : {sources : S → SourceState} {drains : D → DrainState} {book : Book} → Keeps sources drains book i.net i.used → Enters i u → Feeds b i u → wanted_at (cell_in i u) ≡ wanted.Asked → lane.elements (given b) < MOST_COUNT
+  pub few_given : {sources : S → SourceState} {drains : D → DrainState} {book : Book} → Keeps sources drains book i.net i.used → Enters i u → Feeds b i u → wanted_at (cell_in i u) ≡ wanted.Asked → elements (given b) < MOST_COUNT
   few_given k en f w =
       let p = wanted_push (cell_in i u).wire.out (can_push (cell_in i u).wire.conn) w in
       let y : (cell_in i u).wire.out ≡ outlet.Available = push_asked (cell_in i u).wire _ (k.laws.sound (way_in i u) en.place) p.0 in
       let few = few_there i.net (way_in i u) i.used en.place k.asks k.within y in
-      let count : lane.elements (given b) ≡ elements (cell_in i u).wire.sent = counts_same (given b) ∙ ap elements (sym f.given_is) in
+      let count : elements (given b) ≡ elements (cell_in i u).wire.sent = ap elements (sym f.given_is) in
       omega (arith, few, count)
 
   pub feeds_looked : (c : InputBoundary) → given c ≡ given b → state c ≡ state b → Feeds b i u → Feeds c i u

@@ -3,6 +3,7 @@ use Rattle.std.specs.Prelude.{slice_get}
 use Rattle.std.proofs.Common.{◌≡◌, ◌≢◌, ℕ, ◌+◌, ◌<◌, ◌≤◌, Bool, true, false, List, [], ◌∷◌, ◌++◌, Some, length, set, refl, sym, ap, ◌∙◌, subst, arith, append-nil, get_or-set_same}
 use Rattle.std.proofs.lemmas.Option.{slice_get_within}
 use Rattle.elem_core.specs.Tree.{Tree}
+use Rattle.elem_core.specs.Items.{elements}
 use Rattle.elem_core.specs.declared.item.Item.{Item}
 use Rattle.elem_core.specs.declared.item.Item.TheVariants as item
 use Rattle.port_core.specs.Decoding.{can_pull}
@@ -14,7 +15,6 @@ use Rattle.stream_model.specs.Outlook.{End, unended, ended, failed}
 use Rattle.stream_model.specs.Linear.{Book}
 use Rattle.stage_law.specs.Held.{told}
 use Rattle.wire_core.specs.Cell.{WireState, moved_by}
-use Rattle.wire_core.specs.Counts.{elements}
 use Rattle.wire_core.specs.Marks.{wanted}
 use Rattle.wire_core.specs.Reading.{no_wire}
 use Rattle.nodes.specs.declared.node.IslandNode.{IslandNode}
@@ -22,20 +22,13 @@ use Rattle.nodes.specs.Nodes.{node_gone, node_waits}
 use Rattle.fused_net.specs.Net.{Net, end_at, wire_at, with_node}
 use Rattle.fused_net.proofs.Reading.{get_set_same, get_there}
 use Rattle.lane_core.specs.Lane.{weight, ends}
-use Rattle.lane_core.specs.Lane as lane
 use Rattle.lane_core.specs.declared.lane_out.LaneOut.{LaneOut}
 use Rattle.lane_core.specs.Ends.{sent, seen, saw_cancel, has_ended}
+use Rattle.lane_core.proofs.Lists.{elements_first}
 use Rattle.boundary_calls.specs.Boundary.{CameTo, IsClearAt, moved_at}
 use Rattle.interpreter.specs.Island.{Kept, Keeps}
 use Rattle.interpreter.specs.Boundary.{way_out, cell_out, Leaves, HandsOut, with_net}
 use Rattle.island_boundary.specs.Sending.{has_end, Sends}
-
--- the two counts of elements are one
-pub elems_is : (l : List Item) → lane.elements l ≡ elements l
-elems_is [] = refl
-elems_is (item.Elem e ∷ l) = let r = elems_is l in omega (arith, r)
-elems_is (item.Ended ∷ l) = let r = elems_is l in omega (arith, r)
-elems_is (item.Failed c ∷ l) = let r = elems_is l in omega (arith, r)
 
 came_j : (j : Joint) (s g : List Item) → can_pull (wire_of j s g).conn ≡ true → Histories j s g → s ≡ g
 came_j idle s g e h = h
@@ -54,9 +47,11 @@ came_j (refused t c) s g e h = cc
 pub all_came : (w : JointPorts) (q : Bool) → IsSound w q → can_pull w.conn ≡ true → w.sent ≡ w.got
 all_came w q s e = came_j s.joint w.sent w.got (sym (ap (λ (v : JointPorts). can_pull v.conn) s.is) ∙ e) s.histories
 
-elems-append : (xs ys : List Item) → lane.elements (xs ++ ys) ≡ lane.elements xs + lane.elements ys
+elems-append : (xs ys : List Item) → elements (xs ++ ys) ≡ elements xs + elements ys
 elems-append [] ys = omega arith
-elems-append (x ∷ xs) ys = let e = elems-append xs ys in omega (arith, e)
+elems-append (item.Elem t ∷ xs) ys = let e = elems-append xs ys in omega (arith, e)
+elems-append (item.Ended ∷ xs) ys = elems-append xs ys
+elems-append (item.Failed c ∷ xs) ys = elems-append xs ys
 
 -- nothing stands behind an end
 end_last : (a : List Item) (x : Item) (b : List Item) (l : List Tree) (e : End) → told l e ≡ a ++ x ∷ b → has_end a ≡ false
@@ -99,12 +94,13 @@ module _ {S D L B : Type 0} (o : LaneOut) (i : Kept S D L B) (u : ℕ) (came : C
     pub may_send : (has_ended o ≡ false) × (saw_cancel o ≡ 0)
     may_send = (s.ended ∙ no_end, s.live)
 
-    pub room_for : lane.elements (sent o) + weight x ≤ seen o
+    pub room_for : elements (sent o) + weight x ≤ seen o
     room_for =
-        let all : elements (cell_out i u).wire.got ≡ lane.elements (sent o) + lane.elements (x ∷ node_waits h.hands.next) = sym (elems_is (cell_out i u).wire.got) ∙ ap lane.elements got_is ∙ elems-append (sent o) (x ∷ node_waits h.hands.next) in
+        let all : elements (cell_out i u).wire.got ≡ elements (sent o) + elements (x ∷ node_waits h.hands.next) = ap elements got_is ∙ elems-append (sent o) (x ∷ node_waits h.hands.next) in
+        let first = elements_first x (node_waits h.hands.next) in
         let few = came.few in
         let wants = s.wants in
-        omega (arith, all, few, wants)
+        omega (arith, all, first, few, wants)
 
     pub sent_keeps : (p : LaneOut) → sent p ≡ sent o ++ x ∷ [] → has_ended p ≡ ends x → seen p ≡ seen o → saw_cancel p ≡ saw_cancel o → Sends p new u
     sent_keeps p e f g k =
@@ -120,12 +116,12 @@ module _ {S D L B : Type 0} (o : LaneOut) (i : Kept S D L B) (u : ℕ) (came : C
         })
 
   -- it asks
-  pub ask_keeps : (sources : S → SourceState) (drains : D → DrainState) (book : Book) → Keeps sources drains book i.net i.used → (new : Kept S D L B) (left : ℕ) → new ≡ with_net i (moved_at i.net (way_out i u) (act.Pull 0)) → Leaves i u → can_pull (cell_out i u).wire.conn ≡ true → IsClearAt i.net (way_out i u) → lane.elements (sent o) + left ≡ seen o → left ≢ 0 → Sends o new u
+  pub ask_keeps : (sources : S → SourceState) (drains : D → DrainState) (book : Book) → Keeps sources drains book i.net i.used → (new : Kept S D L B) (left : ℕ) → new ≡ with_net i (moved_at i.net (way_out i u) (act.Pull 0)) → Leaves i u → can_pull (cell_out i u).wire.conn ≡ true → IsClearAt i.net (way_out i u) → elements (sent o) + left ≡ seen o → left ≢ 0 → Sends o new u
   ask_keeps sources drains book k new left is l can clear unused some =
       let c = cell_out i u in
       let there = get_there i.net.nodes (end_at i.net.ends (way_out i u)).to (k.laws.wired.to_within (way_out i u) l.place) in
       let all : c.wire.sent ≡ sent o = all_came c.wire _ (k.laws.sound (way_out i u) l.place) can ∙ came.got there.0 there.1 ∙ ap (λ (w : List Item). node_gone there.0 ++ w) (clear there.0 there.1) ∙ append-nil (node_gone there.0) ∙ s.gone there.0 there.1 in
-      let count : elements c.wire.sent ≡ lane.elements (sent o) = ap elements all ∙ sym (elems_is (sent o)) in
+      let count : elements c.wire.sent ≡ elements (sent o) = ap elements all in
       let asks : wanted (moved_by (act.Pull 0) c) ≡ elements c.wire.sent + 1 = rw can refl in
       let few : wanted (moved_by (act.Pull 0) c) ≤ seen o = omega (arith, asks, count, unused, some) in
       subst (λ (z : Kept S D L B). Sends o z u) (sym is) (record {

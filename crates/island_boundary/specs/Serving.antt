@@ -1,11 +1,11 @@
 -- What an output boundary keeps between two moments at which it is served, and when nothing is left for it to do.
 use Rattle.std.specs.Prelude.{◌≡◌, ◌≤◌, ◌⊎◌, ℕ, true, []}
 use Rattle.elem_core.specs.Prefix.{IsPrefix}
+use Rattle.elem_core.specs.Items.{elements}
 use Rattle.port_core.specs.declared.view.InView.TheVariants.{Idle, Cancelled}
 use Rattle.stage_law.specs.Row.{InClosed}
 use Rattle.wire_core.specs.Marks.{wanted}
 use Rattle.lane_core.specs.declared.lane_out.LaneOut.{LaneOut}
-use Rattle.lane_core.specs.Lane.{elements}
 use Rattle.lane_core.specs.Ends.{sent, seen, saw_cancel}
 use Rattle.interpreter.specs.Island.{Kept}
 use Rattle.interpreter.specs.Boundary.{cell_out}

@@ -3,7 +3,8 @@ ghost use Rattle.std.specs.Prelude.{◌≡◌, ◌≤◌, ◌<◌, ◌+◌, [], 
 ghost use Rattle.fused_net.specs.Costs.{Uses};
 ghost use Rattle.fused_net.specs.Laws.{GoesOn};
 ghost use Rattle.lane_core.specs.Ends.{sent, seen, saw_cancel, finds, has_ended, told_asked, told_cancel, IsSameOut};
-ghost use Rattle.lane_core.specs.Lane.{elements, weight, ends, is_new};
+ghost use Rattle.lane_core.specs.Lane.{weight, ends, is_new};
+ghost use Rattle.elem_core.specs.Items.{elements};
 ghost use Rattle.interpreter.specs.Boundary.{Leaves, Drops, way_out, cell_out};
 ghost use Rattle.port_core.specs.declared.view.InView.TheVariants.{Pulled, Cancelled};
 ghost use Rattle.island_boundary.specs.Beside.{Beside, out_node, waiting};

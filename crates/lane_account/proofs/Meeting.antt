@@ -1,13 +1,10 @@
 -- The history of a lane tells what is known of its two ends, and an input boundary what is kept of the one.
-use Rattle.std.proofs.Common.{◌≡◌, ◌≤◌, ℕ, Bool, true, false, cond, List, [], ◌∷◌, refl, sym, ap, subst, ◌∙◌, arith}
-use Rattle.elem_core.specs.declared.item.Item.{Item}
-use Rattle.elem_core.specs.declared.item.Item.TheVariants as item
+use Rattle.std.proofs.Common.{◌≡◌, ◌≤◌, ℕ, Bool, true, false, cond, List, sym, ap, subst, ◌∙◌, arith}
 use Rattle.lane_core.specs.declared.lane_out.LaneOut.{LaneOut}
 use Rattle.lane_core.specs.declared.lane_in.LaneIn.{LaneIn}
-use Rattle.lane_core.specs.Lane as lane
 use Rattle.lane_core.specs.Ends.{IsLaneHistory, in_size, sent, taken, has_cancelled}
-use Rattle.wire_core.specs.Counts.{elements}
 use Rattle.elem_core.specs.Tree.{Tree}
+use Rattle.elem_core.specs.Items.{elements}
 use Rattle.wire_core.specs.Cell.{WireState}
 use Rattle.stream_model.specs.Outlook.{End}
 use Rattle.stage_law.specs.Held.{told}
@@ -19,13 +16,6 @@ use Rattle.input_boundary.specs.Boundary.{given, BoundaryKeeps}
 use Rattle.run_account.specs.Ends.{InKeeps, Met}
 use Rattle.lane_account.specs.Ends.{out_end, in_end}
 
--- both count elements alike
-counts_same : (l : List Item) → lane.elements l ≡ elements l
-counts_same [] = refl
-counts_same (item.Elem e ∷ l) = let r = counts_same l in omega (arith, r)
-counts_same (item.Ended ∷ l) = let r = counts_same l in omega (arith, r)
-counts_same (item.Failed c ∷ l) = let r = counts_same l in omega (arith, r)
-
 zero_or_one : (b : Bool) (n : ℕ) → n ≡ cond b 1 0 → n ≤ 1
 zero_or_one true n e = omega (arith, e)
 zero_or_one false n e = omega (arith, e)
@@ -33,9 +23,9 @@ zero_or_one false n e = omega (arith, e)
 pub are_met : (o : LaneOut) (i : LaneIn) → IsLaneHistory o i → Met (in_size i) (out_end o) (in_end i)
 are_met o i h = record {
   taken = h.prefix;
-  sent = let c = counts_same (sent o) in let u = h.used in omega (arith, c, u);
+  sent = h.used;
   seen = h.seen_asked;
-  bound = let c = counts_same (taken i) in let b = h.bound in omega (arith, c, b);
+  bound = h.bound;
   finds = h.finds;
   once = zero_or_one i.cancelled (has_cancelled i) i.asked_is.1;
 }
@@ -43,7 +33,7 @@ are_met o i h = record {
 pub boundary_keeps : (b : InputBoundary) (c : WireState) (l : List Tree) (e : End) → BoundaryKeeps b → c.wire.sent ≡ given b → c.wire.sent ≡ told l e → GaveAs c.wire.out e → InKeeps (in_size b.lane) c (in_end b.lane)
 boundary_keeps b c l e k is told_is as_known =
     let same : e ≡ k.given_end = sym (standing_told l e) ∙ (ap standing (sym told_is ∙ (is ∙ k.given_is)) ∙ standing_told k.given_list k.given_end) in
-    let count : elements c.wire.sent ≡ lane.elements (given b) = ap elements is ∙ sym (counts_same (given b)) in
+    let count : elements c.wire.sent ≡ elements (given b) = ap elements is in
     record {
       taken_list = k.taken_list;
       taken_end = k.taken_end;

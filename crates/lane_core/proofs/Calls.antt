@@ -2,10 +2,11 @@
 use Rattle.std.proofs.Common.{◌≡◌, ℕ, ◌+◌, ◌-◌, ◌%◌, ◌≤◌, List, [], ◌∷◌, ◌++◌, length, take, Option, Some, None, sym, ap, ◌∙◌, arith, length-append}
 use Rattle.std.proofs.lemmas.List.{take_at, append-nil}
 use Rattle.atomic_table.specs.Table.{Me, rest}
+use Rattle.elem_core.specs.Items.{elements}
 use Rattle.elem_core.specs.declared.item.Item.{Item}
 use Rattle.lane_core.specs.declared.sight.Sight.{Sight}
-use Rattle.lane_core.specs.Lane.{weight, elements, empty_hand, HasSent, HasTaken}
-use Rattle.lane_core.proofs.Lists.{elements-append}
+use Rattle.lane_core.specs.Lane.{weight, empty_hand, HasSent, HasTaken}
+use Rattle.lane_core.proofs.Lists.{elements_first, elements-append}
 
 abbrev SeatView : Type 0
 SeatView = Me (Option Item) Sight
@@ -27,7 +28,7 @@ taken_hand size r m n x t =
     ap (λ (a : SeatView). a.1) t ∙ ap (λ (k : ℕ). (k % (size + 1), None) ∷ []) p ∙ ap (λ (a : SeatView). empty_hand a.0.slots ((length a.0.items - 1) % (size + 1))) (sym t)
 
 pub sent_elements : (size : ℕ) (m n : SeatView) (x : Item) → HasSent size m x n → elements n.0.items ≡ elements m.0.items + weight x
-sent_elements size m n x t = let e : elements n.0.items ≡ elements m.0.items + elements (x ∷ []) = ap (λ (a : SeatView). elements a.0.items) t ∙ elements-append m.0.items (x ∷ []) in omega (arith, e)
+sent_elements size m n x t = let e : elements n.0.items ≡ elements m.0.items + elements (x ∷ []) = ap (λ (a : SeatView). elements a.0.items) t ∙ elements-append m.0.items (x ∷ []) in let w = elements_first x [] in omega (arith, e, w)
 
 pub sent_length : (size : ℕ) (m n : SeatView) (x : Item) → HasSent size m x n → length n.0.items ≡ length m.0.items + 1
 sent_length size m n x t = ap (λ (a : SeatView). length a.0.items) t ∙ length-append m.0.items (x ∷ [])
@@ -45,4 +46,4 @@ pub sent_all : (k : ℕ) (l : List Item) → length l ≡ k → elements l ≡ k
 sent_all k l s e = ap (λ (x : List Item). elements (take k x)) (sym (append-nil l)) ∙ ap elements (take_at l [] k s) ∙ e
 
 pub taken_elements : (size r : ℕ) (m n : SeatView) (x : Item) → HasTaken size m x r n → elements n.0.items ≡ elements m.0.items + weight x
-taken_elements size r m n x t = let e : elements n.0.items ≡ elements m.0.items + elements (x ∷ []) = ap (λ (a : SeatView). elements a.0.items) t ∙ elements-append m.0.items (x ∷ []) in omega (arith, e)
+taken_elements size r m n x t = let e : elements n.0.items ≡ elements m.0.items + elements (x ∷ []) = ap (λ (a : SeatView). elements a.0.items) t ∙ elements-append m.0.items (x ∷ []) in let w = elements_first x [] in omega (arith, e, w)

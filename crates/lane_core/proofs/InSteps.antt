@@ -6,10 +6,11 @@ use native.Mathlib.Decide.{dec_lt}
 use lib.ListN.{get_elem?}
 use Rattle.atomic_table.specs.Table.{Me, step, Act, keeps, takes, chain, Valid, carried_after, homes_after, stepped, Allows}
 use Rattle.elem_core.specs.Prefix.{IsPrefix}
+use Rattle.elem_core.specs.Items.{elements}
 use Rattle.elem_core.proofs.Prefixes.{prefix_length}
 use Rattle.elem_core.specs.declared.item.Item.{Item}
 use Rattle.lane_core.specs.declared.sight.Sight.{Sight}
-use Rattle.lane_core.specs.Lane.{elements, Sound, Stored, Fits, IsLane, words_of, empty_hand, saw_sent, asked_more, cancelled}
+use Rattle.lane_core.specs.Lane.{Sound, Stored, Fits, IsLane, words_of, empty_hand, saw_sent, asked_more, cancelled}
 use Rattle.lane_core.proofs.Lists.{views_after, elements-append}
 use Rattle.lane_core.proofs.Moves.{Homes, new_le, with_got, Pays, later_got, order_le, returned, sound_back, Back, back, lift}
 use Rattle.lane_core.proofs.Words.{St, or_one, words_0, same_1}

@@ -5,9 +5,10 @@ use native.Mathlib.Decide.{dec_le}
 use lib.ListN.{get_elem?}
 use Rattle.atomic_table.proofs.Lists.{at_set, set_else, one_turn}
 use Rattle.elem_core.specs.Prefix.{IsPrefix}
+use Rattle.elem_core.specs.Items.{elements}
 use Rattle.elem_core.specs.declared.item.Item.{Item}
 use Rattle.elem_core.specs.declared.item.Item.TheVariants.{Elem, Ended, Failed}
-use Rattle.lane_core.specs.Lane.{weight, elements}
+use Rattle.lane_core.specs.Lane.{weight}
 
 module _ {A : Type 0} where
   -- what follows a beginning makes it longer by one
@@ -76,9 +77,15 @@ apart p q n a b ne e = by_order (dec_le p q)
 pub set_apart : {A : Type 0} (l : List A) (p q n : ℕ) (y : A) → p < q + n → q < p + n → p ≢ q → get_elem? (set l (q % n) y) (p % n) ≡ get_elem? l (p % n)
 set_apart l p q n y a b ne = set_else l (q % n) (p % n) y (apart p q n a b ne)
 
+-- the first item by its weight
+pub elements_first : (x : Item) (xs : List Item) → elements (x ∷ xs) ≡ weight x + elements xs
+elements_first (Elem e) xs = omega arith
+elements_first Ended xs = omega arith
+elements_first (Failed c) xs = omega arith
+
 pub elements-append : (xs ys : List Item) → elements (xs ++ ys) ≡ elements xs + elements ys
 elements-append [] ys = omega arith
-elements-append (x ∷ xs) ys = let e = elements-append xs ys in omega (arith, e)
+elements-append (x ∷ xs) ys = let e = elements-append xs ys in let a = elements_first x xs in let b = elements_first x (xs ++ ys) in omega (arith, e, a, b)
 
 pub weight_le : (x : Item) → weight x ≤ 1
 weight_le (Elem e) = omega arith
@@ -87,4 +94,4 @@ weight_le (Failed c) = omega arith
 
 pub elements_le : (xs : List Item) → elements xs ≤ length xs
 elements_le [] = omega arith
-elements_le (x ∷ xs) = let e = elements_le xs in let w = weight_le x in omega (arith, e, w)
+elements_le (x ∷ xs) = let e = elements_le xs in let w = weight_le x in let f = elements_first x xs in omega (arith, e, w, f)

@@ -10,11 +10,12 @@ use lib.ListN.{get_elem?}
 use Rattle.atomic_table.specs.Table.{Act, keeps, gives, Valid, carried_after, homes_after}
 use Rattle.atomic_table.proofs.Lists.{set_here}
 use Rattle.elem_core.specs.Prefix.{IsPrefix}
+use Rattle.elem_core.specs.Items.{elements}
 use Rattle.elem_core.proofs.Prefixes.{prefix_append, prefix_trans, prefix_length}
 use Rattle.elem_core.specs.declared.item.Item.{Item}
 use Rattle.lane_core.specs.declared.sight.Sight.{Sight}
-use Rattle.lane_core.specs.Lane.{weight, elements, Core, Sound, Stored, Fits, is_new, empty_hand}
-use Rattle.lane_core.proofs.Lists.{prefix_more, some_at, get_front, get_last, set_apart, elements-append, weight_le, elements_le}
+use Rattle.lane_core.specs.Lane.{weight, Core, Sound, Stored, Fits, is_new, empty_hand}
+use Rattle.lane_core.proofs.Lists.{prefix_more, some_at, get_front, get_last, set_apart, elements_first, elements-append, weight_le, elements_le}
 
 abbrev pub Homes : Type 0
 Homes = List (maybe.Option (Option Item))
@@ -207,13 +208,14 @@ fill size c homes x one wide le room st =
 pub sound_sent : (size : ℕ) (c : Core) (x : Item) → c.held ≡ 1 → elements c.sent + weight x ≤ c.asked → Sound size c → Sound size (with_sent c (x ∷ []) (weight x))
 sound_sent size c x one room s =
     let e = elements-append c.sent (x ∷ []) in
+    let w = elements_first x [] in
     let l = length-append c.sent (x ∷ []) in
     let o = s.open_end in record {
       order = prefix_trans s.order (prefix_append c.sent (x ∷ []));
       hand_one = s.hand_one;
       held_one = weight_le x;
       cancel_one = s.cancel_one;
-      open_end = omega (arith, e, l, o, one);
-      used = omega (arith, e, room);
+      open_end = omega (arith, e, w, l, o, one);
+      used = omega (arith, e, w, room);
       bound = s.bound;
     }

@@ -5,11 +5,12 @@ use mathlib.Core.Option.{none, some}
 use lib.ListN.{get_elem?}
 use Rattle.atomic_table.specs.Table.{Me, step, keeps, takes, gives, chain, Valid, stepped, Allows}
 use Rattle.elem_core.specs.Prefix.{IsPrefix}
+use Rattle.elem_core.specs.Items.{elements}
 use Rattle.elem_core.proofs.Prefixes.{prefix_refl, prefix_append, prefix_trans}
 use Rattle.elem_core.specs.declared.item.Item.{Item}
 use Rattle.elem_core.specs.declared.item.Item.TheVariants.{Elem, Ended, Failed}
 use Rattle.lane_core.specs.declared.sight.Sight.{Sight}
-use Rattle.lane_core.specs.Lane.{weight, elements, Sound, Stored, Fits, IsLane, is_new, words_of, sat, saw_asked, sent_one}
+use Rattle.lane_core.specs.Lane.{weight, Sound, Stored, Fits, IsLane, is_new, words_of, sat, saw_asked, sent_one}
 use Rattle.lane_core.proofs.Lists.{views_after}
 use Rattle.lane_core.proofs.Moves.{Homes, nothing_new, with_sent, later_sent, fits_ring, order_le, hold, fill, sound_sent}
 use Rattle.lane_core.proofs.Words.{St, words_1, stays, same_0}

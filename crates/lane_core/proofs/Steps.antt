@@ -2,9 +2,11 @@
 use Rattle.std.proofs.Common.{◌≡◌, inl, inr, ℕ, ◌+◌, ◌*◌, ◌%◌, ◌^◌, ◌<◌, ◌≤◌, List, [], ◌∷◌, ◌++◌, length, Option, Some, None, true, false, bit_or, refl, sym, ap, ◌∙◌, subst, arith}
 use mathlib.Core.Option.{none}
 use Rattle.atomic_table.specs.Table.{Me, Step, step, rest, Allows}
+use Rattle.elem_core.specs.Items.{elements}
 use Rattle.elem_core.specs.declared.item.Item.{Item}
 use Rattle.lane_core.specs.declared.sight.Sight.{Sight}
-use Rattle.lane_core.specs.Lane.{weight, elements, IsLane, both_ends, output_end, empty_hand, sat, saw_asked, sent_one, saw_sent, asked_more, cancelled, compared, HasSent, HasTaken}
+use Rattle.lane_core.specs.Lane.{weight, IsLane, both_ends, output_end, empty_hand, sat, saw_asked, sent_one, saw_sent, asked_more, cancelled, compared, HasSent, HasTaken}
+use Rattle.lane_core.proofs.Lists.{elements_first}
 use Rattle.lane_core.proofs.OutSteps.{sees, sits, Filled, sends}
 use Rattle.lane_core.proofs.InSteps.{Emptied, asks, cancels, fetches}
 use Rattle.lane_core.proofs.Notes.{compares}
@@ -38,7 +40,8 @@ cancels_as size key slots id me k s gets sends small live = subst (λ (y : ℕ �
 -- what the calls of the ends make of the steps
 pub has_sent : (size slots k : ℕ) (m m1 n : Me (Option Item) Sight) (x : Item) (r : ℕ) → slots ≡ size + 1 → m1 ≡ (m.0, (k, Some x) ∷ []) → sent_one (step slots 16 1 0 none) m1 r n → HasSent size m x n
 has_sent size slots k m m1 n x r s is sent =
-    let w : weight x + 0 ≡ weight x = omega arith in
+    let first = elements_first x [] in
+    let w : elements (x ∷ []) ≡ weight x = omega (arith, first) in
     subst (λ (a : Me (Option Item) Sight). sent_one (step slots 16 1 0 none) a r n) is sent
     ∙ (λ i. (record m.0 { items = m.0.items ++ x ∷ []; slots = w i }, empty_hand (w i) ((length m.0.items + 1) % s i)))
 

@@ -2,13 +2,13 @@
 use Rattle.std.specs.Prelude.{◌≡◌, ◌⊎◌, ◌↔◌, ℕ, ◌+◌, ◌<◌, ◌≤◌, List, length, take, Bool, IsTrue}
 use Rattle.atomic_table.specs.Seated.{TableId}
 use Rattle.elem_core.specs.Prefix.{IsPrefix}
+use Rattle.elem_core.specs.Items.{elements}
 use Rattle.elem_core.specs.declared.item.Item.{Item}
 use Rattle.lane_core.specs.declared.lane_out.LaneOut.{LaneOut}
 use Rattle.lane_core.specs.declared.lane_in.LaneIn.{LaneIn}
 use Rattle.lane_core.specs.declared.room.Waits.{Waits}
 use Rattle.lane_core.specs.declared.room.Room.{Room}
 use Rattle.lane_core.specs.declared.room.Room.TheVariants.{Asked, Cancelled}
-use Rattle.lane_core.specs.Lane.{elements}
 
 -- which lane it is, and what the output end has sent, has seen asked and has seen of a cancel, 0 or 1
 abbrev pub out_lane : LaneOut → TableId

@@ -5,6 +5,7 @@ use mathlib.Core.Option as maybe
 use lib.ListN.{get_elem?}
 use Rattle.atomic_table.specs.Table.{State, Me, Step}
 use Rattle.elem_core.specs.Prefix.{IsPrefix}
+use Rattle.elem_core.specs.Items.{elements}
 use Rattle.elem_core.specs.declared.item.Item.{Item}
 use Rattle.elem_core.specs.declared.item.Item.TheVariants.{Elem, Ended, Failed}
 use Rattle.lane_core.specs.declared.sight.Sight.{Sight}
@@ -20,11 +21,6 @@ abbrev pub ends : Item → Bool
 ends (Elem e) = false
 ends Ended = true
 ends (Failed c) = true
-
--- how many elements are among these
-abbrev pub elements : List Item → ℕ
-elements [] = 0
-elements (x ∷ xs) = weight x + elements xs
 
 -- 1 where a look finds other demand, or another mark of a cancel, than the last one found
 abbrev pub is_new : ℕ → ℕ → ℕ → ℕ → ℕ

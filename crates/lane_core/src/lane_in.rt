@@ -1,7 +1,8 @@
 // The end of a lane that takes.
 ghost use Rattle.std.specs.Prelude.{◌≡◌, ℕ, ◌+◌, ◌-◌, ◌^◌, ◌%◌, ◌<◌, ◌≤◌, true, false, cond, length, IfSome, IfNone};
 ghost use Rattle.std.specs.Arc.{arc_value};
-ghost use Rattle.lane_core.specs.Lane.{elements, weight, empty_hand, HasTaken, HasFound};
+ghost use Rattle.lane_core.specs.Lane.{weight, empty_hand, HasTaken, HasFound};
+ghost use Rattle.elem_core.specs.Items.{elements};
 
 use crate::ring::next_place;
 use crate::sight::{

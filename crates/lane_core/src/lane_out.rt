@@ -1,7 +1,8 @@
 // The end of a lane that sends.
 ghost use Rattle.std.specs.Prelude.{◌≡◌, ℕ, ◌+◌, ◌/◌, ◌%◌, ◌^◌, ◌<◌, ◌≤◌, true, false, cond, length, take, [], ◌∷◌, None};
 ghost use Rattle.std.specs.Arc.{arc_value};
-ghost use Rattle.lane_core.specs.Lane.{elements, empty_hand, ends, weight, HasSent};
+ghost use Rattle.lane_core.specs.Lane.{empty_hand, ends, weight, HasSent};
+ghost use Rattle.elem_core.specs.Items.{elements};
 
 use crate::ring::next_place;
 use crate::room::Room;

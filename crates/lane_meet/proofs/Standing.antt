@@ -2,11 +2,11 @@
 use Rattle.std.specs.Prelude.{◌⊎◌, ◌↔◌, IsTrue}
 use Rattle.std.proofs.Common.{◌≡◌, ℕ, ◌<◌, List, length, sym, ap, subst, ◌∙◌, arith}
 use Rattle.elem_core.specs.Prefix.{IsPrefix}
+use Rattle.elem_core.specs.Items.{elements}
 use Rattle.elem_core.specs.declared.item.Item.{Item}
 use Rattle.lane_core.specs.declared.lane_out.LaneOut.{LaneOut}
 use Rattle.lane_core.specs.declared.lane_in.LaneIn.{LaneIn}
 use Rattle.lane_core.specs.declared.room.Waits.{Waits}
-use Rattle.lane_core.specs.Lane.{elements}
 use Rattle.lane_core.specs.Ends.{sent, seen, saw_cancel, taken, asked, has_cancelled, EndIsLast, IsLaneHistory, WaitsAre}
 use Rattle.lane_meet.specs.Meeting.{KeepsOut, KeepsIn}
 

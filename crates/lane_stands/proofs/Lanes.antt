@@ -1,9 +1,9 @@
 -- What an account wants of a lane, from what its two ends keep at their stages.
 use Rattle.std.specs.Prelude.{◌↔◌, IsTrue}
-use Rattle.std.proofs.Common.{◌≡◌, inl, inr, ℕ, zero, suc, ◌<◌, ◌≤◌, Bool, true, false, List, [], ◌∷◌, ◌++◌, length, refl, sym, ap, ◌∙◌, subst, arith, append-nil}
+use Rattle.std.proofs.Common.{◌≡◌, inl, inr, ℕ, zero, suc, ◌<◌, ◌≤◌, Bool, true, false, List, [], ◌++◌, length, refl, sym, ap, ◌∙◌, subst, arith, append-nil}
 use Rattle.elem_core.proofs.Prefixes.{prefix_whole}
+use Rattle.elem_core.specs.Items.{elements}
 use Rattle.elem_core.specs.declared.item.Item.{Item}
-use Rattle.elem_core.specs.declared.item.Item.TheVariants as item
 use Rattle.stream_io.specs.State.{SourceState, DrainState}
 use Rattle.port_core.specs.Ring.{holds}
 use Rattle.port_core.specs.Joint.{IsSound}
@@ -12,14 +12,12 @@ use Rattle.port_core.specs.declared.view.InView.TheVariants.{Idle}
 use Rattle.port_core.specs.declared.view.OutView.TheVariants as outlet
 use Rattle.stream_model.specs.Linear.{Book}
 use Rattle.stage_law.specs.Row.{InClosed}
-use Rattle.wire_core.specs.Counts.{elements}
 use Rattle.nodes.specs.declared.node.IslandNode.{IslandNode}
 use Rattle.nodes.specs.Nodes.{node_port_state, node_law, node_asking, node_moves, node_gone, node_waits}
 use Rattle.fused_net.specs.Net.{Net, wire_at}
 use Rattle.fused_net.specs.Laws.{Settled}
 use Rattle.lane_core.specs.declared.lane_out.LaneOut.{LaneOut}
 use Rattle.lane_core.specs.declared.room.Waits.{Waits}
-use Rattle.lane_core.specs.Lane as lane
 use Rattle.lane_core.specs.Ends.{sent, seen, saw_cancel, taken, asked, has_cancelled, in_size, IsLaneHistory, WaitsAre}
 use Rattle.input_boundary.specs.declared.boundary.InputBoundary.{InputBoundary}
 use Rattle.input_boundary.specs.declared.state.State.{State}
@@ -38,13 +36,6 @@ use Rattle.lane_account.proofs.Meeting.{are_met, boundary_keeps}
 use Rattle.run_account.specs.Ends.{OutKeeps, InKeeps, LaneKeeps}
 use Rattle.run_account.specs.Quiet.{OutQuiet, InQuiet, MetQuiet, LaneQuiet}
 use Rattle.lane_stands.proofs.Leaving.{took_there, there, idle_rest}
-
--- both count elements alike
-counts_same : (l : List Item) → lane.elements l ≡ elements l
-counts_same [] = refl
-counts_same (item.Elem e ∷ l) = let r = counts_same l in omega (arith, r)
-counts_same (item.Ended ∷ l) = let r = counts_same l in omega (arith, r)
-counts_same (item.Failed c ∷ l) = let r = counts_same l in omega (arith, r)
 
 -- no wire is queued where no event is left
 sound_rest : {S D L B : Type 0} {sources : S → SourceState} {drains : D → DrainState} {book : Book} (net : Net (IslandNode S D L B)) → Settled node_port_state (node_law sources drains book) node_asking node_moves net → net.queue ≡ [] → (q : ℕ) → q < length net.wires → IsSound (wire_at net q).wire false
@@ -87,8 +78,8 @@ module _ {S D L B : Type 0} (sources : S → SourceState) (drains : D → DrainS
       let z : saw_cancel o ≡ 0 = no_one (saw_cancel o) most (λ c. not_closed (cell_out i u).wire.inp (serves.closed c) e) in
       let rest = idle_rest (cell_out i u).wire (sound_rest i.net s none (way_out i u) l.place) e in
       let all : (cell_out i u).wire.sent ≡ sent o = rest.1 ∙ sym (sent_all served z) in
-      let count : elements (cell_out i u).wire.sent ≡ lane.elements (sent o) = ap elements all ∙ sym (counts_same (sent o)) in
-      let least : lane.elements (sent o) ≤ seen o = h.used in
+      let count : elements (cell_out i u).wire.sent ≡ elements (sent o) = ap elements all in
+      let least : elements (sent o) ≤ seen o = h.used in
       elim (served.used z e) [
         | inl f ↦ omega (arith, count, least, f)
         | inr f ↦ absurd (false_true (cell_out i u).wire.conn.out_closed rest.0 f)
@@ -129,7 +120,7 @@ module _ {S D L B : Type 0} (sources : S → SourceState) (drains : D → DrainS
       | inr g ↦ absurd (false_true (cell_in j u).wire.conn.in_closed (rest_open (cell_in j u).wire (sound_rest j.net s none (way_in j u) l.place) e) g)
     ];
     more = λ e.
-        let count : lane.elements (given b) ≡ elements (cell_in j u).wire.sent = counts_same (given b) ∙ ap elements (sym f.given_is) in
+        let count : elements (given b) ≡ elements (cell_in j u).wire.sent = ap elements (sym f.given_is) in
         let m = k.more in
         omega (arith, count, m);
     goes_on = λ e. k.cancelled ∙ ap cancelled_by (asked_flows e);

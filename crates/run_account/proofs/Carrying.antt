@@ -2,6 +2,7 @@
 use Rattle.std.proofs.Common.{◌≡◌, ◌≢◌, ℕ, ◌+◌, ◌≤◌, List, length, Option, None, Some, refl, sym, ap, subst, ◌∙◌, arith}
 use Rattle.elem_core.specs.Prefix.{IsPrefix}
 use Rattle.elem_core.specs.Tree.{Tree}
+use Rattle.elem_core.specs.Items.{elements}
 use Rattle.elem_core.proofs.Prefixes.{prefix_trans, prefix_length, prefix_refl}
 use Rattle.elem_core.specs.declared.item.Item.{Item}
 use Rattle.port_core.specs.Joint.{IsSound}
@@ -9,7 +10,6 @@ use Rattle.stream_model.specs.Outlook.{End, unended, ended, failed}
 use Rattle.stream_model.specs.Lane.{Carries}
 use Rattle.stage_law.specs.Held.{told}
 use Rattle.wire_core.specs.Cell.{WireState}
-use Rattle.wire_core.specs.Counts.{elements}
 use Rattle.run_account.specs.Account.{WireKeeps}
 use Rattle.run_account.specs.Items.{list_of, standing, Brought}
 use Rattle.run_account.proofs.Histories.{Begun, begun, list_of_told, standing_told, got_begins}

@@ -1,6 +1,7 @@
 -- What a lane costs, by what is kept of its ends.
 use Rattle.std.proofs.Common.{◌≤◌, ◌<◌, ◌+◌, ◌*◌, ℕ, Bool, true, false, List, [], ◌∷◌, length, ap, ◌∙◌, arith}
 use Rattle.elem_core.specs.Tree.{Tree}
+use Rattle.elem_core.specs.Items.{elements}
 use Rattle.elem_core.proofs.Prefixes.{prefix_trans, prefix_length}
 use Rattle.port_core.specs.Connection.{ConnStep, quiet, pulled, ready, pushed}
 use Rattle.port_core.specs.Joint.{IsSound}
@@ -10,7 +11,7 @@ use Rattle.port_core.specs.declared.view.InView.TheVariants.{Idle, Pulled, Finis
 use Rattle.port_core.specs.declared.view.OutView.{OutView}
 use Rattle.port_core.specs.declared.view.OutView.TheVariants as outlet
 use Rattle.wire_core.specs.Cell.{WireState}
-use Rattle.wire_core.specs.Counts.{elements, ready_bit, free_bit, extra, spent}
+use Rattle.wire_core.specs.Counts.{ready_bit, free_bit, extra, spent}
 use Rattle.stream_model.specs.Outlook.{End, unended, ended, failed}
 use Rattle.stage_law.specs.Held.{told}
 use Rattle.run_account.proofs.Coming.{elements_told, elements_prefix, no_fewer}

@@ -2,9 +2,9 @@
 use Rattle.std.proofs.Common.{◌≡◌, inr, ℕ, Bool, false, List, Option, None, Some, refl, sym, ap, subst, arith}
 use Rattle.elem_core.specs.Prefix.{IsPrefix}
 use Rattle.elem_core.specs.Tree.{Tree}
+use Rattle.elem_core.specs.Items.{elements}
 use Rattle.port_core.specs.Joint.{IsSound}
 use Rattle.wire_core.specs.Cell.{WireState}
-use Rattle.wire_core.specs.Counts.{elements}
 use Rattle.wire_core.specs.Marks.{IsMarked, wanted}
 use Rattle.stream_model.specs.Outlook.{End}
 use Rattle.stream_model.specs.Lane.{Carries}

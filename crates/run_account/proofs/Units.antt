@@ -2,11 +2,12 @@
 use Rattle.std.specs.Prelude.{◌==◌, ◌&&◌, slice_get}
 use Rattle.std.proofs.Common.{◌≡◌, ◌≢◌, ◌⊎◌, inl, inr, ℕ, zero, suc, ◌+◌, ◌<◌, ◌≤◌, Bool, true, false, List, [], ◌∷◌, length, Option, None, Some, refl, sym, ap, ◌∙◌, arith}
 use Rattle.std.proofs.lemmas.Bool.Decides.{nat_tests}
+use Rattle.elem_core.specs.Items.{elements}
 use Rattle.elem_core.specs.declared.item.Item.{Item}
 use Rattle.port_core.specs.Joint.{IsSound}
 use Rattle.port_core.specs.Ring.{holds}
 use Rattle.port_core.specs.View.{View}
-use Rattle.wire_core.specs.Counts.{elements, spent}
+use Rattle.wire_core.specs.Counts.{spent}
 use Rattle.stream_model.specs.declared.outcome.WireCount.{WireCount}
 use Rattle.stream_model.specs.Graph.{Graph, Edge}
 use Rattle.stream_picture.specs.Shape.{units_of, need_from, sent_at, count_needed}

@@ -2,6 +2,7 @@
 -- island or in many, it does not say.
 use Rattle.std.specs.Prelude.{◌≡◌, ℕ, ◌+◌, ◌<◌, ◌≤◌, not, Bool, true, false, List, [], ◌∷◌, length, slice_get, slice_index_or, Option, None, Some, ⊤}
 use Rattle.elem_core.specs.Prefix.{IsPrefix}
+use Rattle.elem_core.specs.Items.{elements}
 use Rattle.elem_core.specs.declared.item.Item.{Item}
 use Rattle.port_core.specs.View.{View, in_at, out_at}
 use Rattle.port_core.specs.declared.view.InView.{InView}
@@ -10,7 +11,6 @@ use Rattle.port_core.specs.declared.view.OutView.TheVariants.{Available}
 use Rattle.port_core.specs.Decoding.{is_open}
 use Rattle.port_core.specs.Joint.{IsSound}
 use Rattle.wire_core.specs.Cell.{WireState}
-use Rattle.wire_core.specs.Counts.{elements}
 use Rattle.wire_core.specs.Marks.{IsMarked, wanted}
 use Rattle.stream_model.specs.Graph.{Graph, Edge, find_wire, find_source}
 use Rattle.stream_model.specs.Graph as graph

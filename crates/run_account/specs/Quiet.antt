@@ -3,7 +3,7 @@ use Rattle.std.specs.Prelude.{◌≡◌, ℕ, ◌<◌}
 use Rattle.port_core.specs.declared.view.InView.TheVariants.{Idle, Cancelled}
 use Rattle.port_core.specs.declared.view.OutView.TheVariants as outlet
 use Rattle.wire_core.specs.Cell.{WireState}
-use Rattle.wire_core.specs.Counts.{elements}
+use Rattle.elem_core.specs.Items.{elements}
 use Rattle.stage_law.specs.Row.{InClosed}
 use Rattle.run_account.specs.Ends.{OutEnd, InEnd, LaneKeeps}
 

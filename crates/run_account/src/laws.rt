@@ -2,9 +2,10 @@
 ghost use Rattle.std.specs.Prelude.{◌≡◌, ℕ, ◌+◌, ◌*◌, ◌<◌, ◌≤◌, Bool, false, List, [], Some, length};
 ghost use Rattle.elem_core.specs.Prefix.{IsPrefix};
 ghost use Rattle.elem_core.specs.Tree.{Tree};
+ghost use Rattle.elem_core.specs.Items.{elements};
 ghost use Rattle.port_core.specs.Joint.{IsSound};
 ghost use Rattle.wire_core.specs.Cell.{WireState};
-ghost use Rattle.wire_core.specs.Counts.{elements, spent};
+ghost use Rattle.wire_core.specs.Counts.{spent};
 ghost use Rattle.wire_core.specs.Marks.{IsMarked};
 ghost use Rattle.stream_model.specs.Outlook.{End};
 ghost use Rattle.stage_law.specs.Held.{told};

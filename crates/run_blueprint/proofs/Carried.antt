@@ -2,6 +2,7 @@
 use Rattle.std.proofs.Common.{◌≡◌, ◌≢◌, ℕ, ◌<◌, ◌⊎◌, inl, inr, false, List, [], length, map, Some, refl, sym, ap, subst, ◌∙◌}
 use Rattle.std.specs.Prelude.{slice_get}
 use Rattle.elem_core.specs.Tree.{Tree, text}
+use Rattle.elem_core.specs.Items.{elements}
 use Rattle.elem_core.specs.declared.item.Item.{Item}
 use Rattle.stream_model.specs.declared.kind.Kind.{Kind}
 use Rattle.stream_model.specs.declared.kind.Kind.TheVariants.{Lines}
@@ -15,7 +16,6 @@ use Rattle.stream_model.specs.Outlook.{Outlook, End}
 use Rattle.stream_model.proofs.Compositions.{slice_get-below}
 use Rattle.stage_law.specs.Held.{told}
 use Rattle.stream_picture.specs.Shape.{sent_at}
-use Rattle.wire_core.specs.Counts.{elements}
 use Rattle.run_account.specs.Items.{list_of, standing, AgreesWith}
 use Rattle.run_outlook_laws.specs.Reads.{GivesTexts}
 use Rattle.run_account.proofs.Coming.{elements_told}

@@ -5,6 +5,7 @@ use Rattle.std.specs.Option.{option_to_list}
 use Rattle.std.specs.List.{Contains, filter_map, list_any}
 use Rattle.std.proofs.lemmas.List.{length-map}
 use Rattle.elem_core.specs.Tree.{Tree, text}
+use Rattle.elem_core.specs.Items.{elements}
 use Rattle.elem_core.specs.declared.item.Item.{Item}
 use Rattle.stream_model.specs.declared.kind.Kind.{Kind}
 use Rattle.stream_model.specs.declared.kind.Kind.TheVariants as kind
@@ -27,7 +28,6 @@ use Rattle.run_picture_laws.specs.Picture.{has_ended, sink_ended, ended_there}
 use Rattle.stream_io.specs.Counts.{Grew}
 use Rattle.stream_io.specs.State.{FolderState, SourceState, DrainState}
 use Rattle.stream_io.specs.Reading.{FirstTooLong}
-use Rattle.wire_core.specs.Counts.{elements}
 use Rattle.nodes.specs.Drawing.{ended_lines}
 use Rattle.nodes.specs.Source.{Lines}
 use Rattle.nodes.specs.Sink.{Sink, StandsAs}

@@ -2,12 +2,12 @@
 use Rattle.std.proofs.Common.{◌≡◌, ℕ, suc, ◌+◌, ◌<◌, ◌≤◌, List, [], ◌∷◌, length, ap, ◌∙◌, subst, arith}
 use Rattle.std.specs.Prelude.{Option, Some, None}
 use Rattle.elem_core.specs.Tree.{Tree}
+use Rattle.elem_core.specs.Items.{elements}
 use Rattle.elem_core.specs.declared.item.Item.{Item}
 use Rattle.elem_core.proofs.Prefixes.{prefix_length}
 use Rattle.stream_model.specs.Graph.{Edge}
 use Rattle.stream_model.specs.Outlook.{Outlook, End, unended, ended, failed, Agrees}
 use Rattle.stream_picture.specs.Shape.{units_of, need_from}
-use Rattle.wire_core.specs.Counts.{elements}
 use Rattle.run_account.specs.Items.{AgreesWith}
 use Rattle.run_account.proofs.Coming.{elements_told}
 

@@ -5,8 +5,8 @@ use Rattle.std.proofs.lemmas.Bool.{cases_eq, and_parts}
 use Rattle.std.proofs.lemmas.Bool.Decides.{nat_tests}
 use Rattle.std.proofs.lemmas.List.Sums.{sum_by-cons}
 use Rattle.elem_core.specs.Tree.{Tree}
+use Rattle.elem_core.specs.Items.{elements}
 use Rattle.elem_core.specs.declared.item.Item.{Item}
-use Rattle.wire_core.specs.Counts.{elements}
 use Rattle.stream_model.specs.Outlook.{End}
 use Rattle.stream_model.specs.Picks.{count_of, all_below, sent_to}
 use Rattle.stream_model.proofs.Fitting.{yes_one, no_one}

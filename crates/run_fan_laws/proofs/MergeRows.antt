@@ -6,12 +6,12 @@ use Rattle.std.proofs.lemmas.List.{length-map, get_or-set_same, get_or-set_other
 use Rattle.std.proofs.lemmas.List.Sums.{sum_by-cons, sum_by-append}
 use Rattle.elem_core.specs.Prefix.{IsPrefix}
 use Rattle.elem_core.specs.Tree.{Tree}
+use Rattle.elem_core.specs.Items.{elements}
 use Rattle.elem_core.specs.declared.item.Item.{Item}
 use Rattle.port_core.specs.View as port
 use Rattle.port_core.specs.View.{in_at}
 use Rattle.port_core.specs.declared.view.InView.{InView}
 use Rattle.port_core.specs.declared.view.InView.TheVariants.{Pulled, Cancelled}
-use Rattle.wire_core.specs.Counts.{elements}
 use Rattle.stream_model.specs.FanIn.{Tagged, Inflow, merge_of, Finds}
 use Rattle.stream_model.specs.Picks.{count_of, MergeStands}
 use Rattle.stream_model.proofs.Fitting.{at_get, yes_one, no_one, count_le}

@@ -5,7 +5,7 @@ use Rattle.port_core.specs.declared.view.InView.{InView}
 use Rattle.port_core.specs.declared.view.InView.TheVariants.{Idle, Pulled, Finished, Cancelled}
 use Rattle.port_core.specs.declared.view.OutView.{OutView}
 use Rattle.port_core.specs.declared.view.OutView.TheVariants as outlet
-use Rattle.wire_core.specs.Counts.{elements}
+use Rattle.elem_core.specs.Items.{elements}
 use Rattle.stream_picture.specs.View.{EachWire, SomeWire}
 use Rattle.stream_picture.specs.View as picture
 use Rattle.stream_picture.specs.Rests.{

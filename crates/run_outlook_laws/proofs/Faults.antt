@@ -2,13 +2,13 @@
 use Rattle.std.proofs.Common.{◌≡◌, inl, inr, ℕ, suc, ◌+◌, ◌≤◌, Bool, true, false, if◌then◌else◌, List, [], ◌∷◌, length, get_or, refl, sym, ap, ◌∙◌, subst, arith}
 use Rattle.std.specs.Prelude.{slice_index_or}
 use Rattle.elem_core.specs.Tree.{Tree}
+use Rattle.elem_core.specs.Items.{elements}
 use Rattle.elem_core.proofs.Prefixes.{prefix_length, prefix_whole}
 use Rattle.elem_core.specs.declared.item.Item.{Item}
 use Rattle.elem_core.specs.declared.item.Item.TheVariants as item
 use Rattle.port_core.specs.declared.view.InView.{InView}
 use Rattle.port_core.specs.declared.view.InView.TheVariants.{Pulled, Cancelled}
 use Rattle.port_core.specs.declared.view.OutView.{OutView}
-use Rattle.wire_core.specs.Counts.{elements}
 use Rattle.stream_model.specs.Outlook.{unended}
 use Rattle.stream_model.specs.declared.outcome.EndState.TheVariants.{WriteFault}
 use Rattle.stream_io.specs.State.{SourceState, DrainState}

@@ -3,7 +3,7 @@
 // speaks of a world, what the book of that world lists, and else what `B` lists.
 ghost use Rattle.std.specs.Prelude.{◌≡◌, ◌≢◌, ◌<◌, ◌≤◌, ℕ, List, [], map, length, None, Some, slice_get};
 ghost use Rattle.wire_core.specs.Cell.{WireState};
-ghost use Rattle.wire_core.specs.Counts.{elements};
+ghost use Rattle.elem_core.specs.Items.{elements};
 ghost use Rattle.stream_model.specs.Composed.{next, composed, sink_outlook, IsRanked};
 ghost use Rattle.stream_model.specs.Graph as graph;
 ghost use Rattle.stream_model.specs.Graph.{Graph, Edge};

@@ -4,6 +4,7 @@ use Rattle.std.proofs.Common.{◌≡◌, ◌⊎◌, inl, inr, ℕ, zero, suc, �
 use Rattle.elem_core.specs.declared.item.Item.{Item}
 use Rattle.elem_core.specs.declared.why.Decider.{Decider}
 use Rattle.elem_core.specs.Tree.{Tree}
+use Rattle.elem_core.specs.Items.{elements}
 use Rattle.port_core.specs.View.{View}
 use Rattle.port_core.specs.declared.view.InView.{InView}
 use Rattle.port_core.specs.declared.view.InView.TheVariants.{Pulled, Finished, Cancelled}
@@ -25,7 +26,6 @@ use Rattle.stream_picture.specs.View as picture
 use Rattle.stage_law.specs.Held.{told}
 use Rattle.stage_law.specs.Row.{InClosed}
 use Rattle.stage_core.specs.declared.phase.Phase.{Phase}
-use Rattle.wire_core.specs.Counts.{elements}
 use Rattle.nodes.specs.declared.node.IslandNode.{IslandNode}
 use Rattle.nodes.specs.declared.node.IslandNode.TheVariants.{Writing}
 use Rattle.nodes.specs.declared.sink.Writes.{Writes}

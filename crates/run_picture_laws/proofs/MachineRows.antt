@@ -4,6 +4,7 @@ use Rattle.std.proofs.Common.{◌≡◌, ◌≢◌, ◌⊎◌, inl, inr, ℕ, �
 use Rattle.elem_core.specs.Prefix.{IsPrefix}
 use Rattle.elem_core.proofs.Prefixes.{prefix_length, prefix_trans, prefix_is_take, prefix_take_le}
 use Rattle.elem_core.specs.Tree.{Tree}
+use Rattle.elem_core.specs.Items.{elements}
 use Rattle.elem_core.specs.declared.item.Item.{Item}
 use Rattle.port_core.specs.declared.view.InView.{InView}
 use Rattle.port_core.specs.declared.view.InView.TheVariants.{Idle, Pulled, Finished, Cancelled}
@@ -16,7 +17,6 @@ use Rattle.stream_picture.specs.View.{demand, wanted}
 use Rattle.stage_law.specs.Held.{Held, told}
 use Rattle.stage_law.specs.Law.{TookAs, Law}
 use Rattle.stage_law.proofs.Whole.{stage_stands}
-use Rattle.wire_core.specs.Counts.{elements}
 use Rattle.run_account.specs.Ports.{InPort, OutPort, InStands, OutStands, InRests, OutRests}
 use Rattle.run_account.proofs.Coming.{elements_told}
 use Rattle.run_account.proofs.Bounds.{sent_open, sent_ended, sent_shut}

@@ -3,9 +3,9 @@
 use Rattle.std.specs.Prelude.{slice_get, slice_index_or}
 use Rattle.std.proofs.Common.{◌≡◌, List, [], ◌∷◌, length, Some, refl, sym, ap, ◌∙◌, subst, arith}
 use Rattle.elem_core.specs.Tree.{Tree}
+use Rattle.elem_core.specs.Items.{elements}
 use Rattle.elem_core.specs.declared.item.Item.{Item}
 use Rattle.port_core.specs.View.{View, in_at}
-use Rattle.wire_core.specs.Counts.{elements}
 use Rattle.stream_model.specs.Outlook.{End}
 use Rattle.stream_model.specs.FanIn.{Inflow}
 use Rattle.stage_law.specs.Held.{told}

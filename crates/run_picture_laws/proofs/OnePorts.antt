@@ -2,11 +2,11 @@
 use Rattle.std.specs.Prelude.{slice_index_or}
 use Rattle.std.proofs.Common.{◌≡◌, ℕ, ◌+◌, ◌≤◌, Bool, true, false, List, [], ◌∷◌, refl, ap, ◌∙◌, subst, arith}
 use Rattle.elem_core.specs.Prefix.{IsPrefix}
+use Rattle.elem_core.specs.Items.{elements}
 use Rattle.elem_core.specs.declared.item.Item.{Item}
 use Rattle.port_core.specs.View.{View, in_at, out_at, OneOneOf}
 use Rattle.port_core.specs.declared.view.InView.{InView}
 use Rattle.port_core.specs.declared.view.OutView.{OutView}
-use Rattle.wire_core.specs.Counts.{elements}
 use Rattle.stream_picture.specs.View.{demand}
 use Rattle.run_account.specs.Account.{AllBegin}
 use Rattle.run_account.specs.Ports.{InPort, InStands}

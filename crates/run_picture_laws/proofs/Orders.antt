@@ -3,11 +3,10 @@
 use Rattle.std.specs.Prelude.{slice_get, slice_index_or, Option}
 use Rattle.std.proofs.Common.{◌≡◌, ℕ, ◌≤◌, List, [], ◌∷◌, length, None, Some, refl, sym, ap, subst, ◌∙◌, arith}
 use Rattle.elem_core.proofs.Prefixes.{prefix_length}
+use Rattle.elem_core.specs.Items.{elements}
 use Rattle.elem_core.specs.declared.item.Item.{Item}
-use Rattle.elem_core.specs.declared.item.Item.TheVariants as item
 use Rattle.kill_core.specs.Public.{SeatState}
 use Rattle.port_core.specs.View.{View}
-use Rattle.wire_core.specs.Counts.{elements}
 use Rattle.stream_io.specs.State.{SourceState, DrainState}
 use Rattle.stream_model.specs.Composed.{IsRanked}
 use Rattle.stream_model.specs.declared.kind.Kind.{Kind}
@@ -17,7 +16,6 @@ use Rattle.stream_model.specs.Graph.{Graph}
 use Rattle.stream_model.specs.Graph as graph
 use Rattle.stream_model.specs.Node.{World, head_of}
 use Rattle.stream_model.specs.Outlook.{Outlook}
-use Rattle.stage_switch.specs.Handling as switch
 use Rattle.stage_switch.specs.Handling.{trip_kind}
 use Rattle.stage_state.specs.declared.logic.StateLogic.{StateLogic}
 use Rattle.stage_state.specs.declared.logic.StateLogic.TheVariants.{Machine, Dropping, Recovering, Obeying, Tripping}
@@ -45,12 +43,6 @@ use Rattle.stream_model.specs.Linear.{Book}
 
 -- ---- what a node's law tells of its seat
 
-same_elements : (h : List Item) → switch.elements h ≡ elements h
-same_elements [] = refl
-same_elements (item.Elem t ∷ h) = let rest = same_elements h in omega (arith, rest)
-same_elements (item.Ended ∷ h) = same_elements h
-same_elements (item.Failed c ∷ h) = same_elements h
-
 no_seat : (s : SeatState) → ◌≡◌ {A = Option SeatState} None (Some s) → ⊥
 no_seat s e = cc
 
@@ -74,8 +66,8 @@ module _ (w : World) (k : ℕ) (n : graph.Node) (v : View) (took gave : List (Li
       subst (λ (r : SeatState). SeatTold n.kind (w.moves k) Count r) (some_same now.seat s at) here
   state_told (Tripping first) (Tripping now) made told law s at =
       let f = trip_first k n.kind n.decider first made.begins.as_kind in
-      let seat : SeatTold (trip_kind first.order f.name first.count) (w.moves k) (switch.elements law.took_list) now.seat = (trip_tells f.name (w.moves k) first now v took gave law).1 in
-      let count : switch.elements law.took_list ≡ Count = same_elements law.took_list ∙ ap (λ (hs : List (List Item)). elements (slice_index_or hs 0 [])) (sym law.took_is) in
+      let seat : SeatTold (trip_kind first.order f.name first.count) (w.moves k) (elements law.took_list) now.seat = (trip_tells f.name (w.moves k) first now v took gave law).1 in
+      let count : elements law.took_list ≡ Count = ap (λ (hs : List (List Item)). elements (slice_index_or hs 0 [])) (sym law.took_is) in
       let all : SeatTold (trip_kind first.order f.name first.count) (w.moves k) Count now.seat = subst (λ (m : ℕ). SeatTold (trip_kind first.order f.name first.count) (w.moves k) m now.seat) count seat in
       let here : SeatTold n.kind (w.moves k) Count now.seat = subst (λ (kd : Kind). SeatTold kd (w.moves k) Count now.seat) (sym f.kind_is) all in
       subst (λ (r : SeatState). SeatTold n.kind (w.moves k) Count r) (some_same now.seat s at) here

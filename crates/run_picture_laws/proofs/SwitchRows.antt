@@ -5,6 +5,7 @@ use Rattle.std.proofs.Common.{◌≡◌, ◌≢◌, ◌⊎◌, inl, inr, ℕ, �
 use Rattle.std.proofs.lemmas.List.{length-take-le}
 use Rattle.elem_core.proofs.Prefixes.{prefix_length}
 use Rattle.elem_core.specs.Tree.{Tree}
+use Rattle.elem_core.specs.Items.{elements}
 use Rattle.elem_core.specs.declared.item.Item.{Item}
 use Rattle.port_core.specs.View.{View, in_at, out_at}
 use Rattle.port_core.specs.declared.view.InView.{InView}
@@ -38,7 +39,6 @@ use Rattle.stage_switch.proofs.Outlooks as valves
 use Rattle.stage_switch.proofs.Rows.{valve_waits}
 use Rattle.stage_state.specs.declared.logic.StateLogic.TheVariants.{Obeying, Tripping}
 use Rattle.stage_state.specs.Logics.{BeginsAs}
-use Rattle.wire_core.specs.Counts.{elements}
 use Rattle.nodes.specs.declared.node.IslandNode.{IslandNode}
 use Rattle.nodes.specs.declared.node.IslandNode.TheVariants as node
 use Rattle.nodes.specs.Nodes.{node_port_state, node_law, node_asking, node_moves}

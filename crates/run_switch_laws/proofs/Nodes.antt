@@ -1,5 +1,6 @@
 -- What the law of a valve and of a trip tells of its seat.
 use Rattle.std.proofs.Common.{◌≡◌, ℕ, ◌≤◌, List, IfSome}
+use Rattle.elem_core.specs.Items.{elements}
 use Rattle.elem_core.specs.declared.item.Item.{Item}
 use Rattle.kill_core.specs.declared.order.Order.{Order}
 use Rattle.kill_core.specs.declared.order.Order.TheVariants.{Shutdown, Abort}
@@ -7,7 +8,7 @@ use Rattle.kill_core.specs.Public.{SeatState, IsSeatOf}
 use Rattle.port_core.specs.View.{View}
 use Rattle.stream_model.specs.declared.kind.Kind.TheVariants as kind
 use Rattle.stage_switch.specs.States.{Valve, Trip}
-use Rattle.stage_switch.specs.Handling.{ValveAs, elements, TripAs, trip_kind}
+use Rattle.stage_switch.specs.Handling.{ValveAs, TripAs, trip_kind}
 use Rattle.stage_switch.proofs.Outlooks.{valve_seat, trip_seat}
 use Rattle.run_switch_laws.specs.Settling.{SeatTold}
 

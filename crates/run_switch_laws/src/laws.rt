@@ -6,10 +6,11 @@ ghost use Rattle.stream_model.specs.Graph.{Graph, Node};
 ghost use Rattle.stream_model.specs.Node.{World, head_of};
 ghost use Rattle.stream_model.specs.Fits.{CanTrip, Fits, moves_fit, inputs};
 ghost use Rattle.stream_model.specs.declared.kind.Kind.TheVariants as kind;
+ghost use Rattle.elem_core.specs.Items.{elements};
 ghost use Rattle.elem_core.specs.declared.item.Item.{Item};
 ghost use Rattle.port_core.specs.View.{View};
 ghost use Rattle.stage_switch.specs.States.{Valve, Trip};
-ghost use Rattle.stage_switch.specs.Handling.{ValveAs, elements, TripAs, trip_kind};
+ghost use Rattle.stage_switch.specs.Handling.{ValveAs, TripAs, trip_kind};
 ghost use Rattle.run_switch_laws.specs.Settling.{SeatTold, AllSettled, OneOrderShown, kinds_of};
 
 /// Where the laws of the nodes tell what each seat knows and gave, and the seats of each switch were settled, over however

@@ -2,6 +2,7 @@
 use Rattle.std.specs.Prelude.{Result, OnOk, OnErr, IsOk, Ok, Err, slice_index_or}
 use Rattle.std.proofs.Common.{◌≡◌, ◌≢◌, ℕ, zero, suc, ◌+◌, List, [], ◌∷◌, ◌++◌, length, refl, sym, ap, subst, ◌∙◌, arith}
 use Rattle.elem_core.specs.Prefix.{IsPrefix}
+use Rattle.elem_core.specs.Items.{elements}
 use Rattle.elem_core.proofs.Prefixes.{prefix_refl}
 use Rattle.elem_core.specs.declared.item.Item.{Item}
 use Rattle.elem_core.specs.declared.item.Item.TheVariants as item
@@ -29,7 +30,7 @@ use Rattle.stage_core.specs.declared.phase.Phase.{Phase}
 use Rattle.stage_core.specs.declared.phase.Phase.TheVariants.{New, Open, Closed}
 use Rattle.stage_switch.specs.Valves.{ValveHeld, passes, ValveTurnAt, ValveKeeps, ValveLaw}
 use Rattle.stage_switch.specs.States.{passing_port_state, Valve, Unmoved, valve_port_state, valve_held, valve_held_in, ValveTurned, brought, Trip, trip_port_state, trip_held, trip_held_in, trip_stage, TripTurned}
-use Rattle.stage_switch.specs.Handling.{ValveFresh, ValvePortState, ValveAs, KeepsValve, elements, TripFresh, TripPortState, TripAs, KeepsTrip}
+use Rattle.stage_switch.specs.Handling.{ValveFresh, ValvePortState, ValveAs, KeepsValve, TripFresh, TripPortState, TripAs, KeepsTrip}
 use Rattle.stage_switch.proofs.ValveTurns.{valve_new, valve_call}
 use Rattle.stage_switch.proofs.Rows.{called_valve, none_new, none_open}
 

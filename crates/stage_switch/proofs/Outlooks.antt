@@ -3,6 +3,7 @@ use Rattle.std.specs.Prelude.{nat_le}
 use Rattle.std.proofs.Common.{◌≡◌, ◌≢◌, ℕ, zero, suc, ◌≤◌, List, [], ◌∷◌, length, Option, None, Some, IfSome, true, refl, sym, ap, subst, ◌∙◌, arith}
 use Rattle.std.proofs.lemmas.Bool.Decides.{nat_tests}
 use Rattle.elem_core.specs.Tree.{Tree}
+use Rattle.elem_core.specs.Items.{elements}
 use Rattle.elem_core.specs.declared.item.Item.{Item}
 use Rattle.elem_core.specs.declared.why.Decider.{Decider}
 use Rattle.elem_core.proofs.Prefixes.{prefix_length}
@@ -23,7 +24,7 @@ use Rattle.stage_core.specs.declared.phase.Phase.{Phase}
 use Rattle.stage_core.specs.declared.phase.Phase.TheVariants.{New, Open, Closed}
 use Rattle.stage_switch.specs.Valves.{did, GaveUpTo, ValveKeeps, ValveStandsOf}
 use Rattle.stage_switch.specs.States.{Valve, Unmoved, valve_held, valve_held_in, moves_by, IsValve, Trip}
-use Rattle.stage_switch.specs.Handling.{ValveAs, elements, TripAs, trip_kind}
+use Rattle.stage_switch.specs.Handling.{ValveAs, TripAs, trip_kind}
 use Rattle.stage_switch.proofs.ValveTurns.{valve_stands}
 
 -- ---- what a valve did

@@ -1,9 +1,9 @@
 -- A valve and a trip as the interpreter calls them: what each knows of its ports, the law of its histories and of its seat,
 -- and what of it outlives want of memory.
-use Rattle.std.specs.Prelude.{◌≡◌, ◌≢◌, ℕ, ◌+◌, List, [], ◌∷◌}
+use Rattle.std.specs.Prelude.{◌≡◌, ◌≢◌, ℕ, List, [], ◌∷◌}
 use Rattle.elem_core.specs.Prefix.{IsPrefix}
+use Rattle.elem_core.specs.Items.{elements}
 use Rattle.elem_core.specs.declared.item.Item.{Item}
-use Rattle.elem_core.specs.declared.item.Item.TheVariants as item
 use Rattle.elem_core.specs.declared.why.Decider.{Decider}
 use Rattle.kill_core.specs.declared.order.Order.{Order}
 use Rattle.kill_core.specs.declared.order.Order.TheVariants.{Shutdown, Abort}
@@ -48,13 +48,6 @@ pub record KeepsValve (old new : Valve) : Type 0 where
   pub valve : IsValve old.switch old.seat old.moves → IsValve new.switch new.seat new.moves
 
 -- ---- a trip
-
--- how many elements a history has
-abbrev pub elements : List Item → ℕ
-elements [] = 0
-elements (item.Elem e ∷ items) = 1 + elements items
-elements (item.Ended ∷ items) = elements items
-elements (item.Failed c ∷ items) = elements items
 
 -- it was not started: it took nothing
 pub record TripFresh (l : Trip) (v : View) : Type 0 where

@@ -1,5 +1,6 @@
 // Laws of valves and trips: each function has no body, and its contract is the law.
 ghost use Rattle.std.specs.Prelude.{◌≡◌, ◌≢◌, ◌≤◌, ℕ, List, [], ◌∷◌, ◌++◌, length, true, false, IfSome, None};
+ghost use Rattle.elem_core.specs.Items.{elements};
 ghost use Rattle.elem_core.specs.declared.item.Item.{Item};
 ghost use Rattle.elem_core.specs.declared.why.Decider.{Decider};
 ghost use Rattle.kill_core.specs.declared.order.Order.{Order};
@@ -22,7 +23,7 @@ ghost use Rattle.stage_law.specs.OwnPorts.{OwnRests};
 ghost use Rattle.stage_core.specs.declared.phase.Phase.TheVariants.{Open};
 ghost use Rattle.stage_switch.specs.Valves.{ValveHeld, passes, shut, did, GaveUpTo, GaveAll, ValveTurnAt, ValveLaw, ValveStandsOf, ValveResidual, ValveRest, ValveRests};
 ghost use Rattle.stage_switch.specs.States.{IsUnused, Valve, IsValve, new_valve_of, valve_port_state, ValveTurned, Trip, new_trip_of, trip_port_state, TripTurned};
-ghost use Rattle.stage_switch.specs.Handling.{ValveFresh, ValvePortState, ValveAs, elements, TripFresh, TripPortState, TripAs, trip_kind};
+ghost use Rattle.stage_switch.specs.Handling.{ValveFresh, ValvePortState, ValveAs, TripFresh, TripPortState, TripAs, trip_kind};
 
 /// The law of a valve holds before anything came, and every call keeps it, once the call's actions are done; what a valve gave
 /// over its history is what one that acted so may have given; and for every rest and every act that may still come, what it

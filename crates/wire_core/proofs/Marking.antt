@@ -1,6 +1,7 @@
 -- The mark of a wire, and how each action and each delivery lets the wire go on.
 use Rattle.std.proofs.Common.{◌≡◌, ℕ, ◌+◌, ◌≤◌, Bool, true, false, ◌&&◌, if◌then◌else◌, Option, None, Some, List, [], ◌∷◌, ◌++◌, refl, sym, ap, ◌∙◌, subst, arith}
 use Rattle.elem_core.specs.Tree.{Tree}
+use Rattle.elem_core.specs.Items.{elements}
 use Rattle.elem_core.proofs.Prefixes.{prefix_refl, prefix_append, prefix_trans}
 use Rattle.elem_core.specs.declared.why.Cause.{Cause}
 use Rattle.elem_core.specs.declared.item.Item.{Item}
@@ -11,7 +12,6 @@ use Rattle.port_core.specs.Wire.{JointPorts, pull_of, push_of, close_of, cancel_
 use Rattle.port_core.specs.Joint.{Joint, idle, asking, asked, moving, ending, closing, leaving, finished, parted, refused, wire_of, Queues, IsSound}
 use Rattle.port_core.specs.declared.view.OutView.TheVariants.{Available}
 use Rattle.wire_core.specs.Cell.{WireState, new_cell}
-use Rattle.wire_core.specs.Counts.{elements}
 use Rattle.wire_core.specs.Marks.{IsMarked, wanted, Grown}
 use Rattle.wire_core.proofs.Counting.{elements_elem, elements_end}
 

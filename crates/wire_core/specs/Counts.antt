@@ -1,8 +1,7 @@
--- How many elements passed a wire, and what its history costs in units: a number that no action lowers and each event raises; and how
+-- What the history of a wire costs in units: a number that no action lowers and each event raises; and how
 -- many events its ends have heard: a number that no action raises, and each event by one at most.
-use Rattle.std.specs.Prelude.{ℕ, suc, ◌+◌, Bool, true, false, if◌then◌else◌, List, [], ◌∷◌, length}
-use Rattle.elem_core.specs.declared.item.Item.{Item}
-use Rattle.elem_core.specs.declared.item.Item.TheVariants as item
+use Rattle.std.specs.Prelude.{ℕ, ◌+◌, Bool, true, false, if◌then◌else◌, length}
+use Rattle.elem_core.specs.Items.{elements}
 use Rattle.port_core.specs.Connection.{ConnStep, quiet, pulled, ready, pushed}
 use Rattle.port_core.specs.Wire.{JointPorts}
 use Rattle.port_core.specs.declared.view.InView.{InView}
@@ -10,13 +9,6 @@ use Rattle.port_core.specs.declared.view.InView.TheVariants.{Pulled, Finished, C
 use Rattle.port_core.specs.declared.view.OutView.{OutView}
 use Rattle.port_core.specs.declared.view.OutView.TheVariants as outlet
 use Rattle.wire_core.specs.Cell.{WireState}
-
--- the elements of a history, without its end
-abbrev pub elements : List Item → ℕ
-elements [] = 0
-elements (item.Elem e ∷ items) = suc (elements items)
-elements (item.Ended ∷ items) = elements items
-elements (item.Failed c ∷ items) = elements items
 
 -- the pull has come to the output
 abbrev pub ready_bit : ConnStep → ℕ

@@ -5,7 +5,7 @@ ghost use Rattle.port_core.specs.declared.act.Act.TheVariants as act;
 ghost use Rattle.wire_core.specs.Cell.{new_cell, moved_by, brought_in, Tells};
 ghost use Rattle.port_core.specs.View.{output_closed, input_closed};
 ghost use Rattle.wire_core.specs.Closes.{output_cancelled};
-ghost use Rattle.wire_core.specs.Counts.{elements};
+ghost use Rattle.elem_core.specs.Items.{elements};
 
 use elem_core::elem::Elem;
 use elem_core::item::Item;
@@ -42,9 +42,9 @@ impl Model for Wire {
     ghost use Rattle.std.specs.Prelude.{◌≡◌};
     ghost use Rattle.std.specs.Coded.{codes};
     ghost use Rattle.elem_core.specs.TreeCode.{tree_coded};
+    ghost use Rattle.elem_core.specs.Items.{elements};
     ghost use Rattle.wire_core.specs.Cell.{WireState};
     ghost use Rattle.wire_core.specs.Closes.{Closes};
-    ghost use Rattle.wire_core.specs.Counts.{elements};
 
     ghost Value = { WireState };
 

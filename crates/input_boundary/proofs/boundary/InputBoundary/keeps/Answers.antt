@@ -1,5 +1,5 @@
 use Rattle.std.proofs.Common.{◌≤◌, ◌<◌, ◌+◌, ◌/◌, max, sym, subst}
-use Rattle.lane_core.specs.Lane.{elements}
+use Rattle.elem_core.specs.Items.{elements}
 use Rattle.lane_core.specs.Ends.{asked, asks, in_size}
 use Rattle.input_boundary.specs.Flow.{AsksByHalves}
 use Rattle.input_boundary.proofs.Keeps.{carried, given_count, most, more, least, few_calls}

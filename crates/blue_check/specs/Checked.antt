@@ -2,5 +2,5 @@
 use Rattle.blue_core.specs.declared.blueprint.Blueprint.{Blueprint}
 use Rattle.blue_check.specs.declared.checked.Checked.{Checked}
 
-abbrev pub blueprint_of : Checked → Blueprint
-blueprint_of c = c.blueprint
+abbrev pub checked_blueprint : Checked → Blueprint
+checked_blueprint c = c.blueprint

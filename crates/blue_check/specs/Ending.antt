@@ -7,6 +7,6 @@ use Rattle.blue_check.specs.declared.check.CheckEnd.TheVariants.{Fault, NoMemory
 use Rattle.blue_check.specs.Fitness.{IsFirstFault}
 
 -- by the fault of the first rule that is broken; memory may be wanting at any time
-abbrev pub IsEnd : Blueprint → List PlugHead → List (List ℕ) → CheckEnd → Type 0
-IsEnd b plugs taken (Fault f) = IsFirstFault b plugs taken f
-IsEnd b plugs taken NoMemory = Unit {0}
+abbrev pub IsCheckEnd : Blueprint → List PlugHead → List (List ℕ) → CheckEnd → Type 0
+IsCheckEnd b plugs taken (Fault f) = IsFirstFault b plugs taken f
+IsCheckEnd b plugs taken NoMemory = Unit {0}

@@ -19,12 +19,12 @@ use Rattle.blue_check.specs.declared.fault.CheckFault.{CheckFault}
 use Rattle.blue_check.specs.declared.fault.CheckFault.TheVariants.{TwoNames, NoSuchName, NoSuchPort, PortTwice, PortOpen, TypeClash, ClosedWalk, TooDeep, NoSuchPlug, PlugTwice, BadSize}
 
 -- the name of a node
-abbrev pub name_in : Option Node → List ℕ
-name_in None = []
-name_in (Some n) = n.name
+abbrev pub node_name : Option Node → List ℕ
+node_name None = []
+node_name (Some n) = n.name
 
 abbrev pub name_at : List Node → ℕ → List ℕ
-name_at nodes i = name_in (slice_get nodes i)
+name_at nodes i = node_name (slice_get nodes i)
 
 -- an open port with the name of its node, and a clash
 abbrev pub open_fault : List Node → OpenPort → CheckFault

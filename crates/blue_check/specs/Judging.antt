@@ -15,11 +15,11 @@ pub record TellsTree (ws : List Edge) (tree : Bool) : Type 0 where
   pub no : tree ≡ false → IsPolytree (wiring ws) → ⊥
 
 -- no walk is closed, and the test is right
-pub record IsOpen (ws : List Edge) (tree : Bool) : Type 0 where
+pub record IsAcyclic (ws : List Edge) (tree : Bool) : Type 0 where
   pub none : HasNoClosedWalk ws
   pub tells : TellsTree ws tree
 
 -- the fault of the rules that come before that on closed walks, or else a closed walk, or else none
 abbrev pub IsJudged : Option CheckFault → List Edge → Judged → Type 0
 IsJudged early ws (Unfit f) = (early ≡ Some f) ⊎ ((early ≡ None) × IsClosedFault ws f)
-IsJudged early ws (Fit tree) = (early ≡ None) × IsOpen ws tree
+IsJudged early ws (Fit tree) = (early ≡ None) × IsAcyclic ws tree

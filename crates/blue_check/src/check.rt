@@ -1,7 +1,7 @@
 // The check of a blueprint.
 ghost use Rattle.std.specs.Prelude.{◌≡◌, IfOk, IfErr};
-ghost use Rattle.blue_check.specs.Checked.{blueprint_of};
-ghost use Rattle.blue_check.specs.Ending.{IsEnd};
+ghost use Rattle.blue_check.specs.Checked.{checked_blueprint};
+ghost use Rattle.blue_check.specs.Ending.{IsCheckEnd};
 ghost use Rattle.blue_check.specs.Fitness.{IsFit};
 
 use crate::checked::Checked;
@@ -31,9 +31,9 @@ pub fn check(
     plugs: &[PlugHead],
     taken: &[Line],
 ) -> Result<Checked, CheckEnd>
-    ensures blueprint { IfOk result (λ c. blueprint_of c ≡ b) }
+    ensures blueprint { IfOk result (λ c. checked_blueprint c ≡ b) }
     ensures fit { IfOk result (λ c. IsFit b plugs.now taken.now) }
-    ensures unfit { IfErr result (IsEnd b plugs.now taken.now) }
+    ensures unfit { IfErr result (IsCheckEnd b plugs.now taken.now) }
 {
     match judge(alloc, &b, plugs, taken) {
         Ok(Judged::Fit(polytree)) => {

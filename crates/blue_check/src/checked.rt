@@ -21,18 +21,18 @@ pub struct Checked {
 }
 
 impl Checked {
-    ghost use Rattle.blue_check.specs.Checked.{blueprint_of};
+    ghost use Rattle.blue_check.specs.Checked.{checked_blueprint};
 
     /// The blueprint that was checked.
     pub fn blueprint(&self) -> &Blueprint
-        ensures { result.now ≡ blueprint_of self.now }
+        ensures { result.now ≡ checked_blueprint self.now }
     {
         &self.blueprint
     }
 
     /// The blueprint that was checked, as the caller's own. It takes no memory.
     pub fn into_blueprint(self) -> Blueprint
-        ensures { result ≡ blueprint_of self }
+        ensures { result ≡ checked_blueprint self }
     {
         self.blueprint
     }
@@ -40,7 +40,7 @@ impl Checked {
     /// Whether no closed walk uses each wire at most once, when directions are ignored. Two wires between the same nodes are such
     /// a walk. It takes no memory.
     pub fn is_polytree(&self) -> bool
-        ensures { IsTrue result ↔ IsPolytree (wiring (blueprint_wires (blueprint_of self.now))) }
+        ensures { IsTrue result ↔ IsPolytree (wiring (blueprint_wires (checked_blueprint self.now))) }
     {
         self.polytree
     }
@@ -48,7 +48,7 @@ impl Checked {
     /// Whether a run makes moves that it has to record: there is a merge, a balance, a buffer that does not hold its input back,
     /// a valve, a recover, or substreams that are merged. It takes no memory.
     pub fn needs_picks(&self) -> bool
-        ensures { result ≡ needs_picks (blueprint_of self.now).nodes.items }
+        ensures { result ≡ needs_picks (checked_blueprint self.now).nodes.items }
     {
         self.picks
     }
@@ -59,7 +59,7 @@ impl Checked {
         requires is_tree { polytree ≡ true → IsPolytree (wiring (blueprint_wires blueprint)) }
         requires is_no_tree { polytree ≡ false → IsPolytree (wiring (blueprint_wires blueprint)) → ⊥ }
         requires tells_picks { picks ≡ needs_picks blueprint.nodes.items }
-        ensures { blueprint_of result ≡ blueprint }
+        ensures { checked_blueprint result ≡ blueprint }
     {
         Checked {
             blueprint,

@@ -6,7 +6,7 @@ ghost use Rattle.blue_names.specs.Links.{AreInRange, wires_of_links};
 ghost use Rattle.blue_names.specs.Outs.{IsOuts};
 ghost use Rattle.blue_names.specs.Wiring.{FindsWires, port_of};
 ghost use Rattle.blue_types.specs.Library.{IsKnown};
-ghost use Rattle.blue_types.specs.Net.{IsWired, type_at};
+ghost use Rattle.blue_types.specs.Net.{HasFirstWires, type_at};
 ghost use Rattle.blue_check.specs.Fitness.{name_at, open_fault, clash_fault, names_fault, ports_fault, plugs_fault, sizes_fault, types_fault};
 
 use crate::fault::CheckFault;
@@ -138,7 +138,7 @@ fn settled_fault(
     types: &[Option<ElemType>],
 ) -> Result<Option<CheckFault>, NoMemory>
     requires known { IsKnown library.now }
-    requires wired { IsWired net.now }
+    requires wired { HasFirstWires net.now }
     requires settled { (i : ℕ) → type_at types.now i ≡ settled library.now.plugs.now library.now.chains.now net.now.nodes.now (wires_of_links net.now.links.now) i }
     ensures { IfOk result (λ f. f ≡ types_fault library.now.plugs.now library.now.chains.now net.now.nodes.now (wires_of_links net.now.links.now)) }
 {
@@ -170,7 +170,7 @@ fn net_fault(
     outs: &[Vec<usize>],
 ) -> Result<Option<CheckFault>, NoMemory>
     requires known { IsKnown library.now }
-    requires wired { IsWired net.now }
+    requires wired { HasFirstWires net.now }
     requires outs { IsOuts outs.now (wires_of_links net.now.links.now) }
     ensures { IfOk result (λ f. f ≡ types_fault library.now.plugs.now library.now.chains.now net.now.nodes.now (wires_of_links net.now.links.now)) }
 {

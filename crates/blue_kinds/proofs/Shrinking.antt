@@ -3,10 +3,10 @@ use Rattle.std.proofs.Common.{◌≡◌, ℕ, ◌≤◌, Bool, true, false, cond
 use Rattle.std.specs.Prelude.{codes, ◌&&◌}
 use Rattle.std.specs.Str.{bytes_eq}
 use Rattle.elem_core.specs.declared.why.Decider.TheVariants.{Stop}
-use Rattle.blue_words.specs.Reading.{At, Reading, at_map, both, made, with_second, then_read, place, word, count, behind_word, begins_with}
+use Rattle.blue_words.specs.Reading.{At, Reading, at_map, both, made, with_second, then_read, read_place, word, count, behind_word, begins_with}
 use Rattle.blue_kinds.specs.Functions.{said_if, one_of, map_of, number_map, quotient_map, text_map, pred_of, number_pred, greater_pred, exact_pred, text_pred, whole_pred}
 use Rattle.blue_kinds.specs.Kinds.{linear_kind, bounded_kind, making_kind, folding_kind, testing_kind, while_kind, may_decide, decider_of, decider_word}
-use Rattle.blue_kinds.specs.Steps.{step_of}
+use Rattle.blue_kinds.specs.Steps.{read_step}
 
 -- what is read leaves at most n words
 pub record Shrinks {A : Type 0} (n : ℕ) (r : Reading A) : Type 0 where
@@ -25,9 +25,9 @@ pub shrinks-made : {A B : Type 0} (n : ℕ) (f : A → B) (r : Reading A) → Sh
 shrinks-made n f None s = shrinks-none n
 shrinks-made n f (Some r) s = shrinks-some n (at_map f r.0) r.1 (s.kept r.0 r.1 refl)
 
-pub shrinks-place : {A : Type 0} (f : List ℕ → At A) (ws : List (List ℕ)) → Shrinks (length ws) (place f ws)
-shrinks-place f [] = shrinks-none 0
-shrinks-place f (w ∷ ws) = shrinks-some (length (w ∷ ws)) (f w) ws (omega arith)
+pub shrinks-read_place : {A : Type 0} (f : List ℕ → At A) (ws : List (List ℕ)) → Shrinks (length ws) (read_place f ws)
+shrinks-read_place f [] = shrinks-none 0
+shrinks-read_place f (w ∷ ws) = shrinks-some (length (w ∷ ws)) (f w) ws (omega arith)
 
 with_second-shrinks : {A B : Type 0} (n : ℕ) (p : At A) (r : Reading B) → Shrinks n r → Shrinks n (with_second p r)
 with_second-shrinks n p None s = shrinks-none n
@@ -57,35 +57,35 @@ pub shrinks-cons : {A : Type 0} (w : List ℕ) (ws : List (List ℕ)) (r : Readi
 shrinks-cons w ws r s = shrinks-le (length ws) (length (w ∷ ws)) r (omega arith) s
 
 text_map-shrinks : (w : List ℕ) (ws : List (List ℕ)) → Shrinks (length ws) (text_map w ws)
-text_map-shrinks w ws = search (shrinks-if, shrinks-made, shrinks-place, shrinks-said_if) depth 20
+text_map-shrinks w ws = search (shrinks-if, shrinks-made, shrinks-read_place, shrinks-said_if) depth 20
 
 quotient_map-shrinks : (w : List ℕ) (ws : List (List ℕ)) → Shrinks (length ws) (quotient_map w ws)
-quotient_map-shrinks w ws = search (shrinks-if, shrinks-made, shrinks-place, text_map-shrinks) depth 20
+quotient_map-shrinks w ws = search (shrinks-if, shrinks-made, shrinks-read_place, text_map-shrinks) depth 20
 
 number_map-shrinks : (w : List ℕ) (ws : List (List ℕ)) → Shrinks (length ws) (number_map w ws)
-number_map-shrinks w ws = search (shrinks-if, shrinks-made, shrinks-place, quotient_map-shrinks) depth 20
+number_map-shrinks w ws = search (shrinks-if, shrinks-made, shrinks-read_place, quotient_map-shrinks) depth 20
 
 map_of-shrinks : (ws : List (List ℕ)) → Shrinks (length ws) (map_of ws)
 map_of-shrinks [] = shrinks-none 0
 map_of-shrinks (w ∷ ws) = shrinks-cons w ws (map_of (w ∷ ws)) (number_map-shrinks w ws)
 
 field_is-shrinks : (ws : List (List ℕ)) → Shrinks (length ws) (then_read (count ws) word)
-field_is-shrinks ws = shrinks-then (length ws) (count ws) word (shrinks-place _ ws) (λ vs. shrinks-place _ vs)
+field_is-shrinks ws = shrinks-then (length ws) (count ws) word (shrinks-read_place _ ws) (λ vs. shrinks-read_place _ vs)
 
 whole_pred-shrinks : (w : List ℕ) (ws : List (List ℕ)) → Shrinks (length ws) (whole_pred w ws)
-whole_pred-shrinks w ws = search (shrinks-if, shrinks-made, shrinks-place, field_is-shrinks, shrinks-said_if) depth 20
+whole_pred-shrinks w ws = search (shrinks-if, shrinks-made, shrinks-read_place, field_is-shrinks, shrinks-said_if) depth 20
 
 text_pred-shrinks : (w : List ℕ) (ws : List (List ℕ)) → Shrinks (length ws) (text_pred w ws)
-text_pred-shrinks w ws = search (shrinks-if, shrinks-made, shrinks-place, whole_pred-shrinks) depth 20
+text_pred-shrinks w ws = search (shrinks-if, shrinks-made, shrinks-read_place, whole_pred-shrinks) depth 20
 
 exact_pred-shrinks : (w : List ℕ) (ws : List (List ℕ)) → Shrinks (length ws) (exact_pred w ws)
-exact_pred-shrinks w ws = search (shrinks-if, shrinks-made, shrinks-place, text_pred-shrinks) depth 20
+exact_pred-shrinks w ws = search (shrinks-if, shrinks-made, shrinks-read_place, text_pred-shrinks) depth 20
 
 greater_pred-shrinks : (w : List ℕ) (ws : List (List ℕ)) → Shrinks (length ws) (greater_pred w ws)
-greater_pred-shrinks w ws = search (shrinks-if, shrinks-made, shrinks-place, exact_pred-shrinks) depth 20
+greater_pred-shrinks w ws = search (shrinks-if, shrinks-made, shrinks-read_place, exact_pred-shrinks) depth 20
 
 number_pred-shrinks : (w : List ℕ) (ws : List (List ℕ)) → Shrinks (length ws) (number_pred w ws)
-number_pred-shrinks w ws = search (shrinks-if, shrinks-made, shrinks-place, greater_pred-shrinks) depth 20
+number_pred-shrinks w ws = search (shrinks-if, shrinks-made, shrinks-read_place, greater_pred-shrinks) depth 20
 
 pred_of-shrinks : (ws : List (List ℕ)) → Shrinks (length ws) (pred_of ws)
 pred_of-shrinks [] = shrinks-none 0
@@ -105,10 +105,10 @@ making_kind-shrinks w ws =
     search (shrinks-if, shrinks-made, map_of-shrinks, shrinks-one_of, folding_kind-shrinks) depth 20
 
 bounded_kind-shrinks : (w : List ℕ) (ws : List (List ℕ)) → Shrinks (length ws) (bounded_kind w ws)
-bounded_kind-shrinks w ws = search (shrinks-if, shrinks-made, shrinks-place, making_kind-shrinks) depth 20
+bounded_kind-shrinks w ws = search (shrinks-if, shrinks-made, shrinks-read_place, making_kind-shrinks) depth 20
 
 linear_kind-shrinks : (w : List ℕ) (ws : List (List ℕ)) → Shrinks (length ws) (linear_kind w ws)
-linear_kind-shrinks w ws = search (shrinks-if, shrinks-made, shrinks-place, bounded_kind-shrinks) depth 20
+linear_kind-shrinks w ws = search (shrinks-if, shrinks-made, shrinks-read_place, bounded_kind-shrinks) depth 20
 
 behind_word-shrinks : {A : Type 0} (fixed : List ℕ) (next : List (List ℕ) → Reading A) → ((vs : List (List ℕ)) → Shrinks (length vs) (next vs)) → (ws : List (List ℕ)) → Shrinks (length ws) (behind_word fixed next ws)
 behind_word-shrinks fixed next s [] = shrinks-none 0
@@ -126,7 +126,7 @@ kind_with_decider-shrinks : (w : List ℕ) (ws : List (List ℕ)) → Shrinks (l
 kind_with_decider-shrinks w ws =
     shrinks-then (length ws) (linear_kind w ws) (decider_of (may_decide w)) (linear_kind-shrinks w ws) (decider_of-shrinks (may_decide w))
 
-pub step_of-shrinks : (ws : List (List ℕ)) → Shrinks (length ws) (step_of ws)
-step_of-shrinks [] = shrinks-none 0
-step_of-shrinks (w ∷ ws) =
-    shrinks-cons w ws (step_of (w ∷ ws)) (shrinks-made (length ws) _ _ (kind_with_decider-shrinks w ws))
+pub read_step-shrinks : (ws : List (List ℕ)) → Shrinks (length ws) (read_step ws)
+read_step-shrinks [] = shrinks-none 0
+read_step-shrinks (w ∷ ws) =
+    shrinks-cons w ws (read_step (w ∷ ws)) (shrinks-made (length ws) _ _ (kind_with_decider-shrinks w ws))

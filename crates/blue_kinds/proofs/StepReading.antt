@@ -5,8 +5,8 @@ use Rattle.blue_core.specs.declared.blueprint.Step.{Step}
 use Rattle.blue_words.specs.declared.fault.FormEnd.{FormEnd}
 use Rattle.blue_words.specs.declared.fault.FormEnd.TheVariants.{BadLine, NoMemory}
 use Rattle.blue_words.specs.Reading.{At, Reading, Reads, at_map, made, with_second, begins_with}
-use Rattle.blue_kinds.specs.Steps.{step_of, later_steps, steps_of, chain_of, pushed}
-use Rattle.blue_kinds.proofs.Shrinking.{step_of-shrinks}
+use Rattle.blue_kinds.specs.Steps.{read_step, later_steps, read_steps, read_chain, pushed}
+use Rattle.blue_kinds.proofs.Shrinking.{read_step-shrinks}
 
 -- steps, and those that are read behind them
 abbrev pub behind_steps : At (List Step) → Reading (List Step) → Reading (List Step)
@@ -16,7 +16,7 @@ behind_steps p r = made (λ q. q.0 ++ q.1) (with_second p r)
 pub record HasSteps (all : List (List ℕ)) (steps : At (List Step)) (left : List (List ℕ)) : Type 0 where
   pub most : ℕ
   pub enough : length left ≤ most
-  pub same : chain_of all ≡ behind_steps steps (steps_of most left)
+  pub same : read_chain all ≡ behind_steps steps (read_steps most left)
 
 behind_none : (r : Reading (List Step)) → r ≡ behind_steps (Ok []) r
 behind_none None = refl
@@ -27,26 +27,26 @@ behind_none (Some r) = first r.0 r.1
     first (Err k) ws = refl
 
 pub no_steps : (all : List (List ℕ)) → HasSteps all (Ok []) all
-no_steps all = record { most = length all; enough = omega arith; same = behind_none (chain_of all) }
+no_steps all = record { most = length all; enough = omega arith; same = behind_none (read_chain all) }
 
-no_step : (most : ℕ) (left : List (List ℕ)) → step_of left ≡ None → steps_of most left ≡ None
+no_step : (most : ℕ) (left : List (List ℕ)) → read_step left ≡ None → read_steps most left ≡ None
 no_step zero left h = refl
 no_step (suc n) left h = rw h refl
 
 -- a step that has not the form
-pub steps_fail : (all : List (List ℕ)) (steps : At (List Step)) (left : List (List ℕ)) → HasSteps all steps left → step_of left ≡ None → chain_of all ≡ None
+pub steps_fail : (all : List (List ℕ)) (steps : At (List Step)) (left : List (List ℕ)) → HasSteps all steps left → read_step left ≡ None → read_chain all ≡ None
 steps_fail all steps left s h = s.same ∙ rw (no_step s.most left h) refl
 
-pub steps_err : (all : List (List ℕ)) (steps : At (List Step)) (left new : List (List ℕ)) (e : FormEnd) → HasSteps all steps left → Reads {A = Step} (Err e) (step_of left) new → Reads {A = List Step} (Err e) (chain_of all) new
+pub steps_err : (all : List (List ℕ)) (steps : At (List Step)) (left new : List (List ℕ)) (e : FormEnd) → HasSteps all steps left → Reads {A = Step} (Err e) (read_step left) new → Reads {A = List Step} (Err e) (read_chain all) new
 steps_err all steps left new BadLine s h = steps_fail all steps left s h
 steps_err all steps left new NoMemory s h = tt
 
 -- a step was read, so a word was there
-some_word : (left : List (List ℕ)) (r : At Step × List (List ℕ)) → step_of left ≡ Some r → 0 < length left
+some_word : (left : List (List ℕ)) (r : At Step × List (List ℕ)) → read_step left ≡ Some r → 0 < length left
 some_word [] r h = absurd (let k : ⊥ = cc in k)
 some_word (w ∷ ws) r h = omega arith
 
-one_more : (most : ℕ) (left : List (List ℕ)) (step : At Step) (vs : List (List ℕ)) → length left ≤ most → step_of left ≡ Some (step, vs) → (n : ℕ) × (most ≡ suc n) × (steps_of most left ≡ later_steps step (steps_of n) vs)
+one_more : (most : ℕ) (left : List (List ℕ)) (step : At Step) (vs : List (List ℕ)) → length left ≤ most → read_step left ≡ Some (step, vs) → (n : ℕ) × (most ≡ suc n) × (read_steps most left ≡ later_steps step (read_steps n) vs)
 one_more zero left step vs l h = absurd (omega (arith, some_word left (step, vs) h))
 one_more (suc n) left step vs l h = (n, refl, rw h refl)
 
@@ -56,20 +56,20 @@ last_step (Ok s) (Err k) = refl
 last_step (Err k) step = refl
 
 -- the last step
-pub steps_end : (all : List (List ℕ)) (steps : At (List Step)) (left : List (List ℕ)) (step : At Step) (vs : List (List ℕ)) (new : At (List Step)) → HasSteps all steps left → step_of left ≡ Some (step, vs) → vs ≡ [] → new ≡ pushed steps step → chain_of all ≡ Some (new, vs)
+pub steps_end : (all : List (List ℕ)) (steps : At (List Step)) (left : List (List ℕ)) (step : At Step) (vs : List (List ℕ)) (new : At (List Step)) → HasSteps all steps left → read_step left ≡ Some (step, vs) → vs ≡ [] → new ≡ pushed steps step → read_chain all ≡ Some (new, vs)
 steps_end all steps left step vs new s h e q =
     let m = one_more s.most left step vs s.enough h in
-    let next : List (List ℕ) → Reading (List Step) = steps_of m.0 in
-    let last : steps_of s.most left ≡ Some (at_map (λ s. s ∷ []) step, []) = m.2 ∙ ap (later_steps step next) e in
-    let k : chain_of all ≡ Some (pushed steps step, []) = s.same ∙ (ap (behind_steps steps) last ∙ last_step steps step) in
+    let next : List (List ℕ) → Reading (List Step) = read_steps m.0 in
+    let last : read_steps s.most left ≡ Some (at_map (λ s. s ∷ []) step, []) = m.2 ∙ ap (later_steps step next) e in
+    let k : read_chain all ≡ Some (pushed steps step, []) = s.same ∙ (ap (behind_steps steps) last ∙ last_step steps step) in
     cc
 
 -- a word other than `|` behind a step
-other_word : (vs : List (List ℕ)) (step : At Step) (n : ℕ) → begins_with (codes "|") vs ≡ false → vs ≢ [] → later_steps step (steps_of n) vs ≡ None
+other_word : (vs : List (List ℕ)) (step : At Step) (n : ℕ) → begins_with (codes "|") vs ≡ false → vs ≢ [] → later_steps step (read_steps n) vs ≡ None
 other_word [] step n f e = absurd (e refl)
 other_word (v ∷ vs) step n f e = rw f refl
 
-pub steps_stop : (all : List (List ℕ)) (steps : At (List Step)) (left : List (List ℕ)) (step : At Step) (vs : List (List ℕ)) → HasSteps all steps left → step_of left ≡ Some (step, vs) → begins_with (codes "|") vs ≡ false → vs ≢ [] → chain_of all ≡ None
+pub steps_stop : (all : List (List ℕ)) (steps : At (List Step)) (left : List (List ℕ)) (step : At Step) (vs : List (List ℕ)) → HasSteps all steps left → read_step left ≡ Some (step, vs) → begins_with (codes "|") vs ≡ false → vs ≢ [] → read_chain all ≡ None
 steps_stop all steps left step vs s h f e =
     let m = one_more s.most left step vs s.enough h in
     s.same ∙ ap (behind_steps steps) (m.2 ∙ other_word vs step m.0 f e)
@@ -85,14 +85,14 @@ next_steps steps step (Some r) = parts steps step r.0 r.1
     parts (Err k) step p ws = refl
 
 -- one step more, and `|`
-pub steps_more : (all : List (List ℕ)) (steps : At (List Step)) (left : List (List ℕ)) (step : At Step) (vs us : List (List ℕ)) (new : At (List Step)) → HasSteps all steps left → step_of left ≡ Some (step, vs) → vs ≡ codes "|" ∷ us → new ≡ pushed steps step → HasSteps all new us × (length us < length left)
+pub steps_more : (all : List (List ℕ)) (steps : At (List Step)) (left : List (List ℕ)) (step : At Step) (vs us : List (List ℕ)) (new : At (List Step)) → HasSteps all steps left → read_step left ≡ Some (step, vs) → vs ≡ codes "|" ∷ us → new ≡ pushed steps step → HasSteps all new us × (length us < length left)
 steps_more all steps left step vs us new s h e q =
     let m = one_more s.most left step vs s.enough h in
-    let k = (step_of-shrinks left).kept step vs h in
+    let k = (read_step-shrinks left).kept step vs h in
     let l : length vs ≡ suc (length us) = ap length e in
-    let next : List (List ℕ) → Reading (List Step) = steps_of m.0 in
-    let read : steps_of s.most left ≡ made (λ q. q.0 ∷ q.1) (with_second step (steps_of m.0 us)) = m.2 ∙ ap (later_steps step next) e in
-    let same : chain_of all ≡ behind_steps new (steps_of m.0 us) = s.same ∙ (ap (behind_steps steps) read ∙ (next_steps steps step (steps_of m.0 us) ∙ ap (λ p. behind_steps p (steps_of m.0 us)) (sym q))) in
+    let next : List (List ℕ) → Reading (List Step) = read_steps m.0 in
+    let read : read_steps s.most left ≡ made (λ q. q.0 ∷ q.1) (with_second step (read_steps m.0 us)) = m.2 ∙ ap (later_steps step next) e in
+    let same : read_chain all ≡ behind_steps new (read_steps m.0 us) = s.same ∙ (ap (behind_steps steps) read ∙ (next_steps steps step (read_steps m.0 us) ∙ ap (λ p. behind_steps p (read_steps m.0 us)) (sym q))) in
     let n : s.most ≡ suc m.0 = m.1 in
     let enough : length us ≤ m.0 = let short = s.enough in omega arith in
     (record { most = m.0; enough = enough; same = same }, omega arith)

@@ -105,23 +105,23 @@ pred_of [] = None
 pred_of (w ∷ ws) = number_pred w ws
 
 -- an expansion
-abbrev pub expand_word : List ℕ → Option Expand
-expand_word w =
+abbrev pub expand_named : List ℕ → Option Expand
+expand_named w =
     if bytes_eq w (codes "words") then Some x.Words else
     (if bytes_eq w (codes "flat") then Some x.Flat else
     (if bytes_eq w (codes "twice") then Some x.Twice else None))
 
 -- a fold's step
-abbrev pub fold_word : List ℕ → Option FoldOp
-fold_word w =
+abbrev pub fold_named : List ℕ → Option FoldOp
+fold_named w =
     if bytes_eq w (codes "sum") then Some o.Sum else
     (if bytes_eq w (codes "sum_nonneg") then Some o.SumNonneg else
     (if bytes_eq w (codes "count") then Some o.Count else
     (if bytes_eq w (codes "collect") then Some o.Collect else None)))
 
 -- a reduction's step
-abbrev pub reduce_word : List ℕ → Option ReduceOp
-reduce_word w =
+abbrev pub reduce_named : List ℕ → Option ReduceOp
+reduce_named w =
     if bytes_eq w (codes "sum") then Some r.Sum else
     (if bytes_eq w (codes "max") then Some r.Max else
     (if bytes_eq w (codes "min") then Some r.Min else None))

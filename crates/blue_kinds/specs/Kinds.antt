@@ -14,18 +14,18 @@ use Rattle.stream_model.specs.declared.kind.Joining.{Joining}
 use Rattle.stream_model.specs.declared.kind.Joining.TheVariants as joining
 use Rattle.stream_model.specs.declared.kind.Kind.{Kind}
 use Rattle.stream_model.specs.declared.kind.Kind.TheVariants as k
-use Rattle.blue_words.specs.Reading.{At, Reading, said, made, with_second, then_read, behind_word, begins_with, ending, word, name, file, int, count, size}
-use Rattle.blue_kinds.specs.Functions.{one_of, map_of, pred_of, expand_word, fold_word, reduce_word}
+use Rattle.blue_words.specs.Reading.{At, Reading, said, made, with_second, then_read, behind_word, begins_with, before_word, word, name, file, int, count, size}
+use Rattle.blue_kinds.specs.Functions.{one_of, map_of, pred_of, expand_named, fold_named, reduce_named}
 
 -- the type of a source that gives nothing
-abbrev pub base_word : List ℕ → Option Base
-base_word w =
+abbrev pub base_named : List ℕ → Option Base
+base_named w =
     if bytes_eq w (codes "num") then Some base.Num else
     (if bytes_eq w (codes "text") then Some base.Text else None)
 
 -- what a full buffer does
-abbrev pub policy_word : List ℕ → Option Policy
-policy_word w =
+abbrev pub policy_named : List ℕ → Option Policy
+policy_named w =
     if bytes_eq w (codes "backpressure") then Some policy.Backpressure else
     (if bytes_eq w (codes "drop_head") then Some policy.DropHead else
     (if bytes_eq w (codes "drop_tail") then Some policy.DropTail else
@@ -34,8 +34,8 @@ policy_word w =
     (if bytes_eq w (codes "fail") then Some policy.Fail else None)))))
 
 -- how substreams come together
-abbrev pub joining_word : List ℕ → Option Joining
-joining_word w =
+abbrev pub joining_named : List ℕ → Option Joining
+joining_named w =
     if bytes_eq w (codes "merge") then Some joining.Merge else
     (if bytes_eq w (codes "concat") then Some joining.Concat else None)
 
@@ -44,8 +44,8 @@ abbrev pub source_kind : List ℕ → List (List ℕ) → Reading Kind
 source_kind w ws =
     if bytes_eq w (codes "lines") then made k.Lines (file ws) else
     (if bytes_eq w (codes "range") then made (λ r. k.Range r.0 r.1) (then_read (int ws) int) else
-    (if bytes_eq w (codes "empty") then made k.Empty (one_of base_word ws) else
-    (if bytes_eq w (codes "failed") then made k.Failed (one_of base_word ws) else None)))
+    (if bytes_eq w (codes "empty") then made k.Empty (one_of base_named ws) else
+    (if bytes_eq w (codes "failed") then made k.Failed (one_of base_named ws) else None)))
 
 -- sinks
 abbrev pub sink_kind : List ℕ → List (List ℕ) → Reading Kind
@@ -70,15 +70,15 @@ testing_kind w ws =
 -- stages of a chain that gather elements
 abbrev pub folding_kind : List ℕ → List (List ℕ) → Reading Kind
 folding_kind w ws =
-    if bytes_eq w (codes "fold") then made k.Fold (one_of fold_word ws) else
-    (if bytes_eq w (codes "scan") then made k.Scan (one_of fold_word ws) else
-    (if bytes_eq w (codes "reduce") then made k.Reduce (one_of reduce_word ws) else testing_kind w ws))
+    if bytes_eq w (codes "fold") then made k.Fold (one_of fold_named ws) else
+    (if bytes_eq w (codes "scan") then made k.Scan (one_of fold_named ws) else
+    (if bytes_eq w (codes "reduce") then made k.Reduce (one_of reduce_named ws) else testing_kind w ws))
 
 -- stages of a chain that make elements of elements
 abbrev pub making_kind : List ℕ → List (List ℕ) → Reading Kind
 making_kind w ws =
     if bytes_eq w (codes "map") then made k.Map (map_of ws) else
-    (if bytes_eq w (codes "map_concat") then made k.MapConcat (one_of expand_word ws) else folding_kind w ws)
+    (if bytes_eq w (codes "map_concat") then made k.MapConcat (one_of expand_named ws) else folding_kind w ws)
 
 -- stages of a chain with a bound that they do not pass
 abbrev pub bounded_kind : List ℕ → List (List ℕ) → Reading Kind
@@ -123,7 +123,7 @@ each_chain ws = behind_word (codes "each") name ws
 
 -- a predicate, a chain, and how its substreams come together
 abbrev pub split_of : List (List ℕ) → Reading (Pred × (List ℕ × Joining))
-split_of ws = then_read (pred_of ws) (λ vs. then_read (each_chain vs) (one_of joining_word))
+split_of ws = then_read (pred_of ws) (λ vs. then_read (each_chain vs) (one_of joining_named))
 
 -- the key, and the chain of each
 abbrev pub key_of : List (List ℕ) → Reading (MapFn × List ℕ)
@@ -135,7 +135,7 @@ keys_of ws = then_read (size ws) key_of
 
 -- the same, and `merge`
 abbrev pub group_of : List (List ℕ) → Reading Kind
-group_of ws = made (λ r. k.GroupBy r.0 r.1.0 r.1.1) (ending (codes "merge") (keys_of ws))
+group_of ws = made (λ r. k.GroupBy r.0 r.1.0 r.1.1) (before_word (codes "merge") (keys_of ws))
 
 -- stages that run a chain for each substream
 abbrev pub substream_kind : List ℕ → List (List ℕ) → Reading Kind
@@ -166,7 +166,7 @@ trip_of (Some r) = order_of r.0 r.1
 -- the kinds of stages: those of the edges, and the others
 abbrev pub stage_kind : List ℕ → List (List ℕ) → Reading Kind
 stage_kind w ws =
-    if bytes_eq w (codes "buffer") then made (λ r. k.Buffer r.0 r.1) (then_read (size ws) (one_of policy_word)) else
+    if bytes_eq w (codes "buffer") then made (λ r. k.Buffer r.0 r.1) (then_read (size ws) (one_of policy_named)) else
     (if bytes_eq w (codes "recover") then recover_of ws else
     (if bytes_eq w (codes "valve") then made k.Valve (name ws) else
     (if bytes_eq w (codes "trip") then trip_of (name ws) else

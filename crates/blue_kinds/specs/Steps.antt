@@ -5,9 +5,9 @@ use Rattle.blue_words.specs.Reading.{At, Reading, at_map, both, made, with_secon
 use Rattle.blue_kinds.specs.Kinds.{linear_kind, may_decide, decider_of}
 
 -- one stage of a chain, with its decider
-abbrev pub step_of : List (List ℕ) → Reading Step
-step_of [] = None
-step_of (w ∷ ws) =
+abbrev pub read_step : List (List ℕ) → Reading Step
+read_step [] = None
+read_step (w ∷ ws) =
     made (λ r. record { kind = r.0; decider = r.1 }) (then_read (linear_kind w ws) (decider_of (may_decide w)))
 
 -- the steps behind the first: none where no word is left, else those behind `|`
@@ -21,13 +21,13 @@ with_steps None next = None
 with_steps (Some r) next = later_steps r.0 next r.1
 
 -- one step or more, parted by `|`, of which at most n are read; a step has a word, so n words have at most n steps
-abbrev pub steps_of : ℕ → List (List ℕ) → Reading (List Step)
-steps_of zero ws = None
-steps_of (suc n) ws = with_steps (step_of ws) (steps_of n)
+abbrev pub read_steps : ℕ → List (List ℕ) → Reading (List Step)
+read_steps zero ws = None
+read_steps (suc n) ws = with_steps (read_step ws) (read_steps n)
 
 -- all the steps that the words say
-abbrev pub chain_of : List (List ℕ) → Reading (List Step)
-chain_of ws = steps_of (length ws) ws
+abbrev pub read_chain : List (List ℕ) → Reading (List Step)
+read_chain ws = read_steps (length ws) ws
 
 -- the step put behind the steps, or what is wrong with the first that has a fault
 abbrev pub pushed : At (List Step) → At Step → At (List Step)

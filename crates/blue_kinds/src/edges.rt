@@ -4,7 +4,7 @@ ghost use Rattle.blue_words.specs.Reading.{Reads};
 ghost use Rattle.blue_words.specs.Reading.{made, then_read, name, size};
 ghost use Rattle.stream_model.specs.declared.kind.Kind.TheVariants.{Buffer};
 ghost use Rattle.blue_kinds.specs.Functions.{one_of};
-ghost use Rattle.blue_kinds.specs.Kinds.{policy_word, recover_of, trip_of, order_of, stage_kind};
+ghost use Rattle.blue_kinds.specs.Kinds.{policy_named, recover_of, trip_of, order_of, stage_kind};
 
 use crate::folds::said;
 use crate::substreams::read_substreams;
@@ -42,7 +42,7 @@ pub fn read_stage_kind(
 }
 
 fn read_buffer(words: &mut Words) -> Result<PlaceValue<Kind>, FormEnd>
-    ensures { Reads result (made (λ r. Buffer r.0 r.1) (then_read (size words.old) (one_of policy_word))) words.new }
+    ensures { Reads result (made (λ r. Buffer r.0 r.1) (then_read (size words.old) (one_of policy_named))) words.new }
 {
     let size = words.size()?;
     let policy = read_policy(words)?;
@@ -51,17 +51,17 @@ fn read_buffer(words: &mut Words) -> Result<PlaceValue<Kind>, FormEnd>
 
 // What a full buffer does.
 fn read_policy(words: &mut Words) -> Result<PlaceValue<Policy>, FormEnd>
-    ensures { Reads result (one_of policy_word words.old) words.new }
+    ensures { Reads result (one_of policy_named words.old) words.new }
 {
     match words.next() {
-        Some(word) => said(policy_word(word)),
+        Some(word) => said(policy_named(word)),
         None => Err(FormEnd::BadLine),
     }
 }
 
 // The words of policies.
-fn policy_word(word: &[u8]) -> Option<Policy>
-    ensures { result ≡ policy_word word.now }
+fn policy_named(word: &[u8]) -> Option<Policy>
+    ensures { result ≡ policy_named word.now }
 {
     if is_word(word, b"backpressure") {
         return Some(Policy::Backpressure);

@@ -1,7 +1,7 @@
 // Expansions, folds and reductions, and words of a table.
 ghost use Rattle.std.specs.Prelude.{◌≡◌, Ok, Err, MatchOption};
 ghost use Rattle.blue_words.specs.Reading.{Reads};
-ghost use Rattle.blue_kinds.specs.Functions.{one_of, expand_word, fold_word, reduce_word};
+ghost use Rattle.blue_kinds.specs.Functions.{one_of, expand_named, fold_named, reduce_named};
 
 use blue_words::fault::{FormEnd, PlaceValue};
 use blue_words::words::{Words, is_word};
@@ -19,37 +19,37 @@ pub(crate) fn said<T: Drop>(value: Option<T>) -> Result<PlaceValue<T>, FormEnd>
 
 // An expansion.
 pub(crate) fn read_expand(words: &mut Words) -> Result<PlaceValue<Expand>, FormEnd>
-    ensures { Reads result (one_of expand_word words.old) words.new }
+    ensures { Reads result (one_of expand_named words.old) words.new }
 {
     match words.next() {
-        Some(word) => said(expand_word(word)),
+        Some(word) => said(expand_named(word)),
         None => Err(FormEnd::BadLine),
     }
 }
 
 // A fold's step.
 pub(crate) fn read_fold(words: &mut Words) -> Result<PlaceValue<FoldOp>, FormEnd>
-    ensures { Reads result (one_of fold_word words.old) words.new }
+    ensures { Reads result (one_of fold_named words.old) words.new }
 {
     match words.next() {
-        Some(word) => said(fold_word(word)),
+        Some(word) => said(fold_named(word)),
         None => Err(FormEnd::BadLine),
     }
 }
 
 // A reduction's step.
 pub(crate) fn read_reduce(words: &mut Words) -> Result<PlaceValue<ReduceOp>, FormEnd>
-    ensures { Reads result (one_of reduce_word words.old) words.new }
+    ensures { Reads result (one_of reduce_named words.old) words.new }
 {
     match words.next() {
-        Some(word) => said(reduce_word(word)),
+        Some(word) => said(reduce_named(word)),
         None => Err(FormEnd::BadLine),
     }
 }
 
 // The words of expansions.
-fn expand_word(word: &[u8]) -> Option<Expand>
-    ensures { result ≡ expand_word word.now }
+fn expand_named(word: &[u8]) -> Option<Expand>
+    ensures { result ≡ expand_named word.now }
 {
     if is_word(word, b"words") {
         return Some(Expand::Words);
@@ -64,8 +64,8 @@ fn expand_word(word: &[u8]) -> Option<Expand>
 }
 
 // The words of folds.
-fn fold_word(word: &[u8]) -> Option<FoldOp>
-    ensures { result ≡ fold_word word.now }
+fn fold_named(word: &[u8]) -> Option<FoldOp>
+    ensures { result ≡ fold_named word.now }
 {
     if is_word(word, b"sum") {
         return Some(FoldOp::Sum);
@@ -83,8 +83,8 @@ fn fold_word(word: &[u8]) -> Option<FoldOp>
 }
 
 // The words of reductions.
-fn reduce_word(word: &[u8]) -> Option<ReduceOp>
-    ensures { result ≡ reduce_word word.now }
+fn reduce_named(word: &[u8]) -> Option<ReduceOp>
+    ensures { result ≡ reduce_named word.now }
 {
     if is_word(word, b"sum") {
         return Some(ReduceOp::Sum);

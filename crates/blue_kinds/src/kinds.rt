@@ -4,7 +4,7 @@ ghost use Rattle.blue_words.specs.Reading.{Reads};
 ghost use Rattle.blue_words.specs.Reading.{made, then_read, int};
 ghost use Rattle.stream_model.specs.declared.kind.Kind.TheVariants.{Range};
 ghost use Rattle.blue_kinds.specs.Functions.{one_of};
-ghost use Rattle.blue_kinds.specs.Kinds.{base_word, source_kind, sink_kind, while_kind, testing_kind, folding_kind, making_kind, bounded_kind, linear_kind};
+ghost use Rattle.blue_kinds.specs.Kinds.{base_named, source_kind, sink_kind, while_kind, testing_kind, folding_kind, making_kind, bounded_kind, linear_kind};
 
 use crate::folds::{read_expand, read_fold, read_reduce, said};
 use crate::functions::read_map;
@@ -48,17 +48,17 @@ fn read_range(words: &mut Words) -> Result<PlaceValue<Kind>, FormEnd>
 
 // The type of a source that gives nothing.
 fn read_base(words: &mut Words) -> Result<PlaceValue<Base>, FormEnd>
-    ensures { Reads result (one_of base_word words.old) words.new }
+    ensures { Reads result (one_of base_named words.old) words.new }
 {
     match words.next() {
-        Some(word) => said(base_word(word)),
+        Some(word) => said(base_named(word)),
         None => Err(FormEnd::BadLine),
     }
 }
 
 // The words of types.
-fn base_word(word: &[u8]) -> Option<Base>
-    ensures { result ≡ base_word word.now }
+fn base_named(word: &[u8]) -> Option<Base>
+    ensures { result ≡ base_named word.now }
 {
     if is_word(word, b"num") {
         return Some(Base::Num);

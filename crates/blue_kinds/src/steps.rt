@@ -1,7 +1,7 @@
 // The steps of a chain.
 ghost use Rattle.std.specs.Prelude.{◌≡◌, IfOk};
 ghost use Rattle.blue_words.specs.Reading.{Reads, ReadsAs, at_map};
-ghost use Rattle.blue_kinds.specs.Steps.{step_of, chain_of, pushed};
+ghost use Rattle.blue_kinds.specs.Steps.{read_step, read_chain, pushed};
 
 use crate::decider::{may_decide, read_decider};
 use crate::kinds::read_linear;
@@ -14,7 +14,7 @@ use std::alloc::Global;
 
 /// The steps of a chain that the words say, parted by `|`, up to their end.
 pub fn read_steps(alloc: Global, words: &mut Words) -> Result<PlaceValue<Vec<Step>>, FormEnd>
-    ensures { ReadsAs (λ v. v.items) result (chain_of words.old) words.new }
+    ensures { ReadsAs (λ v. v.items) result (read_chain words.old) words.new }
 {
     let mut steps = Ok(Vec::new(alloc));
     loop {
@@ -37,7 +37,7 @@ pub fn read_steps(alloc: Global, words: &mut Words) -> Result<PlaceValue<Vec<Ste
 
 // One stage of a chain, with its decider.
 fn read_step(alloc: Global, words: &mut Words) -> Result<PlaceValue<Step>, FormEnd>
-    ensures { Reads result (step_of words.old) words.new }
+    ensures { Reads result (read_step words.old) words.new }
 {
     let Some(word) = words.next() else {
         return Err(FormEnd::BadLine);

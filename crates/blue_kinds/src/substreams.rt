@@ -4,7 +4,7 @@ ghost use Rattle.blue_words.specs.Reading.{Reads};
 ghost use Rattle.blue_words.specs.Reading.{made};
 ghost use Rattle.stream_model.specs.declared.kind.Kind.TheVariants.{SplitWhen, SplitAfter};
 ghost use Rattle.blue_kinds.specs.Functions.{one_of};
-ghost use Rattle.blue_kinds.specs.Kinds.{joining_word, each_chain, split_of, group_of, keys_of, key_of, substream_kind};
+ghost use Rattle.blue_kinds.specs.Kinds.{joining_named, each_chain, split_of, group_of, keys_of, key_of, substream_kind};
 
 use crate::fans::read_fan_in;
 use crate::folds::said;
@@ -92,17 +92,17 @@ fn read_each(alloc: Global, words: &mut Words) -> Result<PlaceValue<Line>, FormE
 
 // How substreams come together.
 fn read_joining(words: &mut Words) -> Result<PlaceValue<Joining>, FormEnd>
-    ensures { Reads result (one_of joining_word words.old) words.new }
+    ensures { Reads result (one_of joining_named words.old) words.new }
 {
     match words.next() {
-        Some(word) => said(joining_word(word)),
+        Some(word) => said(joining_named(word)),
         None => Err(FormEnd::BadLine),
     }
 }
 
 // The words of joinings.
-fn joining_word(word: &[u8]) -> Option<Joining>
-    ensures { result ≡ joining_word word.now }
+fn joining_named(word: &[u8]) -> Option<Joining>
+    ensures { result ≡ joining_named word.now }
 {
     if is_word(word, b"merge") {
         return Some(Joining::Merge);

@@ -14,7 +14,7 @@ use Rattle.blue_words.specs.Names.{is_word}
 use Rattle.blue_words.specs.Reading.{At, Reading, at_map, said, made, with_second, then_read, behind_word, begins_with}
 use Rattle.blue_kinds.specs.Functions.{one_of, said_if}
 use Rattle.blue_kinds.specs.Kinds.{decider_word, decider_of, may_decide, linear_kind}
-use Rattle.blue_kinds.specs.Steps.{step_of, later_steps, with_steps, steps_of, chain_of}
+use Rattle.blue_kinds.specs.Steps.{read_step, later_steps, with_steps, read_steps, read_chain}
 use Rattle.blue_spell.specs.Spaced.{spaced}
 use Rattle.blue_spell.specs.Kinds.{kind_words, decider_words}
 use Rattle.blue_spell.proofs.Spacing.{spaced_append}
@@ -101,16 +101,16 @@ deciding_kept table tabled (w ∷ ws) rest r h a =
 abbrev step_from : Kind × Decider → Step
 step_from r = record { kind = r.0; decider = r.1 }
 
-step_is : (ws : Words) → step_of ws ≡ made step_from (deciding linear_kind ws)
+step_is : (ws : Words) → read_step ws ≡ made step_from (deciding linear_kind ws)
 step_is [] = refl
 step_is (w ∷ ws) = refl
 
-step_kept : (ws rest : Words) (s : Step) → step_of ws ≡ Some (Ok s, rest) → AllWords ws → KeptApart step_of (step_words s) s ws rest
+step_kept : (ws rest : Words) (s : Step) → read_step ws ≡ Some (Ok s, rest) → AllWords ws → KeptApart read_step (step_words s) s ws rest
 step_kept ws rest s h a =
     let m = made_of step_from (deciding linear_kind ws) s rest (sym (step_is ws) ∙ h) in
     let k = deciding_kept linear_kind linear_tabled ws rest m.0 m.1 a in
     subst
-    (λ x. KeptApart step_of (step_words x) x ws rest)
+    (λ x. KeptApart read_step (step_words x) x ws rest)
     m.2
     (record {
       again = λ more f. step_is (decided_words m.0 ++ more) ∙ ap (made step_from) (k.again more f);
@@ -120,25 +120,25 @@ step_kept ws rest s h a =
     })
 
 -- a word stands in every step
-step_some : (s : Step) (ws rest : Words) → KeptApart step_of (step_words s) s ws rest → 0 < length (step_words s)
+step_some : (s : Step) (ws rest : Words) → KeptApart read_step (step_words s) s ws rest → 0 < length (step_words s)
 step_some s ws rest k = from_words (step_words s) (k.again [] refl)
   where
-    from_words : (xs : Words) → step_of (xs ++ []) ≡ Some (Ok s, []) → 0 < length xs
+    from_words : (xs : Words) → read_step (xs ++ []) ≡ Some (Ok s, []) → 0 < length xs
     from_words [] h = absurd (let c : ⊥ = cc in c)
     from_words (x ∷ xs) h = omega arith
 
 -- the steps of a chain, up to the end of the words
 pub record KeptSteps (ss : List Step) (ws rest : Words) : Type 0 where
-  pub again : (n : ℕ) → length (steps_words ss) ≤ n → steps_of n (steps_words ss) ≡ Some (Ok ss, [])
+  pub again : (n : ℕ) → length (steps_words ss) ≤ n → read_steps n (steps_words ss) ≡ Some (Ok ss, [])
   pub some : (later_words ss ≡ codes "|" ∷ steps_words ss) × (0 < length (steps_words ss))
   pub shorter : length (spaced (steps_words ss)) ≤ length (spaced ws)
   pub words : AllWords (steps_words ss)
   pub done : rest ≡ []
 
-one_step : (s : Step) (ws rest : Words) → KeptApart step_of (step_words s) s ws rest → KeptSteps (s ∷ []) ws []
+one_step : (s : Step) (ws rest : Words) → KeptApart read_step (step_words s) s ws rest → KeptSteps (s ∷ []) ws []
 one_step s ws rest k =
     let n = step_some s ws rest k in
-    let whole : step_of (step_words s ++ []) ≡ Some (Ok s, []) = k.again [] refl in
+    let whole : read_step (step_words s ++ []) ≡ Some (Ok s, []) = k.again [] refl in
     record {
       again = λ m l. again m (omega (arith, length-append (step_words s) [])) whole;
       some = (refl, omega (arith, length-append (step_words s) []));
@@ -147,31 +147,31 @@ one_step s ws rest k =
       done = refl;
     }
   where
-    again : (m : ℕ) → 0 < m → step_of (step_words s ++ []) ≡ Some (Ok s, []) → steps_of m (step_words s ++ []) ≡ Some (Ok (s ∷ []), [])
+    again : (m : ℕ) → 0 < m → read_step (step_words s ++ []) ≡ Some (Ok s, []) → read_steps m (step_words s ++ []) ≡ Some (Ok (s ∷ []), [])
     again zero l h = absurd (omega arith)
-    again (suc m) l h = ap (λ r. with_steps r (steps_of m)) h
+    again (suc m) l h = ap (λ r. with_steps r (read_steps m)) h
 
-more_steps : (s : Step) (ts : List Step) (ws vs us : Words) → KeptApart step_of (step_words s) s ws vs → 2 + length (spaced us) ≤ length (spaced vs) → KeptSteps ts us [] → KeptSteps (s ∷ ts) ws []
+more_steps : (s : Step) (ts : List Step) (ws vs us : Words) → KeptApart read_step (step_words s) s ws vs → 2 + length (spaced us) ≤ length (spaced vs) → KeptSteps ts us [] → KeptSteps (s ∷ ts) ws []
 more_steps s ts ws vs us k l t =
     let n = step_some s ws vs k in
     let words : steps_words (s ∷ ts) ≡ step_words s ++ codes "|" ∷ steps_words ts = ap (λ x. step_words s ++ x) t.some.0 in
-    let first : step_of (step_words s ++ codes "|" ∷ steps_words ts) ≡ Some (Ok s, codes "|" ∷ steps_words ts) = k.again (codes "|" ∷ steps_words ts) refl in
+    let first : read_step (step_words s ++ codes "|" ∷ steps_words ts) ≡ Some (Ok s, codes "|" ∷ steps_words ts) = k.again (codes "|" ∷ steps_words ts) refl in
     let count = length-append (step_words s) (codes "|" ∷ steps_words ts) in
     record {
-      again = λ m j. ap (steps_of m) words ∙ again m (omega (arith, ap length words, count)) first t.again;
+      again = λ m j. ap (read_steps m) words ∙ again m (omega (arith, ap length words, count)) first t.again;
       some = (refl, omega (arith, ap length words, count));
       shorter = omega (arith, ap (λ x. length (spaced x)) words, ap length (spaced_append (step_words s) (codes "|" ∷ steps_words ts)), length-append (spaced (step_words s)) (spaced (codes "|" ∷ steps_words ts)), k.shorter, t.shorter);
       words = ap (list_all is_word) words ∙ (list_all-append is_word (step_words s) (codes "|" ∷ steps_words ts) ∙ and_from _ _ k.words t.words);
       done = refl;
     }
   where
-    again : (m : ℕ) → length (steps_words ts) < m → step_of (step_words s ++ codes "|" ∷ steps_words ts) ≡ Some (Ok s, codes "|" ∷ steps_words ts) → ((n : ℕ) → length (steps_words ts) ≤ n → steps_of n (steps_words ts) ≡ Some (Ok ts, [])) → steps_of m (step_words s ++ codes "|" ∷ steps_words ts) ≡ Some (Ok (s ∷ ts), [])
+    again : (m : ℕ) → length (steps_words ts) < m → read_step (step_words s ++ codes "|" ∷ steps_words ts) ≡ Some (Ok s, codes "|" ∷ steps_words ts) → ((n : ℕ) → length (steps_words ts) ≤ n → read_steps n (steps_words ts) ≡ Some (Ok ts, [])) → read_steps m (step_words s ++ codes "|" ∷ steps_words ts) ≡ Some (Ok (s ∷ ts), [])
     again zero l h f = absurd (omega arith)
     again (suc m) l h f =
-        ap (λ r. with_steps r (steps_of m)) h ∙ ap (λ r. made (λ q. q.0 ∷ q.1) (with_second (Ok s) r)) (f m (omega arith))
+        ap (λ r. with_steps r (read_steps m)) h ∙ ap (λ r. made (λ q. q.0 ∷ q.1) (with_second (Ok s) r)) (f m (omega arith))
 
 abbrev IsKept : ℕ → Type 0
-IsKept n = (ws rest : Words) (ss : List Step) → steps_of n ws ≡ Some (Ok ss, rest) → AllWords ws → KeptSteps ss ws rest
+IsKept n = (ws rest : Words) (ss : List Step) → read_steps n ws ≡ Some (Ok ss, rest) → AllWords ws → KeptSteps ss ws rest
 
 abbrev one_of_steps : Step → List Step
 one_of_steps s = s ∷ []
@@ -179,17 +179,17 @@ one_of_steps s = s ∷ []
 abbrev onto_steps : Step × List Step → List Step
 onto_steps q = q.0 ∷ q.1
 
-steps_behind : (n : ℕ) → IsKept n → (ws rest : Words) (ss : List Step) (p : At Step) (vs : Words) → step_of ws ≡ Some (p, vs) → later_steps p (steps_of n) vs ≡ Some (Ok ss, rest) → AllWords ws → KeptSteps ss ws rest
+steps_behind : (n : ℕ) → IsKept n → (ws rest : Words) (ss : List Step) (p : At Step) (vs : Words) → read_step ws ≡ Some (p, vs) → later_steps p (read_steps n) vs ≡ Some (Ok ss, rest) → AllWords ws → KeptSteps ss ws rest
 steps_behind n ih ws rest ss p [] e h a =
     let m = made_place one_of_steps p ss (same_place (at_map one_of_steps p) (Ok ss) [] rest h) in
-    let step : step_of ws ≡ Some (Ok m.0, []) = e ∙ ap (λ x. Some (x, [])) m.1 in
+    let step : read_step ws ≡ Some (Ok m.0, []) = e ∙ ap (λ x. Some (x, [])) m.1 in
     let k = one_step m.0 ws [] (step_kept ws [] m.0 step a) in
     subst (λ x. KeptSteps x ws rest) m.2 (subst (KeptSteps (m.0 ∷ []) ws) (same_rest (at_map one_of_steps p) (Ok ss) [] rest h) k)
 steps_behind n ih ws rest ss p (v ∷ vs) e h a =
-    let m = made_of onto_steps (with_second p (behind_word (codes "|") (steps_of n) (v ∷ vs))) ss rest h in
-    let q = second_of p (behind_word (codes "|") (steps_of n) (v ∷ vs)) m.0 rest m.1 in
-    let b = some_if_read (bytes_eq v (codes "|")) (steps_of n vs) m.0.1 rest q.1 in
-    let step : step_of ws ≡ Some (Ok m.0.0, v ∷ vs) = e ∙ ap (λ x. Some (x, v ∷ vs)) q.0 in
+    let m = made_of onto_steps (with_second p (behind_word (codes "|") (read_steps n) (v ∷ vs))) ss rest h in
+    let q = second_of p (behind_word (codes "|") (read_steps n) (v ∷ vs)) m.0 rest m.1 in
+    let b = some_if_read (bytes_eq v (codes "|")) (read_steps n vs) m.0.1 rest q.1 in
+    let step : read_step ws ≡ Some (Ok m.0.0, v ∷ vs) = e ∙ ap (λ x. Some (x, v ∷ vs)) q.0 in
     let k = step_kept ws (v ∷ vs) m.0.0 step a in
     let parts = and_parts (is_word v) (list_all is_word vs) k.left in
     let t = ih vs rest m.0.1 b.1 parts.1 in
@@ -198,13 +198,13 @@ steps_behind n ih ws rest ss p (v ∷ vs) e h a =
     let whole = more_steps m.0.0 m.0.1 ws (v ∷ vs) vs k room (subst (KeptSteps m.0.1 vs) t.done t) in
     subst (λ x. KeptSteps x ws rest) m.2 (subst (KeptSteps (m.0.0 ∷ m.0.1) ws) (sym t.done) whole)
 
-steps_from : (n : ℕ) → IsKept n → (ws rest : Words) (ss : List Step) (r : Reading Step) → step_of ws ≡ r → with_steps r (steps_of n) ≡ Some (Ok ss, rest) → AllWords ws → KeptSteps ss ws rest
+steps_from : (n : ℕ) → IsKept n → (ws rest : Words) (ss : List Step) (r : Reading Step) → read_step ws ≡ r → with_steps r (read_steps n) ≡ Some (Ok ss, rest) → AllWords ws → KeptSteps ss ws rest
 steps_from n ih ws rest ss None e h a = absurd (let k : ⊥ = cc in k)
 steps_from n ih ws rest ss (Some r) e h a = steps_behind n ih ws rest ss r.0 r.1 e h a
 
 steps_kept : (n : ℕ) → IsKept n
 steps_kept zero ws rest ss h a = absurd (let k : ⊥ = cc in k)
-steps_kept (suc n) ws rest ss h a = steps_from n (steps_kept n) ws rest ss (step_of ws) refl h a
+steps_kept (suc n) ws rest ss h a = steps_from n (steps_kept n) ws rest ss (read_step ws) refl h a
 
-pub chain_kept : (ws rest : Words) (ss : List Step) → chain_of ws ≡ Some (Ok ss, rest) → AllWords ws → KeptSteps ss ws rest
+pub chain_kept : (ws rest : Words) (ss : List Step) → read_chain ws ≡ Some (Ok ss, rest) → AllWords ws → KeptSteps ss ws rest
 chain_kept ws rest ss h a = steps_kept (length ws) ws rest ss h a

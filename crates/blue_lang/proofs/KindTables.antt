@@ -16,9 +16,9 @@ use Rattle.stream_model.specs.declared.kind.Joining.TheVariants as joining
 use Rattle.stream_model.specs.declared.kind.Kind.{Kind}
 use Rattle.stream_model.specs.declared.kind.Kind.TheVariants as k
 use Rattle.blue_words.specs.Names.{is_word}
-use Rattle.blue_words.specs.Reading.{Reading, made, then_read, ending, word, name, file, int, count, size}
-use Rattle.blue_kinds.specs.Functions.{one_of, said_if, map_of, pred_of, expand_word, fold_word, reduce_word}
-use Rattle.blue_kinds.specs.Kinds.{base_word, policy_word, joining_word, source_kind, sink_kind, testing_kind, making_kind, linear_kind, fan_out_kind, fan_in_kind, each_chain, split_of, key_of, keys_of, substream_kind, recover_of, trip_of, stage_kind}
+use Rattle.blue_words.specs.Reading.{Reading, made, then_read, before_word, word, name, file, int, count, size}
+use Rattle.blue_kinds.specs.Functions.{one_of, said_if, map_of, pred_of, expand_named, fold_named, reduce_named}
+use Rattle.blue_kinds.specs.Kinds.{base_named, policy_named, joining_named, source_kind, sink_kind, testing_kind, making_kind, linear_kind, fan_out_kind, fan_in_kind, each_chain, split_of, key_of, keys_of, substream_kind, recover_of, trip_of, stage_kind}
 use Rattle.blue_spell.specs.Spaced.{spaced}
 use Rattle.blue_spell.specs.Functions.{map_words, pred_words}
 use Rattle.blue_spell.specs.Functions as spell_functions
@@ -28,36 +28,36 @@ use Rattle.blue_lang.proofs.Respelling.{Words, Respelled, Tabled, if_tabled, mad
 use Rattle.blue_lang.proofs.Lexical.{word_respelled, name_respelled, file_respelled, int_respelled, count_respelled, size_respelled}
 use Rattle.blue_lang.proofs.Tables.{map_respelled, pred_respelled, expand_respelled, fold_respelled, reduce_respelled, fixed, one_respelled}
 
-base_tabled : (w : List ℕ) (ws : Words) → Tabled (fixed base_word) (λ a. spell.base_word a ∷ []) w ws (said_if (base_word w) ws)
+base_tabled : (w : List ℕ) (ws : Words) → Tabled (fixed base_named) (λ a. spell.base_word a ∷ []) w ws (said_if (base_named w) ws)
 base_tabled w ws =
-    row_word (fixed base_word) (λ a. spell.base_word a ∷ []) w (codes "num") ws base.Num _ (λ _. refl) refl
-    (row_word (fixed base_word) (λ a. spell.base_word a ∷ []) w (codes "text") ws base.Text _ (λ _. refl) refl
-    (none_tabled (fixed base_word) (λ a. spell.base_word a ∷ []) w ws))
+    row_word (fixed base_named) (λ a. spell.base_word a ∷ []) w (codes "num") ws base.Num _ (λ _. refl) refl
+    (row_word (fixed base_named) (λ a. spell.base_word a ∷ []) w (codes "text") ws base.Text _ (λ _. refl) refl
+    (none_tabled (fixed base_named) (λ a. spell.base_word a ∷ []) w ws))
 
-base_respelled : (ws : Words) → Respelled (one_of base_word) (λ a. spell.base_word a ∷ []) ws (one_of base_word ws)
-base_respelled ws = one_respelled base_word spell.base_word base_tabled ws
+base_respelled : (ws : Words) → Respelled (one_of base_named) (λ a. spell.base_word a ∷ []) ws (one_of base_named ws)
+base_respelled ws = one_respelled base_named spell.base_word base_tabled ws
 
-policy_tabled : (w : List ℕ) (ws : Words) → Tabled (fixed policy_word) (λ a. spell.policy_word a ∷ []) w ws (said_if (policy_word w) ws)
+policy_tabled : (w : List ℕ) (ws : Words) → Tabled (fixed policy_named) (λ a. spell.policy_word a ∷ []) w ws (said_if (policy_named w) ws)
 policy_tabled w ws =
-    row_word (fixed policy_word) (λ a. spell.policy_word a ∷ []) w (codes "backpressure") ws policy.Backpressure _ (λ _. refl) refl
-    (row_word (fixed policy_word) (λ a. spell.policy_word a ∷ []) w (codes "drop_head") ws policy.DropHead _ (λ _. refl) refl
-    (row_word (fixed policy_word) (λ a. spell.policy_word a ∷ []) w (codes "drop_tail") ws policy.DropTail _ (λ _. refl) refl
-    (row_word (fixed policy_word) (λ a. spell.policy_word a ∷ []) w (codes "drop_buffer") ws policy.DropBuffer _ (λ _. refl) refl
-    (row_word (fixed policy_word) (λ a. spell.policy_word a ∷ []) w (codes "drop_new") ws policy.DropNew _ (λ _. refl) refl
-    (row_word (fixed policy_word) (λ a. spell.policy_word a ∷ []) w (codes "fail") ws policy.Fail _ (λ _. refl) refl
-    (none_tabled (fixed policy_word) (λ a. spell.policy_word a ∷ []) w ws))))))
+    row_word (fixed policy_named) (λ a. spell.policy_word a ∷ []) w (codes "backpressure") ws policy.Backpressure _ (λ _. refl) refl
+    (row_word (fixed policy_named) (λ a. spell.policy_word a ∷ []) w (codes "drop_head") ws policy.DropHead _ (λ _. refl) refl
+    (row_word (fixed policy_named) (λ a. spell.policy_word a ∷ []) w (codes "drop_tail") ws policy.DropTail _ (λ _. refl) refl
+    (row_word (fixed policy_named) (λ a. spell.policy_word a ∷ []) w (codes "drop_buffer") ws policy.DropBuffer _ (λ _. refl) refl
+    (row_word (fixed policy_named) (λ a. spell.policy_word a ∷ []) w (codes "drop_new") ws policy.DropNew _ (λ _. refl) refl
+    (row_word (fixed policy_named) (λ a. spell.policy_word a ∷ []) w (codes "fail") ws policy.Fail _ (λ _. refl) refl
+    (none_tabled (fixed policy_named) (λ a. spell.policy_word a ∷ []) w ws))))))
 
-policy_respelled : (ws : Words) → Respelled (one_of policy_word) (λ a. spell.policy_word a ∷ []) ws (one_of policy_word ws)
-policy_respelled ws = one_respelled policy_word spell.policy_word policy_tabled ws
+policy_respelled : (ws : Words) → Respelled (one_of policy_named) (λ a. spell.policy_word a ∷ []) ws (one_of policy_named ws)
+policy_respelled ws = one_respelled policy_named spell.policy_word policy_tabled ws
 
-joining_tabled : (w : List ℕ) (ws : Words) → Tabled (fixed joining_word) (λ a. spell.joining_word a ∷ []) w ws (said_if (joining_word w) ws)
+joining_tabled : (w : List ℕ) (ws : Words) → Tabled (fixed joining_named) (λ a. spell.joining_word a ∷ []) w ws (said_if (joining_named w) ws)
 joining_tabled w ws =
-    row_word (fixed joining_word) (λ a. spell.joining_word a ∷ []) w (codes "merge") ws joining.Merge _ (λ _. refl) refl
-    (row_word (fixed joining_word) (λ a. spell.joining_word a ∷ []) w (codes "concat") ws joining.Concat _ (λ _. refl) refl
-    (none_tabled (fixed joining_word) (λ a. spell.joining_word a ∷ []) w ws))
+    row_word (fixed joining_named) (λ a. spell.joining_word a ∷ []) w (codes "merge") ws joining.Merge _ (λ _. refl) refl
+    (row_word (fixed joining_named) (λ a. spell.joining_word a ∷ []) w (codes "concat") ws joining.Concat _ (λ _. refl) refl
+    (none_tabled (fixed joining_named) (λ a. spell.joining_word a ∷ []) w ws))
 
-joining_respelled : (ws : Words) → Respelled (one_of joining_word) (λ a. spell.joining_word a ∷ []) ws (one_of joining_word ws)
-joining_respelled ws = one_respelled joining_word spell.joining_word joining_tabled ws
+joining_respelled : (ws : Words) → Respelled (one_of joining_named) (λ a. spell.joining_word a ∷ []) ws (one_of joining_named ws)
+joining_respelled ws = one_respelled joining_named spell.joining_word joining_tabled ws
 
 abbrev range : Words → Reading (ℤ × ℤ)
 range ws = then_read (int ws) int
@@ -87,13 +87,13 @@ partition_respelled : (ws : Words) → Respelled partition partition_words ws (p
 partition_respelled ws = then_respelled size map_of (λ n. decimal n ∷ []) map_words ws (size_respelled ws) map_respelled
 
 abbrev buffer : Words → Reading (ℕ × Policy)
-buffer ws = then_read (size ws) (one_of policy_word)
+buffer ws = then_read (size ws) (one_of policy_named)
 
 abbrev buffer_words : ℕ × Policy → Words
 buffer_words r = (decimal r.0 ∷ []) ++ (spell.policy_word r.1 ∷ [])
 
 buffer_respelled : (ws : Words) → Respelled buffer buffer_words ws (buffer ws)
-buffer_respelled ws = then_respelled size (one_of policy_word) (λ n. decimal n ∷ []) (λ a. spell.policy_word a ∷ []) ws (size_respelled ws) policy_respelled
+buffer_respelled ws = then_respelled size (one_of policy_named) (λ n. decimal n ∷ []) (λ a. spell.policy_word a ∷ []) ws (size_respelled ws) policy_respelled
 
 abbrev each_words : List ℕ → Words
 each_words c = codes "each" ∷ c ∷ []
@@ -102,13 +102,13 @@ each_respelled : (ws : Words) → Respelled each_chain each_words ws (each_chain
 each_respelled ws = behind_word_respelled (codes "each") name (λ w. w ∷ []) refl name_respelled ws
 
 abbrev chain_joining : Words → Reading (List ℕ × Joining)
-chain_joining ws = then_read (each_chain ws) (one_of joining_word)
+chain_joining ws = then_read (each_chain ws) (one_of joining_named)
 
 abbrev chain_joining_words : List ℕ × Joining → Words
 chain_joining_words r = (each_words r.0) ++ (spell.joining_word r.1 ∷ [])
 
 chain_joining_respelled : (ws : Words) → Respelled chain_joining chain_joining_words ws (chain_joining ws)
-chain_joining_respelled ws = then_respelled each_chain (one_of joining_word) each_words (λ a. spell.joining_word a ∷ []) ws (each_respelled ws) joining_respelled
+chain_joining_respelled ws = then_respelled each_chain (one_of joining_named) each_words (λ a. spell.joining_word a ∷ []) ws (each_respelled ws) joining_respelled
 
 abbrev split_words : Pred × (List ℕ × Joining) → Words
 split_words r = pred_words r.0 ++ chain_joining_words r.1
@@ -129,7 +129,7 @@ keys_respelled : (ws : Words) → Respelled keys_of keys_words ws (keys_of ws)
 keys_respelled ws = then_respelled size key_of (λ n. decimal n ∷ []) key_words ws (size_respelled ws) key_respelled
 
 abbrev group : Words → Reading (ℕ × (MapFn × List ℕ))
-group ws = ending (codes "merge") (keys_of ws)
+group ws = before_word (codes "merge") (keys_of ws)
 
 abbrev group_words : ℕ × (MapFn × List ℕ) → Words
 group_words r = keys_words r ++ codes "merge" ∷ []
@@ -145,8 +145,8 @@ pub source_tabled : (w : List ℕ) (ws : Words) → Tabled source_kind kind_word
 source_tabled w ws =
     row source_kind kind_words file (λ w. w ∷ []) w (codes "lines") ws k.Lines _ (λ _. refl) (λ _. refl) (file_respelled ws)
     (row source_kind kind_words range range_words w (codes "range") ws (λ r. k.Range r.0 r.1) _ (λ _. refl) (λ _. refl) (range_respelled ws)
-    (row source_kind kind_words (one_of base_word) (λ a. spell.base_word a ∷ []) w (codes "empty") ws k.Empty _ (λ _. refl) (λ _. refl) (base_respelled ws)
-    (row source_kind kind_words (one_of base_word) (λ a. spell.base_word a ∷ []) w (codes "failed") ws k.Failed _ (λ _. refl) (λ _. refl) (base_respelled ws)
+    (row source_kind kind_words (one_of base_named) (λ a. spell.base_word a ∷ []) w (codes "empty") ws k.Empty _ (λ _. refl) (λ _. refl) (base_respelled ws)
+    (row source_kind kind_words (one_of base_named) (λ a. spell.base_word a ∷ []) w (codes "failed") ws k.Failed _ (λ _. refl) (λ _. refl) (base_respelled ws)
     (none_tabled source_kind kind_words w ws))))
 
 pub sink_tabled : (w : List ℕ) (ws : Words) → Tabled sink_kind kind_words w ws (sink_kind w ws)
@@ -169,10 +169,10 @@ testing_tabled w ws =
 making_tabled : (w : List ℕ) (ws : Words) → Tabled linear_kind kind_words w ws (making_kind w ws)
 making_tabled w ws =
     row linear_kind kind_words map_of map_words w (codes "map") ws k.Map _ (λ _. refl) (λ _. refl) (map_respelled ws)
-    (row linear_kind kind_words (one_of expand_word) (λ a. spell_functions.expand_word a ∷ []) w (codes "map_concat") ws k.MapConcat _ (λ _. refl) (λ _. refl) (expand_respelled ws)
-    (row linear_kind kind_words (one_of fold_word) (λ a. spell_functions.fold_word a ∷ []) w (codes "fold") ws k.Fold _ (λ _. refl) (λ _. refl) (fold_respelled ws)
-    (row linear_kind kind_words (one_of fold_word) (λ a. spell_functions.fold_word a ∷ []) w (codes "scan") ws k.Scan _ (λ _. refl) (λ _. refl) (fold_respelled ws)
-    (row linear_kind kind_words (one_of reduce_word) (λ a. spell_functions.reduce_word a ∷ []) w (codes "reduce") ws k.Reduce _ (λ _. refl) (λ _. refl) (reduce_respelled ws)
+    (row linear_kind kind_words (one_of expand_named) (λ a. spell_functions.expand_word a ∷ []) w (codes "map_concat") ws k.MapConcat _ (λ _. refl) (λ _. refl) (expand_respelled ws)
+    (row linear_kind kind_words (one_of fold_named) (λ a. spell_functions.fold_word a ∷ []) w (codes "fold") ws k.Fold _ (λ _. refl) (λ _. refl) (fold_respelled ws)
+    (row linear_kind kind_words (one_of fold_named) (λ a. spell_functions.fold_word a ∷ []) w (codes "scan") ws k.Scan _ (λ _. refl) (λ _. refl) (fold_respelled ws)
+    (row linear_kind kind_words (one_of reduce_named) (λ a. spell_functions.reduce_word a ∷ []) w (codes "reduce") ws k.Reduce _ (λ _. refl) (λ _. refl) (reduce_respelled ws)
     (testing_tabled w ws)))))
 
 pub linear_tabled : (w : List ℕ) (ws : Words) → Tabled linear_kind kind_words w ws (linear_kind w ws)
@@ -195,10 +195,10 @@ stage_testing_tabled w ws =
 stage_making_tabled : (w : List ℕ) (ws : Words) → Tabled stage_kind kind_words w ws (making_kind w ws)
 stage_making_tabled w ws =
     row stage_kind kind_words map_of map_words w (codes "map") ws k.Map _ (λ _. refl) (λ _. refl) (map_respelled ws)
-    (row stage_kind kind_words (one_of expand_word) (λ a. spell_functions.expand_word a ∷ []) w (codes "map_concat") ws k.MapConcat _ (λ _. refl) (λ _. refl) (expand_respelled ws)
-    (row stage_kind kind_words (one_of fold_word) (λ a. spell_functions.fold_word a ∷ []) w (codes "fold") ws k.Fold _ (λ _. refl) (λ _. refl) (fold_respelled ws)
-    (row stage_kind kind_words (one_of fold_word) (λ a. spell_functions.fold_word a ∷ []) w (codes "scan") ws k.Scan _ (λ _. refl) (λ _. refl) (fold_respelled ws)
-    (row stage_kind kind_words (one_of reduce_word) (λ a. spell_functions.reduce_word a ∷ []) w (codes "reduce") ws k.Reduce _ (λ _. refl) (λ _. refl) (reduce_respelled ws)
+    (row stage_kind kind_words (one_of expand_named) (λ a. spell_functions.expand_word a ∷ []) w (codes "map_concat") ws k.MapConcat _ (λ _. refl) (λ _. refl) (expand_respelled ws)
+    (row stage_kind kind_words (one_of fold_named) (λ a. spell_functions.fold_word a ∷ []) w (codes "fold") ws k.Fold _ (λ _. refl) (λ _. refl) (fold_respelled ws)
+    (row stage_kind kind_words (one_of fold_named) (λ a. spell_functions.fold_word a ∷ []) w (codes "scan") ws k.Scan _ (λ _. refl) (λ _. refl) (fold_respelled ws)
+    (row stage_kind kind_words (one_of reduce_named) (λ a. spell_functions.reduce_word a ∷ []) w (codes "reduce") ws k.Reduce _ (λ _. refl) (λ _. refl) (reduce_respelled ws)
     (stage_testing_tabled w ws)))))
 
 stage_linear_tabled : (w : List ℕ) (ws : Words) → Tabled stage_kind kind_words w ws (linear_kind w ws)

@@ -13,7 +13,7 @@ use Rattle.elem_core.specs.Number.{fits}
 use Rattle.blue_words.specs.declared.fault.BlueKind.{BlueKind}
 use Rattle.blue_words.specs.declared.fault.BlueKind.TheVariants.{BadName, BadNumber}
 use Rattle.blue_words.specs.Names.{is_word, is_name, is_name_byte, is_file_name}
-use Rattle.blue_words.specs.Numbers.{are_digits, count_of, fitting, int_of, name_of, file_of}
+use Rattle.blue_words.specs.Numbers.{are_digits, read_count, read_fitting, read_int, read_name, read_file_name}
 use Rattle.blue_words.specs.Reading.{word, name, file, int, count, size}
 use Rattle.blue_lang.proofs.Respelling.{Respelled, Words, place_respelled}
 
@@ -58,7 +58,7 @@ decimal_is_word n h =
     and_from _ _ (lt-ltb 0 (length (decimal n)) (decimal_nonempty n h)) (graphic_digits (decimal n) (decimal_digits n h))
 
 -- a number that was read is read again from its decimal
-pub count_again : (bits : ℕ) (w : List ℕ) (n : ℕ) → 2 ^ bits ≤ 2 ^ 64 → count_of bits w ≡ Ok n → (count_of bits (decimal n) ≡ Ok n) × (length (decimal n) ≤ length w) × (is_word (decimal n) ≡ true)
+pub count_again : (bits : ℕ) (w : List ℕ) (n : ℕ) → 2 ^ bits ≤ 2 ^ 64 → read_count bits w ≡ Ok n → (read_count bits (decimal n) ≡ Ok n) × (length (decimal n) ≤ length w) × (is_word (decimal n) ≡ true)
 count_again bits w n small h =
     let t = tested (are_digits w && ltb (digits_value 10 w) (2 ^ bits)) (digits_value 10 w) n BadNumber h in
     let parts = and_parts (are_digits w) (ltb (digits_value 10 w) (2 ^ bits)) t.0 in
@@ -75,24 +75,24 @@ count_again bits w n small h =
     )
 
 -- ---- numbers with a sign
-plain_int : (ds : List ℕ) → are_digits ds ≡ true → int_of ds ≡ fitting (pos (digits_value 10 ds))
+plain_int : (ds : List ℕ) → are_digits ds ≡ true → read_int ds ≡ read_fitting (pos (digits_value 10 ds))
 plain_int [] h = absurd (let k : ⊥ = cc in k)
 plain_int (c ∷ cs) h =
     let digit = (and_parts (is_ascii_digit c) (list_all is_ascii_digit cs) (and_parts _ (list_all is_ascii_digit (c ∷ cs)) h).1).0 in
     ⊎_elim
     (λ t. absurd (true≢false (sym digit ∙ ap is_ascii_digit (eqb-true c 45 t))))
-    (λ f. ap (λ t. cond t (cond (are_digits cs) (fitting (neg_ℤ (pos (digits_value 10 cs)))) (Err BadNumber)) (cond (are_digits (c ∷ cs)) (fitting (pos (digits_value 10 (c ∷ cs)))) (Err BadNumber))) f ∙ ap (λ t. cond t (fitting (pos (digits_value 10 (c ∷ cs)))) (Err BadNumber)) h)
+    (λ f. ap (λ t. cond t (cond (are_digits cs) (read_fitting (neg_ℤ (pos (digits_value 10 cs)))) (Err BadNumber)) (cond (are_digits (c ∷ cs)) (read_fitting (pos (digits_value 10 (c ∷ cs)))) (Err BadNumber))) f ∙ ap (λ t. cond t (read_fitting (pos (digits_value 10 (c ∷ cs)))) (Err BadNumber)) h)
     (cases_Bool (eqb c 45))
 
-fitting_ok : (z y : ℤ) → fitting z ≡ Ok y → (fits z ≡ true) × (z ≡ y)
+fitting_ok : (z y : ℤ) → read_fitting z ≡ Ok y → (fits z ≡ true) × (z ≡ y)
 fitting_ok z y h = tested (fits z) z y BadNumber h
 
-fitting_from : (z : ℤ) → fits z ≡ true → fitting z ≡ Ok z
+fitting_from : (z : ℤ) → fits z ≡ true → read_fitting z ≡ Ok z
 fitting_from z h = ap (λ t. cond t (Ok z) (Err BadNumber)) h
 
 abbrev Again : List ℕ → ℤ → Type 0
 Again w z =
-    (int_of (signed_decimal z) ≡ Ok z) × (length (signed_decimal z) ≤ length w) × (is_word (signed_decimal z) ≡ true)
+    (read_int (signed_decimal z) ≡ Ok z) × (length (signed_decimal z) ≤ length w) × (is_word (signed_decimal z) ≡ true)
 
 above_again : (ds w : List ℕ) → are_digits ds ≡ true → fits (pos (digits_value 10 ds)) ≡ true → length ds ≤ length w → Again w (pos (digits_value 10 ds))
 above_again ds w h f l =
@@ -101,20 +101,20 @@ above_again ds w h f l =
     let few : n < 2 ^ 64 = omega arith in
     let value : digits_value 10 (decimal n) ≡ n = digits_value-decimal own n few in
     let short = decimal_shorter ds h few in (
-      plain_int (decimal n) (decimal_are_digits n few) ∙ (ap (λ x. fitting (pos x)) value ∙ fitting_from (pos n) f),
+      plain_int (decimal n) (decimal_are_digits n few) ∙ (ap (λ x. read_fitting (pos x)) value ∙ fitting_from (pos n) f),
       omega (arith, short),
       decimal_is_word n few,
     )
 
-minus_digits : (ds : List ℕ) (n : ℕ) → are_digits ds ≡ true → digits_value 10 ds ≡ n → int_of (45 ∷ ds) ≡ fitting (neg_ℤ (pos n))
+minus_digits : (ds : List ℕ) (n : ℕ) → are_digits ds ≡ true → digits_value 10 ds ≡ n → read_int (45 ∷ ds) ≡ read_fitting (neg_ℤ (pos n))
 minus_digits ds n h e =
-    ap (λ t. cond t (fitting (neg_ℤ (pos (digits_value 10 ds)))) (Err BadNumber)) h ∙ ap (λ x. fitting (neg_ℤ (pos x))) e
+    ap (λ t. cond t (read_fitting (neg_ℤ (pos (digits_value 10 ds)))) (Err BadNumber)) h ∙ ap (λ x. read_fitting (neg_ℤ (pos x))) e
 
 below_again : (m : ℕ) (ds : List ℕ) → digits_value 10 ds ≡ m → are_digits ds ≡ true → fits (neg_ℤ (pos m)) ≡ true → Again (45 ∷ ds) (neg_ℤ (pos m))
 below_again zero ds e h f =
     let value : digits_value 10 (decimal 0) ≡ 0 = digits_value-decimal own 0 (omega arith) in
     let one : length (decimal 0) ≤ 1 = length-decimal-le 1 0 (omega arith) (omega arith) (omega arith) in (
-      plain_int (decimal 0) (decimal_are_digits 0 (omega arith)) ∙ ap (λ x. fitting (pos x)) value,
+      plain_int (decimal 0) (decimal_are_digits 0 (omega arith)) ∙ ap (λ x. read_fitting (pos x)) value,
       omega (arith, one),
       decimal_is_word 0 (omega arith),
     )
@@ -130,10 +130,10 @@ below_again (suc n) ds e h f =
     )
 
 abbrev minus_case : List ℕ → Result ℤ BlueKind
-minus_case cs = cond (are_digits cs) (fitting (neg_ℤ (pos (digits_value 10 cs)))) (Err BadNumber)
+minus_case cs = cond (are_digits cs) (read_fitting (neg_ℤ (pos (digits_value 10 cs)))) (Err BadNumber)
 
 abbrev plus_case : List ℕ → Result ℤ BlueKind
-plus_case cs = cond (are_digits cs) (fitting (pos (digits_value 10 cs))) (Err BadNumber)
+plus_case cs = cond (are_digits cs) (read_fitting (pos (digits_value 10 cs))) (Err BadNumber)
 
 digits_case : {A : Type 0} (t : Bool) (r : Result A BlueKind) (b : A) → cond t r (Err BadNumber) ≡ Ok b → (t ≡ true) × (r ≡ Ok b)
 digits_case true r b h = (refl, h)
@@ -141,22 +141,22 @@ digits_case false r b h = absurd (let k : ⊥ = cc in k)
 
 minus_again : (cs : List ℕ) (z : ℤ) → minus_case cs ≡ Ok z → Again (45 ∷ cs) z
 minus_again cs z h =
-    let d = digits_case (are_digits cs) (fitting (neg_ℤ (pos (digits_value 10 cs)))) z h in
+    let d = digits_case (are_digits cs) (read_fitting (neg_ℤ (pos (digits_value 10 cs)))) z h in
     let f = fitting_ok (neg_ℤ (pos (digits_value 10 cs))) z d.1 in
     subst (Again (45 ∷ cs)) f.1 (below_again (digits_value 10 cs) cs refl d.0 f.0)
 
 plus_again : (w : List ℕ) (z : ℤ) → plus_case w ≡ Ok z → Again w z
 plus_again w z h =
-    let d = digits_case (are_digits w) (fitting (pos (digits_value 10 w))) z h in
+    let d = digits_case (are_digits w) (read_fitting (pos (digits_value 10 w))) z h in
     let f = fitting_ok (pos (digits_value 10 w)) z d.1 in
     subst (Again w) f.1 (above_again w w d.0 f.0 (omega arith))
 
-pub int_again : (w : List ℕ) (z : ℤ) → int_of w ≡ Ok z → Again w z
+pub int_again : (w : List ℕ) (z : ℤ) → read_int w ≡ Ok z → Again w z
 int_again [] z h = absurd (let k : ⊥ = cc in k)
 int_again (c ∷ cs) z h =
     ⊎_elim
-    (λ t. let e : int_of (c ∷ cs) ≡ minus_case cs = ap (λ b. cond b (minus_case cs) (plus_case (c ∷ cs))) t in subst (λ x. Again (x ∷ cs) z) (sym (eqb-true c 45 t)) (minus_again cs z (sym e ∙ h)))
-    (λ f. let e : int_of (c ∷ cs) ≡ plus_case (c ∷ cs) = ap (λ b. cond b (minus_case cs) (plus_case (c ∷ cs))) f in plus_again (c ∷ cs) z (sym e ∙ h))
+    (λ t. let e : read_int (c ∷ cs) ≡ minus_case cs = ap (λ b. cond b (minus_case cs) (plus_case (c ∷ cs))) t in subst (λ x. Again (x ∷ cs) z) (sym (eqb-true c 45 t)) (minus_again cs z (sym e ∙ h)))
+    (λ f. let e : read_int (c ∷ cs) ≡ plus_case (c ∷ cs) = ap (λ b. cond b (minus_case cs) (plus_case (c ∷ cs))) f in plus_again (c ∷ cs) z (sym e ∙ h))
     (cases_Bool (eqb c 45))
 
 -- ---- the places
@@ -166,23 +166,23 @@ word_respelled ws =
 
 pub name_respelled : (ws : Words) → Respelled name (λ w. w ∷ []) ws (name ws)
 name_respelled ws =
-    place_respelled name_of (λ w. w) (λ w a h t. let e = tested (is_name w) w a BadName h in (subst (λ x. name_of x ≡ Ok x) e.1 (ap (λ b. cond b (Ok w) (Err BadName)) e.0), subst (λ x. length x ≤ length w) e.1 (omega arith), subst (λ x. is_word x ≡ true) e.1 t)) ws
+    place_respelled read_name (λ w. w) (λ w a h t. let e = tested (is_name w) w a BadName h in (subst (λ x. read_name x ≡ Ok x) e.1 (ap (λ b. cond b (Ok w) (Err BadName)) e.0), subst (λ x. length x ≤ length w) e.1 (omega arith), subst (λ x. is_word x ≡ true) e.1 t)) ws
 
 pub file_respelled : (ws : Words) → Respelled file (λ w. w ∷ []) ws (file ws)
 file_respelled ws =
-    place_respelled file_of (λ w. w) (λ w a h t. let e = tested (is_file_name w) w a BadName h in (subst (λ x. file_of x ≡ Ok x) e.1 (ap (λ b. cond b (Ok w) (Err BadName)) e.0), subst (λ x. length x ≤ length w) e.1 (omega arith), subst (λ x. is_word x ≡ true) e.1 t)) ws
+    place_respelled read_file_name (λ w. w) (λ w a h t. let e = tested (is_file_name w) w a BadName h in (subst (λ x. read_file_name x ≡ Ok x) e.1 (ap (λ b. cond b (Ok w) (Err BadName)) e.0), subst (λ x. length x ≤ length w) e.1 (omega arith), subst (λ x. is_word x ≡ true) e.1 t)) ws
 
 pub int_respelled : (ws : Words) → Respelled int (λ z. signed_decimal z ∷ []) ws (int ws)
-int_respelled ws = place_respelled int_of signed_decimal (λ w a h t. int_again w a h) ws
+int_respelled ws = place_respelled read_int signed_decimal (λ w a h t. int_again w a h) ws
 
 pub count_respelled : (ws : Words) → Respelled count (λ n. decimal n ∷ []) ws (count ws)
-count_respelled ws = place_respelled (count_of 64) decimal (λ w a h t. count_again 64 w a (omega arith) h) ws
+count_respelled ws = place_respelled (read_count 64) decimal (λ w a h t. count_again 64 w a (omega arith) h) ws
 
 pub size_respelled : (ws : Words) → Respelled size (λ n. decimal n ∷ []) ws (size ws)
-size_respelled ws = place_respelled (count_of 32) decimal (λ w a h t. count_again 32 w a (omega arith) h) ws
+size_respelled ws = place_respelled (read_count 32) decimal (λ w a h t. count_again 32 w a (omega arith) h) ws
 
 -- ---- sizes
-pub count_decimal : (n : ℕ) → n < 2 ^ 32 → (count_of 32 (decimal n) ≡ Ok n) × (length (decimal n) ≤ 10) × (is_word (decimal n) ≡ true)
+pub count_decimal : (n : ℕ) → n < 2 ^ 32 → (read_count 32 (decimal n) ≡ Ok n) × (length (decimal n) ≤ 10) × (is_word (decimal n) ≡ true)
 count_decimal n l =
     let few : n < 2 ^ 64 = omega arith in
     let value : digits_value 10 (decimal n) ≡ n = digits_value-decimal own n few in
@@ -193,13 +193,13 @@ count_decimal n l =
       decimal_is_word n few,
     )
 
-pub size_below : (w : List ℕ) (n : ℕ) → count_of 32 w ≡ Ok n → n < 2 ^ 32
+pub size_below : (w : List ℕ) (n : ℕ) → read_count 32 w ≡ Ok n → n < 2 ^ 32
 size_below w n h =
     let t = tested (are_digits w && ltb (digits_value 10 w) (2 ^ 32)) (digits_value 10 w) n BadNumber h in
     let parts = and_parts (are_digits w) (ltb (digits_value 10 w) (2 ^ 32)) t.0 in
     subst (λ x. x < 2 ^ 32) t.1 (ltb-true (digits_value 10 w) (2 ^ 32) parts.1)
 
-pub name_ok : (w a : List ℕ) → name_of w ≡ Ok a → (is_name w ≡ true) × (w ≡ a)
+pub name_ok : (w a : List ℕ) → read_name w ≡ Ok a → (is_name w ≡ true) × (w ≡ a)
 name_ok w a h = tested (is_name w) w a BadName h
 
 pub length-name-le : (bs : List ℕ) → is_name bs ≡ true → length bs ≤ 32

@@ -6,8 +6,8 @@ use Rattle.blue_words.specs.declared.fault.BlueKind.TheVariants.{BadVersion}
 use Rattle.blue_words.specs.Line.{is_passed_over}
 use Rattle.blue_lang.specs.Declarations.{Declaration, switch, chain, node, wire}
 use Rattle.blue_lang.specs.Plain.{PlainBlueprint}
-use Rattle.blue_lang.specs.Blueprints.{SaysLines, declares, switch_in, chain_in, node_in, wire_in, blueprint_of, says_some, line_fault, fault_or, first_fault}
-use Rattle.blue_lang.specs.Progress.{added, ReadsLine}
+use Rattle.blue_lang.specs.Blueprints.{SaysLines, declares, switch_in, declared_chain, node_in, wire_in, blueprint_of, says_some, line_fault, fault_or, first_fault}
+use Rattle.blue_lang.specs.Progress.{with_declaration, ReadsLine}
 
 -- the front of the lines is read, and what is left is still to be read
 pub record IsRead (all : List (List ℕ)) (n : ℕ) (begun : Bool) (b : PlainBlueprint) (left : List (List ℕ)) : Type 0 where
@@ -35,21 +35,21 @@ says_some-push [] l = grind arith
 says_some-push (x ∷ ls) l = grind (arith, says_some-push ls l)
 
 -- a declaration more, in one of the four lists
-pub blueprint_of-push : (ls : List (List ℕ)) (l : List ℕ) → blueprint_of (ls ++ l ∷ []) ≡ added (blueprint_of ls) (declares l)
+pub blueprint_of-push : (ls : List (List ℕ)) (l : List ℕ) → blueprint_of (ls ++ l ∷ []) ≡ with_declaration (blueprint_of ls) (declares l)
 blueprint_of-push ls l =
-    rw (filter_map-push (λ x. switch_in (declares x)) ls l, filter_map-push (λ x. chain_in (declares x)) ls l, filter_map-push (λ x. node_in (declares x)) ls l, filter_map-push (λ x. wire_in (declares x)) ls l) (one_more (declares l))
+    rw (filter_map-push (λ x. switch_in (declares x)) ls l, filter_map-push (λ x. declared_chain (declares x)) ls l, filter_map-push (λ x. node_in (declares x)) ls l, filter_map-push (λ x. wire_in (declares x)) ls l) (one_more (declares l))
   where
     one_more : (o : Option Declaration) → ◌≡◌ {A = PlainBlueprint} (record {
       switches = filter_map (λ x. switch_in (declares x)) ls ++ cons_option (switch_in o) [];
-      chains = filter_map (λ x. chain_in (declares x)) ls ++ cons_option (chain_in o) [];
+      chains = filter_map (λ x. declared_chain (declares x)) ls ++ cons_option (declared_chain o) [];
       nodes = filter_map (λ x. node_in (declares x)) ls ++ cons_option (node_in o) [];
       wires = filter_map (λ x. wire_in (declares x)) ls ++ cons_option (wire_in o) [];
-    }) (added (blueprint_of ls) o)
-    one_more None = rw (append-nil (filter_map (λ x. switch_in (declares x)) ls), append-nil (filter_map (λ x. chain_in (declares x)) ls), append-nil (filter_map (λ x. node_in (declares x)) ls), append-nil (filter_map (λ x. wire_in (declares x)) ls)) refl
-    one_more (Some (switch n)) = rw (append-nil (filter_map (λ x. chain_in (declares x)) ls), append-nil (filter_map (λ x. node_in (declares x)) ls), append-nil (filter_map (λ x. wire_in (declares x)) ls)) refl
+    }) (with_declaration (blueprint_of ls) o)
+    one_more None = rw (append-nil (filter_map (λ x. switch_in (declares x)) ls), append-nil (filter_map (λ x. declared_chain (declares x)) ls), append-nil (filter_map (λ x. node_in (declares x)) ls), append-nil (filter_map (λ x. wire_in (declares x)) ls)) refl
+    one_more (Some (switch n)) = rw (append-nil (filter_map (λ x. declared_chain (declares x)) ls), append-nil (filter_map (λ x. node_in (declares x)) ls), append-nil (filter_map (λ x. wire_in (declares x)) ls)) refl
     one_more (Some (chain n)) = rw (append-nil (filter_map (λ x. switch_in (declares x)) ls), append-nil (filter_map (λ x. node_in (declares x)) ls), append-nil (filter_map (λ x. wire_in (declares x)) ls)) refl
-    one_more (Some (node n)) = rw (append-nil (filter_map (λ x. switch_in (declares x)) ls), append-nil (filter_map (λ x. chain_in (declares x)) ls), append-nil (filter_map (λ x. wire_in (declares x)) ls)) refl
-    one_more (Some (wire n)) = rw (append-nil (filter_map (λ x. switch_in (declares x)) ls), append-nil (filter_map (λ x. chain_in (declares x)) ls), append-nil (filter_map (λ x. node_in (declares x)) ls)) refl
+    one_more (Some (node n)) = rw (append-nil (filter_map (λ x. switch_in (declares x)) ls), append-nil (filter_map (λ x. declared_chain (declares x)) ls), append-nil (filter_map (λ x. wire_in (declares x)) ls)) refl
+    one_more (Some (wire n)) = rw (append-nil (filter_map (λ x. switch_in (declares x)) ls), append-nil (filter_map (λ x. declared_chain (declares x)) ls), append-nil (filter_map (λ x. node_in (declares x)) ls)) refl
 
 -- what is wrong with the next line, by what is read
 next_fault : (all : List (List ℕ)) (n : ℕ) (begun : Bool) (b : PlainBlueprint) (l : List ℕ) (ls : List (List ℕ)) → (r : IsRead all n begun b (l ∷ ls)) → first_fault [] all ≡ fault_or (line_fault begun b l) (n + 1) (first_fault (r.front ++ l ∷ []) ls)
@@ -62,7 +62,7 @@ line_read all n begun begun' b b' l ls r s =
       front = r.front ++ l ∷ [];
       counted = omega (arith, length-append r.front (l ∷ []), r.counted);
       begins = says_some-push r.front l ∙ (ap (λ t. t || not (is_passed_over l)) r.begins ∙ sym s.begins);
-      declared = blueprint_of-push r.front l ∙ (ap (λ x. added x (declares l)) r.declared ∙ sym s.adds);
+      declared = blueprint_of-push r.front l ∙ (ap (λ x. with_declaration x (declares l)) r.declared ∙ sym s.adds);
       same = next_fault all n begun b l ls r ∙ ap (λ o. fault_or o (n + 1) (first_fault (r.front ++ l ∷ []) ls)) s.faultless;
       whole = r.whole ∙ sym (append_assoc r.front (l ∷ []) ls);
     }

@@ -7,7 +7,7 @@ use Rattle.std.proofs.lemmas.Bool.{cases_Bool, and_parts, and_from}
 use Rattle.std.proofs.lemmas.List.Folds.{list_all-append}
 use Rattle.std.proofs.lemmas.Slice.Eq.{bytes_eq-Decides}
 use Rattle.blue_words.specs.Names.{is_word}
-use Rattle.blue_words.specs.Reading.{At, Reading, at_map, both, said, made, with_second, then_read, place, behind_word, ending}
+use Rattle.blue_words.specs.Reading.{At, Reading, at_map, both, said, made, with_second, then_read, read_place, behind_word, before_word}
 use Rattle.blue_kinds.specs.Functions.{said_if}
 use Rattle.blue_spell.specs.Spaced.{spaced}
 use Rattle.blue_spell.proofs.Spacing.{spaced_append}
@@ -89,8 +89,8 @@ pub none_tabled : {B : Type 0} (table : List ℕ → Words → Reading B) (S : B
 none_tabled table S w ws = record { kept = λ a rest h. absurd (let k : ⊥ = cc in k) }
 
 -- a place, whose values are spelled by s
-pub place_respelled : {A : Type 0} (f : List ℕ → At A) (s : A → List ℕ) → ((w : List ℕ) (a : A) → f w ≡ Ok a → is_word w ≡ true → (f (s a) ≡ Ok a) × (length (s a) ≤ length w) × (is_word (s a) ≡ true)) → (ws : Words) → Respelled (place f) (λ a. s a ∷ []) ws (place f ws)
-place_respelled f s h [] = none_respelled (place f) (λ a. s a ∷ []) []
+pub place_respelled : {A : Type 0} (f : List ℕ → At A) (s : A → List ℕ) → ((w : List ℕ) (a : A) → f w ≡ Ok a → is_word w ≡ true → (f (s a) ≡ Ok a) × (length (s a) ≤ length w) × (is_word (s a) ≡ true)) → (ws : Words) → Respelled (read_place f) (λ a. s a ∷ []) ws (read_place f ws)
+place_respelled f s h [] = none_respelled (read_place f) (λ a. s a ∷ []) []
 place_respelled f s h (w ∷ ws) =
     record {
       kept = λ a rest e t. let parts = and_parts (is_word w) (list_all is_word ws) t in
@@ -232,11 +232,11 @@ at_end : {A : Type 0} (word : List ℕ) (a : A) (rest : Words) (p : At A) (vs : 
 at_end word a rest p [] h = absurd (let k : ⊥ = cc in k)
 at_end word a rest p (v ∷ vs) h = at_word word a rest p v vs (bytes_eq v word) refl h
 
-ending_of : {A : Type 0} (word : List ℕ) (r : Reading A) (a : A) (rest : Words) → ending word r ≡ Some (Ok a, rest) → (v : List ℕ) × (r ≡ Some (Ok a, v ∷ rest)) × (v ≡ word)
+ending_of : {A : Type 0} (word : List ℕ) (r : Reading A) (a : A) (rest : Words) → before_word word r ≡ Some (Ok a, rest) → (v : List ℕ) × (r ≡ Some (Ok a, v ∷ rest)) × (v ≡ word)
 ending_of word None a rest h = absurd (let k : ⊥ = cc in k)
 ending_of word (Some r) a rest h = at_end word a rest r.0 r.1 h
 
-pub ending_respelled : {A : Type 0} (word : List ℕ) (R : Words → Reading A) (S : A → Words) → bytes_eq word word ≡ true → (ws : Words) → Respelled R S ws (R ws) → Respelled (λ vs. ending word (R vs)) (λ a. S a ++ word ∷ []) ws (ending word (R ws))
+pub ending_respelled : {A : Type 0} (word : List ℕ) (R : Words → Reading A) (S : A → Words) → bytes_eq word word ≡ true → (ws : Words) → Respelled R S ws (R ws) → Respelled (λ vs. before_word word (R vs)) (λ a. S a ++ word ∷ []) ws (before_word word (R ws))
 ending_respelled word R S same ws inner =
     record {
       kept = λ a rest e t. let n = ending_of word (R ws) a rest e in
@@ -244,7 +244,7 @@ ending_respelled word R S same ws inner =
           let parts = and_parts (is_word n.0) (list_all is_word rest) k.left in
           let l : length n.0 ≡ length word = ap length n.2 in
           record {
-            again = λ more. ap (λ x. ending word (R x)) (append_assoc (S a) (word ∷ []) more) ∙ (ap (ending word) (k.again (word ∷ more)) ∙ ap (λ b. cond b (Some (Ok a, more)) None) same);
+            again = λ more. ap (λ x. before_word word (R x)) (append_assoc (S a) (word ∷ []) more) ∙ (ap (before_word word) (k.again (word ∷ more)) ∙ ap (λ b. cond b (Some (Ok a, more)) None) same);
             shorter = omega (arith, ap length (spaced_append (S a) (word ∷ [])), length-append (spaced (S a)) (spaced (word ∷ [])), length-append word [], length-append n.0 (spaced rest), l, k.shorter);
             words = list_all-append is_word (S a) (word ∷ []) ∙ and_from _ _ k.words (and_from _ _ (subst (λ x. is_word x ≡ true) n.2 parts.0) refl);
             left = parts.1;

@@ -17,8 +17,8 @@ use Rattle.blue_words.specs.Line.{is_plain, is_passed_over}
 use Rattle.blue_words.specs.Reading.{At}
 use Rattle.blue_lang.specs.Declarations.{PlainChain, Declaration, switch, chain, node, wire, declared_by, declared_in}
 use Rattle.blue_lang.specs.Plain.{PlainBlueprint}
-use Rattle.blue_lang.specs.Progress.{added}
-use Rattle.blue_lang.specs.Blueprints.{Says, are_version, is_version, declaration_at, declares, switch_in, chain_in, node_in, wire_in, blueprint_of, has_room, says_some, declaration_fault, line_fault, fault_behind, fault_or, first_fault}
+use Rattle.blue_lang.specs.Progress.{with_declaration}
+use Rattle.blue_lang.specs.Blueprints.{Says, are_version, is_version, declaration_at, declares, switch_in, declared_chain, node_in, wire_in, blueprint_of, has_room, says_some, declaration_fault, line_fault, fault_behind, fault_or, first_fault}
 use Rattle.blue_lang.specs.Canonical.{switch_words, chain_line, node_words, wire_words, lines_text, version_words, canonical_lines, canonical}
 use Rattle.blue_lang.proofs.Respelling.{Words, AllWords}
 use Rattle.blue_lang.proofs.Reading.{blueprint_of-push, says_some-push}
@@ -139,7 +139,7 @@ record Within (b : PlainBlueprint) : Type 0 where
   nodes : length b.nodes ≤ 1024
   wires : length b.wires ≤ 2048
 
-within_room : (b : PlainBlueprint) (d : Declaration) → has_room b d ≡ true → Within b → Within (added b (Some d))
+within_room : (b : PlainBlueprint) (d : Declaration) → has_room b d ≡ true → Within b → Within (with_declaration b (Some d))
 within_room b (switch n) h w =
     let l = ltb-true (length b.switches) 64 h in
     record { switches = omega (arith, length-append b.switches (n ∷ [])); chains = w.chains; nodes = w.nodes; wires = w.wires }
@@ -153,7 +153,7 @@ within_room b (wire x) h w =
     let l = ltb-true (length b.wires) 2048 h in
     record { switches = w.switches; chains = w.chains; nodes = w.nodes; wires = omega (arith, length-append b.wires (x ∷ [])) }
 
-room_within : (b : PlainBlueprint) (d : Declaration) → few_steps d ≡ true → Within (added b (Some d)) → has_room b d ≡ true
+room_within : (b : PlainBlueprint) (d : Declaration) → few_steps d ≡ true → Within (with_declaration b (Some d)) → has_room b d ≡ true
 room_within b (switch n) f w =
     let l = w.switches in lt-ltb (length b.switches) 64 (omega (arith, l, length-append b.switches (n ∷ [])))
 room_within b (chain c) f w =
@@ -164,7 +164,7 @@ room_within b (node n) f w =
 room_within b (wire x) f w =
     let l = w.wires in lt-ltb (length b.wires) 2048 (omega (arith, l, length-append b.wires (x ∷ [])))
 
-within_line : (begun : Bool) (b : PlainBlueprint) (l : List ℕ) (o : Option Declaration) → declares l ≡ o → line_fault begun b l ≡ None → Within b → Within (added b o)
+within_line : (begun : Bool) (b : PlainBlueprint) (l : List ℕ) (o : Option Declaration) → declares l ≡ o → line_fault begun b l ≡ None → Within b → Within (with_declaration b o)
 within_line begun b l None e h w = w
 within_line begun b l (Some d) e h w = within_room b d (line_room begun b l d h e).0 w
 
@@ -188,7 +188,7 @@ within_front xs ys w =
     let x = w.wires in
     record {
       switches = omega (arith, front_length (λ l. switch_in (declares l)) xs ys, s);
-      chains = omega (arith, front_length (λ l. chain_in (declares l)) xs ys, c);
+      chains = omega (arith, front_length (λ l. declared_chain (declares l)) xs ys, c);
       nodes = omega (arith, front_length (λ l. node_in (declares l)) xs ys, n);
       wires = omega (arith, front_length (λ l. wire_in (declares l)) xs ys, x);
     }
@@ -221,7 +221,7 @@ canonical_faultless before [] s f w = ap (λ t. cond t None (Some (record { kind
 canonical_faultless before (d ∷ ds) s f w =
     let more = subst (λ x. Within (blueprint_of x)) (sym (append_assoc before (line_of d ∷ []) (map line_of ds))) w in
     let one = subst Within (blueprint_of-push before (line_of d)) (within_front (before ++ line_of d ∷ []) (map line_of ds) more) in
-    let room = room_within (blueprint_of before) d f.0.few (subst (λ o. Within (added (blueprint_of before) o)) (line_declares d f.0) one) in
+    let room = room_within (blueprint_of before) d f.0.few (subst (λ o. Within (with_declaration (blueprint_of before) o)) (line_declares d f.0) one) in
     let clean : fault_behind before (line_of d) ≡ None = ap (λ t. line_fault t (blueprint_of before) (line_of d)) s ∙ line_faultless (blueprint_of before) d f.0 room in
     let says : says_some (before ++ line_of d ∷ []) ≡ true = says_some-push before (line_of d) ∙ or_left (says_some before) (not (is_passed_over (line_of d))) s in
     ap (λ o. fault_or o (length before + 1) (first_fault (before ++ line_of d ∷ []) (map line_of ds))) clean ∙ canonical_faultless (before ++ line_of d ∷ []) ds says f.1 more
@@ -251,7 +251,7 @@ abbrev switch_pick : Declaration → Option (List ℕ)
 switch_pick d = switch_in (Some d)
 
 abbrev chain_pick : Declaration → Option PlainChain
-chain_pick d = chain_in (Some d)
+chain_pick d = declared_chain (Some d)
 
 abbrev node_pick : Declaration → Option Node
 node_pick d = node_in (Some d)
@@ -278,7 +278,7 @@ wires_of b =
 lines_declare : (b : PlainBlueprint) → Each Fine (declarations b) → blueprint_of (map line_of (declarations b)) ≡ b
 lines_declare b f =
     let s : filter_map (λ l. switch_in (declares l)) (map line_of (declarations b)) ≡ b.switches = picked switch_in (declarations b) f ∙ switches_of b in
-    let c : filter_map (λ l. chain_in (declares l)) (map line_of (declarations b)) ≡ b.chains = picked chain_in (declarations b) f ∙ chains_of b in
+    let c : filter_map (λ l. declared_chain (declares l)) (map line_of (declarations b)) ≡ b.chains = picked declared_chain (declarations b) f ∙ chains_of b in
     let n : filter_map (λ l. node_in (declares l)) (map line_of (declarations b)) ≡ b.nodes = picked node_in (declarations b) f ∙ nodes_of b in
     let w : filter_map (λ l. wire_in (declares l)) (map line_of (declarations b)) ≡ b.wires = picked wire_in (declarations b) f ∙ wires_of b in
     rw (s, c, n, w) refl
@@ -306,7 +306,7 @@ switch_is (Some (chain n)) a h = not_some a h
 switch_is (Some (node n)) a h = not_some a h
 switch_is (Some (wire n)) a h = not_some a h
 
-chain_is : (o : Option Declaration) (a : PlainChain) → chain_in o ≡ Some a → o ≡ Some (chain a)
+chain_is : (o : Option Declaration) (a : PlainChain) → declared_chain o ≡ Some a → o ≡ Some (chain a)
 chain_is None a h = not_some a h
 chain_is (Some (switch n)) a h = not_some a h
 chain_is (Some (chain n)) a h = ap (λ x. Some (chain x)) (some_is n a h)
@@ -331,7 +331,7 @@ all_fine : (ls : List (List ℕ)) → Each LineFine ls → Each Fine (declaratio
 all_fine ls f =
     let b = blueprint_of ls in
     each_append Fine (map switch b.switches) (map chain b.chains ++ (map node b.nodes ++ map wire b.wires)) (each_map Fine switch b.switches (picks_fine switch_in switch switch_is ls f))
-    (each_append Fine (map chain b.chains) (map node b.nodes ++ map wire b.wires) (each_map Fine chain b.chains (picks_fine chain_in chain chain_is ls f))
+    (each_append Fine (map chain b.chains) (map node b.nodes ++ map wire b.wires) (each_map Fine chain b.chains (picks_fine declared_chain chain chain_is ls f))
     (each_append Fine (map node b.nodes) (map wire b.wires) (each_map Fine node b.nodes (picks_fine node_in node node_is ls f)) (each_map Fine wire b.wires (picks_fine wire_in wire wire_is ls f))))
 
 -- ---- the canonical text's lines

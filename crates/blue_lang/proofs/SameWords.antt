@@ -9,7 +9,7 @@ use Rattle.blue_words.specs.declared.fault.BlueKind.TheVariants.{BadVersion, Bad
 use Rattle.blue_words.specs.Line.{is_plain, is_passed_over}
 use Rattle.blue_lang.specs.Declarations.{Declaration, declared_by, declared_in}
 use Rattle.blue_lang.specs.Plain.{PlainBlueprint}
-use Rattle.blue_lang.specs.Blueprints.{Says, are_version, is_version, declaration_at, declares, switch_in, chain_in, node_in, wire_in, blueprint_of, says_some, declaration_fault, line_fault, fault_behind, first_fault, said_words}
+use Rattle.blue_lang.specs.Blueprints.{Says, are_version, is_version, declaration_at, declares, switch_in, declared_chain, node_in, wire_in, blueprint_of, says_some, declaration_fault, line_fault, fault_behind, first_fault, said_words}
 use Rattle.blue_lang.proofs.Respelling.{Words}
 use Rattle.blue_lang.proofs.Roundtrip.{Each, none_after, none_before, fault_or_none}
 
@@ -61,14 +61,14 @@ abbrev words_blueprint : List Words → PlainBlueprint
 words_blueprint wss =
     record {
       switches = filter_map (said_by switch_in) wss;
-      chains = filter_map (said_by chain_in) wss;
+      chains = filter_map (said_by declared_chain) wss;
       nodes = filter_map (said_by node_in) wss;
       wires = filter_map (said_by wire_in) wss;
     }
 
 lines_by_words : (ls : List (List ℕ)) → Each Heard ls → blueprint_of ls ≡ words_blueprint (map words (kept_lines ls))
 lines_by_words ls h =
-    rw (by_words switch_in refl ls h, by_words chain_in refl ls h, by_words node_in refl ls h, by_words wire_in refl ls h) refl
+    rw (by_words switch_in refl ls h, by_words declared_chain refl ls h, by_words node_in refl ls h, by_words wire_in refl ls h) refl
 
 said_by_words : (text : List ℕ) (b : PlainBlueprint) → Says text b → words_blueprint (said_words text) ≡ b
 said_by_words text b s =

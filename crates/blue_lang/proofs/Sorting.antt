@@ -4,11 +4,11 @@ use Rattle.std.specs.Prelude.{codes}
 use Rattle.std.specs.Str.{bytes_eq}
 use Rattle.stream_model.specs.declared.kind.Kind.{Kind}
 use Rattle.stream_model.specs.declared.kind.Kind.TheVariants as k
-use Rattle.blue_words.specs.Numbers.{name_of}
+use Rattle.blue_words.specs.Numbers.{read_name}
 use Rattle.blue_words.specs.Reading.{Reading, said, made, with_second, then_read, word, name, file, int, count, size}
-use Rattle.blue_kinds.specs.Functions.{one_of, map_of, pred_of, expand_word, fold_word, reduce_word}
-use Rattle.blue_kinds.specs.Kinds.{base_word, policy_word, source_kind, sink_kind, testing_kind, making_kind, linear_kind, fan_out_kind, fan_in_kind, split_of, group_of, keys_of, substream_kind, recover_of, trip_of, stage_kind}
-use Rattle.blue_words.specs.Reading.{ending}
+use Rattle.blue_kinds.specs.Functions.{one_of, map_of, pred_of, expand_named, fold_named, reduce_named}
+use Rattle.blue_kinds.specs.Kinds.{base_named, policy_named, source_kind, sink_kind, testing_kind, making_kind, linear_kind, fan_out_kind, fan_in_kind, split_of, group_of, keys_of, substream_kind, recover_of, trip_of, stage_kind}
+use Rattle.blue_words.specs.Reading.{before_word}
 use Rattle.blue_spell.specs.Kinds.{sort_word}
 use Rattle.blue_lang.proofs.Respelling.{Words, made_of, same_value}
 
@@ -41,16 +41,16 @@ trip_sorts : (ws : Words) → Sorts (codes "stage") (trip_of (name ws))
 trip_sorts [] = sorts_none (codes "stage")
 trip_sorts (v ∷ []) = sorts_none (codes "stage")
 trip_sorts (v ∷ w ∷ ws) =
-    sorts_if (codes "stage") (bytes_eq w (codes "shutdown")) (made (λ r. k.TripShutdown r.0 r.1) (with_second (name_of v) (size ws))) _ (sorts_made (codes "stage") (λ r. k.TripShutdown r.0 r.1) (with_second (name_of v) (size ws)) (λ _. refl))
-    (sorts_if (codes "stage") (bytes_eq w (codes "abort")) (made (λ r. k.TripAbort r.0 r.1) (with_second (name_of v) (size ws))) None (sorts_made (codes "stage") (λ r. k.TripAbort r.0 r.1) (with_second (name_of v) (size ws)) (λ _. refl))
+    sorts_if (codes "stage") (bytes_eq w (codes "shutdown")) (made (λ r. k.TripShutdown r.0 r.1) (with_second (read_name v) (size ws))) _ (sorts_made (codes "stage") (λ r. k.TripShutdown r.0 r.1) (with_second (read_name v) (size ws)) (λ _. refl))
+    (sorts_if (codes "stage") (bytes_eq w (codes "abort")) (made (λ r. k.TripAbort r.0 r.1) (with_second (read_name v) (size ws))) None (sorts_made (codes "stage") (λ r. k.TripAbort r.0 r.1) (with_second (read_name v) (size ws)) (λ _. refl))
     (sorts_none (codes "stage")))
 
 pub source_sorts : (w : List ℕ) (ws : Words) → Sorts (codes "source") (source_kind w ws)
 source_sorts w ws =
     sorts_if (codes "source") (bytes_eq w (codes "lines")) (made k.Lines (file ws)) _ (sorts_made (codes "source") k.Lines (file ws) (λ _. refl))
     (sorts_if (codes "source") (bytes_eq w (codes "range")) (made (λ r. k.Range r.0 r.1) (then_read (int ws) int)) _ (sorts_made (codes "source") (λ r. k.Range r.0 r.1) (then_read (int ws) int) (λ _. refl))
-    (sorts_if (codes "source") (bytes_eq w (codes "empty")) (made k.Empty (one_of base_word ws)) _ (sorts_made (codes "source") k.Empty (one_of base_word ws) (λ _. refl))
-    (sorts_if (codes "source") (bytes_eq w (codes "failed")) (made k.Failed (one_of base_word ws)) _ (sorts_made (codes "source") k.Failed (one_of base_word ws) (λ _. refl))
+    (sorts_if (codes "source") (bytes_eq w (codes "empty")) (made k.Empty (one_of base_named ws)) _ (sorts_made (codes "source") k.Empty (one_of base_named ws) (λ _. refl))
+    (sorts_if (codes "source") (bytes_eq w (codes "failed")) (made k.Failed (one_of base_named ws)) _ (sorts_made (codes "source") k.Failed (one_of base_named ws) (λ _. refl))
     (sorts_none (codes "source")))))
 
 pub sink_sorts : (w : List ℕ) (ws : Words) → Sorts (codes "sink") (sink_kind w ws)
@@ -72,10 +72,10 @@ testing_sorts w ws =
 making_sorts : (w : List ℕ) (ws : Words) → Sorts (codes "stage") (making_kind w ws)
 making_sorts w ws =
     sorts_if (codes "stage") (bytes_eq w (codes "map")) (made k.Map (map_of ws)) _ (sorts_made (codes "stage") k.Map (map_of ws) (λ _. refl))
-    (sorts_if (codes "stage") (bytes_eq w (codes "map_concat")) (made k.MapConcat (one_of expand_word ws)) _ (sorts_made (codes "stage") k.MapConcat (one_of expand_word ws) (λ _. refl))
-    (sorts_if (codes "stage") (bytes_eq w (codes "fold")) (made k.Fold (one_of fold_word ws)) _ (sorts_made (codes "stage") k.Fold (one_of fold_word ws) (λ _. refl))
-    (sorts_if (codes "stage") (bytes_eq w (codes "scan")) (made k.Scan (one_of fold_word ws)) _ (sorts_made (codes "stage") k.Scan (one_of fold_word ws) (λ _. refl))
-    (sorts_if (codes "stage") (bytes_eq w (codes "reduce")) (made k.Reduce (one_of reduce_word ws)) _ (sorts_made (codes "stage") k.Reduce (one_of reduce_word ws) (λ _. refl))
+    (sorts_if (codes "stage") (bytes_eq w (codes "map_concat")) (made k.MapConcat (one_of expand_named ws)) _ (sorts_made (codes "stage") k.MapConcat (one_of expand_named ws) (λ _. refl))
+    (sorts_if (codes "stage") (bytes_eq w (codes "fold")) (made k.Fold (one_of fold_named ws)) _ (sorts_made (codes "stage") k.Fold (one_of fold_named ws) (λ _. refl))
+    (sorts_if (codes "stage") (bytes_eq w (codes "scan")) (made k.Scan (one_of fold_named ws)) _ (sorts_made (codes "stage") k.Scan (one_of fold_named ws) (λ _. refl))
+    (sorts_if (codes "stage") (bytes_eq w (codes "reduce")) (made k.Reduce (one_of reduce_named ws)) _ (sorts_made (codes "stage") k.Reduce (one_of reduce_named ws) (λ _. refl))
     (testing_sorts w ws)))))
 
 linear_sorts : (w : List ℕ) (ws : Words) → Sorts (codes "stage") (linear_kind w ws)
@@ -105,14 +105,14 @@ fan_in_sorts w ws =
 
 substream_sorts : (w : List ℕ) (ws : Words) → Sorts (codes "stage") (substream_kind w ws)
 substream_sorts w ws =
-    sorts_if (codes "stage") (bytes_eq w (codes "group_by")) (group_of ws) _ (sorts_made (codes "stage") (λ r. k.GroupBy r.0 r.1.0 r.1.1) (ending (codes "merge") (keys_of ws)) (λ _. refl))
+    sorts_if (codes "stage") (bytes_eq w (codes "group_by")) (group_of ws) _ (sorts_made (codes "stage") (λ r. k.GroupBy r.0 r.1.0 r.1.1) (before_word (codes "merge") (keys_of ws)) (λ _. refl))
     (sorts_if (codes "stage") (bytes_eq w (codes "split_when")) (made (λ r. k.SplitWhen r.0 r.1.0 r.1.1) (split_of ws)) _ (sorts_made (codes "stage") (λ r. k.SplitWhen r.0 r.1.0 r.1.1) (split_of ws) (λ _. refl))
     (sorts_if (codes "stage") (bytes_eq w (codes "split_after")) (made (λ r. k.SplitAfter r.0 r.1.0 r.1.1) (split_of ws)) _ (sorts_made (codes "stage") (λ r. k.SplitAfter r.0 r.1.0 r.1.1) (split_of ws) (λ _. refl))
     (fan_in_sorts w ws)))
 
 pub stage_sorts : (w : List ℕ) (ws : Words) → Sorts (codes "stage") (stage_kind w ws)
 stage_sorts w ws =
-    sorts_if (codes "stage") (bytes_eq w (codes "buffer")) (made (λ r. k.Buffer r.0 r.1) (then_read (size ws) (one_of policy_word))) _ (sorts_made (codes "stage") (λ r. k.Buffer r.0 r.1) (then_read (size ws) (one_of policy_word)) (λ _. refl))
+    sorts_if (codes "stage") (bytes_eq w (codes "buffer")) (made (λ r. k.Buffer r.0 r.1) (then_read (size ws) (one_of policy_named))) _ (sorts_made (codes "stage") (λ r. k.Buffer r.0 r.1) (then_read (size ws) (one_of policy_named)) (λ _. refl))
     (sorts_if (codes "stage") (bytes_eq w (codes "recover")) (recover_of ws) _ (recover_sorts ws)
     (sorts_if (codes "stage") (bytes_eq w (codes "valve")) (made k.Valve (name ws)) _ (sorts_made (codes "stage") k.Valve (name ws) (λ _. refl))
     (sorts_if (codes "stage") (bytes_eq w (codes "trip")) (trip_of (name ws)) _ (trip_sorts ws)

@@ -8,7 +8,7 @@ use Rattle.elem_core.specs.declared.function.Expand.TheVariants as x
 use Rattle.elem_core.specs.declared.function.FoldOp.TheVariants as o
 use Rattle.elem_core.specs.declared.function.ReduceOp.TheVariants as r
 use Rattle.blue_words.specs.Reading.{Reading, then_read, word, int, count}
-use Rattle.blue_kinds.specs.Functions.{one_of, said_if, map_of, number_map, text_map, bare_map, pred_of, number_pred, text_pred, bare_pred, expand_word, fold_word, reduce_word}
+use Rattle.blue_kinds.specs.Functions.{one_of, said_if, map_of, number_map, text_map, bare_map, pred_of, number_pred, text_pred, bare_pred, expand_named, fold_named, reduce_named}
 use Rattle.blue_spell.specs.Functions.{map_words, pred_words}
 use Rattle.blue_spell.specs.Functions as spell
 use Rattle.blue_lang.proofs.Respelling.{Words, Respelled, Tabled, headed, headed_respelled, none_tabled, row, row_word, then_respelled}
@@ -120,33 +120,33 @@ pub one_respelled : {A : Type 0} (table : List ℕ → Option A) (S : A → List
 one_respelled table S h ws =
     renamed (fixed table) (one_of table) (λ a. S a ∷ []) (one_headed table) (headed_respelled (fixed table) (λ a. S a ∷ []) h) ws
 
-expand_tabled : (w : List ℕ) (ws : Words) → Tabled (fixed expand_word) (λ a. spell.expand_word a ∷ []) w ws (said_if (expand_word w) ws)
+expand_tabled : (w : List ℕ) (ws : Words) → Tabled (fixed expand_named) (λ a. spell.expand_word a ∷ []) w ws (said_if (expand_named w) ws)
 expand_tabled w ws =
-    row_word (fixed expand_word) (λ a. spell.expand_word a ∷ []) w (codes "words") ws x.Words _ (λ _. refl) refl
-    (row_word (fixed expand_word) (λ a. spell.expand_word a ∷ []) w (codes "flat") ws x.Flat _ (λ _. refl) refl
-    (row_word (fixed expand_word) (λ a. spell.expand_word a ∷ []) w (codes "twice") ws x.Twice _ (λ _. refl) refl
-    (none_tabled (fixed expand_word) (λ a. spell.expand_word a ∷ []) w ws)))
+    row_word (fixed expand_named) (λ a. spell.expand_word a ∷ []) w (codes "words") ws x.Words _ (λ _. refl) refl
+    (row_word (fixed expand_named) (λ a. spell.expand_word a ∷ []) w (codes "flat") ws x.Flat _ (λ _. refl) refl
+    (row_word (fixed expand_named) (λ a. spell.expand_word a ∷ []) w (codes "twice") ws x.Twice _ (λ _. refl) refl
+    (none_tabled (fixed expand_named) (λ a. spell.expand_word a ∷ []) w ws)))
 
-pub expand_respelled : (ws : Words) → Respelled (one_of expand_word) (λ a. spell.expand_word a ∷ []) ws (one_of expand_word ws)
-expand_respelled ws = one_respelled expand_word spell.expand_word expand_tabled ws
+pub expand_respelled : (ws : Words) → Respelled (one_of expand_named) (λ a. spell.expand_word a ∷ []) ws (one_of expand_named ws)
+expand_respelled ws = one_respelled expand_named spell.expand_word expand_tabled ws
 
-fold_tabled : (w : List ℕ) (ws : Words) → Tabled (fixed fold_word) (λ a. spell.fold_word a ∷ []) w ws (said_if (fold_word w) ws)
+fold_tabled : (w : List ℕ) (ws : Words) → Tabled (fixed fold_named) (λ a. spell.fold_word a ∷ []) w ws (said_if (fold_named w) ws)
 fold_tabled w ws =
-    row_word (fixed fold_word) (λ a. spell.fold_word a ∷ []) w (codes "sum") ws o.Sum _ (λ _. refl) refl
-    (row_word (fixed fold_word) (λ a. spell.fold_word a ∷ []) w (codes "sum_nonneg") ws o.SumNonneg _ (λ _. refl) refl
-    (row_word (fixed fold_word) (λ a. spell.fold_word a ∷ []) w (codes "count") ws o.Count _ (λ _. refl) refl
-    (row_word (fixed fold_word) (λ a. spell.fold_word a ∷ []) w (codes "collect") ws o.Collect _ (λ _. refl) refl
-    (none_tabled (fixed fold_word) (λ a. spell.fold_word a ∷ []) w ws))))
+    row_word (fixed fold_named) (λ a. spell.fold_word a ∷ []) w (codes "sum") ws o.Sum _ (λ _. refl) refl
+    (row_word (fixed fold_named) (λ a. spell.fold_word a ∷ []) w (codes "sum_nonneg") ws o.SumNonneg _ (λ _. refl) refl
+    (row_word (fixed fold_named) (λ a. spell.fold_word a ∷ []) w (codes "count") ws o.Count _ (λ _. refl) refl
+    (row_word (fixed fold_named) (λ a. spell.fold_word a ∷ []) w (codes "collect") ws o.Collect _ (λ _. refl) refl
+    (none_tabled (fixed fold_named) (λ a. spell.fold_word a ∷ []) w ws))))
 
-pub fold_respelled : (ws : Words) → Respelled (one_of fold_word) (λ a. spell.fold_word a ∷ []) ws (one_of fold_word ws)
-fold_respelled ws = one_respelled fold_word spell.fold_word fold_tabled ws
+pub fold_respelled : (ws : Words) → Respelled (one_of fold_named) (λ a. spell.fold_word a ∷ []) ws (one_of fold_named ws)
+fold_respelled ws = one_respelled fold_named spell.fold_word fold_tabled ws
 
-reduce_tabled : (w : List ℕ) (ws : Words) → Tabled (fixed reduce_word) (λ a. spell.reduce_word a ∷ []) w ws (said_if (reduce_word w) ws)
+reduce_tabled : (w : List ℕ) (ws : Words) → Tabled (fixed reduce_named) (λ a. spell.reduce_word a ∷ []) w ws (said_if (reduce_named w) ws)
 reduce_tabled w ws =
-    row_word (fixed reduce_word) (λ a. spell.reduce_word a ∷ []) w (codes "sum") ws r.Sum _ (λ _. refl) refl
-    (row_word (fixed reduce_word) (λ a. spell.reduce_word a ∷ []) w (codes "max") ws r.Max _ (λ _. refl) refl
-    (row_word (fixed reduce_word) (λ a. spell.reduce_word a ∷ []) w (codes "min") ws r.Min _ (λ _. refl) refl
-    (none_tabled (fixed reduce_word) (λ a. spell.reduce_word a ∷ []) w ws)))
+    row_word (fixed reduce_named) (λ a. spell.reduce_word a ∷ []) w (codes "sum") ws r.Sum _ (λ _. refl) refl
+    (row_word (fixed reduce_named) (λ a. spell.reduce_word a ∷ []) w (codes "max") ws r.Max _ (λ _. refl) refl
+    (row_word (fixed reduce_named) (λ a. spell.reduce_word a ∷ []) w (codes "min") ws r.Min _ (λ _. refl) refl
+    (none_tabled (fixed reduce_named) (λ a. spell.reduce_word a ∷ []) w ws)))
 
-pub reduce_respelled : (ws : Words) → Respelled (one_of reduce_word) (λ a. spell.reduce_word a ∷ []) ws (one_of reduce_word ws)
-reduce_respelled ws = one_respelled reduce_word spell.reduce_word reduce_tabled ws
+pub reduce_respelled : (ws : Words) → Respelled (one_of reduce_named) (λ a. spell.reduce_word a ∷ []) ws (one_of reduce_named ws)
+reduce_respelled ws = one_respelled reduce_named spell.reduce_word reduce_tabled ws

@@ -36,9 +36,9 @@ abbrev pub switch_in : Option Declaration → Option (List ℕ)
 switch_in (Some (switch n)) = Some n
 switch_in _ = None
 
-abbrev pub chain_in : Option Declaration → Option PlainChain
-chain_in (Some (chain c)) = Some c
-chain_in _ = None
+abbrev pub declared_chain : Option Declaration → Option PlainChain
+declared_chain (Some (chain c)) = Some c
+declared_chain _ = None
 
 abbrev pub node_in : Option Declaration → Option Node
 node_in (Some (node n)) = Some n
@@ -53,7 +53,7 @@ abbrev pub blueprint_of : List (List ℕ) → PlainBlueprint
 blueprint_of ls =
     record {
       switches = filter_map (λ l. switch_in (declares l)) ls;
-      chains = filter_map (λ l. chain_in (declares l)) ls;
+      chains = filter_map (λ l. declared_chain (declares l)) ls;
       nodes = filter_map (λ l. node_in (declares l)) ls;
       wires = filter_map (λ l. wire_in (declares l)) ls;
     }
@@ -97,8 +97,8 @@ first_fault before [] = if says_some before then None else Some (record { kind =
 first_fault before (l ∷ ls) = fault_or (fault_behind before l) (length before + 1) (first_fault (before ++ l ∷ []) ls)
 
 -- the first fault of a text
-abbrev pub fault_of : List ℕ → Option BlueFault
-fault_of text = if nat_lt 1048576 (length text) then Some (record { kind = TooLong; line = 0 }) else first_fault [] (lines text)
+abbrev pub text_fault : List ℕ → Option BlueFault
+text_fault text = if nat_lt 1048576 (length text) then Some (record { kind = TooLong; line = 0 }) else first_fault [] (lines text)
 
 -- the lines have no fault, and declare what the blueprint has
 pub record SaysLines (ls : List (List ℕ)) (b : PlainBlueprint) : Type 0 where
@@ -107,7 +107,7 @@ pub record SaysLines (ls : List (List ℕ)) (b : PlainBlueprint) : Type 0 where
 
 -- the text has no fault, and its lines declare what the blueprint has
 pub record Says (text : List ℕ) (b : PlainBlueprint) : Type 0 where
-  pub faultless : fault_of text ≡ None
+  pub faultless : text_fault text ≡ None
   pub declared : blueprint_of (lines text) ≡ b
 
 -- the words of the lines that are not passed over

@@ -6,6 +6,6 @@ use Rattle.blue_lang.specs.declared.parse.Stop.{Stop}
 use Rattle.blue_lang.specs.declared.parse.Stop.TheVariants.{Fault, NoMemory}
 
 -- what a reading ends with that stopped at a line
-abbrev pub end_at : Stop → ℕ → ParseEnd
-end_at (Fault k) n = ended.Fault (record { kind = k; line = n })
-end_at NoMemory n = ended.NoMemory
+abbrev pub stop_end : Stop → ℕ → ParseEnd
+stop_end (Fault k) n = ended.Fault (record { kind = k; line = n })
+stop_end NoMemory n = ended.NoMemory

@@ -3,7 +3,7 @@ ghost use Rattle.std.specs.Prelude.{◌≡◌, ◌≤◌, length, IfOk, IsTrue};
 ghost use Rattle.elem_core.specs.Text.{words};
 ghost use Rattle.blue_words.specs.Line.{is_plain};
 ghost use Rattle.blue_words.specs.Reading.{Reads, ReadsAs, at_map};
-ghost use Rattle.blue_lang.specs.Declarations.{port, lane, lane_size, wire_of, end_of, undecided, decided, node_of, chain_words, wire_declaration, node_declaration, declaration, declared_by, declared_in};
+ghost use Rattle.blue_lang.specs.Declarations.{port, read_lane, read_lane_size, read_wire, read_end, undecided, read_decided, read_node, chain_words, wire_declaration, node_declaration, declaration, declared_by, declared_in};
 ghost use Rattle.blue_kinds.specs.Kinds.{source_kind, sink_kind};
 ghost use Rattle.blue_lang.specs.Plain.{plain_chain, plain_declaration};
 
@@ -128,7 +128,7 @@ fn read_chain(alloc: Global, words: &mut Words) -> Result<PlaceValue<ChainDecl>,
 }
 
 fn read_source_node(alloc: Global, words: &mut Words) -> Result<PlaceValue<Node>, FormEnd>
-    ensures { Reads result (node_of (undecided source_kind) words.old) words.new }
+    ensures { Reads result (read_node (undecided source_kind) words.old) words.new }
 {
     let name = words.name(alloc)?;
     let kind = read_source_kind(alloc, words)?;
@@ -153,7 +153,7 @@ fn read_source_kind(
 }
 
 fn read_sink_node(alloc: Global, words: &mut Words) -> Result<PlaceValue<Node>, FormEnd>
-    ensures { Reads result (node_of (undecided sink_kind) words.old) words.new }
+    ensures { Reads result (read_node (undecided sink_kind) words.old) words.new }
 {
     let name = words.name(alloc)?;
     let kind = read_sink_kind(alloc, words)?;
@@ -175,7 +175,7 @@ fn read_sink_kind(alloc: Global, words: &mut Words) -> Result<PlaceValue<(Kind, 
 }
 
 fn read_stage_node(alloc: Global, words: &mut Words) -> Result<PlaceValue<Node>, FormEnd>
-    ensures { Reads result (node_of decided words.old) words.new }
+    ensures { Reads result (read_node read_decided words.old) words.new }
 {
     let name = words.name(alloc)?;
     let kind = read_decided(alloc, words)?;
@@ -188,7 +188,7 @@ fn read_stage_node(alloc: Global, words: &mut Words) -> Result<PlaceValue<Node>,
 
 // A stage's kind and its decider.
 fn read_decided(alloc: Global, words: &mut Words) -> Result<PlaceValue<(Kind, Decider)>, FormEnd>
-    ensures { Reads result (decided words.old) words.new }
+    ensures { Reads result (read_decided words.old) words.new }
 {
     let Some(word) = words.next() else {
         return Err(FormEnd::BadLine);
@@ -199,7 +199,7 @@ fn read_decided(alloc: Global, words: &mut Words) -> Result<PlaceValue<(Kind, De
 }
 
 fn read_wire(alloc: Global, words: &mut Words) -> Result<PlaceValue<WireDecl>, FormEnd>
-    ensures { Reads result (wire_of words.old) words.new }
+    ensures { Reads result (read_wire words.old) words.new }
 {
     let start = read_port(alloc, words)?;
     let end = read_end(alloc, words)?;
@@ -228,7 +228,7 @@ fn read_port(alloc: Global, words: &mut Words) -> Result<PlaceValue<(Line, u32)>
 
 // The input that a wire goes to, behind `->`.
 fn read_end(alloc: Global, words: &mut Words) -> Result<PlaceValue<(Line, u32)>, FormEnd>
-    ensures { Reads result (end_of words.old) words.new }
+    ensures { Reads result (read_end words.old) words.new }
 {
     if words.skip(b"->") {
         read_port(alloc, words)
@@ -239,7 +239,7 @@ fn read_end(alloc: Global, words: &mut Words) -> Result<PlaceValue<(Line, u32)>,
 
 // Whether a wire has a lane, and its size.
 fn read_lane(words: &mut Words) -> Result<PlaceValue<Option<u32>>, FormEnd>
-    ensures { Reads result (lane words.old) words.new }
+    ensures { Reads result (read_lane words.old) words.new }
 {
     let Some(word) = words.next() else {
         return Ok(Ok(None));
@@ -252,7 +252,7 @@ fn read_lane(words: &mut Words) -> Result<PlaceValue<Option<u32>>, FormEnd>
 }
 
 fn read_lane_size(words: &mut Words) -> Result<PlaceValue<Option<u32>>, FormEnd>
-    ensures { Reads result (lane_size words.old) words.new }
+    ensures { Reads result (read_lane_size words.old) words.new }
 {
     match words.next() {
         Some(word) => Ok(size_place(word).map(Some)),

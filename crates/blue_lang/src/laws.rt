@@ -5,11 +5,11 @@ ghost use Rattle.elem_core.specs.declared.why.Decider.{Decider};
 ghost use Rattle.stream_model.specs.declared.kind.Kind.{Kind};
 ghost use Rattle.blue_core.specs.declared.blueprint.Step.{Step};
 ghost use Rattle.blue_words.specs.declared.fault.BlueKind.TheVariants.{BadVersion, BadLine, BadName, BadNumber};
-ghost use Rattle.blue_kinds.specs.Steps.{chain_of};
+ghost use Rattle.blue_kinds.specs.Steps.{read_chain};
 ghost use Rattle.blue_spell.specs.Kinds.{kind_words, decider_words};
-ghost use Rattle.blue_lang.specs.Blueprints.{Says, blueprint_of, fault_of, said_words};
+ghost use Rattle.blue_lang.specs.Blueprints.{Says, blueprint_of, text_fault, said_words};
 ghost use Rattle.blue_lang.specs.Canonical.{canonical, steps_words};
-ghost use Rattle.blue_lang.specs.Declarations.{decided};
+ghost use Rattle.blue_lang.specs.Declarations.{read_decided};
 ghost use Rattle.blue_lang.specs.Plain.{PlainBlueprint};
 ghost use Rattle.blue_lang.specs.Spelling.{AllWords};
 
@@ -20,7 +20,7 @@ pub fn one_text_says_one_blueprint()
 
 /// Every text either has a first fault, and then it says no blueprint, or it says the blueprint that its lines declare.
 pub fn a_text_says_a_blueprint_or_has_a_fault()
-    ensures { (text : List ℕ) → MatchOption (fault_of text) (Says text (blueprint_of (lines text))) (λ f. (b : PlainBlueprint) → ¬ (Says text b)) }
+    ensures { (text : List ℕ) → MatchOption (text_fault text) (Says text (blueprint_of (lines text))) (λ f. (b : PlainBlueprint) → ¬ (Says text b)) }
 {}
 
 /// The canonical text of a blueprint that a text says says the same blueprint, where it is no longer than a text may be. So
@@ -37,22 +37,22 @@ pub fn words_alone_say_a_blueprint()
 
 /// A stage's kind and decider are read again from their canonical words.
 pub fn kinds_are_read_again()
-    ensures { (ws rest : List (List ℕ)) (kind : Kind) (decider : Decider) → AllWords ws → decided ws ≡ Some (Ok (kind, decider), rest) → decided (kind_words kind ++ decider_words decider) ≡ Some (Ok (kind, decider), []) }
+    ensures { (ws rest : List (List ℕ)) (kind : Kind) (decider : Decider) → AllWords ws → read_decided ws ≡ Some (Ok (kind, decider), rest) → read_decided (kind_words kind ++ decider_words decider) ≡ Some (Ok (kind, decider), []) }
 {}
 
 /// The steps of a chain are read again from their canonical words.
 pub fn chains_are_read_again()
-    ensures { (ws rest : List (List ℕ)) (steps : List Step) → AllWords ws → chain_of ws ≡ Some (Ok steps, rest) → chain_of (steps_words steps) ≡ Some (Ok steps, []) }
+    ensures { (ws rest : List (List ℕ)) (steps : List Step) → AllWords ws → read_chain ws ≡ Some (Ok steps, rest) → read_chain (steps_words steps) ≡ Some (Ok steps, []) }
 {}
 
 /// First faults of small texts.
 pub fn texts_have_first_faults()
-    ensures empty { fault_of [] ≡ Some (record { kind = BadVersion; line = 0 }) }
-    ensures version { fault_of (codes "\n# a\nstreams 2\n") ≡ Some (record { kind = BadVersion; line = 3 }) }
-    ensures function { fault_of (codes "streams 1\nstage a map nosuch\n") ≡ Some (record { kind = BadLine; line = 2 }) }
-    ensures number { fault_of (codes "streams 1\nstage a map add x\n") ≡ Some (record { kind = BadNumber; line = 2 }) }
-    ensures name { fault_of (codes "streams 1\nwire a.0 -> B.0\n") ≡ Some (record { kind = BadName; line = 2 }) }
-    ensures leftmost { fault_of (codes "streams 1\nwire a.x -> B.0\n") ≡ Some (record { kind = BadNumber; line = 2 }) }
-    ensures decider { fault_of (codes "streams 1\nstage a take 1 decider stop\n") ≡ Some (record { kind = BadLine; line = 2 }) }
-    ensures good { fault_of (codes "  streams  1\nsource src lines in.txt\nstage m map num\nsink out lines out.txt\nwire src.0 -> m.0\nwire m.0 -> out.0 async") ≡ None }
+    ensures empty { text_fault [] ≡ Some (record { kind = BadVersion; line = 0 }) }
+    ensures version { text_fault (codes "\n# a\nstreams 2\n") ≡ Some (record { kind = BadVersion; line = 3 }) }
+    ensures function { text_fault (codes "streams 1\nstage a map nosuch\n") ≡ Some (record { kind = BadLine; line = 2 }) }
+    ensures number { text_fault (codes "streams 1\nstage a map add x\n") ≡ Some (record { kind = BadNumber; line = 2 }) }
+    ensures name { text_fault (codes "streams 1\nwire a.0 -> B.0\n") ≡ Some (record { kind = BadName; line = 2 }) }
+    ensures leftmost { text_fault (codes "streams 1\nwire a.x -> B.0\n") ≡ Some (record { kind = BadNumber; line = 2 }) }
+    ensures decider { text_fault (codes "streams 1\nstage a take 1 decider stop\n") ≡ Some (record { kind = BadLine; line = 2 }) }
+    ensures good { text_fault (codes "  streams  1\nsource src lines in.txt\nstage m map num\nsink out lines out.txt\nwire src.0 -> m.0\nwire m.0 -> out.0 async") ≡ None }
 {}

@@ -4,11 +4,11 @@ ghost use Rattle.elem_core.specs.Text.{lines};
 ghost use Rattle.blue_words.specs.declared.fault.BlueKind.{BlueKind};
 ghost use Rattle.blue_words.specs.declared.fault.BlueFault.{BlueFault};
 ghost use Rattle.blue_words.specs.Reading.{at_map};
-ghost use Rattle.blue_lang.specs.Blueprints.{Says, SaysLines, fault_of, first_fault, line_fault, is_version, are_version, has_room, declaration_fault, blueprint_of};
+ghost use Rattle.blue_lang.specs.Blueprints.{Says, SaysLines, text_fault, first_fault, line_fault, is_version, are_version, has_room, declaration_fault, blueprint_of};
 ghost use Rattle.blue_lang.specs.Declarations.{declared_in};
 ghost use Rattle.blue_lang.specs.Plain.{plain, plain_declaration};
-ghost use Rattle.blue_lang.specs.Progress.{added, Declares, ReadsLine};
-ghost use Rattle.blue_lang.specs.Ends.{end_at};
+ghost use Rattle.blue_lang.specs.Progress.{with_declaration, Declares, ReadsLine};
+ghost use Rattle.blue_lang.specs.Ends.{stop_end};
 
 use crate::declarations::{Declaration, read_declaration};
 use blue_core::blueprint::Blueprint;
@@ -53,7 +53,7 @@ struct Progress {
 /// of more than 1,048,576 bytes is at fault as a whole. Akka Streams has no text for a graph, so its rules are this project's.
 pub fn parse(alloc: Global, text: &[u8]) -> Result<Blueprint, ParseEnd>
     ensures ok { IfOk result (λ b. Says text.now (plain b)) }
-    ensures fault { (f : BlueFault) → result ≡ Err (ParseEnd.Fault f) → fault_of text.now ≡ Some f }
+    ensures fault { (f : BlueFault) → result ≡ Err (ParseEnd.Fault f) → text_fault text.now ≡ Some f }
 {
     if text.len() > MAX_TEXT {
         let kind = BlueKind::TooLong;
@@ -88,7 +88,7 @@ fn read_text(alloc: Global, text: &[u8]) -> Result<Blueprint, ParseEnd>
 }
 
 fn fault_at(stop: Stop, line: u32) -> ParseEnd
-    ensures { result ≡ end_at stop line }
+    ensures { result ≡ stop_end stop line }
 {
     match stop {
         Stop::Fault(kind) => ParseEnd::Fault(BlueFault { kind, line }),
@@ -189,7 +189,7 @@ fn has_room(blueprint: &Blueprint, declaration: &Declaration) -> bool
 }
 
 fn add(blueprint: &mut Blueprint, declaration: Declaration) -> Result<(), NoMemory>
-    ensures { OnOk result (plain blueprint.new ≡ added (plain blueprint.old) (Some (plain_declaration declaration))) }
+    ensures { OnOk result (plain blueprint.new ≡ with_declaration (plain blueprint.old) (Some (plain_declaration declaration))) }
 {
     match declaration {
         Declaration::Switch(name) => blueprint.switches.push(name)?,

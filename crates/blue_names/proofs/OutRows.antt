@@ -9,7 +9,7 @@ use Rattle.std.proofs.lemmas.Grind.{common_steps}
 use Rattle.std.proofs.lemmas.List.{map_more, get_or_default}
 use Rattle.std.proofs.lemmas.List.Folds.{list_any-append}
 use Rattle.stream_model.specs.Graph.{Edge}
-use Rattle.blue_names.specs.Outs.{IsOuts, row_at, items_in}
+use Rattle.blue_names.specs.Outs.{IsOuts, row_at, numbers_in}
 
 -- so many rows without a number
 pub record AreEmpty (rows : List (Vec ℕ Global)) (n : ℕ) : Type 0 where

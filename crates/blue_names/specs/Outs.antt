@@ -6,12 +6,12 @@ use Rattle.std.specs.declared.alloc.Global.{Global}
 use Rattle.stream_model.specs.Graph.{Edge}
 
 -- the numbers in a row; none where there is no such row
-abbrev pub items_in : Option (Vec ℕ Global) → List ℕ
-items_in None = []
-items_in (Some v) = v.items
+abbrev pub numbers_in : Option (Vec ℕ Global) → List ℕ
+numbers_in None = []
+numbers_in (Some v) = v.items
 
 abbrev pub row_at : List (Vec ℕ Global) → ℕ → List ℕ
-row_at rows n = items_in (slice_get rows n)
+row_at rows n = numbers_in (slice_get rows n)
 
 -- each row has the wires out of its node: those in it are such wires, and such wires are in it
 pub record IsOuts (rows : List (Vec ℕ Global)) (ws : List Edge) : Type 0 where

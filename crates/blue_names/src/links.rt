@@ -1,7 +1,7 @@
 // Wires by the numbers of their nodes.
 ghost use Rattle.std.specs.Prelude.{◌≡◌, ℕ, ◌<◌, ◌≤◌, List, IfOk, map, length, slice_get, Some, Option};
 ghost use Rattle.std.specs.Option.{option_map};
-ghost use Rattle.blue_rules.specs.Links.{number_of, wire_of, wires_of};
+ghost use Rattle.blue_rules.specs.Links.{node_number, wire_of, wires_of};
 ghost use Rattle.blue_rules.specs.Names.{unknown_end};
 ghost use Rattle.blue_names.specs.Table.{Numbers};
 ghost use Rattle.blue_names.specs.Links.{wire_of_link, wires_of_links};
@@ -28,8 +28,8 @@ pub struct NumberedWire {
 }
 
 /// The number of the node of that name, or 0 where there is none.
-fn number_of(table: &NameTable<'_>, name: &Line) -> usize
-    ensures { (nodes : List Node) → Numbers table.now (map (λ n. n.name) nodes) → result ≡ number_of name.now nodes }
+fn node_number(table: &NameTable<'_>, name: &Line) -> usize
+    ensures { (nodes : List Node) → Numbers table.now (map (λ n. n.name) nodes) → result ≡ node_number name.now nodes }
 {
     find(table, name).unwrap_or(0)
 }
@@ -46,9 +46,9 @@ pub fn links_of(
     let mut links = Vec::new(alloc);
     for wire in wires {
         links.push(NumberedWire {
-            from: number_of(&table, &wire.from),
+            from: node_number(&table, &wire.from),
             output: wire.output,
-            to: number_of(&table, &wire.to),
+            to: node_number(&table, &wire.to),
             input: wire.input,
             lane: wire.lane,
         })?;

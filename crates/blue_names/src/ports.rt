@@ -6,7 +6,7 @@ ghost use Rattle.stream_picture.specs.View.{outputs_of};
 ghost use Rattle.blue_rules.specs.First.{first_from, when};
 ghost use Rattle.std.specs.Option.{option_or, option_map};
 ghost use Rattle.blue_core.specs.declared.blueprint.Node.{Node as Declared};
-ghost use Rattle.blue_rules.specs.Ports.{port_missing, port_twice, port_open, is_number, open_input, open_output, lacks_input, lacks_output};
+ghost use Rattle.blue_rules.specs.Ports.{port_missing, port_twice, port_open, is_port_number, open_input, open_output, lacks_input, lacks_output};
 ghost use Rattle.blue_names.specs.Links.{AreInRange, wires_of_links};
 ghost use Rattle.blue_names.specs.Wiring.{found_in, FindsWires, FindsSources, port_of};
 
@@ -125,10 +125,10 @@ pub fn port_missing(nodes: &[Node], links: &[NumberedWire]) -> Option<usize>
 /// Whether a wire uses a port that an earlier wire uses.
 fn uses_again(targets: &PortTable, sources: &PortTable, i: usize, link: &NumberedWire) -> bool
     ensures { (ws : List Edge) → FindsWires targets.now ws → FindsSources sources.now ws
-        → result ≡ (not (is_number i (find_source link.now.from link.now.output ws)) || not (is_number i (find_wire link.now.to link.now.input ws))) }
+        → result ≡ (not (is_port_number i (find_source link.now.from link.now.output ws)) || not (is_port_number i (find_wire link.now.to link.now.input ws))) }
 {
-    !is_number(i, wire_at(sources, link.from, link.output))
-        || !is_number(i, wire_at(targets, link.to, link.input))
+    !is_port_number(i, wire_at(sources, link.from, link.output))
+        || !is_port_number(i, wire_at(targets, link.to, link.input))
 }
 
 /// The first wire that uses a port that an earlier wire uses.
@@ -146,8 +146,8 @@ pub fn port_twice(targets: &PortTable, sources: &PortTable, links: &[NumberedWir
 }
 
 /// Whether it is that number.
-fn is_number(i: usize, found: Option<usize>) -> bool
-    ensures { result ≡ is_number i found }
+fn is_port_number(i: usize, found: Option<usize>) -> bool
+    ensures { result ≡ is_port_number i found }
 {
     match found {
         None => true,

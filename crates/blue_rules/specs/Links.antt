@@ -11,12 +11,12 @@ number_from name n [] = None
 number_from name n (x ∷ xs) = if same_text name x then Some n else number_from name (n + 1) xs
 
 -- the number of the node of that name; no rule that numbers serve is asked where there is none
-abbrev pub number_of : List ℕ → List Node → ℕ
-number_of name nodes = unwrap_or (number_from name 0 (map (λ n. n.name) nodes)) 0
+abbrev pub node_number : List ℕ → List Node → ℕ
+node_number name nodes = unwrap_or (number_from name 0 (map (λ n. n.name) nodes)) 0
 
 -- a wire by the numbers of its nodes
 abbrev pub wire_of : List Node → WireDecl → Edge
-wire_of nodes w = record { from = number_of w.from nodes; output = w.output; to = number_of w.to nodes; input = w.input; lane = w.lane }
+wire_of nodes w = record { from = node_number w.from nodes; output = w.output; to = node_number w.to nodes; input = w.input; lane = w.lane }
 
 abbrev pub wires_of : List Node → List WireDecl → List Edge
 wires_of nodes ws = map (wire_of nodes) ws

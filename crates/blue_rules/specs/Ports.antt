@@ -21,13 +21,13 @@ abbrev pub port_missing : List Node → List Edge → Option ℕ
 port_missing nodes ws = first_from (λ i w. when (lacks_output (slice_get nodes w.from) w.output || lacks_input (slice_get nodes w.to) w.input) i) 0 ws
 
 -- it is that number
-abbrev pub is_number : ℕ → Option ℕ → Bool
-is_number i None = true
-is_number i (Some k) = k == i
+abbrev pub is_port_number : ℕ → Option ℕ → Bool
+is_port_number i None = true
+is_port_number i (Some k) = k == i
 
 -- the first wire that uses a port that an earlier wire uses
 abbrev pub port_twice : List Edge → Option ℕ
-port_twice ws = first_from (λ i w. when (not (is_number i (find_source w.from w.output ws)) || not (is_number i (find_wire w.to w.input ws))) i) 0 ws
+port_twice ws = first_from (λ i w. when (not (is_port_number i (find_source w.from w.output ws)) || not (is_port_number i (find_wire w.to w.input ws))) i) 0 ws
 
 -- a port without a wire: of which node, whether it is an output, and which
 pub record OpenPort : Type 0 where

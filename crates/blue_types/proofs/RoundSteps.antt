@@ -12,7 +12,7 @@ use Rattle.plug_core.specs.declared.head.PlugHead.{PlugHead}
 use Rattle.blue_rules.specs.Rounds.{attempt, attempt_at, arrivals, fixes, port_type, type_on, wire_into}
 use Rattle.blue_types.specs.declared.news.Fixed.{Fixed}
 use Rattle.blue_names.specs.Members.{is_in}
-use Rattle.blue_types.specs.News.{AreNews, AreReached, Rests, news_at}
+use Rattle.blue_types.specs.News.{AreNews, AreReached, RestsOn, news_at}
 use Rattle.blue_types.proofs.NewsLists.{option_or-none}
 
 -- a wire at a place that is counted from n, which leads to that node
@@ -84,7 +84,7 @@ some_or_none (Some x) h = cc
 
 module _ (nodes : List Node) (ws : List Edge) (fix : (ℕ → Option Sort) → ℕ → Option Sort) (t u : ℕ → Option Sort) (news : List Fixed) (front next : List ℕ)
     (alike : (i : ℕ) → ((j : ℕ) (w : Edge) → slice_get ws j ≡ Some w → w.to ≡ i → u w.from ≡ t w.from) → fix u i ≡ fix t i)
-    (are : AreNews t (fix t) front news) (rests : Rests t (fix t) front) (put : (i : ℕ) → u i ≡ option_or (t i) (news_at news i)) (reached : AreReached ws t news next) where
+    (are : AreNews t (fix t) front news) (rests : RestsOn t (fix t) front) (put : (i : ℕ) → u i ≡ option_or (t i) (news_at news i)) (reached : AreReached ws t news next) where
   -- a node that has no news, and no type, has nothing to fix
   nothing : (i : ℕ) → t i ≡ None → news_at news i ≡ None → fix t i ≡ None
   nothing i none no_news =
@@ -106,8 +106,8 @@ module _ (nodes : List Node) (ws : List Edge) (fix : (ℕ → Option Sort) → �
   unchanged i out j w at to = unchanged_by i out j w at to (t w.from) refl
 
   -- after a round only the nodes in the list have anything to fix
-  pub Rests-next : Rests u (fix u) next
-  Rests-next = record {
+  pub RestsOn-next : RestsOn u (fix u) next
+  RestsOn-next = record {
     others = λ i none out.
         let parts = none_before (t i) (news_at news i) (sym (put i) ∙ none) in
         alike i (unchanged i out) ∙ nothing i parts.0 parts.1;

@@ -14,7 +14,7 @@ use Rattle.blue_types.specs.declared.library.Library.{Library}
 use Rattle.blue_types.specs.declared.net.Net.{Net}
 use Rattle.blue_types.specs.Net.{type_at}
 use Rattle.blue_names.specs.Members.{is_in}
-use Rattle.blue_types.specs.News.{Rests}
+use Rattle.blue_types.specs.News.{RestsOn}
 use Rattle.blue_types.specs.Would.{would}
 
 -- the types of the sources, as a list
@@ -31,7 +31,7 @@ module _ (l : Library) (n : Net) where
   -- these types are those after k rounds, and only nodes in the list have anything to fix
   pub record Settles (types : List (Option Sort)) (front : List ℕ) (k : ℕ) : Type 0 where
     pub so_far : (i : ℕ) → type_at types i ≡ rounds_of k i
-    pub rests : Rests (type_at types) (would l n (type_at types)) front
+    pub rests : RestsOn (type_at types) (would l n (type_at types)) front
     pub count : length types ≡ length n.nodes.now
 
   pub Settles-first : (types : List (Option Sort)) (front : List ℕ) → ((i : ℕ) → type_at types i ≡ source_at (slice_get n.nodes.now i)) → length types ≡ length n.nodes.now
@@ -54,7 +54,7 @@ module _ (l : Library) (n : Net) where
       past i le = ap (λ o. fixes (attempt_at l.plugs.now l.chains.now n.nodes.now (wires_of_links n.links.now) (type_at types) i o)) (past_end n.nodes.now i le)
 
   pub Settles-next : (types new : List (Option Sort)) (front later : List ℕ) (k : ℕ) → Settles types front k → length new ≡ length types
-      → ((i : ℕ) → type_at new i ≡ option_or (type_at types i) (would l n (type_at types) i)) → Rests (type_at new) (would l n (type_at new)) later → Settles new later (k + 1)
+      → ((i : ℕ) → type_at new i ≡ option_or (type_at types i) (would l n (type_at types) i)) → RestsOn (type_at new) (would l n (type_at new)) later → Settles new later (k + 1)
   Settles-next types new front later k s count step rests =
       let one : k + 1 ≡ suc k = omega arith in
       record {

@@ -7,7 +7,7 @@ use Rattle.blue_names.specs.Wiring.{FindsWires}
 use Rattle.blue_types.specs.declared.net.Net.{Net}
 
 -- the table has the first wire into each input
-pub record IsWired (n : Net) : Type 0 where
+pub record HasFirstWires (n : Net) : Type 0 where
   pub targets : FindsWires n.targets.now (wires_of_links n.links.now)
 
 -- the type of a node, where it is fixed

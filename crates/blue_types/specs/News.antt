@@ -17,7 +17,7 @@ pub record AreNews (types fix : ℕ → Option Sort) (front : List ℕ) (news : 
   pub of_node : (i : ℕ) → types i ≡ None → news_at news i ≡ (if is_in i front then fix i else None)
 
 -- only nodes of that list have anything to fix
-pub record Rests (types fix : ℕ → Option Sort) (front : List ℕ) : Type 0 where
+pub record RestsOn (types fix : ℕ → Option Sort) (front : List ℕ) : Type 0 where
   pub others : (i : ℕ) → types i ≡ None → is_in i front ≡ false → fix i ≡ None
 
 -- the targets of the wires out of nodes with news, and without a type before, are in the list

@@ -5,7 +5,7 @@ ghost use Rattle.blue_rules.specs.Rounds.{arrivals, first_typed, pair_up, attemp
 ghost use Rattle.blue_rules.specs.StageTypes.{fixed_type};
 ghost use Rattle.blue_names.specs.Links.{wires_of_links};
 ghost use Rattle.blue_types.specs.Library.{IsKnown};
-ghost use Rattle.blue_types.specs.Net.{IsWired, type_at};
+ghost use Rattle.blue_types.specs.Net.{HasFirstWires, type_at};
 
 use crate::library::Library;
 use crate::net::{Net, arrival};
@@ -26,7 +26,7 @@ fn first_typed(
     node: usize,
     count: u32,
 ) -> Result<Option<ElemType>, NoMemory>
-    requires { IsWired net.now }
+    requires { HasFirstWires net.now }
     ensures { IfOk result (λ o. o ≡ first_typed (arrivals net.now.nodes.now (wires_of_links net.now.links.now) (type_at types.now) node (count_from 0 count))) }
 {
     for port in 0..count {
@@ -45,7 +45,7 @@ fn zipped(
     types: &[Option<ElemType>],
     node: usize,
 ) -> Result<Option<ElemType>, NoMemory>
-    requires { IsWired net.now }
+    requires { HasFirstWires net.now }
     ensures { IfOk result (λ o. o ≡ pair_up (arrivals net.now.nodes.now (wires_of_links net.now.links.now) (type_at types.now) node (0 ∷ 1 ∷ []))) }
 {
     let left = arrival(alloc, net, types, node, 0)?;
@@ -69,7 +69,7 @@ fn attempt_on(
     kind: &Kind,
 ) -> Result<Option<Typed>, NoMemory>
     requires known { IsKnown library.now }
-    requires wired { IsWired net.now }
+    requires wired { HasFirstWires net.now }
     ensures { IfOk result (λ o. o ≡ attempt_by library.now.plugs.now library.now.chains.now None kind.now
         (arrivals net.now.nodes.now (wires_of_links net.now.links.now) (type_at types.now) node (count_from 0 (inputs_of kind.now)))) }
 {
@@ -95,7 +95,7 @@ pub fn attempt(
     kind: &Kind,
 ) -> Result<Option<Typed>, NoMemory>
     requires known { IsKnown library.now }
-    requires wired { IsWired net.now }
+    requires wired { HasFirstWires net.now }
     ensures { IfOk result (λ o. o ≡ attempt library.now.plugs.now library.now.chains.now kind.now
         (arrivals net.now.nodes.now (wires_of_links net.now.links.now) (type_at types.now) node (count_from 0 (inputs_of kind.now)))) }
 {
@@ -114,7 +114,7 @@ pub fn attempt_at(
     node: usize,
 ) -> Result<Option<Typed>, NoMemory>
     requires known { IsKnown library.now }
-    requires wired { IsWired net.now }
+    requires wired { HasFirstWires net.now }
     ensures { IfOk result (λ o. o ≡ attempt_at library.now.plugs.now library.now.chains.now net.now.nodes.now (wires_of_links net.now.links.now) (type_at types.now) node (slice_get net.now.nodes.now node)) }
 {
     match net.nodes.get(node) {
@@ -132,7 +132,7 @@ pub fn fixes_at(
     node: usize,
 ) -> Result<Option<ElemType>, NoMemory>
     requires known { IsKnown library.now }
-    requires wired { IsWired net.now }
+    requires wired { HasFirstWires net.now }
     ensures { IfOk result (λ o. o ≡ fixes (attempt_at library.now.plugs.now library.now.chains.now net.now.nodes.now (wires_of_links net.now.links.now) (type_at types.now) node (slice_get net.now.nodes.now node))) }
 {
     match attempt_at(alloc, library, net, types, node)? {

@@ -7,7 +7,7 @@ ghost use Rattle.blue_rules.specs.First.{first_from, when};
 ghost use Rattle.blue_rules.specs.Rounds.{is_joining, unlike, clash_of, clash_with, clash_on, type_on, attempt_at, is_deep, settled, type_clash, too_deep};
 ghost use Rattle.blue_names.specs.Links.{wire_of_link, wires_of_links};
 ghost use Rattle.blue_types.specs.Library.{IsKnown};
-ghost use Rattle.blue_types.specs.Net.{IsWired, type_at};
+ghost use Rattle.blue_types.specs.Net.{HasFirstWires, type_at};
 
 use crate::attempts::attempt;
 use crate::library::Library;
@@ -146,7 +146,7 @@ fn first_deep(
     types: &[Option<ElemType>],
 ) -> Result<Option<usize>, NoMemory>
     requires known { IsKnown library.now }
-    requires wired { IsWired net.now }
+    requires wired { HasFirstWires net.now }
     ensures { IfOk result (λ o. o ≡ first_from (λ i n. when (is_deep (attempt_at library.now.plugs.now library.now.chains.now net.now.nodes.now (wires_of_links net.now.links.now) (type_at types.now) i (Some n))) i) 0 net.now.nodes.now) }
 {
     for (i, node) in net.nodes.iter().enumerate() {
@@ -179,7 +179,7 @@ pub fn too_deep(
     types: &[Option<ElemType>],
 ) -> Result<Option<usize>, NoMemory>
     requires known { IsKnown library.now }
-    requires wired { IsWired net.now }
+    requires wired { HasFirstWires net.now }
     requires settled { (i : ℕ) → type_at types.now i ≡ settled library.now.plugs.now library.now.chains.now net.now.nodes.now (wires_of_links net.now.links.now) i }
     ensures { IfOk result (λ o. o ≡ too_deep library.now.plugs.now library.now.chains.now net.now.nodes.now (wires_of_links net.now.links.now)) }
 {

@@ -3,7 +3,7 @@ ghost use Rattle.std.specs.Prelude.{◌≡◌, ◌<◌, ℕ, List, Option, IfOk,
 ghost use Rattle.std.specs.Option.{option_map, option_copied};
 ghost use Rattle.blue_rules.specs.Rounds.{wire_into, port_type, half_type, type_on};
 ghost use Rattle.blue_names.specs.Links.{wire_of_link, wires_of_links};
-ghost use Rattle.blue_types.specs.Net.{IsWired, type_at};
+ghost use Rattle.blue_types.specs.Net.{HasFirstWires, type_at};
 
 use crate::sorts::{left_type, right_type};
 use blue_core::blueprint::Node;
@@ -44,7 +44,7 @@ pub fn type_of(types: &[Option<ElemType>], node: usize) -> Option<&ElemType>
 
 /// The wire into an input of a node.
 fn wire_into(net: &Net<'_>, node: usize, port: u32) -> Option<NumberedWire>
-    requires { IsWired net.now }
+    requires { HasFirstWires net.now }
     ensures { option_map wire_of_link result ≡ wire_into net.now.nodes.now (wires_of_links net.now.links.now) node port }
 {
     match wire_at(net.targets, node, port) {
@@ -108,7 +108,7 @@ pub fn arrival(
     node: usize,
     port: u32,
 ) -> Result<Option<ElemType>, NoMemory>
-    requires { IsWired net.now }
+    requires { HasFirstWires net.now }
     ensures { IfOk result (λ o. o ≡ type_on net.now.nodes.now (wires_of_links net.now.links.now) (type_at types.now) (wire_into net.now.nodes.now (wires_of_links net.now.links.now) node port)) }
 {
     match wire_into(net, node, port) {

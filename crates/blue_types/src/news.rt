@@ -6,9 +6,9 @@ ghost use Rattle.blue_names.specs.Links.{wires_of_links};
 ghost use Rattle.blue_rules.specs.First.{when};
 ghost use Rattle.blue_names.specs.Outs.{IsOuts};
 ghost use Rattle.blue_types.specs.Library.{IsKnown};
-ghost use Rattle.blue_types.specs.Net.{IsWired, type_at};
+ghost use Rattle.blue_types.specs.Net.{HasFirstWires, type_at};
 ghost use Rattle.blue_names.specs.Members.{is_in};
-ghost use Rattle.blue_types.specs.News.{AreNews, Rests, AreReached, AreBelow, news_at};
+ghost use Rattle.blue_types.specs.News.{AreNews, RestsOn, AreReached, AreBelow, news_at};
 ghost use Rattle.blue_types.specs.Would.{would};
 
 use crate::attempts::fixes_at;
@@ -39,7 +39,7 @@ fn add_news(
     news: &mut Vec<Fixed>,
 ) -> Result<(), NoMemory>
     requires known { IsKnown library.now }
-    requires wired { IsWired net.now }
+    requires wired { HasFirstWires net.now }
     ensures news { (front : List ℕ) → AreNews (type_at types.now) (would library.now net.now (type_at types.now)) front news.old.items
         → OnOk result (AreNews (type_at types.now) (would library.now net.now (type_at types.now)) (front ++ node ∷ []) news.new.items) }
     ensures below { AreBelow (length net.now.nodes.now) news.old.items → OnOk result (AreBelow (length net.now.nodes.now) news.new.items) }
@@ -65,7 +65,7 @@ pub fn news_of(
     front: &[usize],
 ) -> Result<Vec<Fixed>, NoMemory>
     requires known { IsKnown library.now }
-    requires wired { IsWired net.now }
+    requires wired { HasFirstWires net.now }
     ensures news { IfOk result (λ news. AreNews (type_at types.now) (would library.now net.now (type_at types.now)) front.now news.items) }
     ensures below { IfOk result (λ news. AreBelow (length net.now.nodes.now) news.items) }
 {
@@ -160,12 +160,12 @@ pub fn types_round(
     front: &[usize],
 ) -> Result<Vec<usize>, NoMemory>
     requires known { IsKnown library.now }
-    requires wired { IsWired net.now }
+    requires wired { HasFirstWires net.now }
     requires outs { IsOuts outs.now (wires_of_links net.now.links.now) }
     requires length { length types.old ≡ length net.now.nodes.now }
-    requires rests { Rests (type_at types.old) (would library.now net.now (type_at types.old)) front.now }
+    requires rests { RestsOn (type_at types.old) (would library.now net.now (type_at types.old)) front.now }
     ensures next { (i : ℕ) → OnOk result (type_at types.new i ≡ option_or (type_at types.old i) (would library.now net.now (type_at types.old) i)) }
-    ensures rests { IfOk result (λ next. Rests (type_at types.new) (would library.now net.now (type_at types.new)) next.items) }
+    ensures rests { IfOk result (λ next. RestsOn (type_at types.new) (would library.now net.now (type_at types.new)) next.items) }
 {
     let news = news_of(alloc, library, net, types, front)?;
     let next = fix_all(alloc, net.links, outs, types, &news)?;

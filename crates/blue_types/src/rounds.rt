@@ -4,7 +4,7 @@ ghost use Rattle.blue_rules.specs.Rounds.{source_at, settled};
 ghost use Rattle.blue_names.specs.Links.{wires_of_links};
 ghost use Rattle.blue_names.specs.Outs.{IsOuts};
 ghost use Rattle.blue_types.specs.Library.{IsKnown};
-ghost use Rattle.blue_types.specs.Net.{IsWired, type_at};
+ghost use Rattle.blue_types.specs.Net.{HasFirstWires, type_at};
 ghost use Rattle.blue_names.specs.Members.{is_in};
 
 use crate::library::Library;
@@ -48,7 +48,7 @@ pub fn settle_types(
     outs: &[Vec<usize>],
 ) -> Result<Vec<Option<ElemType>>, NoMemory>
     requires known { IsKnown library.now }
-    requires wired { IsWired net.now }
+    requires wired { HasFirstWires net.now }
     requires outs { IsOuts outs.now (wires_of_links net.now.links.now) }
     ensures { IfOk result (λ types. (i : ℕ) → type_at types.items i
         ≡ settled library.now.plugs.now library.now.chains.now net.now.nodes.now (wires_of_links net.now.links.now) i) }

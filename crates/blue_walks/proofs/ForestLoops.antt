@@ -8,7 +8,7 @@ use Rattle.blue_names.specs.declared.links.NumberedWire.{NumberedWire}
 use Rattle.blue_names.specs.Links.{AreInRange, wire_of_link, wires_of_links}
 use Rattle.blue_walks.specs.Forest.{wiring, Labels}
 use Rattle.blue_names.specs.Members.{is_in}
-use Rattle.blue_walks.specs.Classes.{IsRelabeled, AreJoined, AreListed}
+use Rattle.blue_walks.specs.Classes.{IsRelabeled, AreMerged, AreListed}
 use Rattle.blue_walks.proofs.Joining.{row_in_range}
 use Rattle.std.specs.declared.vec.Vec.{Vec}
 use Rattle.std.specs.declared.alloc.Global.{Global}
@@ -67,7 +67,7 @@ module _ (ls : List NumberedWire) (i : ℕ) (d : NumberedWire) (count : ℕ) (ol
       r.at n l ∙ ap (λ x. cond (slice_index old n == x) b (slice_index old n)) ea ∙ ap (λ x. cond (slice_index old n == f) x (slice_index old n)) eb
 
   -- other labels become one
-  pub Labels-step : (new : List ℕ) → length old ≡ count → (from ≡ to → ⊥) → AreJoined old new from to → Labels (wires_of_links (take (i + 1) ls)) count (slice_index new)
+  pub Labels-step : (new : List ℕ) → length old ≡ count → (from ≡ to → ⊥) → AreMerged old new from to → Labels (wires_of_links (take (i + 1) ls)) count (slice_index new)
   Labels-step new long apart joined =
       let w = wire_of_link (get_or ls i d) in
       let ws = wires_of_links (take i ls) in

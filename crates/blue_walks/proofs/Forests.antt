@@ -4,7 +4,7 @@ use Rattle.std.specs.Prelude.{slice_get, ◌⊎◌}
 use Rattle.std.proofs.lemmas.Bool.{cases_eq, cases_Bool, eqb-true, eq-eqb, ne_eqb}
 use Rattle.std.proofs.lemmas.Option.{slice_get_within}
 use Rattle.stream_model.specs.Graph.{Graph, Edge}
-use Rattle.stream_picture.specs.Shape.{Joins, Walk, stay, along, IsNew, AreDistinct, IsPolytree}
+use Rattle.stream_picture.specs.Shape.{Joins, Walk, stay, along, IsNoneOf, AreDistinct, IsPolytree}
 use Rattle.blue_names.proofs.OutRows.{slice_get-push_old, slice_get-push_new, slice_get-push_cases}
 use Rattle.blue_walks.specs.Forest.{wiring, Linked, Labels}
 
@@ -32,14 +32,14 @@ module _ (g : Graph) where
     pub by : List ℕ
     pub walk : Walk g to b by
     pub distinct : AreDistinct by
-    pub new : IsNew i by
+    pub new : IsNoneOf i by
 
-  find_wire : (i a b : ℕ) (is : List ℕ) → Walk g a b is → AreDistinct is → IsNew i is ⊎ Behind i b
+  find_wire : (i a b : ℕ) (is : List ℕ) → Walk g a b is → AreDistinct is → IsNoneOf i is ⊎ Behind i b
   find_wire i a b [] stay d = inl tt
   find_wire i a b (k ∷ is) (along {b = m} j p) d =
       ⊎_elim
-      (λ (e : k ≡ i). inr (record { from = a; to = m; joins = subst (λ x. Joins g x a m) e j; by = is; walk = p; distinct = d.1; new = subst (λ x. IsNew x is) e d.0 }))
-      (λ (ne : k ≡ i → ⊥). ⊎_elim (λ (n : IsNew i is). inl ((λ e. ne (sym e)), n)) (λ (f : Behind i b). inr f) (find_wire i m b is p d.1))
+      (λ (e : k ≡ i). inr (record { from = a; to = m; joins = subst (λ x. Joins g x a m) e j; by = is; walk = p; distinct = d.1; new = subst (λ x. IsNoneOf x is) e d.0 }))
+      (λ (ne : k ≡ i → ⊥). ⊎_elim (λ (n : IsNoneOf i is). inl ((λ e. ne (sym e)), n)) (λ (f : Behind i b). inr f) (find_wire i m b is p d.1))
       (cases_eq k i)
 
   -- a walk over a wire, where the rest uses that wire again
@@ -60,7 +60,7 @@ module _ (g : Graph) where
   shorten a b [] stay = record { by = []; walk = stay; distinct = tt }
   shorten a b (i ∷ is) (along j p) =
       let s = shorten _ b is p in
-      ⊎_elim (λ (n : IsNew i s.by). record { by = i ∷ s.by; walk = along j s.walk; distinct = (n, s.distinct) }) (λ (f : Behind i b). over i a _ b j f) (find_wire i _ b s.by s.walk s.distinct)
+      ⊎_elim (λ (n : IsNoneOf i s.by). record { by = i ∷ s.by; walk = along j s.walk; distinct = (n, s.distinct) }) (λ (f : Behind i b). over i a _ b j f) (find_wire i _ b s.by s.walk s.distinct)
 
 module _ (ws : List Edge) (w : Edge) where
   -- a wire of the list with one more
@@ -76,13 +76,13 @@ module _ (ws : List Edge) (w : Edge) where
       ⊎_elim (λ at. inl (record { wire = j.wire; at = at; ends = j.ends })) (λ e. inr (e.0, subst (λ (u : Edge). Ends u a b) e.1 j.ends)) (slice_get-push_cases ws w j.wire i j.at)
 
   -- walks over the old wires do not use the new one
-  new_in_old : (a b : ℕ) (is : List ℕ) → Walk (wiring ws) a b is → IsNew (length ws) is
+  new_in_old : (a b : ℕ) (is : List ℕ) → Walk (wiring ws) a b is → IsNoneOf (length ws) is
   new_in_old a b [] stay = tt
   new_in_old a b (i ∷ is) (along j p) =
       let lt : i < length ws = slice_get_within ws i j.wire j.at in
       ((λ (e : length ws ≡ i). absurd (omega arith)), new_in_old _ b is p)
 
-  old_walk : (a b : ℕ) (is : List ℕ) → Walk (wiring (ws ++ w ∷ [])) a b is → IsNew (length ws) is → Walk (wiring ws) a b is
+  old_walk : (a b : ℕ) (is : List ℕ) → Walk (wiring (ws ++ w ∷ [])) a b is → IsNoneOf (length ws) is → Walk (wiring ws) a b is
   old_walk a b [] stay n = stay
   old_walk a b (i ∷ is) (along j p) n =
       ⊎_elim (λ o. along o (old_walk _ b is p n.1)) (λ e. absurd (n.0 (sym e.0))) (joins_cases i a _ j)
@@ -111,7 +111,7 @@ module _ (ws : List Edge) (w : Edge) where
     crossing a b (i ∷ is) (along j p) d =
         ⊎_elim
         (λ (o : Joins (wiring ws) i a _). ⊎_elim (λ q. inl (along o q)) (λ (c : Crosses _ b). inr (record { x = c.x; y = c.y; ends = c.ends; before = joined_alike i a _ o ∙ c.before; after = c.after })) (crossing _ b is p d.1))
-        (λ e. inr (record { x = a; y = _; ends = e.1; before = refl; after = walked_alike _ b is (old_walk _ b is p (subst (λ x. IsNew x is) e.0 d.0)) }))
+        (λ e. inr (record { x = a; y = _; ends = e.1; before = refl; after = walked_alike _ b is (old_walk _ b is p (subst (λ x. IsNoneOf x is) e.0 d.0)) }))
         (joins_cases i a _ j)
 
     -- a new wire between nodes with one label closes a walk

@@ -14,5 +14,5 @@ pub record IsRelabeled (old new : List ℕ) (from to : ℕ) : Type 0 where
   pub at : (i : ℕ) → i < length old → slice_index new i ≡ (if slice_index old i == from then to else slice_index old i)
 
 -- the nodes of one of two labels have got the other
-pub record AreJoined (old new : List ℕ) (a b : ℕ) : Type 0 where
+pub record AreMerged (old new : List ℕ) (a b : ℕ) : Type 0 where
   pub either : IsRelabeled old new a b ⊎ IsRelabeled old new b a

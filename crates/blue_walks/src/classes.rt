@@ -3,7 +3,7 @@ ghost use Rattle.std.specs.Prelude.{◌≡◌, ◌<◌, ◌==◌, ℕ, IfOk, OnO
 ghost use Rattle.std.proofs.Common.{◌++◌};
 ghost use Rattle.blue_names.specs.Outs.{row_at};
 ghost use Rattle.blue_names.specs.Members.{is_in};
-ghost use Rattle.blue_walks.specs.Classes.{AreListed, AreJoined, IsRelabeled};
+ghost use Rattle.blue_walks.specs.Classes.{AreListed, AreMerged, IsRelabeled};
 
 use blue_names::outs::row_of;
 use elem_core::why::NoMemory;
@@ -113,7 +113,7 @@ pub fn unite(
     requires one { one < vec_len members.old }
     requires other { other < vec_len members.old }
     requires apart { one ≡ other → ⊥ }
-    ensures joined { OnOk result (AreJoined labels.old.items labels.new.items one other) }
+    ensures joined { OnOk result (AreMerged labels.old.items labels.new.items one other) }
     ensures listed { OnOk result (AreListed labels.new.items members.new.items) }
     ensures length { OnOk result (vec_len labels.new ≡ vec_len labels.old) }
 {

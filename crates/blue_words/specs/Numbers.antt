@@ -13,25 +13,25 @@ abbrev pub are_digits : List ℕ → Bool
 are_digits ds = nat_lt 0 (length ds) && nat_le (length ds) 20 && list_all is_ascii_digit ds
 
 -- the number of the digits, where it is below 2 to the power of bits
-abbrev pub count_of : ℕ → List ℕ → Result ℕ BlueKind
-count_of bits ds = if are_digits ds && nat_lt (digits_value 10 ds) (2 ^ bits) then Ok (digits_value 10 ds) else Err BadNumber
+abbrev pub read_count : ℕ → List ℕ → Result ℕ BlueKind
+read_count bits ds = if are_digits ds && nat_lt (digits_value 10 ds) (2 ^ bits) then Ok (digits_value 10 ds) else Err BadNumber
 
 -- the number, where it has 64 bits with its sign
-abbrev pub fitting : ℤ → Result ℤ BlueKind
-fitting z = if fits z then Ok z else Err BadNumber
+abbrev pub read_fitting : ℤ → Result ℤ BlueKind
+read_fitting z = if fits z then Ok z else Err BadNumber
 
 -- the number of an optional `-` and 1 to 20 digits, where it has 64 bits with its sign
-abbrev pub int_of : List ℕ → Result ℤ BlueKind
-int_of [] = Err BadNumber
-int_of (c ∷ cs) =
+abbrev pub read_int : List ℕ → Result ℤ BlueKind
+read_int [] = Err BadNumber
+read_int (c ∷ cs) =
     if c == 45
-    then (if are_digits cs then fitting (neg_ℤ (pos (digits_value 10 cs))) else Err BadNumber)
-    else (if are_digits (c ∷ cs) then fitting (pos (digits_value 10 (c ∷ cs))) else Err BadNumber)
+    then (if are_digits cs then read_fitting (neg_ℤ (pos (digits_value 10 cs))) else Err BadNumber)
+    else (if are_digits (c ∷ cs) then read_fitting (pos (digits_value 10 (c ∷ cs))) else Err BadNumber)
 
 -- the name that a word is
-abbrev pub name_of : List ℕ → Result (List ℕ) BlueKind
-name_of w = if is_name w then Ok w else Err BadName
+abbrev pub read_name : List ℕ → Result (List ℕ) BlueKind
+read_name w = if is_name w then Ok w else Err BadName
 
 -- the file name that a word is
-abbrev pub file_of : List ℕ → Result (List ℕ) BlueKind
-file_of w = if is_file_name w then Ok w else Err BadName
+abbrev pub read_file_name : List ℕ → Result (List ℕ) BlueKind
+read_file_name w = if is_file_name w then Ok w else Err BadName

@@ -4,7 +4,7 @@ use Rattle.std.specs.Str.{bytes_eq}
 use Rattle.blue_words.specs.declared.fault.BlueKind.{BlueKind}
 use Rattle.blue_words.specs.declared.fault.FormEnd.{FormEnd}
 use Rattle.blue_words.specs.declared.fault.FormEnd.TheVariants.{BadLine, NoMemory}
-use Rattle.blue_words.specs.Numbers.{count_of, int_of, name_of, file_of}
+use Rattle.blue_words.specs.Numbers.{read_count, read_int, read_name, read_file_name}
 
 -- the value of a place, or what is wrong there
 abbrev pub At : Type 0 → Type 0
@@ -46,33 +46,33 @@ then_read None next = None
 then_read (Some r) next = with_second r.0 (next r.1)
 
 -- one word, which is a place
-abbrev pub place : {A : Type 0} → (List ℕ → At A) → List (List ℕ) → Reading A
-place f [] = None
-place f (w ∷ ws) = Some (f w, ws)
+abbrev pub read_place : {A : Type 0} → (List ℕ → At A) → List (List ℕ) → Reading A
+read_place f [] = None
+read_place f (w ∷ ws) = Some (f w, ws)
 
 -- any word
 abbrev pub word : List (List ℕ) → Reading (List ℕ)
-word ws = place (λ w. Ok w) ws
+word ws = read_place (λ w. Ok w) ws
 
 -- a name
 abbrev pub name : List (List ℕ) → Reading (List ℕ)
-name ws = place name_of ws
+name ws = read_place read_name ws
 
 -- a file name
 abbrev pub file : List (List ℕ) → Reading (List ℕ)
-file ws = place file_of ws
+file ws = read_place read_file_name ws
 
 -- a number of 64 bits with a sign
 abbrev pub int : List (List ℕ) → Reading ℤ
-int ws = place int_of ws
+int ws = read_place read_int ws
 
 -- a number of 64 bits
 abbrev pub count : List (List ℕ) → Reading ℕ
-count ws = place (count_of 64) ws
+count ws = read_place (read_count 64) ws
 
 -- a size, of 32 bits
 abbrev pub size : List (List ℕ) → Reading ℕ
-size ws = place (count_of 32) ws
+size ws = read_place (read_count 32) ws
 
 -- what is read behind this fixed word
 abbrev pub behind_word : {A : Type 0} → List ℕ → (List (List ℕ) → Reading A) → List (List ℕ) → Reading A
@@ -80,9 +80,9 @@ behind_word fixed next [] = None
 behind_word fixed next (w ∷ ws) = if bytes_eq w fixed then next ws else None
 
 -- what is read, where this fixed word stands behind it
-abbrev pub ending : {A : Type 0} → List ℕ → Reading A → Reading A
-ending fixed None = None
-ending fixed (Some r) = behind_word fixed (λ ws. Some (r.0, ws)) r.1
+abbrev pub before_word : {A : Type 0} → List ℕ → Reading A → Reading A
+before_word fixed None = None
+before_word fixed (Some r) = behind_word fixed (λ ws. Some (r.0, ws)) r.1
 
 -- the first word is this one
 abbrev pub begins_with : List ℕ → List (List ℕ) → Bool

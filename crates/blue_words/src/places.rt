@@ -2,7 +2,7 @@
 ghost use Rattle.std.specs.Prelude.{◌≡◌, ◌≤◌, ◌^◌, length, IsTrue, IfOk, pos, neg_ℤ, Ok, Err};
 ghost use Rattle.elem_core.specs.Line.{has_no_lf};
 ghost use Rattle.blue_words.specs.Reading.{both};
-ghost use Rattle.blue_words.specs.Numbers.{count_of, int_of, fitting, name_of, file_of};
+ghost use Rattle.blue_words.specs.Numbers.{read_count, read_int, read_fitting, read_name, read_file_name};
 
 use crate::fault::{BlueKind, PlaceValue};
 use crate::names::{is_file_name, is_name};
@@ -12,7 +12,7 @@ use std::alloc::{AllocError, Global};
 
 /// A number of 64 bits: 1 to 20 digits, else `BadNumber`.
 pub fn count_place(word: &[u8]) -> PlaceValue<u64>
-    ensures { result ≡ count_of 64 word.now }
+    ensures { result ≡ read_count 64 word.now }
 {
     match numeral(word) {
         Some(value) if value < 1 << 64 => Ok(value as u64),
@@ -22,7 +22,7 @@ pub fn count_place(word: &[u8]) -> PlaceValue<u64>
 
 /// A number of 32 bits, of 1 to 20 digits, else `BadNumber`.
 pub fn size_place(word: &[u8]) -> PlaceValue<u32>
-    ensures { result ≡ count_of 32 word.now }
+    ensures { result ≡ read_count 32 word.now }
 {
     match numeral(word) {
         Some(value) if value < 1 << 32 => Ok(value as u32),
@@ -32,7 +32,7 @@ pub fn size_place(word: &[u8]) -> PlaceValue<u32>
 
 /// A number of 64 bits with a sign: an optional `-` and 1 to 20 digits, else `BadNumber`.
 pub fn int_place(word: &[u8]) -> PlaceValue<i64>
-    ensures { result ≡ int_of word.now }
+    ensures { result ≡ read_int word.now }
 {
     if let Some((b'-', digits)) = word.split_first() {
         match numeral(digits) {
@@ -48,7 +48,7 @@ pub fn int_place(word: &[u8]) -> PlaceValue<i64>
 }
 
 fn below_zero(value: u128) -> PlaceValue<i64>
-    ensures { result ≡ fitting (neg_ℤ (pos value)) }
+    ensures { result ≡ read_fitting (neg_ℤ (pos value)) }
 {
     if value == 0 {
         Ok(0)
@@ -60,7 +60,7 @@ fn below_zero(value: u128) -> PlaceValue<i64>
 }
 
 fn above_zero(value: u128) -> PlaceValue<i64>
-    ensures { result ≡ fitting (pos value) }
+    ensures { result ≡ read_fitting (pos value) }
 {
     if value < 1 << 63 {
         Ok(value as i64)
@@ -85,7 +85,7 @@ pub fn both<A: Drop, B: Drop>(first: PlaceValue<A>, second: PlaceValue<B>) -> Pl
 /// A name, else `BadName`.
 #[tactic(auto, using(crate::proofs::Plain::no_lf_from_name))]
 pub fn name_place(alloc: Global, word: &[u8]) -> Result<PlaceValue<Line>, AllocError>
-    ensures { IfOk result (λ p. p ≡ name_of word.now) }
+    ensures { IfOk result (λ p. p ≡ read_name word.now) }
 {
     if is_name(word) {
         Ok(Ok(line_of(alloc, word)?))
@@ -97,7 +97,7 @@ pub fn name_place(alloc: Global, word: &[u8]) -> Result<PlaceValue<Line>, AllocE
 /// A file name, else `BadName`.
 #[tactic(auto, using(crate::proofs::Plain::no_lf_from_file))]
 pub fn file_place(alloc: Global, word: &[u8]) -> Result<PlaceValue<Line>, AllocError>
-    ensures { IfOk result (λ p. p ≡ file_of word.now) }
+    ensures { IfOk result (λ p. p ≡ read_file_name word.now) }
 {
     if is_file_name(word) {
         Ok(Ok(line_of(alloc, word)?))

@@ -21,7 +21,7 @@ use Rattle.island_starts.specs.Starts.{HasStarted}
 use Rattle.lane_ends.specs.Ends.{AreEnds, AreAllEnds}
 use Rattle.lane_ends.specs.declared.ends.AllEnds.{AllEnds}
 use Rattle.traversal.specs.declared.plan.LanePlan.{LanePlan}
-use Rattle.island_body.specs.Ends.{in_wires, out_wires, InStands, OutStands, AllStand, AreApart}
+use Rattle.island_body.specs.Ends.{in_wires, out_wires, InputEndStands, OutputEndStands, AllStand, AreApart}
 use Rattle.island_body.specs.Keeping.{BodyBegins}
 use Rattle.bodies_begin.proofs.Lanes.{in_end, out_end, its_parts, comes_at, goes_at, not_out}
 use Rattle.bodies_begin.proofs.Stages.{some_same, only, ins_one, outs_one, none_both, ways_differ}
@@ -63,13 +63,13 @@ module _ {S D L B : Type 0} where
     abbrev outs : List OutputBoundary
     outs = items_at e.outs.items k
 
-    in_stands : (p : ℕ) (y : IslandInput) → slice_get ins p ≡ Some y → InStands i y
+    in_stands : (p : ℕ) (y : IslandInput) → slice_get ins p ≡ Some y → InputEndStands i y
     in_stands p y at =
         let z = in_end homes ws count e all k p y at in
         let c = comes_at sources drains book homes count ws nodes k x i a nodes_are links_are h y.wire z.comes in
         record { enters = c.enters; feeds = feeds_begun sources drains book y.boundary i y.wire h.laws.laws c.enters c.begins z.ends.none_given z.ends.flows }
 
-    out_stands : (p : ℕ) (o : OutputBoundary) → slice_get outs p ≡ Some o → OutStands i o
+    out_stands : (p : ℕ) (o : OutputBoundary) → slice_get outs p ≡ Some o → OutputEndStands i o
     out_stands p o at =
         let z = out_end homes ws count e all k p o at in
         let c = goes_at sources drains book homes count ws nodes k x i a nodes_are links_are h o.wire z.goes in

@@ -29,7 +29,7 @@ use Rattle.traversal.specs.Plan.{lane_sized, lanes_from}
 use Rattle.traversal.specs.declared.plan.LanePlan.{LanePlan}
 use Rattle.island_parts.specs.Whole.{whole_links, whole_homes, whole_seats, own_links}
 use Rattle.scatter.specs.Shares.{of_home}
-use Rattle.materializer.specs.Graphs.{graph_of, node_of, chains_of}
+use Rattle.materializer.specs.Graphs.{graph_of, graph_node, chains_of}
 use Rattle.materializer.proofs.Fitting.{fit_joined}
 use Rattle.materializer.proofs.Joining.{both_none, none_here, not_when, mapped_from}
 use Rattle.materializer.proofs.Placing.{seats_count, seats_ports}
@@ -149,12 +149,12 @@ module _ {S D L B : Type 0} where
     pub graph_is : IsGraphOf (graph_of b) (blueprint_wires b) is.nodes
     graph_is = record {
       wires_are = refl;
-      each_node = length-map b.nodes.items node_of ∙ sym node_count;
+      each_node = length-map b.nodes.items graph_node ∙ sym node_count;
       ins_are = λ k n here.
-          let m = mapped_from node_of b.nodes.items k n here in
+          let m = mapped_from graph_node b.nodes.items k n here in
           (seats_ports (chains_of b) 0 b.nodes.items ss ds is.nodes k m.0 is.seats m.1.0).0 ∙ ap (λ (x : graph.Node). inputs_of x.kind) m.1.1;
       outs_are = λ k n here.
-          let m = mapped_from node_of b.nodes.items k n here in
+          let m = mapped_from graph_node b.nodes.items k n here in
           (seats_ports (chains_of b) 0 b.nodes.items ss ds is.nodes k m.0 is.seats m.1.0).1 ∙ ap (λ (x : graph.Node). outputs_of x.kind) m.1.1;
     }
 
@@ -181,7 +181,7 @@ module _ {S D L B : Type 0} where
       let size : length p.ends.wires.items ≡ length ws = ap length is.ends_are.wires_are ∙ length-map ws (wire_home homes) in
       let w = wire_there ws i (omega (arith, size, lt)) in
       let source = joined.source i w.0 w.1 in
-      let first = mapped_from node_of b.nodes.items w.0.from source.0 source.1 in
+      let first = mapped_from graph_node b.nodes.items w.0.from source.0 source.1 in
       let out = slice_get_within b.nodes.items w.0.from first.0 first.1.0 in
       let many = is.homes_are.are.each in
       let below : slice_index homes w.0.from < p.count = All-get_or (λ h. h < p.count) homes w.0.from 0 (omega (arith, out, many)) is.homes_are.below in
@@ -197,8 +197,8 @@ module _ {S D L B : Type 0} where
       let joined : IsJoined (graph_of b) = fit_joined b is.runs.plugs is.runs.taken is.runs.fit in
       let source = joined.source l.wire w.wire w.is in
       let target = joined.target l.wire w.wire w.is in
-      let first = mapped_from node_of b.nodes.items w.wire.from source.0 source.1 in
-      let last = mapped_from node_of b.nodes.items w.wire.to target.0 target.1 in
+      let first = mapped_from graph_node b.nodes.items w.wire.from source.0 source.1 in
+      let last = mapped_from graph_node b.nodes.items w.wire.to target.0 target.1 in
       let many = is.homes_are.are.each in
       let out = slice_get_within b.nodes.items w.wire.from first.0 first.1.0 in
       let inp = slice_get_within b.nodes.items w.wire.to last.0 last.1.0 in

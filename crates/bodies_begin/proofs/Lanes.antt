@@ -19,7 +19,7 @@ use Rattle.scatter.specs.Shares.{items_at}
 use Rattle.island_parts.specs.Whole.{lanes_in, whole_links, own_links}
 use Rattle.island_parts.proofs.Cutting.{lane_there, lanes_count, lane_plan, lane_get}
 use Rattle.island_parts.proofs.Wiring.{there}
-use Rattle.island_seats.specs.Islands.{place_homes, seats_of, seats_in, links_in, AreSeated, HasWays}
+use Rattle.island_seats.specs.Islands.{place_homes, seats_by_islands, seats_in, links_in, AreSeated, HasWays}
 use Rattle.island_seats.proofs.Leading.{has_ways, apart}
 use Rattle.island_seats.proofs.Standing.{size, parts}
 use Rattle.island_boundary.specs.declared.input.IslandInput.{IslandInput}
@@ -119,12 +119,12 @@ module _ {S D L B : Type 0} (sources : S → SourceState) (drains : D → DrainS
       let links : AreParts (seats_in homes ws nodes k) x.links.items = subst (AreParts (seats_in homes ws nodes k)) (sym links_are) here in
       subst (λ (ps : List (Seated S D L B)). AreParts ps x.links.items) (sym nodes_are) links
 
-  pub comes_at : (u : ℕ) → ComesInto homes ws k u → ComesAt x.nodes.items x.links.items i u ((seats_of homes ws).far u).at
+  pub comes_at : (u : ℕ) → ComesInto homes ws k u → ComesAt x.nodes.items x.links.items i u ((seats_by_islands homes ws).far u).at
   comes_at u c =
       let w : HasWays homes ws nodes u c.wire = has_ways homes count ws nodes a u c.wire c.size c.is c.lane in
       let o = w.inp in
-      let q : ℕ = ((seats_of homes ws).far u).at in
-      let island : ((seats_of homes ws).far u).island ≡ k = w.in_island ∙ c.home in
+      let q : ℕ = ((seats_by_islands homes ws).far u).at in
+      let island : ((seats_by_islands homes ws).far u).island ≡ k = w.in_island ∙ c.home in
       let at : slice_get x.links.items q ≡ Some o.link = ap (λ (z : List Link). slice_get z q) links_are ∙ (ap (λ (z : ℕ). slice_get (links_in homes ws nodes z) q) (sym island) ∙ o.at) in
       let comes : comes_in x.nodes.items o.link.from ≡ true = ap (λ (z : List (Seated S D L B)). comes_in z o.link.from) nodes_are ∙ (ap (λ (z : ℕ). comes_in (seats_in homes ws nodes z) o.link.from) (sym island) ∙ o.comes) in
       let by = h.enters q o.link at comes in
@@ -139,12 +139,12 @@ module _ {S D L B : Type 0} (sources : S → SourceState) (drains : D → DrainS
         begins = ap (λ (z : ℕ). (wire_at i.net z).wire.sent) way ∙ h.begins_in q o.link at comes;
       }
 
-  pub goes_at : (u : ℕ) → GoesOutOf homes ws k u → GoesAt x.nodes.items x.links.items i u ((seats_of homes ws).near u).at
+  pub goes_at : (u : ℕ) → GoesOutOf homes ws k u → GoesAt x.nodes.items x.links.items i u ((seats_by_islands homes ws).near u).at
   goes_at u c =
       let w : HasWays homes ws nodes u c.wire = has_ways homes count ws nodes a u c.wire c.size c.is c.lane in
       let o = w.out in
-      let q : ℕ = ((seats_of homes ws).near u).at in
-      let island : ((seats_of homes ws).near u).island ≡ k = w.out_island ∙ c.home in
+      let q : ℕ = ((seats_by_islands homes ws).near u).at in
+      let island : ((seats_by_islands homes ws).near u).island ≡ k = w.out_island ∙ c.home in
       let at : slice_get x.links.items q ≡ Some o.link = ap (λ (z : List Link). slice_get z q) links_are ∙ (ap (λ (z : ℕ). slice_get (links_in homes ws nodes z) q) (sym island) ∙ o.at) in
       let goes : goes_out x.nodes.items o.link.to ≡ true = ap (λ (z : List (Seated S D L B)). goes_out z o.link.to) nodes_are ∙ (ap (λ (z : ℕ). goes_out (seats_in homes ws nodes z) o.link.to) (sym island) ∙ o.goes) in
       let by = h.leaves q o.link at goes in

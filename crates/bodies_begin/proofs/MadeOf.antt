@@ -6,7 +6,7 @@ use Rattle.stream_io.specs.State.{SourceState, DrainState}
 use Rattle.blue_core.specs.declared.blueprint.Blueprint.{Blueprint}
 use Rattle.blue_check.specs.Wires.{blueprint_wires}
 use Rattle.interpreter.specs.Island.{Kept}
-use Rattle.interpreter.specs.Parts.{number_of}
+use Rattle.interpreter.specs.Parts.{wire_number}
 use Rattle.interpreter.specs.Picks.{node_number}
 use Rattle.traversal.specs.declared.plan.LanePlan.{LanePlan}
 use Rattle.scatter.specs.Shares.{items_in, items_at}
@@ -16,7 +16,7 @@ use Rattle.island_boundary.specs.declared.output.OutputBoundary.{OutputBoundary}
 use Rattle.rounds.specs.Bodies.{AllOf}
 use Rattle.rounds.specs.Crossings.{AreCrossings}
 use Rattle.rounds.specs.declared.crossing.Crossing.{Crossing}
-use Rattle.lane_ends.specs.Ends.{AreAllEnds, Joins}
+use Rattle.lane_ends.specs.Ends.{AreAllEnds, LaneJoins}
 use Rattle.lane_ends.specs.declared.ends.AllEnds.{AllEnds}
 use Rattle.island_starts.specs.Starts.{AllStarted}
 use Rattle.island_body.specs.Meeting.{BodiesMayMeet}
@@ -30,7 +30,7 @@ use Rattle.bodies_begin.specs.Sized.{HasFewLinks}
 use Rattle.bodies_begin.proofs.Filling.{seated, graph_is}
 use Rattle.bodies_begin.proofs.Making.{begun, lanes}
 use Rattle.island_bodies.specs.Making.{IsBodyOf, AreAllBodies}
-use Rattle.bodies_run.specs.Begun.{AreNumbered, AreAligned}
+use Rattle.bodies_run.specs.Begun.{AreNumberedBodies, AreAligned}
 use Rattle.bodies_begin.proofs.Lists.{same_at, same_many, list_there}
 use Rattle.bodies_begin.proofs.Starting.{is_started, its_ends, started_many}
 use Rattle.stream_model.specs.Linear.{Book}
@@ -58,12 +58,12 @@ module _ {S D L B : Type 0} (sources : S → SourceState) (drains : D → DrainS
 
   pub aligned : AreAligned plans e.crossings.items bodies
   aligned n l c b x lane crossing body inp =
-      let j : Joins e l c = ends.each n l c lane crossing in
+      let j : LaneJoins e l c = ends.each n l c lane crossing in
       let m = is_made c.to b body in
       same_at (λ (y : IslandInput). y.wire) (items_at e.ins.items c.to) b.ins.items c.inp j.inp x m.is.lanes.ins_wires j.inp_at inp ∙ j.ends.in_wire
 
   -- the two ends at a crossing are of one lane
-  may_meet : (c : Crossing) (l : LanePlan) → Joins e l c → (a b : Body S D L B) → slice_get bodies c.from ≡ Some a → slice_get bodies c.to ≡ Some b → BodiesMayMeet a c.out b c.inp
+  may_meet : (c : Crossing) (l : LanePlan) → LaneJoins e l c → (a b : Body S D L B) → slice_get bodies c.from ≡ Some a → slice_get bodies c.to ≡ Some b → BodiesMayMeet a c.out b c.inp
   may_meet c l j a b from to =
       let m = is_made c.from a from in
       let n = is_made c.to b to in
@@ -81,7 +81,7 @@ module _ {S D L B : Type 0} (sources : S → SourceState) (drains : D → DrainS
   meet n c at =
       let lt : n < length e.crossings.items = slice_get_within e.crossings.items n c at in
       let l = there plans n (omega (arith, lt, ends.many)) in
-      let j : Joins e l.0 c = ends.each n l.0 c l.1 at in
+      let j : LaneJoins e l.0 c = ends.each n l.0 c l.1 at in
       let from = list_there e.outs.items c.from c.out j.out j.out_at in
       let to = list_there e.ins.items c.to c.inp j.inp j.inp_at in
       record { from_there = omega (arith, from, ends.outs_many, many, made.many); to_there = omega (arith, to, ends.ins_many, many, made.many); may = may_meet c l.0 j }
@@ -111,10 +111,10 @@ module _ {S D L B : Type 0} (sources : S → SourceState) (drains : D → DrainS
         lanes_are = lanes sources drains book f.homes.items f.count (blueprint_wires b) filled.nodes e bodies seats own are_made;
       }
 
-  pub numbered : AreNumbered f.homes.items (blueprint_wires b) filled.nodes bodies
+  pub numbered : AreNumberedBodies f.homes.items (blueprint_wires b) filled.nodes bodies
   numbered k x at =
       let m = are_made.each k x at in
       record {
-        wires = m.goes.numbers ∙ (m.started.numbers ∙ ap (map number_of) m.parts_are.links_are);
+        wires = m.goes.numbers ∙ (m.started.numbers ∙ ap (map wire_number) m.parts_are.links_are);
         places = m.goes.places ∙ (m.started.places ∙ ap (map node_number) m.parts_are.nodes_are);
       }

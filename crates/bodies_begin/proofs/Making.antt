@@ -18,7 +18,7 @@ use Rattle.island_seats.proofs.Standing.{from_node, to_node, home_below}
 use Rattle.island_boundary.specs.declared.input.IslandInput.{IslandInput}
 use Rattle.island_boundary.specs.declared.output.OutputBoundary.{OutputBoundary}
 use Rattle.rounds.specs.declared.crossing.Crossing.{Crossing}
-use Rattle.lane_ends.specs.Ends.{AreAllEnds, Joins}
+use Rattle.lane_ends.specs.Ends.{AreAllEnds, LaneJoins}
 use Rattle.lane_ends.specs.declared.ends.AllEnds.{AllEnds}
 use Rattle.island_body.specs.Ends.{IslandGoes}
 use Rattle.island_body.specs.declared.body.Body.{Body}
@@ -70,7 +70,7 @@ module _ {S D L B : Type 0} where
       body_at : (k : ℕ) → k < count → (b : Body S D L B) × (slice_get bodies k ≡ Some b)
       body_at k lt = there bodies k (omega (arith, lt, made.many))
 
-      crossing : (c : Crossing) → Joins e plan c → IsCrossingOf homes ws bodies u v size c
+      crossing : (c : Crossing) → LaneJoins e plan c → IsCrossingOf homes ws bodies u v size c
       crossing c x =
           let from_is : c.from ≡ slice_index homes v.from = x.from_is in
           let to_is : c.to ≡ slice_index homes v.to = x.to_is in

@@ -13,7 +13,7 @@ use Rattle.interpreter.specs.Island.{Kept}
 use Rattle.interpreter.specs.declared.parts.Parts.{Parts}
 use Rattle.traversal.specs.Plan.{lanes_from}
 use Rattle.traversal.specs.declared.plan.LanePlan.{LanePlan}
-use Rattle.scatter.specs.Shares.{count_of, items_in, items_at}
+use Rattle.scatter.specs.Shares.{share_of, items_in, items_at}
 use Rattle.scatter.proofs.Sharing.{share_count}
 use Rattle.island_parts.specs.Whole.{lanes_in, whole_links}
 use Rattle.island_parts.proofs.Cutting.{lanes_count}
@@ -84,8 +84,8 @@ module _ {S D L B : Type 0} (sources : S → SourceState) (drains : D → DrainS
     blank_at k i t at here =
         let s = is_started k i at in
         let ws = blueprint_wires b in
-        let wires : count_of k (way_homes f.ends.wires.items f.lanes.items) ≡ count_of k (way_homes (map (wire_home homes) ws) f.lanes.items) = ap (λ (l : List ℕ). count_of k (way_homes l f.lanes.items)) filled.ends_are.wires_are in
-        let lanes : count_of k (way_homes (map (wire_home homes) ws) f.lanes.items) ≡ count_of k (way_homes (map (wire_home homes) ws) (lanes_from homes 0 ws)) = ap (λ (l : List LanePlan). count_of k (way_homes (map (wire_home homes) ws) l)) filled.lanes_are in
+        let wires : share_of k (way_homes f.ends.wires.items f.lanes.items) ≡ share_of k (way_homes (map (wire_home homes) ws) f.lanes.items) = ap (λ (l : List ℕ). share_of k (way_homes l f.lanes.items)) filled.ends_are.wires_are in
+        let lanes : share_of k (way_homes (map (wire_home homes) ws) f.lanes.items) ≡ share_of k (way_homes (map (wire_home homes) ws) (lanes_from homes 0 ws)) = ap (λ (l : List LanePlan). share_of k (way_homes (map (wire_home homes) ws) l)) filled.lanes_are in
         let own = connections homes f.count ws filled.nodes (seated b ss ds f filled few) sources drains book k s.parts i s.parts_are s.started_is in
         blank.each k t here ∙ ap (λ n. replicate n Inner) (wires ∙ (lanes ∙ sym own))
 

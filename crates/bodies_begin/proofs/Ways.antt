@@ -12,7 +12,7 @@ use Rattle.interpreter.specs.declared.parts.Parts.{Parts}
 use Rattle.interpreter.specs.declared.parts.Seated.{Seated}
 use Rattle.traversal.specs.Plan.{lane_sized, lanes_from}
 use Rattle.traversal.specs.declared.plan.LanePlan.{LanePlan}
-use Rattle.scatter.specs.Shares.{count_of}
+use Rattle.scatter.specs.Shares.{share_of}
 use Rattle.island_parts.specs.Whole.{one_lane, lanes_in, near_at, nears_from, far_at, fars_from, whole_links, link_home, own_links}
 use Rattle.island_parts.proofs.Wholes.{three_second}
 use Rattle.island_seats.specs.Islands.{place_homes, link_homes, links_in, AreSeated}
@@ -60,10 +60,10 @@ module _ {S D L B : Type 0} (homes : List ℕ) (count : ℕ) (ws : List Edge) (n
       (far_homes homes hs n 0 ws (λ j l at. get_or_from_slice_get hs (n + j) l.to 0 (three_second homes (λ (p : LanePlan). p.to) (λ (p : LanePlan). p.from) (lanes_from homes 0 ws) (n + j) j l refl at))))
 
   -- an island that has started has as many connections as there are of its own
-  pub connections : (sources : S → SourceState) (drains : D → DrainState) (book : Book) (k : ℕ) (x : Parts S D L B) (i : Kept S D L B) → ArePartsOf homes ws nodes k x → HasStarted sources drains book x i → length i.net.wires ≡ count_of k (way_homes (map (wire_home homes) ws) (lanes_from homes 0 ws))
+  pub connections : (sources : S → SourceState) (drains : D → DrainState) (book : Book) (k : ℕ) (x : Parts S D L B) (i : Kept S D L B) → ArePartsOf homes ws nodes k x → HasStarted sources drains book x i → length i.net.wires ≡ share_of k (way_homes (map (wire_home homes) ws) (lanes_from homes 0 ws))
   connections sources drains book k x i p h =
       let wires : length i.net.ends ≡ length i.net.wires = h.laws.laws.wired.each_wire in
       let ends : length i.net.ends ≡ length x.links.items = ap length h.ends ∙ length-map x.links.items ends_of in
       let links : length x.links.items ≡ length (links_in homes ws nodes k) = ap length p.links_are in
       let sized : length (links_in homes ws nodes k) ≡ length (own_links (place_homes homes ws) (whole_links (length homes) ws) k) = ap (λ n. length (own_links (place_homes homes ws) (whole_links n ws) k)) (size homes count ws nodes a) in
-      sym wires ∙ (ends ∙ (links ∙ (sized ∙ (links_in_count homes count ws nodes a k ∙ ap (count_of k) homes_of_links))))
+      sym wires ∙ (ends ∙ (links ∙ (sized ∙ (links_in_count homes count ws nodes a k ∙ ap (share_of k) homes_of_links))))

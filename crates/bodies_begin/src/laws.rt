@@ -35,7 +35,7 @@ ghost use Rattle.island_body.specs.declared.peers.Peers.{Peers};
 ghost use Rattle.island_bodies.specs.Peers.{ArePeers};
 ghost use Rattle.island_bodies.specs.Asked.{LieThere};
 ghost use Rattle.island_bodies.specs.Making.{way_homes, AreBlank, CanAllBegin, AreAllBodies};
-ghost use Rattle.bodies_run.specs.Begun.{HaveSameLanes, AreNumbered, AreAligned};
+ghost use Rattle.bodies_run.specs.Begun.{HaveSameLanes, AreNumberedBodies, AreAligned};
 
 use plug_logic::book::PlugBook;
 use plug_logic::logic::Logic;
@@ -87,7 +87,7 @@ pub fn made_bodies_begin_their_blueprint<S: Source, D: Drain, L: Logic, B: PlugB
     ensures unspent { (f : Filled S D L B) (started : List (Kept S D L B)) (e : AllEnds) (bodies : List (Body S D L B)) → length started ≡ length f.islands.items → length f.islands.items ≡ f.count → AreAllEnds f.lanes.items f.count e → AreAllBodies S.state D.state B.lists started e.ins.items e.outs.items bodies → AllOf (λ b. b.spent ≡ 0) bodies }
     ensures meet { (f : Filled S D L B) (started : List (Kept S D L B)) (e : AllEnds) (bodies : List (Body S D L B)) → length started ≡ length f.islands.items → length f.islands.items ≡ f.count → AreAllEnds f.lanes.items f.count e → AreAllBodies S.state D.state B.lists started e.ins.items e.outs.items bodies → AreCrossings BodiesMayMeet bodies e.crossings.items }
     ensures numbered { (b : Blueprint) (ss : List S) (ds : List D) (f : Filled S D L B) (started : List (Kept S D L B)) (e : AllEnds) (bodies : List (Body S D L B)) → (filled : IsFilled b ss ds f) → AllStarted S.state D.state B.lists f.islands.items started
-        → AreAllEnds f.lanes.items f.count e → AreAllBodies S.state D.state B.lists started e.ins.items e.outs.items bodies → AreNumbered f.homes.items (blueprint_wires b) filled.nodes bodies }
+        → AreAllEnds f.lanes.items f.count e → AreAllBodies S.state D.state B.lists started e.ins.items e.outs.items bodies → AreNumberedBodies f.homes.items (blueprint_wires b) filled.nodes bodies }
     ensures aligned { (f : Filled S D L B) (started : List (Kept S D L B)) (e : AllEnds) (bodies : List (Body S D L B)) → length started ≡ length f.islands.items → length f.islands.items ≡ f.count → AreAllEnds f.lanes.items f.count e → AreAllBodies S.state D.state B.lists started e.ins.items e.outs.items bodies → AreAligned f.lanes.items e.crossings.items bodies }
 {}
 

@@ -20,7 +20,7 @@ use Rattle.traversal.specs.Plan.{lanes_from}
 use Rattle.traversal.specs.declared.plan.LanePlan.{LanePlan}
 use Rattle.scatter.specs.Shares.{of_home}
 use Rattle.island_parts.proofs.Wiring.{there}
-use Rattle.island_ends.specs.Ends.{reader_of, writer_of, leaves, AreHandlesOf}
+use Rattle.island_ends.specs.Ends.{reader_of, writer_of, leaves_something, AreHandlesOf}
 use Rattle.island_ends.specs.declared.room.EndHomes.{EndHomes}
 use Rattle.island_ends.proofs.OfNodes.{readers_are, writers_are}
 use Rattle.island_plans.specs.Ends.{AreEndHomes}
@@ -49,8 +49,8 @@ kept_at {N = N} keeps (v ∷ xs) (w ∷ ys) h zero x y ex ey =
 kept_at keeps (v ∷ xs) (w ∷ ys) h (suc k) x y ex ey = kept_at keeps xs ys h.1 k x y ex ey
 
 -- what leaves nothing as another leaves nothing
-bare_as : {Y Z : Type 0} (o : Option Y) (p : Option Z) → leaves p ≡ leaves o → o ≡ None → p ≡ None
-bare_as o p e n = none_left p (e ∙ ap leaves n)
+bare_as : {Y Z : Type 0} (o : Option Y) (p : Option Z) → leaves_something p ≡ leaves_something o → o ≡ None → p ≡ None
+bare_as o p e n = none_left p (e ∙ ap leaves_something n)
 
 module _ {S D L B : Type 0} (sources : S → SourceState) (drains : D → DrainState) (book : Book) (g : Graph) (homes : List ℕ) (count : ℕ) (ws : List Edge) (nodes : List (Seated S D L B)) (crossings : List Crossing) (begun now then : List (Body S D L B)) (broken later : List (IslandNode S D L B))
     (m : AreBodiesOf sources drains book g homes count ws nodes crossings begun) (broke : WholeOrBroken (BodyKeeps sources drains book) BodyGoes (BodyBreaks sources drains book) begun now) (l : AreLastOf sources drains book begun now then) (r : AreBroughtBack homes count ws (λ k. (net_of now k).nodes) broken later) where

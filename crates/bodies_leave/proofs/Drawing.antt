@@ -19,7 +19,7 @@ use Rattle.island_parts.proofs.Wiring.{there}
 use Rattle.bodies_begin.proofs.Filling.{rising}
 use Rattle.bodies_begin.proofs.Lanes.{plan_of}
 use Rattle.island_bodies.specs.Asked.{AreNoted}
-use Rattle.bodies_run.specs.Counts.{told_from, asked_by}
+use Rattle.bodies_run.specs.Counts.{told_from, lane_demand}
 use Rattle.bodies_leave.proofs.Asking.{found_ask}
 
 -- what the wires are told to have carried, without their numbers
@@ -70,7 +70,7 @@ module _ (homes : List ℕ) (ws : List Edge) (all : List ℕ) (near : ℕ → Wi
   lane_there : (n : ℕ) (v : Edge) (size : ℕ) → slice_get ws n ≡ Some v → v.lane ≡ Some size → slice_get lanes (lanes_in (take n ws)) ≡ Some (lane_plan homes n v size)
   lane_there n v size at lane = let none : 0 + n ≡ n = omega arith in lane_get homes 0 ws n v size at lane ∙ ap (λ k. Some (lane_plan homes k v size)) none
 
-  at_lane : (n : ℕ) (v : Edge) (size : ℕ) → slice_get ws n ≡ Some v → v.lane ≡ Some size → slice_get counts n ≡ Some (wire_count (Some size) (near n) (asked_by lanes all n))
+  at_lane : (n : ℕ) (v : Edge) (size : ℕ) → slice_get ws n ≡ Some v → v.lane ≡ Some size → slice_get counts n ≡ Some (wire_count (Some size) (near n) (lane_demand lanes all n))
   at_lane n v size at lane =
       let j : ℕ = lanes_in (take n ws) in
       let l = lane_there n v size at lane in
@@ -78,11 +78,11 @@ module _ (homes : List ℕ) (ws : List Edge) (all : List ℕ) (near : ℕ → Wi
       let a = there all j (omega (arith, lt, many)) in
       note.each j a.0 (lane_plan homes n v size) (count_of (near n)) l a.1 (was n v at) ∙ ap (λ k. Some (wire_count (Some size) (near n) k)) (sym (found_ask lanes all j (lane_plan homes n v size) a.0 lanes_rise l a.1))
 
-  at_wire : (o : Option ℕ) (n : ℕ) (v : Edge) → slice_get ws n ≡ Some v → v.lane ≡ o → slice_get counts n ≡ Some (wire_count o (near n) (asked_by lanes all n))
+  at_wire : (o : Option ℕ) (n : ℕ) (v : Edge) → slice_get ws n ≡ Some v → v.lane ≡ o → slice_get counts n ≡ Some (wire_count o (near n) (lane_demand lanes all n))
   at_wire None n v at lane = note.others n (λ m l al e. no_lane n v at lane m l al e) ∙ was n v at
   at_wire (Some size) n v at lane = at_lane n v size at lane
 
-  pub drawn : {N : Type 0} (a : Account N) → a.near ≡ near → a.asked ≡ asked_by lanes all → counts ≡ counts_from a 0 ws
+  pub drawn : {N : Type 0} (a : Account N) → a.near ≡ near → a.asked ≡ lane_demand lanes all → counts ≡ counts_from a 0 ws
   drawn a near_is asked_is = counts_are a 0 ws counts (note.many ∙ told_many near 0 ws) (λ n v at.
       let none : n ≡ 0 + n = omega arith in
-      at_wire v.lane n v at refl ∙ (ap (λ k. Some (wire_count v.lane (near k) (asked_by lanes all k))) none ∙ (ap (λ (f : ℕ → WireState). Some (wire_count v.lane (f (0 + n)) (asked_by lanes all (0 + n)))) (sym near_is) ∙ ap (λ (f : ℕ → ℕ). Some (wire_count v.lane (a.near (0 + n)) (f (0 + n)))) (sym asked_is))))
+      at_wire v.lane n v at refl ∙ (ap (λ k. Some (wire_count v.lane (near k) (lane_demand lanes all k))) none ∙ (ap (λ (f : ℕ → WireState). Some (wire_count v.lane (f (0 + n)) (lane_demand lanes all (0 + n)))) (sym near_is) ∙ ap (λ (f : ℕ → ℕ). Some (wire_count v.lane (a.near (0 + n)) (f (0 + n)))) (sym asked_is))))

@@ -18,10 +18,10 @@ use Rattle.blue_core.specs.declared.blueprint.Node.{Node}
 use Rattle.traversal.specs.declared.plan.LanePlan.{LanePlan}
 use Rattle.scatter.specs.Shares.{of_home}
 use Rattle.island_parts.specs.Whole.{in_seat, out_seat, whole_homes, whole_seats}
-use Rattle.materializer.specs.Files.{input_of, output_of}
+use Rattle.materializer.specs.Files.{source_file, output_of}
 use Rattle.materializer.specs.Seats.{handle_of, IsWork, AreSeats}
 use Rattle.materializer.proofs.Placing.{reads_lines, maker_no_file, linear_no_file, state_no_file, sub_no_file, fan_in_no_file, fan_out_no_file}
-use Rattle.island_ends.specs.Ends.{with_home, homes_left, leaves}
+use Rattle.island_ends.specs.Ends.{with_home, homes_left, leaves_something}
 use Rattle.island_ends.proofs.Behind.{homes_behind, no_more}
 use Rattle.island_ends.proofs.Leaving.{with_one, those, share_those}
 use Rattle.island_plans.specs.Ends.{leaves_in, homes_in}
@@ -51,7 +51,7 @@ none_left : {X Y : Type 0} (f : X → Option Y) (homes : List ℕ) → homes_lef
 none_left f [] = refl
 none_left f (h ∷ homes) = refl
 
-one_home : {Y : Type 0} (o : Option Y) (b : Bool) (h : ℕ) (hs gs : List ℕ) → b ≡ leaves o → hs ≡ gs → with_home o h hs ≡ (if b then h ∷ [] else []) ++ gs
+one_home : {Y : Type 0} (o : Option Y) (b : Bool) (h : ℕ) (hs gs : List ℕ) → b ≡ leaves_something o → hs ≡ gs → with_home o h hs ≡ (if b then h ∷ [] else []) ++ gs
 one_home None true h hs gs e same = cc
 one_home None false h hs gs e same = same
 one_home (Some y) true h hs gs e same = ap (λ t. h ∷ t) same
@@ -63,7 +63,7 @@ handle_some : {X : Type 0} (o : Option (List ℕ)) (xs : List X) (x : X) → han
 handle_some None xs x e = cc
 handle_some (Some file) xs x e = refl
 
-no_input : (P : Kind → Type 0) → ((name : List ℕ) → P (kind.Lines name) → ⊥) → (k : Kind) → P k → is_some (input_of k) ≡ false
+no_input : (P : Kind → Type 0) → ((name : List ℕ) → P (kind.Lines name) → ⊥) → (k : Kind) → P k → is_some (source_file k) ≡ false
 no_input P a (kind.Lines file) h = absurd (a file h)
 no_input P a _ h = refl
 
@@ -161,8 +161,8 @@ module _ {S D L B : Type 0} where
   -- ---- the homes of handles
 
   -- a node has a source where it is a source of lines, and a drain where it is a sink with a file
-  reads_if : (chains : List graph.Chain) (k : ℕ) (n : Node) (ss : List S) (ds : List D) (w : Work S D L B) → IsWork chains k n ss ds w → leaves_in Readers n ≡ leaves (source_of w)
-  reads_if chains k n ss ds (work.Reading r) is = handle_some (input_of n.kind) ss r.source is.source
+  reads_if : (chains : List graph.Chain) (k : ℕ) (n : Node) (ss : List S) (ds : List D) (w : Work S D L B) → IsWork chains k n ss ds w → leaves_in Readers n ≡ leaves_something (source_of w)
+  reads_if chains k n ss ds (work.Reading r) is = handle_some (source_file n.kind) ss r.source is.source
   reads_if chains k n ss ds (work.Making shape) is = no_input IsMaker (λ _ i. i) n.kind is.is_maker
   reads_if chains k n ss ds (work.Linear l) is = no_input IsLinear (λ _ i. i) n.kind is.is_linear
   reads_if chains k n ss ds (work.State l) is = no_input IsStateful (λ _ i. i) n.kind is.is_state
@@ -172,9 +172,9 @@ module _ {S D L B : Type 0} where
   reads_if chains k n ss ds (work.LaneIn u) is = absurd is
   reads_if chains k n ss ds (work.LaneOut u) is = absurd is
   reads_if chains k n ss ds (work.Writing shape (Some d)) is = no_input IsFileSink (λ _ i. i) n.kind is.is_sink
-  reads_if chains k n ss ds (work.Writing shape None) is = ap (λ q. is_some (input_of q)) is.is_ignore
+  reads_if chains k n ss ds (work.Writing shape None) is = ap (λ q. is_some (source_file q)) is.is_ignore
 
-  writes_if : (chains : List graph.Chain) (k : ℕ) (n : Node) (ss : List S) (ds : List D) (w : Work S D L B) → IsWork chains k n ss ds w → leaves_in Writers n ≡ leaves (drain_of w)
+  writes_if : (chains : List graph.Chain) (k : ℕ) (n : Node) (ss : List S) (ds : List D) (w : Work S D L B) → IsWork chains k n ss ds w → leaves_in Writers n ≡ leaves_something (drain_of w)
   writes_if chains k n ss ds (work.Reading r) is = let l = reads_lines n.kind ss r.source is.source in ap (λ q. is_some (output_of q)) l.1
   writes_if chains k n ss ds (work.Making shape) is = none_of _ (λ name e. maker_no_file n.kind name is.is_maker e)
   writes_if chains k n ss ds (work.Linear l) is = none_of _ (λ name e. linear_no_file n.kind name is.is_linear e)
@@ -189,7 +189,7 @@ module _ {S D L B : Type 0} where
 
   -- so what is told of the nodes of a blueprint holds of their places
   -- the homes of the nodes that leave an item in a list are those of their places
-  homes_of : {Y : Type 0} (list : EndList) (f : Seated S D L B → Option Y) (chains : List graph.Chain) → ((k : ℕ) (n : Node) (ss : List S) (ds : List D) (p : Seated S D L B) → IsWork chains k n ss ds p.work → leaves_in list n ≡ leaves (f p)) → (k : ℕ) (ns : List Node) (ss : List S) (ds : List D) (ps : List (Seated S D L B)) (homes : List ℕ) → AreSeats chains k ns ss ds ps
+  homes_of : {Y : Type 0} (list : EndList) (f : Seated S D L B → Option Y) (chains : List graph.Chain) → ((k : ℕ) (n : Node) (ss : List S) (ds : List D) (p : Seated S D L B) → IsWork chains k n ss ds p.work → leaves_in list n ≡ leaves_something (f p)) → (k : ℕ) (ns : List Node) (ss : List S) (ds : List D) (ps : List (Seated S D L B)) (homes : List ℕ) → AreSeats chains k ns ss ds ps
       → homes_in list ns homes ≡ homes_left f homes ps
   homes_of list f chains each k [] ss ds [] homes a = sym (none_left f homes)
   homes_of list f chains each k [] ss ds (p ∷ ps) homes a = absurd a

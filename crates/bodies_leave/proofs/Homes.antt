@@ -3,20 +3,20 @@ use Rattle.std.specs.Prelude.{slice_get, if◌then◌else◌, All}
 use Rattle.std.proofs.Common.{◌≡◌, ℕ, suc, ◌<◌, Bool, true, false, List, [], ◌∷◌, ◌++◌, length, Option, Some, None, refl, ap, sym, ◌∙◌, subst, arith}
 use Rattle.blue_core.specs.declared.blueprint.Node as blue
 use Rattle.scatter.specs.Shares.{of_home}
-use Rattle.island_ends.specs.Ends.{with_home, homes_left, leaves}
+use Rattle.island_ends.specs.Ends.{with_home, homes_left, leaves_something}
 use Rattle.island_ends.proofs.Behind.{homes_behind}
 use Rattle.island_ends.proofs.Leaving.{with_one, those, share_those, those_count, all_left}
 use Rattle.island_plans.specs.declared.ends.EndList.{EndList}
 use Rattle.island_plans.specs.Ends.{leaves_in, homes_in}
 
-home_kept : {Y : Type 0} (b : Bool) (o : Option Y) (h : ℕ) (gs hs : List ℕ) → leaves o ≡ b → gs ≡ hs → (if b then h ∷ [] else []) ++ gs ≡ with_home o h hs
+home_kept : {Y : Type 0} (b : Bool) (o : Option Y) (h : ℕ) (gs hs : List ℕ) → leaves_something o ≡ b → gs ≡ hs → (if b then h ∷ [] else []) ++ gs ≡ with_home o h hs
 home_kept true None h gs hs l e = cc
 home_kept false None h gs hs l e = e
 home_kept true (Some y) h gs hs l e = ap (λ t. h ∷ t) e
 home_kept false (Some y) h gs hs l e = cc
 
 -- what nodes leave is at home where their kinds say so
-pub homes_kept : {X Y : Type 0} (list : EndList) (f : X → Option Y) (ns : List blue.Node) (homes : List ℕ) (xs : List X) → length xs ≡ length ns → ((k : ℕ) (n : blue.Node) (x : X) → slice_get ns k ≡ Some n → slice_get xs k ≡ Some x → leaves (f x) ≡ leaves_in list n)
+pub homes_kept : {X Y : Type 0} (list : EndList) (f : X → Option Y) (ns : List blue.Node) (homes : List ℕ) (xs : List X) → length xs ≡ length ns → ((k : ℕ) (n : blue.Node) (x : X) → slice_get ns k ≡ Some n → slice_get xs k ≡ Some x → leaves_something (f x) ≡ leaves_in list n)
     → homes_in list ns homes ≡ homes_left f homes xs
 homes_kept list f [] [] [] e h = refl
 homes_kept list f [] (i ∷ homes) [] e h = refl
@@ -26,7 +26,7 @@ homes_kept list f (n ∷ ns) (i ∷ homes) [] e h = absurd (omega (arith, e))
 homes_kept list f (n ∷ ns) (i ∷ homes) (x ∷ xs) e h =
     home_kept (leaves_in list n) (f x) i (homes_in list ns homes) (homes_left f homes xs) (h 0 n x refl refl) (homes_kept list f ns homes xs (omega (arith, e)) (λ k m y p q. h (suc k) m y p q))
 
-pub none_left : {Y : Type 0} (o : Option Y) → leaves o ≡ false → o ≡ None
+pub none_left : {Y : Type 0} (o : Option Y) → leaves_something o ≡ false → o ≡ None
 none_left None e = refl
 none_left (Some y) e = cc
 

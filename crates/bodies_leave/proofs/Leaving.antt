@@ -24,7 +24,7 @@ use Rattle.stage_state.specs.Handling.{StateLaw}
 use Rattle.stage_state.specs.Logics.{IsStateful, BeginsAs}
 use Rattle.stage_state.specs.Moves.{state_picks, state_seat}
 use Rattle.stage_sub.specs.States as subs
-use Rattle.stage_sub.specs.Handling.{IsSub, ChoosesAs, no_moves, sub_picks}
+use Rattle.stage_sub.specs.Handling.{IsSub, ChoosesAs, new_log, sub_picks}
 use Rattle.stage_sub.specs.Handling as sub
 use Rattle.line_chain.specs.Line.{Line}
 use Rattle.stage_switch.specs.States.{Valve, Trip}
@@ -56,35 +56,35 @@ use Rattle.interpreter.specs.declared.parts.Work.TheVariants as work
 use Rattle.blue_core.specs.declared.blueprint.Node as blue
 use Rattle.blue_rules.specs.Picks.{picks, is_merged}
 use Rattle.switch_board.specs.Board.{switch_of}
-use Rattle.materializer.specs.Files.{input_of, output_of}
+use Rattle.materializer.specs.Files.{source_file, output_of}
 use Rattle.materializer.specs.Seats.{IsWork, AreSeats}
 use Rattle.materializer.proofs.Placing.{reads_lines}
-use Rattle.island_ends.specs.Ends.{leaves, sink_of, reader_of, writer_of, is_lane_end}
+use Rattle.island_ends.specs.Ends.{leaves_something, sink_of, reader_of, writer_of, is_lane_end}
 use Rattle.stream_model.specs.Linear.{Book}
 
 -- a node leaves a handle where another does
 pub record HandlesAs {S D L B : Type 0} (x y : IslandNode S D L B) : Type 0 where
-  pub readers : leaves (reader_of y) ≡ leaves (reader_of x)
-  pub writers : leaves (writer_of y) ≡ leaves (writer_of x)
+  pub readers : leaves_something (reader_of y) ≡ leaves_something (reader_of x)
+  pub writers : leaves_something (writer_of y) ≡ leaves_something (writer_of x)
 
 -- and so of all that it leaves
 pub record LeavesAs {S D L B : Type 0} (x y : IslandNode S D L B) : Type 0 where
-  pub sinks : leaves (sink_of y) ≡ leaves (sink_of x)
-  pub picks : leaves (node_picks y) ≡ leaves (node_picks x)
-  pub seats : leaves (node_seat y) ≡ leaves (node_seat x)
+  pub sinks : leaves_something (sink_of y) ≡ leaves_something (sink_of x)
+  pub picks : leaves_something (node_picks y) ≡ leaves_something (node_picks x)
+  pub seats : leaves_something (node_seat y) ≡ leaves_something (node_seat x)
   pub handles : HandlesAs x y
   pub ends : is_lane_end y ≡ is_lane_end x
 
 -- it leaves a handle where its kind has a file
 pub record HandlesBy {S D L B : Type 0} (shape : Kind) (x : IslandNode S D L B) : Type 0 where
-  pub readers : leaves (reader_of x) ≡ is_some (input_of shape)
-  pub writers : leaves (writer_of x) ≡ is_some (output_of shape)
+  pub readers : leaves_something (reader_of x) ≡ is_some (source_file shape)
+  pub writers : leaves_something (writer_of x) ≡ is_some (output_of shape)
 
 -- and all that its kind says
 pub record LeavesBy {S D L B : Type 0} (shape : Kind) (x : IslandNode S D L B) : Type 0 where
-  pub sinks : leaves (sink_of x) ≡ (outputs_of shape == 0)
-  pub picks : leaves (node_picks x) ≡ picks shape
-  pub seats : leaves (node_seat x) ≡ is_some (switch_of shape)
+  pub sinks : leaves_something (sink_of x) ≡ (outputs_of shape == 0)
+  pub picks : leaves_something (node_picks x) ≡ picks shape
+  pub seats : leaves_something (node_seat x) ≡ is_some (switch_of shape)
   pub handles : HandlesBy shape x
 
 pub handles_on : {S D L B : Type 0} (shape : Kind) (x y : IslandNode S D L B) → HandlesBy shape x → HandlesAs x y → HandlesBy shape y
@@ -111,7 +111,7 @@ lane_bare _ e = absurd cc
 
 -- ---- what a node's law keeps
 
-state_stays : (f x : StateLogic) (v : View) (took gave : List (List Item)) → StateLaw f x v took gave → leaves (state_picks x) ≡ leaves (state_picks f)
+state_stays : (f x : StateLogic) (v : View) (took gave : List (List Item)) → StateLaw f x v took gave → leaves_something (state_picks x) ≡ leaves_something (state_picks f)
 state_stays (state.Machine f) (state.Machine x) v took gave law = refl
 state_stays (state.Dropping f) (state.Dropping x) v took gave law = refl
 state_stays (state.Recovering f) (state.Recovering x) v took gave law = refl
@@ -119,7 +119,7 @@ state_stays (state.Obeying f) (state.Obeying x) v took gave law = refl
 state_stays (state.Tripping f) (state.Tripping x) v took gave law = refl
 state_stays f x v took gave law = absurd law
 
-state_seated : (f x : StateLogic) (v : View) (took gave : List (List Item)) → StateLaw f x v took gave → leaves (state_seat x) ≡ leaves (state_seat f)
+state_seated : (f x : StateLogic) (v : View) (took gave : List (List Item)) → StateLaw f x v took gave → leaves_something (state_seat x) ≡ leaves_something (state_seat f)
 state_seated (state.Machine f) (state.Machine x) v took gave law = refl
 state_seated (state.Dropping f) (state.Dropping x) v took gave law = refl
 state_seated (state.Recovering f) (state.Recovering x) v took gave law = refl
@@ -127,19 +127,19 @@ state_seated (state.Obeying f) (state.Obeying x) v took gave law = refl
 state_seated (state.Tripping f) (state.Tripping x) v took gave law = refl
 state_seated f x v took gave law = absurd law
 
-sub_stays : (f x : Option (List ℕ)) → ChoosesAs f x → leaves x ≡ leaves f
+sub_stays : (f x : Option (List ℕ)) → ChoosesAs f x → leaves_something x ≡ leaves_something f
 sub_stays None None c = refl
 sub_stays (Some ms) (Some ns) c = refl
 sub_stays f x c = absurd c
 
-in_stays : (f x : InLogic) → SameKind f x → leaves (in_picks x) ≡ leaves (in_picks f)
+in_stays : (f x : InLogic) → SameKind f x → leaves_something (in_picks x) ≡ leaves_something (in_picks f)
 in_stays (Taking f) (Taking x) law = refl
 in_stays (Sorting f) (Sorting x) law = refl
 in_stays (Zipping f) (Zipping x) law = refl
 in_stays (Merging f) (Merging x) law = refl
 in_stays f x law = absurd law
 
-out_stays : (f x : OutLogic) (v : View) (took gave : List (List Item)) → OutLaw f x v took gave → leaves (out_picks x) ≡ leaves (out_picks f)
+out_stays : (f x : OutLogic) (v : View) (took gave : List (List Item)) → OutLaw f x v took gave → leaves_something (out_picks x) ≡ leaves_something (out_picks f)
 out_stays (Machines f) (Machines x) v took gave law = refl
 out_stays (Balances f) (Balances x) v took gave law = refl
 out_stays f x v took gave law = absurd law
@@ -174,7 +174,7 @@ writes_in Staged = false
 writes_in (Wrote e) = is_some e.drain
 
 module _ {S D L B : Type 0} where
-  reader_end : (x : IslandNode S D L B) → leaves (reader_of x) ≡ reads_in (node_end x)
+  reader_end : (x : IslandNode S D L B) → leaves_something (reader_of x) ≡ reads_in (node_end x)
   reader_end (node.Reading x) = refl
   reader_end (node.Making x) = refl
   reader_end (node.Linear x) = refl
@@ -187,7 +187,7 @@ module _ {S D L B : Type 0} where
   reader_end (node.Entering x) = refl
   reader_end (node.Leaving x) = refl
 
-  writer_end : (x : IslandNode S D L B) → leaves (writer_of x) ≡ writes_in (node_end x)
+  writer_end : (x : IslandNode S D L B) → leaves_something (writer_of x) ≡ writes_in (node_end x)
   writer_end (node.Reading x) = refl
   writer_end (node.Making x) = refl
   writer_end (node.Linear x) = refl
@@ -222,7 +222,7 @@ module _ {S D : Type 0} (sources : S → SourceState) (drains : D → DrainState
 module _ {S D L B : Type 0} (sources : S → SourceState) (drains : D → DrainState) where
   -- the handles of a node outlive it
   pub kept_stays : (x y : IslandNode S D L B) → (y ≡ x) ⊎ KeepsNode sources drains x y → HandlesAs x y
-  kept_stays x y (inl e) = record { readers = ap (λ (z : IslandNode S D L B). leaves (reader_of z)) e; writers = ap (λ (z : IslandNode S D L B). leaves (writer_of z)) e }
+  kept_stays x y (inl e) = record { readers = ap (λ (z : IslandNode S D L B). leaves_something (reader_of z)) e; writers = ap (λ (z : IslandNode S D L B). leaves_something (writer_of z)) e }
   kept_stays x y (inr k) = record {
     readers = reader_end y ∙ (end_reads sources drains (node_end x) (node_end y) k.ends ∙ sym (reader_end x));
     writers = writer_end y ∙ (end_writes sources drains (node_end x) (node_end y) k.ends ∙ sym (writer_end x));
@@ -233,7 +233,7 @@ module _ {S D L B : Type 0} (sources : S → SourceState) (drains : D → DrainS
 -- a kind with some output and without a file
 record IsPlain (shape : Kind) : Type 0 where
   sinks : (outputs_of shape == 0) ≡ false
-  reads : is_some (input_of shape) ≡ false
+  reads : is_some (source_file shape) ≡ false
   writes : is_some (output_of shape) ≡ false
 
 maker_plain : (shape : Kind) → IsMaker shape → IsPlain shape × (picks shape ≡ false)
@@ -297,7 +297,7 @@ record IsFiled (shape : Kind) : Type 0 where
   sinks : (outputs_of shape == 0) ≡ true
   picked : picks shape ≡ false
   shut : is_some (switch_of shape) ≡ false
-  reads : is_some (input_of shape) ≡ false
+  reads : is_some (source_file shape) ≡ false
   writes : is_some (output_of shape) ≡ true
 
 file_sink : (shape : Kind) → IsFileSink shape → IsFiled shape
@@ -343,7 +343,7 @@ trip_free k (kind.TripShutdown name n) d f b = refl
 trip_free k (kind.TripAbort name n) d f b = refl
 trip_free k shape d f b = absurd b
 
-state_chooses : (k : ℕ) (shape : Kind) (d : Decider) (f : StateLogic) → BeginsAs shape k d f → leaves (state_picks f) ≡ picks shape
+state_chooses : (k : ℕ) (shape : Kind) (d : Decider) (f : StateLogic) → BeginsAs shape k d f → leaves_something (state_picks f) ≡ picks shape
 state_chooses k shape d (state.Machine f) b = sym (machine_free shape b.0)
 state_chooses k shape d (state.Dropping f) b = sym (drop_chooses k shape d f b)
 state_chooses k shape d (state.Recovering f) b = sym (recover_chooses k shape d f b)
@@ -351,17 +351,17 @@ state_chooses k shape d (state.Obeying f) b = sym (valve_chooses k shape d f b)
 state_chooses k shape d (state.Tripping f) b = sym (trip_free k shape d f b)
 
 -- substreams choose where their outputs come together as they are
-join_chooses : (j : Joining) → leaves (no_moves j) ≡ is_merged j
+join_chooses : (j : Joining) → leaves_something (new_log j) ≡ is_merged j
 join_chooses joining.Merge = refl
 join_chooses joining.Concat = refl
 
-sub_chooses : (k : ℕ) (shape : Kind) (chain : Line) (f : subs.Logic Line) → sub.BeginsAs shape k chain f → leaves (sub_picks f) ≡ picks shape
-sub_chooses k (kind.GroupBy n g name) chain f b = ap (λ (x : subs.Logic Line). leaves x.moves) b
-sub_chooses k (kind.SplitWhen p name j) chain f b = ap (λ (x : subs.Logic Line). leaves x.moves) b ∙ join_chooses j
-sub_chooses k (kind.SplitAfter p name j) chain f b = ap (λ (x : subs.Logic Line). leaves x.moves) b ∙ join_chooses j
+sub_chooses : (k : ℕ) (shape : Kind) (chain : Line) (f : subs.Logic Line) → sub.BeginsAs shape k chain f → leaves_something (sub_picks f) ≡ picks shape
+sub_chooses k (kind.GroupBy n g name) chain f b = ap (λ (x : subs.Logic Line). leaves_something x.moves) b
+sub_chooses k (kind.SplitWhen p name j) chain f b = ap (λ (x : subs.Logic Line). leaves_something x.moves) b ∙ join_chooses j
+sub_chooses k (kind.SplitAfter p name j) chain f b = ap (λ (x : subs.Logic Line). leaves_something x.moves) b ∙ join_chooses j
 sub_chooses k shape chain f b = absurd b
 
-fan_in_chooses : (shape : Kind) (f : InLogic) → TakesAs shape f → leaves (in_picks f) ≡ picks shape
+fan_in_chooses : (shape : Kind) (f : InLogic) → TakesAs shape f → leaves_something (in_picks f) ≡ picks shape
 fan_in_chooses (kind.Concat n) (Taking f) t = refl
 fan_in_chooses (kind.Interleave n m) (Taking f) t = refl
 fan_in_chooses kind.MergeSorted (Sorting f) t = refl
@@ -379,7 +379,7 @@ balance_chooses : (shape : Kind) (f : Balancing) → BeginsBalance shape f → p
 balance_chooses (kind.Balance n) f b = refl
 balance_chooses shape f b = absurd b
 
-fan_out_chooses : (k : ℕ) (shape : Kind) (f : OutLogic) → fan_out.BeginsAs k shape f → leaves (out_picks f) ≡ picks shape
+fan_out_chooses : (k : ℕ) (shape : Kind) (f : OutLogic) → fan_out.BeginsAs k shape f → leaves_something (out_picks f) ≡ picks shape
 fan_out_chooses k shape (Machines f) b = sym (copies_free shape b.0)
 fan_out_chooses k shape (Balances f) b = sym (balance_chooses shape f b)
 
@@ -451,7 +451,7 @@ trip_seated k (kind.TripShutdown name n) d f b = refl
 trip_seated k (kind.TripAbort name n) d f b = refl
 trip_seated k shape d f b = absurd b
 
-state_seats : (k : ℕ) (shape : Kind) (d : Decider) (f : StateLogic) → BeginsAs shape k d f → leaves (state_seat f) ≡ is_some (switch_of shape)
+state_seats : (k : ℕ) (shape : Kind) (d : Decider) (f : StateLogic) → BeginsAs shape k d f → leaves_something (state_seat f) ≡ is_some (switch_of shape)
 state_seats k shape d (state.Machine f) b = sym (machine_unseated shape b.0)
 state_seats k shape d (state.Dropping f) b = sym (drop_unseated k shape d f b)
 state_seats k shape d (state.Recovering f) b = sym (recover_unseated k shape d f b)
@@ -461,7 +461,7 @@ state_seats k shape d (state.Tripping f) b = sym (trip_seated k shape d f b)
 -- ---- a node as it begins
 
 module _ {S D L B : Type 0} where
-  inner : (shape : Kind) (x : IslandNode S D L B) → leaves (sink_of x) ≡ false → leaves (reader_of x) ≡ false → leaves (writer_of x) ≡ false → leaves (node_picks x) ≡ picks shape → leaves (node_seat x) ≡ is_some (switch_of shape) → IsPlain shape → LeavesBy shape x
+  inner : (shape : Kind) (x : IslandNode S D L B) → leaves_something (sink_of x) ≡ false → leaves_something (reader_of x) ≡ false → leaves_something (writer_of x) ≡ false → leaves_something (node_picks x) ≡ picks shape → leaves_something (node_seat x) ≡ is_some (switch_of shape) → IsPlain shape → LeavesBy shape x
   inner shape x s r w p t is = record { sinks = s ∙ sym is.sinks; picks = p; seats = t; handles = record { readers = r ∙ sym is.reads; writers = w ∙ sym is.writes } }
 
   reading_leaves : (shape : Kind) (name : List ℕ) (y : Lines S) → shape ≡ kind.Lines name → LeavesBy {S = S} {D = D} {L = L} {B = B} shape (node.Reading y)
@@ -469,7 +469,7 @@ module _ {S D L B : Type 0} where
     sinks = sym (ap (λ (t : Kind). outputs_of t == 0) e);
     picks = sym (ap picks e);
     seats = sym (ap (λ (t : Kind). is_some (switch_of t)) e);
-    handles = record { readers = sym (ap (λ (t : Kind). is_some (input_of t)) e); writers = sym (ap (λ (t : Kind). is_some (output_of t)) e) };
+    handles = record { readers = sym (ap (λ (t : Kind). is_some (source_file t)) e); writers = sym (ap (λ (t : Kind). is_some (output_of t)) e) };
   }
 
   ignoring_leaves : (shape : Kind) (y : Ignorer) → shape ≡ kind.Ignore → LeavesBy {S = S} {D = D} {L = L} {B = B} shape (node.Ignoring y)
@@ -477,7 +477,7 @@ module _ {S D L B : Type 0} where
     sinks = sym (ap (λ (t : Kind). outputs_of t == 0) e);
     picks = sym (ap picks e);
     seats = sym (ap (λ (t : Kind). is_some (switch_of t)) e);
-    handles = record { readers = sym (ap (λ (t : Kind). is_some (input_of t)) e); writers = sym (ap (λ (t : Kind). is_some (output_of t)) e) };
+    handles = record { readers = sym (ap (λ (t : Kind). is_some (source_file t)) e); writers = sym (ap (λ (t : Kind). is_some (output_of t)) e) };
   }
 
   writing_leaves : (shape : Kind) (y : Sink D) → IsFileSink shape → LeavesBy {S = S} {D = D} {L = L} {B = B} shape (node.Writing y)

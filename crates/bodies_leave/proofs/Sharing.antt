@@ -4,7 +4,7 @@ use Rattle.std.proofs.Common.{◌≡◌, ℕ, ◌<◌, ◌≤◌, List, length, 
 use Rattle.std.specs.declared.vec.Vec.{Vec}
 use Rattle.std.specs.declared.alloc.Global.{Global}
 use Rattle.std.proofs.lemmas.List.{length-map}
-use Rattle.scatter.specs.Shares.{of_home, count_of, items_at}
+use Rattle.scatter.specs.Shares.{of_home, share_of, items_at}
 use Rattle.scatter.proofs.Sharing.{share_count, share_map, share_one}
 use Rattle.island_ends.proofs.Joining.{at_place, items_there}
 use Rattle.island_ends.proofs.Leaving.{items_beyond, less_or, none_beyond}
@@ -17,18 +17,18 @@ pub record AreSharesOf {E Z : Type 0} (g : E → Vec Z Global) (ends : List E) (
 
 module _ {E Z Y : Type 0} (state : Z → Y) (g : E → Vec Z Global) (ends : List E) (homes : List ℕ) (zs : List Z) (below : All (λ h. h < length ends) homes) (each : length zs ≡ length homes)
     (back : (k : ℕ) (e : E) → slice_get ends k ≡ Some e → map state (g e).items ≡ map state (of_home homes k zs)) where
-  count_there : (k : ℕ) → k < length ends → length (items_at (map g ends) k) ≡ count_of k homes
+  count_there : (k : ℕ) → k < length ends → length (items_at (map g ends) k) ≡ share_of k homes
   count_there k l =
       let p = at_place ends k l in
       ap length (items_there g ends k p.0 p.1) ∙ sym (length-map (g p.0).items state) ∙ ap length (back k p.0 p.1) ∙ length-map (of_home homes k zs) state ∙ share_count homes zs k each
 
-  count_beyond : (k : ℕ) → length ends ≤ k → length (items_at (map g ends) k) ≡ count_of k homes
+  count_beyond : (k : ℕ) → length ends ≤ k → length (items_at (map g ends) k) ≡ share_of k homes
   count_beyond k l =
       let many = length-map ends g in
       ap length (items_beyond (map g ends) k (omega (arith, l, many))) ∙ ap length (sym (none_beyond homes (length ends) k below l zs)) ∙ share_count homes zs k each
 
-  counts : (k : ℕ) → length (items_at (map g ends) k) ≡ count_of k homes
-  counts k = less_or k (length ends) (length (items_at (map g ends) k) ≡ count_of k homes) (count_there k) (count_beyond k)
+  counts : (k : ℕ) → length (items_at (map g ends) k) ≡ share_of k homes
+  counts k = less_or k (length ends) (length (items_at (map g ends) k) ≡ share_of k homes) (count_there k) (count_beyond k)
 
   -- there is one list, of which they are the shares
   pub make_all : (all : List Z) × AreSharesOf g ends homes all

@@ -13,15 +13,15 @@ use Rattle.fused_net.proofs.Sums.{sum_le}
 use Rattle.interpreter.specs.declared.parts.Seated.{Seated}
 use Rattle.nodes.specs.declared.node.IslandNode.{IslandNode}
 use Rattle.run_account.specs.Account.{Account}
-use Rattle.run_account.specs.Pictures.{counts_from, counts_of}
-use Rattle.run_account.specs.Seats.{Place, joined}
+use Rattle.run_account.specs.Pictures.{counts_from, picture_counts}
+use Rattle.run_account.specs.Seats.{IslandPlace, joined_account}
 use Rattle.rounds.specs.Bodies.{AllOf, EachOf}
 use Rattle.rounds.specs.declared.crossing.Crossing.{Crossing}
 use Rattle.scatter.specs.Shares.{rank_of}
 use Rattle.island_parts.specs.Whole.{whole_links, link_home}
 use Rattle.island_parts.proofs.Restricting.{home_at, rank_is, rank_one}
 use Rattle.island_parts.proofs.Wiring.{there}
-use Rattle.island_seats.specs.Islands.{place_homes, link_homes, link_place, seats_of}
+use Rattle.island_seats.specs.Islands.{place_homes, link_homes, link_place, seats_by_islands}
 use Rattle.island_seats.proofs.Leading.{islands}
 use Rattle.island_seats.proofs.Standing.{near_there}
 use Rattle.island_body.specs.Keeping.{BodyKeeps, BodyGoes}
@@ -63,7 +63,7 @@ module _ {S D L B : Type 0} (sources : S → SourceState) (drains : D → DrainS
   goes_on k a b x y = went a b (goes.each k a b x y)
 
   abbrev account : Account (IslandNode S D L B)
-  account = joined (net_of now) (seats_of homes ws) all
+  account = joined_account (net_of now) (seats_by_islands homes ws) all
 
   abbrev asks_at : ℕ → ℕ → ℕ
   asks_at b q = asks (wire_at (net_of now b) q).wire
@@ -84,7 +84,7 @@ module _ {S D L B : Type 0} (sources : S → SourceState) (drains : D → DrainS
       omega (arith, here, many)
 
   apart : (u w : ℕ) → u < length ws → w < length ws → link_place homes ws u ≡ link_place homes ws w → u ≡ w
-  apart u w a b e = ranks_apart (link_homes homes ws) u w (linked u a) (linked w b) (ap (λ (p : Place). p.island) e) (ap (λ (p : Place). p.at) e)
+  apart u w a b e = ranks_apart (link_homes homes ws) u w (linked u a) (linked w b) (ap (λ (p : IslandPlace). p.island) e) (ap (λ (p : IslandPlace). p.at) e)
 
   placed : sum_below (λ u. asks_at (link_place homes ws u).island (link_place homes ws u).at) (length ws) ≤ sum_below (λ b. all_asks (net_of now b)) count
   placed = sum_places count (λ b. length (net_of now b).wires) (length ws) (link_place homes ws) asks_at within apart
@@ -96,7 +96,7 @@ module _ {S D L B : Type 0} (sources : S → SourceState) (drains : D → DrainS
       sum_le (λ k. asks (account.near (0 + k)).wire) (λ u. asks_at (link_place homes ws u).island (link_place homes ws u).at) (length ws) (λ k lt. let none : 0 + k ≡ k = omega arith in let here : asks (account.near (0 + k)).wire ≡ asks (account.near k).wire = ap (λ j. asks (account.near j).wire) none in omega (arith, here)) in
       omega (arith, sent, same)
 
-  pub spent : all_sent (counts_of account g) ≤ sum_by (λ (b : Body S D L B). b.spent) now
+  pub spent : all_sent (picture_counts account g) ≤ sum_by (λ (b : Body S D L B). b.spent) now
   spent =
       let sent = subst (λ (vs : List Edge). all_sent (counts_from account 0 vs) ≤ sum_below (λ u. asks_at (link_place homes ws u).island (link_place homes ws u).at) (length ws)) (sym m.graph.wires_are) sent_placed in
       let paid = asks_spent sources drains book count now (goes.count ∙ m.begun_are.many) keep in

@@ -11,7 +11,7 @@ use Rattle.fused_net.specs.Net.{Net, view_of, took, gave}
 use Rattle.nodes.specs.Nodes.{node_picks, node_seat}
 use Rattle.nodes.specs.declared.node.IslandNode.{IslandNode}
 use Rattle.interpreter.specs.Island.{counts_of, sinks_of, readers_of, writers_of}
-use Rattle.interpreter.specs.Parts.{number_of}
+use Rattle.interpreter.specs.Parts.{wire_number}
 use Rattle.interpreter.specs.Picks.{node_number, picks_of}
 use Rattle.interpreter.specs.Seats.{seats_of}
 use Rattle.interpreter.specs.declared.island.IslandEnd.{IslandEnd}
@@ -27,7 +27,7 @@ use Rattle.scatter.specs.Shares.{of_home}
 use Rattle.scatter.proofs.Sharing.{share_map}
 use Rattle.island_parts.specs.Whole.{whole_seats}
 use Rattle.island_parts.proofs.Wiring.{there}
-use Rattle.island_ends.specs.Ends.{Whole, sink_of, reader_of, writer_of, leaves, homes_left, AreLaneEnds, AreEndsOf, AreHomesOf, IsEndOf, IsWholeEnd}
+use Rattle.island_ends.specs.Ends.{Whole, sink_of, reader_of, writer_of, leaves_something, homes_left, AreLaneEnds, AreEndsOf, AreHomesOf, IsEndOf, IsWholeEnd}
 use Rattle.island_ends.specs.declared.room.EndHomes.{EndHomes}
 use Rattle.island_ends.proofs.Behind.{sinks_behind, readers_behind, writers_behind, picks_behind, seats_behind, homes_behind}
 use Rattle.island_plans.specs.Ends.{wire_home, homes_in, leaves_in, AreEndHomes}
@@ -40,7 +40,7 @@ use Rattle.island_body.specs.Keeping.{BodyKeeps, BodyGoes}
 use Rattle.island_body.specs.declared.body.Body.{Body}
 use Rattle.bodies_run.specs.Bodies.{net_in, net_of, AreBodiesOf, AllSettled}
 use Rattle.bodies_run.proofs.Nets.{Went, went, stood, all_settled, now_nets}
-use Rattle.bodies_run.specs.Begun.{AreNumbered}
+use Rattle.bodies_run.specs.Begun.{AreNumberedBodies}
 use Rattle.bodies_run.specs.Leaving.{account_in}
 use Rattle.island_bodies.specs.Making.{AreEndsOfBodies}
 use Rattle.bodies_leave.specs.Whole.{whole_of, IsLeftBy}
@@ -60,7 +60,7 @@ settled_stays sources drains book bodies settled k p first x ef ex =
 
 -- the homes of a list, of nodes that leave what their kinds say and of others behind them
 pub list_homes : {S D L B Y : Type 0} (list : EndList) (f : IslandNode S D L B → Option Y) (ns : List blue.Node) (homes others : List ℕ) (last more : List (IslandNode S D L B)) → length last ≡ length homes → length last ≡ length ns
-    → ((k : ℕ) (n : blue.Node) (x : IslandNode S D L B) → slice_get ns k ≡ Some n → slice_get last k ≡ Some x → leaves (f x) ≡ leaves_in list n) → ((k : ℕ) (x : IslandNode S D L B) → slice_get more k ≡ Some x → f x ≡ None) → homes_in list ns homes ≡ homes_left f (homes ++ others) (last ++ more)
+    → ((k : ℕ) (n : blue.Node) (x : IslandNode S D L B) → slice_get ns k ≡ Some n → slice_get last k ≡ Some x → leaves_something (f x) ≡ leaves_in list n) → ((k : ℕ) (x : IslandNode S D L B) → slice_get more k ≡ Some x → f x ≡ None) → homes_in list ns homes ≡ homes_left f (homes ++ others) (last ++ more)
 list_homes list f ns homes others last more e g h none = homes_kept list f ns homes last g h ∙ sym (homes_behind f homes others last more e none)
 
 module _ {S D L B : Type 0} (sources : S → SourceState) (drains : D → DrainState) (book : Book) (g : Graph) (homes : List ℕ) (count : ℕ) (ws : List Edge) (nodes : List (Seated S D L B)) (crossings : List Crossing) (begun now : List (Body S D L B)) (all : ℕ → ℕ) (last more : List (IslandNode S D L B))
@@ -95,7 +95,7 @@ module _ {S D L B : Type 0} (sources : S → SourceState) (drains : D → DrainS
 
   -- ---- the ends of all islands
 
-  module _ (numbered : AreNumbered homes ws nodes begun) (ends : List (IslandEnd S D)) (are : AreEndsOfBodies now ends) where
+  module _ (numbered : AreNumberedBodies homes ws nodes begun) (ends : List (IslandEnd S D)) (are : AreEndsOfBodies now ends) where
     many : length ends ≡ count
     many = are.many ∙ (goes.count ∙ m.begun_are.many)
 
@@ -119,7 +119,7 @@ module _ {S D L B : Type 0} (sources : S → SourceState) (drains : D → DrainS
           readers = i.readers ∙ ap readers_of (sym share);
           writers = i.writers ∙ ap writers_of (sym share);
           fars = wires.0;
-          wires = i.wires ∙ (ap (λ (ns : List ℕ). counts_of ns b.0.island.net.wires) (on.numbers ∙ n.wires) ∙ (ap (λ (t : Net (IslandNode S D L B)). counts_of (map number_of (links_in homes ws nodes k)) t.wires) (sym net) ∙ wires.1));
+          wires = i.wires ∙ (ap (λ (ns : List ℕ). counts_of ns b.0.island.net.wires) (on.numbers ∙ n.wires) ∙ (ap (λ (t : Net (IslandNode S D L B)). counts_of (map wire_number (links_in homes ws nodes k)) t.wires) (sym net) ∙ wires.1));
         }
 
     pub are_ends : AreEndsOf w ends

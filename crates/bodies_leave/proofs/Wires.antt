@@ -10,10 +10,10 @@ use Rattle.wire_core.specs.Reading.{no_wire}
 use Rattle.fused_net.specs.Net.{Net, wire_at}
 use Rattle.nodes.specs.declared.node.IslandNode.{IslandNode}
 use Rattle.interpreter.specs.Island.{counts_of, count_of as told_of}
-use Rattle.interpreter.specs.Parts.{ends_of, number_of}
+use Rattle.interpreter.specs.Parts.{ends_of, wire_number}
 use Rattle.interpreter.specs.declared.parts.Link.{Link}
 use Rattle.interpreter.specs.declared.parts.Seated.{Seated}
-use Rattle.scatter.specs.Shares.{of_home, rank_of, count_of}
+use Rattle.scatter.specs.Shares.{of_home, rank_of, share_of}
 use Rattle.scatter.proofs.Sharing.{share_map, share_both}
 use Rattle.island_parts.specs.Whole.{one_lane, lanes_in, near_at, nears_from, fars_from, whole_links, link_home, local_link, own_links}
 use Rattle.island_parts.proofs.Cutting.{nears_count}
@@ -52,7 +52,7 @@ share_counts (h ∷ hs) k (m ∷ ms) (c ∷ cs) a b = counts_step (h == k) m c (
 
 -- ---- the links at the outputs of wires
 
-near_number : (out u : ℕ) (w : Edge) (o : Option ℕ) → number_of (near_at out u w o) ≡ u
+near_number : (out u : ℕ) (w : Edge) (o : Option ℕ) → wire_number (near_at out u w o) ≡ u
 near_number out u w None = refl
 near_number out u w (Some s) = refl
 
@@ -61,13 +61,13 @@ near_from out u w None = refl
 near_from out u w (Some s) = refl
 
 -- what is told of wires that stand so is told of their links
-told_near : (near : ℕ → WireState) (out u : ℕ) (ws : List Edge) (cs : List WireState) → length cs ≡ length ws → ((j : ℕ) (c : WireState) → slice_get cs j ≡ Some c → near (u + j) ≡ c) → counts_of (map number_of (nears_from out u ws)) cs ≡ told_from near u ws
+told_near : (near : ℕ → WireState) (out u : ℕ) (ws : List Edge) (cs : List WireState) → length cs ≡ length ws → ((j : ℕ) (c : WireState) → slice_get cs j ≡ Some c → near (u + j) ≡ c) → counts_of (map wire_number (nears_from out u ws)) cs ≡ told_from near u ws
 told_near near out u [] cs e h = refl
 told_near near out u (w ∷ ws) [] e h = absurd (omega (arith, e))
 told_near near out u (w ∷ ws) (c ∷ cs) e h =
     let first : near u ≡ c = ap near (let z : u ≡ u + 0 = omega arith in z) ∙ h 0 c refl in
     let rest = told_near near (one_lane w.lane out) (u + 1) ws cs (omega (arith, e)) (λ j d at. let z : u + 1 + j ≡ u + suc j = omega arith in ap near z ∙ h (suc j) d at) in
-    ap (λ (m : ℕ). (m, told_of c) ∷ counts_of (map number_of (nears_from (one_lane w.lane out) (u + 1) ws)) cs) (near_number out u w w.lane) ∙ (ap (λ (d : WireState). (u, told_of d) ∷ counts_of (map number_of (nears_from (one_lane w.lane out) (u + 1) ws)) cs) (sym first) ∙ ap (λ l. (u, told_of (near u)) ∷ l) rest)
+    ap (λ (m : ℕ). (m, told_of c) ∷ counts_of (map wire_number (nears_from (one_lane w.lane out) (u + 1) ws)) cs) (near_number out u w w.lane) ∙ (ap (λ (d : WireState). (u, told_of d) ∷ counts_of (map wire_number (nears_from (one_lane w.lane out) (u + 1) ws)) cs) (sym first) ∙ ap (λ l. (u, told_of (near u)) ∷ l) rest)
 
 pub told_many : (near : ℕ → WireState) (u : ℕ) (ws : List Edge) → length (told_from near u ws) ≡ length ws
 told_many near u [] = refl
@@ -79,7 +79,7 @@ near_homes homes hs out u [] h = refl
 near_homes homes hs out u (w ∷ ws) h =
     ap (λ (j : ℕ). j ∷ map (link_home hs) (nears_from (one_lane w.lane out) (u + 1) ws)) (ap (slice_index hs) (near_from out u w w.lane) ∙ h 0 w refl) ∙ ap (λ l. wire_home homes w ∷ l) (near_homes homes hs (one_lane w.lane out) (u + 1) ws (λ i v e. h (suc i) v e))
 
-local_number : (hs : List ℕ) (ls : List Link) → map number_of (map (local_link hs) ls) ≡ map number_of ls
+local_number : (hs : List ℕ) (ls : List Link) → map wire_number (map (local_link hs) ls) ≡ map wire_number ls
 local_number hs [] = refl
 local_number hs (l ∷ ls) = ap (λ t. l.wire ∷ t) (local_number hs ls)
 
@@ -126,7 +126,7 @@ module _ {S D L B : Type 0} (homes : List ℕ) (count : ℕ) (ws : List Edge) (n
       let l = there links i within in
       (stands homes count ws nodes a i l.0 l.1).below
 
-  many : (k : ℕ) → k < count → length (nets k).wires ≡ count_of k lhs
+  many : (k : ℕ) → k < count → length (nets k).wires ≡ share_of k lhs
   many k lt =
       sym (b.wired k lt).each_wire ∙ (ap length (b.ends_are k lt) ∙ (length-map (links_in homes ws nodes k) ends_of ∙ (ap (λ (n : ℕ). length (own_links hs (whole_links n ws) k)) (size homes count ws nodes a) ∙ links_in_count homes count ws nodes a k)))
 
@@ -162,12 +162,12 @@ module _ {S D L B : Type 0} (homes : List ℕ) (count : ℕ) (ws : List Edge) (n
       let z : 0 + j ≡ j = omega arith in
       ap near z ∙ same
 
-  told_is : counts_of (map number_of nears) two.0 ≡ told_from near 0 ws
+  told_is : counts_of (map wire_number nears) two.0 ≡ told_from near 0 ws
   told_is = told_near near out 0 ws two.0 two.1.1.first near_is
 
-  numbers_are : (k : ℕ) → map number_of (links_in homes ws nodes k) ≡ of_home lhs k (map number_of links)
+  numbers_are : (k : ℕ) → map wire_number (links_in homes ws nodes k) ≡ of_home lhs k (map wire_number links)
   numbers_are k =
-      ap (λ (n : ℕ). map number_of (own_links hs (whole_links n ws) k)) (size homes count ws nodes a) ∙ (sym (share_map number_of lhs (map (local_link hs) links) k) ∙ ap (of_home lhs k) (local_number hs links))
+      ap (λ (n : ℕ). map wire_number (own_links hs (whole_links n ws) k)) (size homes count ws nodes a) ∙ (sym (share_map wire_number lhs (map (local_link hs) links) k) ∙ ap (of_home lhs k) (local_number hs links))
 
   -- where the links at the inputs of lanes are at home
   abbrev far_homes : List ℕ
@@ -178,21 +178,21 @@ module _ {S D L B : Type 0} (homes : List ℕ) (count : ℕ) (ws : List Edge) (n
       map_both (link_home hs) nears fars ∙ ap (λ l. l ++ map (link_home hs) fars) (near_homes homes hs out 0 ws (λ i w at. same_home homes count ws nodes a w.from (from_node homes count ws nodes a i w at)))
 
   -- the counts of the wires of island k
-  pub wires_are : (k : ℕ) → k < count → (fars_told : List (ℕ × WireCount)) × (counts_of (map number_of (links_in homes ws nodes k)) (nets k).wires ≡ of_home (map (wire_home homes) ws) k (told_from near 0 ws) ++ fars_told)
+  pub wires_are : (k : ℕ) → k < count → (fars_told : List (ℕ × WireCount)) × (counts_of (map wire_number (links_in homes ws nodes k)) (nets k).wires ≡ of_home (map (wire_home homes) ws) k (told_from near 0 ws) ++ fars_told)
   wires_are k lt =
-      let n1 = length-map nears number_of in
+      let n1 = length-map nears wire_number in
       let n2 = nears_count out 0 ws in
       let w = length-map ws (wire_home homes) in
-      let f1 = length-map fars number_of in
+      let f1 = length-map fars wire_number in
       let f2 = length-map fars (link_home hs) in
       let p = two.1.1 in
       let first = p.first in
       let later = p.later in
       let each = all_cells.1.each in
       let wide = links_many in (
-        of_home far_homes k (counts_of (map number_of fars) two.1.0),
+        of_home far_homes k (counts_of (map wire_number fars) two.1.0),
         ap (λ (ms : List ℕ). counts_of ms (nets k).wires) (numbers_are k)
-            ∙ (ap (λ (cs : List WireState). counts_of (of_home lhs k (map number_of links)) cs) (sym (all_cells.1.shares k lt))
-            ∙ parted (map (wire_home homes) ws) far_homes lhs (map number_of nears) (map number_of fars) (map number_of links) two.0 two.1.0 cells (told_from near 0 ws) k homes_are (map_both number_of nears fars) p.is (omega (arith, n1, n2, w)) (f1 ∙ sym f2) (first ∙ sym w)
+            ∙ (ap (λ (cs : List WireState). counts_of (of_home lhs k (map wire_number links)) cs) (sym (all_cells.1.shares k lt))
+            ∙ parted (map (wire_home homes) ws) far_homes lhs (map wire_number nears) (map wire_number fars) (map wire_number links) two.0 two.1.0 cells (told_from near 0 ws) k homes_are (map_both wire_number nears fars) p.is (omega (arith, n1, n2, w)) (f1 ∙ sym f2) (first ∙ sym w)
             (let z : length two.1.0 ≡ length fars = omega (arith, later, each, wide) in z ∙ sym f2) told_is),
       )

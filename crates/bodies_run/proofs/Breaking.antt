@@ -15,7 +15,7 @@ use Rattle.run_outlook_laws.proofs.Islands.{all_run}
 use Rattle.materializer.specs.Graphs.{graph_of, chains_of}
 use Rattle.materializer.specs.Seats.{AreSeats}
 use Rattle.materializer.proofs.Fitting.{fit_joined}
-use Rattle.island_seats.specs.Islands.{seats_of, AreBroughtBack}
+use Rattle.island_seats.specs.Islands.{seats_by_islands, AreBroughtBack}
 use Rattle.rounds.specs.Crossings.{AllJoined}
 use Rattle.rounds.specs.declared.crossing.Crossing.{Crossing}
 use Rattle.dispatcher.specs.Broken.{WholeOrBroken}
@@ -56,6 +56,6 @@ module _ {S D L B : Type 0} (sources : S → SourceState) (drains : D → DrainS
           → IsRun sources drains book (graph_of b) (account_in homes (blueprint_wires b) then all)
       broken_run asked joined plugs taken ss ds fit seats given =
           let w = last_began sources drains book begun now broke then l (graph_of b) homes count (blueprint_wires b) nodes crossings m all in
-          all_run sources drains book (graph_of b) (net_of then) (seats_of homes (blueprint_wires b)) all (last_cover sources drains book begun now broke then l (graph_of b) homes count (blueprint_wires b) nodes crossings m)
+          all_run sources drains book (graph_of b) (net_of then) (seats_by_islands homes (blueprint_wires b)) all (last_cover sources drains book begun now broke then l (graph_of b) homes count (blueprint_wires b) nodes crossings m)
           (last_settled sources drains book begun now broke then l) (fit_joined b plugs taken fit) (last_lanes sources drains book begun now broke then l (graph_of b) homes count (blueprint_wires b) nodes crossings m all asked joined)
           (are_made sources b ss ds nodes w.0 (account_in homes (blueprint_wires b) then all) seats w.1.0 given w.1.1)

@@ -10,9 +10,9 @@ use Rattle.nodes.specs.Nodes.{KeepsNode}
 use Rattle.nodes.specs.declared.node.IslandNode.{IslandNode}
 use Rattle.interpreter.specs.Parts.{AllBecome}
 use Rattle.interpreter.specs.declared.parts.Seated.{Seated}
-use Rattle.run_account.specs.Seats.{Covers, LanesKeep, joined}
+use Rattle.run_account.specs.Seats.{Covers, LanesKeep, joined_account}
 use Rattle.run_account.specs.Units.{Owned}
-use Rattle.island_seats.specs.Islands.{seats_of, AreNets}
+use Rattle.island_seats.specs.Islands.{seats_by_islands, AreNets}
 use Rattle.rounds.specs.Crossings.{AllJoined}
 use Rattle.rounds.specs.declared.crossing.Crossing.{Crossing}
 use Rattle.dispatcher.specs.Broken.{WholeOrBroken}
@@ -131,19 +131,19 @@ module _ {S D L B : Type 0} where
       last_kept k = kept_nets (KeepsNode sources drains) then now l.count (λ j c b ec eb. let m = moment j b c eb ec in m.1.kept) k
 
       module _ (g : Graph) (homes : List ℕ) (count : ℕ) (ws : List Edge) (nodes : List (Seated S D L B)) (crossings : List Crossing) (m : AreBodiesOf sources drains book g homes count ws nodes crossings begun) where
-        pub last_cover : Covers g (net_of then) (seats_of homes ws)
+        pub last_cover : Covers g (net_of then) (seats_by_islands homes ws)
         last_cover = nets_cover sources drains book g homes count ws nodes crossings begun m then many then_goes
 
         pub last_nets : AreNets homes ws nodes count (net_of then)
         last_nets = now_nets sources drains book g homes count ws nodes crossings begun m then many then_goes
 
-        pub last_began : (all : ℕ → ℕ) → (firsts : List (IslandNode S D L B)) × (AllBecome nodes firsts × ((k : ℕ) → k < length g.nodes → (joined (net_of then) (seats_of homes ws) all).firsts k ≡ slice_get firsts k))
+        pub last_began : (all : ℕ → ℕ) → (firsts : List (IslandNode S D L B)) × (AllBecome nodes firsts × ((k : ℕ) → k < length g.nodes → (joined_account (net_of then) (seats_by_islands homes ws) all).firsts k ≡ slice_get firsts k))
         last_began = nets_began sources drains book g homes count ws nodes crossings begun m then many then_goes
 
-        pub last_owned : Owned g (net_of then) (seats_of homes ws) count
+        pub last_owned : Owned g (net_of then) (seats_by_islands homes ws) count
         last_owned = nets_owned sources drains book g homes count ws nodes crossings begun m then many then_goes
 
-        pub last_lanes : (all : ℕ → ℕ) → AskedAre now crossings all → AllJoined BodiesJoined now crossings → LanesKeep g (net_of then) (seats_of homes ws) all
+        pub last_lanes : (all : ℕ → ℕ) → AskedAre now crossings all → AllJoined BodiesJoined now crossings → LanesKeep g (net_of then) (seats_by_islands homes ws) all
         last_lanes all asked_are j =
             lanes_keep sources drains book g homes count ws nodes m.seated m.graph.wires_are then then_stood crossings (lanes_on homes ws begun then many then_goes crossings m.lanes_are) all
             (asked_on crossings all asked_are) (joined_on crossings j)

@@ -5,18 +5,18 @@ use Rattle.std.proofs.Common.{◌≡◌, ℕ, suc, ◌+◌, ◌≤◌, List, [],
 use Rattle.std.proofs.lemmas.Option.{slice_get_within}
 use Rattle.stream_io.specs.State.{SourceState, DrainState}
 use Rattle.stream_model.specs.Graph.{Graph, Edge}
-use Rattle.fused_net.specs.Costs.{sum_below, total, all_asks}
+use Rattle.fused_net.specs.Costs.{sum_below, total_cost, all_asks}
 use Rattle.fused_net.specs.Net.{Net}
 use Rattle.fused_net.proofs.Reading.{some_same}
 use Rattle.nodes.specs.declared.node.IslandNode.{IslandNode}
 use Rattle.interpreter.specs.declared.parts.Seated.{Seated}
-use Rattle.lane_core.specs.Ends.{taken, finds}
+use Rattle.lane_core.specs.Ends.{taken_items, finds}
 use Rattle.island_boundary.specs.Beside.{in_node, out_node}
 use Rattle.island_boundary.specs.declared.output.OutputBoundary.{OutputBoundary}
 use Rattle.island_boundary.specs.declared.input.IslandInput.{IslandInput}
 use Rattle.run_account.specs.Ends.{OutEnd, InEnd}
 use Rattle.run_account.specs.Units.{LanesCost, over_lanes}
-use Rattle.island_seats.specs.Islands.{seats_of, AreSeated}
+use Rattle.island_seats.specs.Islands.{seats_by_islands, AreSeated}
 use Rattle.rounds.specs.Bodies.{AllOf}
 use Rattle.rounds.specs.Crossings.{AllJoined}
 use Rattle.rounds.specs.declared.crossing.Crossing.{Crossing}
@@ -32,7 +32,7 @@ use Rattle.stream_model.specs.Linear.{Book}
 
 -- the items that an input end took, where its lane is wire u, and the finds of an output end
 abbrev took_of : IslandInput → ℕ
-took_of x = length (taken x.boundary.lane)
+took_of x = length (taken_items x.boundary.lane)
 
 abbrev found_of : OutputBoundary → ℕ
 found_of o = finds o.lane
@@ -103,13 +103,13 @@ module _ {S D L B : Type 0} where
         let is = finds_up b.outs.items in
         omega (arith, all, is))
 
-    pub spent_over : sum_by (λ (b : Body S D L B). b.spent) now ≤ sum_below (λ k. total (net_of now k)) (length now) + over_lanes g (cost_at now)
+    pub spent_over : sum_by (λ (b : Body S D L B). b.spent) now ≤ sum_below (λ k. total_cost (net_of now k)) (length now) + over_lanes g (cost_at now)
     spent_over =
         let spent = by_sum (λ (b : Body S D L B). b.spent) now in
         let most : add_up (λ (b : Body S D L B). b.spent) now ≤ add_up cost_of now = add_le (λ (b : Body S D L B). b.spent) cost_of now (λ k b at. (keep k b at).paid) in
-        let one : add_up cost_of now ≡ add_up (λ (b : Body S D L B). total b.island.net) now + add_up (λ (b : Body S D L B). all_taken b.ins.items + all_finds b.outs.items) now = add_both (λ (b : Body S D L B). total b.island.net) (λ (b : Body S D L B). all_taken b.ins.items + all_finds b.outs.items) now in
+        let one : add_up cost_of now ≡ add_up (λ (b : Body S D L B). total_cost b.island.net) now + add_up (λ (b : Body S D L B). all_taken b.ins.items + all_finds b.outs.items) now = add_both (λ (b : Body S D L B). total_cost b.island.net) (λ (b : Body S D L B). all_taken b.ins.items + all_finds b.outs.items) now in
         let two : add_up (λ (b : Body S D L B). all_taken b.ins.items + all_finds b.outs.items) now ≡ add_up (λ (b : Body S D L B). all_taken b.ins.items) now + add_up (λ (b : Body S D L B). all_finds b.outs.items) now = add_both (λ (b : Body S D L B). all_taken b.ins.items) (λ (b : Body S D L B). all_finds b.outs.items) now in
-        let nets : add_up (λ (b : Body S D L B). total b.island.net) now ≡ sum_below (λ k. total (net_of now k)) (length now) = by_nets total now in
+        let nets : add_up (λ (b : Body S D L B). total_cost b.island.net) now ≡ sum_below (λ k. total_cost (net_of now k)) (length now) = by_nets total_cost now in
         let ins = ins_over in
         let outs = outs_over in
         let both : over ws (cost_at now) (length ws) ≡ over ws (λ u. add_up (took_in u) now) (length ws) + over ws (λ u. add_up (found_in u) now) (length ws) = over_add ws (λ u. add_up (took_in u) now) (λ u. add_up (found_in u) now) (length ws) in
@@ -143,7 +143,7 @@ module _ {S D L B : Type 0} where
       cost_is = ap (λ (n : ℕ). n + add_up (found_in u) now) took_here ∙ ap (λ (n : ℕ). took_of x.inp + n) found_here
 
     module _ (all : ℕ → ℕ) (asked_are : AskedAre now crossings all) (joined : AllJoined BodiesJoined now crossings) where
-      pub lanes_cost : LanesCost g (net_of now) (seats_of homes ws) all (cost_at now)
+      pub lanes_cost : LanesCost g (net_of now) (seats_by_islands homes ws) all (cost_at now)
       lanes_cost = λ u v size e s.
           let there : slice_get ws u ≡ Some v = subst (λ (l : List Edge). slice_get l u ≡ Some v) same e in
           let x = l.each u v size there s in

@@ -11,7 +11,7 @@ use Rattle.interpreter.specs.Boundary.{Enters, Leaves, way_in, way_out, cell_in,
 use Rattle.interpreter.specs.Island.{Kept}
 use Rattle.interpreter.specs.declared.parts.Seated.{Seated}
 use Rattle.lane_core.specs.declared.room.Waits.{Waits}
-use Rattle.lane_core.specs.Ends.{asked, in_size}
+use Rattle.lane_core.specs.Ends.{asked_in_all, in_size}
 use Rattle.lane_account.specs.Ends.{out_end, in_end}
 use Rattle.lane_stands.proofs.Lanes.{lane_keeps, lane_quiet}
 use Rattle.island_boundary.specs.Serving.{Serves, IsServed}
@@ -21,12 +21,12 @@ use Rattle.island_boundary.specs.declared.input.IslandInput.{IslandInput}
 use Rattle.run_account.specs.Account.{WireQuiet}
 use Rattle.run_account.specs.Ends.{LaneKeeps}
 use Rattle.run_account.specs.Seats.{LanesKeep, LanesRest}
-use Rattle.island_seats.specs.Islands.{seats_of, AreSeated, HasWays}
+use Rattle.island_seats.specs.Islands.{seats_by_islands, AreSeated, HasWays}
 use Rattle.island_seats.proofs.Leading.{has_ways}
 use Rattle.rounds.specs.Bodies.{AllOf}
 use Rattle.rounds.specs.Crossings.{AllJoined, AtRest}
 use Rattle.rounds.specs.declared.crossing.Crossing.{Crossing}
-use Rattle.island_body.specs.Ends.{InStands, OutStands}
+use Rattle.island_body.specs.Ends.{InputEndStands, OutputEndStands}
 use Rattle.island_body.specs.Keeping.{has_some, is_pending, BodyKeeps}
 use Rattle.island_body.specs.Meeting.{BodiesJoined}
 use Rattle.island_body.specs.declared.body.Body.{Body}
@@ -110,49 +110,49 @@ module _ {S D L B : Type 0} where
   module _ (sources : S → SourceState) (drains : D → DrainState) (book : Book) (homes : List ℕ) (count : ℕ) (ws : List Edge) (nodes : List (Seated S D L B)) (seated : AreSeated homes count ws nodes) (now : List (Body S D L B)) (stood : (k : ℕ) (b : Body S D L B) → slice_get now k ≡ Some b → Stood sources drains book b)
       (u : ℕ) (v : Edge) (size : ℕ) (e : slice_get ws u ≡ Some v) (s : v.lane ≡ Some size) (c : Crossing) (x : IsCrossingOf homes ws now u v size c) where
     abbrev near_here : WireState
-    near_here = wire_at (net_of now ((seats_of homes ws).near u).island) ((seats_of homes ws).near u).at
+    near_here = wire_at (net_of now ((seats_by_islands homes ws).near u).island) ((seats_by_islands homes ws).near u).at
 
     abbrev far_here : WireState
-    far_here = wire_at (net_of now ((seats_of homes ws).far u).island) ((seats_of homes ws).far u).at
+    far_here = wire_at (net_of now ((seats_by_islands homes ws).far u).island) ((seats_by_islands homes ws).far u).at
 
     ways : HasWays homes ws nodes u v
     ways = has_ways homes count ws nodes seated u v size e s
 
-    near_island : ((seats_of homes ws).near u).island ≡ c.from
+    near_island : ((seats_by_islands homes ws).near u).island ≡ c.from
     near_island = ways.out_island ∙ sym x.from_is
 
-    far_island : ((seats_of homes ws).far u).island ≡ c.to
+    far_island : ((seats_by_islands homes ws).far u).island ≡ c.to
     far_island = ways.in_island ∙ sym x.to_is
 
     near_cell : cell_out x.from.island u ≡ near_here
-    near_cell = sym (ap (λ (k : ℕ). wire_at (net_of now k) ((seats_of homes ws).near u).at) near_island ∙ (ap (λ (o : Option (Body S D L B)). wire_at (net_in o) ((seats_of homes ws).near u).at) x.from_at ∙ ap (λ (q : ℕ). wire_at x.from.island.net q) x.near_is))
+    near_cell = sym (ap (λ (k : ℕ). wire_at (net_of now k) ((seats_by_islands homes ws).near u).at) near_island ∙ (ap (λ (o : Option (Body S D L B)). wire_at (net_in o) ((seats_by_islands homes ws).near u).at) x.from_at ∙ ap (λ (q : ℕ). wire_at x.from.island.net q) x.near_is))
 
     far_cell : cell_in x.to.island u ≡ far_here
-    far_cell = sym (ap (λ (k : ℕ). wire_at (net_of now k) ((seats_of homes ws).far u).at) far_island ∙ (ap (λ (o : Option (Body S D L B)). wire_at (net_in o) ((seats_of homes ws).far u).at) x.to_at ∙ ap (λ (q : ℕ). wire_at x.to.island.net q) x.far_is))
+    far_cell = sym (ap (λ (k : ℕ). wire_at (net_of now k) ((seats_by_islands homes ws).far u).at) far_island ∙ (ap (λ (o : Option (Body S D L B)). wire_at (net_in o) ((seats_by_islands homes ws).far u).at) x.to_at ∙ ap (λ (q : ℕ). wire_at x.to.island.net q) x.far_is))
 
-    out_stands : OutStands x.from.island x.out
+    out_stands : OutputEndStands x.from.island x.out
     out_stands = (stood c.from x.from x.from_at).stand.outs_stand c.out x.out x.out_at
 
-    in_stands : InStands x.to.island x.inp
+    in_stands : InputEndStands x.to.island x.inp
     in_stands = (stood c.to x.to x.to_at).stand.ins_stand c.inp x.inp x.inp_at
 
     module _ (w : Waits) (joined : BodiesJoined x.from c.out x.to c.inp w) where
       abbrev Kept_by : ℕ → WireState → WireState → ℕ → Type 0
       Kept_by z near far n = (k : LaneKeeps z near far n) × ((k.out ≡ out_end x.out.lane) × (k.inp ≡ in_end x.inp.boundary.lane))
 
-      kept_there : Kept_by (in_size x.inp.boundary.lane) (cell_out x.from.island u) (cell_in x.to.island u) (asked x.inp.boundary.lane)
+      kept_there : Kept_by (in_size x.inp.boundary.lane) (cell_out x.from.island u) (cell_in x.to.island u) (asked_in_all x.inp.boundary.lane)
       kept_there =
           lane_keeps sources drains book x.out.lane x.inp.boundary x.from.island x.to.island u (stood c.from x.from x.from_at).settled (stood c.to x.to x.to_at).settled
           (subst (λ (q : ℕ). Leaves x.from.island q) x.out_wire out_stands.leaves) (subst (λ (q : ℕ). Enters x.to.island q) x.inp_wire in_stands.enters) (boundary_keeps x.inp.boundary) (joined.history x.out x.inp x.out_at x.inp_at)
           (subst (λ (q : ℕ). Serves x.out.lane x.from.island q) x.out_wire out_stands.serves) (subst (λ (q : ℕ). Feeds x.inp.boundary x.to.island q) x.inp_wire in_stands.feeds)
 
-      pub kept_here : (n : ℕ) → n ≡ asked x.inp.boundary.lane → Kept_by size near_here far_here n
-      kept_here n is = four Kept_by (in_size x.inp.boundary.lane) size (asked x.inp.boundary.lane) n (cell_out x.from.island u) near_here (cell_in x.to.island u) far_here x.size_is near_cell far_cell (sym is) kept_there
+      pub kept_here : (n : ℕ) → n ≡ asked_in_all x.inp.boundary.lane → Kept_by size near_here far_here n
+      kept_here n is = four Kept_by (in_size x.inp.boundary.lane) size (asked_in_all x.inp.boundary.lane) n (cell_out x.from.island u) near_here (cell_in x.to.island u) far_here x.size_is near_cell far_cell (sym is) kept_there
 
       abbrev Quiet_by : ℕ → WireState → WireState → ℕ → Type 0
       Quiet_by z near far n = WireQuiet (Some z) near far n
 
-      pub quiet_here : AllOf (BodyKeeps sources drains book) now → x.from.island.net.queue ≡ [] → x.to.island.net.queue ≡ [] → w.item ≡ false → w.demand ≡ false → (n : ℕ) → n ≡ asked x.inp.boundary.lane → Quiet_by size near_here far_here n
+      pub quiet_here : AllOf (BodyKeeps sources drains book) now → x.from.island.net.queue ≡ [] → x.to.island.net.queue ≡ [] → w.item ≡ false → w.demand ≡ false → (n : ℕ) → n ≡ asked_in_all x.inp.boundary.lane → Quiet_by size near_here far_here n
       quiet_here keep none none' item demand n is =
           let from = (keep c.from x.from x.from_at).served.outs_served c.out x.out (slice_get_within x.from.outs.items c.out x.out x.out_at) x.out_at tt in
           let to = (keep c.to x.to x.to_at).served.ins_fed c.inp x.inp (slice_get_within x.to.ins.items c.inp x.inp x.inp_at) x.inp_at tt in
@@ -161,7 +161,7 @@ module _ {S D L B : Type 0} where
           (subst (λ (q : ℕ). Serves x.out.lane x.from.island q) x.out_wire out_stands.serves) (subst (λ (q : ℕ). Feeds x.inp.boundary x.to.island q) x.inp_wire in_stands.feeds)
           none none' (subst (λ (q : ℕ). IsServed x.out.lane x.from.island q) x.out_wire from) (subst (λ (q : ℕ). IsFed x.inp.boundary x.to.island q) x.inp_wire to)
           w (joined.waits_are x.out x.inp x.out_at x.inp_at) item demand kept_there.0 kept_there.1.0 kept_there.1.1 in
-          four Quiet_by (in_size x.inp.boundary.lane) size (asked x.inp.boundary.lane) n (cell_out x.from.island u) near_here (cell_in x.to.island u) far_here x.size_is near_cell far_cell (sym is) (kept_there.0, quiet)
+          four Quiet_by (in_size x.inp.boundary.lane) size (asked_in_all x.inp.boundary.lane) n (cell_out x.from.island u) near_here (cell_in x.to.island u) far_here x.size_is near_cell far_cell (sym is) (kept_there.0, quiet)
 
   -- nothing is pending
   no_queue : (b : Body S D L B) → is_pending b ≡ false → b.island.net.queue ≡ []
@@ -178,16 +178,16 @@ module _ {S D L B : Type 0} where
     here : (u : ℕ) (v : Edge) → slice_get g.wires u ≡ Some v → slice_get ws u ≡ Some v
     here u v e = subst (λ (l : List Edge). slice_get l u ≡ Some v) same e
 
-    pub asked_here : (n u : ℕ) (v : Edge) (size : ℕ) (c : Crossing) (x : IsCrossingOf homes ws now u v size c) → slice_get crossings n ≡ Some c → all u ≡ asked x.inp.boundary.lane
+    pub asked_here : (n u : ℕ) (v : Edge) (size : ℕ) (c : Crossing) (x : IsCrossingOf homes ws now u v size c) → slice_get crossings n ≡ Some c → all u ≡ asked_in_all x.inp.boundary.lane
     asked_here n u v size c x at = ap all (sym x.inp_wire) ∙ asked_are n c x.to x.inp at x.to_at x.inp_at
 
-    pub lanes_keep : AllJoined BodiesJoined now crossings → LanesKeep g (net_of now) (seats_of homes ws) all
+    pub lanes_keep : AllJoined BodiesJoined now crossings → LanesKeep g (net_of now) (seats_by_islands homes ws) all
     lanes_keep joined = λ u v size e s.
         let x = l.each u v size (here u v e) s in
         let w = joined x.0 x.1.0 x.1.1.0 in
         (kept_here sources drains book homes count ws nodes seated now stood u v size (here u v e) s x.1.0 x.1.1.1 w.0 (w.1 x.1.1.1.from x.1.1.1.to x.1.1.1.from_at x.1.1.1.to_at) (all u) (asked_here x.0 u v size x.1.0 x.1.1.1 x.1.1.0)).0
 
-    pub lanes_rest : AllOf (BodyKeeps sources drains book) now → AtRest is_pending BodiesJoined now crossings → LanesRest g (net_of now) (seats_of homes ws) all
+    pub lanes_rest : AllOf (BodyKeeps sources drains book) now → AtRest is_pending BodiesJoined now crossings → LanesRest g (net_of now) (seats_by_islands homes ws) all
     lanes_rest keep rest = λ u v size e s.
         let x = l.each u v size (here u v e) s in
         let y = x.1.1.1 in

@@ -12,12 +12,12 @@ use Rattle.nodes.specs.declared.node.IslandNode.{IslandNode}
 use Rattle.interpreter.specs.Parts.{AllBecome}
 use Rattle.interpreter.specs.declared.parts.Seated.{Seated}
 use Rattle.run_account.specs.Account.{Account, AllMade}
-use Rattle.run_account.specs.Seats.{joined}
+use Rattle.run_account.specs.Seats.{joined_account}
 use Rattle.run_outlook_laws.specs.Made.{FirstOf}
 use Rattle.materializer.specs.Graphs.{graph_of, chains_of}
 use Rattle.materializer.specs.Seats.{AreSeats}
 use Rattle.materializer.proofs.Making.{are_firsts}
-use Rattle.island_seats.specs.Islands.{seats_of, AreSeated, AreNets, AreBroughtBack}
+use Rattle.island_seats.specs.Islands.{seats_by_islands, AreSeated, AreNets, AreBroughtBack}
 use Rattle.island_seats.proofs.Covering.{nodes_count}
 use Rattle.island_seats.proofs.Gathering.{back}
 use Rattle.bodies_run.specs.Leaving.{AreLeft}
@@ -44,8 +44,8 @@ module _ {S D L B : Type 0} (homes : List ℕ) (count : ℕ) (ws : List Edge) (n
   others_back others many = back homes count ws nodes seated others (λ j lt. many j ∙ nodes_count homes count ws nodes nets seated nets_are j lt)
 
   -- those of the blueprint are the ones that the nets tell of
-  pub are_left : (all : ℕ → ℕ) (wide : ℕ) → wide ≡ length nodes → (firsts : List (IslandNode S D L B)) → AllBecome nodes firsts → ((k : ℕ) → k < wide → (joined nets (seats_of homes ws) all).firsts k ≡ slice_get firsts k)
-      → (last ends : List (IslandNode S D L B)) → AreBroughtBack homes count ws (λ k. (nets k).nodes) last ends → AreLeft nodes (joined nets (seats_of homes ws) all) last
+  pub are_left : (all : ℕ → ℕ) (wide : ℕ) → wide ≡ length nodes → (firsts : List (IslandNode S D L B)) → AllBecome nodes firsts → ((k : ℕ) → k < wide → (joined_account nets (seats_by_islands homes ws) all).firsts k ≡ slice_get firsts k)
+      → (last ends : List (IslandNode S D L B)) → AreBroughtBack homes count ws (λ k. (nets k).nodes) last ends → AreLeft nodes (joined_account nets (seats_by_islands homes ws) all) last
   are_left all wide each firsts become at last ends r = record {
     firsts = firsts;
     become = become;

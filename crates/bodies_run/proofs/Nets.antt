@@ -3,15 +3,15 @@ use Rattle.std.specs.Prelude.{slice_get, Option, None}
 use Rattle.std.proofs.Common.{◌≡◌, ℕ, ◌<◌, List, length, map, Some, refl, sym, ◌∙◌, subst, arith}
 use Rattle.stream_io.specs.State.{SourceState, DrainState}
 use Rattle.stream_model.specs.Graph.{Graph, Edge}
-use Rattle.fused_net.specs.Laws.{Settled, GoesOn}
+use Rattle.fused_net.specs.Laws.{Settled, NetGoesOn}
 use Rattle.fused_net.proofs.Reading.{get_there}
 use Rattle.nodes.specs.Nodes.{node_port_state, node_law, node_asking, node_moves}
 use Rattle.nodes.specs.declared.node.IslandNode.{IslandNode}
 use Rattle.interpreter.specs.Parts.{ends_of, AllBecome}
 use Rattle.interpreter.specs.declared.parts.Seated.{Seated}
-use Rattle.run_account.specs.Seats.{Covers, joined}
+use Rattle.run_account.specs.Seats.{Covers, joined_account}
 use Rattle.run_account.specs.Units.{Owned}
-use Rattle.island_seats.specs.Islands.{seats_of, seats_in, links_in, AreNets}
+use Rattle.island_seats.specs.Islands.{seats_by_islands, seats_in, links_in, AreNets}
 use Rattle.island_seats.proofs.Covering.{covers, owned, go_on, firsts_count}
 use Rattle.island_seats.proofs.Gathering.{back, become}
 use Rattle.rounds.specs.declared.crossing.Crossing.{Crossing}
@@ -85,23 +85,23 @@ module _ {S D L B : Type 0} (sources : S → SourceState) (drains : D → DrainS
     now_at : (k : ℕ) → k < count → (b : Body S D L B) × (slice_get now k ≡ Some b)
     now_at k lt = get_there now k (subst (λ (n : ℕ). k < n) (sym (many ∙ m.begun_are.many)) lt)
 
-    net_goes : (k : ℕ) → k < count → GoesOn (net_of begun k) (net_of now k)
+    net_goes : (k : ℕ) → k < count → NetGoesOn (net_of begun k) (net_of now k)
     net_goes k lt =
         let a = begun_at k lt in
         let b = now_at k lt in
-        subst (λ (o : Option (Body S D L B)). GoesOn (net_in o) (net_of now k)) (sym a.1) (subst (λ (o : Option (Body S D L B)). GoesOn a.0.island.net (net_in o)) (sym b.1) (goes k a.0 b.0 a.1 b.1).island.on)
+        subst (λ (o : Option (Body S D L B)). NetGoesOn (net_in o) (net_of now k)) (sym a.1) (subst (λ (o : Option (Body S D L B)). NetGoesOn a.0.island.net (net_in o)) (sym b.1) (goes k a.0 b.0 a.1 b.1).island.on)
 
     pub now_nets : AreNets homes ws nodes count (net_of now)
     now_nets = go_on homes count ws nodes (net_of begun) (net_of now) begun_nets net_goes
 
-    pub nets_cover : Covers g (net_of now) (seats_of homes ws)
+    pub nets_cover : Covers g (net_of now) (seats_by_islands homes ws)
     nets_cover = covers homes count ws nodes (net_of now) m.seated now_nets g m.graph
 
-    pub nets_owned : Owned g (net_of now) (seats_of homes ws) count
+    pub nets_owned : Owned g (net_of now) (seats_by_islands homes ws) count
     nets_owned = owned homes count ws nodes (net_of now) m.seated now_nets g m.graph
 
     -- their nodes began as what stands at the nodes of the blueprint
-    pub nets_began : (all : ℕ → ℕ) → (firsts : List (IslandNode S D L B)) × (AllBecome nodes firsts × ((k : ℕ) → k < length g.nodes → (joined (net_of now) (seats_of homes ws) all).firsts k ≡ slice_get firsts k))
+    pub nets_began : (all : ℕ → ℕ) → (firsts : List (IslandNode S D L B)) × (AllBecome nodes firsts × ((k : ℕ) → k < length g.nodes → (joined_account (net_of now) (seats_by_islands homes ws) all).firsts k ≡ slice_get firsts k))
     nets_began all =
         let b = back homes count ws nodes m.seated (λ (j : ℕ). (net_of now j).firsts) (λ j lt. firsts_count homes count ws nodes (net_of now) m.seated now_nets j lt) in (
           b.0,

@@ -5,14 +5,14 @@ use Rattle.std.proofs.Common.{◌≡◌, ℕ, ◌+◌, ◌≤◌, List, length, 
 use Rattle.stream_io.specs.State.{SourceState, DrainState}
 use Rattle.stream_model.specs.Graph.{Graph, Edge}
 use Rattle.stream_picture.specs.Shape.{count_needed}
-use Rattle.fused_net.specs.Costs.{sum_below, total, all_asks}
+use Rattle.fused_net.specs.Costs.{sum_below, total_cost, all_asks}
 use Rattle.nodes.specs.Nodes.{node_port_state, node_law, node_asking, node_moves}
 use Rattle.interpreter.specs.declared.parts.Seated.{Seated}
-use Rattle.run_account.specs.Pictures.{counts_of}
-use Rattle.run_account.specs.Seats.{joined}
+use Rattle.run_account.specs.Pictures.{picture_counts}
+use Rattle.run_account.specs.Seats.{joined_account}
 use Rattle.run_account.specs.Units.{LanesCost, over_lanes}
 use Rattle.run_account.proofs.Units.{all_paid}
-use Rattle.island_seats.specs.Islands.{seats_of}
+use Rattle.island_seats.specs.Islands.{seats_by_islands}
 use Rattle.rounds.specs.Bodies.{AllOf, EachOf}
 use Rattle.rounds.specs.Crossings.{AllJoined}
 use Rattle.rounds.specs.declared.crossing.Crossing.{Crossing}
@@ -37,18 +37,18 @@ module _ {S D L B : Type 0} (sources : S → SourceState) (drains : D → DrainS
   lanes : AreLanes homes ws now crossings
   lanes = lanes_on homes ws begun now goes.count goes_on crossings m.lanes_are
 
-  cost_there : LanesCost g (net_of now) (seats_of homes ws) all (cost_at now)
+  cost_there : LanesCost g (net_of now) (seats_by_islands homes ws) all (cost_at now)
   cost_there = lanes_cost sources drains book g homes count ws nodes m.seated m.graph.wires_are now keep crossings lanes all asked_are all_joined
 
-  most : sum_by (λ (b : Body S D L B). b.spent) now ≤ sum_below (λ b. total (net_of now b)) count + over_lanes g (cost_at now)
-  most = subst (λ (n : ℕ). sum_by (λ (b : Body S D L B). b.spent) now ≤ sum_below (λ b. total (net_of now b)) n + over_lanes g (cost_at now)) (goes.count ∙ m.begun_are.many) (spent_over sources drains book g homes count ws nodes m.seated m.graph.wires_are now keep crossings lanes)
+  most : sum_by (λ (b : Body S D L B). b.spent) now ≤ sum_below (λ b. total_cost (net_of now b)) count + over_lanes g (cost_at now)
+  most = subst (λ (n : ℕ). sum_by (λ (b : Body S D L B). b.spent) now ≤ sum_below (λ b. total_cost (net_of now b)) n + over_lanes g (cost_at now)) (goes.count ∙ m.begun_are.many) (spent_over sources drains book g homes count ws nodes m.seated m.graph.wires_are now keep crossings lanes)
 
-  pub costs : (cost : ℕ → ℕ) × (LanesCost g (net_of now) (seats_of homes ws) all cost × (sum_by (λ (b : Body S D L B). b.spent) now ≤ sum_below (λ b. total (net_of now b)) count + over_lanes g cost))
+  pub costs : (cost : ℕ → ℕ) × (LanesCost g (net_of now) (seats_by_islands homes ws) all cost × (sum_by (λ (b : Body S D L B). b.spent) now ≤ sum_below (λ b. total_cost (net_of now b)) count + over_lanes g cost))
   costs = (cost_at now, (cost_there, most))
 
-  pub paid : sum_by (λ (b : Body S D L B). b.spent) now + length g.wires ≤ count_needed g (counts_of (joined (net_of now) (seats_of homes ws) all) g)
+  pub paid : sum_by (λ (b : Body S D L B). b.spent) now + length g.wires ≤ count_needed g (picture_counts (joined_account (net_of now) (seats_by_islands homes ws) all) g)
   paid =
-      let nets = all_paid node_port_state (node_law sources drains book) node_asking node_moves g (net_of now) (seats_of homes ws) all (cost_at now) count (nets_cover sources drains book g homes count ws nodes crossings begun m now goes.count goes_on)
+      let nets = all_paid node_port_state (node_law sources drains book) node_asking node_moves g (net_of now) (seats_by_islands homes ws) all (cost_at now) count (nets_cover sources drains book g homes count ws nodes crossings begun m now goes.count goes_on)
       (all_settled sources drains book now (λ k b at. stood sources drains book b (keep k b at))) (nets_owned sources drains book g homes count ws nodes crossings begun m now goes.count goes_on) cost_there in
       let a = most in
       omega (arith, nets, a)

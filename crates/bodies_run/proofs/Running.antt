@@ -15,7 +15,7 @@ use Rattle.run_outlook_laws.proofs.Islands.{all_run, all_rest}
 use Rattle.materializer.specs.Graphs.{graph_of, chains_of}
 use Rattle.materializer.specs.Seats.{AreSeats}
 use Rattle.materializer.proofs.Fitting.{fit_joined}
-use Rattle.island_seats.specs.Islands.{seats_of, AreBroughtBack}
+use Rattle.island_seats.specs.Islands.{seats_by_islands, AreBroughtBack}
 use Rattle.rounds.specs.Bodies.{AllOf, EachOf}
 use Rattle.rounds.specs.Crossings.{AllJoined, AtRest}
 use Rattle.rounds.specs.declared.crossing.Crossing.{Crossing}
@@ -54,13 +54,13 @@ module _ {S D L B : Type 0} (sources : S → SourceState) (drains : D → DrainS
 
     pub bodies_still : AskedAre now crossings all → AtRest is_pending BodiesJoined now crossings → IsStill (graph_of b) (account_in homes (blueprint_wires b) now all)
     bodies_still asked rest =
-        all_rest sources drains book (graph_of b) (net_of now) (seats_of homes (blueprint_wires b)) all (nets_cover sources drains book (graph_of b) homes count (blueprint_wires b) nodes crossings begun m now goes.count goes_on) settled (no_queues now rest.rings)
+        all_rest sources drains book (graph_of b) (net_of now) (seats_by_islands homes (blueprint_wires b)) all (nets_cover sources drains book (graph_of b) homes count (blueprint_wires b) nodes crossings begun m now goes.count goes_on) settled (no_queues now rest.rings)
         (lanes_rest sources drains book (graph_of b) homes count (blueprint_wires b) nodes m.seated m.graph.wires_are now stands crossings lanes all asked keep rest)
 
     pub bodies_run : AskedAre now crossings all → AllJoined BodiesJoined now crossings → (plugs : List PlugHead) (taken : List (List ℕ)) (ss : List S) (ds : List D) → IsFit b plugs taken → AreSeats (chains_of b) 0 b.nodes.items ss ds nodes → All (λ s. (sources s).given ≡ 0) ss
         → IsRun sources drains book (graph_of b) (account_in homes (blueprint_wires b) now all)
     bodies_run asked joined plugs taken ss ds fit seats given =
         let w = nets_began sources drains book (graph_of b) homes count (blueprint_wires b) nodes crossings begun m now goes.count goes_on all in
-        all_run sources drains book (graph_of b) (net_of now) (seats_of homes (blueprint_wires b)) all (nets_cover sources drains book (graph_of b) homes count (blueprint_wires b) nodes crossings begun m now goes.count goes_on) settled (fit_joined b plugs taken fit)
+        all_run sources drains book (graph_of b) (net_of now) (seats_by_islands homes (blueprint_wires b)) all (nets_cover sources drains book (graph_of b) homes count (blueprint_wires b) nodes crossings begun m now goes.count goes_on) settled (fit_joined b plugs taken fit)
         (lanes_keep sources drains book (graph_of b) homes count (blueprint_wires b) nodes m.seated m.graph.wires_are now stands crossings lanes all asked joined)
         (are_made sources b ss ds nodes w.0 (account_in homes (blueprint_wires b) now all) seats w.1.0 given w.1.1)

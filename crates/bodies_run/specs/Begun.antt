@@ -1,7 +1,7 @@
 -- What bodies know of the numbers of their nodes and wires, and which lane lies at which crossing.
 use Rattle.std.specs.Prelude.{◌≡◌, ℕ, List, Some, map, slice_get}
 use Rattle.stream_model.specs.Graph.{Edge}
-use Rattle.interpreter.specs.Parts.{number_of}
+use Rattle.interpreter.specs.Parts.{wire_number}
 use Rattle.interpreter.specs.Picks.{node_number}
 use Rattle.interpreter.specs.declared.parts.Seated.{Seated}
 use Rattle.island_boundary.specs.declared.input.IslandInput.{IslandInput}
@@ -17,12 +17,12 @@ module _ {S D L B : Type 0} where
   HaveSameLanes a b = SameLanes a.ins.items b.ins.items a.outs.items b.outs.items
 
   -- the island of each body has the numbers of its links' wires, and those of what stands at its places
-  pub record IsNumbered (homes : List ℕ) (ws : List Edge) (nodes : List (Seated S D L B)) (k : ℕ) (b : Body S D L B) : Type 0 where
-    pub wires : b.island.numbers ≡ map number_of (links_in homes ws nodes k)
+  pub record IsNumberedBody (homes : List ℕ) (ws : List Edge) (nodes : List (Seated S D L B)) (k : ℕ) (b : Body S D L B) : Type 0 where
+    pub wires : b.island.numbers ≡ map wire_number (links_in homes ws nodes k)
     pub places : b.island.places ≡ map node_number (seats_in homes ws nodes k)
 
-  abbrev pub AreNumbered : List ℕ → List Edge → List (Seated S D L B) → List (Body S D L B) → Type 0
-  AreNumbered homes ws nodes bodies = (k : ℕ) (b : Body S D L B) → slice_get bodies k ≡ Some b → IsNumbered homes ws nodes k b
+  abbrev pub AreNumberedBodies : List ℕ → List Edge → List (Seated S D L B) → List (Body S D L B) → Type 0
+  AreNumberedBodies homes ws nodes bodies = (k : ℕ) (b : Body S D L B) → slice_get bodies k ≡ Some b → IsNumberedBody homes ws nodes k b
 
   -- at the crossing of each lane lies the input end of its wire
   abbrev pub AreAligned : List LanePlan → List Crossing → List (Body S D L B) → Type 0

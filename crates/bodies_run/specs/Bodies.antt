@@ -9,10 +9,10 @@ use Rattle.nodes.specs.declared.node.IslandNode.{IslandNode}
 use Rattle.interpreter.specs.Boundary.{way_in, way_out}
 use Rattle.interpreter.specs.Parts.{ends_of, AllBecome}
 use Rattle.interpreter.specs.declared.parts.Seated.{Seated}
-use Rattle.lane_core.specs.Ends.{asked, in_size}
+use Rattle.lane_core.specs.Ends.{asked_in_all, in_size}
 use Rattle.island_boundary.specs.declared.output.OutputBoundary.{OutputBoundary}
 use Rattle.island_boundary.specs.declared.input.IslandInput.{IslandInput}
-use Rattle.island_seats.specs.Islands.{seats_of, seats_in, links_in, AreSeated, IsGraphOf}
+use Rattle.island_seats.specs.Islands.{seats_by_islands, seats_in, links_in, AreSeated, IsGraphOf}
 use Rattle.rounds.specs.Bodies.{AllOf}
 use Rattle.rounds.specs.declared.crossing.Crossing.{Crossing}
 use Rattle.island_body.specs.Ends.{AllStand, IslandGoes}
@@ -65,8 +65,8 @@ module _ {S D L B : Type 0} where
     pub out_wire : out.wire ≡ u
     pub inp_wire : inp.wire ≡ u
     pub size_is : in_size inp.boundary.lane ≡ size
-    pub near_is : ((seats_of homes ws).near u).at ≡ way_out from.island u
-    pub far_is : ((seats_of homes ws).far u).at ≡ way_in to.island u
+    pub near_is : ((seats_by_islands homes ws).near u).at ≡ way_out from.island u
+    pub far_is : ((seats_by_islands homes ws).far u).at ≡ way_in to.island u
 
   -- Each lane has its crossing, and no body has an end of anything else.
   pub record AreLanes (homes : List ℕ) (ws : List Edge) (bodies : List (Body S D L B)) (crossings : List Crossing) : Type 0 where
@@ -76,7 +76,7 @@ module _ {S D L B : Type 0} where
 
   -- by the number of its wire: how many elements the input end at each crossing has asked for in all
   abbrev pub AskedAre : List (Body S D L B) → List Crossing → (ℕ → ℕ) → Type 0
-  AskedAre bodies crossings all = (n : ℕ) (c : Crossing) (b : Body S D L B) (x : IslandInput) → slice_get crossings n ≡ Some c → slice_get bodies c.to ≡ Some b → slice_get b.ins.items c.inp ≡ Some x → all x.wire ≡ asked x.boundary.lane
+  AskedAre bodies crossings all = (n : ℕ) (c : Crossing) (b : Body S D L B) (x : IslandInput) → slice_get crossings n ≡ Some c → slice_get bodies c.to ≡ Some b → slice_get b.ins.items c.inp ≡ Some x → all x.wire ≡ asked_in_all x.boundary.lane
 
   module _ (sources : S → SourceState) (drains : D → DrainState) (book : Book) where
     -- The bodies as they were made, as many as there are islands: each keeps what bodies keep, its island began as what stands at its

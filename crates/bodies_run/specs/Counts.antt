@@ -12,10 +12,10 @@ told_from near u [] = []
 told_from near u (v ∷ vs) = (u, count_of (near u)) ∷ told_from near (u + 1) vs
 
 -- of the wire of a number how many elements its lane was asked for in all, where these were asked of the lanes; 0 where it is no lane
-abbrev pub asked_by : List LanePlan → List ℕ → ℕ → ℕ
-asked_by [] all u = 0
-asked_by (l ∷ ls) [] u = 0
-asked_by (l ∷ ls) (a ∷ more) u = if l.wire == u then a else asked_by ls more u
+abbrev pub lane_demand : List LanePlan → List ℕ → ℕ → ℕ
+lane_demand [] all u = 0
+lane_demand (l ∷ ls) [] u = 0
+lane_demand (l ∷ ls) (a ∷ more) u = if l.wire == u then a else lane_demand ls more u
 
 -- how many elements passed all wires
 abbrev pub all_sent : List WireCount → ℕ

@@ -5,14 +5,14 @@ use Rattle.nodes.specs.declared.node.IslandNode.{IslandNode}
 use Rattle.interpreter.specs.Parts.{AllBecome}
 use Rattle.interpreter.specs.declared.parts.Seated.{Seated}
 use Rattle.run_account.specs.Account.{Account}
-use Rattle.run_account.specs.Seats.{joined}
-use Rattle.island_seats.specs.Islands.{seats_of}
+use Rattle.run_account.specs.Seats.{joined_account}
+use Rattle.island_seats.specs.Islands.{seats_by_islands}
 use Rattle.island_body.specs.declared.body.Body.{Body}
 use Rattle.bodies_run.specs.Bodies.{net_of}
 
 -- what bodies tell together, where the input ends of the lanes asked for so many elements
 abbrev pub account_in : {S D L B : Type 0} → List ℕ → List Edge → List (Body S D L B) → (ℕ → ℕ) → Account (IslandNode S D L B)
-account_in homes ws bodies all = joined (net_of bodies) (seats_of homes ws) all
+account_in homes ws bodies all = joined_account (net_of bodies) (seats_by_islands homes ws) all
 
 -- The account is of these nodes, in the order of the blueprint, and they began as what stands at these places. Beyond them it says
 -- nothing of nodes.

@@ -3,7 +3,7 @@ ghost use Rattle.std.specs.Prelude.{◌≡◌, ◌+◌, ◌<◌, ◌≤◌, [], 
 ghost use Rattle.std.specs.List.{sum_by};
 ghost use Rattle.stream_model.specs.Graph.{Graph, Edge};
 ghost use Rattle.stream_picture.specs.Shape.{count_needed};
-ghost use Rattle.fused_net.specs.Costs.{sum_below, total, all_asks};
+ghost use Rattle.fused_net.specs.Costs.{sum_below, total_cost, all_asks};
 ghost use Rattle.fused_net.specs.Laws.{AllKept};
 ghost use Rattle.nodes.specs.Nodes.{KeepsNode};
 ghost use Rattle.nodes.specs.declared.node.IslandNode.{IslandNode};
@@ -13,14 +13,14 @@ ghost use Rattle.interpreter.specs.Parts.{AllBecome};
 ghost use Rattle.interpreter.specs.Ways.{comes_in, goes_out};
 ghost use Rattle.interpreter.specs.declared.parts.Link.{Link};
 ghost use Rattle.interpreter.specs.declared.parts.Seated.{Seated};
-ghost use Rattle.run_account.specs.Pictures.{counts_of};
-ghost use Rattle.run_account.specs.Seats.{Covers, LanesKeep, LanesRest, joined};
+ghost use Rattle.run_account.specs.Pictures.{picture_counts};
+ghost use Rattle.run_account.specs.Seats.{Covers, LanesKeep, LanesRest, joined_account};
 ghost use Rattle.run_account.specs.Units.{Owned, LanesCost, over_lanes};
 ghost use Rattle.rounds.specs.Bodies.{AllOf, EachOf};
 ghost use Rattle.rounds.specs.Crossings.{AllJoined, AtRest};
 ghost use Rattle.rounds.specs.declared.crossing.Crossing.{Crossing};
 ghost use Rattle.dispatcher.specs.Broken.{WholeOrBroken};
-ghost use Rattle.island_seats.specs.Islands.{seats_of, seats_in, links_in, AreSeated, AreNets, AreBroughtBack};
+ghost use Rattle.island_seats.specs.Islands.{seats_by_islands, seats_in, links_in, AreSeated, AreNets, AreBroughtBack};
 ghost use Rattle.island_body.specs.Keeping.{is_pending, BodyKeeps, BodyGoes, BodyBreaks};
 ghost use Rattle.island_body.specs.Meeting.{BodiesJoined};
 ghost use Rattle.island_body.specs.declared.body.Body.{Body};
@@ -44,10 +44,10 @@ use stream_io::outside::{Drain, Source};
 pub fn lanes_lie_at_their_places<S: Source, D: Drain, L: Logic, B: PlugBook>()
     ensures out { (homes : List ℕ) (count : ℕ) (ws : List Edge) (nodes : List (Seated S D L B)) (u : ℕ) (v : Edge) (size : ℕ) (i : Kept S D L B) → AreSeated homes count ws nodes → slice_get ws u ≡ Some v → v.lane ≡ Some size
         → ((q : ℕ) (l : Link) → slice_get (links_in homes ws nodes (slice_index homes v.from)) q ≡ Some l → goes_out (seats_in homes ws nodes (slice_index homes v.from)) l.to ≡ true → LeavesBy i l.wire q)
-        → ((seats_of homes ws).near u).at ≡ way_out i u }
+        → ((seats_by_islands homes ws).near u).at ≡ way_out i u }
     ensures inp { (homes : List ℕ) (count : ℕ) (ws : List Edge) (nodes : List (Seated S D L B)) (u : ℕ) (v : Edge) (size : ℕ) (i : Kept S D L B) → AreSeated homes count ws nodes → slice_get ws u ≡ Some v → v.lane ≡ Some size
         → ((q : ℕ) (l : Link) → slice_get (links_in homes ws nodes (slice_index homes v.to)) q ≡ Some l → comes_in (seats_in homes ws nodes (slice_index homes v.to)) l.from ≡ true → EntersBy i l.wire q)
-        → ((seats_of homes ws).far u).at ≡ way_in i u }
+        → ((seats_by_islands homes ws).far u).at ≡ way_in i u }
 {}
 
 /// The nets of the bodies' islands cover the graph of the blueprint (`covers`), and each of their connections is one of a wire's
@@ -55,13 +55,13 @@ pub fn lanes_lie_at_their_places<S: Source, D: Drain, L: Logic, B: PlugBook>()
 /// the nodes of the blueprint (`began`), and their crossings are its lanes (`lanes`).
 pub fn bodies_cover<S: Source, D: Drain, L: Logic, B: PlugBook>()
     ensures covers { (g : Graph) (homes : List ℕ) (count : ℕ) (ws : List Edge) (nodes : List (Seated S D L B)) (crossings : List Crossing) (begun now : List (Body S D L B)) → AreBodiesOf S.state D.state B.lists g homes count ws nodes crossings begun → EachOf BodyGoes begun now → AllOf (BodyKeeps S.state D.state B.lists) now
-        → Covers g (net_of now) (seats_of homes ws) }
+        → Covers g (net_of now) (seats_by_islands homes ws) }
     ensures owned { (g : Graph) (homes : List ℕ) (count : ℕ) (ws : List Edge) (nodes : List (Seated S D L B)) (crossings : List Crossing) (begun now : List (Body S D L B)) → AreBodiesOf S.state D.state B.lists g homes count ws nodes crossings begun → EachOf BodyGoes begun now → AllOf (BodyKeeps S.state D.state B.lists) now
-        → Owned g (net_of now) (seats_of homes ws) count }
+        → Owned g (net_of now) (seats_by_islands homes ws) count }
     ensures nets { (g : Graph) (homes : List ℕ) (count : ℕ) (ws : List Edge) (nodes : List (Seated S D L B)) (crossings : List Crossing) (begun now : List (Body S D L B)) → AreBodiesOf S.state D.state B.lists g homes count ws nodes crossings begun → EachOf BodyGoes begun now → AllOf (BodyKeeps S.state D.state B.lists) now
         → AreNets homes ws nodes count (net_of now) }
     ensures began { (g : Graph) (homes : List ℕ) (count : ℕ) (ws : List Edge) (nodes : List (Seated S D L B)) (crossings : List Crossing) (begun now : List (Body S D L B)) (all : ℕ → ℕ) → AreBodiesOf S.state D.state B.lists g homes count ws nodes crossings begun → EachOf BodyGoes begun now → AllOf (BodyKeeps S.state D.state B.lists) now
-        → (firsts : List (IslandNode S D L B)) × (AllBecome nodes firsts × ((k : ℕ) → k < length g.nodes → (joined (net_of now) (seats_of homes ws) all).firsts k ≡ slice_get firsts k)) }
+        → (firsts : List (IslandNode S D L B)) × (AllBecome nodes firsts × ((k : ℕ) → k < length g.nodes → (joined_account (net_of now) (seats_by_islands homes ws) all).firsts k ≡ slice_get firsts k)) }
     ensures lanes { (g : Graph) (homes : List ℕ) (count : ℕ) (ws : List Edge) (nodes : List (Seated S D L B)) (crossings : List Crossing) (begun now : List (Body S D L B)) → AreBodiesOf S.state D.state B.lists g homes count ws nodes crossings begun → EachOf BodyGoes begun now → AllOf (BodyKeeps S.state D.state B.lists) now
         → AreLanes homes ws now crossings }
     ensures settled { (now : List (Body S D L B)) → AllOf (BodyKeeps S.state D.state B.lists) now → AllSettled S.state D.state B.lists now }
@@ -71,14 +71,14 @@ pub fn bodies_cover<S: Source, D: Drain, L: Logic, B: PlugBook>()
 /// its wire.
 pub fn their_lanes_keep<S: Source, D: Drain, L: Logic, B: PlugBook>()
     ensures { (g : Graph) (homes : List ℕ) (count : ℕ) (ws : List Edge) (nodes : List (Seated S D L B)) (crossings : List Crossing) (begun now : List (Body S D L B)) (all : ℕ → ℕ) → AreBodiesOf S.state D.state B.lists g homes count ws nodes crossings begun → EachOf BodyGoes begun now → AllOf (BodyKeeps S.state D.state B.lists) now → AskedAre now crossings all → AllJoined BodiesJoined now crossings
-        → LanesKeep g (net_of now) (seats_of homes ws) all }
+        → LanesKeep g (net_of now) (seats_by_islands homes ws) all }
 {}
 
 /// Where no body has an event, no net has one (`queues`), and each lane rests (`lanes`).
 pub fn their_lanes_rest<S: Source, D: Drain, L: Logic, B: PlugBook>()
     ensures queues { (crossings : List Crossing) (now : List (Body S D L B)) → AtRest is_pending BodiesJoined now crossings → (k : ℕ) → (net_of now k).queue ≡ [] }
     ensures lanes { (g : Graph) (homes : List ℕ) (count : ℕ) (ws : List Edge) (nodes : List (Seated S D L B)) (crossings : List Crossing) (begun now : List (Body S D L B)) (all : ℕ → ℕ) → AreBodiesOf S.state D.state B.lists g homes count ws nodes crossings begun → EachOf BodyGoes begun now → AllOf (BodyKeeps S.state D.state B.lists) now → AskedAre now crossings all → AtRest is_pending BodiesJoined now crossings
-        → LanesRest g (net_of now) (seats_of homes ws) all }
+        → LanesRest g (net_of now) (seats_by_islands homes ws) all }
 {}
 
 /// What bodies spent: `cost` is what was taken off each lane, with the finds of new demand or a cancel there, and the events of all nets
@@ -86,9 +86,9 @@ pub fn their_lanes_rest<S: Source, D: Drain, L: Logic, B: PlugBook>()
 /// they were sent, by one for each wire (`paid`). The asks that came to outputs are no more than what was spent (`asks`).
 pub fn bodies_are_paid<S: Source, D: Drain, L: Logic, B: PlugBook>()
     ensures costs { (g : Graph) (homes : List ℕ) (count : ℕ) (ws : List Edge) (nodes : List (Seated S D L B)) (crossings : List Crossing) (begun now : List (Body S D L B)) (all : ℕ → ℕ) → AreBodiesOf S.state D.state B.lists g homes count ws nodes crossings begun → EachOf BodyGoes begun now → AllOf (BodyKeeps S.state D.state B.lists) now → AskedAre now crossings all → AllJoined BodiesJoined now crossings
-        → (cost : ℕ → ℕ) × (LanesCost g (net_of now) (seats_of homes ws) all cost × (sum_by (λ b. b.spent) now ≤ sum_below (λ b. total (net_of now b)) count + over_lanes g cost)) }
+        → (cost : ℕ → ℕ) × (LanesCost g (net_of now) (seats_by_islands homes ws) all cost × (sum_by (λ b. b.spent) now ≤ sum_below (λ b. total_cost (net_of now b)) count + over_lanes g cost)) }
     ensures paid { (g : Graph) (homes : List ℕ) (count : ℕ) (ws : List Edge) (nodes : List (Seated S D L B)) (crossings : List Crossing) (begun now : List (Body S D L B)) (all : ℕ → ℕ) → AreBodiesOf S.state D.state B.lists g homes count ws nodes crossings begun → EachOf BodyGoes begun now → AllOf (BodyKeeps S.state D.state B.lists) now → AskedAre now crossings all → AllJoined BodiesJoined now crossings
-        → sum_by (λ b. b.spent) now + length g.wires ≤ count_needed g (counts_of (joined (net_of now) (seats_of homes ws) all) g) }
+        → sum_by (λ b. b.spent) now + length g.wires ≤ count_needed g (picture_counts (joined_account (net_of now) (seats_by_islands homes ws) all) g) }
     ensures asks { (count : ℕ) (now : List (Body S D L B)) → length now ≡ count → AllOf (BodyKeeps S.state D.state B.lists) now → sum_below (λ b. all_asks (net_of now b)) count ≤ sum_by (λ b. b.spent) now }
 {}
 
@@ -100,21 +100,21 @@ pub fn broken_bodies_cover<S: Source, D: Drain, L: Logic, B: PlugBook>()
     ensures last { (begun now : List (Body S D L B)) → WholeOrBroken (BodyKeeps S.state D.state B.lists) BodyGoes (BodyBreaks S.state D.state B.lists) begun now → (then : List (Body S D L B)) × AreLastOf S.state D.state B.lists begun now then }
     ensures covers { (g : Graph) (homes : List ℕ) (count : ℕ) (ws : List Edge) (nodes : List (Seated S D L B)) (crossings : List Crossing) (begun now then : List (Body S D L B)) → AreBodiesOf S.state D.state B.lists g homes count ws nodes crossings begun
         → WholeOrBroken (BodyKeeps S.state D.state B.lists) BodyGoes (BodyBreaks S.state D.state B.lists) begun now → AreLastOf S.state D.state B.lists begun now then
-        → Covers g (net_of then) (seats_of homes ws) }
+        → Covers g (net_of then) (seats_by_islands homes ws) }
     ensures owned { (g : Graph) (homes : List ℕ) (count : ℕ) (ws : List Edge) (nodes : List (Seated S D L B)) (crossings : List Crossing) (begun now then : List (Body S D L B)) → AreBodiesOf S.state D.state B.lists g homes count ws nodes crossings begun
         → WholeOrBroken (BodyKeeps S.state D.state B.lists) BodyGoes (BodyBreaks S.state D.state B.lists) begun now → AreLastOf S.state D.state B.lists begun now then
-        → Owned g (net_of then) (seats_of homes ws) count }
+        → Owned g (net_of then) (seats_by_islands homes ws) count }
     ensures nets { (g : Graph) (homes : List ℕ) (count : ℕ) (ws : List Edge) (nodes : List (Seated S D L B)) (crossings : List Crossing) (begun now then : List (Body S D L B)) → AreBodiesOf S.state D.state B.lists g homes count ws nodes crossings begun
         → WholeOrBroken (BodyKeeps S.state D.state B.lists) BodyGoes (BodyBreaks S.state D.state B.lists) begun now → AreLastOf S.state D.state B.lists begun now then
         → AreNets homes ws nodes count (net_of then) }
     ensures began { (g : Graph) (homes : List ℕ) (count : ℕ) (ws : List Edge) (nodes : List (Seated S D L B)) (crossings : List Crossing) (begun now then : List (Body S D L B)) (all : ℕ → ℕ) → AreBodiesOf S.state D.state B.lists g homes count ws nodes crossings begun
         → WholeOrBroken (BodyKeeps S.state D.state B.lists) BodyGoes (BodyBreaks S.state D.state B.lists) begun now → AreLastOf S.state D.state B.lists begun now then
-        → (firsts : List (IslandNode S D L B)) × (AllBecome nodes firsts × ((k : ℕ) → k < length g.nodes → (joined (net_of then) (seats_of homes ws) all).firsts k ≡ slice_get firsts k)) }
+        → (firsts : List (IslandNode S D L B)) × (AllBecome nodes firsts × ((k : ℕ) → k < length g.nodes → (joined_account (net_of then) (seats_by_islands homes ws) all).firsts k ≡ slice_get firsts k)) }
     ensures settled { (begun now then : List (Body S D L B)) → WholeOrBroken (BodyKeeps S.state D.state B.lists) BodyGoes (BodyBreaks S.state D.state B.lists) begun now → AreLastOf S.state D.state B.lists begun now then
         → AllSettled S.state D.state B.lists then }
     ensures lanes { (g : Graph) (homes : List ℕ) (count : ℕ) (ws : List Edge) (nodes : List (Seated S D L B)) (crossings : List Crossing) (begun now then : List (Body S D L B)) (all : ℕ → ℕ) → AreBodiesOf S.state D.state B.lists g homes count ws nodes crossings begun
         → WholeOrBroken (BodyKeeps S.state D.state B.lists) BodyGoes (BodyBreaks S.state D.state B.lists) begun now → AreLastOf S.state D.state B.lists begun now then → AskedAre now crossings all → AllJoined BodiesJoined now crossings
-        → LanesKeep g (net_of then) (seats_of homes ws) all }
+        → LanesKeep g (net_of then) (seats_by_islands homes ws) all }
     ensures kept { (begun now then : List (Body S D L B)) → WholeOrBroken (BodyKeeps S.state D.state B.lists) BodyGoes (BodyBreaks S.state D.state B.lists) begun now → AreLastOf S.state D.state B.lists begun now then
         → (k : ℕ) → AllKept (KeepsNode S.state D.state) (net_of then k).nodes (net_of now k).nodes }
 {}
@@ -134,7 +134,7 @@ pub fn bodies_leave_a_run<S: Source, D: Drain, L: Logic, B: PlugBook>()
     ensures still { (b : Blueprint) (homes : List ℕ) (count : ℕ) (nodes : List (Seated S D L B)) (crossings : List Crossing) (begun now : List (Body S D L B)) (all : ℕ → ℕ) → AreBodiesOf S.state D.state B.lists (graph_of b) homes count (blueprint_wires b) nodes crossings begun → EachOf BodyGoes begun now → AllOf (BodyKeeps S.state D.state B.lists) now → AskedAre now crossings all → AtRest is_pending BodiesJoined now crossings
         → IsStill (graph_of b) (account_in homes (blueprint_wires b) now all) }
     ensures most { (b : Blueprint) (homes : List ℕ) (count : ℕ) (nodes : List (Seated S D L B)) (crossings : List Crossing) (begun now : List (Body S D L B)) (all : ℕ → ℕ) → AreBodiesOf S.state D.state B.lists (graph_of b) homes count (blueprint_wires b) nodes crossings begun → EachOf BodyGoes begun now → AllOf (BodyKeeps S.state D.state B.lists) now → AskedAre now crossings all → AllJoined BodiesJoined now crossings
-        → sum_by (λ b. b.spent) now + length (blueprint_wires b) ≤ count_needed (graph_of b) (counts_of (account_in homes (blueprint_wires b) now all) (graph_of b)) }
+        → sum_by (λ b. b.spent) now + length (blueprint_wires b) ≤ count_needed (graph_of b) (picture_counts (account_in homes (blueprint_wires b) now all) (graph_of b)) }
 {}
 
 /// Bodies of which some broke off leave a run too, with their islands as they were at a last moment between two events (`run`). The nodes
@@ -160,5 +160,5 @@ pub fn nodes_alone_are_a_run<S: Source, D: Drain, L: Logic, B: PlugBook>()
     ensures run { (g : Graph) (a : Account (IslandNode S D L B)) (places : List (Seated S D L B)) (nodes : List (IslandNode S D L B)) → (left : AreLeft places a nodes) → length places ≡ length g.nodes → IsRun S.state D.state B.lists g a
         → IsRun S.state D.state B.lists g (of_lists a left.firsts nodes) }
     ensures still { (g : Graph) (a : Account (IslandNode S D L B)) (firsts nodes : List (IslandNode S D L B)) → IsStill g a → IsStill g (of_lists a firsts nodes) }
-    ensures counts { (g : Graph) (a : Account (IslandNode S D L B)) (firsts nodes : List (IslandNode S D L B)) → counts_of (of_lists a firsts nodes) g ≡ counts_of a g }
+    ensures counts { (g : Graph) (a : Account (IslandNode S D L B)) (firsts nodes : List (IslandNode S D L B)) → picture_counts (of_lists a firsts nodes) g ≡ picture_counts a g }
 {}

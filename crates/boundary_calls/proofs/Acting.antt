@@ -12,7 +12,7 @@ use Rattle.stream_model.specs.Linear.{Book}
 use Rattle.stage_law.specs.Held.{told}
 use Rattle.port_core.specs.Decoding.{can_push, can_pull}
 use Rattle.port_core.specs.Joint.{Joint, idle, asking, asked, moving, ending, closing, leaving, finished, parted, refused, wire_of, IsSound, Histories, under_way}
-use Rattle.port_core.specs.Wire.{JointPorts, end_of}
+use Rattle.port_core.specs.Wire.{JointPorts, end_item}
 use Rattle.port_core.specs.View.{View, in_at, out_at, IsInOpen, IsOutOpen, output_closed, input_closed}
 use Rattle.port_core.specs.declared.act.Act.{Act}
 use Rattle.port_core.specs.declared.act.Act.TheVariants.{Pull, Push, Complete, FailOut, Cancel}
@@ -23,7 +23,7 @@ use Rattle.port_core.specs.declared.view.OutView.TheVariants as outlet
 use Rattle.wire_core.specs.Cell.{WireState, moved_by, queues_by}
 use Rattle.wire_core.specs.Marks.{wanted as asks_of}
 use Rattle.wire_core.specs.Reading.{no_wire, inp_of, out_of, got_of}
-use Rattle.stage_boundary.specs.Ports.{Does}
+use Rattle.stage_boundary.specs.Ports.{MayDo}
 use Rattle.stage_boundary.specs.Entering.{Entering, EnteringPortState, EnteringLaw}
 use Rattle.stage_boundary.specs.Leaving.{Leaving, LeavingPortState, LeavingLaw}
 use Rattle.stage_boundary.proofs.Enters.{may_push as enters_push, may_complete as enters_complete, may_fail as enters_fail}
@@ -36,7 +36,7 @@ use Rattle.fused_net.specs.Laws.{Minds, IsMinded, Settled}
 use Rattle.fused_net.specs.Poking.{AtNode, TellsPoked}
 use Rattle.fused_net.proofs.Reading.{read_at, get_there, some_same}
 use Rattle.boundary_calls.specs.declared.given.Wanted.TheVariants as wanted
-use Rattle.boundary_calls.specs.Boundary.{IsEntering, IsLeaving, EntersAt, LeavesAt, CameTo, wanted_by, wanted_at, ends_at, moved_at}
+use Rattle.boundary_calls.specs.Boundary.{IsEntering, IsLeaving, EntersAt, LeavesAt, ReceivedAt, wanted_by, wanted_at, ends_at, moved_at}
 
 -- ---- one wire
 
@@ -82,7 +82,7 @@ wanted_push outlet.Cancelled false e = cc
 -- ---- one node
 
 module _ {S D L B : Type 0} (sources : S → SourceState) (drains : D → DrainState) (book : Book) (v : View) (t g : List (List Item)) (a : Act) where
-  entering_does : (x first : IslandNode S D L B) → IsEntering first → ((e f : Entering) → EnteringPortState e v → EnteringLaw f e v t g → Does EnteringPortState EnteringLaw e f v t g a)
+  entering_does : (x first : IslandNode S D L B) → IsEntering first → ((e f : Entering) → EnteringPortState e v → EnteringLaw f e v t g → MayDo EnteringPortState EnteringLaw e f v t g a)
       → Minds node_port_state (node_law sources drains book) x first v t g [] → Minds node_port_state (node_law sources drains book) x first v t g (a ∷ [])
   entering_does (node.Entering x) (node.Entering f) h d m = let y = d x f m.row_holds m.law_holds in record { allowed = (y.allowed, tt); row_holds = y.row_holds; law_holds = y.law_holds }
   entering_does (node.Reading x) (node.Entering f) h d m = absurd m.law_holds
@@ -106,7 +106,7 @@ module _ {S D L B : Type 0} (sources : S → SourceState) (drains : D → DrainS
   entering_does x (node.Ignoring f) h d m = absurd h
   entering_does x (node.Leaving f) h d m = absurd h
 
-  leaving_does : (x first : IslandNode S D L B) → IsLeaving first → ((e f : Leaving) → x ≡ node.Leaving e → LeavingPortState e v → LeavingLaw f e v t g → Does LeavingPortState LeavingLaw e f v t g a)
+  leaving_does : (x first : IslandNode S D L B) → IsLeaving first → ((e f : Leaving) → x ≡ node.Leaving e → LeavingPortState e v → LeavingLaw f e v t g → MayDo LeavingPortState LeavingLaw e f v t g a)
       → Minds node_port_state (node_law sources drains book) x first v t g [] → Minds node_port_state (node_law sources drains book) x first v t g (a ∷ [])
   leaving_does (node.Leaving x) (node.Leaving f) h d m = let y = d x f refl m.row_holds m.law_holds in record { allowed = (y.allowed, tt); row_holds = y.row_holds; law_holds = y.law_holds }
   leaving_does (node.Reading x) (node.Leaving f) h d m = absurd m.law_holds
@@ -156,8 +156,8 @@ few_j idle s g e = rw e (omega arith)
 few_j asking s g e = rw e (omega arith)
 few_j asked s g e = rw e (omega arith)
 few_j (moving x) s g e = rw e (let k = elements-append g (item.Elem x ∷ []) in omega (arith, k))
-few_j (ending c) s g e = rw e (let k = elements-append g (end_of c ∷ []) in omega (arith, k))
-few_j (closing t c) s g e = rw e (let k = elements-append g (under_way t ++ end_of c ∷ []) in omega (arith, k))
+few_j (ending c) s g e = rw e (let k = elements-append g (end_item c ∷ []) in omega (arith, k))
+few_j (closing t c) s g e = rw e (let k = elements-append g (under_way t ++ end_item c ∷ []) in omega (arith, k))
 few_j (leaving a t) s g e = rw e.1 (let k = elements-append g e.0 in omega (arith, k))
 few_j (finished t c) s g e = rw e (omega arith)
 few_j (parted t c) s g e = rw e.1 (let k = elements-append g e.0 in omega (arith, k))
@@ -367,7 +367,7 @@ leaving_tells sources drains book net s q h stage a p x xi =
     let first = get_there net.firsts to (rw s.each_first (s.wired.to_within q h)) in
     asking_free sources drains book x first.0 (view_of net to) _ (took net to) (gave net to) (stage first.0 first.1) (s.minded to (s.wired.to_within q h) x first.0 xi first.1).law_holds
 
-pub came_at : {S D L B : Type 0} (sources : S → SourceState) (drains : D → DrainState) (book : Book) (net : Net (IslandNode S D L B)) (q : ℕ) → Settled node_port_state (node_law sources drains book) node_asking node_moves net → q < length net.wires → LeavesAt net q → CameTo net q
+pub came_at : {S D L B : Type 0} (sources : S → SourceState) (drains : D → DrainState) (book : Book) (net : Net (IslandNode S D L B)) (q : ℕ) → Settled node_port_state (node_law sources drains book) node_asking node_moves net → q < length net.wires → LeavesAt net q → ReceivedAt net q
 came_at sources drains book net q s h l = record {
   got = came_there sources drains book net s q h l;
   few = few_came _ _ (s.sound q h);

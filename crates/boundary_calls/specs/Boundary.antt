@@ -78,7 +78,7 @@ module _ {S D L B : Type 0} where
   IsClearAt net q = AtNode net (end_at net.ends q).to (λ x. node_waits x ≡ [])
 
   -- what came there is what was handed out or dropped, and then what waits: a list and its end; no more came than was asked
-  pub record CameTo (net : Net (IslandNode S D L B)) (q : ℕ) : Type 0 where
+  pub record ReceivedAt (net : Net (IslandNode S D L B)) (q : ℕ) : Type 0 where
     pub got : AtNode net (end_at net.ends q).to (λ x. (wire_at net q).wire.got ≡ node_gone x ++ node_waits x)
     pub few : elements (wire_at net q).wire.got ≤ asks_of (wire_at net q)
     pub list : List Tree

@@ -5,11 +5,11 @@ ghost use Rattle.port_core.specs.Decoding.{can_pull};
 ghost use Rattle.port_core.specs.declared.act.Act.TheVariants as act;
 ghost use Rattle.nodes.specs.Nodes.{node_port_state, node_law, node_asking, node_moves, node_waits, node_gone};
 ghost use Rattle.fused_net.specs.Net.{wire_at, end_at};
-ghost use Rattle.fused_net.specs.Laws.{Settled, GoesOn};
+ghost use Rattle.fused_net.specs.Laws.{Settled, NetGoesOn};
 ghost use Rattle.fused_net.specs.Costs.{all_asks, Uses};
 ghost use Rattle.fused_net.specs.Poking.{AtNode, HandsAt};
 ghost use Rattle.boundary_calls.specs.declared.given.Wanted.TheVariants as wanted;
-ghost use Rattle.boundary_calls.specs.Boundary.{EntersAt, LeavesAt, IsClearAt, GivenIs, CameTo, wanted_at, ends_at, moved_at, ended_at, cancelled_at};
+ghost use Rattle.boundary_calls.specs.Boundary.{EntersAt, LeavesAt, IsClearAt, GivenIs, ReceivedAt, wanted_at, ends_at, moved_at, ended_at, cancelled_at};
 
 use crate::given::{Given, Wanted};
 use elem_core::elem::Elem;
@@ -54,7 +54,7 @@ pub fn push_in<S: Source, D: Drain, L: Logic, B: PlugBook>(
     requires few { all_asks engine.old ≤ MOST_COUNT }
     ensures after { engine.new ≡ moved_at engine.old place (act.Push 0 e) }
     ensures laws { Settled node_port_state (node_law S.state D.state B.lists) node_asking node_moves engine.new }
-    ensures on { GoesOn engine.old engine.new }
+    ensures on { NetGoesOn engine.old engine.new }
     ensures uses { Uses engine.old engine.new 0 }
 {
     let ends = engine.ends(place);
@@ -73,7 +73,7 @@ pub fn end_in<S: Source, D: Drain, L: Logic, B: PlugBook>(
     requires few { all_asks engine.old ≤ MOST_COUNT }
     ensures after { engine.new ≡ ended_at engine.old place cause }
     ensures laws { Settled node_port_state (node_law S.state D.state B.lists) node_asking node_moves engine.new }
-    ensures on { GoesOn engine.old engine.new }
+    ensures on { NetGoesOn engine.old engine.new }
     ensures uses { Uses engine.old engine.new 0 }
 {
     if !engine.wire(place).output_closed() {
@@ -118,7 +118,7 @@ pub fn pull_out<S: Source, D: Drain, L: Logic, B: PlugBook>(
     requires few { all_asks engine.old ≤ MOST_COUNT }
     ensures after { engine.new ≡ moved_at engine.old place (act.Pull 0) }
     ensures laws { Settled node_port_state (node_law S.state D.state B.lists) node_asking node_moves engine.new }
-    ensures on { GoesOn engine.old engine.new }
+    ensures on { NetGoesOn engine.old engine.new }
     ensures uses { Uses engine.old engine.new 0 }
 {
     let ends = engine.ends(place);
@@ -134,7 +134,7 @@ pub fn given<S: Source, D: Drain, L: Logic, B: PlugBook>(
     requires within { place < length engine.old.wires }
     ensures given { GivenIs result (IsClearAt engine.old place × (engine.new ≡ engine.old)) (λ x. HandsAt node_gone node_waits engine.old (end_at engine.old.ends place).to (x ∷ []) engine.new) }
     ensures laws { Settled node_port_state (node_law S.state D.state B.lists) node_asking node_moves engine.new }
-    ensures on { GoesOn engine.old engine.new }
+    ensures on { NetGoesOn engine.old engine.new }
     ensures uses { Uses engine.old engine.new 0 }
 {
     let ends = engine.ends(place);
@@ -157,7 +157,7 @@ fn cancel<S: Source, D: Drain, L: Logic, B: PlugBook>(
     requires few { all_asks engine.old ≤ MOST_COUNT }
     ensures after { engine.new ≡ cancelled_at engine.old place }
     ensures laws { Settled node_port_state (node_law S.state D.state B.lists) node_asking node_moves engine.new }
-    ensures on { GoesOn engine.old engine.new }
+    ensures on { NetGoesOn engine.old engine.new }
     ensures uses { Uses engine.old engine.new 0 }
 {
     if !engine.wire(place).input_closed() {
@@ -178,7 +178,7 @@ pub fn cancel_out<S: Source, D: Drain, L: Logic, B: PlugBook>(
     requires few { all_asks engine.old ≤ MOST_COUNT }
     ensures drops { AtNode (cancelled_at engine.old place) (end_at engine.old.ends place).to (λ x. HandsAt node_gone node_waits (cancelled_at engine.old place) (end_at engine.old.ends place).to (node_waits x) engine.new) }
     ensures laws { Settled node_port_state (node_law S.state D.state B.lists) node_asking node_moves engine.new }
-    ensures on { GoesOn engine.old engine.new }
+    ensures on { NetGoesOn engine.old engine.new }
     ensures uses { Uses engine.old engine.new 0 }
 {
     let ends = engine.ends(place);
@@ -194,7 +194,7 @@ pub fn came_to<S: Source, D: Drain, L: Logic, B: PlugBook>(
     requires laws { Settled node_port_state (node_law S.state D.state B.lists) node_asking node_moves engine.now }
     requires within { place < length engine.now.wires }
     requires stage { LeavesAt engine.now place }
-    ensures { CameTo engine.now place }
+    ensures { ReceivedAt engine.now place }
 {
     let _ = engine;
     let _ = place;

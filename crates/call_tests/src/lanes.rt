@@ -2,7 +2,7 @@
 ghost use Rattle.std.specs.Prelude.{◌≡◌, ◌+◌, true, false, IfSome};
 ghost use Rattle.lane_core.specs.Lane.{ends, weight};
 ghost use Rattle.elem_core.specs.Items.{elements};
-ghost use Rattle.lane_core.specs.Ends.{taken, asked, has_cancelled, has_ended, saw_cancel, out_lane, in_lane, AreOneLane, IsSameIn, IsSameOut};
+ghost use Rattle.lane_core.specs.Ends.{taken_items, asked_in_all, has_cancelled, has_ended, saw_cancel, out_lane, in_lane, AreOneLane, IsSameIn, IsSameOut};
 
 use elem_core::elem::{Elem, Form};
 use elem_core::item::Item;
@@ -16,8 +16,8 @@ use std::thread::{Threads, join};
 
 // The next item, if it is a number.
 fn take_number(inp: &mut LaneIn) -> Option<i64>
-    ensures same { IsSameIn inp.old inp.new × (asked inp.new ≡ asked inp.old) × (has_cancelled inp.new ≡ has_cancelled inp.old) }
-    ensures some { IfSome result (λ _. elements (taken inp.new) ≡ elements (taken inp.old) + 1) }
+    ensures same { IsSameIn inp.old inp.new × (asked_in_all inp.new ≡ asked_in_all inp.old) × (has_cancelled inp.new ≡ has_cancelled inp.old) }
+    ensures some { IfSome result (λ _. elements (taken_items inp.new) ≡ elements (taken_items inp.old) + 1) }
 {
     let Some(Item::Elem(e)) = inp.take() else {
         return None;

@@ -5,9 +5,9 @@ use Rattle.std.proofs.lemmas.Option.{same_Some}
 use Rattle.elem_core.specs.Tree.{Tree}
 use Rattle.port_core.specs.declared.chain.ChainStep.{ChainStep}
 use Rattle.port_core.specs.declared.chain.ChainStep.TheVariants.{Go, Closed, Failed}
-use Rattle.port_core.specs.ListFunction.{ListFunction, Residual, Pushed, Finished}
+use Rattle.port_core.specs.ListFunction.{ListFunction, ResidualFunction, Pushed, FunctionFinished}
 use Rattle.chain_core.specs.Means.{Running}
-use Rattle.chain_core.specs.Slots.{Ended, Holds, Fed}
+use Rattle.chain_core.specs.Slots.{ChainEnded, SlotHolds, Fed}
 
 -- a list that a longer one is equal to has nothing behind it
 no_more : (l k : List Tree) → l ≡ l ++ k → k ≡ []
@@ -24,7 +24,7 @@ module _ (f r : ListFunction) (took : List Tree) (run : Running f took r) where
   adds_now = ap f.adds (sym (append-nil took)) ∙ run.residual.adds []
 
   -- its end added this
-  pub ended_go : (step : ChainStep) (before after : List Tree) → step ≡ Go → Finished r step before after → Ended f took None before after
+  pub ended_go : (step : ChainStep) (before after : List Tree) → step ≡ Go → FunctionFinished r step before after → ChainEnded f took None before after
   ended_go Go before after is e = (e.0, (adds_now ∙ e.1.0, e.1.1 ∙ ap (λ (k : List Tree). before ++ (k ++ e.0)) nothing_left))
   ended_go Closed before after is e = absurd e
   ended_go (Failed w) before after is e = cc
@@ -34,7 +34,7 @@ module _ (f r : ListFunction) (took : List Tree) (run : Running f took r) where
   gives_more t = run.residual.gives (t ∷ [])
 
   -- what goes on behind one more element, goes on behind them all
-  next_residual : (h : ListFunction) (t : Tree) (given : List Tree) → given ≡ r.gives (t ∷ []) → Residual r (t ∷ []) given h → Residual f (took ++ t ∷ []) (f.gives (took ++ t ∷ [])) h
+  next_residual : (h : ListFunction) (t : Tree) (given : List Tree) → given ≡ r.gives (t ∷ []) → ResidualFunction r (t ∷ []) given h → ResidualFunction f (took ++ t ∷ []) (f.gives (took ++ t ∷ [])) h
   next_residual h t given all s = record {
     gives = λ rest.
         ap f.gives (append_assoc took (t ∷ []) rest) ∙ run.residual.gives (t ∷ rest)
@@ -59,7 +59,7 @@ module _ {C : Type 0} (rest : C → ListFunction) (is_open : C → Bool) where
   fed_by f took t r c (Failed w) before after run is p = cc
 
   -- by slots: it held a chain
-  pub fed_go : (f : ListFunction) (took : List Tree) (t : Tree) (slot : Option C) (d c : C) (step : ChainStep) (before after : List Tree) → slot ≡ Some d → Holds rest is_open f slot took → step ≡ Go
+  pub fed_go : (f : ListFunction) (took : List Tree) (t : Tree) (slot : Option C) (d c : C) (step : ChainStep) (before after : List Tree) → slot ≡ Some d → SlotHolds rest is_open f slot took → step ≡ Go
       → Pushed (rest d) t step before after (rest c) → Fed rest is_open f took t None before after (Some c)
   fed_go f took t (Some b) d c step before after e run is p = let q : rest b ≡ rest d = ap rest (same_Some b d e) in fed_by f took t (rest d) c step before after (subst (λ (r : ListFunction). Running f took r) q run) is p
   fed_go f took t None d c step before after e run is p = cc

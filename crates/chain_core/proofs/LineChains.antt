@@ -10,13 +10,13 @@ use Rattle.stream_model.specs.Substreams.{Chain, through}
 use Rattle.stream_model.proofs.MachineLaws.{gives-append}
 use Rattle.port_core.specs.declared.chain.ChainStep.{ChainStep}
 use Rattle.port_core.specs.declared.chain.ChainStep.TheVariants.{Go, Closed, Failed}
-use Rattle.port_core.specs.ListFunction.{Residual, Stops, GoesBy, Pushed, Finished, goes_on}
-use Rattle.chain_core.specs.Means.{StandsAs, EndsAs, Means}
-use Rattle.chain_core.specs.LineChains.{step_of, end_step, is_unended, added_by, added, each, outs, after, list_function}
+use Rattle.port_core.specs.ListFunction.{ResidualFunction, Stops, GoesBy, Pushed, FunctionFinished, goes_on}
+use Rattle.chain_core.specs.Means.{ChainStandsAs, ChainEndsAs, Means}
+use Rattle.chain_core.specs.LineChains.{chain_step, end_step, is_unended, added_by, given_with, each, chain_outs, after, list_function}
 
 module _ (book : Book) where
   -- a list may come in two parts
-  pub through_append : (xs : Chain) (l r : List Tree) (e : End) → through book xs (l ++ r) e ≡ led_by (outs book xs l) (through book (after book xs l) r e)
+  pub through_append : (xs : Chain) (l r : List Tree) (e : End) → through book xs (l ++ r) e ≡ led_by (chain_outs book xs l) (through book (after book xs l) r e)
   through_append [] l r e = refl
   through_append (s ∷ ss) l r e =
       let g = gives (each book) (run (each book) s l).state r e in
@@ -89,54 +89,54 @@ module _ (book : Book) where
   -- ---- its list function is what the chain means
 
   -- how it answers by its end
-  stands_by : (e : End) → StandsAs (step_of e) e
+  stands_by : (e : End) → ChainStandsAs (chain_step e) e
   stands_by unended = refl
   stands_by ended = refl
   stands_by (failed c) = (c, (refl, refl))
 
   -- its answers tell how it stands
-  go_open : (e : End) → step_of e ≡ Go → is_unended e ≡ true
+  go_open : (e : End) → chain_step e ≡ Go → is_unended e ≡ true
   go_open unended h = refl
   go_open ended h = cc
   go_open (failed c) h = cc
 
-  closed_not : (e : End) → step_of e ≡ Closed → is_unended e ≡ false
+  closed_not : (e : End) → chain_step e ≡ Closed → is_unended e ≡ false
   closed_not unended h = cc
   closed_not ended h = refl
   closed_not (failed c) h = cc
 
-  failed_not : (e : End) (w : Why) → step_of e ≡ Failed w → is_unended e ≡ false
+  failed_not : (e : End) (w : Why) → chain_step e ≡ Failed w → is_unended e ≡ false
   failed_not unended w h = cc
   failed_not ended w h = refl
   failed_not (failed c) w h = refl
 
   -- one that closed has ended
-  closed_ended : (x : Given Tree) → step_of x.end ≡ Closed → x ≡ record { list = x.list; end = ended }
+  closed_ended : (x : Given Tree) → chain_step x.end ≡ Closed → x ≡ record { list = x.list; end = ended }
   closed_ended x h = ap (λ (e : End). record { list = x.list; end = e }) (by_end x.end h)
     where
-      by_end : (e : End) → step_of e ≡ Closed → e ≡ ended
+      by_end : (e : End) → chain_step e ≡ Closed → e ≡ ended
       by_end ended h = refl
       by_end unended h = cc
       by_end (failed c) h = cc
 
   -- while it stands open, all that it gave came of the first part
-  open_gives : (xs : Chain) (l : List Tree) → is_unended (through book xs l unended).end ≡ true → (through book xs l unended).list ≡ outs book xs l
+  open_gives : (xs : Chain) (l : List Tree) → is_unended (through book xs l unended).end ≡ true → (through book xs l unended).list ≡ chain_outs book xs l
   open_gives xs l h =
-      let a : through book xs l unended ≡ led_by (outs book xs l) (through book (after book xs l) [] unended) = ap (λ (k : List Tree). through book xs k unended) (sym (append-nil l)) ∙ through_append xs l [] unended in
+      let a : through book xs l unended ≡ led_by (chain_outs book xs l) (through book (after book xs l) [] unended) = ap (λ (k : List Tree). through book xs k unended) (sym (append-nil l)) ∙ through_append xs l [] unended in
       let q : is_unended (through book (after book xs l) [] unended).end ≡ true = sym (ap (λ (x : Given Tree). is_unended x.end) a) ∙ h in
-      ap (λ (x : Given Tree). x.list) a ∙ ap (λ (k : List Tree). outs book xs l ++ k) (idle xs l q) ∙ append-nil (outs book xs l)
+      ap (λ (x : Given Tree). x.list) a ∙ ap (λ (k : List Tree). chain_outs book xs l ++ k) (idle xs l q) ∙ append-nil (chain_outs book xs l)
 
   -- what its end gives begins with that
   end_gives : (xs : Chain) (l : List Tree) → is_unended (through book xs l unended).end ≡ true → (k : List Tree) × ((through book xs l ended).list ≡ (through book xs l unended).list ++ k)
   end_gives xs l h =
-      let a : through book xs l ended ≡ led_by (outs book xs l) (through book (after book xs l) [] ended) = ap (λ (k : List Tree). through book xs k ended) (sym (append-nil l)) ∙ through_append xs l [] ended in
+      let a : through book xs l ended ≡ led_by (chain_outs book xs l) (through book (after book xs l) [] ended) = ap (λ (k : List Tree). through book xs k ended) (sym (append-nil l)) ∙ through_append xs l [] ended in
       ((through book (after book xs l) [] ended).list, ap (λ (x : Given Tree). x.list) a ∙ ap (λ (k : List Tree). k ++ (through book (after book xs l) [] ended).list) (sym (open_gives xs l h)))
 
   -- what its end came to, behind what it gave
-  ends_by : (g : List Tree) (x : Given Tree) (k : List Tree) → x.list ≡ g ++ k → is_unended x.end ≡ false → EndsAs (added g x) g x
+  ends_by : (g : List Tree) (x : Given Tree) (k : List Tree) → x.list ≡ g ++ k → is_unended x.end ≡ false → ChainEndsAs (given_with g x) g x
   ends_by g x k e h = by_end x.end refl
     where
-      by_end : (d : End) → x.end ≡ d → EndsAs (added_by g x.list d) g x
+      by_end : (d : End) → x.end ≡ d → ChainEndsAs (added_by g x.list d) g x
       by_end unended is = let b : false ≡ true = sym h ∙ ap is_unended is in cc
       by_end ended is =
           let back : x.list ≡ g ++ drop (length g) x.list = e ∙ ap (λ (l : List Tree). g ++ l) (sym (ap (drop (length g)) e ∙ drop-append_seam g k)) in
@@ -165,7 +165,7 @@ module _ (book : Book) where
   -- ---- one call more
 
   -- what was given before changes nothing of what the end adds
-  added_led : (g o : List Tree) (x : Given Tree) → added (o ++ g) (led_by o x) ≡ added g x
+  added_led : (g o : List Tree) (x : Given Tree) → given_with (o ++ g) (led_by o x) ≡ given_with g x
   added_led g o x = by_end x.end
     where
       by_end : (d : End) → added_by (o ++ g) (o ++ x.list) d ≡ added_by g x.list d
@@ -174,46 +174,46 @@ module _ (book : Book) where
       by_end (failed c) = refl
 
   -- an element more of a chain that goes on
-  pub line_pushed : (xs : Chain) (t : Tree) (step : ChainStep) (before now : List Tree) → step ≡ step_of (through book xs (t ∷ []) unended).end → now ≡ before ++ (through book xs (t ∷ []) unended).list
+  pub line_pushed : (xs : Chain) (t : Tree) (step : ChainStep) (before now : List Tree) → step ≡ chain_step (through book xs (t ∷ []) unended).end → now ≡ before ++ (through book xs (t ∷ []) unended).list
       → Pushed (list_function book xs) t step before now (list_function book (after book xs (t ∷ [])))
   line_pushed xs t step before now is out = record { gave = (through book xs (t ∷ []) unended).list; out = out; all = refl; answer = is; goes = by_end (through book xs (t ∷ []) unended).end refl step is }
     where
-      goes : is_unended (through book xs (t ∷ []) unended).end ≡ true → Residual (list_function book xs) (t ∷ []) (through book xs (t ∷ []) unended).list (list_function book (after book xs (t ∷ [])))
+      goes : is_unended (through book xs (t ∷ []) unended).end ≡ true → ResidualFunction (list_function book xs) (t ∷ []) (through book xs (t ∷ []) unended).list (list_function book (after book xs (t ∷ [])))
       goes h = record {
         gives = λ rest. ap (λ (x : Given Tree). x.list) (through_append xs (t ∷ []) rest unended) ∙ ap (λ (k : List Tree). k ++ (through book (after book xs (t ∷ [])) rest unended).list) (sym (open_gives xs (t ∷ []) h));
-        stop = λ rest. ap (λ (x : Given Tree). step_of x.end) (through_append xs (t ∷ []) rest unended);
+        stop = λ rest. ap (λ (x : Given Tree). chain_step x.end) (through_append xs (t ∷ []) rest unended);
         adds = λ rest.
-            ap (λ (x : Given Tree). added x.list (through book xs (t ∷ rest) ended)) (through_append xs (t ∷ []) rest unended)
-            ∙ ap (λ (x : Given Tree). added (outs book xs (t ∷ []) ++ (through book (after book xs (t ∷ [])) rest unended).list) x) (through_append xs (t ∷ []) rest ended)
-            ∙ added_led (through book (after book xs (t ∷ [])) rest unended).list (outs book xs (t ∷ [])) (through book (after book xs (t ∷ [])) rest ended);
+            ap (λ (x : Given Tree). given_with x.list (through book xs (t ∷ rest) ended)) (through_append xs (t ∷ []) rest unended)
+            ∙ ap (λ (x : Given Tree). given_with (chain_outs book xs (t ∷ []) ++ (through book (after book xs (t ∷ [])) rest unended).list) x) (through_append xs (t ∷ []) rest ended)
+            ∙ added_led (through book (after book xs (t ∷ [])) rest unended).list (chain_outs book xs (t ∷ [])) (through book (after book xs (t ∷ [])) rest ended);
       }
 
-      halts : (x : ChainStep) → x ≡ step_of (through book xs (t ∷ []) unended).end → is_unended (through book xs (t ∷ []) unended).end ≡ false → Stops (list_function book xs) (t ∷ []) (through book xs (t ∷ []) unended).list x
+      halts : (x : ChainStep) → x ≡ chain_step (through book xs (t ∷ []) unended).end → is_unended (through book xs (t ∷ []) unended).end ≡ false → Stops (list_function book xs) (t ∷ []) (through book xs (t ∷ []) unended).list x
       halts x e h = record {
         gives = λ rest. ap (λ (x : Given Tree). x.list) (fixed xs (t ∷ []) rest unended h);
-        stop = λ rest. ap (λ (x : Given Tree). step_of x.end) (fixed xs (t ∷ []) rest unended h) ∙ sym e;
+        stop = λ rest. ap (λ (x : Given Tree). chain_step x.end) (fixed xs (t ∷ []) rest unended h) ∙ sym e;
       }
 
-      by_end : (d : End) → (through book xs (t ∷ []) unended).end ≡ d → (x : ChainStep) → x ≡ step_of (through book xs (t ∷ []) unended).end
+      by_end : (d : End) → (through book xs (t ∷ []) unended).end ≡ d → (x : ChainStep) → x ≡ chain_step (through book xs (t ∷ []) unended).end
           → GoesBy (list_function book xs) (t ∷ []) (through book xs (t ∷ []) unended).list x (list_function book (after book xs (t ∷ [])))
       by_end d is Go e = goes (go_open (through book xs (t ∷ []) unended).end (sym e))
       by_end d is Closed e = halts Closed e (closed_not (through book xs (t ∷ []) unended).end (sym e))
       by_end d is (Failed w) e = halts (Failed w) e (failed_not (through book xs (t ∷ []) unended).end w (sym e))
 
   -- it goes on exactly where it answers so
-  pub line_open : (xs : Chain) (t : Tree) → is_unended (through book (after book xs (t ∷ [])) [] unended).end ≡ goes_on (step_of (through book xs (t ∷ []) unended).end)
+  pub line_open : (xs : Chain) (t : Tree) → is_unended (through book (after book xs (t ∷ [])) [] unended).end ≡ goes_on (chain_step (through book xs (t ∷ []) unended).end)
   line_open xs t = sym (ap (λ (x : Given Tree). is_unended x.end) (through_append xs (t ∷ []) [] unended)) ∙ by_end (through book xs (t ∷ []) unended).end
     where
-      by_end : (e : End) → is_unended e ≡ goes_on (step_of e)
+      by_end : (e : End) → is_unended e ≡ goes_on (chain_step e)
       by_end unended = refl
       by_end ended = refl
       by_end (failed c) = refl
 
   -- the end of the input of a chain that goes on
-  pub line_finished : (xs : Chain) (before now : List Tree) → is_unended (through book xs [] unended).end ≡ true → now ≡ before ++ (through book xs [] ended).list → Finished (list_function book xs) (end_step (through book xs [] ended).end) before now
+  pub line_finished : (xs : Chain) (before now : List Tree) → is_unended (through book xs [] unended).end ≡ true → now ≡ before ++ (through book xs [] ended).list → FunctionFinished (list_function book xs) (end_step (through book xs [] ended).end) before now
   line_finished xs before now on out = by_end (through book xs [] ended).end refl
     where
-      by_end : (d : End) → (through book xs [] ended).end ≡ d → Finished (list_function book xs) (end_step d) before now
+      by_end : (d : End) → (through book xs [] ended).end ≡ d → FunctionFinished (list_function book xs) (end_step d) before now
       by_end unended is = let x : true ≡ false = sym (ap is_unended is) ∙ never_open xs [] in cc
       by_end ended is =
           let k = end_gives xs [] on in

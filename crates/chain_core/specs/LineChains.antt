@@ -11,10 +11,10 @@ use Rattle.port_core.specs.declared.chain.ChainStep.TheVariants.{Go, Closed, Fai
 use Rattle.port_core.specs.ListFunction.{ListFunction}
 
 -- how a chain stands whose last stage stands so
-abbrev pub step_of : End → ChainStep
-step_of unended = Go
-step_of ended = Closed
-step_of (failed c) = Failed c.why
+abbrev pub chain_step : End → ChainStep
+chain_step unended = Go
+chain_step ended = Closed
+chain_step (failed c) = Failed c.why
 
 -- it stands open
 abbrev pub is_unended : End → Bool
@@ -34,8 +34,8 @@ added_by g l unended = Ok []
 added_by g l ended = Ok (drop (length g) l)
 added_by g l (failed c) = Err c.why
 
-abbrev pub added : List Tree → Given Tree → Result (List Tree) Why
-added g x = added_by g x.list x.end
+abbrev pub given_with : List Tree → Given Tree → Result (List Tree) Why
+given_with g x = added_by g x.list x.end
 
 module _ (book : Book) where
   -- the machine of each stage
@@ -47,9 +47,9 @@ module _ (book : Book) where
   emptied x = record { gave = []; state = x.state }
 
   -- what the last stage gave once the first took this list, and where the stages stand then
-  abbrev pub outs : Chain → List Tree → List Tree
-  outs [] l = l
-  outs (s ∷ ss) l = outs ss (run each s l).gave
+  abbrev pub chain_outs : Chain → List Tree → List Tree
+  chain_outs [] l = l
+  chain_outs (s ∷ ss) l = chain_outs ss (run each s l).gave
 
   abbrev pub after : Chain → List Tree → Chain
   after [] l = []
@@ -59,6 +59,6 @@ module _ (book : Book) where
   abbrev pub list_function : Chain → ListFunction
   list_function xs = record {
     gives = λ l. (through book xs l unended).list;
-    stop = λ l. step_of (through book xs l unended).end;
-    adds = λ l. added (through book xs l unended).list (through book xs l ended);
+    stop = λ l. chain_step (through book xs l unended).end;
+    adds = λ l. given_with (through book xs l unended).list (through book xs l ended);
   }

@@ -2,7 +2,7 @@ ghost use Rattle.std.specs.Prelude.{IfOk, OnOk, IsTrue, List};
 ghost use Rattle.elem_core.specs.Tree.{Tree};
 ghost use Rattle.port_core.specs.ListFunction.{ListFunction, Same};
 ghost use Rattle.chain_core.specs.Means.{Running};
-ghost use Rattle.chain_core.specs.Slots.{Ended, MayCall, Holds, Fed, Begun};
+ghost use Rattle.chain_core.specs.Slots.{ChainEnded, MayCall, SlotHolds, Fed, Begun};
 
 use elem_core::elem::Elem;
 use elem_core::elems::Elems;
@@ -17,7 +17,7 @@ pub fn end_chain<C: Chain>(
     out: &mut Elems,
 ) -> Result<Option<Why>, NoMemory>
     requires { IsTrue (C.is_open chain) }
-    ensures { IfOk result (λ why. (f : ListFunction) (took : List Tree) → Running f took (C.rest chain) → Ended f took why out.old out.new) }
+    ensures { IfOk result (λ why. (f : ListFunction) (took : List Tree) → Running f took (C.rest chain) → ChainEnded f took why out.old out.new) }
 {
     match chain.end(alloc, out)? {
         ChainStep::Go => Ok(None),
@@ -34,7 +34,7 @@ pub fn feed_slot<C: Chain>(
     out: &mut Elems,
 ) -> Result<Option<Why>, NoMemory>
     requires { MayCall C.rest C.is_open slot.old }
-    ensures fed { IfOk result (λ why. (f : ListFunction) (took : List Tree) → Holds C.rest C.is_open f slot.old took → Fed C.rest C.is_open f took e why out.old out.new slot.new) }
+    ensures fed { IfOk result (λ why. (f : ListFunction) (took : List Tree) → SlotHolds C.rest C.is_open f slot.old took → Fed C.rest C.is_open f took e why out.old out.new slot.new) }
     ensures may { OnOk result (MayCall C.rest C.is_open slot.new) }
 {
     let step = match slot {

@@ -8,8 +8,8 @@ use Rattle.std.proofs.lemmas.Bool.{cases_Bool, and_parts, and_from, eqb-true}
 use Rattle.std.proofs.lemmas.Str.{IsUtf8-from_ascii}
 use Rattle.elem_core.specs.Number.{is_numeral}
 use Rattle.blue_words.specs.Names.{is_file_byte, is_file_name}
-use Rattle.command_words.specs.Parts.{Part, Setting, generate, workers, turns, trace, given, file, before, files_of, is_dashed, name_in, parts_from, parts_of, setting_of, value_in, values_of, with_value}
-use Rattle.command_words.specs.Asking.{Asked, asked_by, asked_of, input_of, number_or, number_within, only, trace_of, most_generated, most_turns, most_workers, usual_turns, usual_workers}
+use Rattle.command_words.specs.Parts.{Part, Setting, generate, workers, turns, trace, given, file, with_part, files_of, is_dashed, name_in, parts_from, parts_of, setting_of, value_in, values_of, with_value}
+use Rattle.command_words.specs.Asking.{Asked, asked_by, asked_of, asked_input, number_or, number_within, only, trace_of, most_generated, most_turns, most_workers, usual_turns, usual_workers}
 use Rattle.command_words.specs.Shape.{are_texts, is_text}
 
 abbrev is_low : ℕ → Bool
@@ -83,7 +83,7 @@ numbers_text usual most [] n e = refl
 numbers_text usual most (v ∷ []) n e = and_from _ _ (number_text most v n e) refl
 numbers_text usual most (v ∷ w ∷ vs) n e = absurd (true≢false (sym (ap (λ o. is_some o) e)))
 
-input_text : (fs ns : List (List ℕ)) (i : List ℕ × Option ℕ) → input_of (only fs) (only ns) ≡ Some i → (are_texts fs ≡ true) × (are_texts ns ≡ true)
+input_text : (fs ns : List (List ℕ)) (i : List ℕ × Option ℕ) → asked_input (only fs) (only ns) ≡ Some i → (are_texts fs ≡ true) × (are_texts ns ≡ true)
 input_text [] [] i e = absurd (true≢false (sym (ap (λ o. is_some o) e)))
 input_text [] (n ∷ []) i e = go (number_within most_generated n) refl e
   where
@@ -93,9 +93,9 @@ input_text [] (n ∷ []) i e = go (number_within most_generated n) refl e
 input_text [] (n ∷ m ∷ ns) i e = absurd (true≢false (sym (ap (λ o. is_some o) e)))
 input_text (f ∷ []) [] i e = go (cases_Bool (is_file_name f)) e
   where
-    go : (is_file_name f ≡ true) ⊎ (is_file_name f ≡ false) → input_of (only (f ∷ [])) (only []) ≡ Some i → (are_texts (f ∷ []) ≡ true) × (are_texts [] ≡ true)
+    go : (is_file_name f ≡ true) ⊎ (is_file_name f ≡ false) → asked_input (only (f ∷ [])) (only []) ≡ Some i → (are_texts (f ∷ []) ≡ true) × (are_texts [] ≡ true)
     go (inl is) h = (and_from _ _ (name_text f is) refl, refl)
-    go (inr is) h = let none : input_of (only (f ∷ [])) (only []) ≡ None = rw is refl in absurd (true≢false (sym (ap (λ o. is_some o) (sym none ∙ h))))
+    go (inr is) h = let none : asked_input (only (f ∷ [])) (only []) ≡ None = rw is refl in absurd (true≢false (sym (ap (λ o. is_some o) (sym none ∙ h))))
 input_text (f ∷ []) (n ∷ []) i e = absurd (true≢false (sym (ap (λ o. is_some o) e)))
 input_text (f ∷ []) (n ∷ m ∷ ns) i e = absurd (true≢false (sym (ap (λ o. is_some o) e)))
 input_text (f ∷ g ∷ fs) ns i e = absurd (true≢false (sym (ap (λ o. is_some o) e)))
@@ -125,7 +125,7 @@ mapped f (Some a) b e = (a, refl)
 
 asked_texts : (parts : List Part) (asked : Asked) → asked_by parts ≡ Some asked → are_texts (values parts) ≡ true
 asked_texts parts asked e =
-    let input = some_is _ (input_of (only (files_of parts)) (only (values_of generate parts))) asked e in
+    let input = some_is _ (asked_input (only (files_of parts)) (only (values_of generate parts))) asked e in
     let crew = some_is _ (number_or usual_workers most_workers (only (values_of workers parts))) asked input.1.1 in
     let budget = some_is _ (number_or usual_turns most_turns (only (values_of turns parts))) asked crew.1.1 in
     let path = mapped _ (trace_of input.0.0 (only (values_of trace parts))) asked budget.1.1 in
@@ -177,12 +177,12 @@ files_text (x ∷ xs) = ap (λ r. x ∷ r) (files_text xs)
 abbrev Sound : List (List ℕ) → Type 0
 Sound xs = (waits : Option Setting) (parts : List Part) → parts_from xs waits ≡ Some parts → are_texts (values parts) ≡ true → are_texts xs ≡ true
 
-part_before : (part : Part) (rest : Option (List Part)) (parts : List Part) → before part rest ≡ Some parts
+part_before : (part : Part) (rest : Option (List Part)) (parts : List Part) → with_part part rest ≡ Some parts
     → (more : List Part) × ((rest ≡ Some more) × (parts ≡ part ∷ more))
 part_before part None parts e = absurd (true≢false (sym (ap (λ o. is_some o) e)))
 part_before part (Some more) parts e = (more, (refl, sym (ap (λ o. Rattle.std.specs.Option.unwrap_or o []) e)))
 
-one_part : (x : List ℕ) (xs : List (List ℕ)) (part : Part) (parts : List Part) → value_of part ≡ x → Sound xs → before part (parts_from xs None) ≡ Some parts
+one_part : (x : List ℕ) (xs : List (List ℕ)) (part : Part) (parts : List Part) → value_of part ≡ x → Sound xs → with_part part (parts_from xs None) ≡ Some parts
     → are_texts (values parts) ≡ true → are_texts (x ∷ xs) ≡ true
 one_part x xs part parts is sound e texts =
     let cut = part_before part (parts_from xs None) parts e in
@@ -206,23 +206,23 @@ sound_words [] waits parts e texts = refl
 sound_words (x ∷ xs) (Some s) parts e texts = go (sound_words xs) (cases_Bool (is_dashed x))
   where
     go : Sound xs → (is_dashed x ≡ true) ⊎ (is_dashed x ≡ false) → are_texts (x ∷ xs) ≡ true
-    go sound (inl is) = absurd (true≢false (sym (ap (λ o. is_some o) (subst (λ b. cond b None (before (given s x) (parts_from xs None)) ≡ Some parts) is e))))
-    go sound (inr is) = one_part x xs (given s x) parts refl sound (subst (λ b. cond b None (before (given s x) (parts_from xs None)) ≡ Some parts) is e) texts
+    go sound (inl is) = absurd (true≢false (sym (ap (λ o. is_some o) (subst (λ b. cond b None (with_part (given s x) (parts_from xs None)) ≡ Some parts) is e))))
+    go sound (inr is) = one_part x xs (given s x) parts refl sound (subst (λ b. cond b None (with_part (given s x) (parts_from xs None)) ≡ Some parts) is e) texts
 sound_words (x ∷ xs) None parts e texts = go (sound_words xs) (cases_Bool (bytes_eq x (codes "--"))) (cases_Bool (is_dashed x))
   where
     go : Sound xs → (bytes_eq x (codes "--") ≡ true) ⊎ (bytes_eq x (codes "--") ≡ false) → (is_dashed x ≡ true) ⊎ (is_dashed x ≡ false) → are_texts (x ∷ xs) ≡ true
     go sound (inl a) d =
-        let all : Some (map file xs) ≡ Some parts = subst (λ b. cond b (Some (map file xs)) (cond (is_dashed x) (with_value (setting_of (name_in x)) (value_in x) (parts_from xs)) (before (file x) (parts_from xs None))) ≡ Some parts) a e in
+        let all : Some (map file xs) ≡ Some parts = subst (λ b. cond b (Some (map file xs)) (cond (is_dashed x) (with_value (setting_of (name_in x)) (value_in x) (parts_from xs)) (with_part (file x) (parts_from xs None))) ≡ Some parts) a e in
         let files : map file xs ≡ parts = ap (λ o. Rattle.std.specs.Option.unwrap_or o []) all in
         and_from _ _ (ap is_text ((bytes_decides x (codes "--")).0 a)) (subst (λ ws. are_texts ws ≡ true) (ap values (sym files) ∙ files_text xs) texts)
     go sound (inr a) (inl d) =
         option_part x xs parts sound (setting_of (name_in x)) refl (value_in x) refl
-        (subst (λ c. cond c (with_value (setting_of (name_in x)) (value_in x) (parts_from xs)) (before (file x) (parts_from xs None)) ≡ Some parts) d
-        (subst (λ b. cond b (Some (map file xs)) (cond (is_dashed x) (with_value (setting_of (name_in x)) (value_in x) (parts_from xs)) (before (file x) (parts_from xs None))) ≡ Some parts) a e)) texts
+        (subst (λ c. cond c (with_value (setting_of (name_in x)) (value_in x) (parts_from xs)) (with_part (file x) (parts_from xs None)) ≡ Some parts) d
+        (subst (λ b. cond b (Some (map file xs)) (cond (is_dashed x) (with_value (setting_of (name_in x)) (value_in x) (parts_from xs)) (with_part (file x) (parts_from xs None))) ≡ Some parts) a e)) texts
     go sound (inr a) (inr d) =
         one_part x xs (file x) parts refl sound
-        (subst (λ c. cond c (with_value (setting_of (name_in x)) (value_in x) (parts_from xs)) (before (file x) (parts_from xs None)) ≡ Some parts) d
-        (subst (λ b. cond b (Some (map file xs)) (cond (is_dashed x) (with_value (setting_of (name_in x)) (value_in x) (parts_from xs)) (before (file x) (parts_from xs None))) ≡ Some parts) a e)) texts
+        (subst (λ c. cond c (with_value (setting_of (name_in x)) (value_in x) (parts_from xs)) (with_part (file x) (parts_from xs None)) ≡ Some parts) d
+        (subst (λ b. cond b (Some (map file xs)) (cond (is_dashed x) (with_value (setting_of (name_in x)) (value_in x) (parts_from xs)) (with_part (file x) (parts_from xs None))) ≡ Some parts) a e)) texts
 
 -- words that are no texts ask for nothing
 pub no_command : (xs : List (List ℕ)) → are_texts xs ≡ false → asked_of xs ≡ None

@@ -3,7 +3,7 @@ use Rattle.std.proofs.Common.{◌≡◌, ◌∙◌, Bool, true, false, refl, ap,
 use Rattle.std.specs.Prelude.{option_map}
 use Rattle.std.proofs.lemmas.Bool.{and_parts}
 use Rattle.clap.specs.Walk.{Row, Text, Waiting, arg_by_long, nothing_held, option, positional, used, walk_from}
-use Rattle.command_words.specs.Parts.{Part, Setting, generate, workers, turns, trace, given, file, before, setting_of, name_in, value_in, with_value, parts_from, parts_of}
+use Rattle.command_words.specs.Parts.{Part, Setting, generate, workers, turns, trace, given, file, with_part, setting_of, name_in, value_in, with_value, parts_from, parts_of}
 use Rattle.command_words.specs.Shape.{is_text, are_texts}
 use Rattle.command_words.proofs.Cuts.{View, IsLongWord, view, plain, dashes, long, short}
 use Rattle.command_words.proofs.Steps.{Calm, after, at, cut_by_dashes, cut_by_option, file_id, files_rule, find_long, id_of, open_wait, outcome, rules, setting_rule, step_dashes, step_given, step_plain, step_short, step_trailing, step_unknown, step_value, step_waits}
@@ -16,7 +16,7 @@ add rows (file v) = used files_rule (v ∷ []) rows
 abbrev pub rows_with : List Row → Option (List Part) → Option (List Row)
 rows_with rows = option_map (fold add rows)
 
-with_before : (rows : List Row) (part : Part) (rest : Option (List Part)) → rows_with (add rows part) rest ≡ rows_with rows (before part rest)
+with_before : (rows : List Row) (part : Part) (rest : Option (List Part)) → rows_with (add rows part) rest ≡ rows_with rows (with_part part rest)
 with_before rows part None = refl
 with_before rows part (Some parts) = refl
 

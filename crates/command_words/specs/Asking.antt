@@ -51,10 +51,10 @@ number_or usual most (Some (Some word)) = number_within most word
 number_or usual most None = None
 
 -- the blueprint's file, with the number of lines to generate: one file and no number, or a number and no file
-abbrev pub input_of : Option (Option (List ℕ)) → Option (Option (List ℕ)) → Option (List ℕ × Option ℕ)
-input_of (Some (Some word)) (Some None) = if is_file_name word then Some (word, None) else None
-input_of (Some None) (Some (Some word)) = option_map (λ n. (codes "gen.blue", Some n)) (number_within most_generated word)
-input_of _ _ = None
+abbrev pub asked_input : Option (Option (List ℕ)) → Option (Option (List ℕ)) → Option (List ℕ × Option ℕ)
+asked_input (Some (Some word)) (Some None) = if is_file_name word then Some (word, None) else None
+asked_input (Some None) (Some (Some word)) = option_map (λ n. (codes "gen.blue", Some n)) (number_within most_generated word)
+asked_input _ _ = None
 
 -- the trace's file, which is another than the blueprint's
 abbrev pub trace_of : List ℕ → Option (Option (List ℕ)) → Option (Option (List ℕ))
@@ -72,7 +72,7 @@ asked_by parts =
     (trace_of input.0 (only (values_of trace parts))))
     (number_or usual_turns most_turns (only (values_of turns parts))))
     (number_or usual_workers most_workers (only (values_of workers parts))))
-    (input_of (only (files_of parts)) (only (values_of generate parts)))
+    (asked_input (only (files_of parts)) (only (values_of generate parts)))
 
 -- what the words ask for; None where they are no command
 abbrev pub asked_of : List (List ℕ) → Option Asked

@@ -37,22 +37,22 @@ setting_of name =
     else (if bytes_eq (codes "--trace") name then Some trace else None)))
 
 -- the part, and then those of the rest
-abbrev pub before : Part → Option (List Part) → Option (List Part)
-before part = option_map (λ parts. part ∷ parts)
+abbrev pub with_part : Part → Option (List Part) → Option (List Part)
+with_part part = option_map (λ parts. part ∷ parts)
 
 -- an option has its value behind `=`, or it is the next word
 abbrev pub with_value : Option Setting → Option (List ℕ) → (Option Setting → Option (List Part)) → Option (List Part)
 with_value None value rest = None
 with_value (Some s) None rest = rest (Some s)
-with_value (Some s) (Some v) rest = before (given s v) (rest None)
+with_value (Some s) (Some v) rest = with_part (given s v) (rest None)
 
 -- The parts from a word on, where the rest is told from the option on that waits for its value. That value does not begin with `-`.
 -- Behind a word `--` all words are files.
 abbrev pub word_from : Option Setting → List ℕ → List (List ℕ) → (Option Setting → Option (List Part)) → Option (List Part)
-word_from (Some s) word words rest = if is_dashed word then None else before (given s word) (rest None)
+word_from (Some s) word words rest = if is_dashed word then None else with_part (given s word) (rest None)
 word_from None word words rest =
     if bytes_eq word (codes "--") then Some (map file words)
-    else (if is_dashed word then with_value (setting_of (name_in word)) (value_in word) rest else before (file word) (rest None))
+    else (if is_dashed word then with_value (setting_of (name_in word)) (value_in word) rest else with_part (file word) (rest None))
 
 abbrev pub no_word : Option Setting → Option (List Part)
 no_word (Some s) = None

@@ -10,7 +10,7 @@ ghost use Rattle.command_words.specs.Parts.{Part, parts_of, files_of, values_of}
 ghost use Rattle.command_words.specs.Parts as part;
 
 use crate::limits::{
-    MOST_TURNS, MOST_WORKERS, USUAL_TURNS, USUAL_WORKERS, input_of, number_or, trace_of,
+    MOST_TURNS, MOST_WORKERS, USUAL_TURNS, USUAL_WORKERS, asked_input, number_or, trace_of,
 };
 use crate::parts::{Said, matches_of, parts_in, texts_of};
 use elem_core::line::Line;
@@ -75,7 +75,7 @@ fn choice_of<'a>(said: &Said<'a>) -> Option<Choice<'a>>
     ensures turns { IfSome result (λ choice. (1 ≤ choice.turns) × (choice.turns ≤ MOST_COUNT)) }
     ensures generated { IfSome result (λ choice. IfSome choice.generated (λ n. (1 ≤ n) × (n ≤ 10000000))) }
 {
-    let (file, generated) = input_of(said.file, said.generate)?;
+    let (file, generated) = asked_input(said.file, said.generate)?;
     let workers = number_or(USUAL_WORKERS, MOST_WORKERS, said.workers)?;
     let turns = number_or(USUAL_TURNS, MOST_TURNS, said.turns)?;
     let trace = trace_of(file, said.trace)?;

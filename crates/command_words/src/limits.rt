@@ -1,7 +1,7 @@
 // The values of options, with their limits.
 ghost use Rattle.std.specs.Prelude.{◌≡◌, ◌≤◌, IsTrue, IfSome, option_map};
 ghost use Rattle.blue_words.specs.Names.{is_file_name};
-ghost use Rattle.command_words.specs.Asking.{number_within, number_or, input_of, trace_of};
+ghost use Rattle.command_words.specs.Asking.{number_within, number_or, asked_input, trace_of};
 ghost use Rattle.command_words.specs.Shape.{text_in};
 
 use blue_words::names::is_file_name;
@@ -58,11 +58,11 @@ pub(crate) fn number_or(usual: u32, most: u32, value: Option<Option<&str>>) -> O
 }
 
 /// The blueprint's file, with the number of lines to generate: one file and no number, or a number and no file.
-pub(crate) fn input_of<'a>(
+pub(crate) fn asked_input<'a>(
     file: Option<Option<&'a str>>,
     number: Option<Option<&str>>,
 ) -> Option<(&'a str, Option<u32>)>
-    ensures input { option_map (λ input. (input.0.now, input.1)) result ≡ input_of (text_in file.entry) (text_in number.entry) }
+    ensures input { option_map (λ input. (input.0.now, input.1)) result ≡ asked_input (text_in file.entry) (text_in number.entry) }
     ensures file { IfSome result (λ input. IsTrue (is_file_name input.0.now)) }
     ensures limits { IfSome result (λ input. IfSome input.1 (λ n. (1 ≤ n) × (n ≤ 10000000))) }
 {

@@ -3,7 +3,7 @@ use Rattle.std.proofs.Common.{rules, ◌≡◌, ℕ, zero, suc, ◌+◌, ◌⊎�
 use Rattle.std.specs.List.{All}
 use Rattle.std.proofs.lemmas.List.Elements.{All-head, All-tail}
 use Rattle.std.proofs.lemmas.Option.{slice_get_within}
-use Rattle.turn_table.specs.Table.{Fits}
+use Rattle.turn_table.specs.Table.{OriginFits}
 use Rattle.turn_table.proofs.Closing.{some_same}
 use Rattle.rounds.specs.Bodies.{AllOf, EachOf}
 
@@ -72,7 +72,7 @@ each_snoc R xs ys x y e r = record {
 }
 
 -- what a value with the origin of its place keeps
-pub fits_keep : {T : Type 0} (B : T → Type 0) (vs : List T) (k : ℕ) (x : T) → Fits (λ y. y) vs k x → All B vs → B x
+pub fits_keep : {T : Type 0} (B : T → Type 0) (vs : List T) (k : ℕ) (x : T) → OriginFits (λ y. y) vs k x → All B vs → B x
 fits_keep B [] k x fits all = absurd (search rules)
 fits_keep B (v ∷ vs) zero x fits all = subst B (some_same v x fits) (All-head B v vs all)
 fits_keep B (v ∷ vs) (suc k) x fits all = fits_keep B vs k x fits (All-tail B v vs all)

@@ -6,17 +6,17 @@ use Rattle.rounds.specs.Crossings.{AreCrossings}
 use Rattle.rounds.proofs.Each.{same_or, at_count}
 use Rattle.rounds.proofs.Lanes.{crossings_each}
 use Rattle.dispatcher.specs.Broken.{WholeOrBroken}
-use Rattle.dispatcher.specs.Places.{WentOn, WentOrBroke, Stands}
+use Rattle.dispatcher.specs.Places.{BodyWentOn, WentOrBroke, PlaceStands}
 
 module _ {B : Type 0} (keeps : B → Type 0) (goes breaks : B → B → Type 0) where
-  pub stands_either : (spent : B → ℕ) (start body : B) (used : ℕ) (broken : Bool) → Stands keeps goes breaks spent start body used broken → WentOrBroke keeps goes breaks start body
+  pub stands_either : (spent : B → ℕ) (start body : B) (used : ℕ) (broken : Bool) → PlaceStands keeps goes breaks spent start body used broken → WentOrBroke keeps goes breaks start body
   stands_either spent start body used false s = inl (s.0 refl).0
   stands_either spent start body used true s = inr (s.1 refl)
 
-  pub went_goes : (xs ys : List B) → EachOf (WentOn keeps goes) xs ys → EachOf goes xs ys
+  pub went_goes : (xs ys : List B) → EachOf (BodyWentOn keeps goes) xs ys → EachOf goes xs ys
   went_goes xs ys e = record { count = e.count; each = λ k a b ea eb. (e.each k a b ea eb).0 }
 
-  pub went_keeps : (xs ys : List B) → EachOf (WentOn keeps goes) xs ys → AllOf keeps ys
+  pub went_keeps : (xs ys : List B) → EachOf (BodyWentOn keeps goes) xs ys → AllOf keeps ys
   went_keeps xs ys e = λ k b eb. let a = at_count ys xs k b (sym e.count) eb in (e.each k a.0 b a.1 eb).1
 
   -- all met afterwards

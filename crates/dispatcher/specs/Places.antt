@@ -3,36 +3,36 @@ use Rattle.std.specs.Prelude.{◌≡◌, ◌⊎◌, ℕ, Bool, true, false}
 use Rattle.std.specs.declared.snapshot.Snapshot.{Snapshot}
 use Rattle.atomic_table.specs.Seated.{TableId}
 use Rattle.unit_budget.specs.declared.budget.BudgetSeat.{BudgetSeat}
-use Rattle.unit_budget.specs.Public.{used_by, parts_of, IsIdle}
+use Rattle.unit_budget.specs.Public.{used_by, budget_parts, HasNoClaim}
 use Rattle.dispatcher.specs.declared.origin.PlaceOrigin.{PlaceOrigin}
 
 -- the seat has one part and no claim, and so many units were used with it
 abbrev pub Paid : ℕ → BudgetSeat → Type 0
-Paid used seat = IsIdle seat × (parts_of seat ≡ 1) × (used_by seat ≡ used)
+Paid used seat = HasNoClaim seat × (budget_parts seat ≡ 1) × (used_by seat ≡ used)
 
 -- a body went on and is whole
-abbrev pub WentOn : {B : Type 0} → (B → Type 0) → (B → B → Type 0) → B → B → Type 0
-WentOn keeps goes a b = (goes a b) × (keeps b)
+abbrev pub BodyWentOn : {B : Type 0} → (B → Type 0) → (B → B → Type 0) → B → B → Type 0
+BodyWentOn keeps goes a b = (goes a b) × (keeps b)
 
 -- or it broke off
 abbrev pub WentOrBroke : {B : Type 0} → (B → Type 0) → (B → B → Type 0) → (B → B → Type 0) → B → B → Type 0
-WentOrBroke keeps goes breaks a b = WentOn keeps goes a b ⊎ breaks a b
+WentOrBroke keeps goes breaks a b = BodyWentOn keeps goes a b ⊎ breaks a b
 
 -- outside a turn a body that is not broken went on, and its units are these; or it broke off
-abbrev pub Stands : {B : Type 0} → (B → Type 0) → (B → B → Type 0) → (B → B → Type 0) → (B → ℕ) → B → B → ℕ → Bool → Type 0
-Stands keeps goes breaks spent start body used broken = (broken ≡ false → WentOn keeps goes start body × (spent body ≡ used)) × (broken ≡ true → breaks start body)
+abbrev pub PlaceStands : {B : Type 0} → (B → Type 0) → (B → B → Type 0) → (B → B → Type 0) → (B → ℕ) → B → B → ℕ → Bool → Type 0
+PlaceStands keeps goes breaks spent start body used broken = (broken ≡ false → BodyWentOn keeps goes start body × (spent body ≡ used)) × (broken ≡ true → breaks start body)
 
 -- what holds of a place: its seat is paid, and its body stands
-pub record Holds {B : Type 0} (keeps : B → Type 0) (goes breaks : B → B → Type 0) (spent : B → ℕ) (start body : B) (seat : BudgetSeat) (used : ℕ) (broken : Bool) : Type 0 where
+pub record PlaceHolds {B : Type 0} (keeps : B → Type 0) (goes breaks : B → B → Type 0) (spent : B → ℕ) (start body : B) (seat : BudgetSeat) (used : ℕ) (broken : Bool) : Type 0 where
   pub paid : Paid used seat
-  pub stands : Stands keeps goes breaks spent start body used broken
+  pub stands : PlaceStands keeps goes breaks spent start body used broken
 
 abbrev pub place_origin : {B : Type 0} → Snapshot B → TableId → ℕ → PlaceOrigin B
 place_origin start table limit = record { start = start; table = table; limit = limit }
 
 -- the body as it was handed in
-abbrev pub start_of : {B : Type 0} → PlaceOrigin B → B
-start_of o = o.start.value
+abbrev pub body_start : {B : Type 0} → PlaceOrigin B → B
+body_start o = o.start.value
 
 -- a place of this budget
 abbrev pub Belongs : {B : Type 0} → TableId → ℕ → PlaceOrigin B → Type 0

@@ -3,7 +3,7 @@ ghost use Rattle.std.specs.Prelude.{◌≡◌, ◌<◌, ◌≤◌, length, IfOk,
 ghost use Rattle.std.specs.List.{All};
 ghost use Rattle.elem_core.specs.declared.count.TheConstants.{MOST_COUNT};
 ghost use Rattle.unit_budget.specs.Public.{budget_id};
-ghost use Rattle.turn_table.specs.Public.{IsSeatOf, IsFree, turns_of, handed_in};
+ghost use Rattle.turn_table.specs.Public.{IsSeatOf, IsFree, held_turns, handed_in};
 ghost use Rattle.dispatcher.specs.Crew.{IsCrew};
 
 use crate::place::{Came, TablePlace};
@@ -62,7 +62,7 @@ fn wake_one<B: Waking, R: Wait>(
 )
     requires inside { id < length (handed_in turns.now) }
     requires seat { IsSeatOf turns.now seat.old }
-    ensures { IsSeatOf turns.now seat.new × (turns_of seat.new ≡ turns_of seat.old) }
+    ensures { IsSeatOf turns.now seat.new × (held_turns seat.new ≡ held_turns seat.old) }
 {
     if turns.wake(seat, id) {
         put(rt, list, id);
@@ -79,7 +79,7 @@ fn wake_peers<B: Waking, R: Wait>(
 )
     requires count { length (handed_in turns.now) ≡ list.now.count }
     requires seat { IsSeatOf turns.now seat.old }
-    ensures { IsSeatOf turns.now seat.new × (turns_of seat.new ≡ turns_of seat.old) }
+    ensures { IsSeatOf turns.now seat.new × (held_turns seat.new ≡ held_turns seat.old) }
 {
     for i in 0..peers.len() {
         let peer = peers[i];

@@ -2,7 +2,7 @@
 ghost use Rattle.std.specs.Prelude.{◌≡◌, ◌≤◌, false};
 ghost use Rattle.elem_core.specs.declared.count.TheConstants.{MOST_COUNT};
 ghost use Rattle.unit_budget.specs.Public.{budget_id, seat_id, limit_of};
-ghost use Rattle.dispatcher.specs.Places.{Paid, Stands, Belongs};
+ghost use Rattle.dispatcher.specs.Places.{Paid, PlaceStands, Belongs};
 
 use crate::origin::PlaceOrigin;
 use crate::waking::Waking;
@@ -27,14 +27,14 @@ pub struct TablePlace<B: Turning> {
 impl<B: Turning> Model for TablePlace<B> {
     ghost use Rattle.std.specs.Coded.{codes};
     ghost use Rattle.unit_budget.specs.Public.{seat_id, limit_of};
-    ghost use Rattle.dispatcher.specs.Places.{Holds, place_origin};
+    ghost use Rattle.dispatcher.specs.Places.{PlaceHolds, place_origin};
     ghost use Rattle.dispatcher.specs.declared.origin.PlaceOrigin.{PlaceOrigin};
 
     ghost Value = { PlaceOrigin B };
 
     ghost view = { λ p. place_origin p.start (seat_id p.seat) (limit_of p.seat) };
 
-    ghost invariant = { λ p. Holds B.keeps B.goes B.breaks B.spent p.start.value p.body p.seat p.used p.broken };
+    ghost invariant = { λ p. PlaceHolds B.keeps B.goes B.breaks B.spent p.start.value p.body p.seat p.used p.broken };
 }
 
 impl<B: Turning> Kept for TablePlace<B> {
@@ -123,7 +123,7 @@ impl<B: Turning> TablePlace<B> {
     /// The body and its seat.
     pub fn into_parts(self) -> TableParts<B>
         ensures seat { (seat_id result.seat ≡ self.table) × (limit_of result.seat ≡ self.limit) × Paid result.used result.seat }
-        ensures stands { Stands B.keeps B.goes B.breaks B.spent self.start.value result.body result.used result.broken }
+        ensures stands { PlaceStands B.keeps B.goes B.breaks B.spent self.start.value result.body result.used result.broken }
     {
         let TablePlace {
             body,

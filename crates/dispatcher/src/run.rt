@@ -2,12 +2,12 @@
 ghost use Rattle.std.specs.Prelude.{◌≡◌, ◌+◌, ◌<◌, ◌≤◌, [], ℕ, true, false, map, length, vec_len, vec_capacity, IfOk, IfErr};
 ghost use Rattle.std.specs.List.{All, sum_by};
 ghost use Rattle.elem_core.specs.declared.count.TheConstants.{MOST_COUNT};
-ghost use Rattle.turn_table.specs.Public.{IsFree, handed_in, seats_of};
-ghost use Rattle.unit_budget.specs.Public.{budget_id, seat_id, used_by, parts_of, limit_of, IsIdle};
+ghost use Rattle.turn_table.specs.Public.{IsFree, handed_in, seat_count};
+ghost use Rattle.unit_budget.specs.Public.{budget_id, seat_id, used_by, budget_parts, limit_of, HasNoClaim};
 ghost use Rattle.rounds.specs.Bodies.{AllOf, EachOf};
 ghost use Rattle.rounds.specs.Crossings.{AreCrossings, AllJoined, AtRest, FirstEvent};
 ghost use Rattle.dispatcher.specs.Broken.{WholeOrBroken};
-ghost use Rattle.dispatcher.specs.Places.{WentOn, WentOrBroke};
+ghost use Rattle.dispatcher.specs.Places.{BodyWentOn, WentOrBroke};
 ghost use Rattle.dispatcher.specs.Crew.{IsCrew};
 
 use crate::crew::{ReadyList, wake_each, work_all};
@@ -39,7 +39,7 @@ impl<B: Waking> RunRoom<B> {
     fn of(alloc: Global, count: u32, budget: u32) -> Result<RunRoom<B>, NoMemory>
         requires some { 0 < count }
         requires few { count < 4294967295 }
-        ensures seat { IfOk result (λ r. (seat_id r.first ≡ budget_id r.purse) × IsIdle r.first × (parts_of r.first ≡ count + 1) × (used_by r.first ≡ 0) × (limit_of r.first ≡ budget)) }
+        ensures seat { IfOk result (λ r. (seat_id r.first ≡ budget_id r.purse) × HasNoClaim r.first × (budget_parts r.first ≡ count + 1) × (used_by r.first ≡ 0) × (limit_of r.first ≡ budget)) }
         ensures limit { IfOk result (λ r. (r.purse.limit ≡ budget) × (r.list.count ≡ count)) }
         ensures places { IfOk result (λ r. (r.places.items ≡ []) × (count ≤ vec_capacity r.places)) }
         ensures back { IfOk result (λ r. (r.back.items ≡ []) × (count ≤ vec_capacity r.back)) }
@@ -70,7 +70,7 @@ fn take_turns<B: Waking + Send, R: Threads + Wait + Sync>(
     requires crew { IsCrew turns (budget_id purse.now) purse.now.limit list.now.count }
     requires few { purse.now.limit ≤ MOST_COUNT }
     requires some { (0 < list.now.count) × (1 < vec_len seats) }
-    requires seats { (vec_len seats ≡ seats_of turns) × All (IsFree turns) seats.items }
+    requires seats { (vec_len seats ≡ seat_count turns) × All (IsFree turns) seats.items }
     requires back { (back.items ≡ []) × (list.now.count ≤ vec_capacity back) }
     ensures { result.items ≡ handed_in turns }
 {
@@ -99,7 +99,7 @@ fn run_workers<B: Waking + Send, R: Threads + Wait + Sync>(
     requires unspent { AllOf (λ b. B.spent b ≡ 0) bodies.items }
     ensures few { result.lack ≡ false → vec_len bodies < 4294967295 }
     ensures each { EachOf (WentOrBroke B.keeps B.goes B.breaks) bodies.items result.bodies.items }
-    ensures whole { result.lack ≡ false → EachOf (WentOn B.keeps B.goes) bodies.items result.bodies.items }
+    ensures whole { result.lack ≡ false → EachOf (BodyWentOn B.keeps B.goes) bodies.items result.bodies.items }
     ensures spent { result.lack ≡ false → result.used ≡ sum_by B.spent result.bodies.items }
     ensures within { result.used ≤ budget }
 {

@@ -2,9 +2,9 @@
 ghost use Rattle.std.specs.Prelude.{◌≡◌, ◌+◌, ◌≤◌, [], ℕ, false, map, vec_len, vec_capacity, IfOk};
 ghost use Rattle.std.specs.List.{All, sum_by};
 ghost use Rattle.elem_core.specs.declared.count.TheConstants.{MOST_COUNT};
-ghost use Rattle.unit_budget.specs.Public.{budget_id, seat_id, used_by, parts_of, limit_of, IsIdle};
+ghost use Rattle.unit_budget.specs.Public.{budget_id, seat_id, used_by, budget_parts, limit_of, HasNoClaim};
 ghost use Rattle.rounds.specs.Bodies.{AllOf, EachOf};
-ghost use Rattle.dispatcher.specs.Places.{Paid, Belongs, WentOn, WentOrBroke, start_of};
+ghost use Rattle.dispatcher.specs.Places.{Paid, Belongs, BodyWentOn, WentOrBroke, body_start};
 
 use crate::place::{TableParts, TablePlace};
 use rounds::turning::Turning;
@@ -34,7 +34,7 @@ pub fn untaken<B: Turning>(bodies: Vec<B>, lack: bool) -> TurnsTaken<B>
     ensures lack { result.lack ≡ lack }
     ensures used { result.used ≡ 0 }
     ensures spent { result.used ≡ sum_by B.spent result.bodies.items }
-    ensures each { EachOf (WentOn B.keeps B.goes) bodies.items result.bodies.items }
+    ensures each { EachOf (BodyWentOn B.keeps B.goes) bodies.items result.bodies.items }
 {
     TurnsTaken {
         bodies,
@@ -50,12 +50,12 @@ pub fn place_all<B: Turning>(
     bodies: Vec<B>,
     mut places: Vec<TablePlace<B>>,
 ) -> Vec<TablePlace<B>>
-    requires seat { (seat_id first.old ≡ budget_id purse.now) × IsIdle first.old × (parts_of first.old ≡ vec_len bodies + 1) × (used_by first.old ≡ 0) × (limit_of first.old ≡ purse.now.limit) }
+    requires seat { (seat_id first.old ≡ budget_id purse.now) × HasNoClaim first.old × (budget_parts first.old ≡ vec_len bodies + 1) × (used_by first.old ≡ 0) × (limit_of first.old ≡ purse.now.limit) }
     requires room { (places.items ≡ []) × (vec_len bodies ≤ vec_capacity places) }
     requires keeps { AllOf B.keeps bodies.items }
     requires unspent { AllOf (λ b. B.spent b ≡ 0) bodies.items }
-    ensures seat { (seat_id first.new ≡ budget_id purse.now) × IsIdle first.new × (parts_of first.new ≡ 1) × (used_by first.new ≡ 0) × (limit_of first.new ≡ purse.now.limit) }
-    ensures starts { map start_of result.items ≡ bodies.items }
+    ensures seat { (seat_id first.new ≡ budget_id purse.now) × HasNoClaim first.new × (budget_parts first.new ≡ 1) × (used_by first.new ≡ 0) × (limit_of first.new ≡ purse.now.limit) }
+    ensures starts { map body_start result.items ≡ bodies.items }
     ensures belong { All (Belongs (budget_id purse.now) purse.now.limit) result.items }
     ensures len { vec_len result ≡ vec_len bodies }
 {
@@ -74,12 +74,12 @@ pub fn take_apart<B: Turning>(
     room: Vec<B>,
     refused: bool,
 ) -> TurnsTaken<B>
-    requires seat { (seat_id first ≡ budget_id purse.now) × IsIdle first × (parts_of first ≡ 1) × (used_by first ≡ 0) × (limit_of first ≡ purse.now.limit) }
+    requires seat { (seat_id first ≡ budget_id purse.now) × HasNoClaim first × (budget_parts first ≡ 1) × (used_by first ≡ 0) × (limit_of first ≡ purse.now.limit) }
     requires limit { purse.now.limit ≤ MOST_COUNT }
     requires belong { All (Belongs (budget_id purse.now) purse.now.limit) places.items }
     requires room { (room.items ≡ []) × (vec_len places ≤ vec_capacity room) }
-    ensures each { EachOf (WentOrBroke B.keeps B.goes B.breaks) (map start_of places.items) result.bodies.items }
-    ensures whole { result.lack ≡ false → EachOf (WentOn B.keeps B.goes) (map start_of places.items) result.bodies.items }
+    ensures each { EachOf (WentOrBroke B.keeps B.goes B.breaks) (map body_start places.items) result.bodies.items }
+    ensures whole { result.lack ≡ false → EachOf (BodyWentOn B.keeps B.goes) (map body_start places.items) result.bodies.items }
     ensures spent { result.lack ≡ false → result.used ≡ sum_by B.spent result.bodies.items }
     ensures within { result.used ≤ purse.now.limit }
 {

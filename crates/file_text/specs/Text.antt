@@ -2,7 +2,7 @@
 use Rattle.std.specs.Prelude.{◌≡◌, ◌≢◌, ℕ, ◌⊎◌, IsTrue, List, take, Some}
 use Rattle.std.specs.Option.{option_map}
 use Rattle.stream_io.specs.Counts.{Rose}
-use Rattle.stream_io.specs.State.{FolderState, SameFiles, Lacks}
+use Rattle.stream_io.specs.State.{FolderState, SameFiles, LacksFile}
 use Rattle.run_files.specs.Quiet.{Quiet, QuietBut}
 
 -- how many bytes of a blueprint's file are read
@@ -33,7 +33,7 @@ pub record FailsToRead (old new : FolderState) (name : List ℕ) : Type 0 where
 -- that name's file is not there, or its opening was refused; nothing else came of it
 pub record StaysMissing (old new : FolderState) (name : List ℕ) : Type 0 where
   pub files : SameFiles old new
-  pub why : Lacks old name ⊎ Rose (old.refusals name) (new.refusals name)
+  pub why : LacksFile old name ⊎ Rose (old.refusals name) (new.refusals name)
   pub refusals : QuietBut name old.refusals new.refusals
   pub rfaults : Quiet old.rfaults new.rfaults
   pub wfaults : Quiet old.wfaults new.wfaults

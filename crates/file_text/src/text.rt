@@ -1,7 +1,7 @@
 // The text of a blueprint's file.
 ghost use Rattle.std.specs.Prelude.{◌≡◌, ◌+◌, ◌<◌, ◌≤◌, ◌++◌, ◌⊎◌, length, take, drop, vec_len, IfOk, OnOk, OnErr, IfSome};
 ghost use Rattle.stream_io.specs.Counts.{Rose, GrewAtMost};
-ghost use Rattle.stream_io.specs.State.{Lacks, SameFiles, HandsOut};
+ghost use Rattle.stream_io.specs.State.{LacksFile, SameFiles, StartsWithPiece};
 ghost use Rattle.run_files.specs.Quiet.{Quiet, QuietBut};
 ghost use Rattle.file_text.specs.Text.{text_limit, text_of_file, ReadsFile, FailsToRead, StaysMissing, StaysQuiet};
 

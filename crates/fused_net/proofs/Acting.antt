@@ -5,7 +5,7 @@ use Rattle.std.proofs.lemmas.List.{length-set, reverse-append, reverse-reverse, 
 use Rattle.std.proofs.lemmas.Option.{slice_get_within}
 use Rattle.elem_core.specs.declared.item.Item.{Item}
 use Rattle.elem_core.specs.declared.count.TheConstants.{MOST_COUNT}
-use Rattle.port_core.specs.Joint.{IsSound, Kept}
+use Rattle.port_core.specs.Joint.{IsSound, LeavesSound}
 use Rattle.port_core.specs.Wire.{JointPorts}
 use Rattle.port_core.specs.View.{View, IsInOpen, IsOutOpen, ActAllowed}
 use Rattle.port_core.specs.View as view
@@ -55,7 +55,7 @@ has_port (FailOut j c) p w h = slice_get_within p.outs j w h
 has_port (Cancel i) p w h = slice_get_within p.ins i w h
 
 -- a move at a wire
-pub move_kept : (a : Act) (c : WireState) (q : Bool) → IsSound c.wire q → Fits a c.wire → Kept (moved_by a c).wire q (queues_by a c.wire.conn)
+pub move_kept : (a : Act) (c : WireState) (q : Bool) → IsSound c.wire q → Fits a c.wire → LeavesSound (moved_by a c).wire q (queues_by a c.wire.conn)
 move_kept (Pull i) c q h e = pull_kept c.wire q h e
 move_kept (Push j x) c q h e = push_kept x c.wire q h e
 move_kept (Complete j) c q h e = close_kept None c.wire q h e

@@ -22,8 +22,8 @@ use Rattle.wire_core.proofs.Marking.{pull_grown, push_grown, close_grown, cancel
 use Rattle.stage_core.specs.Handling.{Pulls}
 use Rattle.fused_net.specs.PortLists.{PortLists}
 use Rattle.wire_core.specs.Reading.{no_wire}
-use Rattle.fused_net.specs.Net.{Net, end_at, port_at, wire_at, ports_at, view_of, wire_for, target, put, acted, acted_all, told_by, told, with_node, before}
-use Rattle.fused_net.specs.Laws.{AnyRow, AnyLaw, Wired, GoesOn, NodeStays, IsAsking, MovesGrow, IsMinded, LastAsk, AllAsked, Busy}
+use Rattle.fused_net.specs.Net.{Net, end_at, port_at, wire_at, ports_at, view_of, wire_for, target, put, acted, acted_all, told_by, delivered_on, with_node, before}
+use Rattle.fused_net.specs.Laws.{AnyRow, AnyLaw, Wired, NetGoesOn, NodeStays, IsAsking, MovesGrow, IsMinded, LastAsk, AllAsked, Busy}
 use Rattle.fused_net.proofs.Reading.{same_or_not, some_same, get_there, get_within, get_set_same, get_set_other}
 use Rattle.fused_net.proofs.Ongoing.{goes_same, goes_trans, goes_put, goes_node}
 use Rattle.fused_net.proofs.Acting.{Fits, PortAt, fits, act_allowed, port_within, queued, acted_busy, acts_busy, acts_here}
@@ -147,7 +147,7 @@ module _ {N : Type 0} where
   ]
 
   -- what stays over two stretches stays over both
-  stays_trans : (a b c : Net N) (w : ℕ) → GoesOn a b → IsPrefix (wire_at a w).wire.got (wire_at b w).wire.got → IsPrefix (wire_at b w).wire.got (wire_at c w).wire.got → NodeStays a b w → NodeStays b c w → NodeStays a c w
+  stays_trans : (a b c : Net N) (w : ℕ) → NetGoesOn a b → IsPrefix (wire_at a w).wire.got (wire_at b w).wire.got → IsPrefix (wire_at b w).wire.got (wire_at c w).wire.got → NodeStays a b w → NodeStays b c w → NodeStays a c w
   stays_trans a b c w on p q f g k ins outs same =
       let count : length (wire_at c w).wire.got ≡ length (wire_at a w).wire.got = ap (λ (l : List Item). length l) same in
       let then : (wire_at a w).wire.got ≡ (wire_at b w).wire.got = prefix_whole p (omega (arith, count, prefix_length q)) in
@@ -156,13 +156,13 @@ module _ {N : Type 0} where
 
   -- ---- an event
 
-  pub goes_told : (net : Net N) (w : ℕ) (d : Delivery) → GoesOn (before net w) (told net w d)
+  pub goes_told : (net : Net N) (w : ℕ) (d : Delivery) → NetGoesOn (before net w) (delivered_on net w d)
   goes_told net w d = record { firsts = refl; ends = refl; ports = refl; nodes = refl; wires = length-set _ _ _ }
 
-  pub told_grown : (net : Net N) (w : ℕ) (d : Delivery) → w < length net.wires → (u : ℕ) → Grown (wire_at net u) (wire_at (told net w d) u)
+  pub told_grown : (net : Net N) (w : ℕ) (d : Delivery) → w < length net.wires → (u : ℕ) → Grown (wire_at net u) (wire_at (delivered_on net w d) u)
   told_grown net w d h = grown_put net w (told_by d (wire_at net w)) (again d) h (deliver_grown d (wire_at net w).wire (wire_at net w).asked)
 
-  pub told_wanted : (net : Net N) (w : ℕ) (d : Delivery) → w < length net.wires → (u : ℕ) → wanted (wire_at (told net w d) u) ≡ wanted (wire_at net u)
+  pub told_wanted : (net : Net N) (w : ℕ) (d : Delivery) → w < length net.wires → (u : ℕ) → wanted (wire_at (delivered_on net w d) u) ≡ wanted (wire_at net u)
   told_wanted net w d h u = elim (same_or_not u w) [
     | inl e ↦ rw e (ap (λ (c : WireState). wanted c) (get_or-set_same net.wires w (told_by d (wire_at net w)) no_wire h) ∙ deliver_wanted d (wire_at net w).wire (wire_at net w).asked)
     | inr ne ↦ ap (λ (c : WireState). wanted c) (get_or-set_other net.wires w u (told_by d (wire_at net w)) no_wire ne)
@@ -170,14 +170,14 @@ module _ {N : Type 0} where
 
   -- an item that was brought is in the history of the input
   came_there : (d : Delivery) (net : Net N) (w u k : ℕ) → d ≢ nothing → Wired net.ends net.ports (length net.nodes) (length net.wires) → w < length net.wires → k ≡ target d (end_at net.ends w)
-      → (ports_at net k).ins ≡ u ∷ [] → (ports_at net k).outs ≡ [] → (wire_at (told net w d) u).wire.got ≡ (wire_at net u).wire.got → ⊥
+      → (ports_at net k).ins ≡ u ∷ [] → (ports_at net k).outs ≡ [] → (wire_at (delivered_on net w d) u).wire.got ≡ (wire_at net u).wire.got → ⊥
   came_there nothing net w u k ne wired h to ins outs same = ne refl
   came_there pull net w u k ne wired h to ins outs same = no_place (end_at net.ends w).output w (rw (← to, outs) at (wired.from_output w h))
   came_there cancel net w u k ne wired h to ins outs same = no_place (end_at net.ends w).output w (rw (← to, outs) at (wired.from_output w h))
   came_there (arrived x more) net w u k ne wired h to ins outs same =
       let here : u ≡ w = only_place u (end_at net.ends w).input w (rw (← to, ins) at (wired.to_input w h)) in
-      let now : (wire_at (told net w (arrived x more)) w).wire.got ≡ (wire_at net w).wire.got = rw here at same in
-      let told_here : wire_at (told net w (arrived x more)) w ≡ told_by (arrived x more) (wire_at net w) = get_or-set_same net.wires w (told_by (arrived x more) (wire_at net w)) no_wire h in
+      let now : (wire_at (delivered_on net w (arrived x more)) w).wire.got ≡ (wire_at net w).wire.got = rw here at same in
+      let told_here : wire_at (delivered_on net w (arrived x more)) w ≡ told_by (arrived x more) (wire_at net w) = get_or-set_same net.wires w (told_by (arrived x more) (wire_at net w)) no_wire h in
       let longer : length (told_by (arrived x more) (wire_at net w)).wire.got ≡ length (wire_at net w).wire.got = ap (λ (l : List Item). length l) (rw told_here at now) in
       let more_got = brought_longer x more (wire_at net w).wire in
       omega (arith, longer, more_got)
@@ -186,7 +186,7 @@ module _ {N : Type 0} where
   pub moves_same : (moves : N → List ℕ) (a b : Net N) → b.nodes ≡ a.nodes → MovesGrow moves a b
   moves_same moves a b same k x y xk yk = let at : x ≡ y = some_same x y (sym xk ∙ (ap (λ (l : List N). slice_get l k) (sym same) ∙ yk)) in rw at (prefix_refl (moves y))
 
-  pub moves_trans : (moves : N → List ℕ) (a b c : Net N) → GoesOn a b → MovesGrow moves a b → MovesGrow moves b c → MovesGrow moves a c
+  pub moves_trans : (moves : N → List ℕ) (a b c : Net N) → NetGoesOn a b → MovesGrow moves a b → MovesGrow moves b c → MovesGrow moves a c
   moves_trans moves a b c on f g k x z xk zk =
       let within : k < length b.nodes = let n = on.nodes in let h = get_within a.nodes k x xk in omega (arith, n, h) in
       let y = get_there b.nodes k within in
@@ -222,7 +222,7 @@ module _ {N : Type 0} where
 
 module _ {N : Type 0} (row : N → View → Type 0) (law : N → N → View → List (List Item) → List (List Item) → Type 0) (asking : N → View → Type 0) (moves : N → List ℕ) where
   -- the last ask stays the last one where the graph goes on and the wire is not pulled again
-  pub later : (net new : Net N) (w : ℕ) → w < length net.wires → GoesOn net new → ((u : ℕ) → Grown (wire_at net u) (wire_at new u)) → MovesGrow moves net new → NodeStays net new w → wanted (wire_at new w) ≡ wanted (wire_at net w) → LastAsk row law asking moves net w → LastAsk row law asking moves new w
+  pub later : (net new : Net N) (w : ℕ) → w < length net.wires → NetGoesOn net new → ((u : ℕ) → Grown (wire_at net u) (wire_at new u)) → MovesGrow moves net new → NodeStays net new w → wanted (wire_at new w) ≡ wanted (wire_at net w) → LastAsk row law asking moves net w → LastAsk row law asking moves new w
   later net new w h on grown moved stays same a = record {
     old = a.old;
     on = goes_trans a.old net new a.on on;
@@ -249,7 +249,7 @@ module _ {N : Type 0} (row : N → View → Type 0) (law : N → N → View → 
       let f = fits net n a (act_allowed AnyRow AnyLaw net n a acts x.0 first.0 busy x.1 first.1) in
       let at : wire_for a (ports_at net n) < length net.wires = port_within net n a _ busy.wired busy.within f.0 in
       let within : w < length net.wires = rw length-set at h in
-      let on : GoesOn net (acted net n a) = goes_put net (wire_for a (ports_at net n)) _ (queued net n a) in
+      let on : NetGoesOn net (acted net n a) = goes_put net (wire_for a (ports_at net n)) _ (queued net n a) in
       let grown : (u : ℕ) → Grown (wire_at net u) (wire_at (acted net n a) u) =
       grown_put net (wire_for a (ports_at net n)) (moved_by a (wire_at net (wire_for a (ports_at net n)))) (queued net n a) at (move_grown a (wire_at net (wire_for a (ports_at net n))) f.1 (busy.marked _ at)) in
       elim (same_or_not w (wire_for a (ports_at net n))) [
@@ -308,17 +308,17 @@ module _ {N : Type 0} (row : N → View → Type 0) (law : N → N → View → 
 
   -- ---- an event, and another node in a node's place
 
-  pub told_asked : (net : Net N) (w : ℕ) (d : Delivery) → w < length net.wires → AllAsked row law asking moves (before net w) → AllAsked row law asking moves (told net w d)
+  pub told_asked : (net : Net N) (w : ℕ) (d : Delivery) → w < length net.wires → AllAsked row law asking moves (before net w) → AllAsked row law asking moves (delivered_on net w d)
   told_asked net w d h all u hu some =
       let within : u < length net.wires = rw length-set at hu in
-      later (before net w) (told net w d) u within (goes_told net w d) (told_grown net w d h) (moves_same moves (before net w) (told net w d) refl) (λ k _ _ _. refl) (told_wanted net w d h u) (all u within (subst (λ (n : ℕ). 1 ≤ n) (told_wanted net w d h u) some))
+      later (before net w) (delivered_on net w d) u within (goes_told net w d) (told_grown net w d h) (moves_same moves (before net w) (delivered_on net w d) refl) (λ k _ _ _. refl) (told_wanted net w d h u) (all u within (subst (λ (n : ℕ). 1 ≤ n) (told_wanted net w d h u) some))
 
   -- the event of wire w was delivered, and another node stands in the place of the one that heard it
   pub event_asked : (net : Net N) (w n : ℕ) (d : Delivery) (y : N) → d ≢ nothing → n ≡ target d (end_at net.ends w) → Wired net.ends net.ports (length net.nodes) (length net.wires) → w < length net.wires
-      → MovesGrow moves (before net w) (with_node (told net w d) n y) → AllAsked row law asking moves (before net w) → AllAsked row law asking moves (with_node (told net w d) n y)
+      → MovesGrow moves (before net w) (with_node (delivered_on net w d) n y) → AllAsked row law asking moves (before net w) → AllAsked row law asking moves (with_node (delivered_on net w d) n y)
   event_asked net w n d y ne to wired h moved all u hu some =
       let within : u < length net.wires = rw length-set at hu in
-      later (before net w) (with_node (told net w d) n y) u within (goes_trans (before net w) (told net w d) (with_node (told net w d) n y) (goes_told net w d) (goes_node (told net w d) n y)) (told_grown net w d h) moved
+      later (before net w) (with_node (delivered_on net w d) n y) u within (goes_trans (before net w) (delivered_on net w d) (with_node (delivered_on net w d) n y) (goes_told net w d) (goes_node (delivered_on net w d) n y)) (told_grown net w d h) moved
       (λ k ins outs same. node_elsewhere net n k y (λ e. came_there d net w u k ne wired h (e ∙ to) ins outs same))
       (told_wanted net w d h u) (all u within (subst (λ (m : ℕ). 1 ≤ m) (told_wanted net w d h u) some))
 

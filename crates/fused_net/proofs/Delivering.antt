@@ -6,7 +6,7 @@ use Rattle.std.proofs.lemmas.List.{length-set}
 use Rattle.elem_core.specs.Tree.{Tree}
 use Rattle.elem_core.specs.declared.item.Item.{Item}
 use Rattle.elem_core.specs.declared.item.Item.TheVariants as item
-use Rattle.port_core.specs.Ring.{holds}
+use Rattle.port_core.specs.Ring.{is_waiting}
 use Rattle.port_core.specs.Joint.{IsSound, Heard}
 use Rattle.port_core.specs.View.{View, IsOutOpen}
 use Rattle.port_core.specs.View as view
@@ -24,7 +24,7 @@ use Rattle.stage_core.specs.Histories.{brought_by}
 use Rattle.stage_core.specs.Handling.{Pulls, PullsAs, Handles}
 use Rattle.fused_net.specs.declared.net.WireEnds.{WireEnds}
 use Rattle.wire_core.specs.Reading.{inp_of, out_of, got_of, sent_of}
-use Rattle.fused_net.specs.Net.{Net, end_at, wire_at, ports_at, view_of, took, gave, target, call_of, put, told_by, told, event_told, with_node, before}
+use Rattle.fused_net.specs.Net.{Net, end_at, wire_at, ports_at, view_of, took, gave, target, call_of, put, told_by, delivered_on, event_told, with_node, before}
 use Rattle.fused_net.specs.Laws.{AnyLaw, Wired, Minds, IsMinded, Settled, Busy}
 use Rattle.fused_net.proofs.Reading.{read_same, read_at, some_same, get_there, get_set_same, get_set_other}
 use Rattle.fused_net.proofs.Nets.{sound_put, marked_put, minds_along, others_in, others_out, here_in, here_out}
@@ -55,10 +55,10 @@ module _ {N : Type 0} where
       ∙ ap (λ (x : WireState). put net w x more) (ap (λ (t : Tree). brought_in t c) (sym same) ∙ b.after)
       ∙ ap (λ (q : Bool). put net w (delivered (wire_at net w)) q) (sym (ap again b.brings))
 
-pub queued_here : (queue : List ℕ) (w : ℕ) → holds (w ∷ queue) w ≡ true
+pub queued_here : (queue : List ℕ) (w : ℕ) → is_waiting (w ∷ queue) w ≡ true
 queued_here queue w = grind (arith, common_steps, nat_tests)
 
-pub queued_there : (queue : List ℕ) (w u : ℕ) → u ≢ w → holds (w ∷ queue) u ≡ holds queue u
+pub queued_there : (queue : List ℕ) (w u : ℕ) → u ≢ w → is_waiting (w ∷ queue) u ≡ is_waiting queue u
 queued_there queue w u n = grind (arith, common_steps, nat_tests)
 
 module _ {N : Type 0} where
@@ -89,7 +89,7 @@ module _ {N : Type 0} (row : N → View → Type 0) (law : N → N → View → 
   -- what the node that heard it knows
   here_told : (d : Delivery) (net : Net N) (w : ℕ) (y first : N) (acts : List Act) → d ≢ nothing → Wired net.ends net.ports (length net.nodes) (length net.wires) → w < length net.wires
       → Minds row law y first (seen (call_of d (end_at net.ends w)) (view_of net (target d (end_at net.ends w)))) (brought_by (call_of d (end_at net.ends w)) (took net (target d (end_at net.ends w)))) (gave net (target d (end_at net.ends w))) acts
-      → Minds row law y first (view_of (told net w d) (target d (end_at net.ends w))) (took (told net w d) (target d (end_at net.ends w))) (gave (told net w d) (target d (end_at net.ends w))) acts
+      → Minds row law y first (view_of (delivered_on net w d) (target d (end_at net.ends w))) (took (delivered_on net w d) (target d (end_at net.ends w))) (gave (delivered_on net w d) (target d (end_at net.ends w))) acts
   here_told nothing net w y first acts n wired h m = absurd (n refl)
   here_told pull net w y first acts n wired h m =
       here_out row law net y first (end_at net.ends w).from (end_at net.ends w).output w _ false acts wired (wired.from_within w h) (wired.from_output w h) h refl refl
@@ -108,7 +108,7 @@ module _ {N : Type 0} (row : N → View → Type 0) (law : N → N → View → 
       (rw (read_at got_of net.wires (ports_at net (end_at net.ends w).to).ins (end_at net.ends w).input w [] (wired.to_input w h)) at m)
 
   others_told : (d : Delivery) (net : Net N) (w : ℕ) → d ≢ nothing → Wired net.ends net.ports (length net.nodes) (length net.wires) → w < length net.wires
-      → (k : ℕ) → k < length net.nodes → k ≢ target d (end_at net.ends w) → IsMinded row law net k [] → IsMinded row law (told net w d) k []
+      → (k : ℕ) → k < length net.nodes → k ≢ target d (end_at net.ends w) → IsMinded row law net k [] → IsMinded row law (delivered_on net w d) k []
   others_told nothing net w n wired h = absurd (n refl)
   others_told pull net w n wired h = others_out row law net (end_at net.ends w).from (end_at net.ends w).output w _ false wired (wired.from_within w h) (wired.from_output w h) h refl refl
   others_told cancel net w n wired h = others_out row law net (end_at net.ends w).from (end_at net.ends w).output w _ false wired (wired.from_within w h) (wired.from_output w h) h refl refl
@@ -118,7 +118,7 @@ module _ {N : Type 0} (row : N → View → Type 0) (law : N → N → View → 
 
   -- a node is replaced by one that minds what it knows
   pub with_node_busy : (net : Net N) (n : ℕ) (y : N) (acts : List Act) → Wired net.ends net.ports (length net.nodes) (length net.wires) → length net.firsts ≡ length net.nodes
-      → ((u : ℕ) → u < length net.wires → IsSound (wire_at net u).wire (holds net.queue u)) → ((u : ℕ) → u < length net.wires → IsMarked (wire_at net u)) → n < length net.nodes → PullsStand acts
+      → ((u : ℕ) → u < length net.wires → IsSound (wire_at net u).wire (is_waiting net.queue u)) → ((u : ℕ) → u < length net.wires → IsMarked (wire_at net u)) → n < length net.nodes → PullsStand acts
       → ((first : N) → slice_get net.firsts n ≡ Some first → Minds row law y first (view_of net n) (took net n) (gave net n) acts)
       → ((k : ℕ) → k < length net.nodes → k ≢ n → IsMinded row law net k [])
       → Busy row law (with_node net n y) n acts
@@ -147,15 +147,15 @@ module _ {N : Type 0} (row : N → View → Type 0) (law : N → N → View → 
   pub sound_here : (net : Net N) (w : ℕ) → Settled row law asking moves (before net w) → w < length net.wires → IsSound (wire_at net w).wire true
   sound_here net w s h = subst (IsSound (wire_at net w).wire) (queued_here net.queue w) (s.sound w h)
 
-  sound_there : (net : Net N) (w : ℕ) → Settled row law asking moves (before net w) → (u : ℕ) → u < length net.wires → u ≢ w → IsSound (wire_at net u).wire (holds net.queue u)
+  sound_there : (net : Net N) (w : ℕ) → Settled row law asking moves (before net w) → (u : ℕ) → u < length net.wires → u ≢ w → IsSound (wire_at net u).wire (is_waiting net.queue u)
   sound_there net w s u h n = subst (IsSound (wire_at net u).wire) (queued_there net.queue w u n) (s.sound u h)
 
-  sound_told : (net : Net N) (w : ℕ) (d : Delivery) → Settled row law asking moves (before net w) → w < length net.wires → holds net.queue w ≡ false → IsSound (after_delivery d (wire_at net w).wire) (again d)
-      → (u : ℕ) → u < length (told net w d).wires → IsSound (wire_at (told net w d) u).wire (holds (told net w d).queue u)
+  sound_told : (net : Net N) (w : ℕ) (d : Delivery) → Settled row law asking moves (before net w) → w < length net.wires → is_waiting net.queue w ≡ false → IsSound (after_delivery d (wire_at net w).wire) (again d)
+      → (u : ℕ) → u < length (delivered_on net w d).wires → IsSound (wire_at (delivered_on net w d) u).wire (is_waiting (delivered_on net w d).queue u)
   sound_told net w d s h absent sound = sound_put net w _ _ h (sound_there net w s) (rw absent sound)
 
   marked_told : (net : Net N) (w : ℕ) (d : Delivery) → Settled row law asking moves (before net w) → w < length net.wires → IsMarked (told_by d (wire_at net w))
-      → (u : ℕ) → u < length (told net w d).wires → IsMarked (wire_at (told net w d) u)
+      → (u : ℕ) → u < length (delivered_on net w d).wires → IsMarked (wire_at (delivered_on net w d) u)
   marked_told net w d s h m = marked_put net w (told_by d (wire_at net w)) (again d) h (λ u hu n. s.marked u hu) m
 
   -- the wire of the event stays marked as it was pulled
@@ -163,7 +163,7 @@ module _ {N : Type 0} (row : N → View → Type 0) (law : N → N → View → 
   marked_here net w s h = deliver_marked (wire_at net w).wire (wire_at net w).asked (sound_here net w s h) (s.marked w h)
 
   -- an event that comes to nothing
-  pub nothing_settled : (net : Net N) (w : ℕ) → Settled row law asking moves (before net w) → w < length net.wires → holds net.queue w ≡ false → delivery_of (wire_at net w).wire ≡ nothing → Settled row law asking moves (event_told net w)
+  pub nothing_settled : (net : Net N) (w : ℕ) → Settled row law asking moves (before net w) → w < length net.wires → is_waiting net.queue w ≡ false → delivery_of (wire_at net w).wire ≡ nothing → Settled row law asking moves (event_told net w)
   nothing_settled net w s h absent e =
       let marked : IsMarked (told_by nothing (wire_at net w)) = rw e at (marked_here net w s h) in
       let sound : IsSound (wire_at net w).wire false = rw e at (deliver_kept (wire_at net w).wire (sound_here net w s h)) in
@@ -182,16 +182,16 @@ module _ {N : Type 0} (row : N → View → Type 0) (law : N → N → View → 
         moments = told_moments row law asking moves net w nothing h s.moments;
       })
 
-  pub handled_busy : (net : Net N) (w : ℕ) (d : Delivery) (x y : N) (acts : List Act) → Settled row law asking moves (before net w) → w < length net.wires → holds net.queue w ≡ false
+  pub handled_busy : (net : Net N) (w : ℕ) (d : Delivery) (x y : N) (acts : List Act) → Settled row law asking moves (before net w) → w < length net.wires → is_waiting net.queue w ≡ false
       → d ≡ delivery_of (wire_at net w).wire → d ≢ nothing → slice_get net.nodes (target d (end_at net.ends w)) ≡ Some x → Handles row law (call_of d (end_at net.ends w)) x y acts
-      → Busy row law (with_node (told net w d) (target d (end_at net.ends w)) y) (target d (end_at net.ends w)) acts
+      → Busy row law (with_node (delivered_on net w d) (target d (end_at net.ends w)) y) (target d (end_at net.ends w)) acts
   handled_busy net w d x y acts s h absent e n xi handles =
       let heard : Heard d (wire_at net w).wire = rw e (deliver_heard (wire_at net w).wire (sound_here net w s h)) in
       let marked : IsMarked (told_by d (wire_at net w)) = rw e (marked_here net w s h) in
       let sound : IsSound (after_delivery d (wire_at net w).wire) (again d) = rw e (deliver_kept (wire_at net w).wire (sound_here net w s h)) in
       let hn : target d (end_at net.ends w) < length net.nodes = target_within d net w s.wired h in
       let may : CallAllowed (call_of d (end_at net.ends w)) (view_of net (target d (end_at net.ends w))) = may_at d net w n s.wired h heard in
-      with_node_busy row law (told net w d) (target d (end_at net.ends w)) y acts
+      with_node_busy row law (delivered_on net w d) (target d (end_at net.ends w)) y acts
       (rw length-set s.wired)
       s.each_first
       (sound_told net w d s h absent sound)
@@ -208,13 +208,13 @@ module _ {N : Type 0} (row : N → View → Type 0) (law : N → N → View → 
     pub awaits : Awaits row law call v n
     pub tells : TellsAsking row law asking call v n
 
-  called : (net : Net N) (w : ℕ) (d : Delivery) → Settled row law asking moves (before net w) → w < length net.wires → holds net.queue w ≡ false
+  called : (net : Net N) (w : ℕ) (d : Delivery) → Settled row law asking moves (before net w) → w < length net.wires → is_waiting net.queue w ≡ false
       → d ≡ delivery_of (wire_at net w).wire → d ≢ nothing → Called (call_of d (end_at net.ends w)) (event_told net w) (target d (end_at net.ends w))
   called net w d s h absent e n =
       let heard : Heard d (wire_at net w).wire = rw e (deliver_heard (wire_at net w).wire (sound_here net w s h)) in
       let hn : target d (end_at net.ends w) < length net.nodes = target_within d net w s.wired h in
       let may : CallAllowed (call_of d (end_at net.ends w)) (view_of net (target d (end_at net.ends w))) = may_at d net w n s.wired h heard in
-      let same : told net w d ≡ event_told net w = ap (λ (z : Delivery). told net w z) e in
+      let same : delivered_on net w d ≡ event_told net w = ap (λ (z : Delivery). delivered_on net w z) e in
       let first = get_there net.firsts (target d (end_at net.ends w)) (rw s.each_first hn) in
       record {
         within = hn;
@@ -230,6 +230,6 @@ module _ {N : Type 0} (row : N → View → Type 0) (law : N → N → View → 
             subst (λ (a : Net N). asking y (view.acted_all (view_of a (target d (end_at net.ends w))) acts)) same at.row_holds;
       }
 
-  pub call_at : (net v : Net N) (w n : ℕ) (d : Delivery) (ends : WireEnds) → Settled row law asking moves (before net w) → w < length net.wires → holds net.queue w ≡ false
+  pub call_at : (net v : Net N) (w n : ℕ) (d : Delivery) (ends : WireEnds) → Settled row law asking moves (before net w) → w < length net.wires → is_waiting net.queue w ≡ false
       → d ≡ delivery_of (wire_at net w).wire → d ≢ nothing → v ≡ event_told net w → ends ≡ end_at net.ends w → n ≡ target d ends → Called (call_of d ends) v n
   call_at net v w n d ends s h absent e ne is same at = rw (at, same, is) (called net w d s h absent e ne)

@@ -5,7 +5,7 @@ use Rattle.elem_core.specs.Prefix.{IsPrefix}
 use Rattle.elem_core.specs.declared.item.Item.{Item}
 use Rattle.elem_core.specs.declared.item.Item.TheVariants as item
 use Rattle.elem_core.specs.declared.count.TheConstants.{MOST_COUNT}
-use Rattle.port_core.specs.Ring.{holds}
+use Rattle.port_core.specs.Ring.{is_waiting}
 use Rattle.port_core.specs.Joint.{IsSound}
 use Rattle.port_core.specs.View.{View}
 use Rattle.port_core.specs.View as view
@@ -14,14 +14,14 @@ use Rattle.port_core.specs.declared.act.Act.{Act}
 use Rattle.port_core.specs.declared.act.Act.TheVariants.{Pull, Push, Complete, FailOut, Cancel}
 use Rattle.wire_core.specs.Cell.{WireState, moved_by}
 use Rattle.wire_core.specs.Marks.{IsMarked}
-use Rattle.wire_core.specs.Counts.{spent, asks, heard}
+use Rattle.wire_core.specs.Counts.{spent, asks, events_heard}
 use Rattle.wire_core.proofs.Counting.{pull_spent, push_spent, close_spent, cancel_spent, deliver_spent, pull_asks, push_asks, close_asks, cancel_asks, pull_heard, push_heard, close_heard, cancel_heard, deliver_heard}
 use Rattle.fused_net.specs.declared.net.WireEnds.{WireEnds}
 use Rattle.wire_core.specs.Reading.{no_wire}
-use Rattle.fused_net.specs.Net.{Net, end_at, target, told, wire_at, ports_at, view_of, wire_for, acted, acted_all, event_told, with_node, before}
+use Rattle.fused_net.specs.Net.{Net, end_at, target, delivered_on, wire_at, ports_at, view_of, wire_for, acted, acted_all, event_told, with_node, before}
 use Rattle.stage_core.specs.Handling.{Pulls}
-use Rattle.fused_net.specs.Laws.{AnyRow, AnyLaw, IsAsking, MovesGrow, IsMinded, AllAsked, AllMoments, Settled, Busy, GoesOn}
-use Rattle.fused_net.specs.Costs.{total, all_asks, all_heard, Uses}
+use Rattle.fused_net.specs.Laws.{AnyRow, AnyLaw, IsAsking, MovesGrow, IsMinded, AllAsked, AllMoments, Settled, Busy, NetGoesOn}
+use Rattle.fused_net.specs.Costs.{total_cost, all_asks, all_heard, Uses}
 use Rattle.fused_net.proofs.Reading.{same_or_not, some_same, get_there, get_set_same}
 use Rattle.fused_net.proofs.Sums.{sum_le, sum_up, sum_up_most, by_place}
 use Rattle.fused_net.proofs.Nets.{holds_put_same, holds_put_other}
@@ -46,7 +46,7 @@ move_asks (Complete j) c f = close_asks None c.wire
 move_asks (FailOut j d) c f = close_asks (Some d) c.wire
 move_asks (Cancel i) c f = cancel_asks c.wire
 
-move_heard : (a : Act) (c : WireState) → IsMarked c → Fits a c.wire → heard (moved_by a c) ≤ heard c
+move_heard : (a : Act) (c : WireState) → IsMarked c → Fits a c.wire → events_heard (moved_by a c) ≤ events_heard c
 move_heard (Pull i) c m f = pull_heard i c
 move_heard (Push j e) c m f = push_heard j e c m f
 move_heard (Complete j) c m f = close_heard None c
@@ -76,7 +76,7 @@ module _ {N : Type 0} where
       let f = fits net n a (act_allowed AnyRow AnyLaw net n a acts x.0 first.0 busy x.1 first.1) in
       let w : ℕ = wire_for a (ports_at net n) in
       let h : wire_for a (ports_at net n) < length net.wires = port_within net n a _ busy.wired busy.within f.0 in
-      let cost : total net ≤ total (acted net n a) = rw length-set (sum_le _ _ (length net.wires) (λ k l. elim (same_or_not k (wire_for a (ports_at net n))) [
+      let cost : total_cost net ≤ total_cost (acted net n a) = rw length-set (sum_le _ _ (length net.wires) (λ k l. elim (same_or_not k (wire_for a (ports_at net n))) [
         | inl e ↦ rw e (rw (get_or-set_same net.wires (wire_for a (ports_at net n)) (moved_by a (wire_at net (wire_for a (ports_at net n)))) no_wire h) (move_spent a (wire_at net (wire_for a (ports_at net n))) _ _ (busy.sound _ h) f.1))
         | inr ne ↦ rw (get_or-set_other net.wires (wire_for a (ports_at net n)) k (moved_by a (wire_at net (wire_for a (ports_at net n)))) no_wire ne, holds_put_other net.queue (wire_for a (ports_at net n)) k _ ne) (omega arith)
       ])) in
@@ -84,11 +84,11 @@ module _ {N : Type 0} where
         | inl e ↦ rw e (rw (get_or-set_same net.wires (wire_for a (ports_at net n)) (moved_by a (wire_at net (wire_for a (ports_at net n)))) no_wire h) (move_asks a (wire_at net (wire_for a (ports_at net n))) f.1))
         | inr ne ↦ rw (get_or-set_other net.wires (wire_for a (ports_at net n)) k (moved_by a (wire_at net (wire_for a (ports_at net n)))) no_wire ne) (omega arith)
       ])) in
-      let told : all_heard (acted net n a) ≤ all_heard net = rw length-set (sum_le _ _ (length net.wires) (λ k l. elim (same_or_not k (wire_for a (ports_at net n))) [
+      let delivered_on : all_heard (acted net n a) ≤ all_heard net = rw length-set (sum_le _ _ (length net.wires) (λ k l. elim (same_or_not k (wire_for a (ports_at net n))) [
         | inl e ↦ rw e (rw (get_or-set_same net.wires (wire_for a (ports_at net n)) (moved_by a (wire_at net (wire_for a (ports_at net n)))) no_wire h) (move_heard a (wire_at net (wire_for a (ports_at net n))) (busy.marked _ h) f.1))
         | inr ne ↦ rw (get_or-set_other net.wires (wire_for a (ports_at net n)) k (moved_by a (wire_at net (wire_for a (ports_at net n)))) no_wire ne) (omega arith)
       ])) in
-      record { least = omega (arith, cost); most = omega (arith, asked); each = omega (arith, told) }
+      record { least = omega (arith, cost); most = omega (arith, asked); each = omega (arith, delivered_on) }
 
   pub acts_uses : (acts : List Act) (net : Net N) (n : ℕ) → Busy AnyRow AnyLaw net n acts → Uses net (acted_all net n acts) 0
   acts_uses [] net n busy = uses_none net
@@ -115,27 +115,27 @@ module _ {N : Type 0} (row : N → View → Type 0) (law : N → N → View → 
 
 module _ {N : Type 0} (row : N → View → Type 0) (law : N → N → View → List (List Item) → List (List Item) → Type 0) (asking : N → View → Type 0) (moves : N → List ℕ) where
   -- an event is delivered
-  pub event_uses : (net : Net N) (w : ℕ) → Settled row law asking moves (before net w) → w < length net.wires → holds net.queue w ≡ false → Uses (before net w) (event_told net w) 1
+  pub event_uses : (net : Net N) (w : ℕ) → Settled row law asking moves (before net w) → w < length net.wires → is_waiting net.queue w ≡ false → Uses (before net w) (event_told net w) 1
   event_uses net w s h absent =
       let d : Delivery = delivery_of (wire_at net w).wire in
-      let queue : holds (event_told net w).queue w ≡ again (delivery_of (wire_at net w).wire) = holds_put_same net.queue w (again (delivery_of (wire_at net w).wire)) ∙ ap (λ (q : Bool). q || again (delivery_of (wire_at net w).wire)) absent in
-      let up : spent (wire_at net w).wire (holds (w ∷ net.queue) w) + 1 ≤ spent (after_delivery (delivery_of (wire_at net w).wire) (wire_at net w).wire) (holds (event_told net w).queue w) =
+      let queue : is_waiting (event_told net w).queue w ≡ again (delivery_of (wire_at net w).wire) = holds_put_same net.queue w (again (delivery_of (wire_at net w).wire)) ∙ ap (λ (q : Bool). q || again (delivery_of (wire_at net w).wire)) absent in
+      let up : spent (wire_at net w).wire (is_waiting (w ∷ net.queue) w) + 1 ≤ spent (after_delivery (delivery_of (wire_at net w).wire) (wire_at net w).wire) (is_waiting (event_told net w).queue w) =
       rw (queued_here net.queue w, queue) (deliver_spent (wire_at net w).wire (sound_here row law asking moves net w s h)) in
-      let cost : total (before net w) + 1 ≤ total (event_told net w) = rw length-set (sum_up _ _ (length net.wires) w h
-      (λ k l. by_place (λ z. spent (wire_at (before net w) z).wire (holds (w ∷ net.queue) z)) (λ z. spent (wire_at (event_told net w) z).wire (holds (event_told net w).queue z)) w k
+      let cost : total_cost (before net w) + 1 ≤ total_cost (event_told net w) = rw length-set (sum_up _ _ (length net.wires) w h
+      (λ k l. by_place (λ z. spent (wire_at (before net w) z).wire (is_waiting (w ∷ net.queue) z)) (λ z. spent (wire_at (event_told net w) z).wire (is_waiting (event_told net w).queue z)) w k
       (rw (get_or-set_same net.wires w _ no_wire h) (omega (arith, up)))
       (λ ne. rw (get_or-set_other net.wires w k _ no_wire ne, holds_put_other net.queue w k (again (delivery_of (wire_at net w).wire)) ne, queued_there net.queue w k ne) (omega arith)))
       (rw (get_or-set_same net.wires w _ no_wire h) up)) in
       let asked : all_asks (event_told net w) ≤ all_asks (before net w) + 1 = rw length-set (sum_up_most _ _ (length net.wires) w
       (λ k l ne. rw (get_or-set_other net.wires w k _ no_wire ne) (omega arith))
       (rw (get_or-set_same net.wires w _ no_wire h) (deliver_asks (delivery_of (wire_at net w).wire) (wire_at net w).wire))) in
-      let told : all_heard (event_told net w) ≤ all_heard (before net w) + 1 = rw length-set (sum_up_most _ _ (length net.wires) w
+      let delivered_on : all_heard (event_told net w) ≤ all_heard (before net w) + 1 = rw length-set (sum_up_most _ _ (length net.wires) w
       (λ k l ne. rw (get_or-set_other net.wires w k _ no_wire ne) (omega arith))
       (rw (get_or-set_same net.wires w _ no_wire h) (deliver_heard (delivery_of (wire_at net w).wire) (wire_at net w)))) in
-      record { least = cost; most = asked; each = told }
+      record { least = cost; most = asked; each = delivered_on }
 
   -- a node responded
-  pub response_goes : (old new : Net N) (n : ℕ) → Responds row law asking moves old new n → GoesOn old new
+  pub response_goes : (old new : Net N) (n : ℕ) → Responds row law asking moves old new n → NetGoesOn old new
   response_goes old new n r = rw r.is (goes_trans old (with_node old n r.node) _ (goes_node old n r.node) (goes_acts r.acts (with_node old n r.node) n))
 
   -- what the node tells as it pulls holds once its actions are done
@@ -159,19 +159,19 @@ module _ {N : Type 0} (row : N → View → Type 0) (law : N → N → View → 
   -- what is left once an event was handled
   pub record Handled (net new : Net N) (w : ℕ) : Type 0 where
     pub laws : Settled row law asking moves new
-    pub on : GoesOn net new
+    pub on : NetGoesOn net new
     pub uses : Uses (before net w) new 1
 
-  pub handled : (net v new : Net N) (w n : ℕ) (d : Delivery) (ends : WireEnds) → Settled row law asking moves (before net w) → w < length net.wires → holds net.queue w ≡ false
+  pub handled : (net v new : Net N) (w n : ℕ) (d : Delivery) (ends : WireEnds) → Settled row law asking moves (before net w) → w < length net.wires → is_waiting net.queue w ≡ false
       → d ≡ delivery_of (wire_at net w).wire → d ≢ nothing → v ≡ event_told net w → ends ≡ end_at net.ends w → n ≡ target d ends → Responds row law asking moves v new n → Handled net new w
   handled net v new w n d ends s h absent e ne is same at r =
       let event : Uses (before net w) v 1 = rw is (event_uses net w s h absent) in
-      let on : GoesOn net v = rw is (goes_put net w _ _) in
-      let told_is : told net w d ≡ v = ap (λ (x : Delivery). told net w x) e ∙ sym is in
+      let on : NetGoesOn net v = rw is (goes_put net w _ _) in
+      let told_is : delivered_on net w d ≡ v = ap (λ (x : Delivery). delivered_on net w x) e ∙ sym is in
       let within : n < length v.nodes = rw length-set at r.busy.within in
       let to : n ≡ target d (end_at net.ends w) = at ∙ ap (λ (x : WireEnds). target d x) same in
       let moved : MovesGrow moves v (with_node v n r.node) = moves_node moves v n r.node within r.grows in
-      let moved_on : MovesGrow moves (before net w) (with_node (told net w d) n r.node) = rw (sym told_is) at (moves_from moves (before net w) v n r.node (rw is refl) moved) in
+      let moved_on : MovesGrow moves (before net w) (with_node (delivered_on net w d) n r.node) = rw (sym told_is) at (moves_from moves (before net w) v n r.node (rw is refl) moved) in
       let asked : AllAsked row law asking moves (with_node v n r.node) =
       subst (λ (a : Net N). AllAsked row law asking moves (with_node a n r.node)) told_is (event_asked row law asking moves net w n d r.node ne to s.wired h moved_on s.asked) in
       let moments : AllMoments row law asking moves (with_node v n r.node) =
@@ -183,7 +183,7 @@ module _ {N : Type 0} (row : N → View → Type 0) (law : N → N → View → 
         uses = record { least = omega (arith, event.least, done.least); most = omega (arith, event.most, done.most); each = omega (arith, event.each, done.each) };
       }
 
-  pub handled_nothing : (net new : Net N) (w : ℕ) → Settled row law asking moves (before net w) → w < length net.wires → holds net.queue w ≡ false → delivery_of (wire_at net w).wire ≡ nothing → new ≡ event_told net w → Handled net new w
+  pub handled_nothing : (net new : Net N) (w : ℕ) → Settled row law asking moves (before net w) → w < length net.wires → is_waiting net.queue w ≡ false → delivery_of (wire_at net w).wire ≡ nothing → new ≡ event_told net w → Handled net new w
   handled_nothing net new w s h absent e is = rw is (record {
     laws = nothing_settled row law asking moves net w s h absent e;
     on = goes_put net w _ _;

@@ -6,7 +6,7 @@ use Rattle.elem_core.specs.declared.item.Item.{Item}
 use Rattle.port_core.specs.View.{View}
 use Rattle.port_core.specs.declared.act.Act.{Act}
 use Rattle.fused_net.specs.Net.{Net, acted_all, with_node}
-use Rattle.fused_net.specs.Laws.{AllKept, GoesOn, Starting}
+use Rattle.fused_net.specs.Laws.{AllKept, NetGoesOn, Starting}
 use Rattle.fused_net.proofs.Reading.{get_there}
 use Rattle.fused_net.proofs.Ongoing.{nodes-acts}
 use Rattle.fused_net.proofs.Responding.{node_is}
@@ -56,7 +56,7 @@ module _ {N : Type 0} (keeps : N → N → Type 0) where
   kept_first (f ∷ fs) (z ∷ zs) zero x y all a b k = let same : f ≡ x = cc in (inr (rw same k), all.1)
   kept_first (f ∷ fs) (z ∷ zs) (suc n) x y all a b k = (all.0, kept_first fs zs n x y all.1 a b k)
 
-  pub step_count : (a b : Net N) (nodes : List N) → GoesOn a b → AllKept keeps b.nodes nodes → length nodes ≡ length a.nodes
+  pub step_count : (a b : Net N) (nodes : List N) → NetGoesOn a b → AllKept keeps b.nodes nodes → length nodes ≡ length a.nodes
   step_count a b nodes on k = kept_count b.nodes nodes k ∙ on.nodes
 
 module _ {N : Type 0} (row : N → View → Type 0) (law : N → N → View → List (List Item) → List (List Item) → Type 0) (asking : N → View → Type 0) (moves : N → List ℕ) (fresh : N → View → Type 0) (keeps : N → N → Type 0) where

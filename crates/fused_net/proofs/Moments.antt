@@ -16,8 +16,8 @@ use Rattle.wire_core.specs.Marks.{IsMarked, wanted, Grown}
 use Rattle.wire_core.proofs.Marking.{push_wanted, close_wanted, grown_same, grown_trans}
 use Rattle.stage_core.specs.Handling.{Pulls}
 use Rattle.wire_core.specs.Reading.{no_wire}
-use Rattle.fused_net.specs.Net.{Net, end_at, wire_at, ports_at, view_of, wire_for, acted, acted_all, told_by, told, with_node, before}
-use Rattle.fused_net.specs.Laws.{AnyRow, AnyLaw, GoesOn, IsAsking, MovesGrow, Minds, IsMinded, AllAsked, NodeAsked, AllMoments, Busy}
+use Rattle.fused_net.specs.Net.{Net, end_at, wire_at, ports_at, view_of, wire_for, acted, acted_all, told_by, delivered_on, with_node, before}
+use Rattle.fused_net.specs.Laws.{AnyRow, AnyLaw, NetGoesOn, IsAsking, MovesGrow, Minds, IsMinded, AllAsked, NodeAsked, AllMoments, Busy}
 use Rattle.fused_net.proofs.Reading.{same_or_not, get_there}
 use Rattle.fused_net.proofs.Ongoing.{goes_same, goes_trans, goes_acts, goes_node, nodes-acts}
 use Rattle.fused_net.proofs.Acting.{Fits, PortAt, fits, act_allowed, port_within, queued, acted_busy, acts_busy, acts_here}
@@ -142,7 +142,7 @@ module _ {N : Type 0} (row : N → View → Type 0) (law : N → N → View → 
 
 module _ {N : Type 0} (row : N → View → Type 0) (law : N → N → View → List (List Item) → List (List Item) → Type 0) (asking : N → View → Type 0) (moves : N → List ℕ) where
   -- the moment stays the last one where the graph goes on and no input of the node is pulled
-  later : (net new : Net N) (n : ℕ) → GoesOn net new → MovesGrow moves net new → ((u : ℕ) → Grown (wire_at net u) (wire_at new u)) → ((u : ℕ) → u < length net.wires → (end_at net.ends u).to ≡ n → wanted (wire_at new u) ≡ wanted (wire_at net u)) → NodeAsked row law asking moves net n → NodeAsked row law asking moves new n
+  later : (net new : Net N) (n : ℕ) → NetGoesOn net new → MovesGrow moves net new → ((u : ℕ) → Grown (wire_at net u) (wire_at new u)) → ((u : ℕ) → u < length net.wires → (end_at net.ends u).to ≡ n → wanted (wire_at new u) ≡ wanted (wire_at net u)) → NodeAsked row law asking moves net n → NodeAsked row law asking moves new n
   later net new n on moved grown same a = record {
     old = a.old;
     on = goes_trans a.old net new a.on on;
@@ -166,7 +166,7 @@ module _ {N : Type 0} (row : N → View → Type 0) (law : N → N → View → 
       new : Net N
       new = acted_all net n acts
 
-      on : GoesOn net (acted_all net n acts)
+      on : NetGoesOn net (acted_all net n acts)
       on = goes_acts acts net n
 
       to_old : (end_at net.ends u).to ≡ k
@@ -216,9 +216,9 @@ module _ {N : Type 0} (row : N → View → Type 0) (law : N → N → View → 
 
   -- ---- an event, and another node in a node's place
 
-  pub told_moments : (net : Net N) (w : ℕ) (d : Delivery) → w < length net.wires → AllMoments row law asking moves (before net w) → AllMoments row law asking moves (told net w d)
+  pub told_moments : (net : Net N) (w : ℕ) (d : Delivery) → w < length net.wires → AllMoments row law asking moves (before net w) → AllMoments row law asking moves (delivered_on net w d)
   told_moments net w d h all k u hk hu to some =
-      later (before net w) (told net w d) k (goes_told net w d) (moves_same moves (before net w) (told net w d) refl) (told_grown net w d h) (λ v hv t. told_wanted net w d h v)
+      later (before net w) (delivered_on net w d) k (goes_told net w d) (moves_same moves (before net w) (delivered_on net w d) refl) (told_grown net w d h) (λ v hv t. told_wanted net w d h v)
       (all k u hk (rw length-set at hu) to (subst (λ (m : ℕ). 1 ≤ m) (told_wanted net w d h u) some))
 
   pub node_moments : (net : Net N) (n : ℕ) (y : N) → MovesGrow moves net (with_node net n y) → AllMoments row law asking moves net → AllMoments row law asking moves (with_node net n y)

@@ -4,23 +4,23 @@ use Rattle.std.proofs.lemmas.List.{length-set}
 use Rattle.port_core.specs.declared.act.Act.{Act}
 use Rattle.wire_core.specs.Cell.{WireState}
 use Rattle.fused_net.specs.Net.{Net, put, acted, acted_all, with_node}
-use Rattle.fused_net.specs.Laws.{GoesOn}
+use Rattle.fused_net.specs.Laws.{NetGoesOn}
 
 module _ {N : Type 0} where
-  pub goes_same : (net : Net N) → GoesOn net net
+  pub goes_same : (net : Net N) → NetGoesOn net net
   goes_same net = record { firsts = refl; ends = refl; ports = refl; nodes = refl; wires = refl }
 
-  pub goes_trans : (a b c : Net N) → GoesOn a b → GoesOn b c → GoesOn a c
+  pub goes_trans : (a b c : Net N) → NetGoesOn a b → NetGoesOn b c → NetGoesOn a c
   goes_trans a b c f g = record { firsts = g.firsts ∙ f.firsts; ends = g.ends ∙ f.ends; ports = g.ports ∙ f.ports; nodes = g.nodes ∙ f.nodes; wires = g.wires ∙ f.wires }
 
-  pub goes_put : (net : Net N) (w : ℕ) (new : WireState) (b : Bool) → GoesOn net (put net w new b)
+  pub goes_put : (net : Net N) (w : ℕ) (new : WireState) (b : Bool) → NetGoesOn net (put net w new b)
   goes_put net w new b = record { firsts = refl; ends = refl; ports = refl; nodes = refl; wires = length-set _ _ _ }
 
-  pub goes_acts : (acts : List Act) (net : Net N) (n : ℕ) → GoesOn net (acted_all net n acts)
+  pub goes_acts : (acts : List Act) (net : Net N) (n : ℕ) → NetGoesOn net (acted_all net n acts)
   goes_acts [] net n = goes_same net
   goes_acts (a ∷ acts) net n = goes_trans net (acted net n a) _ (goes_put net _ _ _) (goes_acts acts (acted net n a) n)
 
-  pub goes_node : (net : Net N) (n : ℕ) (y : N) → GoesOn net (with_node net n y)
+  pub goes_node : (net : Net N) (n : ℕ) (y : N) → NetGoesOn net (with_node net n y)
   goes_node net n y = record { firsts = refl; ends = refl; ports = refl; nodes = length-set _ _ _; wires = refl }
 
   -- actions change no node

@@ -13,7 +13,7 @@ use Rattle.stage_core.specs.Handing.{Hands}
 use Rattle.fused_net.specs.PortLists.{PortLists}
 use Rattle.fused_net.specs.declared.net.WireEnds.{WireEnds}
 use Rattle.fused_net.specs.Net.{Net, end_at, port_at, wire_at, ports_at, view_of, took, gave, acted, acted_all, with_node}
-use Rattle.fused_net.specs.Laws.{AnyRow, AnyLaw, IsAsking, MovesGrow, Minds, IsMinded, Settled, Busy, LastAsk, AllAsked, AllMoments, GoesOn}
+use Rattle.fused_net.specs.Laws.{AnyRow, AnyLaw, IsAsking, MovesGrow, Minds, IsMinded, Settled, Busy, LastAsk, AllAsked, AllMoments, NetGoesOn}
 use Rattle.fused_net.specs.Costs.{Uses}
 use Rattle.fused_net.specs.Poking.{AtNode, HandsAt, TellsPoked}
 use Rattle.fused_net.proofs.Reading.{same_or_not, some_same, get_there, get_set_same, get_set_other}
@@ -58,7 +58,7 @@ module _ {N : Type 0} (row : N → View → Type 0) (law : N → N → View → 
   pub record Poked (net new : Net N) (n : ℕ) (a : Act) : Type 0 where
     pub any : Busy AnyRow AnyLaw net n (a ∷ [])
     pub laws : Settled row law asking moves new
-    pub on : GoesOn net new
+    pub on : NetGoesOn net new
     pub uses : Uses net new 0
 
   pub poked : (net new : Net N) (n : ℕ) (a : Act) → new ≡ acted net n a → Settled row law asking moves net → n < length net.nodes → IsMinded row law net n (a ∷ []) → TellsPoked asking net n a → Poked net new n a
@@ -164,7 +164,7 @@ module _ {N : Type 0} (row : N → View → Type 0) (law : N → N → View → 
     hand_laws net v new n x y (Some i) e h is s on none some = (handed net v new n x y (i ∷ []) e h is s some on).1
 
 -- another node in a place costs nothing
-pub node_goes : {N : Type 0} (net v new : Net N) (n : ℕ) (y : N) → v ≡ net → new ≡ with_node v n y → GoesOn net new
+pub node_goes : {N : Type 0} (net v new : Net N) (n : ℕ) (y : N) → v ≡ net → new ≡ with_node v n y → NetGoesOn net new
 node_goes net v new n y e is = rw (is, e) (goes_node net n y)
 
 pub node_uses : {N : Type 0} (net v new : Net N) (n : ℕ) (y : N) → v ≡ net → new ≡ with_node v n y → Uses net new 0

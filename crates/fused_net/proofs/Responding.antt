@@ -5,14 +5,14 @@ use Rattle.std.proofs.lemmas.Option.{slice_get-get_or}
 use Rattle.elem_core.specs.Prefix.{IsPrefix}
 use Rattle.elem_core.specs.declared.item.Item.{Item}
 use Rattle.elem_core.specs.declared.count.TheConstants.{MOST_COUNT}
-use Rattle.port_core.specs.Ring.{holds}
+use Rattle.port_core.specs.Ring.{is_waiting}
 use Rattle.port_core.specs.View.{View}
 use Rattle.port_core.specs.Call.{Call, Meets, starts}
 use Rattle.port_core.specs.declared.act.Act.{Act}
 use Rattle.stage_core.specs.Handling.{PullsAs, Starts, Handles}
 use Rattle.fused_net.specs.declared.net.WireEnds.{WireEnds}
 use Rattle.fused_net.specs.Net.{Net, no_ends, end_at, view_of, acted_all, event_told, with_node, before}
-use Rattle.fused_net.specs.Laws.{AnyRow, AnyLaw, Busy, Settled, Starting, GoesOn}
+use Rattle.fused_net.specs.Laws.{AnyRow, AnyLaw, Busy, Settled, Starting, NetGoesOn}
 use Rattle.fused_net.specs.Costs.{all_asks, Uses}
 use Rattle.fused_net.proofs.Reading.{some_same, get_there}
 use Rattle.fused_net.proofs.Acting.{busy_any}
@@ -54,7 +54,7 @@ module _ {N : Type 0} (row : N → View → Type 0) (law : N → N → View → 
       }
 
   -- an event leaves few asks
-  pub few_told : (net v : Net N) (w : ℕ) → Settled row law asking moves (before net w) → w < length net.wires → holds net.queue w ≡ false → v ≡ event_told net w → all_asks net + 1 ≤ MOST_COUNT → all_asks v ≤ MOST_COUNT
+  pub few_told : (net v : Net N) (w : ℕ) → Settled row law asking moves (before net w) → w < length net.wires → is_waiting net.queue w ≡ false → v ≡ event_told net w → all_asks net + 1 ≤ MOST_COUNT → all_asks v ≤ MOST_COUNT
   few_told net v w s h absent is few = rw is (let u = event_uses row law asking moves net w s h absent in omega (arith, u.most, few))
 
   module _ (fresh : N → View → Type 0) where
@@ -70,7 +70,7 @@ module _ {N : Type 0} (row : N → View → Type 0) (law : N → N → View → 
     -- what the start of a node leaves
     pub record Started (net new : Net N) (n : ℕ) : Type 0 where
       pub starting : Starting row law asking moves fresh new (n + 1)
-      pub on : GoesOn net new
+      pub on : NetGoesOn net new
       pub asks : all_asks new ≤ all_asks net
 
     pub started : (net v new : Net N) (n : ℕ) (x y : N) (acts : List Act) → Starting row law asking moves fresh net n → v ≡ net → n < length net.nodes → x ≡ get_or v.nodes n x → Starts row law fresh x y acts

@@ -14,7 +14,7 @@ use Rattle.wire_core.specs.Reading.{no_wire}
 use Rattle.stage_core.specs.Handling.{StaysPassive}
 use Rattle.fused_net.specs.declared.net.WireEnds.{WireEnds}
 use Rattle.fused_net.specs.Net.{Net, end_at, target, wire_at, ports_at, wire_for, acted, acted_all, told_by, event_told, with_node, Takes}
-use Rattle.fused_net.specs.Laws.{AnyRow, AnyLaw, Wired, Busy, Settled, GoesOn, AllKept}
+use Rattle.fused_net.specs.Laws.{AnyRow, AnyLaw, Wired, Busy, Settled, NetGoesOn, AllKept}
 use Rattle.fused_net.specs.PortLists.{PortLists}
 use Rattle.fused_net.specs.Poking.{AtNode}
 use Rattle.fused_net.specs.Outside.{BreaksAside, IsPassiveAt, StandsStill, touched, IsElse, HasOnly, Untouched}
@@ -450,5 +450,5 @@ module _ {N : Type 0} (passive : N → Bool) where
 
 -- memory was wanting behind that moment
 pub breaks_aside : {N : Type 0} (row : N → View → Type 0) (law : N → N → View → List (List Item) → List (List Item) → Type 0) (asking : N → View → Type 0) (moves : N → List ℕ) (gone : N → List Item) (passive : N → Bool) (keeps : N → N → Type 0) (old last : Net N) (nodes : List N)
-    → Settled row law asking moves last → GoesOn old last → AllKept keeps last.nodes nodes → map gone last.nodes ≡ map gone old.nodes → StandsStill passive old last → BreaksAside row law asking moves gone passive keeps old nodes
+    → Settled row law asking moves last → NetGoesOn old last → AllKept keeps last.nodes nodes → map gone last.nodes ≡ map gone old.nodes → StandsStill passive old last → BreaksAside row law asking moves gone passive keeps old nodes
 breaks_aside row law asking moves gone passive keeps old last nodes settled on kept none still = record { breaks = record { last = last; settled = settled; on = on; kept = kept }; none_gone = none; still = still }

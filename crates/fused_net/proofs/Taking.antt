@@ -2,17 +2,17 @@
 use Rattle.std.proofs.Common.{◌≡◌, inl, inr, ℕ, zero, suc, ◌+◌, ◌≤◌, ◌==◌, Bool, true, false, ◌||◌, List, [], ◌∷◌, ◌++◌, length, map, refl, sym, ap, ◌∙◌, subst, arith}
 use Rattle.std.proofs.lemmas.List.Folds.{list_any-append}
 use Rattle.elem_core.specs.declared.item.Item.{Item}
-use Rattle.port_core.specs.Ring.{holds}
+use Rattle.port_core.specs.Ring.{is_waiting}
 use Rattle.port_core.specs.Joint.{IsSound}
 use Rattle.port_core.specs.View.{View}
 use Rattle.wire_core.specs.Counts.{spent}
 use Rattle.fused_net.specs.Net.{Net, wire_at, before, Takes}
-use Rattle.fused_net.specs.Laws.{GoesOn, Settled, AllKept}
-use Rattle.fused_net.specs.Costs.{sum_below, total, all_asks, Uses}
+use Rattle.fused_net.specs.Laws.{NetGoesOn, Settled, AllKept}
+use Rattle.fused_net.specs.Costs.{sum_below, total_cost, all_asks, Uses}
 
 -- a number stands in a list, at whichever end
-holds_last : (queue : List ℕ) (w u : ℕ) → holds (queue ++ w ∷ []) u ≡ holds (w ∷ queue) u
-holds_last queue w u = list_any-append (λ x. x == u) queue (w ∷ []) ∙ or_swap (holds queue u) (w == u)
+holds_last : (queue : List ℕ) (w u : ℕ) → is_waiting (queue ++ w ∷ []) u ≡ is_waiting (w ∷ queue) u
+holds_last queue w u = list_any-append (λ x. x == u) queue (w ∷ []) ∙ or_swap (is_waiting queue u) (w == u)
   where
     or_swap : (a b : Bool) → (a || (b || false)) ≡ (b || a)
     or_swap true true = refl
@@ -30,16 +30,16 @@ queued net q = record net { queue = q }
 
 -- the same wires wait
 abbrev Same : List ℕ → List ℕ → Type 0
-Same q r = (u : ℕ) → holds q u ≡ holds r u
+Same q r = (u : ℕ) → is_waiting q u ≡ is_waiting r u
 
 module _ {N : Type 0} where
-  moved_goes : (net new : Net N) (q r : List ℕ) → GoesOn (queued net q) new → GoesOn (queued net r) new
+  moved_goes : (net new : Net N) (q r : List ℕ) → NetGoesOn (queued net q) new → NetGoesOn (queued net r) new
   moved_goes net new q r on = record { firsts = on.firsts; ends = on.ends; ports = on.ports; nodes = on.nodes; wires = on.wires }
 
-  went_moved : (old net : Net N) (q r : List ℕ) → GoesOn old (queued net q) → GoesOn old (queued net r)
+  went_moved : (old net : Net N) (q r : List ℕ) → NetGoesOn old (queued net q) → NetGoesOn old (queued net r)
   went_moved old net q r on = record { firsts = on.firsts; ends = on.ends; ports = on.ports; nodes = on.nodes; wires = on.wires }
 
-  moved_total : (net : Net N) (q r : List ℕ) → Same q r → total (queued net q) ≡ total (queued net r)
+  moved_total : (net : Net N) (q r : List ℕ) → Same q r → total_cost (queued net q) ≡ total_cost (queued net r)
   moved_total net q r same = sum_same _ _ (length net.wires) (λ w. ap (spent (wire_at net w).wire) (same w))
 
   moved_uses : (net new : Net N) (q r : List ℕ) (units : ℕ) → Same q r → Uses (queued net q) new units → Uses (queued net r) new units
@@ -92,12 +92,12 @@ module _ {N : Type 0} (row : N → View → Type 0) (law : N → N → View → 
 module _ {N : Type 0} where
   same_wires : (old new : Net N) (w : ℕ) → Takes old w new → Same old.queue (w ∷ new.queue)
   same_wires old new w t u = elim (t.stood) [
-    | inl e ↦ ap (λ (q : List ℕ). holds q u) e
-    | inr e ↦ ap (λ (q : List ℕ). holds q u) e ∙ holds_last new.queue w u
+    | inl e ↦ ap (λ (q : List ℕ). is_waiting q u) e
+    | inr e ↦ ap (λ (q : List ℕ). is_waiting q u) e ∙ holds_last new.queue w u
   ]
 
-  pub taken_goes : (old net new : Net N) (w : ℕ) → Takes old w net → GoesOn net new → GoesOn old new
-  taken_goes old net new w t on = subst (λ (a : Net N). GoesOn a new) (sym t.is) (moved_goes net new net.queue old.queue on)
+  pub taken_goes : (old net new : Net N) (w : ℕ) → Takes old w net → NetGoesOn net new → NetGoesOn old new
+  taken_goes old net new w t on = subst (λ (a : Net N). NetGoesOn a new) (sym t.is) (moved_goes net new net.queue old.queue on)
 
   pub taken_uses : (old net new : Net N) (w units : ℕ) → Takes old w net → Uses (before net w) new units → Uses old new units
   taken_uses old net new w units t u = subst (λ (a : Net N). Uses a new units) (sym t.is) (moved_uses net new (w ∷ net.queue) old.queue units (λ k. sym (same_wires old net w t k)) u)

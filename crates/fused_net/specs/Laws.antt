@@ -2,7 +2,7 @@
 use Rattle.std.specs.Prelude.{◌≡◌, ◌≢◌, ℕ, ◌<◌, ◌≤◌, ◌⊎◌, true, Some, List, [], ◌∷◌, length, replicate, slice_get, ⊤}
 use Rattle.elem_core.specs.Prefix.{IsPrefix}
 use Rattle.elem_core.specs.declared.item.Item.{Item}
-use Rattle.port_core.specs.Ring.{holds}
+use Rattle.port_core.specs.Ring.{is_waiting}
 use Rattle.port_core.specs.Joint.{IsSound}
 use Rattle.port_core.specs.View.{View, in_at, ActsAllowed, acted_all}
 use Rattle.port_core.specs.Asking.{PullsStand}
@@ -43,7 +43,7 @@ abbrev pub FreshLaw : {N : Type 0} → N → N → View → List (List Item) →
 FreshLaw first x v took gave = (first ≡ x) × (CallAllowed starts v × ((AllEmpty took × AllEmpty gave) × ((length took ≡ length v.ins) × (length gave ≡ length v.outs))))
 
 -- the graph goes on: the same wiring, and the same nodes at its start
-pub record GoesOn {N : Type 0} (old new : Net N) : Type 0 where
+pub record NetGoesOn {N : Type 0} (old new : Net N) : Type 0 where
   pub firsts : new.firsts ≡ old.firsts
   pub ends : new.ends ≡ old.ends
   pub ports : new.ports ≡ old.ports
@@ -84,7 +84,7 @@ module _ {N : Type 0} (row : N → View → Type 0) (law : N → N → View → 
   pub record Busy (net : Net N) (n : ℕ) (acts : List Act) : Type 0 where
     pub wired : Wired net.ends net.ports (length net.nodes) (length net.wires)
     pub each_first : length net.firsts ≡ length net.nodes
-    pub sound : (w : ℕ) → w < length net.wires → IsSound (wire_at net w).wire (holds net.queue w)
+    pub sound : (w : ℕ) → w < length net.wires → IsSound (wire_at net w).wire (is_waiting net.queue w)
     pub marked : (w : ℕ) → w < length net.wires → IsMarked (wire_at net w)
     pub within : n < length net.nodes
     pub stands : PullsStand acts
@@ -96,10 +96,10 @@ module _ {N : Type 0} (row : N → View → Type 0) (law : N → N → View → 
   -- wire's input had pulled. It waited there, its row and its law held, and so did what it tells whenever it has just pulled.
   pub record LastAsk (net : Net N) (w : ℕ) : Type 0 where
     pub old : Net N
-    pub on : GoesOn old net
+    pub on : NetGoesOn old net
     pub grown : (u : ℕ) → u < length old.wires → Grown (wire_at old u) (wire_at net u)
     pub moves_on : MovesGrow moves old net
-    pub sound : (u : ℕ) → u < length old.wires → IsSound (wire_at old u).wire (holds old.queue u)
+    pub sound : (u : ℕ) → u < length old.wires → IsSound (wire_at old u).wire (is_waiting old.queue u)
     pub marked : (u : ℕ) → u < length old.wires → IsMarked (wire_at old u)
     pub waits : (wire_at old w).wire.inp ≡ Pulled
     pub asked : (wire_at old w).asked ≡ true
@@ -117,10 +117,10 @@ module _ {N : Type 0} (row : N → View → Type 0) (law : N → N → View → 
   -- moment each wire had a last ask of its own.
   pub record NodeAsked (net : Net N) (n : ℕ) : Type 0 where
     pub old : Net N
-    pub on : GoesOn old net
+    pub on : NetGoesOn old net
     pub grown : (u : ℕ) → u < length old.wires → Grown (wire_at old u) (wire_at net u)
     pub moves_on : MovesGrow moves old net
-    pub sound : (u : ℕ) → u < length old.wires → IsSound (wire_at old u).wire (holds old.queue u)
+    pub sound : (u : ℕ) → u < length old.wires → IsSound (wire_at old u).wire (is_waiting old.queue u)
     pub marked : (u : ℕ) → u < length old.wires → IsMarked (wire_at old u)
     pub minded : IsMinded row law old n []
     pub asking_then : IsAsking asking old n
@@ -137,7 +137,7 @@ module _ {N : Type 0} (row : N → View → Type 0) (law : N → N → View → 
   pub record Settled (net : Net N) : Type 0 where
     pub wired : Wired net.ends net.ports (length net.nodes) (length net.wires)
     pub each_first : length net.firsts ≡ length net.nodes
-    pub sound : (w : ℕ) → w < length net.wires → IsSound (wire_at net w).wire (holds net.queue w)
+    pub sound : (w : ℕ) → w < length net.wires → IsSound (wire_at net w).wire (is_waiting net.queue w)
     pub marked : (w : ℕ) → w < length net.wires → IsMarked (wire_at net w)
     pub minded : (n : ℕ) → n < length net.nodes → IsMinded row law net n []
     pub asked : AllAsked net
@@ -148,14 +148,14 @@ module _ {N : Type 0} (row : N → View → Type 0) (law : N → N → View → 
   pub record BreaksOff (keeps : N → N → Type 0) (old : Net N) (nodes : List N) : Type 0 where
     pub last : Net N
     pub settled : Settled last
-    pub on : GoesOn old last
+    pub on : NetGoesOn old last
     pub kept : AllKept keeps last.nodes nodes
 
   -- the nodes below n were started, and the others were not
   pub record Starting (fresh : N → View → Type 0) (net : Net N) (n : ℕ) : Type 0 where
     pub wired : Wired net.ends net.ports (length net.nodes) (length net.wires)
     pub each_first : length net.firsts ≡ length net.nodes
-    pub sound : (w : ℕ) → w < length net.wires → IsSound (wire_at net w).wire (holds net.queue w)
+    pub sound : (w : ℕ) → w < length net.wires → IsSound (wire_at net w).wire (is_waiting net.queue w)
     pub marked : (w : ℕ) → w < length net.wires → IsMarked (wire_at net w)
     pub below : (k : ℕ) → k < n → k < length net.nodes → IsMinded row law net k []
     pub asked : AllAsked net

@@ -1,7 +1,7 @@
 -- The wires that have an event, as the code keeps them: the ring, and behind it the wire at which a handler just pushed or pulled,
 -- which may come first.
 use Rattle.std.specs.Prelude.{◌≡◌, ℕ, ◌+◌, ◌<◌, ◌≤◌, Bool, false, if◌then◌else◌, Option, None, Some, List, [], ◌∷◌, ◌++◌, max, ⊤}
-use Rattle.port_core.specs.Ring.{holds}
+use Rattle.port_core.specs.Ring.{is_waiting}
 use Rattle.fused_net.specs.declared.queue.TheConstants.{MOST_CHASES}
 
 -- how many wires there are; those in the ring, first in first out; the chased wire, if there is one; whether a pull was chased since one
@@ -15,26 +15,26 @@ pub record Queue : Type 0 where
   pub chases : ℕ
   pub longest : ℕ
 
-abbrev pub listed : Option ℕ → List ℕ
-listed None = []
-listed (Some w) = w ∷ []
+abbrev pub chased_wires : Option ℕ → List ℕ
+chased_wires None = []
+chased_wires (Some w) = w ∷ []
 
 -- the wires that have an event: the chased one stands last
 abbrev pub waiting : Queue → List ℕ
-waiting q = q.ring ++ listed q.chased
+waiting q = q.ring ++ chased_wires q.chased
 
 -- the chased wire was put in the ring
-abbrev pub settled : Queue → Queue
-settled q = record q { ring = waiting q; chased = None }
+abbrev pub chase_queued : Queue → Queue
+chase_queued q = record q { ring = waiting q; chased = None }
 
 -- a wire at which a handler pushed comes first: a chase goes on by pushes, or begins anew
 abbrev pub pushed_first : Queue → ℕ → Queue
-pushed_first q w = record (settled q) { chased = Some w; pulling = false }
+pushed_first q w = record (chase_queued q) { chased = Some w; pulling = false }
 
 -- or it waits behind those that wait, where there are any
 abbrev pub pushed_behind : List ℕ → Queue → ℕ → Queue
 pushed_behind [] q w = pushed_first q w
-pushed_behind (u ∷ us) q w = record (settled q) { ring = waiting q ++ w ∷ [] }
+pushed_behind (u ∷ us) q w = record (chase_queued q) { ring = waiting q ++ w ∷ [] }
 
 -- once a pull was chased it does not run ahead of them
 abbrev pub pushed_on : Queue → ℕ → Queue
@@ -43,7 +43,7 @@ pushed_on q w = if q.pulling then pushed_behind (waiting q) q w else pushed_firs
 -- the chased wire has a place in the ring, and is not there
 abbrev pub HasPlace : ℕ → List ℕ → Option ℕ → Type 0
 HasPlace size ring None = ⊤
-HasPlace size ring (Some w) = (w < size) × (holds ring w ≡ false)
+HasPlace size ring (Some w) = (w < size) × (is_waiting ring w ≡ false)
 
 -- what every queue keeps
 pub record IsQueue (q : Queue) : Type 0 where

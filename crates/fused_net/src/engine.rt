@@ -3,7 +3,7 @@ ghost use Rattle.std.specs.Prelude.{◌≡◌, ℕ, true, ◌+◌, ◌<◌, ◌�
 ghost use Rattle.elem_core.specs.Prefix.{IsPrefix};
 ghost use Rattle.elem_core.specs.declared.count.TheConstants.{MOST_COUNT};
 ghost use Rattle.port_core.specs.Call.{Meets};
-ghost use Rattle.port_core.specs.Ring.{holds};
+ghost use Rattle.port_core.specs.Ring.{is_waiting};
 ghost use Rattle.port_core.specs.Wire.{nothing, delivery_of};
 ghost use Rattle.port_core.specs.declared.act.Act.TheVariants as act;
 ghost use Rattle.port_core.specs.declared.conn.Event.TheVariants as events;
@@ -12,7 +12,7 @@ ghost use Rattle.stage_core.specs.Handling.{PullsAs, StaysPassive, Handles};
 ghost use Rattle.wire_core.specs.Cell.{new_cell, brought_in, Tells};
 ghost use Rattle.fused_net.specs.Net.{acted, acted_all, event_told, put, wire_at, end_at, Able, port_at, node_for, call_for, IsBrought, before, Takes};
 ghost use Rattle.fused_net.specs.declared.queue.TheConstants.{MOST_CHASES};
-ghost use Rattle.fused_net.specs.Laws.{AnyRow, AnyLaw, Wired, first_view, Settled, Busy, Starting, GoesOn, AllKept, BreaksOff, IsMinded};
+ghost use Rattle.fused_net.specs.Laws.{AnyRow, AnyLaw, Wired, first_view, Settled, Busy, Starting, NetGoesOn, AllKept, BreaksOff, IsMinded};
 ghost use Rattle.fused_net.specs.Costs.{all_asks, Uses};
 ghost use Rattle.fused_net.specs.Poking.{AtNode, HandsAt, TellsPoked};
 ghost use Rattle.fused_net.specs.Outside.{BreaksAside, StandsStill, Untouched, touched};
@@ -168,7 +168,7 @@ impl<S: Stage> Engine<S> {
         requires empty { acts.old.items ≡ [] }
         requires room { MOST_ACTS ≤ acts.old.room }
         ensures starting { OnOk result (Starting S.port_state S.law S.asking S.moves S.fresh self.new (n + 1)) }
-        ensures on { OnOk result (GoesOn self.old self.new) }
+        ensures on { OnOk result (NetGoesOn self.old self.new) }
         ensures asks { OnOk result (all_asks self.new ≤ all_asks self.old) }
         ensures gone { OnOk result (map S.gone self.new.nodes ≡ map S.gone self.old.nodes) }
         ensures still { OnOk result (StandsStill S.passive self.old self.new) }
@@ -188,7 +188,7 @@ impl<S: Stage> Engine<S> {
         requires empty { acts.old.items ≡ [] }
         requires room { MOST_ACTS ≤ acts.old.room }
         ensures laws { OnOk result (Settled S.port_state S.law S.asking S.moves self.new) }
-        ensures on { OnOk result (GoesOn self.old self.new) }
+        ensures on { OnOk result (NetGoesOn self.old self.new) }
         ensures asks { OnOk result (all_asks self.new ≤ all_asks self.old) }
         ensures gone { OnOk result (map S.gone self.new.nodes ≡ map S.gone self.old.nodes) }
         ensures still { OnOk result (StandsStill S.passive self.old self.new) }
@@ -398,7 +398,7 @@ impl<S: Stage> Engine<S> {
     #[inline(always)]
     fn take(&mut self, w: u32, more: bool) -> Elem
         requires within { w < length self.old.wires }
-        requires absent { more ≡ true → holds self.old.queue w ≡ false }
+        requires absent { more ≡ true → is_waiting self.old.queue w ≡ false }
         requires there { IsSome (wire_at self.old w).wire.conn.to_grab }
         requires open { (wire_at self.old w).wire.conn.in_closed ≡ false }
         ensures value { (wire_at self.old w).wire.conn.to_grab ≡ Some result }
@@ -416,13 +416,13 @@ impl<S: Stage> Engine<S> {
     #[inline(always)]
     fn handle(&mut self, alloc: Global, w: u32, acts: &mut Acts) -> Result<bool, NoMemory>
         requires within { w < length self.old.wires }
-        requires absent { holds self.old.queue w ≡ false }
+        requires absent { is_waiting self.old.queue w ≡ false }
         requires laws { Settled S.port_state S.law S.asking S.moves (before self.old w) }
         requires few { all_asks self.old + 1 ≤ MOST_COUNT }
         requires empty { acts.old.items ≡ [] }
         requires room { MOST_ACTS ≤ acts.old.room }
         ensures laws { OnOk result (Settled S.port_state S.law S.asking S.moves self.new) }
-        ensures on { OnOk result (GoesOn self.old self.new) }
+        ensures on { OnOk result (NetGoesOn self.old self.new) }
         ensures uses { OnOk result (Uses (before self.old w) self.new 1) }
         ensures gone { OnOk result (map S.gone self.new.nodes ≡ map S.gone self.old.nodes) }
         ensures still { OnOk result (StandsStill S.passive self.old self.new) }
@@ -452,7 +452,7 @@ impl<S: Stage> Engine<S> {
     #[inline(always)]
     fn deliver(&mut self, w: u32, event: Event, since: Snapshot<Engine<S>>) -> Option<Delivered>
         requires within { w < length since.value.wires }
-        requires absent { holds since.value.queue w ≡ false }
+        requires absent { is_waiting since.value.queue w ≡ false }
         requires no_push { event ≢ events.Push }
         requires no_pull { event ≢ events.Pull }
         requires tells { Tells event (wire_at since.value w) (wire_at self.old w) }
@@ -481,7 +481,7 @@ impl<S: Stage> Engine<S> {
         acts: &mut Acts,
     ) -> Result<bool, NoMemory>
         requires within { w < length since.value.wires }
-        requires absent { holds since.value.queue w ≡ false }
+        requires absent { is_waiting since.value.queue w ≡ false }
         requires laws { Settled S.port_state S.law S.asking S.moves (before since.value w) }
         requires few { all_asks since.value + 1 ≤ MOST_COUNT }
         requires no_push { event ≢ events.Push }
@@ -491,7 +491,7 @@ impl<S: Stage> Engine<S> {
         requires empty { acts.old.items ≡ [] }
         requires room { MOST_ACTS ≤ acts.old.room }
         ensures laws { OnOk result (Settled S.port_state S.law S.asking S.moves self.new) }
-        ensures on { OnOk result (GoesOn since.value self.new) }
+        ensures on { OnOk result (NetGoesOn since.value self.new) }
         ensures uses { OnOk result (Uses (before since.value w) self.new 1) }
         ensures gone { OnOk result (map S.gone self.new.nodes ≡ map S.gone since.value.nodes) }
         ensures still { OnOk result (StandsStill S.passive since.value self.new) }
@@ -511,7 +511,7 @@ impl<S: Stage> Engine<S> {
     // Takes out the wire whose event comes next: the one that waits first, or the one that was queued last, where it is chased.
     fn next(&mut self) -> Option<u32>
         ensures none { IfNone result ((self.old.queue ≡ []) × (self.new ≡ self.old)) }
-        ensures some { IfSome result (λ w. (w < length self.new.wires) × ((holds self.new.queue w ≡ false) × Takes self.old w self.new)) }
+        ensures some { IfSome result (λ w. (w < length self.new.wires) × ((is_waiting self.new.queue w ≡ false) × Takes self.old w self.new)) }
     {
         self.queue.next()
     }
@@ -531,7 +531,7 @@ impl<S: Stage> Engine<S> {
         requires empty { acts.old.items ≡ [] }
         requires room { MOST_ACTS ≤ acts.old.room }
         ensures laws { OnOk result (Settled S.port_state S.law S.asking S.moves self.new) }
-        ensures on { OnOk result (GoesOn self.old self.new) }
+        ensures on { OnOk result (NetGoesOn self.old self.new) }
         ensures uses { IfOk result (λ used. Uses self.old self.new used) }
         ensures within { IfOk result (λ used. used ≤ limit) }
         ensures rest { IfOk result (λ used. used < limit → self.new.queue ≡ []) }
@@ -567,7 +567,7 @@ impl<S: Stage> Engine<S> {
         requires empty { acts.old.items ≡ [] }
         requires room { MOST_ACTS ≤ acts.old.room }
         ensures laws { OnOk result (Settled S.port_state S.law S.asking S.moves self.new) }
-        ensures on { OnOk result (GoesOn self.old self.new) }
+        ensures on { OnOk result (NetGoesOn self.old self.new) }
         ensures uses { IfOk result (λ a. Uses self.old self.new a.used) }
         ensures within { IfOk result (λ a. a.used ≤ limit) }
         ensures rest { IfOk result (λ a. a.used < limit → a.heard ≡ None → self.new.queue ≡ []) }
@@ -628,7 +628,7 @@ impl<S: Stage> Engine<S> {
         requires within { n < length self.old.nodes }
         ensures none { IfNone result ((self.new ≡ self.old) × AtNode self.old n (λ x. S.waits x ≡ [])) }
         ensures some { IfSome result (λ i. HandsAt S.gone S.waits self.old n (i ∷ []) self.new) }
-        ensures on { GoesOn self.old self.new }
+        ensures on { NetGoesOn self.old self.new }
         ensures uses { Uses self.old self.new 0 }
         ensures laws { Settled S.port_state S.law S.asking S.moves self.new }
     {
@@ -640,7 +640,7 @@ impl<S: Stage> Engine<S> {
         requires laws { Settled S.port_state S.law S.asking S.moves self.old }
         requires within { n < length self.old.nodes }
         ensures hands { AtNode self.old n (λ x. HandsAt S.gone S.waits self.old n (S.waits x) self.new) }
-        ensures on { GoesOn self.old self.new }
+        ensures on { NetGoesOn self.old self.new }
         ensures uses { Uses self.old self.new 0 }
         ensures laws { Settled S.port_state S.law S.asking S.moves self.new }
     {
@@ -657,7 +657,7 @@ impl<S: Stage> Engine<S> {
         requires few { all_asks self.old ≤ MOST_COUNT }
         ensures after { self.new ≡ acted self.old n act }
         ensures laws { Settled S.port_state S.law S.asking S.moves self.new }
-        ensures on { GoesOn self.old self.new }
+        ensures on { NetGoesOn self.old self.new }
         ensures uses { Uses self.old self.new 0 }
     {
         self.act(n as usize, act);

@@ -1,6 +1,6 @@
 ghost use Rattle.std.specs.Prelude.{◌≡◌, ◌<◌, ◌≤◌, ◌∷◌, [], ◌++◌, false, true, None, Some, if◌then◌else◌, IsTrue, IfNone, IfSome, ◌↔◌, ◌⊎◌, max};
-ghost use Rattle.port_core.specs.Ring.{holds};
-ghost use Rattle.fused_net.specs.Queue.{waiting, settled, pushed_on, Chases, Dequeues};
+ghost use Rattle.port_core.specs.Ring.{is_waiting};
+ghost use Rattle.fused_net.specs.Queue.{waiting, chase_queued, pushed_on, Chases, Dequeues};
 ghost use Rattle.fused_net.specs.declared.queue.TheConstants.{MOST_CHASES};
 
 use port_core::ring::EventRing;
@@ -71,8 +71,8 @@ impl EventQueue {
     #[inline(always)]
     pub fn pull(&mut self, w: u32)
         requires within { w < self.old.size }
-        requires absent { holds (waiting self.old) w ≡ false }
-        ensures is { self.new ≡ record (settled self.old) { chased = Some w; pulling = true } }
+        requires absent { is_waiting (waiting self.old) w ≡ false }
+        ensures is { self.new ≡ record (chase_queued self.old) { chased = Some w; pulling = true } }
         ensures waits { waiting self.new ≡ waiting self.old ++ w ∷ [] }
     {
         self.settle();
@@ -85,7 +85,7 @@ impl EventQueue {
     #[inline(always)]
     pub fn push(&mut self, w: u32)
         requires within { w < self.old.size }
-        requires absent { holds (waiting self.old) w ≡ false }
+        requires absent { is_waiting (waiting self.old) w ≡ false }
         ensures is { self.new ≡ pushed_on self.old w }
         ensures size { self.new.size ≡ self.old.size }
         ensures waits { waiting self.new ≡ waiting self.old ++ w ∷ [] }
@@ -102,8 +102,8 @@ impl EventQueue {
     /// Puts a wire last in the ring, so that it waits for its turn. It takes no memory.
     pub fn enqueue(&mut self, w: u32)
         requires within { w < self.old.size }
-        requires absent { holds (waiting self.old) w ≡ false }
-        ensures is { self.new ≡ record (settled self.old) { ring = waiting self.old ++ w ∷ [] } }
+        requires absent { is_waiting (waiting self.old) w ≡ false }
+        ensures is { self.new ≡ record (chase_queued self.old) { ring = waiting self.old ++ w ∷ [] } }
         ensures waits { waiting self.new ≡ waiting self.old ++ w ∷ [] }
     {
         self.settle();
@@ -114,8 +114,8 @@ impl EventQueue {
     #[inline(never)]
     pub fn close(&mut self, w: u32, queued: bool)
         requires within { w < self.old.size }
-        requires absent { queued ≡ true → holds (waiting self.old) w ≡ false }
-        ensures is { self.new ≡ (if queued then record (settled self.old) { ring = waiting self.old ++ w ∷ [] } else settled self.old) }
+        requires absent { queued ≡ true → is_waiting (waiting self.old) w ≡ false }
+        ensures is { self.new ≡ (if queued then record (chase_queued self.old) { ring = waiting self.old ++ w ∷ [] } else chase_queued self.old) }
         ensures size { self.new.size ≡ self.old.size }
         ensures waits { waiting self.new ≡ (if queued then waiting self.old ++ w ∷ [] else waiting self.old) }
     {
@@ -129,7 +129,7 @@ impl EventQueue {
     /// Every wire waits for its turn. It takes no memory.
     #[inline(always)]
     pub fn settle(&mut self)
-        ensures is { self.new ≡ settled self.old }
+        ensures is { self.new ≡ chase_queued self.old }
         ensures waits { waiting self.new ≡ waiting self.old }
     {
         if let Some(w) = self.chased {
@@ -141,7 +141,7 @@ impl EventQueue {
     #[inline(never)]
     fn settle_one(&mut self, chased: u32)
         requires { self.old.chased ≡ Some chased }
-        ensures is { self.new ≡ settled self.old }
+        ensures is { self.new ≡ chase_queued self.old }
         ensures waits { waiting self.new ≡ waiting self.old }
     {
         self.chased = None;
@@ -151,9 +151,9 @@ impl EventQueue {
     /// Takes out the wire whose event is to be handled: the chased one, where fewer than 16 were chased since one came from the ring,
     /// else the first of the ring.
     pub fn next(&mut self) -> Option<u32>
-        ensures none { IfNone result ((waiting self.old ≡ []) × (self.new ≡ settled self.old)) }
+        ensures none { IfNone result ((waiting self.old ≡ []) × (self.new ≡ chase_queued self.old)) }
         ensures some { IfSome result (λ w. Chases self.old w self.new ⊎ Dequeues self.old w self.new) }
-        ensures once { IfSome result (λ w. (w < self.new.size) × (holds (waiting self.new) w ≡ false)) }
+        ensures once { IfSome result (λ w. (w < self.new.size) × (is_waiting (waiting self.new) w ≡ false)) }
         ensures size { self.new.size ≡ self.old.size }
     {
         if let Some(w) = self.chased {
@@ -172,7 +172,7 @@ impl EventQueue {
         requires { self.old.chased ≡ None }
         ensures none { IfNone result ((self.old.ring ≡ []) × (self.new ≡ self.old)) }
         ensures some { IfSome result (λ w. Dequeues self.old w self.new) }
-        ensures once { IfSome result (λ w. (w < self.new.size) × (holds self.new.ring w ≡ false)) }
+        ensures once { IfSome result (λ w. (w < self.new.size) × (is_waiting self.new.ring w ≡ false)) }
     {
         let w = self.ring.dequeue()?;
         if self.longest < self.chases {

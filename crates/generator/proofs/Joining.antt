@@ -3,7 +3,7 @@ use Rattle.std.proofs.Common.{◌≡◌, ◌≢◌, ◌∙◌, ℕ, List, [], in
 use lib.Pointwise.{bytes_decides}
 use Rattle.stream_io.specs.State.{FolderState}
 use Rattle.run_files.proofs.Counts.{quiet_two}
-use Rattle.generator.specs.Texts.{lines_file, blueprint_file, lines_text, blueprint_text}
+use Rattle.generator.specs.Texts.{lines_file, blueprint_file, numbered_lines, blueprint_text}
 use Rattle.generator.specs.Writing.{Writes, StopsWriting}
 use Rattle.generator.specs.Generated.{StopsGenerating}
 
@@ -15,9 +15,9 @@ blueprint_differs e = lines_differ (sym e)
 
 -- the lines were written, and then memory was wanting
 pub stops_behind_lines : (a b c : FolderState) (n : ℕ) (first second : List ℕ) → first ≡ lines_file → second ≡ blueprint_file
-    → Writes a b first (lines_text n) → StopsWriting b c second blueprint_text → StopsGenerating a c n
+    → Writes a b first (numbered_lines n) → StopsWriting b c second blueprint_text → StopsGenerating a c n
 stops_behind_lines a b c n first second is_first is_second writes stops =
-    let w = subst (λ name. Writes a b name (lines_text n)) is_first writes in
+    let w = subst (λ name. Writes a b name (numbered_lines n)) is_first writes in
     let s = subst (λ name. StopsWriting b c name blueprint_text) is_second stops in
     record {
       two = record {
@@ -27,8 +27,8 @@ stops_behind_lines a b c n first second is_first is_second writes stops =
         rfaults = quiet_two a.rfaults b.rfaults c.rfaults w.only.rfaults s.only.rfaults;
       };
       lines = λ t. inr (record {
-        part = lines_text n;
-        is_part = record { rest = []; is = sym (append-nil (lines_text n)) };
+        part = numbered_lines n;
+        is_part = record { rest = []; is = sym (append-nil (numbered_lines n)) };
         holds = s.only.others t lines_file lines_differ ∙ w.file (s.only.told t);
       });
       blueprint = λ t. elim (s.file t) [

@@ -3,7 +3,7 @@ use Rattle.std.proofs.Common.{◌≡◌, ◌∙◌, ◌+◌, ◌-◌, ◌≤◌,
 use Rattle.std.specs.List.{flat_map, range_with_len}
 use Rattle.stream_io.specs.State.{DrainState}
 use Rattle.stream_io.specs.Putting.{Puts, PutsPart}
-use Rattle.run_report.specs.Writing.{Leaves}
+use Rattle.run_report.specs.Writing.{LeavesRest}
 use Rattle.run_report.proofs.Puttings.{leaves_all, leaves_less, leaves_none, leaves_stop}
 
 -- so many lines, and then so many more
@@ -28,27 +28,27 @@ lines_cut f n done count within =
 
 -- one piece more was put
 pub leaves_lines : (f : ℕ → List ℕ) (n done count : ℕ) (s t u : DrainState) (whole : List ℕ) → done + count ≤ n
-    → Leaves s t whole (flat_map f (range_with_len (done + 1) (n - done))) → Puts t u (flat_map f (range_with_len (done + 1) count))
-    → Leaves s u whole (flat_map f (range_with_len ((done + count) + 1) (n - (done + count))))
+    → LeavesRest s t whole (flat_map f (range_with_len (done + 1) (n - done))) → Puts t u (flat_map f (range_with_len (done + 1) count))
+    → LeavesRest s u whole (flat_map f (range_with_len ((done + count) + 1) (n - (done + count))))
 leaves_lines f n done count s t u whole within l p =
-    leaves_less s t u whole (flat_map f (range_with_len (done + 1) count)) (flat_map f (range_with_len ((done + count) + 1) (n - (done + count)))) (subst (Leaves s t whole) (lines_cut f n done count within) l) p
+    leaves_less s t u whole (flat_map f (range_with_len (done + 1) count)) (flat_map f (range_with_len ((done + count) + 1) (n - (done + count)))) (subst (LeavesRest s t whole) (lines_cut f n done count within) l) p
 
 -- a write failed in one piece
 pub stops_lines : (f : ℕ → List ℕ) (n done count : ℕ) (s t u : DrainState) (whole : List ℕ) → done + count ≤ n
-    → Leaves s t whole (flat_map f (range_with_len (done + 1) (n - done))) → PutsPart t u (flat_map f (range_with_len (done + 1) count))
+    → LeavesRest s t whole (flat_map f (range_with_len (done + 1) (n - done))) → PutsPart t u (flat_map f (range_with_len (done + 1) count))
     → PutsPart s u whole
 stops_lines f n done count s t u whole within l p =
-    leaves_stop s t u whole (flat_map f (range_with_len (done + 1) count)) (flat_map f (range_with_len ((done + count) + 1) (n - (done + count)))) (subst (Leaves s t whole) (lines_cut f n done count within) l) p
+    leaves_stop s t u whole (flat_map f (range_with_len (done + 1) count)) (flat_map f (range_with_len ((done + count) + 1) (n - (done + count)))) (subst (LeavesRest s t whole) (lines_cut f n done count within) l) p
 
 -- no line is left
 pub ends_lines : (f : ℕ → List ℕ) (n done : ℕ) (s t : DrainState) (whole : List ℕ) → n ≤ done
-    → Leaves s t whole (flat_map f (range_with_len (done + 1) (n - done))) → Puts s t whole
+    → LeavesRest s t whole (flat_map f (range_with_len (done + 1) (n - done))) → Puts s t whole
 ends_lines f n done s t whole past l =
     let none : n - done ≡ 0 = omega (arith, past) in
-    leaves_none s t whole (subst (λ k. Leaves s t whole (flat_map f (range_with_len (done + 1) k))) none l)
+    leaves_none s t whole (subst (λ k. LeavesRest s t whole (flat_map f (range_with_len (done + 1) k))) none l)
 
 -- at the start all lines are to come
-pub starts_lines : (f : ℕ → List ℕ) (n : ℕ) (s : DrainState) → Leaves s s (flat_map f (range_with_len 1 n)) (flat_map f (range_with_len (0 + 1) (n - 0)))
+pub starts_lines : (f : ℕ → List ℕ) (n : ℕ) (s : DrainState) → LeavesRest s s (flat_map f (range_with_len 1 n)) (flat_map f (range_with_len (0 + 1) (n - 0)))
 starts_lines f n s =
     let all : n - 0 ≡ n = omega arith in
     rw all (leaves_all s (flat_map f (range_with_len 1 n)))

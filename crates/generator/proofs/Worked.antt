@@ -1,13 +1,13 @@
 -- Worked rows of the generated lines.
 use Rattle.std.proofs.Common.{◌≡◌, refl, codes}
 use Rattle.std.specs.Fmt.{digits}
-use Rattle.generator.specs.Texts.{line_of, lines_text}
+use Rattle.generator.specs.Texts.{line_of, numbered_lines}
 
-four_lines : lines_text 4 ≡ codes "923\n842\n761\n680\n"
+four_lines : numbered_lines 4 ≡ codes "923\n842\n761\n680\n"
 unfolding digits
 four_lines = refl
 
-one_line : lines_text 1 ≡ codes "920\n"
+one_line : numbered_lines 1 ≡ codes "920\n"
 unfolding digits
 one_line = refl
 

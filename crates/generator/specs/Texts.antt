@@ -16,8 +16,8 @@ abbrev pub line_of : ℕ → ℕ → List ℕ
 line_of n number = decimal ((7919 * number + n) % 1000) ++ codes "\n"
 
 -- n lines, numbered from 1
-abbrev pub lines_text : ℕ → List ℕ
-lines_text n = flat_map (line_of n) (range_with_len 1 n)
+abbrev pub numbered_lines : ℕ → List ℕ
+numbered_lines n = flat_map (line_of n) (range_with_len 1 n)
 
 -- the even numbers among the lines, and the sum of all
 abbrev pub blueprint_text : List ℕ
@@ -37,5 +37,5 @@ blueprint_text = codes "streams 1\n"
     ++ codes "wire f.0 -> sum.0\n"))))))))))))
 
 abbrev pub text_of : Text → List ℕ
-text_of (text.Lines n) = lines_text n
+text_of (text.Lines n) = numbered_lines n
 text_of text.Blueprint = blueprint_text

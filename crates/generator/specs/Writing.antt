@@ -4,12 +4,12 @@ use Rattle.elem_core.specs.Prefix.{IsPrefix}
 use Rattle.stream_io.specs.Counts.{Rose}
 use Rattle.stream_io.specs.State.{DrainState, FolderState, SameFiles}
 use Rattle.run_files.specs.Quiet.{Quiet, QuietBut}
-use Rattle.run_report.specs.Writing.{Leaves}
+use Rattle.run_report.specs.Writing.{LeavesRest}
 
 -- the drain has a first part of these bytes more, and no write failed
 pub record PutsSome (old new : DrainState) (whole : List ℕ) : Type 0 where
   pub rest : List ℕ
-  pub leaves : Leaves old new whole rest
+  pub leaves : LeavesRest old new whole rest
 
 -- the file holds a first part of the text
 pub record HoldsPart (folder : FolderState) (name whole : List ℕ) : Type 0 where

@@ -1,7 +1,7 @@
 // The two generated files.
 ghost use Rattle.std.specs.Prelude.{◌≡◌, ◌≤◌, ℕ, List, length, IsTrue, IfOk, OnOk, Err};
 ghost use Rattle.elem_core.specs.Line.{has_no_lf};
-ghost use Rattle.generator.specs.Generated.{Generates, MissesFile, FailsAtFile, StopsGenerating};
+ghost use Rattle.generator.specs.Generated.{Generates, MissesInputFile, FailsAtFile, StopsGenerating};
 
 use crate::put::Text;
 use crate::write::{GenerateWriteEnd, write_file};
@@ -44,7 +44,7 @@ fn line_of(alloc: Global, name: &[u8]) -> Result<Line, AllocError>
 /// of the two files is as before or holds a first part of its text. It leaves as many open handles as there were.
 pub fn generate<F: Folder>(alloc: Global, folder: &mut F, n: u32) -> Result<(), GenerateEnd>
     ensures ok { OnOk result (Generates (F.state folder.old) (F.state folder.new) n) }
-    ensures missing { (name : List ℕ) → result ≡ Err (GenerateEnd.Missing name) → MissesFile (F.state folder.old) (F.state folder.new) n name }
+    ensures missing { (name : List ℕ) → result ≡ Err (GenerateEnd.Missing name) → MissesInputFile (F.state folder.old) (F.state folder.new) n name }
     ensures fault { result ≡ Err GenerateEnd.WriteFault → FailsAtFile (F.state folder.old) (F.state folder.new) n }
     ensures no_memory { result ≡ Err GenerateEnd.NoMemory → StopsGenerating (F.state folder.old) (F.state folder.new) n }
     ensures handles { F.handles folder.new ≡ F.handles folder.old }

@@ -2,7 +2,7 @@
 ghost use Rattle.std.specs.Prelude.{◌≡◌, ◌+◌, ◌≤◌, ◌++◌, OnOk, OnErr, Err};
 ghost use Rattle.std.specs.List.{flat_map, range_with_len};
 ghost use Rattle.stream_io.specs.Putting.{Puts, PutsPart};
-ghost use Rattle.generator.specs.Texts.{line_of, lines_text, blueprint_text, text_of};
+ghost use Rattle.generator.specs.Texts.{line_of, numbered_lines, blueprint_text, text_of};
 ghost use Rattle.generator.specs.Writing.{PutsSome};
 
 use itoa::Buffer;
@@ -67,9 +67,9 @@ fn fill(piece: &mut Vec<u8>, n: u32, before: u32, count: u32) -> Result<(), Allo
 
 /// Puts n lines, a piece of them at a time.
 fn put_lines<D: Drain>(alloc: Global, drain: &mut D, n: u32) -> Result<(), PutEnd>
-    ensures ok { OnOk result (Puts (D.state drain.old) (D.state drain.new) (lines_text n)) }
-    ensures failed { result ≡ Err PutEnd.Failed → PutsPart (D.state drain.old) (D.state drain.new) (lines_text n) }
-    ensures no_memory { result ≡ Err PutEnd.NoMemory → PutsSome (D.state drain.old) (D.state drain.new) (lines_text n) }
+    ensures ok { OnOk result (Puts (D.state drain.old) (D.state drain.new) (numbered_lines n)) }
+    ensures failed { result ≡ Err PutEnd.Failed → PutsPart (D.state drain.old) (D.state drain.new) (numbered_lines n) }
+    ensures no_memory { result ≡ Err PutEnd.NoMemory → PutsSome (D.state drain.old) (D.state drain.new) (numbered_lines n) }
 {
     let mut piece = Vec::new(alloc);
     let mut done = 0;

@@ -3,7 +3,7 @@ use Rattle.std.specs.Prelude.{◌≡◌, ◌≢◌, ◌+◌, ◌/◌, ◌<◌, �
 use Rattle.elem_core.specs.Tree.{Tree}
 use Rattle.elem_core.specs.Items.{elements}
 use Rattle.elem_core.specs.declared.item.Item.{Item}
-use Rattle.lane_core.specs.Ends.{taken, asked, asks, has_cancelled, in_size}
+use Rattle.lane_core.specs.Ends.{taken_items, asked_in_all, ask_calls, has_cancelled, in_size}
 use Rattle.stream_model.specs.Outlook.{End, unended}
 use Rattle.stream_model.specs.Lane.{Carries}
 use Rattle.stage_law.specs.Held.{told}
@@ -34,15 +34,15 @@ pub record BoundaryKeeps (b : InputBoundary) : Type 0 where
   pub taken_end : End
   pub given_list : List Tree
   pub given_end : End
-  pub taken_is : taken b.lane ≡ told taken_list taken_end
+  pub taken_is : taken_items b.lane ≡ told taken_list taken_end
   pub given_is : given b ≡ told given_list given_end
   pub carries : Carries (in_size b.lane) taken_list taken_end given_list given_end
   pub goes_on : state b ≢ Closed → given_end ≡ unended
   pub closed : state b ≡ Closed → given_end ≢ unended
   pub cancelled : has_cancelled b.lane ≡ cancelled_by (state b)
   pub since : ℕ
-  pub by_halves : AsksByHalves (in_size b.lane) (max 1 (in_size b.lane / 2)) (asked b.lane) (asks b.lane) (elements (given b)) since
-  pub asked_for : asked b.lane ≤ elements (given b) + in_size b.lane
-  pub more : elements (given b) < asked b.lane
-  pub least : in_size b.lane ≤ asked b.lane
-  pub calls : asks b.lane ≤ elements (given b) + 1
+  pub by_halves : AsksByHalves (in_size b.lane) (max 1 (in_size b.lane / 2)) (asked_in_all b.lane) (ask_calls b.lane) (elements (given b)) since
+  pub asked_for : asked_in_all b.lane ≤ elements (given b) + in_size b.lane
+  pub more : elements (given b) < asked_in_all b.lane
+  pub least : in_size b.lane ≤ asked_in_all b.lane
+  pub calls : ask_calls b.lane ≤ elements (given b) + 1

@@ -4,7 +4,7 @@ ghost use Rattle.elem_core.specs.Items.{elements};
 ghost use Rattle.elem_core.specs.declared.item.Item.{Item};
 ghost use Rattle.elem_core.specs.declared.count.TheConstants.{MOST_COUNT};
 ghost use Rattle.lane_core.specs.Lane.{ends};
-ghost use Rattle.lane_core.specs.Ends.{taken, asked, asks, has_cancelled, found_sent, told_sent, in_size, learnt, IsSameIn, AreOneLane, IsLaneHistory, WaitsAre};
+ghost use Rattle.lane_core.specs.Ends.{taken_items, asked_in_all, ask_calls, has_cancelled, found_sent, told_sent, in_size, learnt, IsSameIn, AreOneLane, IsLaneHistory, WaitsAre};
 ghost use Rattle.lane_meet.specs.Meeting.{KeepsIn, KeepsOut, AreTold};
 ghost use Rattle.input_boundary.specs.Flow.{Flow, AsksByHalves};
 ghost use Rattle.input_boundary.specs.declared.state.State.TheVariants.{Flowing, Closed, Cancelled};
@@ -41,8 +41,8 @@ pub struct InputBoundary {
     ending: Trace<Item>,
     ghost wide: { buffer.capacity ≡ in_size lane },
     ghost halves: { half ≡ max 1 (in_size lane / 2) },
-    ghost asking: { AsksByHalves (in_size lane) half (asked lane) (asks lane) (elements gave.items) passed },
-    ghost flow: { Flow (in_size lane) (taken lane) gave.items lost.items buffer.items ending.items pending over state (has_cancelled lane) },
+    ghost asking: { AsksByHalves (in_size lane) half (asked_in_all lane) (ask_calls lane) (elements gave.items) passed },
+    ghost flow: { Flow (in_size lane) (taken_items lane) gave.items lost.items buffer.items ending.items pending over state (has_cancelled lane) },
 }
 
 /// What was handed on, and whether the lane was asked for more.
@@ -60,8 +60,8 @@ impl InputBoundary {
     /// The boundary at this end of a lane, to which nothing came and which asked for nothing. It takes the memory of all places,
     /// and asks for as many elements.
     pub fn new(alloc: Global, lane: LaneIn) -> Result<InputBoundary, AllocError>
-        requires unused { (taken lane ≡ []) × (asked lane ≡ 0) × (asks lane ≡ 0) × (has_cancelled lane ≡ 0) }
-        ensures lane { IfOk result (λ b. IsSameIn lane b.lane × (taken b.lane ≡ []) × (asked b.lane ≡ in_size lane) × (has_cancelled b.lane ≡ 0)) }
+        requires unused { (taken_items lane ≡ []) × (asked_in_all lane ≡ 0) × (ask_calls lane ≡ 0) × (has_cancelled lane ≡ 0) }
+        ensures lane { IfOk result (λ b. IsSameIn lane b.lane × (taken_items b.lane ≡ []) × (asked_in_all b.lane ≡ in_size lane) × (has_cancelled b.lane ≡ 0)) }
         ensures nothing { IfOk result (λ b. (given b ≡ []) × (waits b ≡ []) × (is_over b ≡ false) × (state b ≡ Flowing)) }
     {
         let mut lane = lane;
@@ -84,7 +84,7 @@ impl InputBoundary {
 
     /// How many elements its lane was asked for in all.
     pub fn asked(&self) -> u64
-        ensures { result ≡ asked self.now.lane }
+        ensures { result ≡ asked_in_all self.now.lane }
     {
         self.lane.asked()
     }
@@ -99,11 +99,11 @@ impl InputBoundary {
     /// Takes the next item off the lane, where one was sent and no end was taken; false comes exactly where none was. An element waits,
     /// and an end behind it; a failure drops what waits. What comes behind a cancel is dropped. It takes no memory.
     pub fn look(&mut self) -> bool
-        ensures lane { IsSameIn self.old.lane self.new.lane × (asked self.new.lane ≡ asked self.old.lane) × (asks self.new.lane ≡ asks self.old.lane) × (has_cancelled self.new.lane ≡ has_cancelled self.old.lane) }
+        ensures lane { IsSameIn self.old.lane self.new.lane × (asked_in_all self.new.lane ≡ asked_in_all self.old.lane) × (ask_calls self.new.lane ≡ ask_calls self.old.lane) × (has_cancelled self.new.lane ≡ has_cancelled self.old.lane) }
         ensures given { (given self.new ≡ given self.old) × (state self.new ≡ state self.old) }
-        ensures took { result ≡ true → (is_over self.old ≡ false) × ((x : Item) × ((taken self.new.lane ≡ taken self.old.lane ++ x ∷ []) × (is_over self.new ≡ ends x))) }
+        ensures took { result ≡ true → (is_over self.old ≡ false) × ((x : Item) × ((taken_items self.new.lane ≡ taken_items self.old.lane ++ x ∷ []) × (is_over self.new ≡ ends x))) }
         ensures still { result ≡ false → waits self.new ≡ waits self.old }
-        ensures none { result ≡ false → (taken self.new.lane ≡ taken self.old.lane) × ((is_over self.old ≡ true) ⊎ ((found_sent self.new.lane ≡ length (taken self.new.lane)) × (told_sent self.old.lane ≤ found_sent self.new.lane))) }
+        ensures none { result ≡ false → (taken_items self.new.lane ≡ taken_items self.old.lane) × ((is_over self.old ≡ true) ⊎ ((found_sent self.new.lane ≡ length (taken_items self.new.lane)) × (told_sent self.old.lane ≤ found_sent self.new.lane))) }
         ensures over { result ≡ false → is_over self.new ≡ is_over self.old }
         ensures told { told_sent self.new.lane ≡ told_sent self.old.lane }
     {
@@ -135,13 +135,13 @@ impl InputBoundary {
     /// Where half of the places were handed on, the lane is asked for as many. It takes no memory.
     pub fn next(&mut self, asked: bool) -> Option<Passed>
         requires few { asked ≡ true → elements (given self.old) < MOST_COUNT }
-        ensures lane { IsSameIn self.old.lane self.new.lane × (taken self.new.lane ≡ taken self.old.lane) × (has_cancelled self.new.lane ≡ has_cancelled self.old.lane) }
+        ensures lane { IsSameIn self.old.lane self.new.lane × (taken_items self.new.lane ≡ taken_items self.old.lane) × (has_cancelled self.new.lane ≡ has_cancelled self.old.lane) }
         ensures some { IfSome result (λ r. given self.new ≡ given self.old ++ r.item ∷ []) }
         ensures ends { IfSome result (λ r. state self.new ≡ cond (ends r.item) Closed Flowing) }
         ensures wanted { IfSome result (λ r. ends r.item ≡ false → asked ≡ true) }
-        ensures asks { IfSome result (λ r. asks self.new.lane ≡ asks self.old.lane + cond r.asks 1 0) }
+        ensures asks { IfSome result (λ r. ask_calls self.new.lane ≡ ask_calls self.old.lane + cond r.asks 1 0) }
         ensures known { (found_sent self.new.lane ≡ found_sent self.old.lane) × (told_sent self.new.lane ≡ told_sent self.old.lane) × (is_over self.new ≡ is_over self.old) }
-        ensures none { IfNone result ((self.new ≡ self.old) × (state self.old ≡ Flowing → (asked ≡ true) ⊎ (waits self.old ≡ []) → taken self.old.lane ≡ given self.old)) }
+        ensures none { IfNone result ((self.new ≡ self.old) × (state self.old ≡ Flowing → (asked ≡ true) ⊎ (waits self.old ≡ []) → taken_items self.old.lane ≡ given self.old)) }
     {
         if self.buffer.is_empty() {
             return self.next_end();
@@ -161,7 +161,7 @@ impl InputBoundary {
         ensures lane { self.new.lane ≡ self.old.lane }
         ensures over { is_over self.new ≡ is_over self.old }
         ensures some { IfSome result (λ r. (given self.new ≡ given self.old ++ r.item ∷ []) × (ends r.item ≡ true) × (r.asks ≡ false) × (state self.new ≡ Closed)) }
-        ensures none { IfNone result ((self.new ≡ self.old) × (state self.old ≡ Flowing → taken self.old.lane ≡ given self.old)) }
+        ensures none { IfNone result ((self.new ≡ self.old) × (state self.old ≡ Flowing → taken_items self.old.lane ≡ given self.old)) }
     {
         let item = self.pending.take()?;
         self.state = State::Closed;
@@ -171,7 +171,7 @@ impl InputBoundary {
     /// Nothing more is wanted: the lane is cancelled, and what waits is dropped. It takes no memory.
     pub fn cancel(&mut self)
         requires flowing { state self.old ≡ Flowing }
-        ensures lane { IsSameIn self.old.lane self.new.lane × (taken self.new.lane ≡ taken self.old.lane) × (asked self.new.lane ≡ asked self.old.lane) × (asks self.new.lane ≡ asks self.old.lane) × (has_cancelled self.new.lane ≡ 1) }
+        ensures lane { IsSameIn self.old.lane self.new.lane × (taken_items self.new.lane ≡ taken_items self.old.lane) × (asked_in_all self.new.lane ≡ asked_in_all self.old.lane) × (ask_calls self.new.lane ≡ ask_calls self.old.lane) × (has_cancelled self.new.lane ≡ 1) }
         ensures given { (given self.new ≡ given self.old) × (state self.new ≡ Cancelled) × (waits self.new ≡ []) }
         ensures known { (found_sent self.new.lane ≡ found_sent self.old.lane) × (told_sent self.new.lane ≡ told_sent self.old.lane) × (is_over self.new ≡ is_over self.old) }
     {
@@ -189,7 +189,7 @@ impl InputBoundary {
         ensures lane { KeepsIn self.old.lane self.new.lane }
         ensures given { (given self.new ≡ given self.old) × (waits self.new ≡ waits self.old) × (is_over self.new ≡ is_over self.old) × (state self.new ≡ state self.old) }
         ensures ok { IsOk result }
-        ensures learnt { learnt out.new ≡ asked self.new.lane }
+        ensures learnt { learnt out.new ≡ asked_in_all self.new.lane }
         ensures told { AreTold out.new self.new.lane }
         ensures waits { IfOk result (WaitsAre out.new self.new.lane) }
         ensures history { IsLaneHistory out.new self.new.lane }
@@ -206,10 +206,10 @@ impl InputBoundary {
 // One element more was handed on. Where that makes half of the places, the lane is asked for as many.
 fn refill(lane: &mut LaneIn, passed: &mut u64, half: u64) -> bool
     requires less { passed.old < half }
-    requires asks { passed.old + 1 ≡ half → (asked lane.old + half ≤ elements (taken lane.old) + in_size lane.old) × (asked lane.old + half < 2 ^ 62) × (has_cancelled lane.old ≡ 0) }
-    ensures lane { IsSameIn lane.old lane.new × (taken lane.new ≡ taken lane.old) × (has_cancelled lane.new ≡ has_cancelled lane.old) }
-    ensures asked { result ≡ true → (passed.old + 1 ≡ half) × (passed.new ≡ 0) × (asked lane.new ≡ asked lane.old + half) × (asks lane.new ≡ asks lane.old + 1) }
-    ensures less { result ≡ false → (passed.new ≡ passed.old + 1) × (passed.new < half) × (asked lane.new ≡ asked lane.old) × (asks lane.new ≡ asks lane.old) }
+    requires asks { passed.old + 1 ≡ half → (asked_in_all lane.old + half ≤ elements (taken_items lane.old) + in_size lane.old) × (asked_in_all lane.old + half < 2 ^ 62) × (has_cancelled lane.old ≡ 0) }
+    ensures lane { IsSameIn lane.old lane.new × (taken_items lane.new ≡ taken_items lane.old) × (has_cancelled lane.new ≡ has_cancelled lane.old) }
+    ensures asked { result ≡ true → (passed.old + 1 ≡ half) × (passed.new ≡ 0) × (asked_in_all lane.new ≡ asked_in_all lane.old + half) × (ask_calls lane.new ≡ ask_calls lane.old + 1) }
+    ensures less { result ≡ false → (passed.new ≡ passed.old + 1) × (passed.new < half) × (asked_in_all lane.new ≡ asked_in_all lane.old) × (ask_calls lane.new ≡ ask_calls lane.old) }
     ensures known { (found_sent lane.new ≡ found_sent lane.old) × (told_sent lane.new ≡ told_sent lane.old) }
 {
     *passed += 1;

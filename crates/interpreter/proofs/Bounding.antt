@@ -11,7 +11,7 @@ use Rattle.wire_core.specs.Reading.{no_wire}
 use Rattle.nodes.specs.declared.node.IslandNode.{IslandNode}
 use Rattle.nodes.specs.declared.node.IslandNode.TheVariants as node
 use Rattle.nodes.specs.Nodes.{node_gone, node_passive}
-use Rattle.fused_net.specs.Laws.{GoesOn}
+use Rattle.fused_net.specs.Laws.{NetGoesOn}
 use Rattle.fused_net.specs.Net.{Net, end_at, wire_at}
 use Rattle.fused_net.specs.Outside.{IsPassiveAt, StandsStill}
 use Rattle.boundary_calls.specs.Boundary.{IsEntering, IsLeaving}
@@ -20,8 +20,8 @@ use Rattle.interpreter.specs.declared.parts.Seated.{Seated}
 use Rattle.interpreter.specs.declared.parts.Work.{Work}
 use Rattle.interpreter.specs.declared.parts.Work.TheVariants as work
 use Rattle.interpreter.specs.Parts.{AllBecome, BecomesOf, ends_of}
-use Rattle.interpreter.specs.Ways.{Leads, comes_in, goes_out, is_lane_in, is_lane_out}
-use Rattle.interpreter.specs.Island.{Kept, Keeps}
+use Rattle.interpreter.specs.Ways.{MarksLaneEnds, comes_in, goes_out, is_lane_in, is_lane_out}
+use Rattle.interpreter.specs.Island.{Kept, IslandKeeps}
 use Rattle.interpreter.specs.Boundary.{BeginsOut, EntersBy, LeavesBy}
 use Rattle.stream_model.specs.Linear.{Book}
 
@@ -77,7 +77,7 @@ end_there (x ∷ xs) zero l e = ap ends_of (link_is x l e)
 end_there (x ∷ xs) (suc q) l e = end_there xs q l e
 
 -- the connection at which a lane comes in, and that at which it goes out
-pub enters_new : {S D L B : Type 0} (sources : S → SourceState) (drains : D → DrainState) (book : Book) (i : Kept S D L B) (places : List (Seated S D L B)) (links : List Link) → Keeps sources drains book i.net i.used → AllBecome places i.net.firsts → i.net.ends ≡ map ends_of links → Leads places links (length links) i.ins i.outs
+pub enters_new : {S D L B : Type 0} (sources : S → SourceState) (drains : D → DrainState) (book : Book) (i : Kept S D L B) (places : List (Seated S D L B)) (links : List Link) → IslandKeeps sources drains book i.net i.used → AllBecome places i.net.firsts → i.net.ends ≡ map ends_of links → MarksLaneEnds places links (length links) i.ins i.outs
     → (q : ℕ) (l : Link) → slice_get links q ≡ Some l → comes_in places l.from ≡ true → EntersBy i l.wire q
 enters_new sources drains book i places links k become ends leads q l at c =
     let mark = leads.come q l (slice_get_within links q l at) at c in
@@ -91,7 +91,7 @@ enters_new sources drains book i places links k become ends leads q l at c =
       way,
     )
 
-pub leaves_new : {S D L B : Type 0} (sources : S → SourceState) (drains : D → DrainState) (book : Book) (i : Kept S D L B) (places : List (Seated S D L B)) (links : List Link) → Keeps sources drains book i.net i.used → AllBecome places i.net.firsts → i.net.ends ≡ map ends_of links → Leads places links (length links) i.ins i.outs
+pub leaves_new : {S D L B : Type 0} (sources : S → SourceState) (drains : D → DrainState) (book : Book) (i : Kept S D L B) (places : List (Seated S D L B)) (links : List Link) → IslandKeeps sources drains book i.net i.used → AllBecome places i.net.firsts → i.net.ends ≡ map ends_of links → MarksLaneEnds places links (length links) i.ins i.outs
     → (q : ℕ) (l : Link) → slice_get links q ≡ Some l → goes_out places l.to ≡ true → LeavesBy i l.wire q
 leaves_new sources drains book i places links k become ends leads q l at c =
     let mark = leads.go q l (slice_get_within links q l at) at c in
@@ -165,7 +165,7 @@ module _ {S D L B : Type 0} where
   mapped_at f (x ∷ xs) (z ∷ ys) zero y e at = let same : z ≡ y = some_is z y at in let both : f z ≡ f x = cc in (x, (refl, ap f (sym same) ∙ both))
   mapped_at f (x ∷ xs) (z ∷ ys) (suc n) y e at = let t : map f ys ≡ map f xs = cc in mapped_at f xs ys n y t at
 
-  module _ (blank started : Net (IslandNode S D L B)) (places : List (Seated S D L B)) (links : List Link) (nodes : blank.nodes ≡ blank.firsts) (become : AllBecome places blank.firsts) (ends : blank.ends ≡ map ends_of links) (wires : blank.wires ≡ replicate (length links) new_cell) (on : GoesOn blank started) (still : StandsStill node_passive blank started) where
+  module _ (blank started : Net (IslandNode S D L B)) (places : List (Seated S D L B)) (links : List Link) (nodes : blank.nodes ≡ blank.firsts) (become : AllBecome places blank.firsts) (ends : blank.ends ≡ map ends_of links) (wires : blank.wires ≡ replicate (length links) new_cell) (on : NetGoesOn blank started) (still : StandsStill node_passive blank started) where
     blank_at : (q : ℕ) (l : Link) → slice_get links q ≡ Some l → wire_at blank q ≡ new_cell
     blank_at q l at = ap (λ (cs : _). get_or cs q no_wire) wires ∙ fresh_at (length links) q (slice_get_within links q l at)
 

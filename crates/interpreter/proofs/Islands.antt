@@ -19,7 +19,7 @@ use Rattle.interpreter.specs.declared.parts.Place.{Place}
 use Rattle.interpreter.specs.declared.parts.Seated.{Seated}
 use Rattle.interpreter.specs.declared.parts.Work.{Work}
 use Rattle.interpreter.specs.declared.parts.Work.TheVariants.{Reading, Making, Linear, State, Sub, FanIn, FanOut, Writing, LaneIn, LaneOut}
-use Rattle.interpreter.specs.Parts.{work_inputs, work_outputs, inputs_at, outputs_at, IsUnused, AllUnused, BecomesOf, AllBecome, IsSized, place_of, ends_of}
+use Rattle.interpreter.specs.Parts.{work_inputs, work_outputs, inputs_at, outputs_at, IsUnused, AllUnused, BecomesOf, AllBecome, IsSized, seat_place, ends_of}
 use Rattle.stream_model.specs.declared.kind.Kind.{Kind}
 use Rattle.stream_model.specs.declared.kind.Kind.TheVariants as kind
 use Rattle.stage_core.specs.declared.phase.Phase.TheVariants.{New}
@@ -28,7 +28,7 @@ use Rattle.stream_model.specs.declared.outcome.WireCount.{WireCount}
 use Rattle.port_core.specs.Decoding.{is_open}
 use Rattle.wire_core.specs.Cell.{WireState}
 use Rattle.elem_core.specs.Items.{elements}
-use Rattle.interpreter.specs.Island.{Keeps, count_of, counts_of, sinks_of, readers_of, writers_of}
+use Rattle.interpreter.specs.Island.{IslandKeeps, count_of, counts_of, sinks_of, readers_of, writers_of}
 use Rattle.interpreter.specs.Picks.{node_number}
 use Rattle.interpreter.specs.Room.{HasRoom}
 use Rattle.stream_model.specs.Linear.{Book}
@@ -148,7 +148,7 @@ writers_cut (node.Entering x) xs = refl
 writers_cut (node.Leaving x) xs = refl
 
 -- an island that was started
-pub keeps_new : {S D L B : Type 0} (sources : S → SourceState) (drains : D → DrainState) (book : Book) (old new : Net (IslandNode S D L B)) → Settled node_port_state (node_law sources drains book) node_asking node_moves new → all_asks new ≤ all_asks old → all_asks old ≡ 0 → Keeps sources drains book new 0
+pub keeps_new : {S D L B : Type 0} (sources : S → SourceState) (drains : D → DrainState) (book : Book) (old new : Net (IslandNode S D L B)) → Settled node_port_state (node_law sources drains book) node_asking node_moves new → all_asks new ≤ all_asks old → all_asks old ≡ 0 → IslandKeeps sources drains book new 0
 keeps_new sources drains book old new s h e = record { laws = s; asks = omega (arith, h, e); within = omega arith }
 
 -- the room is for these numbers of nodes and wires
@@ -156,6 +156,6 @@ pub room_as : {S D : Type 0} (room : IslandEnd S D) (nodes wires more_nodes more
 room_as room nodes wires more_nodes more_wires h e f = rw (e, f) h
 
 -- the numbers of places are those of their works
-pub numbers_same : {S D L B : Type 0} (seats : List (Seated S D L B)) → map (λ (p : Place). p.node) (map place_of seats) ≡ map node_number seats
+pub numbers_same : {S D L B : Type 0} (seats : List (Seated S D L B)) → map (λ (p : Place). p.node) (map seat_place seats) ≡ map node_number seats
 numbers_same [] = refl
 numbers_same (s ∷ ss) = ap (λ (l : List ℕ). s.node ∷ l) (numbers_same ss)

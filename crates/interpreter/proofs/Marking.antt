@@ -7,7 +7,7 @@ use Rattle.fused_net.proofs.Reading.{same_or_not, get_set_same, get_set_other}
 use Rattle.interpreter.specs.declared.parts.Link.{Link}
 use Rattle.interpreter.specs.declared.parts.Seated.{Seated}
 use Rattle.interpreter.specs.declared.ways.Ways.{Ways}
-use Rattle.interpreter.specs.Ways.{IsOnce, HasRows, Leads, comes_in, goes_out}
+use Rattle.interpreter.specs.Ways.{IsOnce, HasRows, MarksLaneEnds, comes_in, goes_out}
 
 -- One kind of mark: `lane` says which links have it. A table is marked at the wire of the k-th link where that has it.
 module _ (lane : Link → Bool) (links : List Link) (once : (p q : ℕ) (l m : Link) → slice_get links p ≡ Some l → slice_get links q ≡ Some m → lane l ≡ true → lane m ≡ true → l.wire ≡ m.wire → p ≡ q) where
@@ -40,9 +40,9 @@ module _ (lane : Link → Bool) (links : List Link) (once : (p q : ℕ) (l m : L
   ]
 
 -- both kinds of marks: the k-th link is marked next
-pub leads_next : {S D L B : Type 0} (places : List (Seated S D L B)) (links : List Link) (ways new : Ways) (k : ℕ) (m : Link) → slice_get links k ≡ Some m → IsOnce places links → HasRows ways links → Leads places links k ways.ins.items ways.outs.items
+pub leads_next : {S D L B : Type 0} (places : List (Seated S D L B)) (links : List Link) (ways new : Ways) (k : ℕ) (m : Link) → slice_get links k ≡ Some m → IsOnce places links → HasRows ways links → MarksLaneEnds places links k ways.ins.items ways.outs.items
     → new.ins.items ≡ (if comes_in places m.from then slice_set ways.ins.items m.wire k else ways.ins.items) → new.outs.items ≡ (if goes_out places m.to then slice_set ways.outs.items m.wire k else ways.outs.items)
-    → Leads places links (k + 1) new.ins.items new.outs.items × HasRows new links
+    → MarksLaneEnds places links (k + 1) new.ins.items new.outs.items × HasRows new links
 leads_next places links ways new k m at once rows leads i o =
     let come = λ (l : Link). comes_in places l.from in
     let go = λ (l : Link). goes_out places l.to in (

@@ -10,30 +10,30 @@ use Rattle.fused_net.specs.Laws.{Wired}
 use Rattle.fused_net.proofs.Reading.{same_or_not, get_set_same, get_set_other}
 use Rattle.interpreter.specs.declared.parts.Place.{Place}
 use Rattle.interpreter.specs.declared.parts.Seated.{Seated}
-use Rattle.interpreter.specs.Parts.{inputs_at, outputs_at, place_of, ins_at, outs_at, ins_in, outs_in, AllUnused, Becomes, AllBecome, IsWiring, IsSized, IsFilled, written}
+use Rattle.interpreter.specs.Parts.{inputs_at, outputs_at, seat_place, input_count_at, output_count_at, ins_in, outs_in, AllUnused, Becomes, AllBecome, IsWiring, IsSized, IsFilledUpTo, written}
 use Rattle.nodes.specs.declared.node.IslandNode.{IslandNode}
 
 some_is : {A : Type 0} (x y : A) → Some x ≡ Some y → x ≡ y
 some_is x y e = cc
 
 -- one place more
-pub inputs_here : (places : List Place) (n : ℕ) (d : Place) → n < length places → ins_at places n ≡ (get_or places n d).inputs
+pub inputs_here : (places : List Place) (n : ℕ) (d : Place) → n < length places → input_count_at places n ≡ (get_or places n d).inputs
 inputs_here [] n d h = absurd (omega arith)
 inputs_here (y ∷ ys) zero d h = refl
 inputs_here (y ∷ ys) (suc n) d h = inputs_here ys n d (omega arith)
 
-pub outputs_here : (places : List Place) (n : ℕ) (d : Place) → n < length places → outs_at places n ≡ (get_or places n d).outputs
+pub outputs_here : (places : List Place) (n : ℕ) (d : Place) → n < length places → output_count_at places n ≡ (get_or places n d).outputs
 outputs_here [] n d h = absurd (omega arith)
 outputs_here (y ∷ ys) zero d h = refl
 outputs_here (y ∷ ys) (suc n) d h = outputs_here ys n d (omega arith)
 
 -- the places of works
-ins_of_places : {S D L B : Type 0} (seats : List (Seated S D L B)) (n : ℕ) → ins_at (map place_of seats) n ≡ inputs_at seats n
+ins_of_places : {S D L B : Type 0} (seats : List (Seated S D L B)) (n : ℕ) → input_count_at (map seat_place seats) n ≡ inputs_at seats n
 ins_of_places [] n = refl
 ins_of_places (y ∷ ys) zero = refl
 ins_of_places (y ∷ ys) (suc n) = ins_of_places ys n
 
-outs_of_places : {S D L B : Type 0} (seats : List (Seated S D L B)) (n : ℕ) → outs_at (map place_of seats) n ≡ outputs_at seats n
+outs_of_places : {S D L B : Type 0} (seats : List (Seated S D L B)) (n : ℕ) → output_count_at (map seat_place seats) n ≡ outputs_at seats n
 outs_of_places [] n = refl
 outs_of_places (y ∷ ys) zero = refl
 outs_of_places (y ∷ ys) (suc n) = outs_of_places ys n
@@ -106,7 +106,7 @@ module _ (sizes_in sizes_out : ℕ → ℕ) (places : ℕ) (ends : List WireEnds
         ];
       }
 
-  pub filled_next : (ports : List PortLists) (k : ℕ) → k < length ends → IsSized sizes_in sizes_out places ports → IsFilled ends ports k → IsFilled ends (written ports (end_at ends k) k) (k + 1)
+  pub filled_next : (ports : List PortLists) (k : ℕ) → k < length ends → IsSized sizes_in sizes_out places ports → IsFilledUpTo ends ports k → IsFilledUpTo ends (written ports (end_at ends k) k) (k + 1)
   filled_next ports k h z f =
       let hf : (end_at ends k).from < length ports = rw z.count (wiring.from_within k h) in
       let ht : (end_at ends k).to < length ports = rw z.count (wiring.to_within k h) in
@@ -133,7 +133,7 @@ module _ (sizes_in sizes_out : ℕ → ℕ) (places : ℕ) (ends : List WireEnds
         ];
       }
 
-  pub wired_of : (ports : List PortLists) → IsSized sizes_in sizes_out places ports → IsFilled ends ports (length ends) → Wired ends ports places (length ends)
+  pub wired_of : (ports : List PortLists) → IsSized sizes_in sizes_out places ports → IsFilledUpTo ends ports (length ends) → Wired ends ports places (length ends)
   wired_of ports z f = record {
     each_node = z.count;
     each_wire = refl;
@@ -178,7 +178,7 @@ pub len_next : {A : Type 0} (old new : List A) (x : A) (n m : ℕ) → old ≡ x
 len_next old new x n m e l h = let c : length old ≡ suc (length new) = ap (λ (l : List _). length l) e in omega arith
 
 pub sized_of : (places : List Place) (ports : List PortLists) (n : ℕ) → n ≡ length places → length ports ≡ n
-    → ((k : ℕ) → k < n → length (port_at ports k).ins ≡ ins_at places k) → ((k : ℕ) → k < n → length (port_at ports k).outs ≡ outs_at places k) → IsSized (ins_at places) (outs_at places) (length places) ports
+    → ((k : ℕ) → k < n → length (port_at ports k).ins ≡ input_count_at places k) → ((k : ℕ) → k < n → length (port_at ports k).outs ≡ output_count_at places k) → IsSized (input_count_at places) (output_count_at places) (length places) ports
 sized_of places ports n e count ins outs = record { count = count ∙ e; ins_are = λ k h. ins k (rw e h); outs_are = λ k h. outs k (rw e h) }
 
 pub length_next : {A : Type 0} (xs : List A) (x : A) (n : ℕ) → length xs ≡ n → length (xs ++ x ∷ []) ≡ n + 1
@@ -188,9 +188,9 @@ length_next xs x n e = length-append xs (x ∷ []) ∙ (let h : length xs ≡ n 
 pub sized_self : (ports : List PortLists) → IsSized (ins_in ports) (outs_in ports) (length ports) ports
 sized_self ports = record { count = refl; ins_are = λ n h. refl; outs_are = λ n h. refl }
 
-module _ {S D L B : Type 0} (seats : List (Seated S D L B)) (rows : List PortLists) (sized : IsSized (ins_at (map place_of seats)) (outs_at (map place_of seats)) (length (map place_of seats)) rows) where
-  count_is : length (map place_of seats) ≡ length seats
-  count_is = length-map seats place_of
+module _ {S D L B : Type 0} (seats : List (Seated S D L B)) (rows : List PortLists) (sized : IsSized (input_count_at (map seat_place seats)) (output_count_at (map seat_place seats)) (length (map seat_place seats)) rows) where
+  count_is : length (map seat_place seats) ≡ length seats
+  count_is = length-map seats seat_place
 
   pub rows_count : length rows ≡ length seats
   rows_count = sized.count ∙ count_is

@@ -30,8 +30,8 @@ abbrev pub ends_of : Link → WireEnds
 ends_of l = record { from = l.from; output = l.output; to = l.to; input = l.input }
 
 -- the number of the blueprint's wire that a link is
-abbrev pub number_of : Link → ℕ
-number_of l = l.wire
+abbrev pub wire_number : Link → ℕ
+wire_number l = l.wire
 
 -- how many inputs and outputs a work has
 abbrev pub work_inputs : {S D L B : Type 0} → Work S D L B → ℕ
@@ -70,19 +70,19 @@ outputs_at (x ∷ xs) zero = work_outputs x.work
 outputs_at (x ∷ xs) (suc n) = outputs_at xs n
 
 -- what is known of a place before its work holds its handle
-abbrev pub place_of : {S D L B : Type 0} → Seated S D L B → Place
-place_of s = record { node = s.node; inputs = work_inputs s.work; outputs = work_outputs s.work }
+abbrev pub seat_place : {S D L B : Type 0} → Seated S D L B → Place
+seat_place s = record { node = s.node; inputs = work_inputs s.work; outputs = work_outputs s.work }
 
 -- how many inputs and outputs place n has
-abbrev pub ins_at : List Place → ℕ → ℕ
-ins_at [] n = 0
-ins_at (p ∷ ps) zero = p.inputs
-ins_at (p ∷ ps) (suc n) = ins_at ps n
+abbrev pub input_count_at : List Place → ℕ → ℕ
+input_count_at [] n = 0
+input_count_at (p ∷ ps) zero = p.inputs
+input_count_at (p ∷ ps) (suc n) = input_count_at ps n
 
-abbrev pub outs_at : List Place → ℕ → ℕ
-outs_at [] n = 0
-outs_at (p ∷ ps) zero = p.outputs
-outs_at (p ∷ ps) (suc n) = outs_at ps n
+abbrev pub output_count_at : List Place → ℕ → ℕ
+output_count_at [] n = 0
+output_count_at (p ∷ ps) zero = p.outputs
+output_count_at (p ∷ ps) (suc n) = output_count_at ps n
 
 -- a work that did nothing yet: no reader has read, no logic was started, and a sink has a drain exactly where it has a file
 abbrev pub IsUnused : {S D L B : Type 0} → Work S D L B → Type 0
@@ -157,7 +157,7 @@ abbrev pub outs_in : List PortLists → ℕ → ℕ
 outs_in ports n = length (port_at ports n).outs
 
 -- the first k links stand in the tables
-pub record IsFilled (ends : List WireEnds) (ports : List PortLists) (k : ℕ) : Type 0 where
+pub record IsFilledUpTo (ends : List WireEnds) (ports : List PortLists) (k : ℕ) : Type 0 where
   pub outs : (w : ℕ) → w < k → slice_get (port_at ports (end_at ends w).from).outs (end_at ends w).output ≡ Some w
   pub ins : (w : ℕ) → w < k → slice_get (port_at ports (end_at ends w).to).ins (end_at ends w).input ≡ Some w
 

@@ -7,7 +7,7 @@ use Rattle.interpreter.specs.declared.parts.Link.{Link}
 use Rattle.interpreter.specs.declared.parts.Place.{Place}
 use Rattle.interpreter.specs.declared.room.Blank.{Blank}
 use Rattle.interpreter.specs.declared.room.IslandRoom.{IslandRoom}
-use Rattle.interpreter.specs.Parts.{ends_of, number_of, ins_at, outs_at, IsSized}
+use Rattle.interpreter.specs.Parts.{ends_of, wire_number, input_count_at, output_count_at, IsSized}
 use Rattle.interpreter.specs.Ways.{HasRows}
 
 -- its lists are empty, and have room for what so many nodes and wires leave
@@ -36,7 +36,7 @@ pub record RoomFor {S D : Type 0} (room : IslandEnd S D) (nodes : ℕ) : Type 0 
 -- the engine of these places and links, before its nodes are there
 pub record IsBlank {S D L B : Type 0} (blank : Blank S D L B) (places : List Place) (links : List Link) : Type 0 where
   pub ends : blank.ends.items ≡ map ends_of links
-  pub rows : IsSized (ins_at places) (outs_at places) (length places) blank.ports.items
+  pub rows : IsSized (input_count_at places) (output_count_at places) (length places) blank.ports.items
   pub wires : blank.wires.items ≡ replicate (length links) new_cell
   pub ring : blank.ring ≡ record { size = length links; queue = [] }
   pub no_nodes : blank.nodes.items ≡ []
@@ -46,7 +46,7 @@ pub record IsBlank {S D L B : Type 0} (blank : Blank S D L B) (places : List Pla
 pub record IsRoom {S D L B : Type 0} (room : IslandRoom S D L B) (places : List Place) (links : List Link) : Type 0 where
   pub no_acts : room.acts.items ≡ []
   pub room_for_acts : MOST_ACTS ≤ room.acts.room
-  pub numbers : room.numbers.items ≡ map number_of links
+  pub numbers : room.numbers.items ≡ map wire_number links
   pub places_are : room.places.items ≡ map (λ (p : Place). p.node) places
   pub blank : IsBlank room.blank places links
   pub ways : HasRows room.ways links

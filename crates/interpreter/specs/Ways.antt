@@ -41,6 +41,6 @@ pub record HasRows (ways : Ways) (links : List Link) : Type 0 where
   pub outs : (q : ℕ) (l : Link) → slice_get links q ≡ Some l → l.wire < length ways.outs.items
 
 -- of the first k links, those at the ends of lanes are marked
-pub record Leads {S D L B : Type 0} (places : List (Seated S D L B)) (links : List Link) (k : ℕ) (ins outs : List ℕ) : Type 0 where
+pub record MarksLaneEnds {S D L B : Type 0} (places : List (Seated S D L B)) (links : List Link) (k : ℕ) (ins outs : List ℕ) : Type 0 where
   pub come : (q : ℕ) (l : Link) → q < k → slice_get links q ≡ Some l → comes_in places l.from ≡ true → slice_get ins l.wire ≡ Some q
   pub go : (q : ℕ) (l : Link) → q < k → slice_get links q ≡ Some l → goes_out places l.to ≡ true → slice_get outs l.wire ≡ Some q

@@ -1,15 +1,15 @@
 // An island of nodes that runs event by event.
 ghost use Rattle.std.specs.Prelude.{◌≡◌, ◌+◌, ◌<◌, ◌≤◌, ◌↔◌, ◌∷◌, ◌++◌, [], true, false, None, Some, length, replicate, slice_get, ℕ, IsTrue, IsOk, IfOk, IfErr, OnOk, OnErr, map, vec_len, vec_capacity};
-ghost use Rattle.fused_net.specs.Laws.{Starting, GoesOn, BreaksOff};
+ghost use Rattle.fused_net.specs.Laws.{Starting, NetGoesOn, BreaksOff};
 ghost use Rattle.fused_net.specs.Net.{wire_at};
 ghost use Rattle.fused_net.specs.Costs.{all_asks, Uses};
 ghost use Rattle.fused_net.specs.Outside.{BreaksAside, StandsStill, Untouched};
 ghost use Rattle.fused_net.specs.declared.queue.TheConstants.{MOST_CHASES};
 ghost use Rattle.nodes.specs.Nodes.{node_fresh, node_port_state, node_law, node_asking, node_moves, node_gone, node_passive, KeepsNode};
-ghost use Rattle.interpreter.specs.Parts.{AreParts, AllBecome, ends_of, number_of, place_of};
+ghost use Rattle.interpreter.specs.Parts.{AreParts, AllBecome, ends_of, wire_number, seat_place};
 ghost use Rattle.interpreter.specs.Picks.{node_number, pick_of, with_picks, picks_of};
 ghost use Rattle.interpreter.specs.Seats.{with_seat, seats_of};
-ghost use Rattle.interpreter.specs.Island.{Keeps, counts_of, sinks_of, readers_of, writers_of};
+ghost use Rattle.interpreter.specs.Island.{IslandKeeps, counts_of, sinks_of, readers_of, writers_of};
 ghost use Rattle.std.specs.Option.{option_map};
 ghost use Rattle.elem_core.specs.declared.count.TheConstants.{MOST_COUNT};
 ghost use Rattle.interpreter.specs.Room.{HasRoom, RoomFor, IsBlank, IsRoom};
@@ -18,7 +18,7 @@ ghost use Rattle.interpreter.specs.Handles.{DidNotStart, HandsBack, HoldsHandles
 ghost use Rattle.interpreter.specs.declared.parts.Link as wiring;
 ghost use Rattle.interpreter.specs.Ways.{comes_in, goes_out};
 ghost use Rattle.interpreter.specs.Boundary.{BeginsOut, Enters, Leaves, EntersBy, LeavesBy, HandsOut, Drops, way_in, way_out, cell_in, cell_out, with_net};
-ghost use Rattle.boundary_calls.specs.Boundary.{IsClearAt, CameTo, GivenIs, wanted_at, moved_at, ended_at};
+ghost use Rattle.boundary_calls.specs.Boundary.{IsClearAt, ReceivedAt, GivenIs, wanted_at, moved_at, ended_at};
 ghost use Rattle.boundary_calls.specs.declared.given.Wanted.TheVariants as wanted;
 ghost use Rattle.port_core.specs.Decoding.{can_pull};
 ghost use Rattle.port_core.specs.declared.act.Act.TheVariants as act;
@@ -64,7 +64,7 @@ pub struct Island<S: Source, D: Drain, L: Logic, B: PlugBook> {
 impl<S: Source, D: Drain, L: Logic, B: PlugBook> Model for Island<S, D, L, B> {
     ghost use Rattle.std.specs.Prelude.{◌≡◌, ◌≤◌, [], false, length};
     ghost use Rattle.stage_core.specs.declared.stage.TheConstants.{MOST_ACTS};
-    ghost use Rattle.interpreter.specs.Island.{Kept, Keeps};
+    ghost use Rattle.interpreter.specs.Island.{Kept, IslandKeeps};
     ghost use Rattle.interpreter.specs.Room.{HasRoom};
     ghost use Rattle.std.specs.Coded.{codes};
     ghost use Rattle.elem_core.specs.TreeCode.{tree_coded};
@@ -75,7 +75,7 @@ impl<S: Source, D: Drain, L: Logic, B: PlugBook> Model for Island<S, D, L, B> {
 
     ghost view = { λ i. record { net = i.engine; numbers = i.numbers.items; places = i.places.items; ins = i.ways.ins.items; outs = i.ways.outs.items; used = i.used; broken = i.broken } };
 
-    ghost invariant = { λ i. HasRoom i.room (length i.engine.nodes) (length i.numbers.items) × (length i.places.items ≡ length i.engine.nodes) × (i.broken ≡ false → Keeps S.state D.state B.lists i.engine i.used × (i.acts.items ≡ []) × (MOST_ACTS ≤ i.acts.room)) };
+    ghost invariant = { λ i. HasRoom i.room (length i.engine.nodes) (length i.numbers.items) × (length i.places.items ≡ length i.engine.nodes) × (i.broken ≡ false → IslandKeeps S.state D.state B.lists i.engine i.used × (i.acts.items ≡ []) × (MOST_ACTS ≤ i.acts.room)) };
 }
 
 /// A sink at the end of a run: its node, the lines that it wrote, and how it stands.
@@ -114,13 +114,13 @@ impl<S: Source, D: Drain, L: Logic, B: PlugBook> Island<S, D, L, B> {
         room: IslandRoom<S, D, L, B>,
     ) -> Result<Island<S, D, L, B>, StartEnd<S, D>>
         requires parts { AreParts parts.nodes.items parts.links.items }
-        requires room { IsRoom room (map place_of parts.nodes.items) parts.links.items }
+        requires room { IsRoom room (map seat_place parts.nodes.items) parts.links.items }
         ensures whole { IfOk result (λ i. i.broken ≡ false) }
         ensures unused { IfOk result (λ i. i.used ≡ 0) }
-        ensures laws { IfOk result (λ i. Keeps S.state D.state B.lists i.net 0) }
+        ensures laws { IfOk result (λ i. IslandKeeps S.state D.state B.lists i.net 0) }
         ensures firsts { IfOk result (λ i. AllBecome parts.nodes.items i.net.firsts) }
         ensures ends { IfOk result (λ i. i.net.ends ≡ map ends_of parts.links.items) }
-        ensures numbers { IfOk result (λ i. i.numbers ≡ map number_of parts.links.items) }
+        ensures numbers { IfOk result (λ i. i.numbers ≡ map wire_number parts.links.items) }
         ensures places { IfOk result (λ i. i.places ≡ map node_number parts.nodes.items) }
         ensures enters { IfOk result (λ i. (q : ℕ) (l : wiring.Link) → slice_get parts.links.items q ≡ Some l → comes_in parts.nodes.items l.from ≡ true → EntersBy i l.wire q) }
         ensures leaves { IfOk result (λ i. (q : ℕ) (l : wiring.Link) → slice_get parts.links.items q ≡ Some l → goes_out parts.nodes.items l.to ≡ true → LeavesBy i l.wire q) }
@@ -160,7 +160,7 @@ impl<S: Source, D: Drain, L: Logic, B: PlugBook> Island<S, D, L, B> {
         requires whole { self.old.broken ≡ false }
         requires few { self.old.used + limit ≤ MOST_COUNT }
         ensures whole { OnOk result (self.new.broken ≡ false) }
-        ensures on { OnOk result (GoesOn self.old.net self.new.net) }
+        ensures on { OnOk result (NetGoesOn self.old.net self.new.net) }
         ensures numbers { OnOk result (self.new.numbers ≡ self.old.numbers) }
         ensures places { OnOk result (self.new.places ≡ self.old.places) }
         ensures ways { OnOk result ((self.new.ins ≡ self.old.ins) × (self.new.outs ≡ self.old.outs)) }
@@ -185,7 +185,7 @@ impl<S: Source, D: Drain, L: Logic, B: PlugBook> Island<S, D, L, B> {
         requires whole { self.old.broken ≡ false }
         requires few { self.old.used + limit ≤ MOST_COUNT }
         ensures whole { OnOk result (self.new.broken ≡ false) }
-        ensures on { OnOk result (GoesOn self.old.net self.new.net) }
+        ensures on { OnOk result (NetGoesOn self.old.net self.new.net) }
         ensures numbers { OnOk result (self.new.numbers ≡ self.old.numbers) }
         ensures places { OnOk result (self.new.places ≡ self.old.places) }
         ensures ways { OnOk result ((self.new.ins ≡ self.old.ins) × (self.new.outs ≡ self.old.outs)) }
@@ -226,7 +226,7 @@ impl<S: Source, D: Drain, L: Logic, B: PlugBook> Island<S, D, L, B> {
     /// What it keeps between two calls: the law of each node over the histories of its wires, the joint state of each wire,
     /// and the units that it used, which bound the elements that were pushed. The call does nothing.
     pub fn laws(&self)
-        ensures { self.now.broken ≡ false → Keeps S.state D.state B.lists self.now.net self.now.used }
+        ensures { self.now.broken ≡ false → IslandKeeps S.state D.state B.lists self.now.net self.now.used }
     {
         let _ = &self.broken;
     }
@@ -322,7 +322,7 @@ impl<S: Source, D: Drain, L: Logic, B: PlugBook> Island<S, D, L, B> {
     pub fn came_out(&self, wire: u32)
         requires whole { self.now.broken ≡ false }
         requires leaves { Leaves self.now wire }
-        ensures { CameTo self.now.net (way_out self.now wire) }
+        ensures { ReceivedAt self.now.net (way_out self.now wire) }
     {
         calls::came_to(&self.engine, self.ways.outs[wire as usize]);
     }
@@ -351,7 +351,7 @@ pub fn hand_back<S: Source, D: Drain, L: Logic, B: PlugBook>(
     room: IslandRoom<S, D, L, B>,
 ) -> IslandEnd<S, D>
     requires parts { AreParts parts.nodes.items parts.links.items }
-    requires room { IsRoom room (map place_of parts.nodes.items) parts.links.items }
+    requires room { IsRoom room (map seat_place parts.nodes.items) parts.links.items }
     ensures { HandsBack S.state D.state parts.nodes.items result }
 {
     let IslandRoom {
@@ -372,7 +372,7 @@ fn assemble<S: Source, D: Drain, L: Logic, B: PlugBook>(
     blank: Blank<S, D, L, B>,
 ) -> Engine<IslandNode<S, D, L, B>>
     requires parts { AreParts parts.nodes.items parts.links.items }
-    requires blank { IsBlank blank (map place_of parts.nodes.items) parts.links.items }
+    requires blank { IsBlank blank (map seat_place parts.nodes.items) parts.links.items }
     ensures starting { Starting node_port_state (node_law S.state D.state B.lists) node_asking node_moves node_fresh result 0 }
     ensures firsts { AllBecome parts.nodes.items result.firsts }
     ensures ends { result.ends ≡ map ends_of parts.links.items }

@@ -3,7 +3,7 @@ ghost use Rattle.std.specs.Prelude.{◌≡◌, ◌<◌, ◌≤◌, ◌^◌, [], 
 ghost use Rattle.fused_net.specs.Net.{port_at};
 ghost use Rattle.fused_net.specs.Laws.{Wired};
 ghost use Rattle.nodes.specs.Kinds.{IsMaker, maker_of, writes_of};
-ghost use Rattle.interpreter.specs.Parts.{ins_at, outs_at, ins_in, outs_in, IsUnused, AllUnused, IsWiring, IsSized, ends_of, number_of, Becomes, AllBecome, written};
+ghost use Rattle.interpreter.specs.Parts.{input_count_at, output_count_at, ins_in, outs_in, IsUnused, AllUnused, IsWiring, IsSized, ends_of, wire_number, Becomes, AllBecome, written};
 ghost use Rattle.interpreter.specs.declared.parts.Place.{Place};
 
 use elem_core::why::NoMemory;
@@ -199,7 +199,7 @@ pub fn all_ends(alloc: Global, links: &[Link]) -> Result<Vec<WireEnds>, NoMemory
 
 /// The numbers of the links in the blueprint.
 pub fn all_numbers(alloc: Global, links: &[Link]) -> Result<Vec<u32>, NoMemory>
-    ensures { IfOk result (λ numbers. numbers.items ≡ map number_of links.now) }
+    ensures { IfOk result (λ numbers. numbers.items ≡ map wire_number links.now) }
 {
     let mut numbers = Vec::new(alloc);
     for link in links {
@@ -229,7 +229,7 @@ fn blank_row(alloc: Global, place: Place) -> Result<Ports, NoMemory>
 
 /// A table with a row for each port of each place.
 pub fn blank_ports(alloc: Global, places: &[Place]) -> Result<Vec<Ports>, NoMemory>
-    ensures { IfOk result (λ ports. IsSized (ins_at places.now) (outs_at places.now) (length places.now) ports.items) }
+    ensures { IfOk result (λ ports. IsSized (input_count_at places.now) (output_count_at places.now) (length places.now) ports.items) }
 {
     let mut ports = Vec::new(alloc);
     for n in 0..places.len() {

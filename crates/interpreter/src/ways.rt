@@ -1,7 +1,7 @@
 // The places of the connections at which lanes come in and go out.
 ghost use Rattle.std.specs.Prelude.{◌≡◌, ◌<◌, ◌≤◌, ◌^◌, ℕ, Some, if◌then◌else◌, IfOk, length, slice_get, slice_set};
 ghost use Rattle.interpreter.specs.declared.parts.Link as parts;
-ghost use Rattle.interpreter.specs.Ways.{HasRows, Leads, IsOnce, comes_in, goes_out};
+ghost use Rattle.interpreter.specs.Ways.{HasRows, MarksLaneEnds, IsOnce, comes_in, goes_out};
 
 use crate::parts::{Link, Seated, Work};
 use elem_core::why::NoMemory;
@@ -113,7 +113,7 @@ impl Ways {
         requires rows { HasRows self.old links.now }
         requires few { length links.now < 2 ^ 32 }
         requires once { IsOnce works.now links.now }
-        ensures { Leads works.now links.now (length links.now) self.new.ins.items self.new.outs.items }
+        ensures { MarksLaneEnds works.now links.now (length links.now) self.new.ins.items self.new.outs.items }
     {
         for q in 0..links.len() {
             self.mark(works, links[q], q as u32);

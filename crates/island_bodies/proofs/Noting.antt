@@ -4,13 +4,13 @@ use Rattle.std.specs.Prelude.{slice_get, get_or}
 use Rattle.std.proofs.lemmas.Option.{slice_get_within}
 use Rattle.stream_model.specs.declared.outcome.WireCount.{WireCount}
 use Rattle.fused_net.proofs.Reading.{same_or_not, get_set_same, get_set_other}
-use Rattle.lane_core.specs.Ends.{asked}
+use Rattle.lane_core.specs.Ends.{asked_in_all}
 use Rattle.island_boundary.specs.declared.input.IslandInput.{IslandInput}
 use Rattle.rounds.specs.declared.crossing.Crossing.{Crossing}
 use Rattle.traversal.specs.declared.plan.LanePlan.{LanePlan}
 use Rattle.lane_ends.specs.Ends.{AreRising}
 use Rattle.island_body.specs.declared.body.Body.{Body}
-use Rattle.island_bodies.specs.Asked.{AreAsked, AreNoted, noted}
+use Rattle.island_bodies.specs.Asked.{AreAsked, AreNoted, with_demand}
 use Rattle.island_bodies.proofs.Making.{EachIs, same_item, each_next, one_more}
 
 -- what is read where nothing stands
@@ -36,7 +36,7 @@ at_place (x ∷ xs) (suc n) d h = at_place xs n d (omega (arith, h))
 module _ {S D L B : Type 0} (bodies : List (Body S D L B)) where
   -- what the input end of a crossing has asked for
   abbrev pub Asks : Crossing → ℕ → Type 0
-  Asks c a = (b : Body S D L B) (x : IslandInput) → slice_get bodies c.to ≡ Some b → slice_get b.ins.items c.inp ≡ Some x → a ≡ asked x.boundary.lane
+  Asks c a = (b : Body S D L B) (x : IslandInput) → slice_get bodies c.to ≡ Some b → slice_get b.ins.items c.inp ≡ Some x → a ≡ asked_in_all x.boundary.lane
 
   module _ (crossings : List Crossing) where
     -- so much was asked for at the crossing of a place
@@ -70,22 +70,22 @@ module _ (all : List ℕ) (lanes : List LanePlan) (old : List WireCount) where
   -- the counts of the first n lanes are noted
   pub record NotedTo (n : ℕ) (new : List WireCount) : Type 0 where
     pub many : length new ≡ length old
-    pub each : (m a : ℕ) (l : LanePlan) (w : WireCount) → m < n → slice_get lanes m ≡ Some l → slice_get all m ≡ Some a → slice_get old l.wire ≡ Some w → slice_get new l.wire ≡ Some (noted w a)
+    pub each : (m a : ℕ) (l : LanePlan) (w : WireCount) → m < n → slice_get lanes m ≡ Some l → slice_get all m ≡ Some a → slice_get old l.wire ≡ Some w → slice_get new l.wire ≡ Some (with_demand w a)
     pub others : (u : ℕ) → ((m : ℕ) (l : LanePlan) → m < n → slice_get lanes m ≡ Some l → l.wire ≢ u) → slice_get new u ≡ slice_get old u
 
-  module _ (order : AreRising lanes) (n : ℕ) (l : LanePlan) (a : ℕ) (d now : WireCount) (new : List WireCount) (al : slice_get lanes n ≡ Some l) (aa : slice_get all n ≡ Some a) (there : l.wire < length new) (is : now ≡ noted (get_or new l.wire d) a) (t : NotedTo n new) where
+  module _ (order : AreRising lanes) (n : ℕ) (l : LanePlan) (a : ℕ) (d now : WireCount) (new : List WireCount) (al : slice_get lanes n ≡ Some l) (aa : slice_get all n ≡ Some a) (there : l.wire < length new) (is : now ≡ with_demand (get_or new l.wire d) a) (t : NotedTo n new) where
     -- no lane before this one has its wire
     apart : (m : ℕ) (k : LanePlan) → m < n → slice_get lanes m ≡ Some k → k.wire ≢ l.wire
     apart m k lt ak e = let o = order m n k l lt ak al in omega (arith, o, e)
 
-    here : (w : WireCount) → slice_get old l.wire ≡ Some w → slice_get (set new l.wire now) l.wire ≡ Some (noted w a)
+    here : (w : WireCount) → slice_get old l.wire ≡ Some w → slice_get (set new l.wire now) l.wire ≡ Some (with_demand w a)
     here w aw =
         let was : Some (get_or new l.wire d) ≡ Some w = sym (at_place new l.wire d there) ∙ (t.others l.wire apart ∙ aw) in
-        get_set_same new l.wire now there ∙ ap (λ v. Some v) (is ∙ ap (λ v. noted v a) (same_item _ _ was))
+        get_set_same new l.wire now there ∙ ap (λ v. Some v) (is ∙ ap (λ v. with_demand v a) (same_item _ _ was))
 
     -- the count of a lane is noted
     abbrev Here : LanePlan → ℕ → Type 0
-    Here k b = (w : WireCount) → slice_get old k.wire ≡ Some w → slice_get (set new l.wire now) k.wire ≡ Some (noted w b)
+    Here k b = (w : WireCount) → slice_get old k.wire ≡ Some w → slice_get (set new l.wire now) k.wire ≡ Some (with_demand w b)
 
     each_on : (m b : ℕ) (k : LanePlan) → m < n + 1 → slice_get lanes m ≡ Some k → slice_get all m ≡ Some b → Here k b
     each_on m b k lt ak ab = elim (same_or_not m n) [

@@ -6,7 +6,7 @@ use Rattle.std.specs.declared.vec.Vec.{Vec}
 use Rattle.std.specs.declared.alloc.Global.{Global}
 use Rattle.std.proofs.lemmas.List.Elements.{All-append}
 use Rattle.std.proofs.lemmas.Option.{slice_get_within}
-use Rattle.scatter.specs.Shares.{count_of, AreRanks}
+use Rattle.scatter.specs.Shares.{share_of, AreRanks}
 use Rattle.traversal.specs.declared.plan.LanePlan.{LanePlan}
 use Rattle.lane_ends.specs.Ends.{CanAllBeMade}
 use Rattle.island_bodies.proofs.Homes.{homes_below}
@@ -37,6 +37,6 @@ all_blank homes seen count ranks counts given tables same r is t =
       many = omega (arith, size, t.many, r.many);
       each = λ k v at.
           let lt : k < length tables = slice_get_within tables k v at in
-          let row : slice_index counts k ≡ count_of k seen = r.counts_are k (omega (arith, lt, size, t.many, r.many)) in
-          t.each k v at ∙ (ap (λ (l : List ℕ). replicate (slice_index l k) Inner) is ∙ (ap (λ n. replicate n Inner) row ∙ ap (λ l. replicate (count_of k l) Inner) same));
+          let row : slice_index counts k ≡ share_of k seen = r.counts_are k (omega (arith, lt, size, t.many, r.many)) in
+          t.each k v at ∙ (ap (λ (l : List ℕ). replicate (slice_index l k) Inner) is ∙ (ap (λ n. replicate n Inner) row ∙ ap (λ l. replicate (share_of k l) Inner) same));
     }

@@ -1,7 +1,7 @@
 -- Where more is asked of a lane in all than was sent, by its input end among bodies.
 use Rattle.std.specs.Prelude.{◌≡◌, ◌≢◌, ℕ, suc, ◌<◌, nat_le, List, Some, length, slice_get}
 use Rattle.stream_model.specs.declared.outcome.WireCount.{WireCount}
-use Rattle.lane_core.specs.Ends.{asked}
+use Rattle.lane_core.specs.Ends.{asked_in_all}
 use Rattle.island_boundary.specs.declared.input.IslandInput.{IslandInput}
 use Rattle.rounds.specs.declared.crossing.Crossing.{Crossing}
 use Rattle.traversal.specs.declared.plan.LanePlan.{LanePlan}
@@ -12,8 +12,8 @@ abbrev pub AreWithin : ℕ → List LanePlan → Type 0
 AreWithin count lanes = (n : ℕ) (l : LanePlan) → slice_get lanes n ≡ Some l → l.wire < count
 
 -- the count of a lane of which so much was asked in all
-abbrev pub noted : WireCount → ℕ → WireCount
-noted c all = record { sent = c.sent; asked = nat_le (suc c.sent) all; shut = c.shut }
+abbrev pub with_demand : WireCount → ℕ → WireCount
+with_demand c all = record { sent = c.sent; asked = nat_le (suc c.sent) all; shut = c.shut }
 
 module _ {S D L B : Type 0} where
   -- the input end of this crossing is there
@@ -28,10 +28,10 @@ module _ {S D L B : Type 0} where
   -- of each crossing how many elements the input end there has asked for in all
   pub record AreAsked (bodies : List (Body S D L B)) (crossings : List Crossing) (all : List ℕ) : Type 0 where
     pub many : length all ≡ length crossings
-    pub each : (n : ℕ) (c : Crossing) (b : Body S D L B) (x : IslandInput) → slice_get crossings n ≡ Some c → slice_get bodies c.to ≡ Some b → slice_get b.ins.items c.inp ≡ Some x → slice_get all n ≡ Some (asked x.boundary.lane)
+    pub each : (n : ℕ) (c : Crossing) (b : Body S D L B) (x : IslandInput) → slice_get crossings n ≡ Some c → slice_get bodies c.to ≡ Some b → slice_get b.ins.items c.inp ≡ Some x → slice_get all n ≡ Some (asked_in_all x.boundary.lane)
 
 -- The count of each lane says whether more was asked in all than was sent, where so much was asked of the lanes; all else is as before.
 pub record AreNoted (all : List ℕ) (lanes : List LanePlan) (old new : List WireCount) : Type 0 where
   pub many : length new ≡ length old
-  pub each : (n a : ℕ) (l : LanePlan) (w : WireCount) → slice_get lanes n ≡ Some l → slice_get all n ≡ Some a → slice_get old l.wire ≡ Some w → slice_get new l.wire ≡ Some (noted w a)
+  pub each : (n a : ℕ) (l : LanePlan) (w : WireCount) → slice_get lanes n ≡ Some l → slice_get all n ≡ Some a → slice_get old l.wire ≡ Some w → slice_get new l.wire ≡ Some (with_demand w a)
   pub others : (u : ℕ) → ((n : ℕ) (l : LanePlan) → slice_get lanes n ≡ Some l → l.wire ≢ u) → slice_get new u ≡ slice_get old u

@@ -4,7 +4,7 @@ use Rattle.std.specs.declared.vec.Vec.{Vec}
 use Rattle.std.specs.declared.alloc.Global.{Global}
 use Rattle.stream_io.specs.State.{SourceState, DrainState}
 use Rattle.interpreter.specs.declared.island.IslandEnd.{IslandEnd}
-use Rattle.scatter.specs.Shares.{count_of}
+use Rattle.scatter.specs.Shares.{share_of}
 use Rattle.traversal.specs.declared.plan.LanePlan.{LanePlan}
 use Rattle.interpreter.specs.Island.{Kept, counts_of, sinks_of, readers_of, writers_of}
 use Rattle.interpreter.specs.Picks.{pick_of, picks_of}
@@ -33,11 +33,11 @@ pub record AreTables (counts : List ℕ) (tables : List (Vec Way Global)) : Type
 -- Of each of so many islands a blank table, with a row for each connection that has its home there.
 pub record AreBlank (homes : List ℕ) (count : ℕ) (tables : List (Vec Way Global)) : Type 0 where
   pub many : length tables ≡ count
-  pub each : (k : ℕ) (t : Vec Way Global) → slice_get tables k ≡ Some t → t.items ≡ replicate (count_of k homes) Inner
+  pub each : (k : ℕ) (t : Vec Way Global) → slice_get tables k ≡ Some t → t.items ≡ replicate (share_of k homes) Inner
 
 module _ {S D L B : Type 0} where
   -- There is all memory for the bodies of so many islands, and for their ends: `wires` are the islands in which wires begin.
-  pub record IsRoomFor (wires : List ℕ) (lanes : List LanePlan) (count : ℕ) (r : BodyRoom S D L B) : Type 0 where
+  pub record IsRoomForBodies (wires : List ℕ) (lanes : List LanePlan) (count : ℕ) (r : BodyRoom S D L B) : Type 0 where
     pub blank : AreBlank (way_homes wires lanes) count r.tables.items
     pub peers : ArePeers lanes count r.peers.items
     pub no_bodies : r.bodies.items ≡ []

@@ -1,10 +1,10 @@
 // What the lanes between bodies are asked for.
 ghost use Rattle.std.specs.Prelude.{◌≡◌, ◌≤◌, [], length, slice_get, Some, vec_capacity};
-ghost use Rattle.lane_core.specs.Ends.{asked};
+ghost use Rattle.lane_core.specs.Ends.{asked_in_all};
 ghost use Rattle.lane_ends.specs.Ends.{AreRising};
 ghost use Rattle.island_body.specs.declared.body.Body as island;
 ghost use Rattle.island_boundary.specs.declared.input.IslandInput as inputs;
-ghost use Rattle.island_bodies.specs.Asked.{LiesThere, LieThere, AreWithin, AreAsked, AreNoted, noted};
+ghost use Rattle.island_bodies.specs.Asked.{LiesThere, LieThere, AreWithin, AreAsked, AreNoted, with_demand};
 
 use island_body::body::Body;
 use plug_logic::book::PlugBook;
@@ -39,7 +39,7 @@ fn asked_at<S: Source, D: Drain, L: Logic, B: PlugBook>(
     crossing: &Crossing,
 ) -> u64
     requires { LiesThere bodies.now crossing.now }
-    ensures { (b : island.Body S D L B) (x : inputs.IslandInput) → slice_get bodies.now crossing.now.to ≡ Some b → slice_get b.ins.items crossing.now.inp ≡ Some x → result ≡ asked x.boundary.lane }
+    ensures { (b : island.Body S D L B) (x : inputs.IslandInput) → slice_get bodies.now crossing.now.to ≡ Some b → slice_get b.ins.items crossing.now.inp ≡ Some x → result ≡ asked_in_all x.boundary.lane }
 {
     bodies[crossing.to as usize].asked(crossing.inp as usize)
 }
@@ -59,7 +59,7 @@ pub fn note_asked(all: &[u64], lanes: &[LanePlan], counts: &mut [WireCount])
 
 // The count of a lane of which so much was asked in all.
 fn note(count: &mut WireCount, all: u64)
-    ensures { count.new ≡ noted count.old all }
+    ensures { count.new ≡ with_demand count.old all }
 {
     count.asked = all > count.sent;
 }

@@ -1,7 +1,7 @@
 // What the bodies of islands take of memory before they are made.
 ghost use Rattle.std.specs.Prelude.{◌≡◌, ◌<◌, IfOk, All};
 ghost use Rattle.lane_ends.specs.Ends.{CanAllBeMade};
-ghost use Rattle.island_bodies.specs.Making.{way_homes, AreTables, IsRoomFor};
+ghost use Rattle.island_bodies.specs.Making.{way_homes, AreTables, IsRoomForBodies};
 
 use crate::peers::peers_of;
 use elem_core::why::NoMemory;
@@ -41,7 +41,7 @@ impl<S: Source, D: Drain, L: Logic, B: PlugBook> BodyRoom<S, D, L, B> {
     ) -> Result<BodyRoom<S, D, L, B>, NoMemory>
         requires wires { All (λ h. h < count) wires.now }
         requires lanes { CanAllBeMade count lanes.now }
-        ensures { IfOk result (IsRoomFor wires.now lanes.now count) }
+        ensures { IfOk result (IsRoomForBodies wires.now lanes.now count) }
     {
         let homes = way_homes(alloc, wires, lanes)?;
         let counts = ranks_of(alloc, &homes, count)?.counts;

@@ -6,7 +6,7 @@ use Rattle.stream_io.specs.State.{SourceState, DrainState}
 use Rattle.nodes.specs.Nodes.{node_port_state, node_law, node_asking, node_moves, node_gone, node_passive, KeepsNode}
 use Rattle.fused_net.specs.Laws.{Settled}
 use Rattle.fused_net.specs.Outside.{StandsStill, BreaksAside}
-use Rattle.lane_core.specs.Ends.{taken, IsSameIn, IsSameOut}
+use Rattle.lane_core.specs.Ends.{taken_items, IsSameIn, IsSameOut}
 use Rattle.input_boundary.specs.Boundary.{given, waits, state}
 use Rattle.interpreter.specs.Island.{Kept}
 use Rattle.interpreter.specs.Boundary.{Enters, Leaves, way_in, way_out}
@@ -17,7 +17,7 @@ use Rattle.island_boundary.proofs.Beside.{leaves_beside, enters_beside}
 use Rattle.island_boundary.specs.Feeding.{Feeds, IsFed}
 use Rattle.island_boundary.specs.declared.input.IslandInput.{IslandInput}
 use Rattle.island_boundary.proofs.Feeding.{feeds_looked}
-use Rattle.island_body.specs.Ends.{in_wires, out_wires, InStands, OutStands, AllServed, AllDone, IslandGoes}
+use Rattle.island_body.specs.Ends.{in_wires, out_wires, InputEndStands, OutputEndStands, AllServed, AllDone, IslandGoes}
 use Rattle.island_body.specs.Keeping.{IsIdle, BodyStands, BodyGoes, BodyBreaks, SameLanes}
 use Rattle.island_body.specs.Moving.{TookNone, FoundNone, TookNoneAt, TookNoneBelow, FoundNoneAt, FoundNoneBelow}
 use Rattle.island_body.specs.declared.body.Body.{Body}
@@ -70,7 +70,7 @@ module _ {S D L B : Type 0} where
   pub in_serves : (b nb : Body S D L B) (k : ℕ) (x y : IslandInput) → slice_get b.ins.items k ≡ Some x → BodyStands b → Beside (way_in b.island x.wire) (in_node b.island x.wire) b.island nb.island → y.wire ≡ x.wire → Feeds y.boundary nb.island y.wire
       → nb.ins.items ≡ set b.ins.items k y → nb.outs.items ≡ b.outs.items → nb.ways.items ≡ b.ways.items → BodyStands nb
   in_serves b nb k x y at s beside wire feeds ins_is outs_is ways_is =
-      let mine : InStands nb.island y = record { enters = subst (λ (u : ℕ). Enters nb.island u) (sym wire) (enters_beside (way_in b.island x.wire) (in_node b.island x.wire) b.island nb.island x.wire beside (s.stand.ins_stand k x at).enters); feeds = feeds } in
+      let mine : InputEndStands nb.island y = record { enters = subst (λ (u : ℕ). Enters nb.island u) (sym wire) (enters_beside (way_in b.island x.wire) (in_node b.island x.wire) b.island nb.island x.wire beside (s.stand.ins_stand k x at).enters); feeds = feeds } in
       let goes = goes_of (way_in b.island x.wire) (in_node b.island x.wire) b.island nb.island beside in
       let same : in_wires (set b.ins.items k y) ≡ in_wires b.ins.items = map_set (λ (z : IslandInput). z.wire) b.ins.items k x y at wire in
       record {
@@ -98,7 +98,7 @@ module _ {S D L B : Type 0} where
       → nb.ins.items ≡ b.ins.items → nb.outs.items ≡ set b.outs.items k y → nb.ways.items ≡ b.ways.items → BodyStands nb
   out_serves b nb k x y at s beside wire serves ins_is outs_is ways_is =
       let was = s.stand.outs_stand k x at in
-      let mine : OutStands nb.island y = record {
+      let mine : OutputEndStands nb.island y = record {
         leaves = subst (λ (u : ℕ). Leaves nb.island u) (sym wire) (leaves_beside (way_out b.island x.wire) (out_node b.island x.wire) b.island nb.island x.wire beside was.leaves);
         serves = serves;
         only = rw (wire, beside.outs, beside.on.ends, beside.on.ports) was.only;
@@ -131,7 +131,7 @@ module _ {S D L B : Type 0} where
   in_looked b nb k x y at s island_is wire given_is state_is ins_is outs_is ways_is =
       let was = s.stand.ins_stand k x at in
       let same : in_wires (set b.ins.items k y) ≡ in_wires b.ins.items = map_set (λ (z : IslandInput). z.wire) b.ins.items k x y at wire in
-      let mine : InStands b.island y = record {
+      let mine : InputEndStands b.island y = record {
         enters = subst (λ (u : ℕ). Enters b.island u) (sym wire) was.enters;
         feeds = subst (λ (u : ℕ). Feeds y.boundary b.island u) (sym wire) (feeds_looked x.boundary b.island x.wire y.boundary given_is state_is was.feeds);
       } in
@@ -139,7 +139,7 @@ module _ {S D L B : Type 0} where
         whole = rw island_is s.whole;
         stand = rw (island_is, ins_is, outs_is) (record {
           ins_stand = λ j z e. elim (at_set b.ins.items k j x y z at e) [
-            | inl here ↦ subst (λ (w : IslandInput). InStands b.island w) (sym here.1) mine
+            | inl here ↦ subst (λ (w : IslandInput). InputEndStands b.island w) (sym here.1) mine
             | inr there ↦ s.stand.ins_stand j z there.1
           ];
           outs_stand = s.stand.outs_stand;
@@ -161,7 +161,7 @@ module _ {S D L B : Type 0} where
       }
 
   -- one that found nothing to take has nothing to do either
-  pub looked_none : (i : Kept S D L B) (ins : List IslandInput) (outs : List OutputBoundary) (k : ℕ) (x y : IslandInput) → slice_get ins k ≡ Some x → y.wire ≡ x.wire → given y.boundary ≡ given x.boundary → state y.boundary ≡ state x.boundary → taken y.boundary.lane ≡ taken x.boundary.lane → waits y.boundary ≡ waits x.boundary
+  pub looked_none : (i : Kept S D L B) (ins : List IslandInput) (outs : List OutputBoundary) (k : ℕ) (x y : IslandInput) → slice_get ins k ≡ Some x → y.wire ≡ x.wire → given y.boundary ≡ given x.boundary → state y.boundary ≡ state x.boundary → taken_items y.boundary.lane ≡ taken_items x.boundary.lane → waits y.boundary ≡ waits x.boundary
       → AllDone i ins outs → AllDone i (set ins k y) outs
   looked_none i ins outs k x y at wire given_is state_is taken_is waits_is s =
       let count : length (set ins k y) ≡ length ins = length-set _ _ _ in

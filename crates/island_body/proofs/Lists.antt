@@ -3,7 +3,7 @@ use Rattle.std.proofs.Common.{◌≡◌, ◌≢◌, ◌⊎◌, inl, inr, ℕ, ze
 use Rattle.std.specs.Prelude.{get_or}
 use Rattle.std.proofs.lemmas.Option.{slice_get_within}
 use Rattle.fused_net.proofs.Reading.{same_or_not, get_set_same, get_set_other}
-use Rattle.lane_core.specs.Ends.{taken, finds}
+use Rattle.lane_core.specs.Ends.{taken_items, finds}
 use Rattle.island_boundary.specs.declared.output.OutputBoundary.{OutputBoundary}
 use Rattle.island_boundary.specs.declared.input.IslandInput.{IslandInput}
 use Rattle.island_body.specs.Ends.{all_taken, all_finds}
@@ -41,9 +41,9 @@ map_at f [] k x at = absurd cc
 map_at f (z ∷ xs) zero x at = ap (λ (w : _). Some (f w)) (some_same z x at)
 map_at f (z ∷ xs) (suc k) x at = map_at f xs k x at
 
-pub taken_set : (xs : List IslandInput) (k : ℕ) (x y : IslandInput) (n : ℕ) → slice_get xs k ≡ Some x → length (taken y.boundary.lane) ≡ length (taken x.boundary.lane) + n → all_taken (set xs k y) ≡ all_taken xs + n
+pub taken_set : (xs : List IslandInput) (k : ℕ) (x y : IslandInput) (n : ℕ) → slice_get xs k ≡ Some x → length (taken_items y.boundary.lane) ≡ length (taken_items x.boundary.lane) + n → all_taken (set xs k y) ≡ all_taken xs + n
 taken_set [] k x y n at e = absurd cc
-taken_set (z ∷ xs) zero x y n at e = let same = ap (λ (w : IslandInput). length (taken w.boundary.lane)) (some_same z x at) in omega (arith, same, e)
+taken_set (z ∷ xs) zero x y n at e = let same = ap (λ (w : IslandInput). length (taken_items w.boundary.lane)) (some_same z x at) in omega (arith, same, e)
 taken_set (z ∷ xs) (suc k) x y n at e = let rest = taken_set xs k x y n at e in omega (arith, rest)
 
 pub finds_set : (os : List OutputBoundary) (k : ℕ) (o p : OutputBoundary) (n : ℕ) → slice_get os k ≡ Some o → finds p.lane ≡ finds o.lane + n → all_finds (set os k p) ≡ all_finds os + n

@@ -16,7 +16,7 @@ use Rattle.island_boundary.proofs.Serving.{serves_beside, served_beside, serves_
 use Rattle.island_boundary.specs.Feeding.{IsFed}
 use Rattle.island_boundary.specs.declared.input.IslandInput.{IslandInput}
 use Rattle.island_boundary.proofs.Feeding.{feeds_beside, fed_beside, feeds_ran, fed_ran}
-use Rattle.island_body.specs.Ends.{in_wires, out_wires, InStands, OutStands, AllStand, AllServed, AreApart, IsTable, IslandGoes}
+use Rattle.island_body.specs.Ends.{in_wires, out_wires, InputEndStands, OutputEndStands, AllStand, AllServed, AreApart, IsTable, IslandGoes}
 use Rattle.island_body.specs.declared.way.Way.{Way}
 use Rattle.island_body.specs.declared.way.Way.TheVariants.{Inner, In, Out}
 use Rattle.island_body.proofs.Lists.{some_same, at_set, map_at}
@@ -93,10 +93,10 @@ module _ {S D L B : Type 0} where
   -- ---- another end acts
 
   module _ (q n : ℕ) (old new : Kept S D L B) (b : Beside q n old new) where
-    in_stands : (x : IslandInput) → way_in old x.wire ≢ q → InStands old x → InStands new x
+    in_stands : (x : IslandInput) → way_in old x.wire ≢ q → InputEndStands old x → InputEndStands new x
     in_stands x apart s = record { enters = enters_beside q n old new x.wire b s.enters; feeds = feeds_beside x.boundary q n old new x.wire b apart s.feeds }
 
-    out_stands : (o : OutputBoundary) → way_out old o.wire ≢ q → out_node old o.wire ≢ n → OutStands old o → OutStands new o
+    out_stands : (o : OutputBoundary) → way_out old o.wire ≢ q → out_node old o.wire ≢ n → OutputEndStands old o → OutputEndStands new o
     out_stands o apart other s = record {
       leaves = leaves_beside q n old new o.wire b s.leaves;
       serves = serves_beside o.lane q n old new o.wire b apart other s.serves;
@@ -109,10 +109,10 @@ module _ {S D L B : Type 0} where
     in_wire_at : slice_get (in_wires ins) k ≡ Some x.wire
     in_wire_at = map_at (λ (z : IslandInput). z.wire) ins k x at
 
-    pub in_acted : AllStand old ins outs → InStands new y → AllStand new (set ins k y) outs
+    pub in_acted : AllStand old ins outs → InputEndStands new y → AllStand new (set ins k y) outs
     in_acted s mine = record {
       ins_stand = λ j z e. elim (at_set ins k j x y z at e) [
-        | inl here ↦ subst (λ (w : IslandInput). InStands new w) (sym here.1) mine
+        | inl here ↦ subst (λ (w : IslandInput). InputEndStands new w) (sym here.1) mine
         | inr there ↦ in_stands (way_in old x.wire) (in_node old x.wire) old new b z (ins_ways old (in_wires ins) (out_wires outs) ws table j k z.wire x.wire (map_at (λ (w : IslandInput). w.wire) ins j z there.1) in_wire_at there.0) (s.ins_stand j z there.1)
       ];
       outs_stand = λ j o e. let other : slice_get (out_wires outs) j ≡ Some o.wire = map_at (λ (w : OutputBoundary). w.wire) outs j o e in
@@ -136,12 +136,12 @@ module _ {S D L B : Type 0} where
     out_wire_at : slice_get (out_wires outs) k ≡ Some x.wire
     out_wire_at = map_at (λ (z : OutputBoundary). z.wire) outs k x at
 
-    pub out_acted : AllStand old ins outs → OutStands new y → AllStand new ins (set outs k y)
+    pub out_acted : AllStand old ins outs → OutputEndStands new y → AllStand new ins (set outs k y)
     out_acted s mine = record {
       ins_stand = λ j z e. let other : slice_get (in_wires ins) j ≡ Some z.wire = map_at (λ (w : IslandInput). w.wire) ins j z e in
           in_stands (way_out old x.wire) (out_node old x.wire) old new b z (both_ways old (in_wires ins) (out_wires outs) ws table j k z.wire x.wire other out_wire_at) (s.ins_stand j z e);
       outs_stand = λ j z e. elim (at_set outs k j x y z at e) [
-        | inl here ↦ subst (λ (w : OutputBoundary). OutStands new w) (sym here.1) mine
+        | inl here ↦ subst (λ (w : OutputBoundary). OutputEndStands new w) (sym here.1) mine
         | inr there ↦ (let other : slice_get (out_wires outs) j ≡ Some z.wire = map_at (λ (w : OutputBoundary). w.wire) outs j z there.1 in
             out_stands (way_out old x.wire) (out_node old x.wire) old new b z (outs_ways old (in_wires ins) (out_wires outs) ws table j k z.wire x.wire other out_wire_at there.0) (apart.outs_apart j k z.wire x.wire other out_wire_at there.0) (s.outs_stand j z there.1))
       ];

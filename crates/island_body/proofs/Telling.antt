@@ -4,14 +4,14 @@ use Rattle.std.proofs.lemmas.List.{length-set}
 use Rattle.std.proofs.lemmas.Option.{slice_get_within}
 use Rattle.std.specs.declared.vec.Vec.{Vec}
 use Rattle.fused_net.proofs.Reading.{get_there, get_set_same}
-use Rattle.port_core.specs.Ring.{holds}
-use Rattle.lane_core.specs.Ends.{sent, asks, has_cancelled}
+use Rattle.port_core.specs.Ring.{is_waiting}
+use Rattle.lane_core.specs.Ends.{sent, ask_calls, has_cancelled}
 use Rattle.island_boundary.specs.declared.output.OutputBoundary.{OutputBoundary}
 use Rattle.island_boundary.specs.declared.input.IslandInput.{IslandInput}
 use Rattle.island_body.specs.declared.peers.Peers.{Peers}
 use Rattle.island_body.specs.declared.body.Body.{Body}
 use Rattle.island_body.specs.Waked.{Added}
-use Rattle.island_body.specs.Telling.{TellsIn, TellsOut, IsToldBy, IsSentBy, Tells, ToldIn, ToldOut, HasTold, Wakes, WakesOn}
+use Rattle.island_body.specs.Telling.{TellsIn, TellsOut, IsToldBy, IsSentBy, TellsNoLess, ToldIn, ToldOut, HasTold, Wakes, WakesOn}
 use Rattle.island_body.proofs.Lists.{some_same, at_set, at_one}
 use Rattle.island_body.proofs.Wakes.{added_none}
 
@@ -28,7 +28,7 @@ told_then x y z t g = let b = g.asks_more in let d = g.cancels in elim t [ inl a
 told_now : (x y z : IslandInput) → TellsIn x y → IsToldBy y z → IsToldBy x z
 told_now x y z g t = let b = g.asks_more in let d = g.cancels in elim t [ inl a ↦ inl (omega (arith, a, b)) | inr c ↦ inr (omega (arith, c, d)) ]
 
-told_back : (x y z : IslandInput) → IsToldBy x z → asks z.boundary.lane ≡ asks y.boundary.lane → has_cancelled z.boundary.lane ≡ has_cancelled y.boundary.lane → IsToldBy x y
+told_back : (x y z : IslandInput) → IsToldBy x z → ask_calls z.boundary.lane ≡ ask_calls y.boundary.lane → has_cancelled z.boundary.lane ≡ has_cancelled y.boundary.lane → IsToldBy x y
 told_back x y z t e f = elim t [ inl a ↦ inl (omega (arith, a, e)) | inr c ↦ inr (omega (arith, c, f)) ]
 
 told_none : (x : IslandInput) → IsToldBy x x → ⊥
@@ -44,7 +44,7 @@ end_after xs ys k x e at = get_there ys k (subst (λ (n : ℕ). k < n) (sym e) (
 module _ {S D L B : Type 0} where
   -- ---- no end tells less
 
-  tells_on : (a b c : Body S D L B) → Tells a b → Tells b c → Tells a c
+  tells_on : (a b c : Body S D L B) → TellsNoLess a b → TellsNoLess b c → TellsNoLess a c
   tells_on a b c f g = record {
     ins_many = g.ins_many ∙ f.ins_many;
     outs_many = g.outs_many ∙ f.outs_many;
@@ -55,7 +55,7 @@ module _ {S D L B : Type 0} where
   }
 
   -- what was told before is told still
-  has_told_on : (a b c : Body S D L B) (w : ℕ) → Tells b c → HasTold a b w → HasTold a c w
+  has_told_on : (a b c : Body S D L B) (w : ℕ) → TellsNoLess b c → HasTold a b w → HasTold a c w
   has_told_on a b c w g t = elim t [
     | inl i ↦ (let z = end_after b.ins.items c.ins.items i.place i.after g.ins_many i.after_at in inl (record {
       place = i.place;
@@ -79,7 +79,7 @@ module _ {S D L B : Type 0} where
 
   -- ---- the same ends
 
-  tells_same : (b c : Body S D L B) → c.ins ≡ b.ins → c.outs ≡ b.outs → c.peers.ins ≡ b.peers.ins → c.peers.outs ≡ b.peers.outs → Tells b c
+  tells_same : (b c : Body S D L B) → c.ins ≡ b.ins → c.outs ≡ b.outs → c.peers.ins ≡ b.peers.ins → c.peers.outs ≡ b.peers.outs → TellsNoLess b c
   tells_same b c ins_is outs_is ip op = record {
     ins_many = ap (λ (v : Vec IslandInput _). length v.items) ins_is;
     outs_many = ap (λ (v : Vec OutputBoundary _). length v.items) outs_is;
@@ -136,7 +136,7 @@ module _ {S D L B : Type 0} where
   wakes_none a b ins_is outs_is ip op none = record {
     tells = tells_same a b ins_is outs_is ip op;
     once = rw none tt;
-    each = λ i h. let no : holds [] i ≡ true = rw none at h in absurd cc;
+    each = λ i h. let no : is_waiting [] i ≡ true = rw none at h in absurd cc;
     all = λ i t. absurd (elim t [
       | inl x ↦ (let is : x.before ≡ x.after = some_same x.before x.after (sym x.before_at ∙ (ap (λ (v : Vec IslandInput _). slice_get v.items x.place) (sym ins_is) ∙ x.after_at)) in told_none x.after (subst (λ (z : IslandInput). IsToldBy z x.after) is x.told))
       | inr o ↦ (let is : o.before ≡ o.after = some_same o.before o.after (sym o.before_at ∙ (ap (λ (v : Vec OutputBoundary _). slice_get v.items o.place) (sym outs_is) ∙ o.after_at)) in let l : length (sent o.after.lane) < length (sent o.after.lane) = subst (λ (z : OutputBoundary). IsSentBy z o.after) is o.told in omega (arith, l))
@@ -147,7 +147,7 @@ module _ {S D L B : Type 0} where
 
   -- the input end at place k told its other end something, or not
   pub wakes_in : (b c : Body S D L B) (k : ℕ) (x y : IslandInput) (told : Bool) → slice_get b.ins.items k ≡ Some x → c.ins.items ≡ set b.ins.items k y → c.outs ≡ b.outs → c.peers.ins ≡ b.peers.ins → c.peers.outs ≡ b.peers.outs → Added b.peers.ins.items k told b.peers.woken.queue c.peers.woken.queue
-      → TellsIn x y → (told ≡ true → IsToldBy x y) → (told ≡ false → (asks y.boundary.lane ≡ asks x.boundary.lane) × (has_cancelled y.boundary.lane ≡ has_cancelled x.boundary.lane)) → WakesOn b c
+      → TellsIn x y → (told ≡ true → IsToldBy x y) → (told ≡ false → (ask_calls y.boundary.lane ≡ ask_calls x.boundary.lane) × (has_cancelled y.boundary.lane ≡ has_cancelled x.boundary.lane)) → WakesOn b c
   wakes_in b c k x y told at ins_is outs_is ip op added more says quiet a w = record {
     tells = tells_on a b c w.tells g;
     once = added.once w.once;
@@ -169,7 +169,7 @@ module _ {S D L B : Type 0} where
     ];
   }
     where
-      g : Tells b c
+      g : TellsNoLess b c
       g = record {
         ins_many = ap length ins_is ∙ length-set b.ins.items k y;
         outs_many = ap (λ (v : Vec OutputBoundary _). length v.items) outs_is;
@@ -193,7 +193,7 @@ module _ {S D L B : Type 0} where
         told = told_now z.0 x y (w.tells.ins k z.0 x z.1 at) (says t);
       }
 
-      by_told : (t : Bool) → told ≡ t → (i : ℕ) (u : ToldIn a c i) → u.place ≡ k → u.after ≡ y → holds c.peers.woken.queue i ≡ true
+      by_told : (t : Bool) → told ≡ t → (i : ℕ) (u : ToldIn a c i) → u.place ≡ k → u.after ≡ y → is_waiting c.peers.woken.queue i ≡ true
       by_told true t i u here is = added.here i t (ap (λ (v : Vec ℕ _). slice_get v.items k) (sym ip) ∙ (ap (λ (n : ℕ). slice_get c.peers.ins.items n) (sym here) ∙ u.peer))
       by_told false t i u here is = let q = quiet t in added.still i (w.all i (inl (record {
         place = u.place;
@@ -202,7 +202,7 @@ module _ {S D L B : Type 0} where
         before_at = u.before_at;
         after_at = ap (λ (n : ℕ). slice_get b.ins.items n) here ∙ at;
         peer = ap (λ (v : Vec ℕ _). slice_get v.items u.place) (sym ip) ∙ u.peer;
-        told = told_back u.before x u.after u.told (ap (λ (z : IslandInput). asks z.boundary.lane) is ∙ q.0) (ap (λ (z : IslandInput). has_cancelled z.boundary.lane) is ∙ q.1);
+        told = told_back u.before x u.after u.told (ap (λ (z : IslandInput). ask_calls z.boundary.lane) is ∙ q.0) (ap (λ (z : IslandInput). has_cancelled z.boundary.lane) is ∙ q.1);
       })))
 
   -- the output end at place k sent something, or not
@@ -233,7 +233,7 @@ module _ {S D L B : Type 0} where
       more true t = let l = says t in omega (arith, l)
       more false t = let e = ap length (quiet t) in omega (arith, e)
 
-      g : Tells b c
+      g : TellsNoLess b c
       g = record {
         ins_many = ap (λ (v : Vec IslandInput _). length v.items) ins_is;
         outs_many = ap length outs_is ∙ length-set b.outs.items k y;
@@ -257,7 +257,7 @@ module _ {S D L B : Type 0} where
         told = omega (arith, l, m);
       }
 
-      by_told : (t : Bool) → told ≡ t → (i : ℕ) (u : ToldOut a c i) → u.place ≡ k → u.after ≡ y → holds c.peers.woken.queue i ≡ true
+      by_told : (t : Bool) → told ≡ t → (i : ℕ) (u : ToldOut a c i) → u.place ≡ k → u.after ≡ y → is_waiting c.peers.woken.queue i ≡ true
       by_told true t i u here is = added.here i t (ap (λ (v : Vec ℕ _). slice_get v.items k) (sym op) ∙ (ap (λ (n : ℕ). slice_get c.peers.outs.items n) (sym here) ∙ u.peer))
       by_told false t i u here is = let q = ap length (quiet t) in let l : length (sent u.before.lane) < length (sent y.lane) = subst (λ (z : OutputBoundary). IsSentBy u.before z) is u.told in added.still i (w.all i (inr (record {
         place = u.place;
@@ -270,7 +270,7 @@ module _ {S D L B : Type 0} where
       })))
 
   -- one that only looked
-  pub wakes_looked_in : (b c : Body S D L B) (k : ℕ) (x y : IslandInput) → slice_get b.ins.items k ≡ Some x → c.ins.items ≡ set b.ins.items k y → c.outs ≡ b.outs → c.peers ≡ b.peers → asks y.boundary.lane ≡ asks x.boundary.lane → has_cancelled y.boundary.lane ≡ has_cancelled x.boundary.lane → WakesOn b c
+  pub wakes_looked_in : (b c : Body S D L B) (k : ℕ) (x y : IslandInput) → slice_get b.ins.items k ≡ Some x → c.ins.items ≡ set b.ins.items k y → c.outs ≡ b.outs → c.peers ≡ b.peers → ask_calls y.boundary.lane ≡ ask_calls x.boundary.lane → has_cancelled y.boundary.lane ≡ has_cancelled x.boundary.lane → WakesOn b c
   wakes_looked_in b c k x y at ins_is outs_is peers_is e f =
       let q : c.peers.woken.queue ≡ b.peers.woken.queue = ap (λ (p : Peers). p.woken.queue) peers_is in
       wakes_in b c k x y false at ins_is outs_is (ap (λ (p : Peers). p.ins) peers_is) (ap (λ (p : Peers). p.outs) peers_is) (rw q (added_none b.peers.ins.items b.peers.woken.queue k false refl)) (record { asks_more = omega (arith, e); cancels = omega (arith, f) }) (λ t. cc) (λ t. (e, f))

@@ -1,9 +1,9 @@
 -- The ends of lanes of an island, and what stands at them.
 use Rattle.std.specs.Prelude.{◌≡◌, ◌≢◌, ℕ, ◌+◌, ◌<◌, List, [], ◌∷◌, length, map, slice_get, Option, Some, None}
-use Rattle.fused_net.specs.Laws.{GoesOn}
+use Rattle.fused_net.specs.Laws.{NetGoesOn}
 use Rattle.fused_net.specs.Net.{ports_at}
 use Rattle.fused_net.specs.Outside.{HasOnly, IsElse}
-use Rattle.lane_core.specs.Ends.{taken, finds}
+use Rattle.lane_core.specs.Ends.{taken_items, finds}
 use Rattle.interpreter.specs.Island.{Kept}
 use Rattle.interpreter.specs.Boundary.{Enters, Leaves, way_in, way_out}
 use Rattle.island_boundary.specs.Beside.{in_node, out_node}
@@ -24,7 +24,7 @@ out_wires outs = map (λ (o : OutputBoundary). o.wire) outs
 -- how many items the input ends have taken, and how often the output ends have found demand or a cancel
 abbrev pub all_taken : List IslandInput → ℕ
 all_taken [] = 0
-all_taken (x ∷ xs) = length (taken x.boundary.lane) + all_taken xs
+all_taken (x ∷ xs) = length (taken_items x.boundary.lane) + all_taken xs
 
 abbrev pub all_finds : List OutputBoundary → ℕ
 all_finds [] = 0
@@ -32,19 +32,19 @@ all_finds (o ∷ os) = finds o.lane + all_finds os
 
 module _ {S D L B : Type 0} where
   -- an input end stands at a stage of its island, and an output end at another, which has no other connection
-  pub record InStands (i : Kept S D L B) (x : IslandInput) : Type 0 where
+  pub record InputEndStands (i : Kept S D L B) (x : IslandInput) : Type 0 where
     pub enters : Enters i x.wire
     pub feeds : Feeds x.boundary i x.wire
 
-  pub record OutStands (i : Kept S D L B) (o : OutputBoundary) : Type 0 where
+  pub record OutputEndStands (i : Kept S D L B) (o : OutputBoundary) : Type 0 where
     pub leaves : Leaves i o.wire
     pub serves : Serves o.lane i o.wire
     pub only : HasOnly (ports_at i.net (out_node i o.wire)) (way_out i o.wire)
 
   -- all do
   pub record AllStand (i : Kept S D L B) (ins : List IslandInput) (outs : List OutputBoundary) : Type 0 where
-    pub ins_stand : (k : ℕ) (x : IslandInput) → slice_get ins k ≡ Some x → InStands i x
-    pub outs_stand : (k : ℕ) (o : OutputBoundary) → slice_get outs k ≡ Some o → OutStands i o
+    pub ins_stand : (k : ℕ) (x : IslandInput) → slice_get ins k ≡ Some x → InputEndStands i x
+    pub outs_stand : (k : ℕ) (o : OutputBoundary) → slice_get outs k ≡ Some o → OutputEndStands i o
 
   -- of the first n input ends and the first m output ends none has anything to do, but that at the connection of this place, if one
   -- is named
@@ -72,7 +72,7 @@ module _ {S D L B : Type 0} where
 
   -- an island goes on with the same tables
   pub record IslandGoes (old new : Kept S D L B) : Type 0 where
-    pub on : GoesOn old.net new.net
+    pub on : NetGoesOn old.net new.net
     pub ins : new.ins ≡ old.ins
     pub outs : new.outs ≡ old.outs
     pub numbers : new.numbers ≡ old.numbers

@@ -1,11 +1,11 @@
 -- What a body keeps between two turns, how it goes on, and what it leaves where memory was wanting.
 use Rattle.std.specs.Prelude.{◌≡◌, ◌≢◌, ℕ, ◌+◌, ◌≤◌, Bool, true, false, List, [], ◌∷◌, slice_get, Some}
 use Rattle.stream_io.specs.State.{SourceState, DrainState}
-use Rattle.fused_net.specs.Costs.{total}
+use Rattle.fused_net.specs.Costs.{total_cost}
 use Rattle.fused_net.specs.Laws.{Settled, AllKept}
 use Rattle.nodes.specs.Nodes.{node_port_state, node_law, node_asking, node_moves, KeepsNode}
 use Rattle.lane_core.specs.Ends.{IsSameIn, IsSameOut}
-use Rattle.interpreter.specs.Island.{Kept, Keeps}
+use Rattle.interpreter.specs.Island.{Kept, IslandKeeps}
 use Rattle.interpreter.specs.Boundary.{way_in, way_out}
 use Rattle.island_boundary.specs.declared.output.OutputBoundary.{OutputBoundary}
 use Rattle.island_boundary.specs.declared.input.IslandInput.{IslandInput}
@@ -29,7 +29,7 @@ has_some (w ∷ ws) = true
 module _ {S D L B : Type 0} where
   -- what a body may have cost: what its connections have, the items that it took, and its finds of demand or of a cancel
   abbrev pub cost_of : Body S D L B → ℕ
-  cost_of b = total b.island.net + (all_taken b.ins.items + all_finds b.outs.items)
+  cost_of b = total_cost b.island.net + (all_taken b.ins.items + all_finds b.outs.items)
 
   -- an event is pending in its island
   abbrev pub is_pending : Body S D L B → Bool
@@ -44,7 +44,7 @@ module _ {S D L B : Type 0} where
 
   -- A body between two turns: its island keeps its laws, no end of a lane has anything to do, and each unit was paid.
   pub record BodyKeeps (sources : S → SourceState) (drains : D → DrainState) (book : Book) (b : Body S D L B) : Type 0 where
-    pub laws : Keeps sources drains book b.island.net b.island.used
+    pub laws : IslandKeeps sources drains book b.island.net b.island.used
     pub stands : BodyStands b
     pub served : AllDone b.island b.ins.items b.outs.items
     pub used_less : b.island.used ≤ b.spent

@@ -8,7 +8,7 @@ use Rattle.lane_core.specs.declared.room.Waits.{Waits}
 use Rattle.lane_core.specs.declared.lane_out.LaneOut.{LaneOut}
 use Rattle.lane_core.specs.declared.lane_in.LaneIn.{LaneIn}
 use Rattle.elem_core.specs.Items.{elements}
-use Rattle.lane_core.specs.Ends.{finds, taken}
+use Rattle.lane_core.specs.Ends.{finds, taken_items}
 use Rattle.lane_meet.specs.Meeting.{KeepsOut, KeepsIn}
 use Rattle.lane_meet.proofs.Standing.{history_stands, waits_stand}
 use Rattle.interpreter.specs.Island.{Kept}
@@ -17,7 +17,7 @@ use Rattle.island_boundary.specs.Serving.{Serves, IsServed}
 use Rattle.island_boundary.specs.declared.output.OutputBoundary.{OutputBoundary}
 use Rattle.island_boundary.specs.Feeding.{Feeds, IsFed}
 use Rattle.island_boundary.specs.declared.input.IslandInput.{IslandInput}
-use Rattle.island_body.specs.Ends.{all_taken, all_finds, InStands, OutStands, AllStand, AllDone, IslandGoes}
+use Rattle.island_body.specs.Ends.{all_taken, all_finds, InputEndStands, OutputEndStands, AllStand, AllDone, IslandGoes}
 use Rattle.island_body.specs.Keeping.{BodyStands, BodyKeeps, BodyGoes, BodyBreaks, SameLanes, IsIdle, is_pending}
 use Rattle.island_body.specs.Meeting.{OutMet, InMet, OnlyMet, BodiesMayMeet, BodiesJoined, BodiesMeet}
 use Rattle.island_body.specs.declared.body.Body.{Body}
@@ -38,13 +38,13 @@ maps_same f (x ∷ xs) (y ∷ ys) e h =
     let here : f y ≡ f x = h 0 x y refl refl in
     ap (λ (z : _). z ∷ map f ys) here ∙ ap (λ (l : List _). f x ∷ l) rest
 
-taken_same : (xs ys : List IslandInput) → length ys ≡ length xs → ((k : ℕ) (x y : IslandInput) → slice_get xs k ≡ Some x → slice_get ys k ≡ Some y → taken y.boundary.lane ≡ taken x.boundary.lane) → all_taken ys ≡ all_taken xs
+taken_same : (xs ys : List IslandInput) → length ys ≡ length xs → ((k : ℕ) (x y : IslandInput) → slice_get xs k ≡ Some x → slice_get ys k ≡ Some y → taken_items y.boundary.lane ≡ taken_items x.boundary.lane) → all_taken ys ≡ all_taken xs
 taken_same [] [] e h = refl
 taken_same [] (y ∷ ys) e h = absurd cc
 taken_same (x ∷ xs) [] e h = absurd cc
 taken_same (x ∷ xs) (y ∷ ys) e h =
     let rest : all_taken ys ≡ all_taken xs = (let fewer : length ys ≡ length xs = cc in taken_same xs ys fewer (λ k a b ea eb. h (suc k) a b ea eb)) in
-    let here : length (taken y.boundary.lane) ≡ length (taken x.boundary.lane) = ap length (h 0 x y refl refl) in
+    let here : length (taken_items y.boundary.lane) ≡ length (taken_items x.boundary.lane) = ap length (h 0 x y refl refl) in
     omega (arith, rest, here)
 
 finds_same : (xs ys : List OutputBoundary) → length ys ≡ length xs → ((k : ℕ) (x y : OutputBoundary) → slice_get xs k ≡ Some x → slice_get ys k ≡ Some y → finds y.lane ≡ finds x.lane) → all_finds ys ≡ all_finds xs
@@ -118,7 +118,7 @@ module _ {S D L B : Type 0} where
     cancelled = λ e. rw m.wire (f.cancelled (sym m.state_is ∙ e));
   }
 
-  in_stands_met : (i : Kept S D L B) (x y : IslandInput) → InMet x y → InStands i x → InStands i y
+  in_stands_met : (i : Kept S D L B) (x y : IslandInput) → InMet x y → InputEndStands i x → InputEndStands i y
   in_stands_met i x y m s = record { enters = rw m.wire s.enters; feeds = feeds_met i x y m s.feeds }
 
   fed_met : (i : Kept S D L B) (x y : IslandInput) → InMet x y → IsFed x.boundary i x.wire → IsFed y.boundary i y.wire
@@ -145,7 +145,7 @@ module _ {S D L B : Type 0} where
     left = λ e. m.lane.cancel ∙ s.left (rw m.wire at e);
   }
 
-  out_stands_met : (i : Kept S D L B) (o p : OutputBoundary) → OutMet o p → OutStands i o → OutStands i p
+  out_stands_met : (i : Kept S D L B) (o p : OutputBoundary) → OutMet o p → OutputEndStands i o → OutputEndStands i p
   out_stands_met i o p m s = record { leaves = rw m.wire s.leaves; serves = serves_met i o p m s.serves; only = rw m.wire s.only }
 
   served_met : (i : Kept S D L B) (o p : OutputBoundary) → OutMet o p → IsServed o.lane i o.wire → IsServed p.lane i p.wire

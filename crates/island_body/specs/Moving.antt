@@ -1,6 +1,6 @@
 -- What a body found where it looked at its lanes.
 use Rattle.std.specs.Prelude.{◌≡◌, ◌≢◌, ◌⊎◌, ◌<◌, ◌≤◌, ℕ, true, List, [], length, slice_get, Some}
-use Rattle.lane_core.specs.Ends.{taken, seen, saw_cancel, found_sent, told_sent, told_asked, told_cancel}
+use Rattle.lane_core.specs.Ends.{taken_items, seen_count, saw_cancel, found_sent, told_sent, told_asked, told_cancel}
 use Rattle.input_boundary.specs.Boundary.{is_over}
 use Rattle.island_boundary.specs.declared.output.OutputBoundary.{OutputBoundary}
 use Rattle.island_boundary.specs.declared.input.IslandInput.{IslandInput}
@@ -9,23 +9,23 @@ use Rattle.island_body.specs.declared.body.Body.{Body}
 
 -- a look at an input end found nothing to take
 pub record TookNone (x y : IslandInput) : Type 0 where
-  pub taken_is : taken y.boundary.lane ≡ taken x.boundary.lane
-  pub why : (is_over x.boundary ≡ true) ⊎ ((found_sent y.boundary.lane ≡ length (taken y.boundary.lane)) × (told_sent x.boundary.lane ≤ found_sent y.boundary.lane))
+  pub taken_is : taken_items y.boundary.lane ≡ taken_items x.boundary.lane
+  pub why : (is_over x.boundary ≡ true) ⊎ ((found_sent y.boundary.lane ≡ length (taken_items y.boundary.lane)) × (told_sent x.boundary.lane ≤ found_sent y.boundary.lane))
 
 -- and one at an output end neither demand nor a cancel that was not known
 pub record FoundNone (o p : OutputBoundary) : Type 0 where
-  pub seen_is : seen p.lane ≡ seen o.lane
+  pub seen_is : seen_count p.lane ≡ seen_count o.lane
   pub cancel_is : saw_cancel p.lane ≡ saw_cancel o.lane
-  pub told : saw_cancel o.lane ≡ 0 → (told_asked o.lane ≤ seen p.lane) × (told_cancel o.lane ≤ saw_cancel p.lane)
+  pub told : saw_cancel o.lane ≡ 0 → (told_asked o.lane ≤ seen_count p.lane) × (told_cancel o.lane ≤ saw_cancel p.lane)
 
 -- At the last look at an input end nothing was left to take: its end was taken, or no more items were found sent than were taken. That
 -- look came after the other end had told what it had sent.
 pub record LeftNone (x y : IslandInput) : Type 0 where
-  pub why : (is_over y.boundary ≡ true) ⊎ ((found_sent y.boundary.lane ≡ length (taken y.boundary.lane)) × (told_sent x.boundary.lane ≤ found_sent y.boundary.lane))
+  pub why : (is_over y.boundary ≡ true) ⊎ ((found_sent y.boundary.lane ≡ length (taken_items y.boundary.lane)) × (told_sent x.boundary.lane ≤ found_sent y.boundary.lane))
 
 -- At the last look at an output end all was seen that the other end had told of demand and of a cancel. Behind a cancel none looks.
 pub record SawAll (o p : OutputBoundary) : Type 0 where
-  pub told : saw_cancel o.lane ≡ 0 → (told_asked o.lane ≤ seen p.lane) × (told_cancel o.lane ≤ saw_cancel p.lane)
+  pub told : saw_cancel o.lane ≡ 0 → (told_asked o.lane ≤ seen_count p.lane) × (told_cancel o.lane ≤ saw_cancel p.lane)
 
 -- of the input ends at place k nothing was left to take, and of the output ends all was seen
 abbrev pub LeftNoneAt : List IslandInput → List IslandInput → ℕ → Type 0
@@ -36,13 +36,13 @@ SawAllAt os ps k = (o p : OutputBoundary) → slice_get os k ≡ Some o → slic
 
 -- what the last look found stands
 pub record KeepsFound (x y : IslandInput) : Type 0 where
-  pub taken_is : taken y.boundary.lane ≡ taken x.boundary.lane
+  pub taken_is : taken_items y.boundary.lane ≡ taken_items x.boundary.lane
   pub found_is : found_sent y.boundary.lane ≡ found_sent x.boundary.lane
   pub told_is : told_sent y.boundary.lane ≡ told_sent x.boundary.lane
   pub over_is : is_over y.boundary ≡ is_over x.boundary
 
 pub record KeepsSeen (o p : OutputBoundary) : Type 0 where
-  pub seen_is : seen p.lane ≡ seen o.lane
+  pub seen_is : seen_count p.lane ≡ seen_count o.lane
   pub cancel_is : saw_cancel p.lane ≡ saw_cancel o.lane
 
 module _ {S D L B : Type 0} where

@@ -1,14 +1,14 @@
 -- What a body told the other ends of its lanes, and which islands it wakes for it.
 use Rattle.std.specs.Prelude.{◌≡◌, ◌⊎◌, ◌<◌, ◌≤◌, ℕ, true, length, slice_get, Some}
-use Rattle.port_core.specs.Ring.{holds, Distinct}
-use Rattle.lane_core.specs.Ends.{sent, asks, has_cancelled}
+use Rattle.port_core.specs.Ring.{is_waiting, Distinct}
+use Rattle.lane_core.specs.Ends.{sent, ask_calls, has_cancelled}
 use Rattle.island_boundary.specs.declared.output.OutputBoundary.{OutputBoundary}
 use Rattle.island_boundary.specs.declared.input.IslandInput.{IslandInput}
 use Rattle.island_body.specs.declared.body.Body.{Body}
 
 -- an input end has asked no less often than before, and taken back no cancel
 pub record TellsIn (x y : IslandInput) : Type 0 where
-  pub asks_more : asks x.boundary.lane ≤ asks y.boundary.lane
+  pub asks_more : ask_calls x.boundary.lane ≤ ask_calls y.boundary.lane
   pub cancels : has_cancelled x.boundary.lane ≤ has_cancelled y.boundary.lane
 
 -- an output end has sent no less than before
@@ -17,7 +17,7 @@ TellsOut o p = length (sent o.lane) ≤ length (sent p.lane)
 
 -- an input end asked for more, or cancelled
 abbrev pub IsToldBy : IslandInput → IslandInput → Type 0
-IsToldBy x y = (asks x.boundary.lane < asks y.boundary.lane) ⊎ (has_cancelled x.boundary.lane < has_cancelled y.boundary.lane)
+IsToldBy x y = (ask_calls x.boundary.lane < ask_calls y.boundary.lane) ⊎ (has_cancelled x.boundary.lane < has_cancelled y.boundary.lane)
 
 -- an output end sent something
 abbrev pub IsSentBy : OutputBoundary → OutputBoundary → Type 0
@@ -25,7 +25,7 @@ IsSentBy o p = length (sent o.lane) < length (sent p.lane)
 
 module _ {S D L B : Type 0} where
   -- no end has told its other end less than before, and the islands there are the same
-  pub record Tells (old new : Body S D L B) : Type 0 where
+  pub record TellsNoLess (old new : Body S D L B) : Type 0 where
     pub ins_many : length new.ins.items ≡ length old.ins.items
     pub outs_many : length new.outs.items ≡ length old.outs.items
     pub ins : (k : ℕ) (x y : IslandInput) → slice_get old.ins.items k ≡ Some x → slice_get new.ins.items k ≡ Some y → TellsIn x y
@@ -59,10 +59,10 @@ module _ {S D L B : Type 0} where
 
   -- the islands that are to be woken are those which were told something since, each once
   pub record Wakes (old new : Body S D L B) : Type 0 where
-    pub tells : Tells old new
+    pub tells : TellsNoLess old new
     pub once : Distinct new.peers.woken.queue
-    pub each : (island : ℕ) → holds new.peers.woken.queue island ≡ true → HasTold old new island
-    pub all : (island : ℕ) → HasTold old new island → holds new.peers.woken.queue island ≡ true
+    pub each : (island : ℕ) → is_waiting new.peers.woken.queue island ≡ true → HasTold old new island
+    pub all : (island : ℕ) → HasTold old new island → is_waiting new.peers.woken.queue island ≡ true
 
   -- whatever was told since some moment before, the islands that are to be woken for it are those still
   abbrev pub WakesOn : Body S D L B → Body S D L B → Type 0

@@ -10,7 +10,7 @@ use Rattle.lane_core.specs.declared.room.Waits.{Waits}
 use Rattle.lane_core.specs.declared.lane_out.LaneOut.{LaneOut}
 use Rattle.lane_core.specs.declared.lane_in.LaneIn.{LaneIn}
 use Rattle.lane_core.proofs.Lists.{weight_le, elements_first}
-use Rattle.lane_core.specs.Ends.{sent, saw_cancel, taken, has_cancelled, IsLaneHistory, WaitsAre}
+use Rattle.lane_core.specs.Ends.{sent, saw_cancel, taken_items, has_cancelled, IsLaneHistory, WaitsAre}
 use Rattle.lane_meet.specs.Meeting.{AreTold}
 use Rattle.input_boundary.specs.Boundary.{is_over}
 use Rattle.input_boundary.specs.declared.boundary.InputBoundary.{InputBoundary}
@@ -24,18 +24,18 @@ use Rattle.island_body.specs.Lasting.{map_count, there_after}
 use Rattle.island_body.specs.declared.body.Body.{Body}
 
 -- an end was taken, behind the elements
-over_count : (b : InputBoundary) → is_over b ≡ true → elements (taken b.lane) + 1 ≡ length (taken b.lane)
+over_count : (b : InputBoundary) → is_over b ≡ true → elements (taken_items b.lane) + 1 ≡ length (taken_items b.lane)
 over_count b over =
     let gave : List Item = b.gave.items in
     let lost : List Item = b.lost.items in
     let held : List Item = told b.buffer.items unended in
     let end : List Item = b.ending.items in
     let all = b.flow.taken_is in
-    let e1 : elements (taken b.lane) ≡ elements (gave ++ (lost ++ (held ++ end))) = ap elements all in
+    let e1 : elements (taken_items b.lane) ≡ elements (gave ++ (lost ++ (held ++ end))) = ap elements all in
     let e2 = elements_append gave (lost ++ (held ++ end)) in
     let e3 = elements_append lost (held ++ end) in
     let e4 = elements_append held end in
-    let l1 : length (taken b.lane) ≡ length (gave ++ (lost ++ (held ++ end))) = ap length all in
+    let l1 : length (taken_items b.lane) ≡ length (gave ++ (lost ++ (held ++ end))) = ap length all in
     let l2 = length-append gave (lost ++ (held ++ end)) in
     let l3 = length-append lost (held ++ end) in
     let l4 = length-append held end in
@@ -79,8 +79,8 @@ with_end part whole rest is count first last = by_length (by_order (length part)
         absurd (omega (arith, some, sum, few, split, count))
 
 -- nothing waits where an end was taken
-over_all : (o : LaneOut) (b : InputBoundary) → IsLaneHistory o b.lane → is_over b ≡ true → length (sent o) ≤ length (taken b.lane)
-over_all o b h over = with_end (taken b.lane) (sent o) h.prefix.rest h.prefix.is (over_count b over) h.last.0 h.last.1
+over_all : (o : LaneOut) (b : InputBoundary) → IsLaneHistory o b.lane → is_over b ≡ true → length (sent o) ≤ length (taken_items b.lane)
+over_all o b h over = with_end (taken_items b.lane) (sent o) h.prefix.rest h.prefix.is (over_count b over) h.last.0 h.last.1
 
 -- a lane is cancelled once at most
 one_or_none : (b : Bool) → cond b 1 0 ≤ 1
@@ -95,7 +95,7 @@ item_found : (o : LaneOut) (x y : IslandInput) (w : Waits) → IsLaneHistory o x
 item_found o x y w history told_is waits item none =
     let some = waits.0.0 item in
     let told_sent_is = told_is.sent_is in
-    let same : length (taken y.boundary.lane) ≡ length (taken x.boundary.lane) = ap length none.taken_is in
+    let same : length (taken_items y.boundary.lane) ≡ length (taken_items x.boundary.lane) = ap length none.taken_is in
     elim none.why [
       | inl over ↦ (let all = over_all o x.boundary history over in omega (arith, some, all))
       | inr found ↦ (let f = found.0 in let t = found.1 in omega (arith, some, told_sent_is, same, f, t))

@@ -1,8 +1,8 @@
 // The body of an island.
 ghost use Rattle.std.specs.Prelude.{◌≡◌, ◌+◌, ◌<◌, ◌≤◌, [], ℕ, true, false, None, Some, IsTrue, ◌↔◌, map, IfOk, OnOk, OnErr, length, slice_get, replicate, vec_len};
 ghost use Rattle.elem_core.specs.declared.count.TheConstants.{MOST_COUNT};
-ghost use Rattle.fused_net.specs.Costs.{Uses, total};
-ghost use Rattle.lane_core.specs.Ends.{asked};
+ghost use Rattle.fused_net.specs.Costs.{Uses, total_cost};
+ghost use Rattle.lane_core.specs.Ends.{asked_in_all};
 ghost use Rattle.interpreter.specs.Island.{counts_of, sinks_of, readers_of, writers_of};
 ghost use Rattle.interpreter.specs.Picks.{pick_of, picks_of};
 ghost use Rattle.interpreter.specs.Seats.{seats_of};
@@ -379,7 +379,7 @@ impl<S: Source, D: Drain, L: Logic, B: PlugBook> Body<S, D, L, B> {
         ensures served { OnOk result (AllDone self.new.island self.new.ins.items self.new.outs.items) }
         ensures goes { OnOk result (BodyGoes self.old self.new) }
         ensures between { IfOk result (λ count. (used ≤ count) × (count ≤ limit)) }
-        ensures uses { IfOk result (λ count. total self.old.island.net + count ≤ total self.new.island.net + used) }
+        ensures uses { IfOk result (λ count. total_cost self.old.island.net + count ≤ total_cost self.new.island.net + used) }
         ensures used { IfOk result (λ count. self.new.island.used + used ≡ self.old.island.used + count) }
         ensures costs { OnOk result ((all_taken self.new.ins.items ≡ all_taken self.old.ins.items) × (all_finds self.new.outs.items ≡ all_finds self.old.outs.items) × (self.new.spent ≡ self.old.spent)) }
         ensures none { IfOk result (λ count. count ≡ used → used < limit → (self.new ≡ self.old) × (self.old.island.net.queue ≡ [])) }
@@ -464,7 +464,7 @@ impl<S: Source, D: Drain, L: Logic, B: PlugBook> Body<S, D, L, B> {
     /// How many elements the input end at place `k` has asked its lane for in all.
     pub fn asked(&self, k: usize) -> u64
         requires { k < length self.now.ins.items }
-        ensures { (x : inputs.IslandInput) → slice_get self.now.ins.items k ≡ Some x → result ≡ asked x.boundary.lane }
+        ensures { (x : inputs.IslandInput) → slice_get self.now.ins.items k ≡ Some x → result ≡ asked_in_all x.boundary.lane }
     {
         self.ins[k].boundary.asked()
     }

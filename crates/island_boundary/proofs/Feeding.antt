@@ -17,10 +17,10 @@ use Rattle.wire_core.specs.Cell.{WireState, moved_by}
 use Rattle.wire_core.specs.Reading.{no_wire}
 use Rattle.nodes.specs.Nodes.{node_port_state, node_law, node_asking, node_moves, node_passive}
 use Rattle.fused_net.specs.Net.{wire_at}
-use Rattle.fused_net.specs.Laws.{Settled, GoesOn}
+use Rattle.fused_net.specs.Laws.{Settled, NetGoesOn}
 use Rattle.fused_net.specs.Outside.{StandsStill, Untouched, IsElse}
 use Rattle.lane_core.specs.Lane.{ends}
-use Rattle.lane_core.specs.Ends.{taken, asked, asks, in_size}
+use Rattle.lane_core.specs.Ends.{taken_items, asked_in_all, ask_calls, in_size}
 use Rattle.input_boundary.specs.declared.boundary.InputBoundary.{InputBoundary}
 use Rattle.input_boundary.specs.declared.state.State.{State}
 use Rattle.input_boundary.specs.declared.state.State.TheVariants.{Flowing, Closed, Cancelled}
@@ -28,7 +28,7 @@ use Rattle.input_boundary.specs.Boundary.{given, waits, state, BoundaryKeeps}
 use Rattle.boundary_calls.specs.declared.given.Wanted.TheVariants as wanted
 use Rattle.port_core.specs.View.{output_closed}
 use Rattle.boundary_calls.specs.Boundary.{wanted_by, wanted_at, moved_at, ended_at, ends_at}
-use Rattle.interpreter.specs.Island.{Kept, Keeps}
+use Rattle.interpreter.specs.Island.{Kept, IslandKeeps}
 use Rattle.interpreter.specs.Boundary.{way_in, cell_in, Enters, with_net}
 use Rattle.island_boundary.specs.Beside.{Beside, in_node}
 use Rattle.island_boundary.proofs.Beside.{beside_trans, beside_moved, way_in_beside, in_node_beside}
@@ -150,7 +150,7 @@ module _ {S D L B : Type 0} (b : InputBoundary) (i : Kept S D L B) (u : ℕ) whe
       never Cancelled s e = let c = f.cancelled s in cc
 
   -- one whose connection was not cancelled
-  pub fed_live : (cell_in i u).wire.out ≢ outlet.Cancelled → HasGiven b i u → (state b ≡ Flowing → waits b ≡ [] → taken b.lane ≡ given b) → IsFed b i u
+  pub fed_live : (cell_in i u).wire.out ≢ outlet.Cancelled → HasGiven b i u → (state b ≡ Flowing → waits b ≡ [] → taken_items b.lane ≡ given b) → IsFed b i u
   fed_live live all none = record { given_all = all; no_end = none; refused = λ e. absurd (live e) }
 
   -- the lane was cancelled
@@ -167,7 +167,7 @@ module _ {S D L B : Type 0} (b : InputBoundary) (i : Kept S D L B) (u : ℕ) whe
   given_away s en w e = inr (cancel_away (cell_in i u).wire _ (s.sound (way_in i u) en.place) e (wanted_quiet (cell_in i u).wire.out (can_push (cell_in i u).wire.conn) w).0)
 
   -- so few elements were handed on
-  pub few_given : {sources : S → SourceState} {drains : D → DrainState} {book : Book} → Keeps sources drains book i.net i.used → Enters i u → Feeds b i u → wanted_at (cell_in i u) ≡ wanted.Asked → elements (given b) < MOST_COUNT
+  pub few_given : {sources : S → SourceState} {drains : D → DrainState} {book : Book} → IslandKeeps sources drains book i.net i.used → Enters i u → Feeds b i u → wanted_at (cell_in i u) ≡ wanted.Asked → elements (given b) < MOST_COUNT
   few_given k en f w =
       let p = wanted_push (cell_in i u).wire.out (can_push (cell_in i u).wire.conn) w in
       let y : (cell_in i u).wire.out ≡ outlet.Available = push_asked (cell_in i u).wire _ (k.laws.sound (way_in i u) en.place) p.0 in
@@ -184,7 +184,7 @@ module _ {S D L B : Type 0} (b : InputBoundary) (i : Kept S D L B) (u : ℕ) whe
   }
 
   -- nothing came off the lane
-  pub fed_same : (c : InputBoundary) → taken c.lane ≡ taken b.lane → given c ≡ given b → waits c ≡ waits b → state c ≡ state b → IsFed b i u → IsFed c i u
+  pub fed_same : (c : InputBoundary) → taken_items c.lane ≡ taken_items b.lane → given c ≡ given b → waits c ≡ waits b → state c ≡ state b → IsFed b i u → IsFed c i u
   fed_same c t g w s f = record {
     given_all = λ e. elim (f.given_all e) [
       | inl h ↦ inl (t ∙ h ∙ sym g)
@@ -207,13 +207,13 @@ feeds_begun sources drains book b i u s l none nothing flows =
     }
 
 -- as many asks, as much asked
-pub asked_by_calls : (b c : InputBoundary) → BoundaryKeeps b → BoundaryKeeps c → in_size c.lane ≡ in_size b.lane → asks c.lane ≡ asks b.lane → asked c.lane ≡ asked b.lane
+pub asked_by_calls : (b c : InputBoundary) → BoundaryKeeps b → BoundaryKeeps c → in_size c.lane ≡ in_size b.lane → ask_calls c.lane ≡ ask_calls b.lane → asked_in_all c.lane ≡ asked_in_all b.lane
 asked_by_calls b c k l size calls =
     let half : ℕ = max 1 (in_size b.lane / 2) in
     let half_is : max 1 (in_size c.lane / 2) ≡ half = ap (λ (s : ℕ). max 1 (s / 2)) size in
-    let one : asked b.lane + half ≡ in_size b.lane + asks b.lane * half = k.by_halves.asked_is in
-    let two : asked c.lane + half ≡ in_size b.lane + asks b.lane * half = subst (λ (h : ℕ). asked c.lane + h ≡ in_size b.lane + asks b.lane * h) half_is (subst (λ (z : ℕ). asked c.lane + max 1 (in_size c.lane / 2) ≡ z + asks b.lane * max 1 (in_size c.lane / 2)) size (subst (λ (z : ℕ). asked c.lane + max 1 (in_size c.lane / 2) ≡ in_size c.lane + z * max 1 (in_size c.lane / 2)) calls l.by_halves.asked_is)) in
-    same (asked b.lane) (asked c.lane) half (in_size b.lane + asks b.lane * half) one two
+    let one : asked_in_all b.lane + half ≡ in_size b.lane + ask_calls b.lane * half = k.by_halves.asked_is in
+    let two : asked_in_all c.lane + half ≡ in_size b.lane + ask_calls b.lane * half = subst (λ (h : ℕ). asked_in_all c.lane + h ≡ in_size b.lane + ask_calls b.lane * h) half_is (subst (λ (z : ℕ). asked_in_all c.lane + max 1 (in_size c.lane / 2) ≡ z + ask_calls b.lane * max 1 (in_size c.lane / 2)) size (subst (λ (z : ℕ). asked_in_all c.lane + max 1 (in_size c.lane / 2) ≡ in_size c.lane + z * max 1 (in_size c.lane / 2)) calls l.by_halves.asked_is)) in
+    same (asked_in_all b.lane) (asked_in_all c.lane) half (in_size b.lane + ask_calls b.lane * half) one two
   where
     same : (m n h z : ℕ) → m + h ≡ z → n + h ≡ z → n ≡ m
     same m n h z e f = omega (arith, e, f)
@@ -255,7 +255,7 @@ module _ {S D L B : Type 0} (sources : S → SourceState) (drains : D → DrainS
   sent_same = rw way_same (still.sent (way_in old u) (passive_there sources drains book old.net before (way_in old u) l.place l.stage))
 
   -- what is kept stands while the island runs
-  module _ (after : Settled node_port_state (node_law sources drains book) node_asking node_moves new.net) (on : GoesOn old.net new.net) where
+  module _ (after : Settled node_port_state (node_law sources drains book) node_asking node_moves new.net) (on : NetGoesOn old.net new.net) where
     enters_new : Enters new u
     enters_new = record {
       row = rw ins l.row;

@@ -23,10 +23,10 @@ use Rattle.fused_net.specs.Net.{Net, end_at, wire_at, with_node}
 use Rattle.fused_net.proofs.Reading.{get_set_same, get_there}
 use Rattle.lane_core.specs.Lane.{weight, ends}
 use Rattle.lane_core.specs.declared.lane_out.LaneOut.{LaneOut}
-use Rattle.lane_core.specs.Ends.{sent, seen, saw_cancel, has_ended}
+use Rattle.lane_core.specs.Ends.{sent, seen_count, saw_cancel, has_ended}
 use Rattle.lane_core.proofs.Lists.{elements_first}
-use Rattle.boundary_calls.specs.Boundary.{CameTo, IsClearAt, moved_at}
-use Rattle.interpreter.specs.Island.{Kept, Keeps}
+use Rattle.boundary_calls.specs.Boundary.{ReceivedAt, IsClearAt, moved_at}
+use Rattle.interpreter.specs.Island.{Kept, IslandKeeps}
 use Rattle.interpreter.specs.Boundary.{way_out, cell_out, Leaves, HandsOut, with_net}
 use Rattle.island_boundary.specs.Sending.{has_end, Sends}
 
@@ -82,7 +82,7 @@ end_new (item.Failed c ∷ a) x h = absurd cc
 some_same : {A : Type 0} (x y : A) → Some x ≡ Some y → x ≡ y
 some_same x y e = cc
 
-module _ {S D L B : Type 0} (o : LaneOut) (i : Kept S D L B) (u : ℕ) (came : CameTo i.net (way_out i u)) (s : Sends o i u) where
+module _ {S D L B : Type 0} (o : LaneOut) (i : Kept S D L B) (u : ℕ) (came : ReceivedAt i.net (way_out i u)) (s : Sends o i u) where
   -- an item that was handed out there
   module _ (new : Kept S D L B) (x : Item) (h : HandsOut i u (x ∷ []) new) where
     got_is : (cell_out i u).wire.got ≡ sent o ++ x ∷ node_waits h.hands.next
@@ -94,7 +94,7 @@ module _ {S D L B : Type 0} (o : LaneOut) (i : Kept S D L B) (u : ℕ) (came : C
     pub may_send : (has_ended o ≡ false) × (saw_cancel o ≡ 0)
     may_send = (s.ended ∙ no_end, s.live)
 
-    pub room_for : elements (sent o) + weight x ≤ seen o
+    pub room_for : elements (sent o) + weight x ≤ seen_count o
     room_for =
         let all : elements (cell_out i u).wire.got ≡ elements (sent o) + elements (x ∷ node_waits h.hands.next) = ap elements got_is ∙ elems-append (sent o) (x ∷ node_waits h.hands.next) in
         let first = elements_first x (node_waits h.hands.next) in
@@ -102,7 +102,7 @@ module _ {S D L B : Type 0} (o : LaneOut) (i : Kept S D L B) (u : ℕ) (came : C
         let wants = s.wants in
         omega (arith, all, first, few, wants)
 
-    pub sent_keeps : (p : LaneOut) → sent p ≡ sent o ++ x ∷ [] → has_ended p ≡ ends x → seen p ≡ seen o → saw_cancel p ≡ saw_cancel o → Sends p new u
+    pub sent_keeps : (p : LaneOut) → sent p ≡ sent o ++ x ∷ [] → has_ended p ≡ ends x → seen_count p ≡ seen_count o → saw_cancel p ≡ saw_cancel o → Sends p new u
     sent_keeps p e f g k =
         let net_is : new ≡ record i { net = with_node i.net (end_at i.net.ends (way_out i u)).to h.hands.next } = h.rest ∙ ap (λ (n : Net _). record i { net = n }) h.hands.is in
         let within = slice_get_within i.net.nodes (end_at i.net.ends (way_out i u)).to h.hands.node h.hands.at in
@@ -116,23 +116,23 @@ module _ {S D L B : Type 0} (o : LaneOut) (i : Kept S D L B) (u : ℕ) (came : C
         })
 
   -- it asks
-  pub ask_keeps : (sources : S → SourceState) (drains : D → DrainState) (book : Book) → Keeps sources drains book i.net i.used → (new : Kept S D L B) (left : ℕ) → new ≡ with_net i (moved_at i.net (way_out i u) (act.Pull 0)) → Leaves i u → can_pull (cell_out i u).wire.conn ≡ true → IsClearAt i.net (way_out i u) → elements (sent o) + left ≡ seen o → left ≢ 0 → Sends o new u
+  pub ask_keeps : (sources : S → SourceState) (drains : D → DrainState) (book : Book) → IslandKeeps sources drains book i.net i.used → (new : Kept S D L B) (left : ℕ) → new ≡ with_net i (moved_at i.net (way_out i u) (act.Pull 0)) → Leaves i u → can_pull (cell_out i u).wire.conn ≡ true → IsClearAt i.net (way_out i u) → elements (sent o) + left ≡ seen_count o → left ≢ 0 → Sends o new u
   ask_keeps sources drains book k new left is l can clear unused some =
       let c = cell_out i u in
       let there = get_there i.net.nodes (end_at i.net.ends (way_out i u)).to (k.laws.wired.to_within (way_out i u) l.place) in
       let all : c.wire.sent ≡ sent o = all_came c.wire _ (k.laws.sound (way_out i u) l.place) can ∙ came.got there.0 there.1 ∙ ap (λ (w : List Item). node_gone there.0 ++ w) (clear there.0 there.1) ∙ append-nil (node_gone there.0) ∙ s.gone there.0 there.1 in
       let count : elements c.wire.sent ≡ elements (sent o) = ap elements all in
       let asks : wanted (moved_by (act.Pull 0) c) ≡ elements c.wire.sent + 1 = rw can refl in
-      let few : wanted (moved_by (act.Pull 0) c) ≤ seen o = omega (arith, asks, count, unused, some) in
+      let few : wanted (moved_by (act.Pull 0) c) ≤ seen_count o = omega (arith, asks, count, unused, some) in
       subst (λ (z : Kept S D L B). Sends o z u) (sym is) (record {
         gone = s.gone;
-        wants = subst (λ (z : WireState). wanted z ≤ seen o) (sym (get_or-set_same i.net.wires (way_out i u) (moved_by (act.Pull 0) c) no_wire l.place)) few;
+        wants = subst (λ (z : WireState). wanted z ≤ seen_count o) (sym (get_or-set_same i.net.wires (way_out i u) (moved_by (act.Pull 0) c) no_wire l.place)) few;
         live = s.live;
         ended = s.ended;
       })
 
 -- more is seen asked, and no cancel
-pub look_keeps : {S D L B : Type 0} (o p : LaneOut) (i : Kept S D L B) (u : ℕ) → Sends o i u → sent p ≡ sent o → has_ended p ≡ has_ended o → seen o ≤ seen p → saw_cancel p ≡ 0 → Sends p i u
+pub look_keeps : {S D L B : Type 0} (o p : LaneOut) (i : Kept S D L B) (u : ℕ) → Sends o i u → sent p ≡ sent o → has_ended p ≡ has_ended o → seen_count o ≤ seen_count p → saw_cancel p ≡ 0 → Sends p i u
 look_keeps o p i u s e f g h = let w = s.wants in record {
   gone = λ x at. s.gone x at ∙ sym e;
   wants = omega (arith, w, g);

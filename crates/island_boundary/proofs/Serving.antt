@@ -23,15 +23,15 @@ use Rattle.nodes.specs.declared.node.IslandNode.{IslandNode}
 use Rattle.nodes.specs.declared.node.IslandNode.TheVariants as node
 use Rattle.nodes.specs.Nodes.{node_port_state, node_law, node_asking, node_moves, node_gone, node_waits, node_passive}
 use Rattle.fused_net.specs.Net.{Net, end_at, wire_at, with_node, ports_at, view_of, took, gave}
-use Rattle.fused_net.specs.Laws.{Settled, GoesOn}
+use Rattle.fused_net.specs.Laws.{Settled, NetGoesOn}
 use Rattle.fused_net.specs.Poking.{AtNode, HandsAt}
 use Rattle.fused_net.specs.Outside.{IsPassiveAt, StandsStill, Untouched, IsElse, HasOnly}
 use Rattle.fused_net.proofs.Reading.{get_set_same, get_there}
 use Rattle.lane_core.specs.declared.lane_out.LaneOut.{LaneOut}
 use Rattle.lane_core.specs.Lane as lane
-use Rattle.lane_core.specs.Ends.{sent, seen, saw_cancel, has_ended}
-use Rattle.boundary_calls.specs.Boundary.{CameTo, IsClearAt, IsLeaving, LeavesAt, moved_at, cancelled_at}
-use Rattle.interpreter.specs.Island.{Kept, Keeps}
+use Rattle.lane_core.specs.Ends.{sent, seen_count, saw_cancel, has_ended}
+use Rattle.boundary_calls.specs.Boundary.{ReceivedAt, IsClearAt, IsLeaving, LeavesAt, moved_at, cancelled_at}
+use Rattle.interpreter.specs.Island.{Kept, IslandKeeps}
 use Rattle.interpreter.specs.Boundary.{way_out, cell_out, Leaves, HandsOut, Drops, with_net}
 use Rattle.island_boundary.specs.Beside.{Beside, out_node, waits_of, waiting}
 use Rattle.island_boundary.specs.Sending.{Sends}
@@ -127,7 +127,7 @@ module _ {S D L B : Type 0} where
 
 module _ {S D L B : Type 0} (o : LaneOut) (i : Kept S D L B) (u : ℕ) where
   -- one that has seen no cancel
-  pub serves_live : CameTo i.net (way_out i u) → out_node i u < length i.net.nodes → Sends o i u → ((cell_out i u).wire.inp ≡ Cancelled → ⊥) → Serves o i u
+  pub serves_live : ReceivedAt i.net (way_out i u) → out_node i u < length i.net.nodes → Sends o i u → ((cell_out i u).wire.inp ≡ Cancelled → ⊥) → Serves o i u
   serves_live came h s live_in =
       let x = get_there i.net.nodes (out_node i u) h in
       let parts : (cell_out i u).wire.got ≡ sent o ++ node_waits x.0 = came.got x.0 x.1 ∙ ap (λ (l : List Item). l ++ node_waits x.0) (s.gone x.0 x.1) in
@@ -140,7 +140,7 @@ module _ {S D L B : Type 0} (o : LaneOut) (i : Kept S D L B) (u : ℕ) where
       }
 
   -- all was sent, and it has asked or not
-  pub serves_asked : CameTo i.net (way_out i u) → out_node i u < length i.net.nodes → Sends o i u → ((cell_out i u).wire.inp ≡ Cancelled → ⊥) → (new : Kept S D L B) → Sends o new u → (cell_out new u).wire.got ≡ (cell_out i u).wire.got → ((cell_out new u).wire.inp ≡ Cancelled → (cell_out i u).wire.inp ≡ Cancelled) → Serves o new u
+  pub serves_asked : ReceivedAt i.net (way_out i u) → out_node i u < length i.net.nodes → Sends o i u → ((cell_out i u).wire.inp ≡ Cancelled → ⊥) → (new : Kept S D L B) → Sends o new u → (cell_out new u).wire.got ≡ (cell_out i u).wire.got → ((cell_out new u).wire.inp ≡ Cancelled → (cell_out i u).wire.inp ≡ Cancelled) → Serves o new u
   serves_asked came h s none new t got left =
       let r = serves_live came h s none in
       record { part = rw got r.part; wants = t.wants; live = λ z. t; closed = λ c. let l = s.live in cc; left = λ e. absurd (none (left e)) }
@@ -173,7 +173,7 @@ module _ {S D L B : Type 0} (o : LaneOut) (i : Kept S D L B) (u : ℕ) where
   over_closed Cancelled e = tt
 
   -- The cancel is handed on: the input is closed, nothing was asked, and what came begins with what was sent.
-  pub cancelled_serves : CameTo i.net (way_out i u) → Sends o i u → Leaves i u → out_node i u < length i.net.nodes → (p : LaneOut) (new : Kept S D L B) → Drops i u new → sent p ≡ sent o → seen o ≤ seen p → saw_cancel p ≡ 1 → Serves p new u
+  pub cancelled_serves : ReceivedAt i.net (way_out i u) → Sends o i u → Leaves i u → out_node i u < length i.net.nodes → (p : LaneOut) (new : Kept S D L B) → Drops i u new → sent p ≡ sent o → seen_count o ≤ seen_count p → saw_cancel p ≡ 1 → Serves p new u
   cancelled_serves came s l h p new d same more cancel =
       let q : ℕ = way_out i u in
       let mid : Net (IslandNode S D L B) = cancelled_at i.net (way_out i u) in
@@ -273,7 +273,7 @@ map_at f (x ∷ xs) (z ∷ ys) zero y e at = let same : z ≡ y = some_same z y 
 map_at f (x ∷ xs) (z ∷ ys) (suc n) y e at = let t : map f ys ≡ map f xs = cc in map_at f xs ys n y t at
 
 module _ {S D L B : Type 0} (sources : S → SourceState) (drains : D → DrainState) (book : Book) (o : LaneOut) (old new : Kept S D L B) (u : ℕ) (before : Settled node_port_state (node_law sources drains book) node_asking node_moves old.net) (after : Settled node_port_state (node_law sources drains book) node_asking node_moves new.net)
-    (l : Leaves old u) (on : GoesOn old.net new.net) (outs : new.outs ≡ old.outs) (gone : map node_gone new.net.nodes ≡ map node_gone old.net.nodes) (still : StandsStill node_passive old.net new.net) where
+    (l : Leaves old u) (on : NetGoesOn old.net new.net) (outs : new.outs ≡ old.outs) (gone : map node_gone new.net.nodes ≡ map node_gone old.net.nodes) (still : StandsStill node_passive old.net new.net) where
   here : IsPassiveAt node_passive old.net (out_node old u)
   here = passive_there sources drains book old.net (way_out old u) before l.place l.stage
 

@@ -4,7 +4,7 @@ use Rattle.elem_core.specs.declared.item.Item.{Item}
 use Rattle.nodes.specs.declared.node.IslandNode.{IslandNode}
 use Rattle.nodes.specs.Nodes.{node_waits}
 use Rattle.fused_net.specs.Net.{end_at, wire_at}
-use Rattle.fused_net.specs.Laws.{GoesOn}
+use Rattle.fused_net.specs.Laws.{NetGoesOn}
 use Rattle.interpreter.specs.Island.{Kept}
 use Rattle.interpreter.specs.Boundary.{way_in, way_out}
 
@@ -29,7 +29,7 @@ module _ {S D L B : Type 0} where
   pub record Beside (q n : ℕ) (old new : Kept S D L B) : Type 0 where
     pub cells : (p : ℕ) → p ≢ q → wire_at new.net p ≡ wire_at old.net p
     pub nodes : (k : ℕ) → k ≢ n → slice_get new.net.nodes k ≡ slice_get old.net.nodes k
-    pub on : GoesOn old.net new.net
+    pub on : NetGoesOn old.net new.net
     pub ins : new.ins ≡ old.ins
     pub outs : new.outs ≡ old.outs
     pub numbers : new.numbers ≡ old.numbers

@@ -5,7 +5,7 @@ use Rattle.elem_core.specs.declared.item.Item.TheVariants as item
 use Rattle.port_core.specs.declared.act.Act.{Act}
 use Rattle.port_core.specs.declared.act.Act.TheVariants as act
 use Rattle.port_core.specs.declared.view.OutView.TheVariants as outlet
-use Rattle.lane_core.specs.Ends.{taken}
+use Rattle.lane_core.specs.Ends.{taken_items}
 use Rattle.input_boundary.specs.declared.boundary.InputBoundary.{InputBoundary}
 use Rattle.input_boundary.specs.declared.state.State.TheVariants.{Flowing, Closed, Cancelled}
 use Rattle.input_boundary.specs.Boundary.{given, waits, state}
@@ -29,10 +29,10 @@ module _ {S D L B : Type 0} where
 
   -- where the stage is asked all that was taken was handed on, or its connection was cancelled and that is on its way
   abbrev pub HasGiven : InputBoundary → Kept S D L B → ℕ → Type 0
-  HasGiven b i u = (cell_in i u).wire.out ≡ outlet.Available → (taken b.lane ≡ given b) ⊎ ((cell_in i u).wire.conn.in_closed ≡ true)
+  HasGiven b i u = (cell_in i u).wire.out ≡ outlet.Available → (taken_items b.lane ≡ given b) ⊎ ((cell_in i u).wire.conn.in_closed ≡ true)
 
   -- nothing more may be handed on, no end waits where no element does, and a cancel that came was handed on
   pub record IsFed (b : InputBoundary) (i : Kept S D L B) (u : ℕ) : Type 0 where
     pub given_all : HasGiven b i u
-    pub no_end : state b ≡ Flowing → waits b ≡ [] → taken b.lane ≡ given b
+    pub no_end : state b ≡ Flowing → waits b ≡ [] → taken_items b.lane ≡ given b
     pub refused : (cell_in i u).wire.out ≡ outlet.Cancelled → state b ≢ Flowing

@@ -7,7 +7,7 @@ use Rattle.nodes.specs.Nodes.{node_gone}
 use Rattle.fused_net.specs.Net.{end_at}
 use Rattle.fused_net.specs.Poking.{AtNode}
 use Rattle.lane_core.specs.declared.lane_out.LaneOut.{LaneOut}
-use Rattle.lane_core.specs.Ends.{sent, seen, saw_cancel, has_ended}
+use Rattle.lane_core.specs.Ends.{sent, seen_count, saw_cancel, has_ended}
 use Rattle.interpreter.specs.Island.{Kept}
 use Rattle.interpreter.specs.Boundary.{way_out, cell_out}
 use Rattle.island_boundary.specs.declared.found.Found.{Found}
@@ -24,7 +24,7 @@ has_end (item.Failed c ∷ l) = true
 -- and no more was asked there than the end has seen asked.
 pub record Sends {S D L B : Type 0} (o : LaneOut) (i : Kept S D L B) (u : ℕ) : Type 0 where
   pub gone : AtNode i.net (end_at i.net.ends (way_out i u)).to (λ x. node_gone x ≡ sent o)
-  pub wants : wanted (cell_out i u) ≤ seen o
+  pub wants : wanted (cell_out i u) ≤ seen_count o
   pub live : saw_cancel o ≡ 0
   pub ended : has_ended o ≡ has_end (sent o)
 

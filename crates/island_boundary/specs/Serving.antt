@@ -6,7 +6,7 @@ use Rattle.port_core.specs.declared.view.InView.TheVariants.{Idle, Cancelled}
 use Rattle.stage_law.specs.Row.{InClosed}
 use Rattle.wire_core.specs.Marks.{wanted}
 use Rattle.lane_core.specs.declared.lane_out.LaneOut.{LaneOut}
-use Rattle.lane_core.specs.Ends.{sent, seen, saw_cancel}
+use Rattle.lane_core.specs.Ends.{sent, seen_count, saw_cancel}
 use Rattle.interpreter.specs.Island.{Kept}
 use Rattle.interpreter.specs.Boundary.{cell_out}
 use Rattle.island_boundary.specs.Sending.{Sends}
@@ -15,13 +15,13 @@ use Rattle.island_boundary.specs.Beside.{waiting}
 module _ {S D L B : Type 0} where
   -- the stage there asks for nothing: all demand that was seen is used, or its connection was completed and the end is on its way
   abbrev pub MayNotAsk : LaneOut → Kept S D L B → ℕ → Type 0
-  MayNotAsk o i u = (cell_out i u).wire.inp ≡ Idle → (seen o ≤ elements (sent o)) ⊎ ((cell_out i u).wire.conn.out_closed ≡ true)
+  MayNotAsk o i u = (cell_out i u).wire.inp ≡ Idle → (seen_count o ≤ elements (sent o)) ⊎ ((cell_out i u).wire.conn.out_closed ≡ true)
 
   -- What was sent is a first part of what came; no more was asked than was seen asked. One that has seen no cancel has sent all that
   -- left the island there; one that has seen it has closed its connection, which none other cancels.
   pub record Serves (o : LaneOut) (i : Kept S D L B) (u : ℕ) : Type 0 where
     pub part : IsPrefix (sent o) (cell_out i u).wire.got
-    pub wants : wanted (cell_out i u) ≤ seen o
+    pub wants : wanted (cell_out i u) ≤ seen_count o
     pub live : saw_cancel o ≡ 0 → Sends o i u
     pub closed : saw_cancel o ≡ 1 → InClosed (cell_out i u).wire.inp
     pub left : (cell_out i u).wire.inp ≡ Cancelled → saw_cancel o ≡ 1

@@ -8,7 +8,7 @@ use Rattle.nodes.specs.declared.node.IslandNode.TheVariants as node
 use Rattle.interpreter.specs.Island.{sinks_of, readers_of, writers_of}
 use Rattle.interpreter.specs.Picks.{with_picks, picks_of}
 use Rattle.interpreter.specs.Seats.{with_seat, seats_of}
-use Rattle.island_ends.specs.Ends.{with_home, homes_left, leaves, sink_of, reader_of, writer_of, is_lane_end, AreLaneEnds}
+use Rattle.island_ends.specs.Ends.{with_home, homes_left, leaves_something, sink_of, reader_of, writer_of, is_lane_end, AreLaneEnds}
 use Rattle.island_ends.proofs.Leaving.{with_one, those}
 use Rattle.island_ends.proofs.OfNodes.{sinks_are, readers_are, writers_are}
 
@@ -125,13 +125,13 @@ module _ {S D L B : Type 0} where
   seats_behind (n ∷ ns) ms [] more e h = absurd (omega (arith, e))
   seats_behind (n ∷ ns) ms (x ∷ nodes) more e h = ap (with_seat n (node_seat x)) (seats_behind ns ms nodes more (omega (arith, e)) h)
 
-home_same : {Y W : Type 0} (o : Option Y) (p : Option W) (h : ℕ) (hs gs : List ℕ) → leaves o ≡ leaves p → hs ≡ gs → with_home o h hs ≡ with_home p h gs
+home_same : {Y W : Type 0} (o : Option Y) (p : Option W) (h : ℕ) (hs gs : List ℕ) → leaves_something o ≡ leaves_something p → hs ≡ gs → with_home o h hs ≡ with_home p h gs
 home_same None None h hs gs l e = e
 home_same None (Some w) h hs gs l e = cc
 home_same (Some y) None h hs gs l e = cc
 home_same (Some y) (Some w) h hs gs l e = ap (λ t. h ∷ t) e
 
-pub homes_same : {X Y Z W : Type 0} (f : X → Option Y) (g : Z → Option W) (homes : List ℕ) (xs : List X) (zs : List Z) → length xs ≡ length zs → ((k : ℕ) (x : X) (z : Z) → slice_get xs k ≡ Some x → slice_get zs k ≡ Some z → leaves (f x) ≡ leaves (g z)) → homes_left f homes xs ≡ homes_left g homes zs
+pub homes_same : {X Y Z W : Type 0} (f : X → Option Y) (g : Z → Option W) (homes : List ℕ) (xs : List X) (zs : List Z) → length xs ≡ length zs → ((k : ℕ) (x : X) (z : Z) → slice_get xs k ≡ Some x → slice_get zs k ≡ Some z → leaves_something (f x) ≡ leaves_something (g z)) → homes_left f homes xs ≡ homes_left g homes zs
 homes_same f g [] xs zs e h = refl
 homes_same f g (i ∷ homes) [] [] e h = refl
 homes_same f g (i ∷ homes) [] (z ∷ zs) e h = absurd (omega (arith, e))

@@ -13,7 +13,7 @@ use Rattle.interpreter.specs.declared.island.IslandEnd.{IslandEnd}
 use Rattle.interpreter.specs.Island.{sinks_of, readers_of, writers_of}
 use Rattle.interpreter.specs.Picks.{pick_of, picks_of}
 use Rattle.interpreter.specs.Seats.{seats_of}
-use Rattle.scatter.specs.Shares.{of_home, count_of, items_at, AreShares, AreWhole}
+use Rattle.scatter.specs.Shares.{of_home, share_of, items_at, AreShares, AreWhole}
 use Rattle.scatter.proofs.Sharing.{share_count}
 use Rattle.island_ends.specs.Ends.{Whole, AreEndsOf, homes_left, sink_of, reader_of, writer_of}
 use Rattle.island_ends.proofs.Leaving.{those, share_those, those_count, all_left, items_of, whole, gathered}
@@ -96,7 +96,7 @@ module _ {S D L B : Type 0} (w : Whole S D L B) (ends : List (IslandEnd S D)) (a
       hs (eh ∙ seat_homes w.homes w.numbers w.nodes a.numbers_each a.nodes_each) lists el in
       (j.0, λ r s. sym (map_same r) ∙ (j.1 r s ∙ sym (seats_are w.numbers w.nodes)))
 
-  pub join_wires : (hs : List ℕ) → hs ≡ w.wire_homes → (counts : List ℕ) → ((k : ℕ) → k < length ends → slice_index counts k ≡ count_of k hs) → (sorted lists : List (Vec (ℕ × WireCount) Global)) → sorted ≡ map (λ (e : IslandEnd S D). e.wires) ends → length lists ≡ length ends → ((k : ℕ) → k < length ends → items_at lists k ≡ take (slice_index counts k) (items_at sorted k)) → (AreWhole hs lists) × ((r : List (ℕ × WireCount)) → AreShares hs r lists → r ≡ w.counts)
+  pub join_wires : (hs : List ℕ) → hs ≡ w.wire_homes → (counts : List ℕ) → ((k : ℕ) → k < length ends → slice_index counts k ≡ share_of k hs) → (sorted lists : List (Vec (ℕ × WireCount) Global)) → sorted ≡ map (λ (e : IslandEnd S D). e.wires) ends → length lists ≡ length ends → ((k : ℕ) → k < length ends → items_at lists k ≡ take (slice_index counts k) (items_at sorted k)) → (AreWhole hs lists) × ((r : List (ℕ × WireCount)) → AreShares hs r lists → r ≡ w.counts)
   join_wires hs eh counts ec sorted lists es many cuts =
       let wires = λ (e : IslandEnd S D). e.wires in
       let below : All (λ i. i < length lists) w.wire_homes = subst (λ m. All (λ i. i < m) w.wire_homes) (sym many) a.wires_below in
@@ -104,16 +104,16 @@ module _ {S D L B : Type 0} (w : Whole S D L B) (ends : List (IslandEnd S D)) (a
       let b : k < length ends = omega (arith, l, many) in
       let p = at_place ends k b in
       let q = a.each k p.0 p.1 in
-      let n : slice_index counts k ≡ length (of_home w.wire_homes k w.counts) = ec k b ∙ (ap (count_of k) eh ∙ sym (share_count w.wire_homes w.counts k a.counts_each)) in
+      let n : slice_index counts k ≡ length (of_home w.wire_homes k w.counts) = ec k b ∙ (ap (share_of k) eh ∙ sym (share_count w.wire_homes w.counts k a.counts_each)) in
       map_same _ ∙ (cuts k b ∙ (ap (λ ls. take (slice_index counts k) (items_at ls k)) es ∙ (ap (take (slice_index counts k)) (items_there wires ends k p.0 p.1 ∙ q.wires) ∙ (ap (λ m. take m (of_home w.wire_homes k w.counts ++ q.fars)) n ∙ take_front (of_home w.wire_homes k w.counts) q.fars)))) in
       let r0 : AreWhole w.wire_homes lists = whole (λ x. x) w.wire_homes w.counts lists below a.counts_each is in
       (subst (λ x. AreWhole x lists) (sym eh) r0, λ r s. sym (map_same r) ∙ gathered (λ x. x) w.wire_homes w.counts lists below a.counts_each is r (subst (λ x. AreShares x r lists) eh s))
 
   -- the same of what the calls tell
-  pub join_cut : (hs homes counts all : List ℕ) → hs ≡ homes → homes ≡ w.wire_homes → counts ≡ all → (n : ℕ) → n ≡ length ends → ((k : ℕ) → k < n → slice_index all k ≡ count_of k homes) → (sorted cut : Vec (Vec (ℕ × WireCount) Global) Global) → sorted.items ≡ map (λ (e : IslandEnd S D). e.wires) ends → vec_len cut ≡ vec_len sorted → ((k : ℕ) → k < vec_len cut → items_at cut.items k ≡ take (slice_index counts k) (items_at sorted.items k))
+  pub join_cut : (hs homes counts all : List ℕ) → hs ≡ homes → homes ≡ w.wire_homes → counts ≡ all → (n : ℕ) → n ≡ length ends → ((k : ℕ) → k < n → slice_index all k ≡ share_of k homes) → (sorted cut : Vec (Vec (ℕ × WireCount) Global) Global) → sorted.items ≡ map (λ (e : IslandEnd S D). e.wires) ends → vec_len cut ≡ vec_len sorted → ((k : ℕ) → k < vec_len cut → items_at cut.items k ≡ take (slice_index counts k) (items_at sorted.items k))
       → (AreWhole hs cut.items) × ((r : List (ℕ × WireCount)) → AreShares hs r cut.items → r ≡ w.counts)
   join_cut hs homes counts all eh ew ec n en cs sorted cut es el ci =
       let m : length sorted.items ≡ length ends = ap length es ∙ length-map ends (λ (e : IslandEnd S D). e.wires) in
       let p = sorted.ok.0 in
       let q = cut.ok.0 in
-      join_wires hs (eh ∙ ew) counts (λ k l. ap (λ ls. slice_index ls k) ec ∙ (cs k (omega (arith, l, en)) ∙ ap (count_of k) (sym eh))) sorted.items cut.items es (omega (arith, m, p, q, el)) (λ k l. ci k (omega (arith, l, m, p, q, el)))
+      join_wires hs (eh ∙ ew) counts (λ k l. ap (λ ls. slice_index ls k) ec ∙ (cs k (omega (arith, l, en)) ∙ ap (share_of k) (sym eh))) sorted.items cut.items es (omega (arith, m, p, q, el)) (λ k l. ci k (omega (arith, l, m, p, q, el)))

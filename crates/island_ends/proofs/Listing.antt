@@ -7,7 +7,7 @@ use Rattle.std.specs.declared.alloc.Global.{Global}
 use Rattle.interpreter.specs.declared.island.IslandEnd.{IslandEnd}
 use Rattle.scatter.specs.Shares.{items_at}
 use Rattle.island_ends.specs.declared.lists.EndLists.{EndLists}
-use Rattle.island_ends.specs.Room.{AreEmptyLists, AreSorted, IsPut}
+use Rattle.island_ends.specs.Room.{AreEmptyLists, AreSorted, IsEndPut}
 
 -- the lists of some islands are there, and those of the others follow
 pub record SortedSoFar {S D : Type 0} (ends : List (IslandEnd S D)) (l : EndLists S D) (rest : List (IslandEnd S D)) : Type 0 where
@@ -35,7 +35,7 @@ module _ {S D : Type 0} where
     writers = begins _ _ a.no_writers;
   }
 
-  pub sorted_next : (ends : List (IslandEnd S D)) (l m : EndLists S D) (e : IslandEnd S D) (rest : List (IslandEnd S D)) → SortedSoFar ends l (e ∷ rest) → IsPut l e m → SortedSoFar ends m rest
+  pub sorted_next : (ends : List (IslandEnd S D)) (l m : EndLists S D) (e : IslandEnd S D) (rest : List (IslandEnd S D)) → SortedSoFar ends l (e ∷ rest) → IsEndPut l e m → SortedSoFar ends m rest
   sorted_next ends l m e rest s p = record {
     sinks = moves _ _ _ _ e.sinks s.sinks p.sinks;
     wires = moves _ _ _ _ e.wires s.wires p.wires;

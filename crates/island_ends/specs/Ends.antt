@@ -24,9 +24,9 @@ homes_left f (h ∷ hs) [] = []
 homes_left f (h ∷ hs) (x ∷ xs) = with_home (f x) h (homes_left f hs xs)
 
 -- whether something is left
-abbrev pub leaves : {Y : Type 0} → Option Y → Bool
-leaves None = false
-leaves (Some y) = true
+abbrev pub leaves_something : {Y : Type 0} → Option Y → Bool
+leaves_something None = false
+leaves_something (Some y) = true
 
 -- what a node leaves: how a sink ended, the source of a reader, the drain of a sink that has a file
 abbrev pub sink_of : {S D L B : Type 0} → IslandNode S D L B → Option (ℕ × ℕ × EndState)

@@ -1,13 +1,13 @@
 -- Room for what islands leave at their ends.
 use Rattle.std.specs.Prelude.{◌≡◌, ◌≤◌, ◌<◌, ◌+◌, ◌++◌, ◌∷◌, [], ℕ, List, length, map, slice_index, vec_len, vec_capacity}
 use Rattle.interpreter.specs.declared.island.IslandEnd.{IslandEnd}
-use Rattle.scatter.specs.Shares.{count_of}
+use Rattle.scatter.specs.Shares.{share_of}
 use Rattle.island_ends.specs.declared.lists.EndLists.{EndLists}
 use Rattle.island_ends.specs.declared.room.EndHomes.{EndHomes}
 use Rattle.island_ends.specs.declared.room.EndRoom.{EndRoom}
 
 -- there is room for the lists of so many islands more
-pub record HasMore {S D : Type 0} (count : ℕ) (l : EndLists S D) : Type 0 where
+pub record HasRoomForMore {S D : Type 0} (count : ℕ) (l : EndLists S D) : Type 0 where
   pub sinks : vec_len l.sinks + count ≤ vec_capacity l.sinks
   pub wires : vec_len l.wires + count ≤ vec_capacity l.wires
   pub picks : vec_len l.picks + count ≤ vec_capacity l.picks
@@ -23,17 +23,17 @@ pub record AreEmptyLists {S D : Type 0} (count : ℕ) (l : EndLists S D) : Type 
   pub no_seats : l.seats.items ≡ []
   pub no_readers : l.readers.items ≡ []
   pub no_writers : l.writers.items ≡ []
-  pub room : HasMore count l
+  pub room : HasRoomForMore count l
 
 -- the lists of one more island are there
-pub record IsPut {S D : Type 0} (old : EndLists S D) (e : IslandEnd S D) (new : EndLists S D) : Type 0 where
+pub record IsEndPut {S D : Type 0} (old : EndLists S D) (e : IslandEnd S D) (new : EndLists S D) : Type 0 where
   pub sinks : new.sinks.items ≡ old.sinks.items ++ e.sinks ∷ []
   pub wires : new.wires.items ≡ old.wires.items ++ e.wires ∷ []
   pub picks : new.picks.items ≡ old.picks.items ++ e.picks ∷ []
   pub seats : new.seats.items ≡ old.seats.items ++ e.seats ∷ []
   pub readers : new.readers.items ≡ old.readers.items ++ e.readers ∷ []
   pub writers : new.writers.items ≡ old.writers.items ++ e.writers ∷ []
-  pub room : (n : ℕ) → HasMore (n + 1) old → HasMore n new
+  pub room : (n : ℕ) → HasRoomForMore (n + 1) old → HasRoomForMore n new
 
 -- the lists of these islands, in their order
 pub record AreSorted {S D : Type 0} (ends : List (IslandEnd S D)) (l : EndLists S D) : Type 0 where
@@ -60,8 +60,8 @@ pub record IsEmptyEnd {S D : Type 0} (homes : EndHomes) (e : IslandEnd S D) : Ty
   pub room_for_writers : length homes.writers.items ≤ vec_capacity e.writers
 
 -- there is all memory for the ends of so many islands, which leave what has these homes
-pub record IsRoomFor {S D : Type 0} (homes : EndHomes) (count : ℕ) (r : EndRoom S D) : Type 0 where
+pub record IsRoomForEnds {S D : Type 0} (homes : EndHomes) (count : ℕ) (r : EndRoom S D) : Type 0 where
   pub counts_many : length r.counts.items ≡ count
-  pub counts_are : (k : ℕ) → k < count → slice_index r.counts.items k ≡ count_of k homes.wires.items
+  pub counts_are : (k : ℕ) → k < count → slice_index r.counts.items k ≡ share_of k homes.wires.items
   pub lists : AreEmptyLists count r.lists
   pub end : IsEmptyEnd homes r.end

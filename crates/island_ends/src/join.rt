@@ -1,7 +1,7 @@
 // The ends of islands are brought back into one.
 ghost use Rattle.std.specs.Prelude.{◌≡◌, List, vec_len};
 ghost use Rattle.island_ends.specs.Ends.{Whole, AreEndsOf, AreHomesOf, AreHandlesOf, IsWholeEnd};
-ghost use Rattle.island_ends.specs.Room.{IsRoomFor};
+ghost use Rattle.island_ends.specs.Room.{IsRoomForEnds};
 
 use crate::lists::{cut, sort};
 use crate::room::{EndHomes, EndRoom};
@@ -18,7 +18,7 @@ pub fn join_ends<S: Source, D: Drain, L: Logic, B: PlugBook>(
     homes: &EndHomes,
     room: EndRoom<S, D>,
 ) -> IslandEnd<S, D>
-    requires room { IsRoomFor homes.now (vec_len ends) room }
+    requires room { IsRoomForEnds homes.now (vec_len ends) room }
     requires ends { (w : Whole S D L B) × (AreEndsOf w ends.items) × (AreHomesOf w homes.now) }
     ensures { (w : Whole S D L B) → AreEndsOf w ends.items → AreHomesOf w homes.now → IsWholeEnd w result }
 {
@@ -42,7 +42,7 @@ pub fn join_handles<S: Source, D: Drain>(
     homes: &EndHomes,
     room: EndRoom<S, D>,
 ) -> IslandEnd<S, D>
-    requires room { IsRoomFor homes.now (vec_len ends) room }
+    requires room { IsRoomForEnds homes.now (vec_len ends) room }
     requires ends { (readers : List S) × ((writers : List D) × AreHandlesOf homes.now readers writers ends.items) }
     ensures readers { (readers : List S) (writers : List D) → AreHandlesOf homes.now readers writers ends.items → result.readers.items ≡ readers }
     ensures writers { (readers : List S) (writers : List D) → AreHandlesOf homes.now readers writers ends.items → result.writers.items ≡ writers }

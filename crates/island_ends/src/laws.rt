@@ -4,8 +4,8 @@ ghost use Rattle.interpreter.specs.Island.{sinks_of, readers_of, writers_of};
 ghost use Rattle.interpreter.specs.Picks.{picks_of};
 ghost use Rattle.interpreter.specs.Seats.{seats_of};
 ghost use Rattle.nodes.specs.declared.node.IslandNode.{IslandNode};
-ghost use Rattle.scatter.specs.Shares.{of_home, count_of};
-ghost use Rattle.island_ends.specs.Ends.{homes_left, leaves, AreLaneEnds};
+ghost use Rattle.scatter.specs.Shares.{of_home, share_of};
+ghost use Rattle.island_ends.specs.Ends.{homes_left, leaves_something, AreLaneEnds};
 
 use plug_logic::book::PlugBook;
 use plug_logic::logic::Logic;
@@ -24,11 +24,11 @@ pub fn lane_ends_leave_nothing<S: Source, D: Drain, L: Logic, B: PlugBook>()
 /// The homes of what is left are known by any list of things of which each leaves something where the other does (`same`), and those
 /// behind which nothing leaves anything are all (`all`).
 pub fn homes_by_others<X, Y, Z, W>()
-    ensures same { (f : X → Option Y) (g : Z → Option W) (homes : List ℕ) (xs : List X) (zs : List Z) → length xs ≡ length zs → ((k : ℕ) (x : X) (z : Z) → slice_get xs k ≡ Some x → slice_get zs k ≡ Some z → leaves (f x) ≡ leaves (g z)) → homes_left f homes xs ≡ homes_left g homes zs }
+    ensures same { (f : X → Option Y) (g : Z → Option W) (homes : List ℕ) (xs : List X) (zs : List Z) → length xs ≡ length zs → ((k : ℕ) (x : X) (z : Z) → slice_get xs k ≡ Some x → slice_get zs k ≡ Some z → leaves_something (f x) ≡ leaves_something (g z)) → homes_left f homes xs ≡ homes_left g homes zs }
     ensures all { (f : X → Option Y) (homes others : List ℕ) (xs more : List X) → length xs ≡ length homes → ((k : ℕ) (x : X) → slice_get more k ≡ Some x → f x ≡ None) → homes_left f (homes ++ others) (xs ++ more) ≡ homes_left f homes xs }
 {}
 
 /// Lists, each with as many items as there are of its home, are the shares of one list.
 pub fn shares_make_one<T>()
-    ensures { (homes : List ℕ) (share : ℕ → List T) → ((k : ℕ) → length (share k) ≡ count_of k homes) → (all : List T) × (length all ≡ length homes) × ((k : ℕ) → of_home homes k all ≡ share k) }
+    ensures { (homes : List ℕ) (share : ℕ → List T) → ((k : ℕ) → length (share k) ≡ share_of k homes) → (all : List T) × (length all ≡ length homes) × ((k : ℕ) → of_home homes k all ≡ share k) }
 {}

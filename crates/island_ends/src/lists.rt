@@ -1,7 +1,7 @@
 // What islands leave, each kind in a list by island.
 ghost use Rattle.std.specs.Prelude.{◌≡◌, ◌<◌, ◌≤◌, ◌+◌, ◌++◌, ◌∷◌, [], ℕ, IfOk, map, take, length, slice_index, vec_len, vec_capacity};
 ghost use Rattle.scatter.specs.Shares.{items_at};
-ghost use Rattle.island_ends.specs.Room.{AreEmptyLists, AreSorted, HasMore, IsPut};
+ghost use Rattle.island_ends.specs.Room.{AreEmptyLists, AreSorted, HasRoomForMore, IsEndPut};
 
 use elem_core::why::NoMemory;
 use interpreter::island::{IslandEnd, SinkStand};
@@ -38,8 +38,8 @@ impl<S: Source, D: Drain> EndLists<S, D> {
 
     // The lists of one more island.
     fn put(&mut self, end: IslandEnd<S, D>)
-        requires { HasMore 1 self.old }
-        ensures { IsPut self.old end self.new }
+        requires { HasRoomForMore 1 self.old }
+        ensures { IsEndPut self.old end self.new }
     {
         let IslandEnd {
             sinks,

@@ -1,6 +1,6 @@
 // What the ends of islands take of memory before they are brought back.
 ghost use Rattle.std.specs.Prelude.{◌≡◌, ◌<◌, IfOk, All, vec_len};
-ghost use Rattle.island_ends.specs.Room.{IsRoomFor, AreEmptyLists, IsEmptyEnd};
+ghost use Rattle.island_ends.specs.Room.{IsRoomForEnds, AreEmptyLists, IsEmptyEnd};
 
 use crate::lists::EndLists;
 use elem_core::why::NoMemory;
@@ -56,7 +56,7 @@ impl<S: Source, D: Drain> EndRoom<S, D> {
     /// The room for the ends of so many islands, which leave what has these homes.
     pub fn of(alloc: Global, homes: &EndHomes, count: usize) -> Result<EndRoom<S, D>, NoMemory>
         requires { All (λ h. h < count) homes.now.wires.items }
-        ensures { IfOk result (IsRoomFor homes.now count) }
+        ensures { IfOk result (IsRoomForEnds homes.now count) }
     {
         let counts = ranks_of(alloc, &homes.wires, count)?.counts;
         let lists = EndLists::of(alloc, count)?;

@@ -11,7 +11,7 @@ use Rattle.interpreter.specs.declared.parts.Link.{Link}
 use Rattle.interpreter.specs.declared.parts.Seated.{Seated}
 use Rattle.interpreter.specs.Parts.{ends_of, work_inputs, work_outputs, inputs_at, outputs_at, AllUnused, IsWiring, AreParts}
 use Rattle.interpreter.specs.Ways.{IsOnce, lane_comes, lane_goes, comes_in, goes_out}
-use Rattle.scatter.specs.Shares.{of_home, count_of, rank_of}
+use Rattle.scatter.specs.Shares.{of_home, share_of, rank_of}
 use Rattle.scatter.proofs.Sharing.{here, elsewhere, count_here, count_elsewhere, count_within, share_count, share_at, share_from}
 use Rattle.island_parts.specs.Whole.{link_home, local_link}
 use Rattle.island_parts.proofs.Wiring.{there, end_get}
@@ -21,16 +21,16 @@ use Rattle.island_parts.proofs.Wiring.{there, end_get}
 pub home_at : (hs : List ℕ) (i k : ℕ) → i < length hs → slice_index hs i ≡ k → slice_get hs i ≡ Some k
 home_at hs i k lt e = slice_get-get_or hs i 0 lt ∙ ap Some e
 
-pub rank_is : (hs : List ℕ) (i k : ℕ) → slice_index hs i ≡ k → rank_of hs i ≡ count_of k (take i hs)
-rank_is hs i k e = ap (λ h. count_of h (take i hs)) e
+pub rank_is : (hs : List ℕ) (i k : ℕ) → slice_index hs i ≡ k → rank_of hs i ≡ share_of k (take i hs)
+rank_is hs i k e = ap (λ h. share_of h (take i hs)) e
 
-pub rank_below : (hs : List ℕ) (i k : ℕ) → slice_get hs i ≡ Some k → count_of k (take i hs) < count_of k hs
+pub rank_below : (hs : List ℕ) (i k : ℕ) → slice_get hs i ≡ Some k → share_of k (take i hs) < share_of k hs
 rank_below hs i k at =
-    let lt = slice_get_within (of_home hs k hs) (count_of k (take i hs)) k (share_at hs hs i k k at at) in
-    let e : length (of_home hs k hs) ≡ count_of k hs = share_count hs hs k refl in
+    let lt = slice_get_within (of_home hs k hs) (share_of k (take i hs)) k (share_at hs hs i k k at at) in
+    let e : length (of_home hs k hs) ≡ share_of k hs = share_count hs hs k refl in
     omega (arith, lt, e)
 
-pub rank_one : (hs : List ℕ) (i j k : ℕ) → slice_get hs i ≡ Some k → slice_get hs j ≡ Some k → count_of k (take i hs) ≡ count_of k (take j hs) → i ≡ j
+pub rank_one : (hs : List ℕ) (i j k : ℕ) → slice_get hs i ≡ Some k → slice_get hs j ≡ Some k → share_of k (take i hs) ≡ share_of k (take j hs) → i ≡ j
 rank_one [] i j k a b e = absurd cc
 rank_one (h ∷ hs) zero zero k a b e = refl
 rank_one (h ∷ hs) zero (suc j) k a b e =
@@ -46,16 +46,16 @@ rank_one (h ∷ hs) (suc i) (suc j) k a b e =
     (λ (t : (h == k) ≡ true).
     let p = count_here h k (take i hs) t in
     let q = count_here h k (take j hs) t in
-    let next : count_of k (take i hs) ≡ count_of k (take j hs) = omega (arith, p, q, e) in
+    let next : share_of k (take i hs) ≡ share_of k (take j hs) = omega (arith, p, q, e) in
     ap suc (rank_one hs i j k a b next))
     (λ (f : (h == k) ≡ false).
-    let next : count_of k (take i hs) ≡ count_of k (take j hs) = sym (count_elsewhere h k (take i hs) f) ∙ e ∙ count_elsewhere h k (take j hs) f in
+    let next : share_of k (take i hs) ≡ share_of k (take j hs) = sym (count_elsewhere h k (take i hs) f) ∙ e ∙ count_elsewhere h k (take j hs) f in
     ap suc (rank_one hs i j k a b next))
     (cases_Bool (h == k))
 
-pub rank_there : (hs : List ℕ) (k m : ℕ) → m < count_of k hs → (i : ℕ) × ((slice_get hs i ≡ Some k) × (count_of k (take i hs) ≡ m))
+pub rank_there : (hs : List ℕ) (k m : ℕ) → m < share_of k hs → (i : ℕ) × ((slice_get hs i ≡ Some k) × (share_of k (take i hs) ≡ m))
 rank_there hs k m lt =
-    let e : length (of_home hs k hs) ≡ count_of k hs = share_count hs hs k refl in
+    let e : length (of_home hs k hs) ≡ share_of k hs = share_count hs hs k refl in
     let x = there (of_home hs k hs) m (omega (arith, lt, e)) in
     let f = share_from hs hs k m x.0 x.1 in
     (f.from, (f.home, f.rank))
@@ -82,7 +82,7 @@ module _ (homes : List ℕ) (links : List Link) (k : ℕ) where
     pub is : slice_get links at ≡ Some link
     pub local : local_link homes link ≡ l
     pub home : slice_index homes link.from ≡ k
-    pub rank : count_of k (take at link_homes) ≡ q
+    pub rank : share_of k (take at link_homes) ≡ q
 
   pub mine_from : (q : ℕ) (l : Link) → slice_get mine q ≡ Some l → IsMine q l
   mine_from q l at =
@@ -94,7 +94,7 @@ module _ (homes : List ℕ) (links : List Link) (k : ℕ) where
       some_one : {a b : ℕ} → Some a ≡ Some b → a ≡ b
       some_one e = cc
 
-  pub mine_at : (p : ℕ) (l : Link) → slice_get links p ≡ Some l → slice_index homes l.from ≡ k → slice_get mine (count_of k (take p link_homes)) ≡ Some (local_link homes l)
+  pub mine_at : (p : ℕ) (l : Link) → slice_get links p ≡ Some l → slice_index homes l.from ≡ k → slice_get mine (share_of k (take p link_homes)) ≡ Some (local_link homes l)
   mine_at p l at home =
       share_at link_homes (map (local_link homes) links) p k (local_link homes l) (slice_get-map (local_link homes) links p ∙ ap (option_map (local_link homes)) at)
       (slice_get-map (link_home homes) links p ∙ ap (option_map (link_home homes)) at ∙ ap Some home)
@@ -103,7 +103,7 @@ module _ (homes : List ℕ) (links : List Link) (k : ℕ) where
   mine_few =
       let a : length (map (local_link homes) links) ≡ length links = length-map links (local_link homes) in
       let b : length link_homes ≡ length links = length-map links (link_home homes) in
-      let c : length mine ≡ count_of k link_homes = share_count link_homes (map (local_link homes) links) k (a ∙ sym b) in
+      let c : length mine ≡ share_of k link_homes = share_count link_homes (map (local_link homes) links) k (a ∙ sym b) in
       let d = count_within k link_homes in
       omega (arith, b, c, d)
 
@@ -124,10 +124,10 @@ module _ (homes : List ℕ) (links : List Link) (k : ℕ) where
     to_home : (q : ℕ) (l : Link) (m : IsMine q l) → slice_get homes m.link.to ≡ Some k
     to_home q l m = home_at homes m.link.to k (to_there m.at m.link m.is) (sym (same m.at m.link m.is) ∙ m.home)
 
-    from_rank : (q : ℕ) (l : Link) (m : IsMine q l) → l.from ≡ count_of k (take m.link.from homes)
+    from_rank : (q : ℕ) (l : Link) (m : IsMine q l) → l.from ≡ share_of k (take m.link.from homes)
     from_rank q l m = ap (λ (x : Link). x.from) (sym m.local) ∙ rank_is homes m.link.from k m.home
 
-    to_rank : (q : ℕ) (l : Link) (m : IsMine q l) → l.to ≡ count_of k (take m.link.to homes)
+    to_rank : (q : ℕ) (l : Link) (m : IsMine q l) → l.to ≡ share_of k (take m.link.to homes)
     to_rank q l m = ap (λ (x : Link). x.to) (sym m.local) ∙ rank_is homes m.link.to k (sym (same m.at m.link m.is) ∙ m.home)
 
     output_same : (q : ℕ) (l : Link) (m : IsMine q l) → l.output ≡ m.link.output
@@ -137,7 +137,7 @@ module _ (homes : List ℕ) (links : List Link) (k : ℕ) where
     input_same q l m = ap (λ (x : Link). x.input) (sym m.local)
 
     same_place : (q r : ℕ) (l n : Link) (x : IsMine q l) (y : IsMine r n) → x.at ≡ y.at → q ≡ r
-    same_place q r l n x y e = sym x.rank ∙ ap (λ a. count_of k (take a link_homes)) e ∙ y.rank
+    same_place q r l n x y e = sym x.rank ∙ ap (λ a. share_of k (take a link_homes)) e ∙ y.rank
 
     one_out : (q r : ℕ) (l n : Link) → IsMine q l → IsMine r n → l.from ≡ n.from → l.output ≡ n.output → q ≡ r
     one_out q r l n x y e o =
@@ -169,7 +169,7 @@ module _ (homes : List ℕ) (links : List Link) (k : ℕ) where
     by_link : (P : WireEnds → Type 0) (q : ℕ) (lt : q < length (map ends_of mine)) → ((l : Link) → IsMine q l → P (ends_of l)) → P (end_at (map ends_of mine) q)
     by_link P q lt h = let l = link_at q lt in subst P (sym l.1.0) (h l.0 l.1.1)
 
-    module _ (ins_are : (i : ℕ) → slice_get homes i ≡ Some k → mine_ins (count_of k (take i homes)) ≡ ins i) (outs_are : (i : ℕ) → slice_get homes i ≡ Some k → mine_outs (count_of k (take i homes)) ≡ outs i) where
+    module _ (ins_are : (i : ℕ) → slice_get homes i ≡ Some k → mine_ins (share_of k (take i homes)) ≡ ins i) (outs_are : (i : ℕ) → slice_get homes i ≡ Some k → mine_outs (share_of k (take i homes)) ≡ outs i) where
       output_ok : (q : ℕ) (l : Link) → IsMine q l → l.output < mine_outs l.from
       output_ok q l m =
           let a = subst (λ (e : WireEnds). e.output < outs e.from) (end_get links m.at m.link m.is) (wiring.output_within m.at (in_all m.at m.link m.is)) in
@@ -182,7 +182,7 @@ module _ (homes : List ℕ) (links : List Link) (k : ℕ) where
           let b : mine_ins l.to ≡ ins m.link.to = ap mine_ins (to_rank q l m) ∙ ins_are m.link.to (to_home q l m) in
           omega (arith, a, b, input_same q l m)
 
-      an_output : (x j : ℕ) → x < count_of k homes → j < mine_outs x → (q : ℕ) × ((q < length (map ends_of mine)) × (((end_at (map ends_of mine) q).from ≡ x) × ((end_at (map ends_of mine) q).output ≡ j)))
+      an_output : (x j : ℕ) → x < share_of k homes → j < mine_outs x → (q : ℕ) × ((q < length (map ends_of mine)) × (((end_at (map ends_of mine) q).from ≡ x) × ((end_at (map ends_of mine) q).output ≡ j)))
       an_output x j lt port =
           let i = rank_there homes k x lt in
           let ports : mine_outs x ≡ outs i.0 = ap mine_outs (sym i.1.1) ∙ outs_are i.0 i.1.0 in
@@ -194,9 +194,9 @@ module _ (homes : List ℕ) (links : List Link) (k : ℕ) where
           let home : slice_index homes l.0.from ≡ k = ap (slice_index homes) from ∙ get_or_from_slice_get homes i.0 k 0 i.1.0 in
           let at = mine_at w.0 l.0 l.1 home in
           let is = end_get mine _ _ at in
-          (_, (in_mine _ _ at, (ap (λ (z : WireEnds). z.from) is ∙ rank_is homes l.0.from k home ∙ ap (λ a. count_of k (take a homes)) from ∙ i.1.1, ap (λ (z : WireEnds). z.output) is ∙ sym (ap (λ (z : WireEnds). z.output) ends) ∙ w.1.1.1)))
+          (_, (in_mine _ _ at, (ap (λ (z : WireEnds). z.from) is ∙ rank_is homes l.0.from k home ∙ ap (λ a. share_of k (take a homes)) from ∙ i.1.1, ap (λ (z : WireEnds). z.output) is ∙ sym (ap (λ (z : WireEnds). z.output) ends) ∙ w.1.1.1)))
 
-      an_input : (x j : ℕ) → x < count_of k homes → j < mine_ins x → (q : ℕ) × ((q < length (map ends_of mine)) × (((end_at (map ends_of mine) q).to ≡ x) × ((end_at (map ends_of mine) q).input ≡ j)))
+      an_input : (x j : ℕ) → x < share_of k homes → j < mine_ins x → (q : ℕ) × ((q < length (map ends_of mine)) × (((end_at (map ends_of mine) q).to ≡ x) × ((end_at (map ends_of mine) q).input ≡ j)))
       an_input x j lt port =
           let i = rank_there homes k x lt in
           let ports : mine_ins x ≡ ins i.0 = ap mine_ins (sym i.1.1) ∙ ins_are i.0 i.1.0 in
@@ -208,12 +208,12 @@ module _ (homes : List ℕ) (links : List Link) (k : ℕ) where
           let home : slice_index homes l.0.to ≡ k = ap (slice_index homes) to ∙ get_or_from_slice_get homes i.0 k 0 i.1.0 in
           let at = mine_at w.0 l.0 l.1 (same w.0 l.0 l.1 ∙ home) in
           let is = end_get mine _ _ at in
-          (_, (in_mine _ _ at, (ap (λ (z : WireEnds). z.to) is ∙ rank_is homes l.0.to k home ∙ ap (λ a. count_of k (take a homes)) to ∙ i.1.1, ap (λ (z : WireEnds). z.input) is ∙ sym (ap (λ (z : WireEnds). z.input) ends) ∙ w.1.1.1)))
+          (_, (in_mine _ _ at, (ap (λ (z : WireEnds). z.to) is ∙ rank_is homes l.0.to k home ∙ ap (λ a. share_of k (take a homes)) to ∙ i.1.1, ap (λ (z : WireEnds). z.input) is ∙ sym (ap (λ (z : WireEnds). z.input) ends) ∙ w.1.1.1)))
 
-      pub restricted : IsWiring mine_ins mine_outs (count_of k homes) (map ends_of mine)
+      pub restricted : IsWiring mine_ins mine_outs (share_of k homes) (map ends_of mine)
       restricted = record {
-        from_within = λ q lt. by_link (λ e. e.from < count_of k homes) q lt (λ l m. let a = rank_below homes m.link.from k (from_home q l m) in omega (arith, a, from_rank q l m));
-        to_within = λ q lt. by_link (λ e. e.to < count_of k homes) q lt (λ l m. let a = rank_below homes m.link.to k (to_home q l m) in omega (arith, a, to_rank q l m));
+        from_within = λ q lt. by_link (λ e. e.from < share_of k homes) q lt (λ l m. let a = rank_below homes m.link.from k (from_home q l m) in omega (arith, a, from_rank q l m));
+        to_within = λ q lt. by_link (λ e. e.to < share_of k homes) q lt (λ l m. let a = rank_below homes m.link.to k (to_home q l m) in omega (arith, a, to_rank q l m));
         output_within = λ q lt. by_link (λ e. e.output < mine_outs e.from) q lt (λ l m. output_ok q l m);
         input_within = λ q lt. by_link (λ e. e.input < mine_ins e.to) q lt (λ l m. input_ok q l m);
         one_output = λ q r lq lr e o.
@@ -230,7 +230,7 @@ module _ (homes : List ℕ) (links : List Link) (k : ℕ) where
 
     -- the ends of lanes stand apart in an island, where they do in all
     module _ {S D L B : Type 0} (places : List (Seated S D L B)) (long : length places ≡ length homes) where
-      pub seat_of : (i : ℕ) → slice_get homes i ≡ Some k → slice_get (of_home homes k places) (count_of k (take i homes)) ≡ slice_get places i
+      pub seat_of : (i : ℕ) → slice_get homes i ≡ Some k → slice_get (of_home homes k places) (share_of k (take i homes)) ≡ slice_get places i
       seat_of i home =
           let lt : i < length homes = slice_get_within homes i k home in
           let x = there places i (omega (arith, lt, long)) in
@@ -283,7 +283,7 @@ module _ {S D L B : Type 0} where
       → ((p : ℕ) (l : Link) → slice_get links p ≡ Some l → slice_index homes l.from ≡ slice_index homes l.to) → IsOnce places links → length links < 2 ^ 32 → AreParts (of_home homes k places) (mine homes links k)
   island_parts homes links k places long unused wiring same once few =
       let all : IsWiring (inputs_at places) (outputs_at places) (length homes) (map ends_of links) = subst (λ n. IsWiring (inputs_at places) (outputs_at places) n (map ends_of links)) long wiring in
-      let count : length (of_home homes k places) ≡ count_of k homes = share_count homes places k long in
+      let count : length (of_home homes k places) ≡ share_of k homes = share_count homes places k long in
       let local = restricted homes links k (inputs_at places) (outputs_at places) (inputs_at (of_home homes k places)) (outputs_at (of_home homes k places)) all same (λ i home. ins i home) (λ i home. outs i home) in
       record {
         unused = unused_mine homes k places unused;
@@ -292,13 +292,13 @@ module _ {S D L B : Type 0} where
         few = let m = mine_few homes links k in omega (arith, m, few);
       }
     where
-      ins : (i : ℕ) → slice_get homes i ≡ Some k → inputs_at (of_home homes k places) (count_of k (take i homes)) ≡ inputs_at places i
+      ins : (i : ℕ) → slice_get homes i ≡ Some k → inputs_at (of_home homes k places) (share_of k (take i homes)) ≡ inputs_at places i
       ins i home =
           let lt : i < length homes = slice_get_within homes i k home in
           let x = there places i (omega (arith, lt, long)) in
           inputs_by (of_home homes k places) _ x.0 (share_at homes places i k x.0 x.1 home) ∙ sym (inputs_by places i x.0 x.1)
 
-      outs : (i : ℕ) → slice_get homes i ≡ Some k → outputs_at (of_home homes k places) (count_of k (take i homes)) ≡ outputs_at places i
+      outs : (i : ℕ) → slice_get homes i ≡ Some k → outputs_at (of_home homes k places) (share_of k (take i homes)) ≡ outputs_at places i
       outs i home =
           let lt : i < length homes = slice_get_within homes i k home in
           let x = there places i (omega (arith, lt, long)) in

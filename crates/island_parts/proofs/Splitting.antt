@@ -14,7 +14,7 @@ use Rattle.blue_names.specs.Links.{AreInRange, wire_of_link, wires_of_links}
 use Rattle.interpreter.specs.declared.parts.Link.{Link}
 use Rattle.traversal.specs.declared.plan.LanePlan.{LanePlan}
 use Rattle.traversal.specs.Plan.{lanes_from}
-use Rattle.scatter.specs.Shares.{items_at, rank_of, count_of, AreRanks, AreEmptyFor, AreShares}
+use Rattle.scatter.specs.Shares.{items_at, rank_of, share_of, AreRanks, AreEmptyFor, AreShares}
 use Rattle.island_parts.specs.Whole.{nears_from, fars_from, lanes_in, whole_links, whole_homes, link_home, local_link, at_ranks}
 use Rattle.scatter.proofs.Sharing.{share_count, count_within}
 use Rattle.island_parts.proofs.Cutting.{lane_below, lanes_count, lane_there}
@@ -107,13 +107,13 @@ pub links_whole : (ws : List Edge) (links : List Link) (n big outs m : ℕ) → 
 links_whole ws links n big outs m is e f g = is ∙ ap (λ o. nears_from o 0 ws ++ fars_from n 0 ws) (e ∙ ap (λ k. n + k) f) ∙ ap (λ k. whole_links k ws) g
 
 -- lists with room for so many of each home
-pub empty_for : {X : Type 0} (homes ranks counts : List ℕ) (count : ℕ) (lists : List (Vec X Global)) → AreRanks homes count ranks counts → ((hs : List ℕ) → ((k : ℕ) → k < length counts → slice_index counts k ≡ count_of k hs) → AreEmptyFor hs (length counts) lists) → AreEmptyFor homes count lists
+pub empty_for : {X : Type 0} (homes ranks counts : List ℕ) (count : ℕ) (lists : List (Vec X Global)) → AreRanks homes count ranks counts → ((hs : List ℕ) → ((k : ℕ) → k < length counts → slice_index counts k ≡ share_of k hs) → AreEmptyFor hs (length counts) lists) → AreEmptyFor homes count lists
 empty_for homes ranks counts count lists a rooms = subst (λ m. AreEmptyFor homes m lists) a.many (rooms homes (λ k lt. a.counts_are k (omega (arith, lt, a.many))))
 
 -- ---- what code made of them
 
 pub empty_as : {X : Type 0} (homes seen_homes ranks counts seen : List ℕ) (count size : ℕ) (lists : List (Vec X Global)) → AreRanks homes count ranks counts → seen ≡ counts → seen_homes ≡ homes → size ≡ length lists
-    → ((hs : List ℕ) → ((k : ℕ) → k < length seen → slice_index seen k ≡ count_of k hs) → AreEmptyFor hs (length seen) lists) → AreEmptyFor seen_homes size lists × (size ≡ count)
+    → ((hs : List ℕ) → ((k : ℕ) → k < length seen → slice_index seen k ≡ share_of k hs) → AreEmptyFor hs (length seen) lists) → AreEmptyFor seen_homes size lists × (size ≡ count)
 empty_as homes seen_homes ranks counts seen count size lists a same homes_same long rooms =
     let e = empty_for homes ranks seen count lists (subst (λ c. AreRanks homes count ranks c) (sym same) a) rooms in
     let many : size ≡ count = long ∙ e.many in
@@ -124,7 +124,7 @@ below_as homes seen count size all same e = subst (λ hs. All (λ h. h < size) h
 
 pub few_each : {X : Type 0} (homes : List ℕ) (items : List X) (lists : List (Vec X Global)) → AreShares homes items lists → length items < 2 ^ 32 → (k : ℕ) → length (items_at lists k) < 2 ^ 32
 few_each homes items lists a few k =
-    let size : length (items_at lists k) ≡ count_of k homes = ap length (a.shares k) ∙ share_count homes items k a.each in
+    let size : length (items_at lists k) ≡ share_of k homes = ap length (a.shares k) ∙ share_count homes items k a.each in
     let most = count_within k homes in
     omega (arith, size, most, a.each, few)
 

@@ -9,7 +9,7 @@ use Rattle.fused_net.specs.declared.net.WireEnds.{WireEnds}
 use Rattle.fused_net.specs.Net.{end_at}
 use Rattle.interpreter.specs.declared.parts.Link.{Link}
 use Rattle.interpreter.specs.declared.parts.Seated.{Seated}
-use Rattle.interpreter.specs.Parts.{ends_of, place_of, inputs_at, outputs_at, AllUnused, IsWiring, AreParts}
+use Rattle.interpreter.specs.Parts.{ends_of, seat_place, inputs_at, outputs_at, AllUnused, IsWiring, AreParts}
 use Rattle.interpreter.specs.Ways.{IsOnce, is_lane_in, is_lane_out, lane_comes, lane_goes, comes_in, goes_out}
 use Rattle.traversal.specs.declared.plan.LanePlan.{LanePlan}
 use Rattle.traversal.specs.Plan.{lanes_from}
@@ -44,18 +44,18 @@ module _ {X : Type 0} {Y : Type 0} (first : List Y) (f g : X → Y) (xs : List X
       get_right first (map f xs ++ map g xs) i (length xs + j) (omega (arith, e)) ∙ get_right (map f xs) (map g xs) (length xs + j) j (omega (arith, c)) ∙ slice_get-map g xs j ∙ ap (option_map g) at
 
 -- the places before the nodes hold their handles
-pub places_whole : {S D L B : Type 0} (nodes : List (Seated S D L B)) (lanes : List LanePlan) → map place_of (whole_seats nodes lanes) ≡ whole_places (map place_of nodes) lanes
-places_whole {S = S} {D = D} {L = L} {B = B} nodes lanes = map_both nodes (map in_seat lanes ++ map out_seat lanes) ∙ ap (λ l. map place_of nodes ++ l) (map_both (map in_seat lanes) (map out_seat lanes) ∙ ap (λ l. l ++ map place_of (map (out_seat {S = S} {D = D} {L = L} {B = B}) lanes)) (ins lanes) ∙ ap (λ l. map in_place lanes ++ l) (outs lanes))
+pub places_whole : {S D L B : Type 0} (nodes : List (Seated S D L B)) (lanes : List LanePlan) → map seat_place (whole_seats nodes lanes) ≡ whole_places (map seat_place nodes) lanes
+places_whole {S = S} {D = D} {L = L} {B = B} nodes lanes = map_both nodes (map in_seat lanes ++ map out_seat lanes) ∙ ap (λ l. map seat_place nodes ++ l) (map_both (map in_seat lanes) (map out_seat lanes) ∙ ap (λ l. l ++ map seat_place (map (out_seat {S = S} {D = D} {L = L} {B = B}) lanes)) (ins lanes) ∙ ap (λ l. map in_place lanes ++ l) (outs lanes))
   where
-    map_both : (xs ys : List (Seated S D L B)) → map place_of (xs ++ ys) ≡ map place_of xs ++ map place_of ys
+    map_both : (xs ys : List (Seated S D L B)) → map seat_place (xs ++ ys) ≡ map seat_place xs ++ map seat_place ys
     map_both [] ys = refl
-    map_both (x ∷ xs) ys = ap (λ l. place_of x ∷ l) (map_both xs ys)
+    map_both (x ∷ xs) ys = ap (λ l. seat_place x ∷ l) (map_both xs ys)
 
-    ins : (ls : List LanePlan) → map place_of (map (in_seat {S = S} {D = D} {L = L} {B = B}) ls) ≡ map in_place ls
+    ins : (ls : List LanePlan) → map seat_place (map (in_seat {S = S} {D = D} {L = L} {B = B}) ls) ≡ map in_place ls
     ins [] = refl
     ins (l ∷ ls) = ap (λ r. in_place l ∷ r) (ins ls)
 
-    outs : (ls : List LanePlan) → map place_of (map (out_seat {S = S} {D = D} {L = L} {B = B}) ls) ≡ map out_place ls
+    outs : (ls : List LanePlan) → map seat_place (map (out_seat {S = S} {D = D} {L = L} {B = B}) ls) ≡ map out_place ls
     outs [] = refl
     outs (l ∷ ls) = ap (λ r. out_place l ∷ r) (outs ls)
 

@@ -1,7 +1,7 @@
 // Laws of the islands of a blueprint: each function has no body, and its contract is the law.
 ghost use Rattle.std.specs.Prelude.{◌≡◌, ◌<◌, ◌^◌, ℕ, List, length, map};
 ghost use Rattle.stream_model.specs.Graph.{Edge};
-ghost use Rattle.interpreter.specs.Parts.{AreParts, place_of};
+ghost use Rattle.interpreter.specs.Parts.{AreParts, seat_place};
 ghost use Rattle.interpreter.specs.declared.parts.Seated.{Seated};
 ghost use Rattle.traversal.specs.Plan.{lanes_from};
 ghost use Rattle.traversal.specs.declared.plan.LanePlan.{LanePlan};
@@ -18,5 +18,5 @@ use stream_io::outside::{Drain, Source};
 pub fn islands_have_parts<S: Source, D: Drain, L: Logic, B: PlugBook>()
     ensures parts { (homes : List ℕ) (ws : List Edge) (nodes : List (Seated S D L B)) (k : ℕ) → length homes ≡ length nodes → KeepsInside homes ws → AreNodes ws nodes → length (whole_links (length nodes) ws) < 2 ^ 32
         → AreParts (of_home (whole_homes homes (lanes_from homes 0 ws)) k (whole_seats nodes (lanes_from homes 0 ws))) (own_links (whole_homes homes (lanes_from homes 0 ws)) (whole_links (length nodes) ws) k) }
-    ensures places { (nodes : List (Seated S D L B)) (lanes : List LanePlan) → map place_of (whole_seats nodes lanes) ≡ whole_places (map place_of nodes) lanes }
+    ensures places { (nodes : List (Seated S D L B)) (lanes : List LanePlan) → map seat_place (whole_seats nodes lanes) ≡ whole_places (map seat_place nodes) lanes }
 {}

@@ -3,7 +3,7 @@ use Rattle.std.proofs.Common.{◌≡◌, ℕ, ◌+◌, ◌<◌, ◌^◌, ◌++�
 use Rattle.std.proofs.lemmas.List.{length-map}
 use Rattle.stream_model.specs.Graph.{Edge}
 use Rattle.blue_core.specs.declared.blueprint.Node.{Node}
-use Rattle.interpreter.specs.Parts.{AreParts, place_of}
+use Rattle.interpreter.specs.Parts.{AreParts, seat_place}
 use Rattle.interpreter.specs.Room.{IsRoom}
 use Rattle.interpreter.specs.declared.parts.Link.{Link}
 use Rattle.interpreter.specs.declared.parts.Parts.{Parts}
@@ -33,15 +33,15 @@ whole_count {S = S} {D = D} {L = L} {B = B} homes lanes nodes e =
     let from : length (map (λ (l : LanePlan). l.from) lanes) ≡ length lanes = length-map lanes (λ (l : LanePlan). l.from) in
     omega (arith, seats, ends, ins, outs, all, both, to, from, e)
 
-module _ {S D L B : Type 0} (homes : List ℕ) (count : ℕ) (ws : List Edge) (ns : List Node) (nodes : List (Seated S D L B)) (s : Split S D L B) (split : IsSplit homes count ws (places_from 0 ns) s) (same : map place_of nodes ≡ places_from 0 ns) where
+module _ {S D L B : Type 0} (homes : List ℕ) (count : ℕ) (ws : List Edge) (ns : List Node) (nodes : List (Seated S D L B)) (s : Split S D L B) (split : IsSplit homes count ws (places_from 0 ns) s) (same : map seat_place nodes ≡ places_from 0 ns) where
   abbrev cut : List LanePlan
   cut = lanes_from homes 0 ws
 
   many : length (places_from 0 ns) ≡ length nodes
-  many = sym (ap length same) ∙ length-map nodes place_of
+  many = sym (ap length same) ∙ length-map nodes seat_place
 
   -- by the laws of islands
-  pub island_cut : ((k : ℕ) → AreParts (of_home (whole_homes homes cut) k (whole_seats nodes cut)) (own_links (whole_homes homes cut) (whole_links (length nodes) ws) k)) → map place_of (whole_seats nodes cut) ≡ whole_places (map place_of nodes) cut
+  pub island_cut : ((k : ℕ) → AreParts (of_home (whole_homes homes cut) k (whole_seats nodes cut)) (own_links (whole_homes homes cut) (whole_links (length nodes) ws) k)) → map seat_place (whole_seats nodes cut) ≡ whole_places (map seat_place nodes) cut
       → (k : ℕ) (x : Parts S D L B × IslandRoom S D L B) → IsIsland s (whole_seats nodes cut) k x → IsIslandOf homes ws cut nodes k x
   island_cut parts places k x i =
       let sp = split.spaces_are k i.space i.space_at in
@@ -49,13 +49,13 @@ module _ {S D L B : Type 0} (homes : List ℕ) (count : ℕ) (ws : List Edge) (n
       let told : x.0.links.items ≡ own_links s.homes.items (whole_links (length (places_from 0 ns)) ws) k = i.links_are ∙ sp.links_are in
       let links : x.0.links.items ≡ own_links (whole_homes homes cut) (whole_links (length nodes) ws) k =
       told ∙ ap (λ hs. own_links hs (whole_links (length (places_from 0 ns)) ws) k) split.homes_are ∙ ap (λ n. own_links (whole_homes homes cut) (whole_links n ws) k) many in
-      let at : map place_of x.0.nodes.items ≡ of_home s.homes.items k (whole_places (places_from 0 ns) cut) =
-      ap (λ (l : List (Seated S D L B)). map place_of l) i.nodes_are ∙ sym (share_map place_of s.homes.items (whole_seats nodes cut) k) ∙ ap (λ l. of_home s.homes.items k l) places ∙ ap (λ l. of_home s.homes.items k (whole_places l cut)) same in
+      let at : map seat_place x.0.nodes.items ≡ of_home s.homes.items k (whole_places (places_from 0 ns) cut) =
+      ap (λ (l : List (Seated S D L B)). map seat_place l) i.nodes_are ∙ sym (share_map seat_place s.homes.items (whole_seats nodes cut) k) ∙ ap (λ l. of_home s.homes.items k l) places ∙ ap (λ l. of_home s.homes.items k (whole_places l cut)) same in
       record {
         nodes_are = here;
         links_are = links;
         parts = subst (λ (l : List Link). AreParts x.0.nodes.items l) (sym links) (subst (λ (l : List (Seated S D L B)). AreParts l (own_links (whole_homes homes cut) (whole_links (length nodes) ws) k)) (sym here) (parts k));
-        room = subst (λ (r : IslandRoom S D L B). IsRoom r (map place_of x.0.nodes.items) x.0.links.items) (sym i.room_is)
+        room = subst (λ (r : IslandRoom S D L B). IsRoom r (map seat_place x.0.nodes.items) x.0.links.items) (sym i.room_is)
             (subst (λ (l : List Place). IsRoom i.space.room l x.0.links.items) (sym at) (subst (λ (l : List Link). IsRoom i.space.room (of_home s.homes.items k (whole_places (places_from 0 ns) cut)) l) (sym told) sp.room_is));
       }
 
@@ -63,7 +63,7 @@ module _ {S D L B : Type 0} (homes : List ℕ) (count : ℕ) (ws : List Edge) (n
   few_whole = subst (λ n. length (whole_links n ws) < 2 ^ 32) many split.few
 
   -- the same of the lanes as code reads them
-  pub island_is : (lanes told : List LanePlan) (seats : List (Seated S D L B)) → ((k : ℕ) → AreParts (of_home (whole_homes homes cut) k (whole_seats nodes cut)) (own_links (whole_homes homes cut) (whole_links (length nodes) ws) k)) → map place_of (whole_seats nodes cut) ≡ whole_places (map place_of nodes) cut
+  pub island_is : (lanes told : List LanePlan) (seats : List (Seated S D L B)) → ((k : ℕ) → AreParts (of_home (whole_homes homes cut) k (whole_seats nodes cut)) (own_links (whole_homes homes cut) (whole_links (length nodes) ws) k)) → map seat_place (whole_seats nodes cut) ≡ whole_places (map seat_place nodes) cut
       → lanes ≡ cut → told ≡ lanes → seats ≡ whole_seats nodes told → (k : ℕ) (x : Parts S D L B × IslandRoom S D L B) → IsIsland s seats k x → IsIslandOf homes ws lanes nodes k x
   island_is lanes told seats parts places e t is k x i =
       subst (λ (l : List LanePlan). IsIslandOf homes ws l nodes k x) (sym e) (island_cut parts places k x (subst (λ (l : List (Seated S D L B)). IsIsland s l k x) (is ∙ ap (λ (l : List LanePlan). whole_seats nodes l) (t ∙ e)) i))

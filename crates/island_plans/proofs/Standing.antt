@@ -20,7 +20,7 @@ use Rattle.interpreter.specs.declared.parts.Work.TheVariants as work
 use Rattle.traversal.specs.Plan.{AreHomes}
 use Rattle.island_parts.specs.Whole.{AreNodes, KeepsInside}
 use Rattle.materializer.specs.Fit.{CanRun}
-use Rattle.materializer.specs.Graphs.{graph_of, node_of, chains_of}
+use Rattle.materializer.specs.Graphs.{graph_of, graph_node, chains_of}
 use Rattle.materializer.specs.Planned.{places_from}
 use Rattle.materializer.specs.Seats.{IsWork, AreSeats}
 use Rattle.materializer.proofs.Fitting.{fit_joined}
@@ -37,9 +37,9 @@ module _ (b : Blueprint) (plugs : List PlugHead) (taken : List (List ℕ)) (fit 
       let j : IsJoined (graph_of b) = fit_joined b plugs taken fit in
       let s = j.source i v at in
       let t = j.target i v at in
-      let size : length (map node_of b.nodes.items) ≡ length b.nodes.items = length-map b.nodes.items node_of in
-      let from : v.from < length (map node_of b.nodes.items) = slice_get_within (map node_of b.nodes.items) v.from s.0 s.1 in
-      let to : v.to < length (map node_of b.nodes.items) = slice_get_within (map node_of b.nodes.items) v.to t.0 t.1 in
+      let size : length (map graph_node b.nodes.items) ≡ length b.nodes.items = length-map b.nodes.items graph_node in
+      let from : v.from < length (map graph_node b.nodes.items) = slice_get_within (map graph_node b.nodes.items) v.from s.0 s.1 in
+      let to : v.to < length (map graph_node b.nodes.items) = slice_get_within (map graph_node b.nodes.items) v.to t.0 t.1 in
       (omega (arith, from, size), omega (arith, to, size))
 
   pub in_range : (ls : List NumberedWire) → wires_of_links ls ≡ blueprint_wires b → AreInRange (length b.nodes.items) ls

@@ -3,7 +3,7 @@ use Rattle.std.specs.Prelude.{◌≡◌, ℕ, Bool, is_some, if◌then◌else◌
 use Rattle.stream_model.specs.Graph.{Edge}
 use Rattle.blue_core.specs.declared.blueprint.Node.{Node}
 use Rattle.blue_rules.specs.Picks.{picks}
-use Rattle.materializer.specs.Files.{input_of, output_of, is_sink}
+use Rattle.materializer.specs.Files.{source_file, output_of, is_sink}
 use Rattle.switch_board.specs.Board.{switch_of}
 use Rattle.island_ends.specs.declared.room.EndHomes.{EndHomes}
 use Rattle.island_plans.specs.declared.ends.EndList.{EndList}
@@ -15,7 +15,7 @@ abbrev pub leaves_in : EndList → Node → Bool
 leaves_in Sinks n = is_sink n
 leaves_in Picks n = picks n.kind
 leaves_in Seats n = is_some (switch_of n.kind)
-leaves_in Readers n = is_some (input_of n.kind)
+leaves_in Readers n = is_some (source_file n.kind)
 leaves_in Writers n = is_some (output_of n.kind)
 
 -- the islands of the nodes that leave one, in order of nodes, where these are the islands of all

@@ -5,7 +5,7 @@ use Rattle.blue_core.specs.declared.blueprint.Blueprint.{Blueprint}
 use Rattle.blue_core.specs.declared.blueprint.Node.{Node}
 use Rattle.blue_check.specs.Wires.{blueprint_wires}
 use Rattle.interpreter.specs.Handles.{sources_in, drains_in}
-use Rattle.interpreter.specs.Parts.{AreParts, place_of}
+use Rattle.interpreter.specs.Parts.{AreParts, seat_place}
 use Rattle.interpreter.specs.Room.{IsRoom}
 use Rattle.interpreter.specs.declared.parts.Parts.{Parts}
 use Rattle.interpreter.specs.declared.parts.Seated.{Seated}
@@ -45,7 +45,7 @@ pub record IsIslandOf {S D L B : Type 0} (homes : List ℕ) (ws : List Edge) (la
   pub nodes_are : x.0.nodes.items ≡ of_home (whole_homes homes lanes) k (whole_seats nodes lanes)
   pub links_are : x.0.links.items ≡ own_links (whole_homes homes lanes) (whole_links (length nodes) ws) k
   pub parts : AreParts x.0.nodes.items x.0.links.items
-  pub room : IsRoom x.1 (map place_of x.0.nodes.items) x.0.links.items
+  pub room : IsRoom x.1 (map seat_place x.0.nodes.items) x.0.links.items
 
 -- the islands of a blueprint, whose nodes hold these sources and drains, each in the order of nodes, and their seats at the board of
 -- its kill switches

@@ -9,7 +9,7 @@ use blue_names::links::NumberedWire;
 use blue_walks::ranks::rank_of;
 use elem_core::why::NoMemory;
 use island_ends::room::EndHomes;
-use materializer::names::{input_of, is_sink, output_of};
+use materializer::names::{source_file, is_sink, output_of};
 use std::alloc::Global;
 use switch_board::names::switch_of;
 
@@ -36,7 +36,7 @@ pub fn leaves_in(list: EndList, node: &Node) -> bool
         EndList::Sinks => is_sink(node),
         EndList::Picks => picks(&node.kind),
         EndList::Seats => switch_of(&node.kind).is_some(),
-        EndList::Readers => input_of(&node.kind).is_some(),
+        EndList::Readers => source_file(&node.kind).is_some(),
         EndList::Writers => output_of(&node.kind).is_some(),
     }
 }

@@ -11,7 +11,7 @@ use Rattle.island_body.specs.declared.way.Way.{Way}
 use Rattle.island_body.specs.declared.peers.Peers.{Peers}
 use Rattle.island_bodies.specs.Peers.{ArePeers}
 use Rattle.island_bodies.specs.Making.{way_homes, AreBlank}
-use Rattle.island_ends.specs.Room.{IsRoomFor}
+use Rattle.island_ends.specs.Room.{IsRoomForEnds}
 use Rattle.island_ends.specs.declared.room.EndHomes.{EndHomes}
 use Rattle.island_ends.specs.declared.room.EndRoom.{EndRoom}
 use Rattle.bodies_run.specs.Counts.{told_from}
@@ -28,8 +28,8 @@ same_tables d h l m n k tables homes lanes count b =
 pub same_peers : (l m : Vec LanePlan Global) (n k : ℕ) (peers : List Peers) → m ≡ l → k ≡ n → ArePeers l.items n peers → ArePeers m.items k peers
 same_peers l m n k peers lanes count h = subst (λ (x : Vec LanePlan Global). ArePeers x.items k peers) (sym lanes) (subst (λ (i : ℕ). ArePeers l.items i peers) (sym count) h)
 
-pub same_room : {S D : Type 0} (d h : EndHomes) (n k : ℕ) (r : EndRoom S D) → h ≡ d → k ≡ n → IsRoomFor d n r → IsRoomFor h k r
-same_room d h n k r homes count is = subst (λ (x : EndHomes). IsRoomFor x k r) (sym homes) (subst (λ (i : ℕ). IsRoomFor d i r) (sym count) is)
+pub same_room : {S D : Type 0} (d h : EndHomes) (n k : ℕ) (r : EndRoom S D) → h ≡ d → k ≡ n → IsRoomForEnds d n r → IsRoomForEnds h k r
+same_room d h n k r homes count is = subst (λ (x : EndHomes). IsRoomForEnds x k r) (sym homes) (subst (λ (i : ℕ). IsRoomForEnds d i r) (sym count) is)
 
 -- each wire is told of once
 pub told_many : (near : ℕ → WireState) (u : ℕ) (ws : List Edge) → length (told_from near u ws) ≡ length ws

@@ -18,7 +18,7 @@ use Rattle.interpreter.specs.Picks.{pick_of}
 use Rattle.interpreter.specs.declared.island.IslandEnd.{IslandEnd}
 use Rattle.interpreter.specs.declared.parts.Seated.{Seated}
 use Rattle.run_account.specs.Account.{Account, IsStill}
-use Rattle.run_account.specs.Pictures.{counts_of}
+use Rattle.run_account.specs.Pictures.{picture_counts}
 use Rattle.run_outlook_laws.specs.Runs.{IsRun}
 use Rattle.materializer.specs.Graphs.{graph_of, chains_of}
 use Rattle.materializer.specs.Seats.{AreSeats, place_seat}
@@ -29,7 +29,7 @@ use Rattle.bodies_leave.specs.Whole.{IsLeftBy}
 use Rattle.run_switch_laws.specs.Settling.{AllSettled}
 use Rattle.switch_board.specs.Board.{AreAtSwitches, numbered_from, seat_in}
 use Rattle.switch_board.specs.declared.board.Board.{Board}
-use Rattle.island_runs.specs.Leaving.{Moment, Leaves, LeavesBroken}
+use Rattle.island_runs.specs.Leaving.{Moment, RunLeaves, LeavesBroken}
 use Rattle.island_runs.specs.declared.run.Stopped.{Stopped}
 use Rattle.island_runs.proofs.Settling.{kept_seats, seats_numbered, settled_run}
 use Rattle.stream_model.specs.Linear.{Book}
@@ -48,7 +48,7 @@ module _ {S D L B : Type 0} (sources : S → SourceState) (drains : D → DrainS
   abbrev alone : Account (IslandNode S D L B)
   alone = of_lists acc left.firsts last
 
-  same : counts_of alone (graph_of b) ≡ counts_of acc (graph_of b)
+  same : picture_counts alone (graph_of b) ≡ picture_counts acc (graph_of b)
   same = counts_alone acc left.firsts last 0 (graph_of b).wires
 
   -- it is one of the run at this moment
@@ -66,8 +66,8 @@ module _ {S D L B : Type 0} (sources : S → SourceState) (drains : D → DrainS
 
   -- bodies that were taken apart between two events, where the seats that their nodes left were settled
   pub leaves : (budget : ℕ) (s : Stopped S D) (e : IslandEnd S D) (near : ℕ → WireState) → (s.at_rest ≡ true → IsStill (graph_of b) acc) → IsLeftBy (blueprint_wires b) near last e → s.end ≡ record e { seats = s.end.seats }
-      → AllSettled (map (λ (n : blue.Node). n.kind) b.nodes.items) (seat_in (map node_seat last)) → s.wires.items ≡ counts_of acc (graph_of b) → s.used ≤ budget → (s.at_rest ≡ false → s.used ≡ budget)
-      → all_sent (counts_of acc (graph_of b)) ≤ s.used → s.used + length (blueprint_wires b) ≤ count_needed (graph_of b) (counts_of acc (graph_of b)) → Leaves L B sources drains book b ss ds budget s
+      → AllSettled (map (λ (n : blue.Node). n.kind) b.nodes.items) (seat_in (map node_seat last)) → s.wires.items ≡ picture_counts acc (graph_of b) → s.used ≤ budget → (s.at_rest ≡ false → s.used ≡ budget)
+      → all_sent (picture_counts acc (graph_of b)) ≤ s.used → s.used + length (blueprint_wires b) ≤ count_needed (graph_of b) (picture_counts acc (graph_of b)) → RunLeaves L B sources drains book b ss ds budget s
   leaves budget s e near still l same_end settled wires within spent least most = record {
     account = alone;
     nodes = last;

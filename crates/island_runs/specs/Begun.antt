@@ -14,14 +14,14 @@ use Rattle.rounds.specs.Bodies.{AllOf, EachOf}
 use Rattle.rounds.specs.Crossings.{AreCrossings, AllJoined, AtRest}
 use Rattle.rounds.specs.declared.crossing.Crossing.{Crossing}
 use Rattle.lane_ends.specs.Ends.{AreRising}
-use Rattle.island_ends.specs.Room.{IsRoomFor}
+use Rattle.island_ends.specs.Room.{IsRoomForEnds}
 use Rattle.island_plans.specs.Ends.{AreEndHomes}
 use Rattle.island_plans.specs.Homes.{AreNumberedHomes}
 use Rattle.island_body.specs.Keeping.{is_pending, BodyKeeps, BodyGoes, BodyBreaks}
 use Rattle.island_body.specs.Meeting.{BodiesMayMeet, BodiesJoined}
 use Rattle.island_body.specs.declared.body.Body.{Body}
 use Rattle.bodies_run.specs.Bodies.{AreBodiesOf}
-use Rattle.bodies_run.specs.Begun.{AreNumbered, AreAligned}
+use Rattle.bodies_run.specs.Begun.{AreNumberedBodies, AreAligned}
 use Rattle.materializer.specs.Graphs.{graph_of, chains_of}
 use Rattle.materializer.specs.Seats.{AreSeats, place_seat}
 use Rattle.switch_board.specs.Board.{IsBoard, AreAtSwitches}
@@ -43,7 +43,7 @@ module _ {S D L B : Type 0} (sources : S → SourceState) (drains : D → DrainS
     pub nodes : List (Seated S D L B)
     pub seats : AreSeats (chains_of b) 0 b.nodes.items ss ds nodes
     pub bodies_are : AreBodiesOf sources drains book (graph_of b) homes count (blueprint_wires b) nodes crossings bodies
-    pub numbered : AreNumbered homes (blueprint_wires b) nodes bodies
+    pub numbered : AreNumberedBodies homes (blueprint_wires b) nodes bodies
     pub unspent : AllOf (λ (x : Body S D L B). x.spent ≡ 0) bodies
     pub meet : AreCrossings BodiesMayMeet bodies crossings
     pub lanes_are : r.lanes.items ≡ lanes_from homes 0 (blueprint_wires b)
@@ -51,7 +51,7 @@ module _ {S D L B : Type 0} (sources : S → SourceState) (drains : D → DrainS
     pub many : length crossings ≡ length r.lanes.items
     pub aligned : AreAligned r.lanes.items crossings bodies
     pub homes_are : AreEndHomes homes b.nodes.items (blueprint_wires b) r.homes
-    pub room : IsRoomFor r.homes count r.room
+    pub room : IsRoomForEnds r.homes count r.room
     pub none_ended : r.ends.items ≡ []
     pub room_to_end : count ≤ vec_capacity r.ends
     pub none_asked : r.asked.items ≡ []

@@ -15,7 +15,7 @@ use Rattle.interpreter.specs.Parts.{AllBecome}
 use Rattle.interpreter.specs.Picks.{pick_of, picks_of}
 use Rattle.interpreter.specs.Island.{sinks_of, readers_of, writers_of}
 use Rattle.run_account.specs.Account.{Account, IsStill}
-use Rattle.run_account.specs.Pictures.{counts_of}
+use Rattle.run_account.specs.Pictures.{picture_counts}
 use Rattle.run_outlook_laws.specs.Runs.{IsRun}
 use Rattle.run_outlook_laws.specs.Telling.{AreSettled}
 use Rattle.materializer.specs.Graphs.{graph_of, chains_of}
@@ -42,7 +42,7 @@ pub record Moment {S D L B : Type 0} (sources : S → SourceState) (drains : D �
 -- seats of its valves and trips were settled.
 -- At least so many were used as elements were pushed, and one less at least for each wire than its part of the count over what was
 -- sent.
-pub record Leaves {S D : Type 0} (L B : Type 0) (sources : S → SourceState) (drains : D → DrainState) (book : Book) (b : Blueprint) (ss : List S) (ds : List D) (budget : ℕ) (s : Stopped S D) : Type 0 where
+pub record RunLeaves {S D : Type 0} (L B : Type 0) (sources : S → SourceState) (drains : D → DrainState) (book : Book) (b : Blueprint) (ss : List S) (ds : List D) (budget : ℕ) (s : Stopped S D) : Type 0 where
   pub account : Account (IslandNode S D L B)
   pub nodes : List (IslandNode S D L B)
   pub moment : Moment sources drains book b ss ds account nodes
@@ -50,13 +50,13 @@ pub record Leaves {S D : Type 0} (L B : Type 0) (sources : S → SourceState) (d
   pub settled : AreSettled (graph_of b) account
   pub sinks : s.end.sinks.items ≡ sinks_of nodes
   pub picks : map pick_of s.end.picks.items ≡ picks_of (count_from 0 (length nodes)) nodes
-  pub wires : s.wires.items ≡ counts_of account (graph_of b)
+  pub wires : s.wires.items ≡ picture_counts account (graph_of b)
   pub readers : s.end.readers.items ≡ readers_of nodes
   pub writers : s.end.writers.items ≡ writers_of nodes
   pub within : s.used ≤ budget
   pub spent : s.at_rest ≡ false → s.used ≡ budget
-  pub least : all_sent (counts_of account (graph_of b)) ≤ s.used
-  pub most : s.used + length (blueprint_wires b) ≤ count_needed (graph_of b) (counts_of account (graph_of b))
+  pub least : all_sent (picture_counts account (graph_of b)) ≤ s.used
+  pub most : s.used + length (blueprint_wires b) ≤ count_needed (graph_of b) (picture_counts account (graph_of b))
 
 -- The run is one in which memory was wanting, and was taken apart. Since a last moment between two events each of its nodes has kept
 -- what outlives that.

@@ -15,8 +15,8 @@ pub record IsPrepared {S D L B : Type 0} (p : Prepared S D L B) : Type 0 where
   pub room_to_start : p.plans.count ≤ vec_capacity p.started
   pub none_unmade : p.unmade.items ≡ []
   pub room_to_unmake : p.plans.count ≤ vec_capacity p.unmade
-  pub bodies_room : bodies.IsRoomFor p.plans.ends.wires.items p.plans.lanes.items p.plans.count p.bodies
-  pub ends_room : ends.IsRoomFor p.plans.ends p.plans.count p.room
+  pub bodies_room : bodies.IsRoomForBodies p.plans.ends.wires.items p.plans.lanes.items p.plans.count p.bodies
+  pub ends_room : ends.IsRoomForEnds p.plans.ends p.plans.count p.room
   pub none_asked : p.asked.items ≡ []
   pub room_to_ask : length p.plans.lanes.items ≤ vec_capacity p.asked
   pub none_counted : p.counts.items ≡ []

@@ -5,7 +5,7 @@ ghost use Rattle.blue_core.specs.declared.blueprint.Blueprint as plan;
 ghost use Rattle.island_body.specs.declared.body.Body as island;
 ghost use Rattle.materializer.specs.Files.{inputs_of_nodes, outputs_of_nodes};
 ghost use Rattle.island_runs.specs.Begun.{HaveBegun, HaveRun, HaveBroken};
-ghost use Rattle.island_runs.specs.Leaving.{HasHandles, Leaves, LeavesBroken, LeavesBrokenAs};
+ghost use Rattle.island_runs.specs.Leaving.{HasHandles, RunLeaves, LeavesBroken, LeavesBrokenAs};
 ghost use Rattle.island_runs.specs.Prepared.{IsPrepared};
 ghost use Rattle.island_runs.specs.Receipt.{HasIslands, IsReceipt};
 
@@ -166,7 +166,7 @@ fn stop<S: Source, D: Drain, L: Logic, B: PlugBook>(
     ran: Ran,
 ) -> Stopped<S, D>
     requires { (b : plan.Blueprint) × ((ss : List S) × ((ds : List D) × ((begun : List (island.Body S D L B)) × ((budget : ℕ) × HaveRun S.state D.state B.lists b ss ds begun bodies.items crossings.now remains budget used at_rest)))) }
-    ensures leaves { (b : plan.Blueprint) (ss : List S) (ds : List D) (begun : List (island.Body S D L B)) (budget : ℕ) → HaveRun S.state D.state B.lists b ss ds begun bodies.items crossings.now remains budget used at_rest → Leaves L B S.state D.state B.lists b ss ds budget result }
+    ensures leaves { (b : plan.Blueprint) (ss : List S) (ds : List D) (begun : List (island.Body S D L B)) (budget : ℕ) → HaveRun S.state D.state B.lists b ss ds begun bodies.items crossings.now remains budget used at_rest → RunLeaves L B S.state D.state B.lists b ss ds budget result }
     ensures same { (result.used ≡ used) × (result.at_rest ≡ at_rest) × (result.ran ≡ ran) }
 {
     ends_stay_at_their_crossings::<S, D, L, B>();
@@ -260,7 +260,7 @@ fn run_bodies<
     requires workers { (0 < workers) × (workers ≤ 64) }
     requires budget { budget ≤ MOST_COUNT }
     requires begun { (b : plan.Blueprint) × ((ss : List S) × ((ds : List D) × HaveBegun S.state D.state B.lists b ss ds begun.bodies.items begun.crossings.items begun.remains)) }
-    ensures leaves { (b : plan.Blueprint) (ss : List S) (ds : List D) → HaveBegun S.state D.state B.lists b ss ds begun.bodies.items begun.crossings.items begun.remains → IfOk result (λ stopped. Leaves L B S.state D.state B.lists b ss ds budget stopped) }
+    ensures leaves { (b : plan.Blueprint) (ss : List S) (ds : List D) → HaveBegun S.state D.state B.lists b ss ds begun.bodies.items begun.crossings.items begun.remains → IfOk result (λ stopped. RunLeaves L B S.state D.state B.lists b ss ds budget stopped) }
     ensures receipt { (b : plan.Blueprint) (ss : List S) (ds : List D) → HaveBegun S.state D.state B.lists b ss ds begun.bodies.items begun.crossings.items begun.remains → IfOk result (λ stopped. IsReceipt b workers stopped.used stopped.at_rest stopped.ran) }
     ensures breaks { (b : plan.Blueprint) (ss : List S) (ds : List D) → HaveBegun S.state D.state B.lists b ss ds begun.bodies.items begun.crossings.items begun.remains → IfErr result (LeavesBroken L B S.state D.state B.lists b ss ds) }
 {
@@ -307,7 +307,7 @@ pub fn run<
     requires sources { vec_len sources ≡ length (inputs_of_nodes prepared.plans.blueprint.value.nodes.items) }
     requires drains { vec_len drains ≡ length (outputs_of_nodes prepared.plans.blueprint.value.nodes.items) }
     requires unread { All (λ s. (S.state s).given ≡ 0) sources.items }
-    ensures leaves { IfOk result (λ stopped. Leaves L B S.state D.state B.lists prepared.plans.blueprint.value sources.items drains.items budget stopped) }
+    ensures leaves { IfOk result (λ stopped. RunLeaves L B S.state D.state B.lists prepared.plans.blueprint.value sources.items drains.items budget stopped) }
     ensures receipt { IfOk result (λ stopped. IsReceipt prepared.plans.blueprint.value workers stopped.used stopped.at_rest stopped.ran) }
     ensures breaks { IfErr result (λ broken. LeavesBrokenAs L B S.state D.state B.lists prepared.plans.blueprint.value sources.items drains.items broken) }
 {

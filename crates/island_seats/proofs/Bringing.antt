@@ -2,7 +2,7 @@
 use Rattle.std.proofs.Common.{◌≡◌, ℕ, zero, suc, ◌+◌, ◌<◌, ◌≤◌, Bool, true, false, cond, ◌==◌, List, [], ◌∷◌, ◌++◌, length, take, Some, refl, ap, sym, ◌∙◌, subst, ⊎_elim, ◌⊎◌, inl, inr, arith}
 use Rattle.std.specs.Prelude.{slice_get, slice_index}
 use Rattle.std.proofs.lemmas.Bool.{cases_Bool, eq-eqb, eqb-true}
-use Rattle.scatter.specs.Shares.{of_home, count_of}
+use Rattle.scatter.specs.Shares.{of_home, share_of}
 use Rattle.scatter.proofs.Sharing.{count_here, elsewhere, share_at, share_one}
 use Rattle.island_parts.proofs.Wiring.{there}
 
@@ -45,11 +45,11 @@ pub record IsWhole {X : Type 0} (hs : List ℕ) (count : ℕ) (lists : ℕ → L
   pub each : length all ≡ length hs
   pub shares : (k : ℕ) → k < count → of_home hs k all ≡ lists k
 
-pub bring : {X : Type 0} (hs : List ℕ) (count : ℕ) (lists : ℕ → List X) → AreBelow count hs → ((k : ℕ) → k < count → length (lists k) ≡ count_of k hs) → (all : List X) × IsWhole hs count lists all
+pub bring : {X : Type 0} (hs : List ℕ) (count : ℕ) (lists : ℕ → List X) → AreBelow count hs → ((k : ℕ) → k < count → length (lists k) ≡ share_of k hs) → (all : List X) × IsWhole hs count lists all
 bring [] count lists below counts = ([], record { each = refl; shares = λ k lt. sym (none (lists k) (counts k lt)) })
 bring {X = X} (h ∷ hs) count lists below counts =
-    let first = begins (lists h) (count_of h hs) (counts h (first_below count h hs below) ∙ count_here h h hs (eq-eqb h h refl)) in
-    let rest = bring hs count (λ k. cond (h == k) (tail_of (lists k)) (lists k)) (rest_below count h hs below) (λ k lt. fewer (h == k) (lists k) (count_of k hs) (counts k lt)) in (
+    let first = begins (lists h) (share_of h hs) (counts h (first_below count h hs below) ∙ count_here h h hs (eq-eqb h h refl)) in
+    let rest = bring hs count (λ k. cond (h == k) (tail_of (lists k)) (lists k)) (rest_below count h hs below) (λ k lt. fewer (h == k) (lists k) (share_of k hs) (counts k lt)) in (
       first.0 ∷ rest.0,
       record {
         each = ap suc rest.1.each;
@@ -58,10 +58,10 @@ bring {X = X} (h ∷ hs) count lists below counts =
     )
 
 -- each item stands in the list of its home, at its rank
-pub whole_at : {X : Type 0} (hs : List ℕ) (count : ℕ) (lists : ℕ → List X) (all : List X) (i h : ℕ) → IsWhole hs count lists all → slice_get hs i ≡ Some h → i < length hs → h < count → slice_get all i ≡ slice_get (lists h) (count_of h (take i hs))
+pub whole_at : {X : Type 0} (hs : List ℕ) (count : ℕ) (lists : ℕ → List X) (all : List X) (i h : ℕ) → IsWhole hs count lists all → slice_get hs i ≡ Some h → i < length hs → h < count → slice_get all i ≡ slice_get (lists h) (share_of h (take i hs))
 whole_at hs count lists all i h w home lt below =
     let x = there all i (omega (arith, lt, w.each)) in
-    x.1 ∙ sym (share_at hs all i h x.0 x.1 home) ∙ ap (λ l. slice_get l (count_of h (take i hs))) (w.shares h below)
+    x.1 ∙ sym (share_at hs all i h x.0 x.1 home) ∙ ap (λ l. slice_get l (share_of h (take i hs))) (w.shares h below)
 
 -- ---- and no other
 

@@ -7,7 +7,7 @@ use Rattle.stream_model.specs.Graph.{Graph, Edge}
 use Rattle.stream_model.specs.Graph as graph
 use Rattle.fused_net.specs.declared.net.WireEnds.{WireEnds}
 use Rattle.fused_net.specs.PortLists.{PortLists}
-use Rattle.fused_net.specs.Laws.{Wired, GoesOn}
+use Rattle.fused_net.specs.Laws.{Wired, NetGoesOn}
 use Rattle.fused_net.specs.Net.{Net, end_at, ports_at}
 use Rattle.nodes.specs.declared.node.IslandNode.{IslandNode}
 use Rattle.interpreter.specs.declared.parts.Link.{Link}
@@ -15,11 +15,11 @@ use Rattle.interpreter.specs.declared.parts.Seated.{Seated}
 use Rattle.interpreter.specs.Parts.{ends_of, inputs_at, outputs_at, IsWiring, AllBecome}
 use Rattle.run_account.specs.Seats.{Covers}
 use Rattle.run_account.specs.Units.{Owned}
-use Rattle.scatter.specs.Shares.{rank_of, count_of}
+use Rattle.scatter.specs.Shares.{rank_of, share_of}
 use Rattle.island_parts.specs.Whole.{lanes_in, whole_links, local_link, own_links}
 use Rattle.island_parts.proofs.Wiring.{there, end_get, into, AtOutput, AtEntry, out_side}
 use Rattle.island_parts.proofs.Restricting.{mine_from, inputs_by, outputs_by}
-use Rattle.island_seats.specs.Islands.{place_homes, link_homes, link_place, far_link, seats_of, seats_in, AreSeated, IsGraphOf, AreNets}
+use Rattle.island_seats.specs.Islands.{place_homes, link_homes, link_place, far_link, seats_by_islands, seats_in, AreSeated, IsGraphOf, AreNets}
 use Rattle.island_seats.proofs.Ports.{ins_count, outs_count}
 use Rattle.island_seats.proofs.Becoming.{become_count}
 use Rattle.island_seats.proofs.Standing.{size, far_is, from_node, to_node, parts, one_island, home_below, same_home, rank_within, seats_in_count, seat_at, stands, mine_place, entry_number, near_there, far_there}
@@ -28,7 +28,7 @@ use Rattle.island_seats.proofs.Standing.{size, far_is, from_node, to_node, parts
 wired_as : (es fs : List WireEnds) (ps qs : List PortLists) (n m w v : ℕ) → fs ≡ es → qs ≡ ps → m ≡ n → v ≡ w → Wired es ps n w → Wired fs qs m v
 wired_as es fs ps qs n m w v a b c d h = subst (λ x. Wired x qs m v) (sym a) (subst (λ x. Wired es x m v) (sym b) (subst (λ x. Wired es ps x v) (sym c) (subst (λ x. Wired es ps n x) (sym d) h)))
 
-pub go_on : {S D L B : Type 0} (homes : List ℕ) (count : ℕ) (ws : List Edge) (nodes : List (Seated S D L B)) (nets later : ℕ → Net (IslandNode S D L B)) → AreNets homes ws nodes count nets → ((k : ℕ) → k < count → GoesOn (nets k) (later k)) → AreNets homes ws nodes count later
+pub go_on : {S D L B : Type 0} (homes : List ℕ) (count : ℕ) (ws : List Edge) (nodes : List (Seated S D L B)) (nets later : ℕ → Net (IslandNode S D L B)) → AreNets homes ws nodes count nets → ((k : ℕ) → k < count → NetGoesOn (nets k) (later k)) → AreNets homes ws nodes count later
 go_on homes count ws nodes nets later b on = record {
   become = λ k lt. subst (AllBecome (seats_in homes ws nodes k)) (sym (on k lt).firsts) (b.become k lt);
   ends_are = λ k lt. (on k lt).ends ∙ b.ends_are k lt;
@@ -37,10 +37,10 @@ go_on homes count ws nodes nets later b on = record {
 }
 
 module _ {S D L B : Type 0} (homes : List ℕ) (count : ℕ) (ws : List Edge) (nodes : List (Seated S D L B)) (nets : ℕ → Net (IslandNode S D L B)) (a : AreSeated homes count ws nodes) (b : AreNets homes ws nodes count nets) where
-  pub firsts_count : (k : ℕ) → k < count → length (nets k).firsts ≡ count_of k (place_homes homes ws)
+  pub firsts_count : (k : ℕ) → k < count → length (nets k).firsts ≡ share_of k (place_homes homes ws)
   firsts_count k lt = become_count (seats_in homes ws nodes k) (nets k).firsts (b.become k lt) ∙ seats_in_count homes count ws nodes a k
 
-  pub nodes_count : (k : ℕ) → k < count → length (nets k).nodes ≡ count_of k (place_homes homes ws)
+  pub nodes_count : (k : ℕ) → k < count → length (nets k).nodes ≡ share_of k (place_homes homes ws)
   nodes_count k lt = sym (b.each_first k lt) ∙ firsts_count k lt
 
   abbrev own : ℕ → List Link
@@ -113,7 +113,7 @@ module _ {S D L B : Type 0} (homes : List ℕ) (count : ℕ) (ws : List Edge) (n
     wire : (u : ℕ) (v : Edge) → slice_get g.wires u ≡ Some v → slice_get ws u ≡ Some v
     wire u v at = ap (λ vs. slice_get vs u) (sym i.wires_are) ∙ at
 
-    pub covers : Covers g nets (seats_of homes ws)
+    pub covers : Covers g nets (seats_by_islands homes ws)
     covers = record {
       node_within = λ k n at. let s = seated k n at in node_in k s.0 s.1;
       ins = λ k n at. let s = seated k n at in node_ins k s.0 s.1 ∙ i.ins_are k n at;
@@ -138,7 +138,7 @@ module _ {S D L B : Type 0} (homes : List ℕ) (count : ℕ) (ws : List Edge) (n
     -- ---- and no other connection
 
     abbrev Owns : ℕ → ℕ → Type 0
-    Owns k q = (u : ℕ) × ((v : Edge) × ((slice_get g.wires u ≡ Some v) × (((seats_of homes ws).near u ≡ record { island = k; at = q }) ⊎ ((seats_of homes ws).far u ≡ record { island = k; at = q }))))
+    Owns k q = (u : ℕ) × ((v : Edge) × ((slice_get g.wires u ≡ Some v) × (((seats_by_islands homes ws).near u ≡ record { island = k; at = q }) ⊎ ((seats_by_islands homes ws).far u ≡ record { island = k; at = q }))))
 
     graph_wire : (u : ℕ) (v : Edge) → slice_get ws u ≡ Some v → slice_get g.wires u ≡ Some v
     graph_wire u v at = ap (λ vs. slice_get vs u) i.wires_are ∙ at
@@ -155,5 +155,5 @@ module _ {S D L B : Type 0} (homes : List ℕ) (count : ℕ) (ws : List Edge) (n
         (e.lane.at, (e.lane.wire, (graph_wire e.lane.at e.lane.wire e.lane.is, inr (ap (link_place homes ws) number ∙ place)))))
         (out_side (length homes) ws m.at m.link m.is)
 
-    pub owned : Owned g nets (seats_of homes ws) count
+    pub owned : Owned g nets (seats_by_islands homes ws) count
     owned = record { owner = owner }

@@ -11,7 +11,7 @@ use Rattle.nodes.specs.declared.node.IslandNode.{IslandNode}
 use Rattle.interpreter.specs.declared.parts.Seated.{Seated}
 use Rattle.interpreter.specs.Parts.{Becomes, AllBecome}
 use Rattle.traversal.specs.Plan.{lanes_from}
-use Rattle.scatter.specs.Shares.{of_home, rank_of, count_of}
+use Rattle.scatter.specs.Shares.{of_home, rank_of, share_of}
 use Rattle.scatter.proofs.Sharing.{share_map}
 use Rattle.island_parts.specs.Whole.{whole_seats, in_seat, out_seat}
 use Rattle.island_parts.proofs.Restricting.{home_at}
@@ -25,7 +25,7 @@ module _ {S D L B : Type 0} (homes : List ℕ) (count : ℕ) (ws : List Edge) (n
   homes_below i lt = All-get_or (λ h. h < count) (place_homes homes ws) i 0 lt (all_below homes count ws nodes a)
 
   module _ {X : Type 0} (lists : ℕ → List X) where
-    pub back : ((k : ℕ) → k < count → length (lists k) ≡ count_of k (place_homes homes ws)) → (all : List X) × ((ends : List X) × AreBroughtBack homes count ws lists all ends)
+    pub back : ((k : ℕ) → k < count → length (lists k) ≡ share_of k (place_homes homes ws)) → (all : List X) × ((ends : List X) × AreBroughtBack homes count ws lists all ends)
     back counts =
         let w = bring (place_homes homes ws) count lists homes_below counts in
         let many = places_count homes count ws nodes a in

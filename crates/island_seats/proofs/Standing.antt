@@ -13,7 +13,7 @@ use Rattle.interpreter.specs.declared.parts.Seated.{Seated}
 use Rattle.interpreter.specs.Parts.{inputs_at, outputs_at, IsWiring, AreParts}
 use Rattle.run_account.specs.Units.{lane_at}
 use Rattle.traversal.specs.Plan.{lanes_from}
-use Rattle.scatter.specs.Shares.{of_home, rank_of, count_of}
+use Rattle.scatter.specs.Shares.{of_home, rank_of, share_of}
 use Rattle.scatter.proofs.Sharing.{share_count, share_at}
 use Rattle.island_parts.specs.Whole.{lanes_in, near_at, whole_links, whole_seats, link_home, local_link, own_links}
 use Rattle.island_parts.proofs.Wiring.{there, into, AtEntry, near_link, input_link as link_into}
@@ -90,13 +90,13 @@ module _ {S D L B : Type 0} (homes : List ℕ) (count : ℕ) (ws : List Edge) (n
   pub place_at : (k : ℕ) → k < length homes → slice_get hs k ≡ Some (slice_index homes k)
   place_at k lt = home_at hs k (slice_index homes k) (omega (arith, lt, places_count)) (same_home k lt)
 
-  pub place_rank : (k : ℕ) → k < length homes → rank_of hs k ≡ count_of (slice_index homes k) (take k hs)
+  pub place_rank : (k : ℕ) → k < length homes → rank_of hs k ≡ share_of (slice_index homes k) (take k hs)
   place_rank k lt = rank_is hs k (slice_index homes k) (same_home k lt)
 
-  pub rank_within : (k : ℕ) → k < length homes → rank_of hs k < count_of (slice_index homes k) hs
+  pub rank_within : (k : ℕ) → k < length homes → rank_of hs k < share_of (slice_index homes k) hs
   rank_within k lt = let e = place_rank k lt in let b = rank_below hs k (slice_index homes k) (place_at k lt) in omega (arith, e, b)
 
-  pub seats_in_count : (k : ℕ) → length (of_home hs k seats) ≡ count_of k hs
+  pub seats_in_count : (k : ℕ) → length (of_home hs k seats) ≡ share_of k hs
   seats_in_count k = share_count hs seats k all_seats
 
   -- what stands at the place of a node
@@ -118,7 +118,7 @@ module _ {S D L B : Type 0} (homes : List ℕ) (count : ℕ) (ws : List Edge) (n
   pub link_to_within : (p : ℕ) (l : Link) → slice_get links p ≡ Some l → l.to < length hs
   link_to_within p l at = let w = ends_within (length homes) ws from_node to_node p l at in omega (arith, w.1, places_count)
 
-  pub links_in_count : (k : ℕ) → length (own_links hs links k) ≡ count_of k lhs
+  pub links_in_count : (k : ℕ) → length (own_links hs links k) ≡ share_of k lhs
   links_in_count k = share_count lhs (map (local_link hs) links) k (length-map links (local_link hs) ∙ sym (length-map links (link_home hs)))
 
   -- a link stands in the island of its output
@@ -136,7 +136,7 @@ module _ {S D L B : Type 0} (homes : List ℕ) (count : ℕ) (ws : List Edge) (n
   pub mine_place : (k q : ℕ) (l : Link) (m : IsMine hs links k q l) → link_place homes ws m.at ≡ record { island = k; at = q }
   mine_place k q l m =
       let home : slice_index lhs m.at ≡ k = (stands m.at m.link m.is).island ∙ m.home in
-      let rank : rank_of lhs m.at ≡ q = ap (λ h. count_of h (take m.at lhs)) home ∙ m.rank in
+      let rank : rank_of lhs m.at ≡ q = ap (λ h. share_of h (take m.at lhs)) home ∙ m.rank in
       ap (λ j. record { island = j; at = rank_of lhs m.at }) home ∙ ap (λ j. record { island = k; at = j }) rank
 
   -- ---- the links of a wire

@@ -12,7 +12,7 @@ use Rattle.interpreter.specs.Parts.{inputs_at, outputs_at, ends_of, AllBecome}
 use Rattle.interpreter.specs.Ways.{comes_in, goes_out}
 use Rattle.interpreter.specs.declared.parts.Link.{Link}
 use Rattle.interpreter.specs.declared.parts.Seated.{Seated}
-use Rattle.run_account.specs.Seats.{Place, Seats}
+use Rattle.run_account.specs.Seats.{IslandPlace, Seats}
 use Rattle.run_account.specs.Units.{lane_at}
 use Rattle.traversal.specs.Plan.{lanes_from}
 use Rattle.scatter.specs.Shares.{of_home, rank_of}
@@ -27,7 +27,7 @@ abbrev pub link_homes : List ℕ → List Edge → List ℕ
 link_homes homes ws = map (link_home (place_homes homes ws)) (whole_links (length homes) ws)
 
 -- the island of link p of all, and its place among the links of that island
-abbrev pub link_place : List ℕ → List Edge → ℕ → Place
+abbrev pub link_place : List ℕ → List Edge → ℕ → IslandPlace
 link_place homes ws p = record { island = slice_index (link_homes homes ws) p; at = rank_of (link_homes homes ws) p }
 
 -- of two links the one at the input of a wire: only a lane has two
@@ -41,8 +41,8 @@ far_link ws u = input_link u (length ws + lanes_in (take u ws)) (lane_at ws u)
 
 -- Each node stands in its island, behind those places of it that come before; and so do the connections of each wire, of which link u
 -- of all is the one at the output of wire u.
-abbrev pub seats_of : List ℕ → List Edge → Seats
-seats_of homes ws = record {
+abbrev pub seats_by_islands : List ℕ → List Edge → Seats
+seats_by_islands homes ws = record {
   node = λ k. record { island = slice_index homes k; at = rank_of (place_homes homes ws) k };
   near = link_place homes ws;
   far = λ u. link_place homes ws (far_link ws u);
@@ -79,13 +79,13 @@ module _ {S D L B : Type 0} (homes : List ℕ) (ws : List Edge) (nodes : List (S
     pub each_first : (k : ℕ) → k < count → length (nets k).firsts ≡ length (nets k).nodes
 
   -- at this place stands the link at which the lane that is wire u comes into its island, and at which it goes out
-  pub record IsWayIn (u : ℕ) (p : Place) : Type 0 where
+  pub record IsWayIn (u : ℕ) (p : IslandPlace) : Type 0 where
     pub link : Link
     pub at : slice_get (links_in p.island) p.at ≡ Some link
     pub wire : link.wire ≡ u
     pub comes : comes_in (seats_in p.island) link.from ≡ true
 
-  pub record IsWayOut (u : ℕ) (p : Place) : Type 0 where
+  pub record IsWayOut (u : ℕ) (p : IslandPlace) : Type 0 where
     pub link : Link
     pub at : slice_get (links_in p.island) p.at ≡ Some link
     pub wire : link.wire ≡ u
@@ -93,10 +93,10 @@ module _ {S D L B : Type 0} (homes : List ℕ) (ws : List Edge) (nodes : List (S
 
   -- a lane goes out at its connection in the island of its output, and comes in at that in the island of its input
   pub record HasWays (u : ℕ) (v : Edge) : Type 0 where
-    pub out : IsWayOut u ((seats_of homes ws).near u)
-    pub out_island : ((seats_of homes ws).near u).island ≡ slice_index homes v.from
-    pub inp : IsWayIn u ((seats_of homes ws).far u)
-    pub in_island : ((seats_of homes ws).far u).island ≡ slice_index homes v.to
+    pub out : IsWayOut u ((seats_by_islands homes ws).near u)
+    pub out_island : ((seats_by_islands homes ws).near u).island ≡ slice_index homes v.from
+    pub inp : IsWayIn u ((seats_by_islands homes ws).far u)
+    pub in_island : ((seats_by_islands homes ws).far u).island ≡ slice_index homes v.to
 
 -- the connection at place q of island k is the one at the output of wire u, which is a lane, or the one at its input
 pub record IsNearOf (homes : List ℕ) (ws : List Edge) (k q u : ℕ) : Type 0 where
@@ -104,14 +104,14 @@ pub record IsNearOf (homes : List ℕ) (ws : List Edge) (k q u : ℕ) : Type 0 w
   pub size : ℕ
   pub is : slice_get ws u ≡ Some wire
   pub lane : wire.lane ≡ Some size
-  pub place : (seats_of homes ws).near u ≡ record { island = k; at = q }
+  pub place : (seats_by_islands homes ws).near u ≡ record { island = k; at = q }
 
 pub record IsFarOf (homes : List ℕ) (ws : List Edge) (k q u : ℕ) : Type 0 where
   pub wire : Edge
   pub size : ℕ
   pub is : slice_get ws u ≡ Some wire
   pub lane : wire.lane ≡ Some size
-  pub place : (seats_of homes ws).far u ≡ record { island = k; at = q }
+  pub place : (seats_by_islands homes ws).far u ≡ record { island = k; at = q }
 
 -- Lists of so many islands, with an item for each of their places, are the shares of one list: `nodes` are the items of the nodes, in
 -- the order of the blueprint, and `ends` are those of the places at which lanes come in, and then go out.

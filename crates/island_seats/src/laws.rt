@@ -1,7 +1,7 @@
 // Laws of the islands of a blueprint and their nets: each function has no body, and its contract is the law.
 ghost use Rattle.std.specs.Prelude.{◌≡◌, ◌<◌, ◌++◌, true, false, ℕ, List, All, length, map, slice_get, slice_index, Some};
 ghost use Rattle.stream_model.specs.Graph.{Graph, Edge};
-ghost use Rattle.fused_net.specs.Laws.{GoesOn};
+ghost use Rattle.fused_net.specs.Laws.{NetGoesOn};
 ghost use Rattle.fused_net.specs.Net.{Net};
 ghost use Rattle.nodes.specs.declared.node.IslandNode.{IslandNode};
 ghost use Rattle.interpreter.specs.Parts.{AllBecome, Becomes};
@@ -11,9 +11,9 @@ ghost use Rattle.interpreter.specs.declared.parts.Seated.{Seated};
 ghost use Rattle.run_account.specs.Seats.{Covers};
 ghost use Rattle.run_account.specs.Units.{Owned};
 ghost use Rattle.traversal.specs.Plan.{lanes_from};
-ghost use Rattle.scatter.specs.Shares.{of_home, rank_of, count_of};
+ghost use Rattle.scatter.specs.Shares.{of_home, rank_of, share_of};
 ghost use Rattle.island_parts.specs.Whole.{in_seat, out_seat};
-ghost use Rattle.island_seats.specs.Islands.{place_homes, seats_of, seats_in, links_in, AreSeated, IsGraphOf, AreNets, HasWays, IsNearOf, IsFarOf, AreBroughtBack};
+ghost use Rattle.island_seats.specs.Islands.{place_homes, seats_by_islands, seats_in, links_in, AreSeated, IsGraphOf, AreNets, HasWays, IsNearOf, IsFarOf, AreBroughtBack};
 
 use plug_logic::book::PlugBook;
 use plug_logic::logic::Logic;
@@ -23,10 +23,10 @@ use stream_io::outside::{Drain, Source};
 /// that went on are nets of the same islands (`on`).
 pub fn islands_cover_their_blueprint<S: Source, D: Drain, L: Logic, B: PlugBook>()
     ensures covers { (g : Graph) (homes : List ℕ) (count : ℕ) (ws : List Edge) (nodes : List (Seated S D L B)) (nets : ℕ → Net (IslandNode S D L B)) → AreSeated homes count ws nodes → IsGraphOf g ws nodes → AreNets homes ws nodes count nets
-        → Covers g nets (seats_of homes ws) }
+        → Covers g nets (seats_by_islands homes ws) }
     ensures owned { (g : Graph) (homes : List ℕ) (count : ℕ) (ws : List Edge) (nodes : List (Seated S D L B)) (nets : ℕ → Net (IslandNode S D L B)) → AreSeated homes count ws nodes → IsGraphOf g ws nodes → AreNets homes ws nodes count nets
-        → Owned g nets (seats_of homes ws) count }
-    ensures on { (homes : List ℕ) (count : ℕ) (ws : List Edge) (nodes : List (Seated S D L B)) (nets : ℕ → Net (IslandNode S D L B)) (later : ℕ → Net (IslandNode S D L B)) → AreNets homes ws nodes count nets → ((k : ℕ) → k < count → GoesOn (nets k) (later k))
+        → Owned g nets (seats_by_islands homes ws) count }
+    ensures on { (homes : List ℕ) (count : ℕ) (ws : List Edge) (nodes : List (Seated S D L B)) (nets : ℕ → Net (IslandNode S D L B)) (later : ℕ → Net (IslandNode S D L B)) → AreNets homes ws nodes count nets → ((k : ℕ) → k < count → NetGoesOn (nets k) (later k))
         → AreNets homes ws nodes count later }
 {}
 
@@ -43,7 +43,7 @@ pub fn lanes_have_ways<S: Source, D: Drain, L: Logic, B: PlugBook>()
     ensures apart { (homes : List ℕ) (count : ℕ) (ws : List Edge) (nodes : List (Seated S D L B)) (k : ℕ) (q : ℕ) (l : Link) → AreSeated homes count ws nodes → slice_get (links_in homes ws nodes k) q ≡ Some l
         → comes_in (seats_in homes ws nodes k) l.from ≡ true → goes_out (seats_in homes ws nodes k) l.to ≡ false }
     ensures islands { (homes : List ℕ) (count : ℕ) (ws : List Edge) (nodes : List (Seated S D L B)) (u : ℕ) (v : Edge) → AreSeated homes count ws nodes → slice_get ws u ≡ Some v
-        → (((seats_of homes ws).near u).island < count) × (((seats_of homes ws).far u).island < count) }
+        → (((seats_by_islands homes ws).near u).island < count) × (((seats_by_islands homes ws).far u).island < count) }
 {}
 
 /// The islands of all places are islands of nodes (`below`), and the net of an island has a node for each place of it (`counts`).
@@ -53,7 +53,7 @@ pub fn lanes_have_ways<S: Source, D: Drain, L: Logic, B: PlugBook>()
 pub fn islands_hold_nodes<S: Source, D: Drain, L: Logic, B: PlugBook>()
     ensures below { (homes : List ℕ) (count : ℕ) (ws : List Edge) (nodes : List (Seated S D L B)) → AreSeated homes count ws nodes → All (λ h. h < count) (place_homes homes ws) }
     ensures counts { (homes : List ℕ) (count : ℕ) (ws : List Edge) (nodes : List (Seated S D L B)) (nets : ℕ → Net (IslandNode S D L B)) (k : ℕ) → AreSeated homes count ws nodes → AreNets homes ws nodes count nets → k < count
-        → (length (nets k).firsts ≡ count_of k (place_homes homes ws)) × (length (nets k).nodes ≡ count_of k (place_homes homes ws)) }
+        → (length (nets k).firsts ≡ share_of k (place_homes homes ws)) × (length (nets k).nodes ≡ share_of k (place_homes homes ws)) }
     ensures first { (homes : List ℕ) (count : ℕ) (ws : List Edge) (nodes : List (Seated S D L B)) (nets : ℕ → Net (IslandNode S D L B)) (k : ℕ) (s : Seated S D L B) → AreSeated homes count ws nodes → AreNets homes ws nodes count nets → slice_get nodes k ≡ Some s
         → (x : IslandNode S D L B) × ((slice_get (nets (slice_index homes k)).firsts (rank_of (place_homes homes ws) k) ≡ Some x) × Becomes s x) }
     ensures became { (homes : List ℕ) (count : ℕ) (ws : List Edge) (nodes : List (Seated S D L B)) (nets : ℕ → Net (IslandNode S D L B)) (all : List (IslandNode S D L B)) (ends : List (IslandNode S D L B)) → AreSeated homes count ws nodes → AreNets homes ws nodes count nets
@@ -65,7 +65,7 @@ pub fn islands_hold_nodes<S: Source, D: Drain, L: Logic, B: PlugBook>()
 /// Lists with an item for each place of the islands can be brought back into one (`back`), and into one alone (`one`).
 pub fn lists_come_back<S: Source, D: Drain, L: Logic, B: PlugBook, T>()
     ensures back { (homes : List ℕ) (count : ℕ) (ws : List Edge) (nodes : List (Seated S D L B)) (lists : ℕ → List T) → AreSeated homes count ws nodes
-        → ((k : ℕ) → k < count → length (lists k) ≡ count_of k (place_homes homes ws)) → (all : List T) × ((ends : List T) × AreBroughtBack homes count ws lists all ends) }
+        → ((k : ℕ) → k < count → length (lists k) ≡ share_of k (place_homes homes ws)) → (all : List T) × ((ends : List T) × AreBroughtBack homes count ws lists all ends) }
     ensures one { (homes : List ℕ) (count : ℕ) (ws : List Edge) (nodes : List (Seated S D L B)) (lists : ℕ → List T) (all : List T) (ends : List T) (xs : List T) → AreSeated homes count ws nodes → AreBroughtBack homes count ws lists all ends
         → length xs ≡ length (place_homes homes ws) → ((k : ℕ) → k < count → of_home (place_homes homes ws) k xs ≡ lists k) → xs ≡ all ++ ends }
 {}

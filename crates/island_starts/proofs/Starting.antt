@@ -8,7 +8,7 @@ use Rattle.interpreter.specs.declared.island.IslandEnd.{IslandEnd}
 use Rattle.interpreter.specs.declared.parts.Parts.{Parts}
 use Rattle.interpreter.specs.declared.room.IslandRoom.{IslandRoom}
 use Rattle.interpreter.specs.Island.{Kept}
-use Rattle.island_starts.specs.Starts.{AreOf, Adds, CanStart, CanAllStart, Leaves, HasStarted, AllGiveBack, GivesBack, TakenApart}
+use Rattle.island_starts.specs.Starts.{AreOf, Appends, CanStart, CanAllStart, IslandLeaves, HasStarted, AllGiveBack, GivesBack, TakenApart}
 
 -- the same by steps
 abbrev EachOf : {X Y : Type 0} → (X → Y → Type 0) → List X → List Y → Type 0
@@ -71,7 +71,7 @@ module _ {X Y : Type 0} (r : X → Y → Type 0) (all : List X) (old : List Y) w
     are = steps_append r g.done (x ∷ []) g.more (y ∷ []) g.are (h, tt);
   }
 
-  pub going_last : (rest : List X) (new : List Y) → Going rest new → rest ≡ [] → Adds r all old new
+  pub going_last : (rest : List X) (new : List Y) → Going rest new → rest ≡ [] → Appends r all old new
   going_last rest new g e = record {
     more = g.more;
     new_is = g.new_is;
@@ -79,7 +79,7 @@ module _ {X Y : Type 0} (r : X → Y → Type 0) (all : List X) (old : List Y) w
   }
 
 -- what was put into an empty list is all of it
-pub all_added : {X Y : Type 0} (r : X → Y → Type 0) (xs : List X) (old new : List Y) → old ≡ [] → Adds r xs old new → AreOf r xs new
+pub all_added : {X Y : Type 0} (r : X → Y → Type 0) (xs : List X) (old new : List Y) → old ≡ [] → Appends r xs old new → AreOf r xs new
 all_added r xs old new e a = subst (AreOf r xs) (sym (a.new_is ∙ ap (λ l. l ++ a.more) e)) a.are
 
 -- an iterator that gave one item has one less, and one that gives none is empty
@@ -110,7 +110,7 @@ module _ {S D L B : Type 0} where
     Started x i = HasStarted sources drains book x.0 i
 
     -- what an island that had started leaves has its handles as they were handed in
-    started_gives : (x : Parts S D L B × IslandRoom S D L B) (i : Kept S D L B) (e : IslandEnd S D) → HasStarted sources drains book x.0 i → Leaves i e → GivesBack sources drains x e
+    started_gives : (x : Parts S D L B × IslandRoom S D L B) (i : Kept S D L B) (e : IslandEnd S D) → HasStarted sources drains book x.0 i → IslandLeaves i e → GivesBack sources drains x e
     started_gives x i e s l = record { readers = ap (map sources) l.readers ∙ s.handles.readers; writers = ap (map drains) l.writers ∙ s.handles.writers }
 
     -- so all do, where the islands before one have started and that one has not
@@ -119,14 +119,14 @@ module _ {S D L B : Type 0} where
     all_apart all rest later x started end ends g e h t =
         let r = GivesBack sources drains in
         let here : EachOf Started g.done started = subst (EachOf Started g.done) (sym g.new_is) g.are in
-        let front : EachOf r g.done t.front = steps_joined Started Leaves r started_gives g.done started t.front here (by_steps Leaves started t.front t.front_are) in
+        let front : EachOf r g.done t.front = steps_joined Started IslandLeaves r started_gives g.done started t.front here (by_steps IslandLeaves started t.front t.front_are) in
         let behind : EachOf r (x ∷ later) (end ∷ t.behind) = (h, by_steps r later t.behind t.behind_are) in
         let both = by_places r (g.done ++ (x ∷ later)) (t.front ++ (end ∷ t.behind)) (steps_append r g.done (x ∷ later) t.front (end ∷ t.behind) front behind) in
         subst (λ l. AreOf r l ends) (sym (g.all_are ∙ ap (λ l. g.done ++ l) e)) (subst (AreOf r (g.done ++ (x ∷ later))) (sym t.all_are) both)
 
   module _ (sources : S → SourceState) (drains : D → DrainState) where
     -- an end between two others
-    pub apart_of : (started : List (Kept S D L B)) (end : IslandEnd S D) (rest : List (Parts S D L B × IslandRoom S D L B)) (none one two ends : List (IslandEnd S D)) → none ≡ [] → Adds Leaves started none one → two ≡ one ++ end ∷ [] → Adds (GivesBack sources drains) rest two ends
+    pub apart_of : (started : List (Kept S D L B)) (end : IslandEnd S D) (rest : List (Parts S D L B × IslandRoom S D L B)) (none one two ends : List (IslandEnd S D)) → none ≡ [] → Appends IslandLeaves started none one → two ≡ one ++ end ∷ [] → Appends (GivesBack sources drains) rest two ends
         → TakenApart sources drains started end rest ends
     apart_of started end rest none one two ends e a f b = record {
       front = a.more;

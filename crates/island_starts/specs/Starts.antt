@@ -8,8 +8,8 @@ use Rattle.interpreter.specs.declared.parts.Parts.{Parts}
 use Rattle.interpreter.specs.declared.room.IslandRoom.{IslandRoom}
 use Rattle.interpreter.specs.Boundary.{BeginsOut, EntersBy, LeavesBy}
 use Rattle.interpreter.specs.Handles.{HandsBack, HoldsHandles}
-use Rattle.interpreter.specs.Island.{Kept, Keeps, readers_of, writers_of}
-use Rattle.interpreter.specs.Parts.{AreParts, AllBecome, ends_of, number_of, place_of}
+use Rattle.interpreter.specs.Island.{Kept, IslandKeeps, readers_of, writers_of}
+use Rattle.interpreter.specs.Parts.{AreParts, AllBecome, ends_of, wire_number, seat_place}
 use Rattle.interpreter.specs.Picks.{node_number}
 use Rattle.interpreter.specs.Room.{IsRoom}
 use Rattle.interpreter.specs.Ways.{comes_in, goes_out}
@@ -21,7 +21,7 @@ pub record AreOf {X Y : Type 0} (r : X → Y → Type 0) (xs : List X) (ys : Lis
   pub each : (k : ℕ) (x : X) (y : Y) → slice_get xs k ≡ Some x → slice_get ys k ≡ Some y → r x y
 
 -- behind what stood in a list such ones were put
-pub record Adds {X Y : Type 0} (r : X → Y → Type 0) (xs : List X) (old new : List Y) : Type 0 where
+pub record Appends {X Y : Type 0} (r : X → Y → Type 0) (xs : List X) (old new : List Y) : Type 0 where
   pub more : List Y
   pub new_is : new ≡ old ++ more
   pub are : AreOf r xs more
@@ -30,13 +30,13 @@ module _ {S D L B : Type 0} where
   -- the parts of an island, and room for it
   pub record CanStart (x : Parts S D L B × IslandRoom S D L B) : Type 0 where
     pub parts : AreParts x.0.nodes.items x.0.links.items
-    pub room : IsRoom x.1 (map place_of x.0.nodes.items) x.0.links.items
+    pub room : IsRoom x.1 (map seat_place x.0.nodes.items) x.0.links.items
 
   abbrev pub CanAllStart : List (Parts S D L B × IslandRoom S D L B) → Type 0
   CanAllStart islands = (k : ℕ) (x : Parts S D L B × IslandRoom S D L B) → slice_get islands k ≡ Some x → CanStart x
 
   -- what an island leaves has the handles of its nodes
-  pub record Leaves (i : Kept S D L B) (e : IslandEnd S D) : Type 0 where
+  pub record IslandLeaves (i : Kept S D L B) (e : IslandEnd S D) : Type 0 where
     pub readers : e.readers.items ≡ readers_of i.net.nodes
     pub writers : e.writers.items ≡ writers_of i.net.nodes
 
@@ -46,10 +46,10 @@ module _ {S D L B : Type 0} where
     pub record HasStarted (parts : Parts S D L B) (i : Kept S D L B) : Type 0 where
       pub whole : i.broken ≡ false
       pub unused : i.used ≡ 0
-      pub laws : Keeps sources drains book i.net 0
+      pub laws : IslandKeeps sources drains book i.net 0
       pub firsts : AllBecome parts.nodes.items i.net.firsts
       pub ends : i.net.ends ≡ map ends_of parts.links.items
-      pub numbers : i.numbers ≡ map number_of parts.links.items
+      pub numbers : i.numbers ≡ map wire_number parts.links.items
       pub places : i.places ≡ map node_number parts.nodes.items
       pub enters : (q : ℕ) (l : Link) → slice_get parts.links.items q ≡ Some l → comes_in parts.nodes.items l.from ≡ true → EntersBy i l.wire q
       pub leaves : (q : ℕ) (l : Link) → slice_get parts.links.items q ≡ Some l → goes_out parts.nodes.items l.to ≡ true → LeavesBy i l.wire q
@@ -73,5 +73,5 @@ module _ {S D L B : Type 0} where
       pub front : List (IslandEnd S D)
       pub behind : List (IslandEnd S D)
       pub all_are : ends ≡ front ++ (end ∷ behind)
-      pub front_are : AreOf Leaves started front
+      pub front_are : AreOf IslandLeaves started front
       pub behind_are : AreOf GivesBack rest behind

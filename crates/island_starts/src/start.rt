@@ -1,7 +1,7 @@
 // The islands of a blueprint are started.
 ghost use Rattle.std.specs.Prelude.{◌≡◌, ◌≤◌, ◌+◌, [], length, IfOk, IfErr, vec_len, vec_capacity};
 ghost use Rattle.std.specs.Vec.Iter.{into_iter_items, into_iter_len};
-ghost use Rattle.island_starts.specs.Starts.{CanStart, CanAllStart, HasStarted, AllStarted, GivesBack, AllGiveBack, Leaves, Adds, TakenApart};
+ghost use Rattle.island_starts.specs.Starts.{CanStart, CanAllStart, HasStarted, AllStarted, GivesBack, AllGiveBack, IslandLeaves, Appends, TakenApart};
 
 use interpreter::island::{Island, IslandEnd, StartEnd, hand_back};
 use interpreter::parts::Parts;
@@ -83,7 +83,7 @@ fn finish_all<S: Source, D: Drain, L: Logic, B: PlugBook>(
     ends: &mut Vec<IslandEnd<S, D>>,
 )
     requires room { vec_len ends.old + vec_len islands ≤ vec_capacity ends.old }
-    ensures adds { Adds Leaves islands.items ends.old.items ends.new.items }
+    ensures adds { Appends IslandLeaves islands.items ends.old.items ends.new.items }
     ensures len { vec_len ends.new ≡ vec_len ends.old + vec_len islands }
     ensures room { vec_capacity ends.new ≡ vec_capacity ends.old }
 {
@@ -94,7 +94,7 @@ fn finish_all<S: Source, D: Drain, L: Logic, B: PlugBook>(
 
 // What an island leaves.
 fn finish<S: Source, D: Drain, L: Logic, B: PlugBook>(island: Island<S, D, L, B>) -> IslandEnd<S, D>
-    ensures { Leaves island result }
+    ensures { IslandLeaves island result }
 {
     match island.finish() {
         Ok(end) => end,
@@ -111,7 +111,7 @@ fn hand_all_back<S: Source, D: Drain, L: Logic, B: PlugBook>(
     requires can { CanAllStart (into_iter_items islands) }
     requires len { into_iter_len islands ≡ length (into_iter_items islands) }
     requires room { vec_len ends.old + into_iter_len islands ≤ vec_capacity ends.old }
-    ensures { Adds (GivesBack S.state D.state) (into_iter_items islands) ends.old.items ends.new.items }
+    ensures { Appends (GivesBack S.state D.state) (into_iter_items islands) ends.old.items ends.new.items }
 {
     let mut rest = islands;
     while let Some(next) = rest.next() {

@@ -15,9 +15,9 @@ impl TableRule<(), Known, u64> for OnceOrdered {
 }
 
 /// The load.
-pub struct Look;
+pub struct OrderLook;
 
-impl Play<(), Known> for Look {
+impl Play<(), Known> for OrderLook {
     ghost then = { looked };
 }
 
@@ -29,15 +29,15 @@ impl Play<(), Known> for Give {
 }
 
 /// A seat is split off, and put back.
-pub struct Deal;
+pub struct OrderDeal;
 
-impl Split<Known> for Deal {
+impl Split<Known> for OrderDeal {
     ghost left = { λ v. known (v.parts - 1) v.all v.gave v.knows v.looks };
 
     ghost right = { λ v. known 1 v.all [] [] 0 };
 }
 
-impl Join<Known> for Deal {
+impl Join<Known> for OrderDeal {
     ghost both = { λ v w. known (v.parts + w.parts) v.all (v.gave ++ w.gave) (v.knows ++ w.knows) (v.looks + w.looks) };
 
     ghost spent = { known 0 0 [] [] 0 };

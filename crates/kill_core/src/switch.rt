@@ -2,12 +2,12 @@
 ghost use Rattle.std.specs.Prelude.{◌≡◌, ◌≢◌, ◌+◌, ◌<◌, ◌≤◌, [], ◌∷◌, Some, None, IfOk, IfSome, IfNone, vec_len, vec_capacity, length, map};
 ghost use Rattle.std.specs.List.{All};
 ghost use Rattle.kill_core.specs.declared.order.Order.TheVariants.{Shutdown, Abort};
-ghost use Rattle.kill_core.specs.Rule.{known, code, orders_at, first_of, Gives};
-ghost use Rattle.kill_core.specs.Public.{IsSeatOf, IsNewSeat, Answers, GaveIt, Gathers};
+ghost use Rattle.kill_core.specs.Rule.{known, code, orders_at, first_order, GivesOrder};
+ghost use Rattle.kill_core.specs.Public.{IsSeatOf, IsNewSeat, AnswersOrder, GaveIt, Gathers};
 
 use crate::known::Known;
 use crate::order::Order;
-use crate::rule::{Deal, Give, Look, OnceOrdered};
+use crate::rule::{OrderDeal, Give, OrderLook, OnceOrdered};
 use crate::seat::SwitchSeat;
 use atomic_table::{Seat, Table};
 use std::alloc::{AllocError, Global};
@@ -60,7 +60,7 @@ impl Switch {
         ensures { (vec_len result ≡ count) × All (IsNewSeat self.now) result.items }
     {
         for _ in 1..count {
-            let other = self.table.shared.split_seat::<Deal>(&mut first);
+            let other = self.table.shared.split_seat::<OrderDeal>(&mut first);
             seats.push_reserved(SwitchSeat { seat: other });
         }
         seats.push_reserved(SwitchSeat { seat: first });
@@ -71,7 +71,7 @@ impl Switch {
     /// this seat gave it. One step; it waits for nobody.
     pub fn shutdown(&self, seat: &mut SwitchSeat) -> Order
         requires { IsSeatOf self.now seat.old }
-        ensures { Answers Shutdown result seat.old seat.new }
+        ensures { AnswersOrder Shutdown result seat.old seat.new }
     {
         self.give(&mut seat.seat, Order::Shutdown)
     }
@@ -79,7 +79,7 @@ impl Switch {
     /// Orders an abort, unless an order stands, and answers as `shutdown` does. One step; it waits for nobody.
     pub fn abort(&self, seat: &mut SwitchSeat) -> Order
         requires { IsSeatOf self.now seat.old }
-        ensures { Answers Abort result seat.old seat.new }
+        ensures { AnswersOrder Abort result seat.old seat.new }
     {
         self.give(&mut seat.seat, Order::Abort)
     }
@@ -87,7 +87,7 @@ impl Switch {
     /// Exchanges no order for this one.
     fn give(&self, seat: &mut Seat<(), Known>, order: Order) -> Order
         requires { (seat.old.table_id ≡ self.now.id) × (1 ≤ seat.old.me.0.parts) }
-        ensures { (seat.new.table_id ≡ seat.old.table_id) × Gives order result seat.old.me seat.new.me }
+        ensures { (seat.new.table_id ≡ seat.old.table_id) × GivesOrder order result seat.old.me seat.new.me }
     {
         let found = self
             .table
@@ -106,7 +106,7 @@ impl Switch {
         ensures found { seat.new.knows ≡ result }
         ensures one { IfSome seat.old.knows (λ o. result ≡ Some o) }
     {
-        order_at(self.table.shared.load::<Look>(&mut seat.seat, 0))
+        order_at(self.table.shared.load::<OrderLook>(&mut seat.seat, 0))
     }
 
     /// The order that stands, if one does, once all seats are put together: each order that one of them knew is this one, and one of
@@ -119,7 +119,7 @@ impl Switch {
         ensures given { IfSome result (λ o. GaveIt o seats.items) }
     {
         let mut all = self.gather(seats);
-        order_at(self.table.shared.load::<Look>(&mut all, 0))
+        order_at(self.table.shared.load::<OrderLook>(&mut all, 0))
     }
 
     /// All these seats as one.
@@ -133,7 +133,7 @@ impl Switch {
         while let Some(seat) = seats.pop() {
             self.table
                 .shared
-                .join_seat::<Deal>(&mut all, seat.into_seat());
+                .join_seat::<OrderDeal>(&mut all, seat.into_seat());
         }
         all
     }
@@ -152,7 +152,7 @@ fn number(order: Order) -> u64
 /// The order of a word.
 fn order_at(word: u64) -> Option<Order>
     requires { word ≤ 2 }
-    ensures { result ≡ first_of (orders_at word) }
+    ensures { result ≡ first_order (orders_at word) }
 {
     match word {
         0 => None,

@@ -2,14 +2,14 @@
 use Rattle.std.proofs.Common.{◌≡◌, ◌≤◌, ℕ, Bool, true, false, cond, List, sym, ap, subst, ◌∙◌, arith}
 use Rattle.lane_core.specs.declared.lane_out.LaneOut.{LaneOut}
 use Rattle.lane_core.specs.declared.lane_in.LaneIn.{LaneIn}
-use Rattle.lane_core.specs.Ends.{IsLaneHistory, in_size, sent, taken, has_cancelled}
+use Rattle.lane_core.specs.Ends.{IsLaneHistory, in_size, sent, taken_items, has_cancelled}
 use Rattle.elem_core.specs.Tree.{Tree}
 use Rattle.elem_core.specs.Items.{elements}
 use Rattle.wire_core.specs.Cell.{WireState}
 use Rattle.stream_model.specs.Outlook.{End}
 use Rattle.stage_law.specs.Held.{told}
 use Rattle.stage_law.specs.Law.{GaveAs}
-use Rattle.run_account.specs.Items.{standing}
+use Rattle.run_account.specs.Items.{end_of_items}
 use Rattle.run_account.proofs.Histories.{standing_told}
 use Rattle.input_boundary.specs.declared.boundary.InputBoundary.{InputBoundary}
 use Rattle.input_boundary.specs.Boundary.{given, BoundaryKeeps}
@@ -32,7 +32,7 @@ are_met o i h = record {
 
 pub boundary_keeps : (b : InputBoundary) (c : WireState) (l : List Tree) (e : End) → BoundaryKeeps b → c.wire.sent ≡ given b → c.wire.sent ≡ told l e → GaveAs c.wire.out e → InKeeps (in_size b.lane) c (in_end b.lane)
 boundary_keeps b c l e k is told_is as_known =
-    let same : e ≡ k.given_end = sym (standing_told l e) ∙ (ap standing (sym told_is ∙ (is ∙ k.given_is)) ∙ standing_told k.given_list k.given_end) in
+    let same : e ≡ k.given_end = sym (standing_told l e) ∙ (ap end_of_items (sym told_is ∙ (is ∙ k.given_is)) ∙ standing_told k.given_list k.given_end) in
     let count : elements c.wire.sent ≡ elements (given b) = ap elements is in
     record {
       taken_list = k.taken_list;

@@ -5,7 +5,7 @@ use Rattle.lane_core.specs.Ends as lane
 use Rattle.run_account.specs.Ends.{OutEnd, InEnd}
 
 abbrev pub out_end : LaneOut → OutEnd
-out_end o = record { sent = lane.sent o; seen = lane.seen o; refused = lane.saw_cancel o; finds = lane.finds o }
+out_end o = record { sent = lane.sent o; seen = lane.seen_count o; refused = lane.saw_cancel o; finds = lane.finds o }
 
 abbrev pub in_end : LaneIn → InEnd
-in_end i = record { taken = lane.taken i; asked = lane.asked i; calls = lane.asks i; cancelled = lane.has_cancelled i }
+in_end i = record { taken = lane.taken_items i; asked = lane.asked_in_all i; calls = lane.ask_calls i; cancelled = lane.has_cancelled i }

@@ -10,23 +10,23 @@ use Rattle.elem_core.specs.Items.{elements}
 use Rattle.elem_core.proofs.Prefixes.{prefix_length}
 use Rattle.elem_core.specs.declared.item.Item.{Item}
 use Rattle.lane_core.specs.declared.sight.Sight.{Sight}
-use Rattle.lane_core.specs.Lane.{Sound, Stored, Fits, IsLane, words_of, empty_hand, saw_sent, asked_more, cancelled}
+use Rattle.lane_core.specs.Lane.{Sound, Stored, SightFits, IsLaneState, words_of, empty_hand, saw_sent, asked_more, cancelled}
 use Rattle.lane_core.proofs.Lists.{views_after, elements-append}
 use Rattle.lane_core.proofs.Moves.{Homes, new_le, with_got, Pays, later_got, order_le, returned, sound_back, Back, back, lift}
 use Rattle.lane_core.proofs.Words.{St, or_one, words_0, same_1}
 
 -- what the rule says after a step of the input end
-pub got_rule : (size id i n : ℕ) (s : St) (h : IsLane size s) (v w : Sight) (taken hand : List Item) (asked asks cancel : ℕ) (homes : Homes) → get_elem? s.views id ≡ some v → v.gets ≡ true → h.core.asked ≤ asked → h.core.asks ≤ asks → h.core.cancel ≤ cancel → (1 ≤ h.core.cancel → asked ≡ h.core.asked) → Pays h.core asked asks cancel
+pub got_rule : (size id i n : ℕ) (s : St) (h : IsLaneState size s) (v w : Sight) (taken hand : List Item) (asked asks cancel : ℕ) (homes : Homes) → get_elem? s.views id ≡ some v → v.gets ≡ true → h.core.asked ≤ asked → h.core.asks ≤ asks → h.core.cancel ≤ cancel → (1 ≤ h.core.cancel → asked ≡ h.core.asked) → Pays h.core asked asks cancel
     → set s.words i n ≡ words_of (asked * 2 + cancel) (length h.core.sent) → length homes ≡ size + 1
-    → Sound size (with_got h.core taken hand asked asks cancel) → Stored (size + 1) (with_got h.core taken hand asked asks cancel) homes → Fits (with_got h.core taken hand asked asks cancel) id w
-    → IsLane size record { words = set s.words i n; homes = homes; views = set s.views id w }
+    → Sound size (with_got h.core taken hand asked asks cancel) → Stored (size + 1) (with_got h.core taken hand asked asks cancel) homes → SightFits (with_got h.core taken hand asked asks cancel) id w
+    → IsLaneState size record { words = set s.words i n; homes = homes; views = set s.views id w }
 got_rule size id i n s h v w taken hand asked asks cancel homes at gets more again once frozen pays words wide sound stored fits = record {
   core = with_got h.core taken hand asked asks cancel;
   words = words;
   wide = wide;
   sound = sound;
   stored = stored;
-  each = views_after (Fits (with_got h.core taken hand asked asks cancel)) s.views id w fits
+  each = views_after (SightFits (with_got h.core taken hand asked asks cancel)) s.views id w fits
       (λ j u ne e. later_got h.core taken hand asked asks cancel j u more again once frozen pays (λ k. ne (k ∙ sym ((h.each id v at).gets gets).0)) (h.each j u e));
 }
 
@@ -43,7 +43,7 @@ hand_is size taken (x ∷ []) items slots one is sl =
 hand_is size taken (x ∷ y ∷ hand) items slots one is sl = absurd (omega (arith, one))
 
 -- the input end's place goes back
-pub gives_back : (size id : ℕ) (me : Me (Option Item) Sight) (s : St) (h : IsLane size s) → Emptied size me → get_elem? s.views id ≡ some me.0 → Back (size + 1) h.core s.homes me.1
+pub gives_back : (size id : ℕ) (me : Me (Option Item) Sight) (s : St) (h : IsLaneState size s) → Emptied size me → get_elem? s.views id ≡ some me.0 → Back (size + 1) h.core s.homes me.1
 gives_back size id me s h hand at =
     let c = h.core in
     let g = (h.each id me.0 at).gets hand.0 in
@@ -51,7 +51,7 @@ gives_back size id me s h hand at =
 
 -- more is asked
 pub asks : (size id k : ℕ) (me : Me (Option Item) Sight) → Emptied size me → me.0.number + k ≤ elements me.0.items + size → me.0.number + k < 2 ^ 62 → me.0.cancel ≡ 0
-    → Allows (IsLane size) (size + 1) id me 0 (λ n. (n + 2 * k) % 2 ^ 64) (asked_more (step (size + 1) 0 (2 * k) 0 none) me)
+    → Allows (IsLaneState size) (size + 1) id me 0 (λ n. (n + 2 * k) % 2 ^ 64) (asked_more (step (size + 1) 0 (2 * k) 0 none) me)
 asks size id k me hand bound small live s h wide at lt =
     let v = me.0 in
     let c = h.core in
@@ -110,7 +110,7 @@ asks size id k me hand bound small live s h wide at lt =
 
 -- no more is asked
 pub cancels : (size id : ℕ) (me : Me (Option Item) Sight) → me.0.gets ≡ true → me.0.sends ≡ false → me.0.number < 2 ^ 62 → me.0.cancel ≡ 0
-    → Allows (IsLane size) (size + 1) id me 0 (λ n. bit_or n 1) (cancelled (step (size + 1) 0 1 0 none) me)
+    → Allows (IsLaneState size) (size + 1) id me 0 (λ n. bit_or n 1) (cancelled (step (size + 1) 0 1 0 none) me)
 cancels size id me gets sends small live s h wide at lt =
     let v = me.0 in
     let c = h.core in
@@ -158,11 +158,11 @@ few_taken taken as_is sent asked number same pre few is =
     omega (arith, more, at, few, is)
 
 -- a load of the sent word by the input end, which takes the next item if there is one
-pub fetches : (size id : ℕ) (me : Me (Option Item) Sight) → Emptied size me → Allows (IsLane size) (size + 1) id me 16 (λ n. n) (saw_sent (step (size + 1) 16 0 0 none) me)
+pub fetches : (size id : ℕ) (me : Me (Option Item) Sight) → Emptied size me → Allows (IsLaneState size) (size + 1) id me 16 (λ n. n) (saw_sent (step (size + 1) 16 0 0 none) me)
 fetches size id me hand s h wide at lt = found (dec_lt (length (h.core.taken ++ h.core.hand)) (length h.core.sent))
   where
     found : Dec (length (h.core.taken ++ h.core.hand) < length h.core.sent)
-        → (w : Sight) × (a : Act (Option Item)) × Valid s.homes me.1 a × IsLane size (stepped s 16 (slice_index s.words 16) id me.1 w a) × saw_sent (step (size + 1) 16 0 0 none) me (slice_index s.words 16) (w, carried_after me.1 a)
+        → (w : Sight) × (a : Act (Option Item)) × Valid s.homes me.1 a × IsLaneState size (stepped s 16 (slice_index s.words 16) id me.1 w a) × saw_sent (step (size + 1) 16 0 0 none) me (slice_index s.words 16) (w, carried_after me.1 a)
     found (yes more) =
         let v = me.0 in
         let c = h.core in

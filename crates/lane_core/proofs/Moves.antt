@@ -14,7 +14,7 @@ use Rattle.elem_core.specs.Items.{elements}
 use Rattle.elem_core.proofs.Prefixes.{prefix_append, prefix_trans, prefix_length}
 use Rattle.elem_core.specs.declared.item.Item.{Item}
 use Rattle.lane_core.specs.declared.sight.Sight.{Sight}
-use Rattle.lane_core.specs.Lane.{weight, Core, Sound, Stored, Fits, is_new, empty_hand}
+use Rattle.lane_core.specs.Lane.{weight, LaneCore, Sound, Stored, SightFits, is_new, empty_hand}
 use Rattle.lane_core.proofs.Lists.{prefix_more, some_at, get_front, get_last, set_apart, elements_first, elements-append, weight_le, elements_le}
 
 abbrev pub Homes : Type 0
@@ -32,14 +32,14 @@ pub nothing_new : (a x : ℕ) → is_new a x a x ≡ 0
 nothing_new a x = ap (λ t. cond (t && (x == x)) 0 1) (eq-eqb a a refl) ∙ ap (λ t. cond t 0 1) (eq-eqb x x refl)
 
 -- the core after more was sent
-abbrev pub with_sent : Core → List Item → ℕ → Core
+abbrev pub with_sent : LaneCore → List Item → ℕ → LaneCore
 with_sent c xs h = record c { sent = c.sent ++ xs; held = h }
 
 -- the core after a step of the input end
-abbrev pub with_got : Core → List Item → List Item → ℕ → ℕ → ℕ → Core
+abbrev pub with_got : LaneCore → List Item → List Item → ℕ → ℕ → ℕ → LaneCore
 with_got c taken hand asked asks cancel = record c { taken = taken; hand = hand; asked = asked; asks = asks; cancel = cancel }
 
-pub later_sent : (c : Core) (xs : List Item) (h j : ℕ) (u : Sight) → j ≢ c.sender → Fits c j u → Fits (with_sent c xs h) j u
+pub later_sent : (c : LaneCore) (xs : List Item) (h j : ℕ) (u : Sight) → j ≢ c.sender → SightFits c j u → SightFits (with_sent c xs h) j u
 later_sent c xs h j u ne f = record {
   items = prefix_trans f.items (prefix_append c.sent xs);
   number = f.number;
@@ -57,10 +57,10 @@ later_sent c xs h j u ne f = record {
 }
 
 -- what is new to find after a step of the input end is paid by that step
-abbrev pub Pays : Core → ℕ → ℕ → ℕ → Type 0
+abbrev pub Pays : LaneCore → ℕ → ℕ → ℕ → Type 0
 Pays c asked asks cancel = (number mark : ℕ) → is_new number mark asked cancel + (c.asks + c.cancel) ≤ is_new number mark c.asked c.cancel + (asks + cancel)
 
-pub later_got : (c : Core) (taken hand : List Item) (asked asks cancel j : ℕ) (u : Sight) → c.asked ≤ asked → c.asks ≤ asks → c.cancel ≤ cancel → (1 ≤ c.cancel → asked ≡ c.asked) → Pays c asked asks cancel → j ≢ c.receiver → Fits c j u → Fits (with_got c taken hand asked asks cancel) j u
+pub later_got : (c : LaneCore) (taken hand : List Item) (asked asks cancel j : ℕ) (u : Sight) → c.asked ≤ asked → c.asks ≤ asks → c.cancel ≤ cancel → (1 ≤ c.cancel → asked ≡ c.asked) → Pays c asked asks cancel → j ≢ c.receiver → SightFits c j u → SightFits (with_got c taken hand asked asks cancel) j u
 later_got c taken hand asked asks cancel j u more again once frozen pays ne f = record {
   items = f.items;
   number = let k = f.number in omega (arith, k);
@@ -78,17 +78,17 @@ later_got c taken hand asked asks cancel j u more again once frozen pays ne f = 
 }
 
 -- what was sent fits the ring
-pub fits_ring : (size : ℕ) (c : Core) → Sound size c → length c.sent + c.held ≤ length c.taken + (size + 1)
+pub fits_ring : (size : ℕ) (c : LaneCore) → Sound size c → length c.sent + c.held ≤ length c.taken + (size + 1)
 fits_ring size c s = let a = s.open_end in let b = s.used in let d = s.bound in let e = elements_le c.taken in omega (arith, a, b, d, e)
 
-pub order_le : (size : ℕ) (c : Core) → Sound size c → length c.taken + length c.hand ≤ length c.sent
+pub order_le : (size : ℕ) (c : LaneCore) → Sound size c → length c.taken + length c.hand ≤ length c.sent
 order_le size c s = let a = prefix_length s.order in omega (arith, a, length-append c.taken c.hand)
 
 -- the place in hand goes back
-abbrev pub returned : Core → Core
+abbrev pub returned : LaneCore → LaneCore
 returned c = record c { taken = c.taken ++ c.hand; hand = [] }
 
-pub sound_back : (size : ℕ) (c : Core) → Sound size c → Sound size (returned c)
+pub sound_back : (size : ℕ) (c : LaneCore) → Sound size c → Sound size (returned c)
 sound_back size c s = record {
   order = subst (λ (l : List Item). IsPrefix l c.sent) (sym (append-nil (c.taken ++ c.hand))) s.order;
   hand_one = omega arith;
@@ -99,10 +99,10 @@ sound_back size c s = record {
   bound = let b = s.bound in omega (arith, b, elements-append c.taken c.hand);
 }
 
-abbrev pub Back : ℕ → Core → Homes → List (ℕ × Option Item) → Type 0
+abbrev pub Back : ℕ → LaneCore → Homes → List (ℕ × Option Item) → Type 0
 Back n c homes car = (a : Act (Option Item)) × Valid homes car a × (carried_after car a ≡ []) × (length (homes_after homes car a) ≡ length homes) × Stored n (returned c) (homes_after homes car a)
 
-pub back_none : (size : ℕ) (c : Core) (homes : Homes) → c.hand ≡ [] → Stored (size + 1) c homes → Back (size + 1) c homes []
+pub back_none : (size : ℕ) (c : LaneCore) (homes : Homes) → c.hand ≡ [] → Stored (size + 1) c homes → Back (size + 1) c homes []
 back_none size c homes is st =
     let long : length (c.taken ++ c.hand) ≡ length c.taken = ap (λ h. length (c.taken ++ h)) is ∙ ap length (append-nil c.taken) in
     let none_there : length c.hand ≡ 0 = ap length is in (
@@ -116,7 +116,7 @@ back_none size c homes is st =
       },
     )
 
-pub back_one : (size : ℕ) (c : Core) (homes : Homes) (x : Item) → c.hand ≡ x ∷ [] → length homes ≡ size + 1 → Sound size c → Stored (size + 1) c homes
+pub back_one : (size : ℕ) (c : LaneCore) (homes : Homes) (x : Item) → c.hand ≡ x ∷ [] → length homes ≡ size + 1 → Sound size c → Stored (size + 1) c homes
     → Back (size + 1) c homes ((length c.taken % (size + 1), None) ∷ [])
 back_one size c homes x is wide s st =
     let n : ℕ = size + 1 in
@@ -145,14 +145,14 @@ back_one size c homes x is wide s st =
         set_apart homes p (length c.taken) (size + 1) (some None) near (omega (arith, a, le)) (λ e. absurd (omega (arith, a, le, one, e))) ∙ st.free p a near
 
 -- the input end's seat has the place of the item in hand, or none
-pub back : (size : ℕ) (c : Core) (homes : Homes) (hand : List Item) (car : List (ℕ × Option Item)) → c.hand ≡ hand → car ≡ empty_hand (length hand) (length c.taken % (size + 1)) → length homes ≡ size + 1 → Sound size c → Stored (size + 1) c homes
+pub back : (size : ℕ) (c : LaneCore) (homes : Homes) (hand : List Item) (car : List (ℕ × Option Item)) → c.hand ≡ hand → car ≡ empty_hand (length hand) (length c.taken % (size + 1)) → length homes ≡ size + 1 → Sound size c → Stored (size + 1) c homes
     → Back (size + 1) c homes car
 back size c homes [] car is has wide s st = subst (Back (size + 1) c homes) (sym has) (back_none size c homes is st)
 back size c homes (x ∷ []) car is has wide s st = subst (Back (size + 1) c homes) (sym has) (back_one size c homes x is wide s st)
 back size c homes (x ∷ y ∷ r) car is has wide s st = let h = s.hand_one in let e : length c.hand ≡ suc (suc (length r)) = ap length is in absurd (omega (arith, h, e))
 
 -- the next item is taken into the hand
-pub lift : (size : ℕ) (c : Core) (homes : Homes) → c.hand ≡ [] → length c.taken < length c.sent → Sound size c → Stored (size + 1) c homes
+pub lift : (size : ℕ) (c : LaneCore) (homes : Homes) → c.hand ≡ [] → length c.taken < length c.sent → Sound size c → Stored (size + 1) c homes
     → (x : Item) × (get_elem? homes (length c.taken % (size + 1)) ≡ some (some (Some x))) × Sound size (record c { hand = x ∷ [] }) × Stored (size + 1) (record c { hand = x ∷ [] }) (set homes (length c.taken % (size + 1)) none)
 lift size c homes is lt s st =
     let none_there : length c.hand ≡ 0 = ap length is in
@@ -177,7 +177,7 @@ lift size c homes is lt s st =
     )
 
 -- the output end takes the next place, which is empty
-pub hold : (size : ℕ) (c : Core) (homes : Homes) → c.held ≡ 0 → length c.taken ≤ length c.sent → length c.sent + 1 ≤ length c.taken + (size + 1) → Stored (size + 1) c homes
+pub hold : (size : ℕ) (c : LaneCore) (homes : Homes) → c.held ≡ 0 → length c.taken ≤ length c.sent → length c.sent + 1 ≤ length c.taken + (size + 1) → Stored (size + 1) c homes
     → (get_elem? homes (length c.sent % (size + 1)) ≡ some (some None)) × Stored (size + 1) (record c { held = 1 }) (set homes (length c.sent % (size + 1)) none)
 hold size c homes none_held le room st = (
   st.free (length c.sent) (omega (arith, none_held)) (omega (arith, room)),
@@ -188,7 +188,7 @@ hold size c homes none_held le room st = (
 )
 
 -- an item goes to the place that the output end has
-pub fill : (size : ℕ) (c : Core) (homes : Homes) (x : Item) → c.held ≡ 1 → length homes ≡ size + 1 → length c.taken ≤ length c.sent → length c.sent + 1 ≤ length c.taken + (size + 1) → Stored (size + 1) c homes
+pub fill : (size : ℕ) (c : LaneCore) (homes : Homes) (x : Item) → c.held ≡ 1 → length homes ≡ size + 1 → length c.taken ≤ length c.sent → length c.sent + 1 ≤ length c.taken + (size + 1) → Stored (size + 1) c homes
     → Stored (size + 1) (with_sent c (x ∷ []) 0) (set homes (length c.sent % (size + 1)) (some (Some x)))
 fill size c homes x one wide le room st =
     let long : length (c.sent ++ x ∷ []) ≡ length c.sent + 1 = length-append c.sent (x ∷ []) in record {
@@ -205,7 +205,7 @@ fill size c homes x one wide le room st =
         let under : p < length c.sent = omega (arith, b, ne) in
         set_apart homes p (length c.sent) (size + 1) (some (Some x)) (omega (arith, under)) (omega (arith, a, room)) ne ∙ st.waiting p a under ∙ ap (λ (o : Option Item). some (some o)) (sym (get_front c.sent (x ∷ []) p under))
 
-pub sound_sent : (size : ℕ) (c : Core) (x : Item) → c.held ≡ 1 → elements c.sent + weight x ≤ c.asked → Sound size c → Sound size (with_sent c (x ∷ []) (weight x))
+pub sound_sent : (size : ℕ) (c : LaneCore) (x : Item) → c.held ≡ 1 → elements c.sent + weight x ≤ c.asked → Sound size c → Sound size (with_sent c (x ∷ []) (weight x))
 sound_sent size c x one room s =
     let e = elements-append c.sent (x ∷ []) in
     let w = elements_first x [] in

@@ -9,11 +9,11 @@ use Rattle.elem_core.specs.Prefix.{IsPrefix}
 use Rattle.elem_core.proofs.Prefixes.{prefix_nil}
 use Rattle.elem_core.specs.declared.item.Item.{Item}
 use Rattle.lane_core.specs.declared.sight.Sight.{Sight}
-use Rattle.lane_core.specs.Lane.{Fits, IsLane, both_ends, nobody, input_end, output_end, note, informed, compared}
+use Rattle.lane_core.specs.Lane.{SightFits, IsLaneState, both_ends, nobody, input_sight, output_end, note, informed, compared}
 use Rattle.lane_core.proofs.Lists.{at_end, all_vacant, views_after}
 use Rattle.lane_core.proofs.Words.{St, stays, same_0}
 
-pub opens : (size : ℕ) → IsLane size (opening (replicate 17 0) (replicate (size + 1) None) both_ends)
+pub opens : (size : ℕ) → IsLaneState size (opening (replicate 17 0) (replicate (size + 1) None) both_ends)
 opens size = record {
   core = record { sent = []; taken = []; hand = []; held = 0; asked = 0; asks = 0; cancel = 0; sender = 0; receiver = 0 };
   words = refl;
@@ -34,8 +34,8 @@ opens size = record {
   each = one;
 }
   where
-    one : (j : ℕ) (v : Sight) → get_elem? (both_ends ∷ []) j ≡ some v → Fits record { sent = []; taken = []; hand = []; held = 0; asked = 0; asks = 0; cancel = 0; sender = 0; receiver = 0 } j v
-    one zero v e = subst (Fits record { sent = []; taken = []; hand = []; held = 0; asked = 0; asks = 0; cancel = 0; sender = 0; receiver = 0 } 0) (some-injective both_ends v e) record {
+    one : (j : ℕ) (v : Sight) → get_elem? (both_ends ∷ []) j ≡ some v → SightFits record { sent = []; taken = []; hand = []; held = 0; asked = 0; asks = 0; cancel = 0; sender = 0; receiver = 0 } j v
+    one zero v e = subst (SightFits record { sent = []; taken = []; hand = []; held = 0; asked = 0; asks = 0; cancel = 0; sender = 0; receiver = 0 } 0) (some-injective both_ends v e) record {
       items = prefix_nil [];
       number = omega arith;
       cancel = omega arith;
@@ -52,7 +52,7 @@ opens size = record {
     }
     one (suc j) v e = absurd (some-ne-none v (sym e))
 
-pub compares : (size id : ℕ) (me : Me (Option Item) Sight) → Allows (IsLane size) (size + 1) id me 0 (λ n. n) (compared (step (size + 1) 0 0 0 none) me)
+pub compares : (size id : ℕ) (me : Me (Option Item) Sight) → Allows (IsLaneState size) (size + 1) id me 0 (λ n. n) (compared (step (size + 1) 0 0 0 none) me)
 compares size id me s h wide at lt =
     let v = me.0 in
     let c = h.core in
@@ -69,14 +69,14 @@ compares size id me s h wide at lt =
     )
 
 -- the same core, with other views
-pub viewed : (size : ℕ) (s : St) (h : IsLane size s) (views : List Sight) → ((j : ℕ) (u : Sight) → get_elem? views j ≡ some u → Fits h.core j u) → IsLane size record { words = s.words; homes = s.homes; views = views }
+pub viewed : (size : ℕ) (s : St) (h : IsLaneState size s) (views : List Sight) → ((j : ℕ) (u : Sight) → get_elem? views j ≡ some u → SightFits h.core j u) → IsLaneState size record { words = s.words; homes = s.homes; views = views }
 viewed size s h views each = record { core = h.core; words = h.words; wide = h.wide; sound = h.sound; stored = h.stored; each = each }
 
 -- one end writes a note of what it knows
-pub notes : (size id : ℕ) (v : Sight) → Splits (IsLane size) id v v (note v)
-notes size id v s h at = viewed size s h (set s.views id v ++ note v ∷ []) (λ j u e. ⊎_elim (λ t. h.each j u (subst (λ (l : List Sight). get_elem? l j ≡ some u) (set_again s.views id v at) t.1)) (λ t. subst (Fits h.core j) t.1 (noted j)) (at_end (set s.views id v) (note v) u j e))
+pub notes : (size id : ℕ) (v : Sight) → Splits (IsLaneState size) id v v (note v)
+notes size id v s h at = viewed size s h (set s.views id v ++ note v ∷ []) (λ j u e. ⊎_elim (λ t. h.each j u (subst (λ (l : List Sight). get_elem? l j ≡ some u) (set_again s.views id v at) t.1)) (λ t. subst (SightFits h.core j) t.1 (noted j)) (at_end (set s.views id v) (note v) u j e))
   where
-    noted : (j : ℕ) → Fits h.core j (note v)
+    noted : (j : ℕ) → SightFits h.core j (note v)
     noted j =
         let f = h.each id v at in record {
           items = f.items;
@@ -95,13 +95,13 @@ notes size id v s h at = viewed size s h (set s.views id v ++ note v ∷ []) (λ
         }
 
 -- the other end takes it in
-pub joins : (size id : ℕ) (v : Sight) (other : ℕ) (w : Sight) → Joins (IsLane size) id v other w (informed v w) nobody
+pub joins : (size id : ℕ) (v : Sight) (other : ℕ) (w : Sight) → Joins (IsLaneState size) id v other w (informed v w) nobody
 joins size id v other w s h at ne there =
     let f = h.each id v at in
     let t = ⊎_elim (λ (t : (other ≡ id) × (informed v w ≡ w)). absurd (ne t.0)) (λ (t : (other ≢ id) × (get_elem? s.views other ≡ some w)). h.each other w t.1) (at_set s.views id other (informed v w) w there) in
     viewed size s h (set (set s.views id (informed v w)) other nobody)
-    (views_after (Fits h.core) (set s.views id (informed v w)) other nobody (blank other)
-    (λ j u _ e. views_after (Fits h.core) s.views id (informed v w)
+    (views_after (SightFits h.core) (set s.views id (informed v w)) other nobody (blank other)
+    (λ j u _ e. views_after (SightFits h.core) s.views id (informed v w)
     record {
       items = f.items;
       number = f.number;
@@ -119,7 +119,7 @@ joins size id v other w s h at ne there =
     }
     (λ i y _ a. h.each i y a) j u e))
   where
-    blank : (j : ℕ) → Fits h.core j nobody
+    blank : (j : ℕ) → SightFits h.core j nobody
     blank j = record {
       items = prefix_nil h.core.sent;
       number = omega arith;
@@ -137,17 +137,17 @@ joins size id v other w s h at ne there =
     }
 
 -- the table's first seat is cut into the two ends
-pub parts : (size id : ℕ) (v : Sight) → v.sends ≡ true → v.gets ≡ true → Splits (IsLane size) id v (input_end v) (output_end v)
+pub parts : (size id : ℕ) (v : Sight) → v.sends ≡ true → v.gets ≡ true → Splits (IsLaneState size) id v (input_sight v) (output_end v)
 parts size id v sends gets s h at = record {
   core = record h.core { sender = length s.views };
   words = h.words;
   wide = h.wide;
   sound = let r = h.sound in record { order = r.order; hand_one = r.hand_one; held_one = r.held_one; cancel_one = r.cancel_one; open_end = r.open_end; used = r.used; bound = r.bound };
   stored = record { waiting = h.stored.waiting; free = h.stored.free };
-  each = λ j u e. ⊎_elim (λ t. olds j u t.1) (λ t. subst (Fits (record h.core { sender = length s.views }) j) t.1 (new j (t.0 ∙ length-set s.views id (input_end v)))) (at_end (set s.views id (input_end v)) (output_end v) u j e);
+  each = λ j u e. ⊎_elim (λ t. olds j u t.1) (λ t. subst (SightFits (record h.core { sender = length s.views }) j) t.1 (new j (t.0 ∙ length-set s.views id (input_sight v)))) (at_end (set s.views id (input_sight v)) (output_end v) u j e);
 }
   where
-    new : (j : ℕ) → j ≡ length s.views → Fits (record h.core { sender = length s.views }) j (output_end v)
+    new : (j : ℕ) → j ≡ length s.views → SightFits (record h.core { sender = length s.views }) j (output_end v)
     new j here =
         let f = h.each id v at in
         let m = f.sends sends in record {
@@ -166,8 +166,8 @@ parts size id v sends gets s h at = record {
           gets = λ e. absurd (true≢false (sym e));
         }
 
-    olds : (j : ℕ) (u : Sight) → get_elem? (set s.views id (input_end v)) j ≡ some u → Fits (record h.core { sender = length s.views }) j u
-    olds = views_after (Fits (record h.core { sender = length s.views })) s.views id (input_end v)
+    olds : (j : ℕ) (u : Sight) → get_elem? (set s.views id (input_sight v)) j ≡ some u → SightFits (record h.core { sender = length s.views }) j u
+    olds = views_after (SightFits (record h.core { sender = length s.views })) s.views id (input_sight v)
         (let f = h.each id v at in record {
           items = f.items;
           number = f.number;

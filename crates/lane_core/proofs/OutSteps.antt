@@ -10,13 +10,13 @@ use Rattle.elem_core.proofs.Prefixes.{prefix_refl, prefix_append, prefix_trans}
 use Rattle.elem_core.specs.declared.item.Item.{Item}
 use Rattle.elem_core.specs.declared.item.Item.TheVariants.{Elem, Ended, Failed}
 use Rattle.lane_core.specs.declared.sight.Sight.{Sight}
-use Rattle.lane_core.specs.Lane.{weight, Sound, Stored, Fits, IsLane, is_new, words_of, sat, saw_asked, sent_one}
+use Rattle.lane_core.specs.Lane.{weight, Sound, Stored, SightFits, IsLaneState, is_new, words_of, sat, saw_asked, sent_one}
 use Rattle.lane_core.proofs.Lists.{views_after}
 use Rattle.lane_core.proofs.Moves.{Homes, nothing_new, with_sent, later_sent, fits_ring, order_le, hold, fill, sound_sent}
 use Rattle.lane_core.proofs.Words.{St, words_1, stays, same_0}
 
 -- a load of the asked word by the output end
-pub sees : (size id : ℕ) (me : Me (Option Item) Sight) → me.0.sends ≡ true → me.0.gets ≡ false → Allows (IsLane size) (size + 1) id me 0 (λ n. n) (saw_asked (step (size + 1) 0 0 0 none) me)
+pub sees : (size id : ℕ) (me : Me (Option Item) Sight) → me.0.sends ≡ true → me.0.gets ≡ false → Allows (IsLaneState size) (size + 1) id me 0 (λ n. n) (saw_asked (step (size + 1) 0 0 0 none) me)
 sees size id me sends gets s h wide at lt =
     let v = me.0 in
     let c = h.core in
@@ -57,7 +57,7 @@ sees size id me sends gets s h wide at lt =
     )
 
 -- the output end's first place
-pub sits : (size id : ℕ) (me : Me (Option Item) Sight) → me.0.sends ≡ true → me.0.gets ≡ false → me.0.items ≡ [] → me.0.slots ≡ 0 → me.1 ≡ [] → Allows (IsLane size) (size + 1) id me 0 (λ n. n) (sat (step (size + 1) 0 0 0 none) me)
+pub sits : (size id : ℕ) (me : Me (Option Item) Sight) → me.0.sends ≡ true → me.0.gets ≡ false → me.0.items ≡ [] → me.0.slots ≡ 0 → me.1 ≡ [] → Allows (IsLaneState size) (size + 1) id me 0 (λ n. n) (sat (step (size + 1) 0 0 0 none) me)
 sits size id me sends gets empty no_slots no_hand s h wide at lt =
     let v = me.0 in
     let c = h.core in
@@ -86,7 +86,7 @@ sits size id me sends gets empty no_slots no_hand s h wide at lt =
           bound = r.bound;
         };
         stored = subst (λ k. Stored (size + 1) (record c { held = 1 }) (set s.homes k none)) at_zero held.1;
-        each = views_after (Fits (record c { held = 1 })) s.views id w
+        each = views_after (SightFits (record c { held = 1 })) s.views id w
             record {
               items = f.items;
               number = f.number;
@@ -107,7 +107,7 @@ sits size id me sends gets empty no_slots no_hand s h wide at lt =
       ap (λ (l : List (ℕ × Option Item)). (w, (0, None) ∷ l)) no_hand,
     )
   where
-    seated : (j : ℕ) (u : Sight) → j ≢ h.core.sender → Fits h.core j u → Fits (record h.core { held = 1 }) j u
+    seated : (j : ℕ) (u : Sight) → j ≢ h.core.sender → SightFits h.core j u → SightFits (record h.core { held = 1 }) j u
     seated j u ne f = record {
       items = f.items;
       number = f.number;
@@ -129,9 +129,9 @@ pub one_more : (n : ℕ) → n + 1 < 2 ^ 64 → (n + 1) % 2 ^ 64 ≡ n + 1
 one_more n h = omega (arith, h)
 
 -- what the rule says after an item was sent
-pub sent_rule : (size id : ℕ) (s : St) (h : IsLane size s) (v : Sight) (x : Item) (homes : Homes) → get_elem? s.views id ≡ some v → v.sends ≡ true → v.gets ≡ false → length homes ≡ size + 1
+pub sent_rule : (size id : ℕ) (s : St) (h : IsLaneState size s) (v : Sight) (x : Item) (homes : Homes) → get_elem? s.views id ≡ some v → v.sends ≡ true → v.gets ≡ false → length homes ≡ size + 1
     → length h.core.sent + 1 < 2 ^ 64 → Sound size (with_sent h.core (x ∷ []) (weight x)) → Stored (size + 1) (with_sent h.core (x ∷ []) (weight x)) homes
-    → IsLane size record { words = set s.words 16 ((slice_index s.words 16 + 1) % 2 ^ 64); homes = homes; views = set s.views id (record v { items = v.items ++ x ∷ []; slots = weight x }) }
+    → IsLaneState size record { words = set s.words 16 ((slice_index s.words 16 + 1) % 2 ^ 64); homes = homes; views = set s.views id (record v { items = v.items ++ x ∷ []; slots = weight x }) }
 sent_rule size id s h v x homes at sends gets wide small sound stored =
     let c = h.core in
     let f = h.each id v at in
@@ -145,7 +145,7 @@ sent_rule size id s h v x homes at sends gets wide small sound stored =
       wide = wide;
       sound = sound;
       stored = stored;
-      each = views_after (Fits (with_sent c (x ∷ []) (weight x))) s.views id (record v { items = v.items ++ x ∷ []; slots = weight x })
+      each = views_after (SightFits (with_sent c (x ∷ []) (weight x))) s.views id (record v { items = v.items ++ x ∷ []; slots = weight x })
           record {
             items = subst (λ (l : List Item). IsPrefix l (c.sent ++ x ∷ [])) (sym same) (prefix_refl (c.sent ++ x ∷ []));
             number = f.number;
@@ -169,7 +169,7 @@ abbrev pub Filled : ℕ → ℕ → Sight → Item → Type 0
 Filled size id v x = (v.sends ≡ true) × (v.gets ≡ false) × (v.slots ≡ 1) × (elements v.items + weight x ≤ v.number) × (v.number < 2 ^ 63) × (1 ≤ size)
 
 pub sends_end : (size id : ℕ) (v : Sight) (x : Item) → weight x ≡ 0 → Filled size id v x
-    → (s : St) (h : IsLane size s) → get_elem? s.views id ≡ some v → IsLane size (stepped s 16 ((slice_index s.words 16 + 1) % 2 ^ 64) id ((length v.items % (size + 1), Some x) ∷ []) (record v { items = v.items ++ x ∷ []; slots = weight x }) gives)
+    → (s : St) (h : IsLaneState size s) → get_elem? s.views id ≡ some v → IsLaneState size (stepped s 16 ((slice_index s.words 16 + 1) % 2 ^ 64) id ((length v.items % (size + 1), Some x) ∷ []) (record v { items = v.items ++ x ∷ []; slots = weight x }) gives)
 sends_end size id v x end ready s h at =
     let c = h.core in
     let f = h.each id v at in
@@ -188,9 +188,9 @@ sends_end size id v x end ready s h at =
     (subst (λ (k : ℕ × ℕ). Stored (size + 1) (with_sent c (x ∷ []) k.0) (set s.homes k.1 (some (Some x)))) (λ i. (sym end i, sym k_is i)) (fill size c s.homes x one h.wide (omega (arith, le)) (omega (arith, ring, one)) h.stored))
 
 pub sends_elem : (size id : ℕ) (v : Sight) (x : Item) → weight x ≡ 1 → Filled size id v x
-    → (s : St) (h : IsLane size s) → get_elem? s.views id ≡ some v
+    → (s : St) (h : IsLaneState size s) → get_elem? s.views id ≡ some v
     → Valid s.homes ((length v.items % (size + 1), Some x) ∷ []) (chain gives (takes ((length v.items + 1) % (size + 1)) None))
-    × IsLane size (stepped s 16 ((slice_index s.words 16 + 1) % 2 ^ 64) id ((length v.items % (size + 1), Some x) ∷ []) (record v { items = v.items ++ x ∷ []; slots = weight x }) (chain gives (takes ((length v.items + 1) % (size + 1)) None)))
+    × IsLaneState size (stepped s 16 ((slice_index s.words 16 + 1) % 2 ^ 64) id ((length v.items % (size + 1), Some x) ∷ []) (record v { items = v.items ++ x ∷ []; slots = weight x }) (chain gives (takes ((length v.items + 1) % (size + 1)) None)))
 sends_elem size id v x elem ready s h at =
     let c = h.core in
     let f = h.each id v at in
@@ -221,7 +221,7 @@ sends_elem size id v x elem ready s h at =
     )
 
 pub sends_at : (size id : ℕ) (v : Sight) (x : Item) → Filled size id v x
-    → Allows (IsLane size) (size + 1) id (v, (length v.items % (size + 1), Some x) ∷ []) 16 (λ n. (n + 1) % 2 ^ 64) (sent_one (step (size + 1) 16 1 0 none) (v, (length v.items % (size + 1), Some x) ∷ []))
+    → Allows (IsLaneState size) (size + 1) id (v, (length v.items % (size + 1), Some x) ∷ []) 16 (λ n. (n + 1) % 2 ^ 64) (sent_one (step (size + 1) 16 1 0 none) (v, (length v.items % (size + 1), Some x) ∷ []))
 sends_at size id v (Elem e) ready s h wide at lt =
     let k = sends_elem size id v (Elem e) refl ready s h at in (
       record v { items = v.items ++ Elem e ∷ []; slots = 1 },
@@ -235,5 +235,5 @@ sends_at size id v (Failed d) ready s h wide at lt = (record v { items = v.items
 
 -- an item is announced
 pub sends : (size id k : ℕ) (me : Me (Option Item) Sight) (x : Item) → me.1 ≡ (k, Some x) ∷ [] → k ≡ length me.0.items % (size + 1) → Filled size id me.0 x
-    → Allows (IsLane size) (size + 1) id me 16 (λ n. (n + 1) % 2 ^ 64) (sent_one (step (size + 1) 16 1 0 none) me)
-sends size id k me x has k_is ready = subst (λ (l : List (ℕ × Option Item)). Allows (IsLane size) (size + 1) id (me.0, l) 16 (λ n. (n + 1) % 2 ^ 64) (sent_one (step (size + 1) 16 1 0 none) (me.0, l))) (sym (has ∙ ap (λ (i : ℕ). (i, Some x) ∷ []) k_is)) (sends_at size id me.0 x ready)
+    → Allows (IsLaneState size) (size + 1) id me 16 (λ n. (n + 1) % 2 ^ 64) (sent_one (step (size + 1) 16 1 0 none) me)
+sends size id k me x has k_is ready = subst (λ (l : List (ℕ × Option Item)). Allows (IsLaneState size) (size + 1) id (me.0, l) 16 (λ n. (n + 1) % 2 ^ 64) (sent_one (step (size + 1) 16 1 0 none) (me.0, l))) (sym (has ∙ ap (λ (i : ℕ). (i, Some x) ∷ []) k_is)) (sends_at size id me.0 x ready)

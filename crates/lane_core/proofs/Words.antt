@@ -4,7 +4,7 @@ use Rattle.std.proofs.lemmas.Grind.{or_after_shift}
 use Rattle.atomic_table.specs.Table.{State}
 use Rattle.elem_core.specs.declared.item.Item.{Item}
 use Rattle.lane_core.specs.declared.sight.Sight.{Sight}
-use Rattle.lane_core.specs.Lane.{Fits, IsLane, words_of}
+use Rattle.lane_core.specs.Lane.{SightFits, IsLaneState, words_of}
 use Rattle.lane_core.proofs.Lists.{views_after}
 
 abbrev pub St : Type 0
@@ -21,18 +21,18 @@ pub words_1 : (ws : List ℕ) (a b n : ℕ) → ws ≡ words_of a b → set ws 1
 words_1 ws a b n e = ap (λ (l : List ℕ). set l 16 n) e
 
 -- a load that leaves the core as it is
-pub stays : (size id i : ℕ) (s : St) (h : IsLane size s) (w : Sight) → set s.words i (slice_index s.words i) ≡ s.words → Fits h.core id w → IsLane size record { words = set s.words i (slice_index s.words i); homes = s.homes; views = set s.views id w }
+pub stays : (size id i : ℕ) (s : St) (h : IsLaneState size s) (w : Sight) → set s.words i (slice_index s.words i) ≡ s.words → SightFits h.core id w → IsLaneState size record { words = set s.words i (slice_index s.words i); homes = s.homes; views = set s.views id w }
 stays size id i s h w same fits = record {
   core = h.core;
   words = same ∙ h.words;
   wide = h.wide;
   sound = h.sound;
   stored = h.stored;
-  each = views_after (Fits h.core) s.views id w fits (λ j u _ e. h.each j u e);
+  each = views_after (SightFits h.core) s.views id w fits (λ j u _ e. h.each j u e);
 }
 
-pub same_0 : (size : ℕ) (s : St) (h : IsLane size s) → set s.words 0 (slice_index s.words 0) ≡ s.words
+pub same_0 : (size : ℕ) (s : St) (h : IsLaneState size s) → set s.words 0 (slice_index s.words 0) ≡ s.words
 same_0 size s h = ap (λ (ws : List ℕ). set ws 0 (slice_index ws 0)) h.words ∙ sym h.words
 
-pub same_1 : (size : ℕ) (s : St) (h : IsLane size s) → set s.words 16 (slice_index s.words 16) ≡ s.words
+pub same_1 : (size : ℕ) (s : St) (h : IsLaneState size s) → set s.words 16 (slice_index s.words 16) ≡ s.words
 same_1 size s h = ap (λ (ws : List ℕ). set ws 16 (slice_index ws 16)) h.words ∙ sym h.words

@@ -17,8 +17,8 @@ out_lane o = o.seat.table_id
 abbrev pub sent : LaneOut → List Item
 sent o = o.seat.me.0.items
 
-abbrev pub seen : LaneOut → ℕ
-seen o = o.seat.me.0.number
+abbrev pub seen_count : LaneOut → ℕ
+seen_count o = o.seat.me.0.number
 
 abbrev pub saw_cancel : LaneOut → ℕ
 saw_cancel o = o.seat.me.0.cancel
@@ -57,15 +57,15 @@ IsSameOut o p = (out_lane p ≡ out_lane o) × (out_size p ≡ out_size o)
 abbrev pub in_lane : LaneIn → TableId
 in_lane i = i.seat.table_id
 
-abbrev pub taken : LaneIn → List Item
-taken i = i.seat.me.0.items
+abbrev pub taken_items : LaneIn → List Item
+taken_items i = i.seat.me.0.items
 
-abbrev pub asked : LaneIn → ℕ
-asked i = i.seat.me.0.number
+abbrev pub asked_in_all : LaneIn → ℕ
+asked_in_all i = i.seat.me.0.number
 
 -- by how many calls it asked
-abbrev pub asks : LaneIn → ℕ
-asks i = i.seat.me.0.asks
+abbrev pub ask_calls : LaneIn → ℕ
+ask_calls i = i.seat.me.0.asks
 
 abbrev pub has_cancelled : LaneIn → ℕ
 has_cancelled i = i.seat.me.0.cancel
@@ -105,16 +105,16 @@ EndIsLast l = (elements (take (elements l) l) ≡ elements l) × (length l ≤ e
 -- what was taken and the size. Each find is paid by an ask or by the cancel.
 -- An output end that saw the cancel saw all asks, since none comes behind it.
 pub record IsLaneHistory (o : LaneOut) (i : LaneIn) : Type 0 where
-  pub prefix : IsPrefix (taken i) (sent o)
+  pub prefix : IsPrefix (taken_items i) (sent o)
   pub last : EndIsLast (sent o)
-  pub used : elements (sent o) ≤ seen o
-  pub seen_asked : seen o ≤ asked i
-  pub bound : asked i ≤ elements (taken i) + in_size i
+  pub used : elements (sent o) ≤ seen_count o
+  pub seen_asked : seen_count o ≤ asked_in_all i
+  pub bound : asked_in_all i ≤ elements (taken_items i) + in_size i
   pub cancel : saw_cancel o ≤ has_cancelled i
-  pub finds : finds o ≤ asks i + has_cancelled i
-  pub closed : saw_cancel o ≡ 1 → seen o ≡ asked i
+  pub finds : finds o ≤ ask_calls i + has_cancelled i
+  pub closed : saw_cancel o ≡ 1 → seen_count o ≡ asked_in_all i
   pub sizes : out_size o ≡ in_size i
 
 -- what one end did that the other has not seen
 abbrev pub WaitsAre : LaneOut → LaneIn → Waits → Type 0
-WaitsAre o i w = (IsTrue w.item ↔ (length (taken i) < length (sent o))) × (IsTrue w.demand ↔ ((seen o < asked i) ⊎ (saw_cancel o < has_cancelled i)))
+WaitsAre o i w = (IsTrue w.item ↔ (length (taken_items i) < length (sent o))) × (IsTrue w.demand ↔ ((seen_count o < asked_in_all i) ⊎ (saw_cancel o < has_cancelled i)))

@@ -33,7 +33,7 @@ words_of asked_word sent_word = asked_word ∷ replicate 15 0 ++ sent_word ∷ [
 -- A lane between two steps. `sent` is all that was sent; `taken` is what the input end counts as taken, and `hand` the item
 -- that it has in hand behind that. `held` is 1 while the output end holds the place of the next item. `asked` is how many elements
 -- were asked for, and `asks` by how many calls. `sender` and `receiver` are the seats of the two ends.
-pub record Core : Type 0 where
+pub record LaneCore : Type 0 where
   pub sent : List Item
   pub taken : List Item
   pub hand : List Item
@@ -46,7 +46,7 @@ pub record Core : Type 0 where
 
 -- taken and in hand is the beginning of what was sent, of which only the last may be an end; no more elements are sent than were
 -- asked for, and no more asked for than were taken and have a place
-pub record Sound (size : ℕ) (c : Core) : Type 0 where
+pub record Sound (size : ℕ) (c : LaneCore) : Type 0 where
   pub order : IsPrefix (c.taken ++ c.hand) c.sent
   pub hand_one : length c.hand ≤ 1
   pub held_one : c.held ≤ 1
@@ -56,13 +56,13 @@ pub record Sound (size : ℕ) (c : Core) : Type 0 where
   pub bound : c.asked ≤ elements c.taken + size
 
 -- each item that was sent and is neither taken nor in hand is at its place, and the places behind are empty
-pub record Stored (n : ℕ) (c : Core) (homes : List (maybe.Option (Option Item))) : Type 0 where
+pub record Stored (n : ℕ) (c : LaneCore) (homes : List (maybe.Option (Option Item))) : Type 0 where
   pub waiting : (p : ℕ) → length c.taken + length c.hand ≤ p → p < length c.sent → get_elem? homes (p % n) ≡ some (some (slice_get c.sent p))
   pub free : (p : ℕ) → length c.sent + c.held ≤ p → p < length c.taken + n → get_elem? homes (p % n) ≡ some (some None)
 
 -- What the seat of that number knows is so. The output end has found new demand or a cancel at most once for each ask and for the
 -- cancel, and less often than that while there is something new to find.
-pub record Fits (c : Core) (j : ℕ) (v : Sight) : Type 0 where
+pub record SightFits (c : LaneCore) (j : ℕ) (v : Sight) : Type 0 where
   pub items : IsPrefix v.items c.sent
   pub number : v.number ≤ c.asked
   pub cancel : v.cancel ≤ c.cancel
@@ -78,13 +78,13 @@ pub record Fits (c : Core) (j : ℕ) (v : Sight) : Type 0 where
   pub gets : v.gets ≡ true → (j ≡ c.receiver) × (v.items ≡ c.taken ++ c.hand) × (v.slots ≡ length c.hand) × (v.number ≡ c.asked) × (v.cancel ≡ c.cancel) × (v.asks ≡ c.asks)
 
 -- the rule of a lane of that size: there is such a core behind its words, places and seats
-pub record IsLane (size : ℕ) (s : State (Option Item) Sight) : Type 0 where
-  pub core : Core
+pub record IsLaneState (size : ℕ) (s : State (Option Item) Sight) : Type 0 where
+  pub core : LaneCore
   pub words : s.words ≡ words_of (core.asked * 2 + core.cancel) (length core.sent)
   pub wide : length s.homes ≡ size + 1
   pub sound : Sound size core
   pub stored : Stored (size + 1) core s.homes
-  pub each : (j : ℕ) (v : Sight) → get_elem? s.views j ≡ some v → Fits core j v
+  pub each : (j : ℕ) (v : Sight) → get_elem? s.views j ≡ some v → SightFits core j v
 
 -- the view of the seat with which the table is made
 abbrev pub both_ends : Sight
@@ -95,8 +95,8 @@ abbrev pub nobody : Sight
 nobody = record { sends = false; gets = false; items = []; number = 0; cancel = 0; asks = 0; finds = 0; looks = 0; slots = 0; known = 0; told = []; told_number = 0; told_cancel = 0; told_finds = 0 }
 
 -- the two views into which that of the first seat is cut
-abbrev pub input_end : Sight → Sight
-input_end v = record v { sends = false }
+abbrev pub input_sight : Sight → Sight
+input_sight v = record v { sends = false }
 
 abbrev pub output_end : Sight → Sight
 output_end v = record v { gets = false }
@@ -180,5 +180,5 @@ abbrev pub HasFound : SeatView → SeatView → Type 0
 HasFound m n = n ≡ (record m.0 { looks = m.0.looks + 1; slots = 0; known = length m.0.items }, [])
 
 -- the output end's seat at the start
-abbrev pub first_out : SeatView
-first_out = (record (output_end both_ends) { slots = 1 }, (0, None) ∷ [])
+abbrev pub new_output_seat : SeatView
+new_output_seat = (record (output_end both_ends) { slots = 1 }, (0, None) ∷ [])

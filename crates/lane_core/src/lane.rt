@@ -1,7 +1,7 @@
 // A lane is made, and its ends are brought together.
 ghost use Rattle.std.specs.Prelude.{◌≡◌, ℕ, ◌+◌, ◌*◌, ◌<◌, ◌≤◌, [], false, IfOk, IsOk, IsTrue, length, replicate, None};
-ghost use Rattle.lane_core.specs.Lane.{IsLane, both_ends};
-ghost use Rattle.lane_core.specs.Ends.{sent, seen, saw_cancel, finds, has_ended, learnt, told_asked, told_cancel, told_sent, out_lane, out_size, taken, asked, asks, has_cancelled, out_looks, in_looks, in_lane, in_size, AreOneLane, IsSameOut, IsSameIn, IsLaneHistory, WaitsAre};
+ghost use Rattle.lane_core.specs.Lane.{IsLaneState, both_ends};
+ghost use Rattle.lane_core.specs.Ends.{sent, seen_count, saw_cancel, finds, has_ended, learnt, told_asked, told_cancel, told_sent, out_lane, out_size, taken_items, asked_in_all, ask_calls, has_cancelled, out_looks, in_looks, in_lane, in_size, AreOneLane, IsSameOut, IsSameIn, IsLaneHistory, WaitsAre};
 
 use crate::lane_in::LaneIn;
 use crate::lane_out::LaneOut;
@@ -15,7 +15,7 @@ use std::sync::Arc;
 /// no other call on an end takes memory or waits.
 pub fn lane(alloc: Global, size: u32) -> Result<(LaneOut, LaneIn), AllocError>
     requires { (1 ≤ size) × (size ≤ 1024) }
-    ensures { IfOk result (λ r. AreOneLane r.0 r.1 × (out_size r.0 ≡ size) × (in_size r.1 ≡ size) × (sent r.0 ≡ []) × (has_ended r.0 ≡ false) × (seen r.0 ≡ 0) × (saw_cancel r.0 ≡ 0) × (finds r.0 ≡ 0) × (taken r.1 ≡ []) × (asked r.1 ≡ 0) × (asks r.1 ≡ 0) × (has_cancelled r.1 ≡ 0)) }
+    ensures { IfOk result (λ r. AreOneLane r.0 r.1 × (out_size r.0 ≡ size) × (in_size r.1 ≡ size) × (sent r.0 ≡ []) × (has_ended r.0 ≡ false) × (seen_count r.0 ≡ 0) × (saw_cancel r.0 ≡ 0) × (finds r.0 ≡ 0) × (taken_items r.1 ≡ []) × (asked_in_all r.1 ≡ 0) × (ask_calls r.1 ≡ 0) × (has_cancelled r.1 ≡ 0)) }
 {
     let size = size as u64;
     let made = Table::vacant(alloc, &[0; WORDS], size as usize + 1, &size)?;
@@ -35,11 +35,11 @@ pub fn lane(alloc: Global, size: u32) -> Result<(LaneOut, LaneIn), AllocError>
 /// that was asked. It takes no memory.
 pub fn meet(out: &mut LaneOut, inp: &mut LaneIn) -> Result<Waits, AllocError>
     requires { AreOneLane out.old inp.old }
-    ensures out { IsSameOut out.old out.new × (sent out.new ≡ sent out.old) × (has_ended out.new ≡ has_ended out.old) × (seen out.new ≡ seen out.old) × (saw_cancel out.new ≡ saw_cancel out.old) × (finds out.new ≡ finds out.old) × (out_looks out.new ≡ out_looks out.old) }
-    ensures inp { IsSameIn inp.old inp.new × (taken inp.new ≡ taken inp.old) × (asked inp.new ≡ asked inp.old) × (asks inp.new ≡ asks inp.old) × (has_cancelled inp.new ≡ has_cancelled inp.old) × (in_looks inp.new ≡ in_looks inp.old) }
+    ensures out { IsSameOut out.old out.new × (sent out.new ≡ sent out.old) × (has_ended out.new ≡ has_ended out.old) × (seen_count out.new ≡ seen_count out.old) × (saw_cancel out.new ≡ saw_cancel out.old) × (finds out.new ≡ finds out.old) × (out_looks out.new ≡ out_looks out.old) }
+    ensures inp { IsSameIn inp.old inp.new × (taken_items inp.new ≡ taken_items inp.old) × (asked_in_all inp.new ≡ asked_in_all inp.old) × (ask_calls inp.new ≡ ask_calls inp.old) × (has_cancelled inp.new ≡ has_cancelled inp.old) × (in_looks inp.new ≡ in_looks inp.old) }
     ensures ok { IsOk result }
-    ensures learnt { learnt out.new ≡ asked inp.new }
-    ensures told { (told_asked out.new ≡ asked inp.new) × (told_cancel out.new ≡ has_cancelled inp.new) × (told_sent inp.new ≡ length (sent out.new)) }
+    ensures learnt { learnt out.new ≡ asked_in_all inp.new }
+    ensures told { (told_asked out.new ≡ asked_in_all inp.new) × (told_cancel out.new ≡ has_cancelled inp.new) × (told_sent inp.new ≡ length (sent out.new)) }
     ensures waits { IfOk result (WaitsAre out.new inp.new) }
     ensures history { IsLaneHistory out.new inp.new }
 {

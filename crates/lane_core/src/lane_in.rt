@@ -36,14 +36,14 @@ pub struct LaneIn {
 
 impl LaneIn {
     ghost use Rattle.std.specs.Prelude.{[], ◌∷◌, ◌++◌};
-    ghost use Rattle.lane_core.specs.Lane.{note, informed, input_end, both_ends};
-    ghost use Rattle.lane_core.specs.Ends.{taken, asked, asks, has_cancelled, found_sent, told_sent, in_looks, in_lane, in_size, IsSameIn};
+    ghost use Rattle.lane_core.specs.Lane.{note, informed, input_sight, both_ends};
+    ghost use Rattle.lane_core.specs.Ends.{taken_items, asked_in_all, ask_calls, has_cancelled, found_sent, told_sent, in_looks, in_lane, in_size, IsSameIn};
 
     pub(crate) fn new(table: Arc<LaneTable>, seat: LaneSeat, size: u64) -> LaneIn
         requires table { (seat.table_id ≡ (arc_value table).shared.table_id) × ((arc_value table).shared.key ≡ size) × (seat.table_id.words ≡ 17) × (seat.table_id.slots ≡ size + 1) }
         requires size { (1 ≤ size) × (size ≤ 1024) }
-        requires seat { seat.me ≡ (input_end both_ends, []) }
-        ensures { (in_lane result ≡ seat.table_id) × (in_size result ≡ size) × (taken result ≡ []) × (asked result ≡ 0) × (asks result ≡ 0) × (has_cancelled result ≡ 0) }
+        requires seat { seat.me ≡ (input_sight both_ends, []) }
+        ensures { (in_lane result ≡ seat.table_id) × (in_size result ≡ size) × (taken_items result ≡ []) × (asked_in_all result ≡ 0) × (ask_calls result ≡ 0) × (has_cancelled result ≡ 0) }
     {
         LaneIn {
             table,
@@ -69,7 +69,7 @@ impl LaneIn {
         requires { (told.table_id ≡ in_lane self.old) × (told.me.1 ≡ []) }
         ensures same { IsSameIn self.old self.new × (self.new.taken ≡ self.old.taken) × (self.new.asked ≡ self.old.asked) × (self.new.cancelled ≡ self.old.cancelled) }
         ensures seat { self.new.seat.me ≡ (informed self.old.seat.me.0 told.me.0, self.old.seat.me.1) }
-        ensures told { (told.me.0.number ≤ asked self.new) × (told.me.0.cancel ≤ has_cancelled self.new) × (told.me.0.finds ≤ asks self.new + has_cancelled self.new) × (told.me.0.cancel ≡ 1 → told.me.0.number ≡ asked self.new) }
+        ensures told { (told.me.0.number ≤ asked_in_all self.new) × (told.me.0.cancel ≤ has_cancelled self.new) × (told.me.0.finds ≤ ask_calls self.new + has_cancelled self.new) × (told.me.0.cancel ≡ 1 → told.me.0.number ≡ asked_in_all self.new) }
     {
         let shared = &self.table.shared;
         shared.join_seat::<Note>(&mut self.seat, told);
@@ -79,12 +79,12 @@ impl LaneIn {
     /// Takes the next item. `None` comes only where, when it looked, all that was sent had been taken;
     /// each call looks once. It takes no memory.
     pub fn take(&mut self) -> Option<Item>
-        ensures lane { IsSameIn self.old self.new × (asked self.new ≡ asked self.old) × (asks self.new ≡ asks self.old) × (has_cancelled self.new ≡ has_cancelled self.old) }
+        ensures lane { IsSameIn self.old self.new × (asked_in_all self.new ≡ asked_in_all self.old) × (ask_calls self.new ≡ ask_calls self.old) × (has_cancelled self.new ≡ has_cancelled self.old) }
         ensures looks { in_looks self.new ≡ in_looks self.old + 1 }
-        ensures some { IfSome result (λ x. taken self.new ≡ taken self.old ++ x ∷ []) }
-        ensures counts { IfSome result (λ x. elements (taken self.new) ≡ elements (taken self.old) + weight x) }
-        ensures few { IfSome result (λ _. elements (taken self.new) ≤ asked self.new) }
-        ensures none { IfNone result ((taken self.new ≡ taken self.old) × (found_sent self.new ≡ length (taken self.new)) × (told_sent self.old ≤ found_sent self.new)) }
+        ensures some { IfSome result (λ x. taken_items self.new ≡ taken_items self.old ++ x ∷ []) }
+        ensures counts { IfSome result (λ x. elements (taken_items self.new) ≡ elements (taken_items self.old) + weight x) }
+        ensures few { IfSome result (λ _. elements (taken_items self.new) ≤ asked_in_all self.new) }
+        ensures none { IfNone result ((taken_items self.new ≡ taken_items self.old) × (found_sent self.new ≡ length (taken_items self.new)) × (told_sent self.old ≤ found_sent self.new)) }
         ensures told { told_sent self.new ≡ told_sent self.old }
     {
         let item = fetch(&self.table.shared, &mut self.seat, self.taken, self.place)?;
@@ -95,9 +95,9 @@ impl LaneIn {
 
     /// Asks for n more elements: at most as many as have a place beside those that were asked for and not taken. It takes no memory.
     pub fn ask(&mut self, n: u64)
-        requires { (1 ≤ n) × (asked self.old + n ≤ elements (taken self.old) + in_size self.old) × (asked self.old + n < 2 ^ 62) × (has_cancelled self.old ≡ 0) }
-        ensures lane { IsSameIn self.old self.new × (taken self.new ≡ taken self.old) × (has_cancelled self.new ≡ 0) }
-        ensures asked { (asked self.new ≡ asked self.old + n) × (asks self.new ≡ asks self.old + 1) × (in_looks self.new ≡ in_looks self.old) }
+        requires { (1 ≤ n) × (asked_in_all self.old + n ≤ elements (taken_items self.old) + in_size self.old) × (asked_in_all self.old + n < 2 ^ 62) × (has_cancelled self.old ≡ 0) }
+        ensures lane { IsSameIn self.old self.new × (taken_items self.new ≡ taken_items self.old) × (has_cancelled self.new ≡ 0) }
+        ensures asked { (asked_in_all self.new ≡ asked_in_all self.old + n) × (ask_calls self.new ≡ ask_calls self.old + 1) × (in_looks self.new ≡ in_looks self.old) }
         ensures known { (found_sent self.new ≡ found_sent self.old) × (told_sent self.new ≡ told_sent self.old) }
     {
         self.table
@@ -109,7 +109,7 @@ impl LaneIn {
     /// Tells the other end that no more is wanted. It takes no memory.
     pub fn cancel(&mut self)
         requires { has_cancelled self.old ≡ 0 }
-        ensures lane { IsSameIn self.old self.new × (taken self.new ≡ taken self.old) × (asked self.new ≡ asked self.old) × (asks self.new ≡ asks self.old) }
+        ensures lane { IsSameIn self.old self.new × (taken_items self.new ≡ taken_items self.old) × (asked_in_all self.new ≡ asked_in_all self.old) × (ask_calls self.new ≡ ask_calls self.old) }
         ensures cancelled { (has_cancelled self.new ≡ 1) × (in_looks self.new ≡ in_looks self.old) }
         ensures known { (found_sent self.new ≡ found_sent self.old) × (told_sent self.new ≡ told_sent self.old) }
     {
@@ -121,7 +121,7 @@ impl LaneIn {
 
     /// How many elements were asked for in all. It does not look at the lane.
     pub fn asked(&self) -> u64
-        ensures { result ≡ asked self.now }
+        ensures { result ≡ asked_in_all self.now }
     {
         self.asked
     }

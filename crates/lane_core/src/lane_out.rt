@@ -42,14 +42,14 @@ pub struct LaneOut {
 impl LaneOut {
     ghost use Rattle.std.specs.Prelude.{◌++◌, IfOk, IfErr};
     ghost use Rattle.elem_core.specs.Prefix.{IsPrefix};
-    ghost use Rattle.lane_core.specs.Lane.{note, informed, first_out, is_new};
-    ghost use Rattle.lane_core.specs.Ends.{sent, seen, saw_cancel, finds, has_ended, learnt, told_asked, told_cancel, out_looks, out_lane, out_size, IsSameOut, RoomIs};
+    ghost use Rattle.lane_core.specs.Lane.{note, informed, new_output_seat, is_new};
+    ghost use Rattle.lane_core.specs.Ends.{sent, seen_count, saw_cancel, finds, has_ended, learnt, told_asked, told_cancel, out_looks, out_lane, out_size, IsSameOut, RoomIs};
 
     pub(crate) fn new(table: Arc<LaneTable>, seat: LaneSeat, size: u64) -> LaneOut
         requires table { (seat.table_id ≡ (arc_value table).shared.table_id) × ((arc_value table).shared.key ≡ size) × (seat.table_id.words ≡ 17) × (seat.table_id.slots ≡ size + 1) }
         requires size { (1 ≤ size) × (size ≤ 1024) }
-        requires seat { seat.me ≡ first_out }
-        ensures { (out_lane result ≡ seat.table_id) × (out_size result ≡ size) × (sent result ≡ []) × (has_ended result ≡ false) × (seen result ≡ 0) × (saw_cancel result ≡ 0) × (finds result ≡ 0) }
+        requires seat { seat.me ≡ new_output_seat }
+        ensures { (out_lane result ≡ seat.table_id) × (out_size result ≡ size) × (sent result ≡ []) × (has_ended result ≡ false) × (seen_count result ≡ 0) × (saw_cancel result ≡ 0) × (finds result ≡ 0) }
     {
         LaneOut {
             table,
@@ -72,7 +72,7 @@ impl LaneOut {
 
     /// How many more elements may be sent by the demand that was seen. It does not look at the lane.
     pub fn left(&self) -> u64
-        ensures { elements (sent self.now) + result ≡ seen self.now }
+        ensures { elements (sent self.now) + result ≡ seen_count self.now }
     {
         self.word / 2 - self.used
     }
@@ -93,7 +93,7 @@ impl LaneOut {
 
     // The other end says what it asked in all.
     pub(crate) fn learn(&mut self, asked: u64)
-        requires { seen self.old ≤ asked }
+        requires { seen_count self.old ≤ asked }
         ensures same { IsSameOut self.old self.new × (has_ended self.new ≡ has_ended self.old) × (self.new.word ≡ self.old.word) × (self.new.seat.me ≡ self.old.seat.me) }
         ensures learnt { learnt self.new ≡ asked }
     {
@@ -124,11 +124,11 @@ impl LaneOut {
     /// once. It takes no memory.
     pub fn room(&mut self) -> Room
         ensures lane { IsSameOut self.old self.new × (sent self.new ≡ sent self.old) × (has_ended self.new ≡ has_ended self.old) }
-        ensures later { (learnt self.new ≡ seen self.new) × (seen self.old ≤ seen self.new) × (saw_cancel self.old ≤ saw_cancel self.new) }
-        ensures told { (told_asked self.old ≤ seen self.new) × (told_cancel self.old ≤ saw_cancel self.new) }
+        ensures later { (learnt self.new ≡ seen_count self.new) × (seen_count self.old ≤ seen_count self.new) × (saw_cancel self.old ≤ saw_cancel self.new) }
+        ensures told { (told_asked self.old ≤ seen_count self.new) × (told_cancel self.old ≤ saw_cancel self.new) }
         ensures looks { out_looks self.new ≡ out_looks self.old + 1 }
-        ensures finds { finds self.new ≡ finds self.old + is_new (seen self.old) (saw_cancel self.old) (seen self.new) (saw_cancel self.new) }
-        ensures room { RoomIs result (λ n. (saw_cancel self.new ≡ 0) × (elements (sent self.new) + n ≡ seen self.new)) (saw_cancel self.new ≡ 1) }
+        ensures finds { finds self.new ≡ finds self.old + is_new (seen_count self.old) (saw_cancel self.old) (seen_count self.new) (saw_cancel self.new) }
+        ensures room { RoomIs result (λ n. (saw_cancel self.new ≡ 0) × (elements (sent self.new) + n ≡ seen_count self.new)) (saw_cancel self.new ≡ 1) }
     {
         let word = self.table.shared.load::<SeeAsked>(&mut self.seat, ASKED);
         self.word = word;
@@ -143,10 +143,10 @@ impl LaneOut {
     /// Sends an item. An element comes back where all demand that was seen is used; an end needs no demand. It takes no memory.
     pub fn offer(&mut self, item: Item) -> Result<(), Item>
         requires { (has_ended self.old ≡ false) × (saw_cancel self.old ≡ 0) }
-        ensures lane { IsSameOut self.old self.new × (seen self.new ≡ seen self.old) × (saw_cancel self.new ≡ saw_cancel self.old) × (finds self.new ≡ finds self.old) × (out_looks self.new ≡ out_looks self.old) × (learnt self.new ≡ learnt self.old) }
-        ensures ok { IfOk result (λ _. (sent self.new ≡ sent self.old ++ item ∷ []) × (elements (sent self.new) ≤ seen self.new) × (has_ended self.new ≡ ends item)) }
+        ensures lane { IsSameOut self.old self.new × (seen_count self.new ≡ seen_count self.old) × (saw_cancel self.new ≡ saw_cancel self.old) × (finds self.new ≡ finds self.old) × (out_looks self.new ≡ out_looks self.old) × (learnt self.new ≡ learnt self.old) }
+        ensures ok { IfOk result (λ _. (sent self.new ≡ sent self.old ++ item ∷ []) × (elements (sent self.new) ≤ seen_count self.new) × (has_ended self.new ≡ ends item)) }
         ensures counts { IfOk result (λ _. elements (sent self.new) ≡ elements (sent self.old) + weight item) }
-        ensures err { IfErr result (λ x. (x ≡ item) × (ends item ≡ false) × (elements (sent self.old) ≡ seen self.old) × (sent self.new ≡ sent self.old) × (has_ended self.new ≡ false)) }
+        ensures err { IfErr result (λ x. (x ≡ item) × (ends item ≡ false) × (elements (sent self.old) ≡ seen_count self.old) × (sent self.new ≡ sent self.old) × (has_ended self.new ≡ false)) }
     {
         if is_end(&item) {
             announce(&self.table.shared, &mut self.seat, self.place, item);

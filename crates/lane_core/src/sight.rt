@@ -42,9 +42,9 @@ pub struct Sight {
 pub struct LaneRule;
 
 impl TableRule<Option<Item>, Sight, u64> for LaneRule {
-    ghost use Rattle.lane_core.specs.Lane.{IsLane, both_ends};
+    ghost use Rattle.lane_core.specs.Lane.{IsLaneState, both_ends};
 
-    ghost holds = { IsLane };
+    ghost holds = { IsLaneState };
 
     ghost first = { λ size. both_ends };
 }
@@ -68,9 +68,9 @@ pub const WORDS: usize = 17;
 pub struct Ends;
 
 impl Split<Sight> for Ends {
-    ghost use Rattle.lane_core.specs.Lane.{input_end, output_end};
+    ghost use Rattle.lane_core.specs.Lane.{input_sight, output_end};
 
-    ghost left = { input_end };
+    ghost left = { input_sight };
 
     ghost right = { output_end };
 }

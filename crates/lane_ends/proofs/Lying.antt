@@ -13,11 +13,11 @@ use Rattle.std.specs.Prelude.{◌==◌, true, false}
 use Rattle.island_boundary.specs.declared.input.IslandInput.{IslandInput}
 use Rattle.island_boundary.specs.declared.output.OutputBoundary.{OutputBoundary}
 use Rattle.rounds.specs.declared.crossing.Crossing.{Crossing}
-use Rattle.scatter.specs.Shares.{of_home, count_of, rank_of, items_at, AreShares}
+use Rattle.scatter.specs.Shares.{of_home, share_of, rank_of, items_at, AreShares}
 use Rattle.scatter.proofs.Sharing.{count_here, count_elsewhere, count_within, share_count, share_at, share_from}
 use Rattle.traversal.specs.declared.plan.LanePlan.{LanePlan}
 use Rattle.lane_ends.specs.declared.ends.AllEnds.{AllEnds}
-use Rattle.lane_ends.specs.Ends.{AreRising, AreMade, AreCrossings, IsEndOf, LieBy, AreAllEnds}
+use Rattle.lane_ends.specs.Ends.{AreRising, AreMade, AreCrossingsOf, IsLaneEndOf, LieBy, AreAllEnds}
 
 -- what stands at a place of a list
 there : {X : Type 0} (xs : List X) (n : ℕ) → n < length xs → (x : X) × (slice_get xs n ≡ Some x)
@@ -31,7 +31,7 @@ split zero (suc n) = inl (omega arith)
 split (suc m) (suc n) = ⊎_elim (λ (l : m < n). inl (omega (arith, l))) (λ (l : n ≤ m). inr (omega (arith, l))) (split m n)
 
 -- of two items of one home the later one has the greater rank
-count_grows : (hs : List ℕ) (m n k : ℕ) → m < n → slice_get hs m ≡ Some k → count_of k (take m hs) < count_of k (take n hs)
+count_grows : (hs : List ℕ) (m n k : ℕ) → m < n → slice_get hs m ≡ Some k → share_of k (take m hs) < share_of k (take n hs)
 count_grows [] m n k lt at = absurd cc
 count_grows (h ∷ hs) m zero k lt at = absurd (omega (arith, lt))
 count_grows (h ∷ hs) zero (suc n) k lt at = let same : h ≡ k = cc in let one = count_here h k (take n hs) (eq-eqb h k same) in omega (arith, one)
@@ -43,13 +43,13 @@ count_grows (h ∷ hs) (suc m) (suc n) k lt at =
     (cases_Bool (h == k))
 
 -- so ranks order the items of one home
-rank_order : (hs : List ℕ) (m n k : ℕ) → slice_get hs n ≡ Some k → count_of k (take m hs) < count_of k (take n hs) → m < n
+rank_order : (hs : List ℕ) (m n k : ℕ) → slice_get hs n ≡ Some k → share_of k (take m hs) < share_of k (take n hs) → m < n
 rank_order hs m n k at lt =
     ⊎_elim
     (λ (l : m < n). l)
     (λ (l : n ≤ m).
     ⊎_elim
-    (λ (e : m ≡ n). let same : count_of k (take m hs) ≡ count_of k (take n hs) = ap (λ i. count_of k (take i hs)) e in absurd (omega (arith, same, lt)))
+    (λ (e : m ≡ n). let same : share_of k (take m hs) ≡ share_of k (take n hs) = ap (λ i. share_of k (take i hs)) e in absurd (omega (arith, same, lt)))
     (λ (ne : m ≡ n → ⊥). let more = count_grows hs n m k (below l ne) at in absurd (omega (arith, more, lt)))
     (cases_eq m n))
     (split m n)
@@ -57,7 +57,7 @@ rank_order hs m n k at lt =
     below : n ≤ m → (m ≡ n → ⊥) → n < m
     below l ne = omega (arith, l, ne)
 
-rank_one : (hs : List ℕ) (m n k : ℕ) → slice_get hs m ≡ Some k → slice_get hs n ≡ Some k → count_of k (take m hs) ≡ count_of k (take n hs) → m ≡ n
+rank_one : (hs : List ℕ) (m n k : ℕ) → slice_get hs m ≡ Some k → slice_get hs n ≡ Some k → share_of k (take m hs) ≡ share_of k (take n hs) → m ≡ n
 rank_one hs m n k a b e =
     ⊎_elim
     (λ (l : m < n). let more = count_grows hs m n k l a in absurd (omega (arith, more, e)))
@@ -77,25 +77,25 @@ module _ {X : Type 0} (lanes : List LanePlan) (home : LanePlan → ℕ) (homes :
   lies_at n l x at here =
       let h = home_at n l at in
       let is : slice_index homes n ≡ home l = get_or_from_slice_get homes n (home l) 0 h in
-      ap (λ ys. slice_get ys (rank_of homes n)) (shares.shares (home l)) ∙ ap (λ k. slice_get (of_home homes (home l) xs) (count_of k (take n homes))) is ∙ share_at homes xs n (home l) x here h
+      ap (λ ys. slice_get ys (rank_of homes n)) (shares.shares (home l)) ∙ ap (λ k. slice_get (of_home homes (home l) xs) (share_of k (take n homes))) is ∙ share_at homes xs n (home l) x here h
 
   -- no list is longer than that of the lanes
   pub few_at : (k : ℕ) → length (items_at lists k) ≤ length lanes
   few_at k =
       let own : length (items_at lists k) ≡ length (of_home homes k xs) = ap length (shares.shares k) in
-      let counted : length (of_home homes k xs) ≡ count_of k homes = share_count homes xs k shares.each in
-      let within : count_of k homes ≤ length homes = count_within k homes in
+      let counted : length (of_home homes k xs) ≡ share_of k homes = share_count homes xs k shares.each in
+      let within : share_of k homes ≤ length homes = count_within k homes in
       omega (arith, own, counted, within, shares.each, many)
 
   -- each has as many as there are lanes of its island
-  pub count_at : (k : ℕ) → length (items_at lists k) ≡ count_of k (map home lanes)
-  count_at k = ap length (shares.shares k) ∙ (share_count homes xs k shares.each ∙ ap (λ hs. count_of k hs) homes_are)
+  pub count_at : (k : ℕ) → length (items_at lists k) ≡ share_of k (map home lanes)
+  count_at k = ap length (shares.shares k) ∙ (share_count homes xs k shares.each ∙ ap (λ hs. share_of k hs) homes_are)
 
   module _ (island place : Crossing → ℕ) (wire : X → ℕ) (crossings : List Crossing) (crossings_many : length crossings ≡ length lanes)
       (islands_are : (n : ℕ) (l : LanePlan) (c : Crossing) → slice_get lanes n ≡ Some l → slice_get crossings n ≡ Some c → island c ≡ home l)
       (places_are : (n : ℕ) (l : LanePlan) (c : Crossing) → slice_get lanes n ≡ Some l → slice_get crossings n ≡ Some c → place c ≡ rank_of homes n)
       (wires_are : (n : ℕ) (l : LanePlan) (x : X) → slice_get lanes n ≡ Some l → slice_get xs n ≡ Some x → wire x ≡ l.wire) (rising : AreRising lanes) where
-    end_of : (k p : ℕ) (x : X) → slice_get (items_at lists k) p ≡ Some x → IsEndOf island place crossings k p
+    end_of : (k p : ℕ) (x : X) → slice_get (items_at lists k) p ≡ Some x → IsLaneEndOf island place crossings k p
     end_of k p x at =
         let f = share_from homes xs k p x (ap (λ ys. slice_get ys p) (sym (shares.shares k)) ∙ at) in
         let n = f.from in
@@ -109,7 +109,7 @@ module _ {X : Type 0} (lanes : List LanePlan) (home : LanePlan → ℕ) (homes :
           crossing = c.0;
           there = c.1;
           island_is = islands_are n l.0 c.0 l.1 c.1 ∙ here;
-          place_is = places_are n l.0 c.0 l.1 c.1 ∙ ap (λ h. count_of h (take n homes)) (get_or_from_slice_get homes n k 0 f.home) ∙ f.rank;
+          place_is = places_are n l.0 c.0 l.1 c.1 ∙ ap (λ h. share_of h (take n homes)) (get_or_from_slice_get homes n k 0 f.home) ∙ f.rank;
         }
 
     end_one : (m n : ℕ) (c d : Crossing) → slice_get crossings m ≡ Some c → slice_get crossings n ≡ Some d → island c ≡ island d → place c ≡ place d → m ≡ n
@@ -121,15 +121,15 @@ module _ {X : Type 0} (lanes : List LanePlan) (home : LanePlan → ℕ) (homes :
         let same : home l.0 ≡ home l'.0 = sym (islands_are m l.0 c l.1 at) ∙ e ∙ islands_are n l'.0 d l'.1 at' in
         let h = home_at m l.0 l.1 in
         let h' : slice_get homes n ≡ Some (home l.0) = home_at n l'.0 l'.1 ∙ ap Some (sym same) in
-        let r : rank_of homes m ≡ count_of (home l.0) (take m homes) = ap (λ k. count_of k (take m homes)) (get_or_from_slice_get homes m (home l.0) 0 h) in
-        let r' : rank_of homes n ≡ count_of (home l.0) (take n homes) = ap (λ k. count_of k (take n homes)) (get_or_from_slice_get homes n (home l.0) 0 h') in
+        let r : rank_of homes m ≡ share_of (home l.0) (take m homes) = ap (λ k. share_of k (take m homes)) (get_or_from_slice_get homes m (home l.0) 0 h) in
+        let r' : rank_of homes n ≡ share_of (home l.0) (take n homes) = ap (λ k. share_of k (take n homes)) (get_or_from_slice_get homes n (home l.0) 0 h') in
         rank_one homes m n (home l.0) h h' (sym r ∙ sym (places_are m l.0 c l.1 at) ∙ f ∙ places_are n l'.0 d l'.1 at' ∙ r')
 
     end_rise : (k p q : ℕ) (x y : X) → p < q → slice_get (items_at lists k) p ≡ Some x → slice_get (items_at lists k) q ≡ Some y → wire x < wire y
     end_rise k p q x y lt at at' =
         let f = share_from homes xs k p x (ap (λ ys. slice_get ys p) (sym (shares.shares k)) ∙ at) in
         let g = share_from homes xs k q y (ap (λ ys. slice_get ys q) (sym (shares.shares k)) ∙ at') in
-        let more : count_of k (take f.from homes) < count_of k (take g.from homes) = omega (arith, f.rank, g.rank, lt) in
+        let more : share_of k (take f.from homes) < share_of k (take g.from homes) = omega (arith, f.rank, g.rank, lt) in
         let before = rank_order homes f.from g.from k g.home more in
         let w = slice_get_within xs f.from x f.at in
         let w' = slice_get_within xs g.from y g.at in
@@ -154,7 +154,7 @@ homes_below lanes home count homes is below = All-from_get_or (λ h. h < count) 
 -- the ends that were made, and shared out by their islands
 pub all_ends : (lanes : List LanePlan) (count : ℕ) (e : AllEnds) (outs : List OutputBoundary) (ins : List IslandInput) (froms tos out_ranks in_ranks : List ℕ) → AreRising lanes → AreMade lanes outs ins → froms ≡ map (λ (l : LanePlan). l.from) lanes → tos ≡ map (λ (l : LanePlan). l.to) lanes
     → AreShares froms outs e.outs.items → AreShares tos ins e.ins.items → length e.outs.items ≡ count → length e.ins.items ≡ count → ((i : ℕ) → i < length froms → slice_index out_ranks i ≡ rank_of froms i) → ((i : ℕ) → i < length tos → slice_index in_ranks i ≡ rank_of tos i)
-    → AreCrossings lanes out_ranks in_ranks e.crossings.items → AreAllEnds lanes count e
+    → AreCrossingsOf lanes out_ranks in_ranks e.crossings.items → AreAllEnds lanes count e
 all_ends lanes count e outs ins froms tos out_ranks in_ranks rising made froms_are tos_are so si outs_count ins_count ro ri cs =
     let crossings = e.crossings.items in
     let from_of : LanePlan → ℕ = λ l. l.from in

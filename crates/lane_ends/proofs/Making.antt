@@ -6,7 +6,7 @@ use Rattle.island_boundary.specs.declared.input.IslandInput.{IslandInput}
 use Rattle.island_boundary.specs.declared.output.OutputBoundary.{OutputBoundary}
 use Rattle.rounds.specs.declared.crossing.Crossing.{Crossing}
 use Rattle.traversal.specs.declared.plan.LanePlan.{LanePlan}
-use Rattle.lane_ends.specs.Ends.{AreEnds, AreMade, AreCrossings}
+use Rattle.lane_ends.specs.Ends.{AreEnds, AreMade, AreCrossingsOf}
 
 -- what stands at a place of a list to which one was put
 record IsLast {X : Type 0} (xs : List X) (x : X) (k : ℕ) (y : X) : Type 0 where
@@ -104,5 +104,5 @@ module _ (lanes : List LanePlan) where
             let made : ℕ → ℕ → ℕ → ℕ → Crossing = λ p q u v. record { from = p; out = q; to = u; inp = v } in
             ap (λ n. made n y.out y.to y.inp) a ∙ ap (λ n. made f n y.to y.inp) b ∙ ap (λ n. made f o n y.inp) c ∙ ap (λ n. made f o t n) d
 
-    pub crosses_last : (n : ℕ) (crossings : List Crossing) → n ≡ length lanes → Crosses n crossings → AreCrossings lanes outs ins crossings
+    pub crosses_last : (n : ℕ) (crossings : List Crossing) → n ≡ length lanes → Crosses n crossings → AreCrossingsOf lanes outs ins crossings
     crosses_last n crossings e m = record { many = m.many ∙ e; each = m.each }

@@ -1,7 +1,7 @@
 // The ends of lanes, by islands.
 ghost use Rattle.std.specs.Prelude.{◌≡◌, ◌<◌, ℕ, IfOk, length, map};
 ghost use Rattle.traversal.specs.declared.plan.LanePlan.{LanePlan};
-ghost use Rattle.lane_ends.specs.Ends.{CanAllBeMade, AreRising, AreAllEnds, AreCrossings};
+ghost use Rattle.lane_ends.specs.Ends.{CanAllBeMade, AreRising, AreAllEnds, AreCrossingsOf};
 
 use crate::make::{Made, make_lanes};
 use crate::share::{Shared, share};
@@ -75,7 +75,7 @@ fn crossings_of(
 ) -> Result<Vec<Crossing>, NoMemory>
     requires outs { length outs.now ≡ length lanes.now }
     requires ins { length ins.now ≡ length lanes.now }
-    ensures { IfOk result (λ all. AreCrossings lanes.now outs.now ins.now all.items) }
+    ensures { IfOk result (λ all. AreCrossingsOf lanes.now outs.now ins.now all.items) }
 {
     let mut crossings = Vec::new(alloc);
     for (n, lane) in lanes.iter().enumerate() {

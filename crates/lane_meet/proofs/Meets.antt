@@ -4,7 +4,7 @@ use Rattle.std.proofs.lemmas.List.{length-set}
 use Rattle.lane_core.specs.declared.lane_out.LaneOut.{LaneOut}
 use Rattle.lane_core.specs.declared.lane_in.LaneIn.{LaneIn}
 use Rattle.lane_core.specs.declared.room.Waits.{Waits}
-use Rattle.lane_core.specs.Ends.{sent, learnt, asked, has_cancelled, told_asked, told_cancel, told_sent, IsLaneHistory, WaitsAre}
+use Rattle.lane_core.specs.Ends.{sent, learnt, asked_in_all, has_cancelled, told_asked, told_cancel, told_sent, IsLaneHistory, WaitsAre}
 use Rattle.lane_meet.specs.declared.ends.LaneEnds.{LaneEnds}
 use Rattle.lane_meet.specs.Meeting.{KeepsOut, KeepsIn, AreTold, MeetsOne}
 
@@ -30,7 +30,7 @@ module _ {A : Type 0} where
   get_here (x ∷ xs) (suc n) d p e = get_here xs n d p e
 
 pub meets_one : (from to from' to' : LaneEnds) (out inp : ℕ) (o p : LaneOut) (i j : LaneIn) (w : Waits) → o ≡ get_or from.outs.items out o → i ≡ get_or to.ins.items inp i → from'.outs.items ≡ set from.outs.items out p → to'.ins.items ≡ set to.ins.items inp j
-    → KeepsOut o p → KeepsIn i j → learnt p ≡ asked j → (told_asked p ≡ asked j) × (told_cancel p ≡ has_cancelled j) × (told_sent j ≡ length (sent p)) → WaitsAre p j w → IsLaneHistory p j → MeetsOne from out to inp from' to' w
+    → KeepsOut o p → KeepsIn i j → learnt p ≡ asked_in_all j → (told_asked p ≡ asked_in_all j) × (told_cancel p ≡ has_cancelled j) × (told_sent j ≡ length (sent p)) → WaitsAre p j w → IsLaneHistory p j → MeetsOne from out to inp from' to' w
 meets_one from to from' to' out inp o p i j w oi ii os is ko ki l td wa h = record {
   outs_count = ap length os ∙ length-set _ _ _;
   ins_count = ap length is ∙ length-set _ _ _;
@@ -38,7 +38,7 @@ meets_one from to from' to' out inp o p i j w oi ii os is ko ki l td wa h = reco
   ins_other = λ k ne. ap (λ xs. slice_get xs k) is ∙ get_set_other to.ins.items inp k j ne;
   keeps_out = λ a b ea eb. subst (λ x. KeepsOut x b) (oi ∙ get_here from.outs.items out o a ea) (subst (λ x. KeepsOut o x) (there b eb) ko);
   keeps_in = λ a b ea eb. subst (λ x. KeepsIn x b) (ii ∙ get_here to.ins.items inp i a ea) (subst (λ x. KeepsIn i x) (here b eb) ki);
-  learnt = λ a b ea eb. subst (λ x. learnt x ≡ asked b) (there a ea) (subst (λ x. learnt p ≡ asked x) (here b eb) l);
+  learnt = λ a b ea eb. subst (λ x. learnt x ≡ asked_in_all b) (there a ea) (subst (λ x. learnt p ≡ asked_in_all x) (here b eb) l);
   told = λ a b ea eb. subst (λ x. AreTold x b) (there a ea) (subst (λ x. AreTold p x) (here b eb) (record { asked_is = td.0; cancel_is = td.1; sent_is = td.2 }));
   waits = λ a b ea eb. subst (λ x. WaitsAre x b w) (there a ea) (subst (λ x. WaitsAre p x w) (here b eb) wa);
   history = λ a b ea eb. subst (λ x. IsLaneHistory x b) (there a ea) (subst (λ x. IsLaneHistory p x) (here b eb) h);

@@ -7,7 +7,7 @@ use Rattle.elem_core.specs.declared.item.Item.{Item}
 use Rattle.lane_core.specs.declared.lane_out.LaneOut.{LaneOut}
 use Rattle.lane_core.specs.declared.lane_in.LaneIn.{LaneIn}
 use Rattle.lane_core.specs.declared.room.Waits.{Waits}
-use Rattle.lane_core.specs.Ends.{sent, seen, saw_cancel, taken, asked, has_cancelled, EndIsLast, IsLaneHistory, WaitsAre}
+use Rattle.lane_core.specs.Ends.{sent, seen_count, saw_cancel, taken_items, asked_in_all, has_cancelled, EndIsLast, IsLaneHistory, WaitsAre}
 use Rattle.lane_meet.specs.Meeting.{KeepsOut, KeepsIn}
 
 pub history_stands : (o p : LaneOut) (i j : LaneIn) → KeepsOut o p → KeepsIn i j → IsLaneHistory o i → IsLaneHistory p j
@@ -15,7 +15,7 @@ history_stands o p i j ko ki h =
     let sends = ap elements ko.sent in
     let takes = ap elements ki.taken in
     record {
-      prefix = subst (λ (l : List Item). IsPrefix l (sent p)) (sym ki.taken) (subst (λ (l : List Item). IsPrefix (taken i) l) (sym ko.sent) h.prefix);
+      prefix = subst (λ (l : List Item). IsPrefix l (sent p)) (sym ki.taken) (subst (λ (l : List Item). IsPrefix (taken_items i) l) (sym ko.sent) h.prefix);
       last = subst (λ (l : List Item). EndIsLast l) (sym ko.sent) h.last;
       used = let u = h.used in let s = ko.seen in omega (arith, sends, u, s);
       seen_asked = let a = h.seen_asked in let s = ko.seen in let t = ki.asked in omega (arith, a, s, t);
@@ -35,4 +35,4 @@ same_wait s s' n n' c c' t t' m m' d d' w es en ec et em ed h = rw (es, en, ec, 
 
 pub waits_stand : (o p : LaneOut) (i j : LaneIn) (w : Waits) → KeepsOut o p → KeepsIn i j → WaitsAre o i w → WaitsAre p j w
 waits_stand o p i j w ko ki h =
-    same_wait (sent o) (sent p) (seen o) (seen p) (saw_cancel o) (saw_cancel p) (taken i) (taken j) (asked i) (asked j) (has_cancelled i) (has_cancelled j) w ko.sent ko.seen ko.cancel ki.taken ki.asked ki.cancel h
+    same_wait (sent o) (sent p) (seen_count o) (seen_count p) (saw_cancel o) (saw_cancel p) (taken_items i) (taken_items j) (asked_in_all i) (asked_in_all j) (has_cancelled i) (has_cancelled j) w ko.sent ko.seen ko.cancel ki.taken ki.asked ki.cancel h

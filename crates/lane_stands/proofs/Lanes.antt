@@ -5,7 +5,7 @@ use Rattle.elem_core.proofs.Prefixes.{prefix_whole}
 use Rattle.elem_core.specs.Items.{elements}
 use Rattle.elem_core.specs.declared.item.Item.{Item}
 use Rattle.stream_io.specs.State.{SourceState, DrainState}
-use Rattle.port_core.specs.Ring.{holds}
+use Rattle.port_core.specs.Ring.{is_waiting}
 use Rattle.port_core.specs.Joint.{IsSound}
 use Rattle.port_core.specs.declared.view.InView.{InView}
 use Rattle.port_core.specs.declared.view.InView.TheVariants.{Idle}
@@ -18,7 +18,7 @@ use Rattle.fused_net.specs.Net.{Net, wire_at}
 use Rattle.fused_net.specs.Laws.{Settled}
 use Rattle.lane_core.specs.declared.lane_out.LaneOut.{LaneOut}
 use Rattle.lane_core.specs.declared.room.Waits.{Waits}
-use Rattle.lane_core.specs.Ends.{sent, seen, saw_cancel, taken, asked, has_cancelled, in_size, IsLaneHistory, WaitsAre}
+use Rattle.lane_core.specs.Ends.{sent, seen_count, saw_cancel, taken_items, asked_in_all, has_cancelled, in_size, IsLaneHistory, WaitsAre}
 use Rattle.input_boundary.specs.declared.boundary.InputBoundary.{InputBoundary}
 use Rattle.input_boundary.specs.declared.state.State.{State}
 use Rattle.input_boundary.specs.declared.state.State.TheVariants.{Flowing, Closed, Cancelled}
@@ -39,7 +39,7 @@ use Rattle.lane_stands.proofs.Leaving.{took_there, there, idle_rest}
 
 -- no wire is queued where no event is left
 sound_rest : {S D L B : Type 0} {sources : S → SourceState} {drains : D → DrainState} {book : Book} (net : Net (IslandNode S D L B)) → Settled node_port_state (node_law sources drains book) node_asking node_moves net → net.queue ≡ [] → (q : ℕ) → q < length net.wires → IsSound (wire_at net q).wire false
-sound_rest net s none q h = subst (λ (l : List ℕ). IsSound (wire_at net q).wire (holds l q)) none (s.sound q h)
+sound_rest net s none q h = subst (λ (l : List ℕ). IsSound (wire_at net q).wire (is_waiting l q)) none (s.sound q h)
 
 -- ---- small facts
 
@@ -72,14 +72,14 @@ module _ {S D L B : Type 0} (sources : S → SourceState) (drains : D → DrainS
       sym (t.parts ∙ ap (λ (r : List Item). node_gone x.0 ++ r) none ∙ append-nil (node_gone x.0) ∙ (serves.live z).gone x.0 x.1)
 
   -- one that asks for nothing has used all demand that it saw
-  used_all : (b : InputBoundary) → i.net.queue ≡ [] → IsLaneHistory o b.lane → IsServed o i u → (cell_out i u).wire.inp ≡ Idle → elements (cell_out i u).wire.sent ≡ seen o
+  used_all : (b : InputBoundary) → i.net.queue ≡ [] → IsLaneHistory o b.lane → IsServed o i u → (cell_out i u).wire.inp ≡ Idle → elements (cell_out i u).wire.sent ≡ seen_count o
   used_all b none h served e =
       let most : saw_cancel o ≤ 1 = let a = h.cancel in let c = (are_met o b.lane h).once in omega (arith, a, c) in
       let z : saw_cancel o ≡ 0 = no_one (saw_cancel o) most (λ c. not_closed (cell_out i u).wire.inp (serves.closed c) e) in
       let rest = idle_rest (cell_out i u).wire (sound_rest i.net s none (way_out i u) l.place) e in
       let all : (cell_out i u).wire.sent ≡ sent o = rest.1 ∙ sym (sent_all served z) in
       let count : elements (cell_out i u).wire.sent ≡ elements (sent o) = ap elements all in
-      let least : elements (sent o) ≤ seen o = h.used in
+      let least : elements (sent o) ≤ seen_count o = h.used in
       elim (served.used z e) [
         | inl f ↦ omega (arith, count, least, f)
         | inr f ↦ absurd (false_true (cell_out i u).wire.conn.out_closed rest.0 f)
@@ -137,13 +137,13 @@ no_less m n h = grind (arith, h)
 
 pub met_quiet : (o : LaneOut) (b : InputBoundary) (w : Waits) → IsLaneHistory o b.lane → WaitsAre o b.lane w → w.item ≡ false → w.demand ≡ false → MetQuiet (out_end o) (in_end b.lane)
 met_quiet o b w h waits item demand = record {
-  taken_all = prefix_whole h.prefix (no_less (length (taken b.lane)) (length (sent o)) (not_true w.item _ waits.0 item));
-  seen_all = let n : asked b.lane ≤ seen o = no_less (seen o) (asked b.lane) (λ e. not_true w.demand _ waits.1 demand (inl e)) in let m = h.seen_asked in omega (arith, m, n);
+  taken_all = prefix_whole h.prefix (no_less (length (taken_items b.lane)) (length (sent o)) (not_true w.item _ waits.0 item));
+  seen_all = let n : asked_in_all b.lane ≤ seen_count o = no_less (seen_count o) (asked_in_all b.lane) (λ e. not_true w.demand _ waits.1 demand (inl e)) in let m = h.seen_asked in omega (arith, m, n);
   refused_is = let n : has_cancelled b.lane ≤ saw_cancel o = no_less (saw_cancel o) (has_cancelled b.lane) (λ e. not_true w.demand _ waits.1 demand (inr e)) in let m = h.cancel in omega (arith, m, n);
 }
 
 module _ {S D L B : Type 0} (sources : S → SourceState) (drains : D → DrainState) (book : Book) (o : LaneOut) (b : InputBoundary) (i j : Kept S D L B) (u : ℕ) (s : Settled node_port_state (node_law sources drains book) node_asking node_moves i.net) (t : Settled node_port_state (node_law sources drains book) node_asking node_moves j.net) (l : Leaves i u) (e : Enters j u) (k : BoundaryKeeps b) (h : IsLaneHistory o b.lane) (serves : Serves o i u) (feeds : Feeds b j u) where
-  pub lane_keeps : (k : LaneKeeps (in_size b.lane) (cell_out i u) (cell_in j u) (asked b.lane)) × ((k.out ≡ out_end o) × (k.inp ≡ in_end b.lane))
+  pub lane_keeps : (k : LaneKeeps (in_size b.lane) (cell_out i u) (cell_in j u) (asked_in_all b.lane)) × ((k.out ≡ out_end o) × (k.inp ≡ in_end b.lane))
   lane_keeps = (
     record {
       out = out_end o;
@@ -157,7 +157,7 @@ module _ {S D L B : Type 0} (sources : S → SourceState) (drains : D → DrainS
   )
 
   pub lane_quiet : i.net.queue ≡ [] → j.net.queue ≡ [] → IsServed o i u → IsFed b j u → (w : Waits) → WaitsAre o b.lane w → w.item ≡ false → w.demand ≡ false
-      → (x : LaneKeeps (in_size b.lane) (cell_out i u) (cell_in j u) (asked b.lane)) → x.out ≡ out_end o → x.inp ≡ in_end b.lane → LaneQuiet (in_size b.lane) (cell_out i u) (cell_in j u) (asked b.lane) x
+      → (x : LaneKeeps (in_size b.lane) (cell_out i u) (cell_in j u) (asked_in_all b.lane)) → x.out ≡ out_end o → x.inp ≡ in_end b.lane → LaneQuiet (in_size b.lane) (cell_out i u) (cell_in j u) (asked_in_all b.lane) x
   lane_quiet none none' served fed w waits item demand x out inp = record {
     out = rw out (out_quiet sources drains book o i u s l serves b none h served);
     inp = rw inp (in_quiet sources drains book b j u t e k feeds none' fed);

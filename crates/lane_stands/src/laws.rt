@@ -4,7 +4,7 @@ ghost use Rattle.nodes.specs.Nodes.{node_port_state, node_law, node_asking, node
 ghost use Rattle.fused_net.specs.Laws.{Settled};
 ghost use Rattle.lane_core.specs.declared.lane_out.LaneOut.{LaneOut};
 ghost use Rattle.lane_core.specs.declared.room.Waits.{Waits};
-ghost use Rattle.lane_core.specs.Ends.{asked, in_size, IsLaneHistory, WaitsAre};
+ghost use Rattle.lane_core.specs.Ends.{asked_in_all, in_size, IsLaneHistory, WaitsAre};
 ghost use Rattle.input_boundary.specs.declared.boundary.InputBoundary.{InputBoundary};
 ghost use Rattle.input_boundary.specs.Boundary.{BoundaryKeeps};
 ghost use Rattle.interpreter.specs.Island.{Kept};
@@ -32,12 +32,12 @@ pub fn an_end_is_kept<S: Source, D: Drain, L: Logic, B: PlugBook>()
 pub fn a_lane_is_kept<S: Source, D: Drain, L: Logic, B: PlugBook>()
     ensures { (o : LaneOut) (b : InputBoundary) (i j : Kept S D L B) (u : ℕ) → Settled node_port_state (node_law S.state D.state B.lists) node_asking node_moves i.net → Settled node_port_state (node_law S.state D.state B.lists) node_asking node_moves j.net → Leaves i u → Enters j u
         → BoundaryKeeps b → IsLaneHistory o b.lane → Serves o i u → Feeds b j u
-        → (k : LaneKeeps (in_size b.lane) (cell_out i u) (cell_in j u) (asked b.lane)) × ((k.out ≡ out_end o) × (k.inp ≡ in_end b.lane)) }
+        → (k : LaneKeeps (in_size b.lane) (cell_out i u) (cell_in j u) (asked_in_all b.lane)) × ((k.out ≡ out_end o) × (k.inp ≡ in_end b.lane)) }
 {}
 
 /// And it is quiet where no event is left at either stage, neither end has anything to do, and nothing waits between them.
 pub fn a_lane_is_quiet<S: Source, D: Drain, L: Logic, B: PlugBook>()
     ensures { (o : LaneOut) (b : InputBoundary) (i j : Kept S D L B) (u : ℕ) → Settled node_port_state (node_law S.state D.state B.lists) node_asking node_moves i.net → Settled node_port_state (node_law S.state D.state B.lists) node_asking node_moves j.net → Leaves i u → Enters j u → i.net.queue ≡ [] → j.net.queue ≡ []
         → BoundaryKeeps b → IsLaneHistory o b.lane → Serves o i u → Feeds b j u → IsServed o i u → IsFed b j u → (w : Waits) → WaitsAre o b.lane w → w.item ≡ false → w.demand ≡ false
-        → (k : LaneKeeps (in_size b.lane) (cell_out i u) (cell_in j u) (asked b.lane)) → k.out ≡ out_end o → k.inp ≡ in_end b.lane → LaneQuiet (in_size b.lane) (cell_out i u) (cell_in j u) (asked b.lane) k }
+        → (k : LaneKeeps (in_size b.lane) (cell_out i u) (cell_in j u) (asked_in_all b.lane)) → k.out ≡ out_end o → k.inp ≡ in_end b.lane → LaneQuiet (in_size b.lane) (cell_out i u) (cell_in j u) (asked_in_all b.lane) k }
 {}

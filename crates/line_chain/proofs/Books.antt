@@ -11,7 +11,7 @@ use Rattle.stream_model.specs.Outlook.{End, unended, ended, failed}
 use Rattle.stream_model.specs.Machine.{State, going, done, broken, Run, Given, run, close, close_at, finish_at, feed}
 use Rattle.stream_model.specs.Linear.{Book, Stage, Work, mapping, filtering, taking, taking_while, dropping, dropping_while, passing, limiting, grouping, expanding, folding, scanning, reducing, heading, lasting, numbering, plugged, Reaction, gives, ends, blames, breaks, on_value, on_test, on_number, reaction, restarted, decided, reacts, finish_of, begin_work, linear}
 use Rattle.stream_model.specs.Substreams.{Chain, through}
-use Rattle.chain_core.specs.LineChains.{step_of, added, list_function}
+use Rattle.chain_core.specs.LineChains.{chain_step, given_with, list_function}
 use Rattle.line_chain.specs.Kinds.{begun}
 use Rattle.line_chain.specs.Line.{no_plugs}
 use Rattle.line_chain.specs.Chains.{starts_of}
@@ -227,6 +227,6 @@ pub same_by_books : (steps : List LineStep) (book : Book) → Same (list_functio
 same_by_books steps book =
     let all : (l : List Tree) (e : End) → through no_plugs (starts_of steps) l e ≡ through book (starts_of steps) l e = λ l e. same_through book (starts_of steps) l e (own_starts steps) in record {
       gives = λ l. ap (λ (x : Given Tree). x.list) (all l unended);
-      stop = λ l. ap (λ (x : Given Tree). step_of x.end) (all l unended);
-      adds = λ l. ap (λ (x : Given Tree). added x.list (through no_plugs (starts_of steps) l ended)) (all l unended) ∙ ap (λ (x : Given Tree). added (through book (starts_of steps) l unended).list x) (all l ended);
+      stop = λ l. ap (λ (x : Given Tree). chain_step x.end) (all l unended);
+      adds = λ l. ap (λ (x : Given Tree). given_with x.list (through no_plugs (starts_of steps) l ended)) (all l unended) ∙ ap (λ (x : Given Tree). given_with (through book (starts_of steps) l unended).list x) (all l ended);
     }

@@ -6,7 +6,7 @@ use Rattle.elem_core.specs.declared.why.Cause.{Cause}
 use Rattle.blue_core.specs.declared.blueprint.Step as blue
 use Rattle.port_core.specs.declared.chain.ChainStep.{ChainStep}
 use Rattle.port_core.specs.declared.chain.ChainStep.TheVariants.{Go, Closed, Failed}
-use Rattle.port_core.specs.ListFunction.{ListFunction, Pushed, Finished}
+use Rattle.port_core.specs.ListFunction.{ListFunction, Pushed, FunctionFinished}
 use Rattle.stream_model.specs.Outlook.{End, unended, ended, failed}
 use Rattle.stream_model.specs.Machine.{Given}
 use Rattle.stream_model.specs.Linear.{begin_work}
@@ -14,9 +14,9 @@ use Rattle.stream_model.specs.Graph.{Step}
 use Rattle.stream_model.specs.Node.{chain_of}
 use Rattle.stream_model.specs.Substreams.{Chain, through}
 use Rattle.chain_core.specs.LineChains as chains
-use Rattle.chain_core.specs.LineChains.{end_step, is_unended, added, after, list_function}
+use Rattle.chain_core.specs.LineChains.{end_step, is_unended, given_with, after, list_function}
 use Rattle.chain_core.proofs.LineChains.{fixed, line_pushed, line_finished}
-use Rattle.line_chain.specs.Line.{no_plugs, step_of}
+use Rattle.line_chain.specs.Line.{no_plugs, model_step}
 use Rattle.line_chain.specs.Steps.{start_of, now_of}
 use Rattle.line_chain.specs.Chains.{starts_of, nows_of, RanAll}
 use Rattle.line_chain.specs.declared.step.LineStep.{LineStep}
@@ -30,43 +30,43 @@ ran_as old new ins l before now e d k i h r = subst (λ (x : List Tree). RanAll 
 -- it goes on
 pub push_goes : (old new : List LineStep) (t : Tree) (before now : List Tree) → RanAll old (t ∷ []) unended new before now unended → Pushed (list_function no_plugs (nows_of old)) t Go before now (list_function no_plugs (nows_of new))
 push_goes old new t before now r =
-    subst (λ (ys : Chain). Pushed (list_function no_plugs (nows_of old)) t Go before now (list_function no_plugs ys)) (sym (r.goes refl)) (line_pushed no_plugs (nows_of old) t Go before now (ap chains.step_of (sym r.ends)) r.gave)
+    subst (λ (ys : Chain). Pushed (list_function no_plugs (nows_of old)) t Go before now (list_function no_plugs ys)) (sym (r.goes refl)) (line_pushed no_plugs (nows_of old) t Go before now (ap chains.chain_step (sym r.ends)) r.gave)
 
 -- it ended, or failed, by its own doing: what it would go on with counts for nothing
 pub push_ends : (old new : List LineStep) (t : Tree) (before now : List Tree) (g : ListFunction) → RanAll old (t ∷ []) unended new before now ended → Pushed (list_function no_plugs (nows_of old)) t Closed before now g
-push_ends old new t before now g r = let p = line_pushed no_plugs (nows_of old) t Closed before now (ap chains.step_of (sym r.ends)) r.gave in record { gave = p.gave; out = p.out; all = p.all; answer = p.answer; goes = p.goes }
+push_ends old new t before now g r = let p = line_pushed no_plugs (nows_of old) t Closed before now (ap chains.chain_step (sym r.ends)) r.gave in record { gave = p.gave; out = p.out; all = p.all; answer = p.answer; goes = p.goes }
 
 pub push_fails : (old new : List LineStep) (t : Tree) (before now : List Tree) (g : ListFunction) (c : Cause) → RanAll old (t ∷ []) unended new before now (failed c) → Pushed (list_function no_plugs (nows_of old)) t (Failed c.why) before now g
 push_fails old new t before now g c r =
-    let p = line_pushed no_plugs (nows_of old) t (Failed c.why) before now (ap chains.step_of (sym r.ends)) r.gave in record { gave = p.gave; out = p.out; all = p.all; answer = p.answer; goes = p.goes }
+    let p = line_pushed no_plugs (nows_of old) t (Failed c.why) before now (ap chains.chain_step (sym r.ends)) r.gave in record { gave = p.gave; out = p.out; all = p.all; answer = p.answer; goes = p.goes }
 
 -- ---- the end
 
 module _ (xs : Chain) (before now : List Tree) (out : now ≡ before ++ (through no_plugs xs [] ended).list) where
   -- what the end brings where the chain has stopped before: nothing more
-  stopped_before : through no_plugs xs [] ended ≡ through no_plugs xs [] unended → (d : End) → (through no_plugs xs [] unended).end ≡ d → is_unended d ≡ false → Finished (list_function no_plugs xs) (end_step d) before now
+  stopped_before : through no_plugs xs [] ended ≡ through no_plugs xs [] unended → (d : End) → (through no_plugs xs [] unended).end ≡ d → is_unended d ≡ false → FunctionFinished (list_function no_plugs xs) (end_step d) before now
   stopped_before same unended is h = cc
   stopped_before same ended is h =
       let g = through no_plugs xs [] unended in
-      let none : added g.list g ≡ Ok [] = ap (λ (d : End). chains.added_by g.list g.list d) is ∙ ap Ok (drop-length g.list) in
-      ([], (ap (λ (x : Given Tree). added g.list x) same ∙ none, out ∙ ap (λ (x : Given Tree). before ++ x.list) same ∙ ap (λ (l : List Tree). before ++ l) (sym (append-nil g.list))))
+      let none : given_with g.list g ≡ Ok [] = ap (λ (d : End). chains.added_by g.list g.list d) is ∙ ap Ok (drop-length g.list) in
+      ([], (ap (λ (x : Given Tree). given_with g.list x) same ∙ none, out ∙ ap (λ (x : Given Tree). before ++ x.list) same ∙ ap (λ (l : List Tree). before ++ l) (sym (append-nil g.list))))
   stopped_before same (failed c) is h =
-      let g = through no_plugs xs [] unended in (ap (λ (x : Given Tree). added g.list x) same ∙ ap (λ (d : End). chains.added_by g.list g.list d) is, record { rest = (through no_plugs xs [] ended).list; is = out })
+      let g = through no_plugs xs [] unended in (ap (λ (x : Given Tree). given_with g.list x) same ∙ ap (λ (d : End). chains.added_by g.list g.list d) is, record { rest = (through no_plugs xs [] ended).list; is = out })
 
-  finished_by : (b : Bool) → is_unended (through no_plugs xs [] unended).end ≡ b → Finished (list_function no_plugs xs) (end_step (through no_plugs xs [] ended).end) before now
+  finished_by : (b : Bool) → is_unended (through no_plugs xs [] unended).end ≡ b → FunctionFinished (list_function no_plugs xs) (end_step (through no_plugs xs [] ended).end) before now
   finished_by true h = line_finished no_plugs xs before now h out
   finished_by false h =
       let same : through no_plugs xs [] ended ≡ through no_plugs xs [] unended = fixed no_plugs xs [] [] ended h in
-      subst (λ (x : Given Tree). Finished (list_function no_plugs xs) (end_step x.end) before now) (sym same) (stopped_before same (through no_plugs xs [] unended).end refl h)
+      subst (λ (x : Given Tree). FunctionFinished (list_function no_plugs xs) (end_step x.end) before now) (sym same) (stopped_before same (through no_plugs xs [] unended).end refl h)
 
   -- the end of the input of any chain, also of one that stopped before it took anything
-  finished : Finished (list_function no_plugs xs) (end_step (through no_plugs xs [] ended).end) before now
+  finished : FunctionFinished (list_function no_plugs xs) (end_step (through no_plugs xs [] ended).end) before now
   finished = finished_by (is_unended (through no_plugs xs [] unended).end) refl
 
 -- by the answer of the steps
-pub end_answers : (old new : List LineStep) (before now : List Tree) (d : End) (step : ChainStep) → RanAll old [] ended new before now d → step ≡ end_step d → Finished (list_function no_plugs (nows_of old)) step before now
+pub end_answers : (old new : List LineStep) (before now : List Tree) (d : End) (step : ChainStep) → RanAll old [] ended new before now d → step ≡ end_step d → FunctionFinished (list_function no_plugs (nows_of old)) step before now
 end_answers old new before now d step r is =
-    subst (λ (s : ChainStep). Finished (list_function no_plugs (nows_of old)) s before now) (sym (is ∙ ap end_step (sym r.ends))) (finished (nows_of old) before now r.gave)
+    subst (λ (s : ChainStep). FunctionFinished (list_function no_plugs (nows_of old)) s before now) (sym (is ∙ ap end_step (sym r.ends))) (finished (nows_of old) before now r.gave)
 
 -- ---- a new chain
 
@@ -80,17 +80,17 @@ map_more f (y ∷ xs) x = ap (λ l. f y ∷ l) (map_more f xs x)
 
 -- these steps are those of the blueprint, and stand as they began
 pub record Begun (node : ℕ) (steps : List blue.Step) (made : List LineStep) : Type 0 where
-  pub starts : starts_of made ≡ chain_of node (map step_of steps)
+  pub starts : starts_of made ≡ chain_of node (map model_step steps)
   pub now : nows_of made ≡ starts_of made
 
-pub begun_more : (node : ℕ) (steps more : List blue.Step) (s : blue.Step) (made all : List LineStep) (one : LineStep) → Begun node steps made → more ≡ steps ++ s ∷ [] → all ≡ made ++ one ∷ [] → start_of one ≡ begin_work node (step_of s).decider (step_of s).work
+pub begun_more : (node : ℕ) (steps more : List blue.Step) (s : blue.Step) (made all : List LineStep) (one : LineStep) → Begun node steps made → more ≡ steps ++ s ∷ [] → all ≡ made ++ one ∷ [] → start_of one ≡ begin_work node (model_step s).decider (model_step s).work
     → now_of one ≡ start_of one → Begun node more all
 begun_more node steps more s made all one b e m starts now =
-    let x : starts_of (made ++ one ∷ []) ≡ chain_of node (map step_of (steps ++ s ∷ [])) =
-    map_more start_of made one ∙ ap (λ (l : Chain). l ++ start_of one ∷ []) b.starts ∙ ap (λ k. chain_of node (map step_of steps) ++ k ∷ []) starts ∙ sym (chain_more node (map step_of steps) (step_of s))
-    ∙ ap (chain_of node) (sym (map_more step_of steps s)) in
+    let x : starts_of (made ++ one ∷ []) ≡ chain_of node (map model_step (steps ++ s ∷ [])) =
+    map_more start_of made one ∙ ap (λ (l : Chain). l ++ start_of one ∷ []) b.starts ∙ ap (λ k. chain_of node (map model_step steps) ++ k ∷ []) starts ∙ sym (chain_more node (map model_step steps) (model_step s))
+    ∙ ap (chain_of node) (sym (map_more model_step steps s)) in
     let y : nows_of (made ++ one ∷ []) ≡ starts_of (made ++ one ∷ []) = map_more now_of made one ∙ ap (λ (l : Chain). l ++ now_of one ∷ []) b.now ∙ ap (λ k. starts_of made ++ k ∷ []) now ∙ sym (map_more start_of made one) in
-    record { starts = ap starts_of m ∙ x ∙ ap (λ (k : List blue.Step). chain_of node (map step_of k)) (sym e); now = ap nows_of m ∙ y ∙ ap starts_of (sym m) }
+    record { starts = ap starts_of m ∙ x ∙ ap (λ (k : List blue.Step). chain_of node (map model_step k)) (sym e); now = ap nows_of m ∙ y ∙ ap starts_of (sym m) }
 
 -- these steps are those as they began
 pub record Again (steps made : List LineStep) : Type 0 where

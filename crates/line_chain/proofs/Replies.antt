@@ -11,10 +11,10 @@ use Rattle.stage_keeping.specs.Keeping.{stage_of}
 use Rattle.stream_model.specs.Machine.{going}
 use Rattle.stream_model.specs.Linear.{Work, reacts, decided, restarted, first_of}
 use Rattle.line_chain.specs.Line.{no_plugs}
-use Rattle.line_chain.specs.Steps.{decided_by, Replies}
+use Rattle.line_chain.specs.Steps.{step_decided, Replies}
 
 -- an element that the function has no value for, where the work has no state to begin again
-blamed : (d : Decider) (old new : Work) (why : Why) (node n : ℕ) → Stays old new → decided d (stage_of node d n old) why ≡ decided_by d node (n + 1) new why
+blamed : (d : Decider) (old new : Work) (why : Why) (node n : ℕ) → Stays old new → decided d (stage_of node d n old) why ≡ step_decided d node (n + 1) new why
 blamed Stop old new why node n s = refl
 blamed Resume old new why node n s = ap (λ (w : Work). record { gave = []; state = going (stage_of node Resume (n + 1) w) }) (sym s.0)
 blamed Restart old new why node n s =

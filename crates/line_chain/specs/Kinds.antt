@@ -33,5 +33,5 @@ begun_ending (Take zero) = ending.Ended
 begun_ending _ = ending.Lasting
 
 -- it does what a step of this kind does
-abbrev pub Does : Kind → StepKind → Type 0
-Does k s = begun s ≡ unwrap_or (work_of k) passing
+abbrev pub DoesStep : Kind → StepKind → Type 0
+DoesStep k s = begun s ≡ unwrap_or (work_of k) passing

@@ -30,8 +30,8 @@ abbrev pub line_is_open : Line → Bool
 line_is_open l = l.callable
 
 -- a step of a chain in the words of the model; one that is no stage, which no text can say, passes what it takes
-abbrev pub step_of : blue.Step → Step
-step_of s = record { work = unwrap_or (work_of s.kind) passing; decider = s.decider }
+abbrev pub model_step : blue.Step → Step
+model_step s = record { work = unwrap_or (work_of s.kind) passing; decider = s.decider }
 
 -- the chain of these steps at node `node`, whatever the book
 pub record IsLine (node : ℕ) (steps : List Step) (l : Line) : Type 0 where

@@ -54,14 +54,14 @@ now_of s = record { gave = option_to_list s.owed; state = state_of s }
 -- ---- one element
 
 -- the failure of a step at element n
-abbrev pub failing : ℕ → ℕ → Why → Run Stage Tree
-failing node n why = record { gave = []; state = broken (record { stage = node; nth = n; why = why }) }
+abbrev pub step_failing : ℕ → ℕ → Why → Run Stage Tree
+step_failing node n why = record { gave = []; state = broken (record { stage = node; nth = n; why = why }) }
 
 -- by the decider, the step fails, or it goes on as it stood
-abbrev pub decided_by : Decider → ℕ → ℕ → Work → Why → Run Stage Tree
-decided_by Stop node n w why = failing node n why
-decided_by Resume node n w why = record { gave = []; state = going (stage_of node Resume n w) }
-decided_by Restart node n w why = record { gave = []; state = going (stage_of node Restart n w) }
+abbrev pub step_decided : Decider → ℕ → ℕ → Work → Why → Run Stage Tree
+step_decided Stop node n w why = step_failing node n why
+step_decided Resume node n w why = record { gave = []; state = going (stage_of node Resume n w) }
+step_decided Restart node n w why = record { gave = []; state = going (stage_of node Restart n w) }
 
 -- a step whose element n came to this, and which has this work then
 abbrev pub replied : Decider → ℕ → ℕ → Work → LinearReaction → Run Stage Tree
@@ -71,16 +71,16 @@ replied d node n w Skips = record { gave = []; state = going (stage_of node d n 
 replied d node n w (EndsWith u) = record { gave = u ∷ []; state = done }
 replied d node n w (EndsWithAll us) = record { gave = us; state = done }
 replied d node n w Ends = record { gave = []; state = done }
-replied d node n w (Blames why) = decided_by d node n w why
-replied d node n w (Fails why) = failing node n why
+replied d node n w (Blames why) = step_decided d node n w why
+replied d node n w (Fails why) = step_failing node n why
 
 -- what came of the element t: that is the step of the model
 abbrev pub Replies : Decider → Work → Tree → Work → LinearReaction → Type 0
 Replies d old t new o = (node n : ℕ) → step no_plugs (stage_of node d n old) t ≡ replied d node (n + 1) new o
 
 -- what it gave before, and then what it gives
-abbrev pub behind : List Tree → Run Stage Tree → Run Stage Tree
-behind before x = record { gave = before ++ x.gave; state = x.state }
+abbrev pub given_before : List Tree → Run Stage Tree → Run Stage Tree
+given_before before x = record { gave = before ++ x.gave; state = x.state }
 
 -- the step that fails at element n; none is to blame where that is 0
 abbrev pub failed_step : LineStep → ℕ → Why → LineStep
@@ -96,8 +96,8 @@ abbrev pub decided_step : LineStep → ℕ → Why → LineStep
 decided_step s n why = decided_by_step s.decider s n why
 
 -- one step of the machine: from these outputs and this step to those and that
-abbrev pub Feeds : LineStep → List Tree → Tree → LineStep → List Tree → Type 0
-Feeds old before t new after = record { gave = after; state = state_of new } ≡ feed machine (record { gave = before; state = state_of old }) t
+abbrev pub StepFeeds : LineStep → List Tree → Tree → LineStep → List Tree → Type 0
+StepFeeds old before t new after = record { gave = after; state = state_of new } ≡ feed machine (record { gave = before; state = state_of old }) t
 
 -- it began as the other did
 abbrev pub Began : LineStep → LineStep → Type 0
@@ -107,7 +107,7 @@ Began old new = start_of new ≡ start_of old
 
 -- a step that gave `before`, and took all of its input, which stands so: these are its outputs, so they stand, and where they
 -- go on, nothing came of it
-pub record Closes (old : LineStep) (before : List Tree) (e : End) (new : LineStep) (outs : List Tree) (d : End) : Type 0 where
+pub record StepCloses (old : LineStep) (before : List Tree) (e : End) (new : LineStep) (outs : List Tree) (d : End) : Type 0 where
   pub comes : close_at machine before (state_of old) e ≡ record { list = outs; end = d }
   pub stays : d ≡ unended → new ≡ old
 

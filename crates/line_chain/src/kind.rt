@@ -1,6 +1,6 @@
 ghost use Rattle.std.specs.Prelude.{◌≡◌, IfOk, option_to_list};
 ghost use Rattle.stream_model.specs.Linear.{first_of};
-ghost use Rattle.line_chain.specs.Kinds.{begun, begun_ending, Does};
+ghost use Rattle.line_chain.specs.Kinds.{begun, begun_ending, DoesStep};
 ghost use Rattle.line_chain.specs.Steps.{work_in};
 
 use crate::copies::{copy_map, copy_pred};
@@ -55,7 +55,7 @@ impl StepKind {
     /// What a step of this kind does. One that is no stage passes what it takes. A plug, which no text can say in a chain, is not
     /// made: that counts as want of memory.
     pub fn of(alloc: Global, kind: &Kind) -> Result<StepKind, NoMemory>
-        ensures { IfOk result (Does kind.now) }
+        ensures { IfOk result (DoesStep kind.now) }
     {
         match kind {
             Kind::Map(f) => Ok(StepKind::Map(copy_map(alloc, f)?)),

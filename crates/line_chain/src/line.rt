@@ -1,7 +1,7 @@
 ghost use Rattle.std.specs.Prelude.{◌≡◌, ◌<◌, [], length, map, IfOk, OnOk};
 ghost use Rattle.chain_core.specs.LineChains.{end_step};
 ghost use Rattle.stream_model.specs.Node.{chain_of};
-ghost use Rattle.line_chain.specs.Line.{Line, line_whole, line_rest, line_is_open, step_of, IsLine};
+ghost use Rattle.line_chain.specs.Line.{Line, line_whole, line_rest, line_is_open, model_step, IsLine};
 ghost use Rattle.line_chain.specs.Chains.{starts_of, nows_of, RanAt, RanAll};
 ghost use Rattle.line_chain.specs.Steps.{end_of};
 
@@ -48,7 +48,7 @@ impl LineChain {
     /// The chain of these steps, at node `node`, which has taken nothing. A step that is no stage passes what it takes. A chain
     /// with a plug, which no text can say, is not made: that counts as want of memory.
     pub fn new(alloc: Global, node: u32, steps: &[Step]) -> Result<LineChain, NoMemory>
-        ensures { IfOk result (IsLine node (map step_of steps.now)) }
+        ensures { IfOk result (IsLine node (map model_step steps.now)) }
     {
         let steps = begin_all(alloc, node, steps)?;
         Ok(LineChain {
@@ -128,7 +128,7 @@ fn last_answer(ending: StateEnd) -> ChainStep
 
 // The steps at node `node`, which have taken nothing.
 fn begin_all(alloc: Global, node: u32, steps: &[Step]) -> Result<Vec<LineStep>, NoMemory>
-    ensures starts { IfOk result (λ v. starts_of v.items ≡ chain_of node (map step_of steps.now)) }
+    ensures starts { IfOk result (λ v. starts_of v.items ≡ chain_of node (map model_step steps.now)) }
     ensures now { IfOk result (λ v. nows_of v.items ≡ starts_of v.items) }
 {
     let mut begun = Vec::with_capacity(alloc, steps.len())?;

@@ -4,7 +4,7 @@ ghost use Rattle.stream_model.specs.Linear.{begin_work};
 ghost use Rattle.stream_model.specs.Machine.{run};
 ghost use Rattle.stream_model.specs.Outlook.{ended};
 ghost use Rattle.line_chain.specs.Kinds.{begun};
-ghost use Rattle.line_chain.specs.Steps.{work_in, machine, end_of, start_of, state_of, now_of, replied, behind, failed_step, decided_step, Feeds, Began, Closes, Ran};
+ghost use Rattle.line_chain.specs.Steps.{work_in, machine, end_of, start_of, state_of, now_of, replied, given_before, failed_step, decided_step, StepFeeds, Began, StepCloses, Ran};
 
 use crate::batch::Batch;
 use crate::kind::StepKind;
@@ -123,7 +123,7 @@ impl LineStep {
 
     // One more element; a step that has stopped lets it fall.
     fn feed(&mut self, alloc: Global, e: Elem, outputs: &mut Batch) -> Result<(), NoMemory>
-        ensures feeds { OnOk result (Feeds self.old outputs.old e self.new outputs.new) }
+        ensures feeds { OnOk result (StepFeeds self.old outputs.old e self.new outputs.new) }
         ensures began { OnOk result (Began self.old self.new) }
         ensures owed { OnOk result (self.new.owed ≡ self.old.owed) }
     {
@@ -147,7 +147,7 @@ impl LineStep {
         outputs: &mut Batch,
     ) -> Result<(), NoMemory>
         requires { self.old.ending ≡ Lasting }
-        ensures gives { OnOk result (record { gave = outputs.new; state = state_of self.new } ≡ behind outputs.old (replied self.old.decider self.old.node nth (work_in self.old.work) outcome)) }
+        ensures gives { OnOk result (record { gave = outputs.new; state = state_of self.new } ≡ given_before outputs.old (replied self.old.decider self.old.node nth (work_in self.old.work) outcome)) }
         ensures began { OnOk result (Began self.old self.new) }
         ensures owed { OnOk result (self.new.owed ≡ self.old.owed) }
     {
@@ -219,7 +219,7 @@ impl LineStep {
         ending: StateEnd,
         outputs: &mut Batch,
     ) -> Result<StateEnd, NoMemory>
-        ensures closes { IfOk result (λ e. Closes self.old outputs.old (end_of ending) self.new outputs.new (end_of e)) }
+        ensures closes { IfOk result (λ e. StepCloses self.old outputs.old (end_of ending) self.new outputs.new (end_of e)) }
         ensures began { OnOk result (Began self.old self.new) }
     {
         match self.ending {
@@ -240,7 +240,7 @@ impl LineStep {
         outputs: &mut Batch,
     ) -> Result<StateEnd, NoMemory>
         requires { self.old.ending ≡ Lasting }
-        ensures closes { IfOk result (λ e. Closes self.old outputs.old (end_of ending) self.new outputs.new (end_of e)) }
+        ensures closes { IfOk result (λ e. StepCloses self.old outputs.old (end_of ending) self.new outputs.new (end_of e)) }
         ensures began { OnOk result (Began self.old self.new) }
     {
         match ending {
@@ -256,7 +256,7 @@ impl LineStep {
     // The same, where its input has ended.
     fn finish(&mut self, alloc: Global, outputs: &mut Batch) -> Result<StateEnd, NoMemory>
         requires { self.old.ending ≡ Lasting }
-        ensures closes { IfOk result (λ e. Closes self.old outputs.old ended self.new outputs.new (end_of e)) }
+        ensures closes { IfOk result (λ e. StepCloses self.old outputs.old ended self.new outputs.new (end_of e)) }
         ensures began { OnOk result (Began self.old self.new) }
     {
         match self.work.finish(alloc) {

@@ -16,10 +16,10 @@ use Rattle.interpreter.specs.declared.parts.Place.{Place}
 use Rattle.interpreter.specs.declared.parts.Seated.{Seated}
 use Rattle.interpreter.specs.declared.parts.Work.{Work}
 use Rattle.interpreter.specs.declared.parts.Work.TheVariants as work
-use Rattle.interpreter.specs.Parts.{place_of}
+use Rattle.interpreter.specs.Parts.{seat_place}
 use Rattle.interpreter.specs.Handles.{with_source, with_drain, sources_in, drains_in}
 use Rattle.blue_core.specs.declared.blueprint.Node.{Node}
-use Rattle.materializer.specs.Files.{input_of, output_of, inputs_of_nodes, outputs_of_nodes}
+use Rattle.materializer.specs.Files.{source_file, output_of, inputs_of_nodes, outputs_of_nodes}
 use Rattle.materializer.specs.Seats.{handle_of, handles_left, IsWork, AreSeats}
 use Rattle.materializer.specs.Planned.{IsPlanned, ArePlanned, reads, writes, reads_in, writes_in, places_from}
 use Rattle.materializer.specs.declared.seats.Planned.{Planned}
@@ -28,7 +28,7 @@ use Rattle.materializer.specs.declared.seats.Seat.{Seat}
 use Rattle.materializer.proofs.Placing.{reads_lines, work_ports, maker_no_file, linear_no_file, state_no_file, sub_no_file, fan_in_no_file, fan_out_no_file}
 
 -- a sink with a file writes it, and reads none
-sink_file : (k : Kind) → IsFileSink k → (name : List ℕ) × ((output_of k ≡ Some name) × (input_of k ≡ None))
+sink_file : (k : Kind) → IsFileSink k → (name : List ℕ) × ((output_of k ≡ Some name) × (source_file k ≡ None))
 sink_file (kind.ToLines file) h = (file, (refl, refl))
 sink_file (kind.Head file) h = (file, (refl, refl))
 sink_file (kind.Last file) h = (file, (refl, refl))
@@ -42,10 +42,10 @@ no_file : (o : Option (List ℕ)) (names : List (List ℕ)) (m : ℕ) → o ≡ 
 no_file o names m e h = let size : length (cons_option o names) ≡ length names = ap (λ p. length (cons_option p names)) e in omega (arith, size, h)
 
 module _ {S D L B : Type 0} where
-  reads_here : (chains : List graph.Chain) (k : ℕ) (n : Node) (q : Planned S D L B) (names : List (List ℕ)) (m : ℕ) → IsPlanned chains k n q → m ≡ length names → reads q + m ≡ length (cons_option (input_of n.kind) names)
-  reads_here chains k n Reads names m p h = one_file (input_of n.kind) p.file names m (ap input_of p.kind_is) h
-  reads_here chains k n (Writes shape) names m p h = no_file (input_of n.kind) names m (sink_file n.kind p.is_sink).1.1 h
-  reads_here chains k n (Works w) names m p h = no_file (input_of n.kind) names m p.no_input h
+  reads_here : (chains : List graph.Chain) (k : ℕ) (n : Node) (q : Planned S D L B) (names : List (List ℕ)) (m : ℕ) → IsPlanned chains k n q → m ≡ length names → reads q + m ≡ length (cons_option (source_file n.kind) names)
+  reads_here chains k n Reads names m p h = one_file (source_file n.kind) p.file names m (ap source_file p.kind_is) h
+  reads_here chains k n (Writes shape) names m p h = no_file (source_file n.kind) names m (sink_file n.kind p.is_sink).1.1 h
+  reads_here chains k n (Works w) names m p h = no_file (source_file n.kind) names m p.no_input h
 
   writes_here : (chains : List graph.Chain) (k : ℕ) (n : Node) (q : Planned S D L B) (names : List (List ℕ)) (m : ℕ) → IsPlanned chains k n q → m ≡ length names → writes q + m ≡ length (cons_option (output_of n.kind) names)
   writes_here chains k n Reads names m p h = no_file (output_of n.kind) names m (ap output_of p.kind_is) h
@@ -65,14 +65,14 @@ module _ {S D L B : Type 0} where
   writes_all chains k (n ∷ ns) (s ∷ ss) h = writes_here chains k n s.planned (outputs_of_nodes ns) (writes_in ss) h.0.planned (writes_all chains (k + 1) ns ss h.1)
 
   -- the places of the works are those of the nodes
-  pub places_same : (chains : List graph.Chain) (k : ℕ) (ns : List Node) (ss : List S) (ds : List D) (ps : List (Seated S D L B)) → AreSeats chains k ns ss ds ps → map place_of ps ≡ places_from k ns
+  pub places_same : (chains : List graph.Chain) (k : ℕ) (ns : List Node) (ss : List S) (ds : List D) (ps : List (Seated S D L B)) → AreSeats chains k ns ss ds ps → map seat_place ps ≡ places_from k ns
   places_same chains k [] ss ds [] h = refl
   places_same chains k [] ss ds (p ∷ ps) h = absurd h
   places_same chains k (n ∷ ns) ss ds [] h = absurd h
   places_same chains k (n ∷ ns) ss ds (p ∷ ps) h =
       let w = work_ports chains k n ss ds p.work h.1.0 in
-      let here : place_of p ≡ record { node = k; inputs = inputs_of n.kind; outputs = outputs_of n.kind } = rw (h.0, w.0, w.1) refl in
-      ap (λ (q : Place). q ∷ map place_of ps) here ∙ ap (λ (l : List Place). record { node = k; inputs = inputs_of n.kind; outputs = outputs_of n.kind } ∷ l) (places_same chains (k + 1) ns _ _ ps h.1.1)
+      let here : seat_place p ≡ record { node = k; inputs = inputs_of n.kind; outputs = outputs_of n.kind } = rw (h.0, w.0, w.1) refl in
+      ap (λ (q : Place). q ∷ map seat_place ps) here ∙ ap (λ (l : List Place). record { node = k; inputs = inputs_of n.kind; outputs = outputs_of n.kind } ∷ l) (places_same chains (k + 1) ns _ _ ps h.1.1)
 
 -- ---- all handles stand in the places
 
@@ -90,7 +90,7 @@ all_left None names xs rest e so count = so count
 all_left (Some f) names xs rest e so count = cc
 
 -- kinds without an input file, and without an output file
-no_input : (P : Kind → Type 0) → ((name : List ℕ) → P (kind.Lines name) → ⊥) → (k : Kind) → P k → input_of k ≡ None
+no_input : (P : Kind → Type 0) → ((name : List ℕ) → P (kind.Lines name) → ⊥) → (k : Kind) → P k → source_file k ≡ None
 no_input P a (kind.Lines file) h = absurd (a file h)
 no_input P a _ h = refl
 
@@ -99,19 +99,19 @@ none_of None h = refl
 none_of (Some name) h = absurd (h name refl)
 
 module _ {S D L B : Type 0} where
-  source_in : (chains : List graph.Chain) (k : ℕ) (n : Node) (ss : List S) (ds : List D) (w : Work S D L B) (names : List (List ℕ)) (rest : List S) → IsWork chains k n ss ds w → (length (handles_left (input_of n.kind) ss) ≡ length names → rest ≡ handles_left (input_of n.kind) ss) → length ss ≡ length (cons_option (input_of n.kind) names)
+  source_in : (chains : List graph.Chain) (k : ℕ) (n : Node) (ss : List S) (ds : List D) (w : Work S D L B) (names : List (List ℕ)) (rest : List S) → IsWork chains k n ss ds w → (length (handles_left (source_file n.kind) ss) ≡ length names → rest ≡ handles_left (source_file n.kind) ss) → length ss ≡ length (cons_option (source_file n.kind) names)
       → with_source w rest ≡ ss
-  source_in chains k n ss ds (work.Reading r) names rest is so count = let l = reads_lines n.kind ss r.source is.source in all_next (input_of n.kind) l.0 names ss r.source rest (ap input_of l.1) is.source so count
-  source_in chains k n ss ds (work.Making shape) names rest is so count = all_left (input_of n.kind) names ss rest (no_input IsMaker (λ _ i. i) n.kind is.is_maker) so count
-  source_in chains k n ss ds (work.Linear l) names rest is so count = all_left (input_of n.kind) names ss rest (no_input IsLinear (λ _ i. i) n.kind is.is_linear) so count
-  source_in chains k n ss ds (work.State l) names rest is so count = all_left (input_of n.kind) names ss rest (no_input IsStateful (λ _ i. i) n.kind is.is_state) so count
-  source_in chains k n ss ds (work.Sub l) names rest is so count = all_left (input_of n.kind) names ss rest (no_input IsSub (λ _ i. i) n.kind is.is_sub) so count
-  source_in chains k n ss ds (work.FanIn l m) names rest is so count = all_left (input_of n.kind) names ss rest (no_input IsFanIn (λ _ i. i) n.kind is.is_in) so count
-  source_in chains k n ss ds (work.FanOut l m) names rest is so count = all_left (input_of n.kind) names ss rest (no_input IsOut (λ _ i. i) n.kind is.is_out) so count
+  source_in chains k n ss ds (work.Reading r) names rest is so count = let l = reads_lines n.kind ss r.source is.source in all_next (source_file n.kind) l.0 names ss r.source rest (ap source_file l.1) is.source so count
+  source_in chains k n ss ds (work.Making shape) names rest is so count = all_left (source_file n.kind) names ss rest (no_input IsMaker (λ _ i. i) n.kind is.is_maker) so count
+  source_in chains k n ss ds (work.Linear l) names rest is so count = all_left (source_file n.kind) names ss rest (no_input IsLinear (λ _ i. i) n.kind is.is_linear) so count
+  source_in chains k n ss ds (work.State l) names rest is so count = all_left (source_file n.kind) names ss rest (no_input IsStateful (λ _ i. i) n.kind is.is_state) so count
+  source_in chains k n ss ds (work.Sub l) names rest is so count = all_left (source_file n.kind) names ss rest (no_input IsSub (λ _ i. i) n.kind is.is_sub) so count
+  source_in chains k n ss ds (work.FanIn l m) names rest is so count = all_left (source_file n.kind) names ss rest (no_input IsFanIn (λ _ i. i) n.kind is.is_in) so count
+  source_in chains k n ss ds (work.FanOut l m) names rest is so count = all_left (source_file n.kind) names ss rest (no_input IsOut (λ _ i. i) n.kind is.is_out) so count
   source_in chains k n ss ds (work.LaneIn u) names rest is so count = absurd is
   source_in chains k n ss ds (work.LaneOut u) names rest is so count = absurd is
-  source_in chains k n ss ds (work.Writing shape (Some d)) names rest is so count = all_left (input_of n.kind) names ss rest (no_input IsFileSink (λ _ i. i) n.kind is.is_sink) so count
-  source_in chains k n ss ds (work.Writing shape None) names rest is so count = all_left (input_of n.kind) names ss rest (ap input_of is.is_ignore) so count
+  source_in chains k n ss ds (work.Writing shape (Some d)) names rest is so count = all_left (source_file n.kind) names ss rest (no_input IsFileSink (λ _ i. i) n.kind is.is_sink) so count
+  source_in chains k n ss ds (work.Writing shape None) names rest is so count = all_left (source_file n.kind) names ss rest (ap source_file is.is_ignore) so count
 
   pub all_sources : (chains : List graph.Chain) (k : ℕ) (ns : List Node) (ss : List S) (ds : List D) (ps : List (Seated S D L B)) → AreSeats chains k ns ss ds ps → length ss ≡ length (inputs_of_nodes ns) → sources_in ps ≡ ss
   all_sources chains k [] [] ds [] h count = refl

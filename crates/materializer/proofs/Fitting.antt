@@ -24,7 +24,7 @@ use Rattle.blue_check.specs.declared.fault.CheckFault.TheVariants as fault
 use Rattle.blue_check.specs.Wires.{blueprint_wires}
 use Rattle.plug_core.specs.declared.head.PlugHead.{PlugHead}
 use Rattle.materializer.specs.Fit.{CanRun}
-use Rattle.materializer.specs.Graphs.{graph_of, node_of, chain_of}
+use Rattle.materializer.specs.Graphs.{graph_of, graph_node, plain_chain}
 use Rattle.stream_picture.specs.Joined.{IsJoined}
 use Rattle.blue_names.specs.declared.links.NumberedWire.{NumberedWire}
 use Rattle.blue_names.specs.Links.{wires_of_links}
@@ -78,7 +78,7 @@ facts b plugs taken fit =
 pub fit_joined : (b : Blueprint) (plugs : List PlugHead) (taken : List (List ℕ)) → IsFit b plugs taken → IsJoined (graph_of b)
 fit_joined b plugs taken fit =
     let f = facts b plugs taken fit in
-    joined b.nodes.items (blueprint_wires b) (map chain_of b.chains.items) f.missing f.twice f.open_
+    joined b.nodes.items (blueprint_wires b) (map plain_chain b.chains.items) f.missing f.twice f.open_
 
 -- ---- kinds that have few ports
 
@@ -118,8 +118,8 @@ module _ (b : Blueprint) (plugs : List PlugHead) (taken : List (List ℕ)) (fit 
       let j = fit_joined b plugs taken fit in
       let s = j.source i v at in
       let t = j.target i v at in
-      let m = mapped_from node_of b.nodes.items v.from s.0 s.1 in
-      let n = mapped_from node_of b.nodes.items v.to t.0 t.1 in
+      let m = mapped_from graph_node b.nodes.items v.from s.0 s.1 in
+      let n = mapped_from graph_node b.nodes.items v.to t.0 t.1 in
       let o : outputs_of m.0.kind < 2 ^ 8 = few_outputs m.0.kind (sized b.nodes.items v.from m.0 f.sizes m.1.0) in
       let p : inputs_of n.0.kind < 2 ^ 8 = few_inputs n.0.kind (sized b.nodes.items v.to n.0 f.sizes n.1.0) in
       let of_m : outputs_of m.0.kind ≡ outputs_of s.0.kind = ap (λ (x : graph.Node). outputs_of x.kind) m.1.1 in

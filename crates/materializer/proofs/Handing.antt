@@ -20,8 +20,8 @@ use Rattle.interpreter.specs.declared.parts.Work.{Work}
 use Rattle.interpreter.specs.declared.parts.Work.TheVariants as work
 use Rattle.interpreter.specs.Parts.{BecomesOf, AllBecome}
 use Rattle.blue_core.specs.declared.blueprint.Node as blue
-use Rattle.materializer.specs.Files.{input_of, output_of, inputs_of_nodes, outputs_of_nodes}
-use Rattle.materializer.specs.Handed.{ReadsFile, WritesFile, WritesNoFile}
+use Rattle.materializer.specs.Files.{source_file, output_of, inputs_of_nodes, outputs_of_nodes}
+use Rattle.materializer.specs.Handed.{ReadsSourceFile, WritesFile, WritesNoFile}
 use Rattle.materializer.specs.Seats.{handle_of, handles_left, IsWork, AreSeats}
 use Rattle.materializer.proofs.Placing.{reads_lines, maker_no_file, linear_no_file, state_no_file, sub_no_file, fan_in_no_file, fan_out_no_file}
 
@@ -46,8 +46,8 @@ module _ {S D L B : Type 0} where
   -- ---- sources
 
   reader_at : (chains : List graph.Chain) (k : ℕ) (n : blue.Node) (ss : List S) (ds : List D) (w : Work S D L B) (x : IslandNode S D L B) (names : List (List ℕ)) (name : List ℕ) → IsWork chains k n ss ds w → BecomesOf k w x → n.kind ≡ kind.Lines name
-      → (first : Lines S) × ((x ≡ node.Reading first) × ((first.node ≡ k) × Handed ss (cons_option (input_of n.kind) names) first.reader.source name))
-  reader_at chains k n ss ds (work.Reading r) x names name is b e = (_, (b, (refl, handed_next (input_of n.kind) ss names r.source name (ap input_of e) is.source)))
+      → (first : Lines S) × ((x ≡ node.Reading first) × ((first.node ≡ k) × Handed ss (cons_option (source_file n.kind) names) first.reader.source name))
+  reader_at chains k n ss ds (work.Reading r) x names name is b e = (_, (b, (refl, handed_next (source_file n.kind) ss names r.source name (ap source_file e) is.source)))
   reader_at chains k n ss ds (work.Making shape) x names name is b e = absurd (subst IsMaker e is.is_maker)
   reader_at chains k n ss ds (work.Linear l) x names name is b e = absurd (subst IsLinear e is.is_linear)
   reader_at chains k n ss ds (work.State l) x names name is b e = absurd (subst IsStateful e is.is_state)
@@ -78,10 +78,10 @@ module _ {S D L B : Type 0} where
       record { first = r.0; at = ap Some r.1.0; node = let same : r.0.node ≡ k = r.1.1.0 in omega (arith, same); handed = r.1.1.1 }
   reads_at chains k (m ∷ ns) ss ds (p ∷ ps) (x ∷ xs) (suc j) n name a b at e =
       let r = reads_at chains (k + 1) ns _ _ ps xs j n name a.1.1 b.1 at e in
-      record { first = r.first; at = r.at; node = let same : r.first.node ≡ k + 1 + j = r.node in omega (arith, same); handed = handed_later (input_of m.kind) ss (inputs_of_nodes ns) r.first.reader.source name r.handed }
+      record { first = r.first; at = r.at; node = let same : r.first.node ≡ k + 1 + j = r.node in omega (arith, same); handed = handed_later (source_file m.kind) ss (inputs_of_nodes ns) r.first.reader.source name r.handed }
 
   pub reads_file : (chains : List graph.Chain) (ns : List blue.Node) (ss : List S) (ds : List D) (ps : List (Seated S D L B)) (xs : List (IslandNode S D L B)) → AreSeats chains 0 ns ss ds ps → AllBecome ps xs
-      → (j : ℕ) (n : blue.Node) (name : List ℕ) → slice_get ns j ≡ Some n → n.kind ≡ kind.Lines name → ReadsFile (inputs_of_nodes ns) ss xs j name
+      → (j : ℕ) (n : blue.Node) (name : List ℕ) → slice_get ns j ≡ Some n → n.kind ≡ kind.Lines name → ReadsSourceFile (inputs_of_nodes ns) ss xs j name
   reads_file chains ns ss ds ps xs a b j n name at e =
       let r = reads_at chains 0 ns ss ds ps xs j n name a b at e in
       record { first = r.first; at = r.at; node = let same : r.first.node ≡ 0 + j = r.node in omega (arith, same); place = r.handed.place; source = r.handed.handle; file = r.handed.named }

@@ -11,8 +11,8 @@ use Rattle.stream_model.specs.Composed.{inputs_of, count_from}
 use Rattle.stream_picture.specs.View.{outputs_of}
 use Rattle.blue_core.specs.declared.blueprint.Node.{Node}
 use Rattle.blue_rules.specs.First.{first_from, when}
-use Rattle.blue_rules.specs.Ports.{port_missing, port_twice, port_open, is_number, lacks_output, lacks_input, open_input, open_output}
-use Rattle.materializer.specs.Graphs.{node_of}
+use Rattle.blue_rules.specs.Ports.{port_missing, port_twice, port_open, is_port_number, lacks_output, lacks_input, open_input, open_output}
+use Rattle.materializer.specs.Graphs.{graph_node}
 use Rattle.stream_picture.specs.Joined.{IsJoined}
 
 -- ---- nothing is said of any place
@@ -72,8 +72,8 @@ found place port n (w ∷ ws) (suc i) v h = pick place port n w ws v (found plac
         (λ (f : ((place w == place v) && (port w == port v)) ≡ false). (r.0, rw f r.1))
         (cases_Bool ((place w == place v) && (port w == port v)))
 
-is_it : (i k : ℕ) (o : Option ℕ) → o ≡ Some k → is_number i o ≡ true → o ≡ Some i
-is_it i k o e h = let t : (k == i) ≡ true = sym (ap (is_number i) e) ∙ h in e ∙ ap Some (eqb-true k i t)
+is_it : (i k : ℕ) (o : Option ℕ) → o ≡ Some k → is_port_number i o ≡ true → o ≡ Some i
+is_it i k o e h = let t : (k == i) ≡ true = sym (ap (is_port_number i) e) ∙ h in e ∙ ap Some (eqb-true k i t)
 
 -- ---- ports that are there
 
@@ -91,35 +91,35 @@ is_found (Some i) h = (i, refl)
 
 module _ (nodes : List Node) (ws : List Edge) (cs : List Chain) (missing : port_missing nodes ws ≡ None) (twice : port_twice ws ≡ None) (open_ : port_open nodes ws ≡ None) where
   abbrev whole : Graph
-  whole = record { nodes = map node_of nodes; wires = ws; chains = cs }
+  whole = record { nodes = map graph_node nodes; wires = ws; chains = cs }
 
   there : (i : ℕ) (v : Edge) → slice_get ws i ≡ Some v → (lacks_output (slice_get nodes v.from) v.output ≡ false) × (lacks_input (slice_get nodes v.to) v.input ≡ false)
   there i v at =
       let e = none_here (λ k w. when (lacks_output (slice_get nodes w.from) w.output || lacks_input (slice_get nodes w.to) w.input) k) ws i v missing at in
       or_parts _ _ (not_when _ i e)
 
-  once : (i : ℕ) (v : Edge) → slice_get ws i ≡ Some v → (not (is_number i (find_source v.from v.output ws)) ≡ false) × (not (is_number i (find_wire v.to v.input ws)) ≡ false)
+  once : (i : ℕ) (v : Edge) → slice_get ws i ≡ Some v → (not (is_port_number i (find_source v.from v.output ws)) ≡ false) × (not (is_port_number i (find_wire v.to v.input ws)) ≡ false)
   once i v at =
-      let e = none_here (λ k w. when (not (is_number k (find_source w.from w.output ws)) || not (is_number k (find_wire w.to w.input ws))) k) ws i v twice at in
+      let e = none_here (λ k w. when (not (is_port_number k (find_source w.from w.output ws)) || not (is_port_number k (find_wire w.to w.input ws))) k) ws i v twice at in
       or_parts _ _ (not_when _ i e)
 
   closed : (k : ℕ) (n : Node) → slice_get nodes k ≡ Some n → (open_input k n ws ≡ None) × (open_output k n ws ≡ None)
   closed k n at = both_none _ _ (none_here (λ i m. option_or (open_input i m ws) (open_output i m ws)) nodes k n open_ at)
 
-  node_there : (k : ℕ) (n : Node) → slice_get nodes k ≡ Some n → slice_get (map node_of nodes) k ≡ Some (node_of n)
-  node_there k n at = slice_get-map node_of nodes k ∙ ap (option_map node_of) at
+  node_there : (k : ℕ) (n : Node) → slice_get nodes k ≡ Some n → slice_get (map graph_node nodes) k ≡ Some (graph_node n)
+  node_there k n at = slice_get-map graph_node nodes k ∙ ap (option_map graph_node) at
 
-  target_there : (i : ℕ) (v : Edge) → slice_get ws i ≡ Some v → (n : graph.Node) × (slice_get (map node_of nodes) v.to ≡ Some n) × (v.input < inputs_of n.kind) × (find_wire v.to v.input ws ≡ Some i)
+  target_there : (i : ℕ) (v : Edge) → slice_get ws i ≡ Some v → (n : graph.Node) × (slice_get (map graph_node nodes) v.to ≡ Some n) × (v.input < inputs_of n.kind) × (find_wire v.to v.input ws ≡ Some i)
   target_there i v at =
       let n = input_there (slice_get nodes v.to) v.input (there i v at).1 in
       let f = found (λ w. w.to) (λ w. w.input) 0 ws i v at in
-      (node_of n.0, node_there v.to n.0 n.1.0, n.1.1, is_it i f.0 (find_wire v.to v.input ws) f.1 (not_false _ (once i v at).1))
+      (graph_node n.0, node_there v.to n.0 n.1.0, n.1.1, is_it i f.0 (find_wire v.to v.input ws) f.1 (not_false _ (once i v at).1))
 
-  source_there : (i : ℕ) (v : Edge) → slice_get ws i ≡ Some v → (n : graph.Node) × (slice_get (map node_of nodes) v.from ≡ Some n) × (v.output < outputs_of n.kind) × (find_source v.from v.output ws ≡ Some i)
+  source_there : (i : ℕ) (v : Edge) → slice_get ws i ≡ Some v → (n : graph.Node) × (slice_get (map graph_node nodes) v.from ≡ Some n) × (v.output < outputs_of n.kind) × (find_source v.from v.output ws ≡ Some i)
   source_there i v at =
       let n = output_there (slice_get nodes v.from) v.output (there i v at).0 in
       let f = found (λ w. w.from) (λ w. w.output) 0 ws i v at in
-      (node_of n.0, node_there v.from n.0 n.1.0, n.1.1, is_it i f.0 (find_source v.from v.output ws) f.1 (not_false _ (once i v at).0))
+      (graph_node n.0, node_there v.from n.0 n.1.0, n.1.1, is_it i f.0 (find_source v.from v.output ws) f.1 (not_false _ (once i v at).0))
 
   input_wire : (k : ℕ) (n : Node) (p : ℕ) → slice_get nodes k ≡ Some n → p < inputs_of n.kind → (i : ℕ) × (find_wire k p ws ≡ Some i)
   input_wire k n p at lt =
@@ -138,9 +138,9 @@ module _ (nodes : List Node) (ws : List Edge) (cs : List Chain) (missing : port_
     target = target_there;
     source = source_there;
     each_input = λ k m p at lt.
-        let n = mapped_from node_of nodes k m at in
+        let n = mapped_from graph_node nodes k m at in
         input_wire k n.0 p n.1.0 (subst (λ (x : graph.Node). p < inputs_of x.kind) (sym n.1.1) lt);
     each_output = λ k m p at lt.
-        let n = mapped_from node_of nodes k m at in
+        let n = mapped_from graph_node nodes k m at in
         output_wire k n.0 p n.1.0 (subst (λ (x : graph.Node). p < outputs_of x.kind) (sym n.1.1) lt);
   }

@@ -14,7 +14,7 @@ use Rattle.fused_net.specs.Net.{end_at}
 use Rattle.interpreter.specs.declared.parts.Seated.{Seated}
 use Rattle.interpreter.specs.Parts.{inputs_at, outputs_at, IsWiring}
 use Rattle.blue_core.specs.declared.blueprint.Node.{Node}
-use Rattle.materializer.specs.Graphs.{node_of}
+use Rattle.materializer.specs.Graphs.{graph_node}
 use Rattle.stream_picture.specs.Joined.{IsJoined}
 use Rattle.materializer.specs.Seats.{AreSeats}
 use Rattle.materializer.proofs.Joining.{mapped_from}
@@ -57,31 +57,31 @@ at_port place port a b n (w ∷ ws) k h =
     (cases_Bool ((place w == a) && (port w == b)))
 
 module _ {S D L B : Type 0} (nodes : List Node) (ws : List Edge) (cs : List Chain) (ss : List S) (ds : List D) (places : List (Seated S D L B))
-    (j : IsJoined (record { nodes = map node_of nodes; wires = ws; chains = cs })) (a : AreSeats cs 0 nodes ss ds places) where
+    (j : IsJoined (record { nodes = map graph_node nodes; wires = ws; chains = cs })) (a : AreSeats cs 0 nodes ss ds places) where
   abbrev ends : List WireEnds
   ends = map wire_ends ws
 
   wire_of : (i : ℕ) → i < length ends → (v : Edge) × (slice_get ws i ≡ Some v)
   wire_of i h = let e : length ends ≡ length ws = length-map ws wire_ends in some_at ws i (omega (arith, h, e))
 
-  is_place : (k : ℕ) (n : graph.Node) → slice_get (map node_of nodes) k ≡ Some n → k < length places
+  is_place : (k : ℕ) (n : graph.Node) → slice_get (map graph_node nodes) k ≡ Some n → k < length places
   is_place k n at =
-      let lt : k < length (map node_of nodes) = slice_get_within (map node_of nodes) k n at in
-      let e : length (map node_of nodes) ≡ length nodes = length-map nodes node_of in
+      let lt : k < length (map graph_node nodes) = slice_get_within (map graph_node nodes) k n at in
+      let e : length (map graph_node nodes) ≡ length nodes = length-map nodes graph_node in
       let c : length places ≡ length nodes = seats_count cs 0 nodes ss ds places a in
       omega (arith, lt, e, c)
 
   node_at : (k : ℕ) → k < length places → (n : Node) × (slice_get nodes k ≡ Some n)
   node_at k h = let c : length places ≡ length nodes = seats_count cs 0 nodes ss ds places a in some_at nodes k (omega (arith, h, c))
 
-  outputs_are : (k : ℕ) (n : graph.Node) → slice_get (map node_of nodes) k ≡ Some n → outputs_at places k ≡ outputs_of n.kind
+  outputs_are : (k : ℕ) (n : graph.Node) → slice_get (map graph_node nodes) k ≡ Some n → outputs_at places k ≡ outputs_of n.kind
   outputs_are k n at =
-      let m = mapped_from node_of nodes k n at in
+      let m = mapped_from graph_node nodes k n at in
       (seats_ports cs 0 nodes ss ds places k m.0 a m.1.0).1 ∙ ap (λ (x : graph.Node). outputs_of x.kind) m.1.1
 
-  inputs_are : (k : ℕ) (n : graph.Node) → slice_get (map node_of nodes) k ≡ Some n → inputs_at places k ≡ inputs_of n.kind
+  inputs_are : (k : ℕ) (n : graph.Node) → slice_get (map graph_node nodes) k ≡ Some n → inputs_at places k ≡ inputs_of n.kind
   inputs_are k n at =
-      let m = mapped_from node_of nodes k n at in
+      let m = mapped_from graph_node nodes k n at in
       (seats_ports cs 0 nodes ss ds places k m.0 a m.1.0).0 ∙ ap (λ (x : graph.Node). inputs_of x.kind) m.1.1
 
   from_ok : (i : ℕ) (v : Edge) → slice_get ws i ≡ Some v → (v.from < length places) × (v.output < outputs_at places v.from)
@@ -132,8 +132,8 @@ module _ {S D L B : Type 0} (nodes : List Node) (ws : List Edge) (cs : List Chai
       let input : v.input ≡ u.input = meet _ _ _ _ (input_is i v vi) (input_is k u uk) o in
       same_found i k (find_wire v.to v.input ws) (find_wire u.to u.input ws) (j.target i v vi).3 (j.target k u uk).3 (ap (λ x. find_wire x v.input ws) to ∙ ap (λ x. find_wire u.to x ws) input)
 
-  node_there : (k : ℕ) (n : Node) → slice_get nodes k ≡ Some n → slice_get (map node_of nodes) k ≡ Some (node_of n)
-  node_there k n at = slice_get-map node_of nodes k ∙ ap (option_map node_of) at
+  node_there : (k : ℕ) (n : Node) → slice_get nodes k ≡ Some n → slice_get (map graph_node nodes) k ≡ Some (graph_node n)
+  node_there k n at = slice_get-map graph_node nodes k ∙ ap (option_map graph_node) at
 
   in_ends : (i : ℕ) (v : Edge) → slice_get ws i ≡ Some v → i < length ends
   in_ends i v at =
@@ -145,14 +145,14 @@ module _ {S D L B : Type 0} (nodes : List Node) (ws : List Edge) (cs : List Chai
   a_source : (k p : ℕ) (n : Node) → slice_get nodes k ≡ Some n → p < outputs_at places k → (i : ℕ) × ((i < length ends) × (((end_at ends i).from ≡ k) × ((end_at ends i).output ≡ p)))
   a_source k p n at lt =
       let o : outputs_at places k ≡ outputs_of n.kind = (seats_ports cs 0 nodes ss ds places k n a at).1 in
-      let w = j.each_output k (node_of n) p (node_there k n at) (omega (arith, lt, o)) in
+      let w = j.each_output k (graph_node n) p (node_there k n at) (omega (arith, lt, o)) in
       let q = at_port (λ x. x.from) (λ x. x.output) k p 0 ws w.0 w.1 in
       (q.at, (in_ends q.at q.wire q.is, (from_is q.at q.wire q.is ∙ q.place_is, output_is q.at q.wire q.is ∙ q.port_is)))
 
   a_target : (k p : ℕ) (n : Node) → slice_get nodes k ≡ Some n → p < inputs_at places k → (i : ℕ) × ((i < length ends) × (((end_at ends i).to ≡ k) × ((end_at ends i).input ≡ p)))
   a_target k p n at lt =
       let o : inputs_at places k ≡ inputs_of n.kind = (seats_ports cs 0 nodes ss ds places k n a at).0 in
-      let w = j.each_input k (node_of n) p (node_there k n at) (omega (arith, lt, o)) in
+      let w = j.each_input k (graph_node n) p (node_there k n at) (omega (arith, lt, o)) in
       let q = at_port (λ x. x.to) (λ x. x.input) k p 0 ws w.0 w.1 in
       (q.at, (in_ends q.at q.wire q.is, (to_is q.at q.wire q.is ∙ q.place_is, input_is q.at q.wire q.is ∙ q.port_is)))
 

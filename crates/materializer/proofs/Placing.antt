@@ -20,13 +20,13 @@ use Rattle.interpreter.specs.declared.parts.Work.{Work}
 use Rattle.interpreter.specs.declared.parts.Work.TheVariants as work
 use Rattle.interpreter.specs.Parts.{work_inputs, work_outputs, inputs_at, outputs_at, IsUnused, AllUnused}
 use Rattle.blue_core.specs.declared.blueprint.Node.{Node}
-use Rattle.materializer.specs.Files.{input_of, output_of}
+use Rattle.materializer.specs.Files.{source_file, output_of}
 use Rattle.materializer.specs.Seats.{handle_of, IsWork, AreSeats}
 
 -- ---- kinds
 
 -- only sources of lines read a file
-pub reads_lines : {X : Type 0} (k : Kind) (xs : List X) (x : X) → handle_of (input_of k) xs ≡ Some x → (name : List ℕ) × (k ≡ Lines name)
+pub reads_lines : {X : Type 0} (k : Kind) (xs : List X) (x : X) → handle_of (source_file k) xs ≡ Some x → (name : List ℕ) × (k ≡ Lines name)
 reads_lines (Lines name) xs x h = (name, refl)
 reads_lines _ xs x h = absurd cc
 

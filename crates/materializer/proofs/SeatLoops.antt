@@ -5,7 +5,7 @@ use Rattle.std.proofs.lemmas.Bool.{and_parts}
 use Rattle.stream_model.specs.Graph as graph
 use Rattle.interpreter.specs.declared.parts.Seated.{Seated}
 use Rattle.blue_core.specs.declared.blueprint.Node.{Node}
-use Rattle.materializer.specs.Files.{input_of, output_of}
+use Rattle.materializer.specs.Files.{source_file, output_of}
 use Rattle.materializer.specs.Seats.{handles_left, IsWork, AreSeats}
 use Rattle.materializer.specs.Planned.{IsSeat, ArePlanned, Fills, reads, writes, reads_in, writes_in}
 use Rattle.materializer.specs.declared.seats.Seat.{Seat}
@@ -50,14 +50,14 @@ none_planned chains k (n ∷ ns) none e h = absurd (subst (λ l. ArePlanned chai
 module _ {S D L B : Type 0} (all : List Node) (sources : List S) (drains : List D) where
   -- one place more
   pub seats_next : (chains : List graph.Chain) (n : Node) (old rest : List Node) (ss later_ss : List S) (ds later_ds : List D) (k : ℕ) (p : Seated S D L B) (was now : List (Seated S D L B))
-      → old ≡ n ∷ rest → k ≡ length was → p.node ≡ k → IsWork chains k n ss ds p.work → later_ss ≡ handles_left (input_of n.kind) ss → later_ds ≡ handles_left (output_of n.kind) ds → now ≡ was ++ p ∷ []
+      → old ≡ n ∷ rest → k ≡ length was → p.node ≡ k → IsWork chains k n ss ds p.work → later_ss ≡ handles_left (source_file n.kind) ss → later_ds ≡ handles_left (output_of n.kind) ds → now ≡ was ++ p ∷ []
       → ((xs : List (Seated S D L B)) → AreSeats chains (length was) old ss ds xs → AreSeats chains 0 all sources drains (was ++ xs))
       → (xs : List (Seated S D L B)) → AreSeats chains (length now) rest later_ss later_ds xs → AreSeats chains 0 all sources drains (now ++ xs)
   seats_next chains n old rest ss later_ss ds later_ds k p was now e at node is s d more so xs h =
       let size : length now ≡ length was + 1 = ap length more ∙ length-append was (p ∷ []) in
       let a : AreSeats chains (length was + 1) rest later_ss later_ds xs = subst (λ i. AreSeats chains i rest later_ss later_ds xs) size h in
-      let b : AreSeats chains (length was + 1) rest (handles_left (input_of n.kind) ss) later_ds xs = subst (λ x. AreSeats chains (length was + 1) rest x later_ds xs) s a in
-      let c : AreSeats chains (length was + 1) rest (handles_left (input_of n.kind) ss) (handles_left (output_of n.kind) ds) xs = subst (λ x. AreSeats chains (length was + 1) rest (handles_left (input_of n.kind) ss) x xs) d b in
+      let b : AreSeats chains (length was + 1) rest (handles_left (source_file n.kind) ss) later_ds xs = subst (λ x. AreSeats chains (length was + 1) rest x later_ds xs) s a in
+      let c : AreSeats chains (length was + 1) rest (handles_left (source_file n.kind) ss) (handles_left (output_of n.kind) ds) xs = subst (λ x. AreSeats chains (length was + 1) rest (handles_left (source_file n.kind) ss) x xs) d b in
       let work : IsWork chains (length was) n ss ds p.work = subst (λ i. IsWork chains i n ss ds p.work) at is in
       let whole : AreSeats chains (length was) old ss ds (p ∷ xs) = subst (λ r. AreSeats chains (length was) r ss ds (p ∷ xs)) (sym e) (node ∙ at, (work, c)) in
       subst (λ l. AreSeats chains 0 all sources drains l) (sym (ap (λ l. l ++ xs) more ∙ append_assoc was (p ∷ []) xs)) (so (p ∷ xs) whole)

@@ -10,21 +10,21 @@ use Rattle.stream_model.specs.declared.kind.Kind.{Kind}
 use Rattle.stream_model.specs.declared.kind.Kind.TheVariants.{Valve, TripShutdown, TripAbort}
 use Rattle.blue_core.specs.declared.blueprint.Node.{Node}
 use Rattle.blue_rules.specs.Sizes.{sizes_fit}
-use Rattle.stage_state.specs.Logics.{IsHanded, IsStateful}
+use Rattle.stage_state.specs.Logics.{IsHandedEnd, IsStateful}
 use Rattle.switch_board.specs.Board.{switch_of, IsHandedAt, AreHanded}
 use Rattle.elem_core.specs.declared.why.Decider.{Decider}
 use Rattle.interpreter.specs.declared.parts.Work.{Work}
-use Rattle.materializer.specs.Files.{input_of, output_of}
+use Rattle.materializer.specs.Files.{source_file, output_of}
 use Rattle.materializer.specs.Planned.{IsPlanned}
 use Rattle.materializer.specs.Seats.{IsFreeWork}
 use Rattle.materializer.specs.declared.seats.Planned.TheVariants.{Works}
 
 -- a valve or a trip, and no other kind, is handed what it has of its switch
-pub to_handed : (kind : Kind) (e : Option SwitchEnd) → IsHandedAt (switch_of kind) e → IsHanded kind e
-to_handed (Valve name) e h = subst (IsHanded (Valve name)) (sym h.1.0) h.1.1
-to_handed (TripShutdown name n) e h = subst (IsHanded (TripShutdown name n)) (sym h.1.0) h.1.1
-to_handed (TripAbort name n) e h = subst (IsHanded (TripAbort name n)) (sym h.1.0) h.1.1
-to_handed kind e h = subst (IsHanded kind) (sym h) tt
+pub to_handed : (kind : Kind) (e : Option SwitchEnd) → IsHandedAt (switch_of kind) e → IsHandedEnd kind e
+to_handed (Valve name) e h = subst (IsHandedEnd (Valve name)) (sym h.1.0) h.1.1
+to_handed (TripShutdown name n) e h = subst (IsHandedEnd (TripShutdown name n)) (sym h.1.0) h.1.1
+to_handed (TripAbort name n) e h = subst (IsHandedEnd (TripAbort name n)) (sym h.1.0) h.1.1
+to_handed kind e h = subst (IsHandedEnd kind) (sym h) tt
 
 none_some : {A : Type 0} {x : A} → None ≡ Some x → ⊥
 none_some e = absurd cc
@@ -46,7 +46,7 @@ at_switch_keeps (TripShutdown name n) e fit h = counts_from_one _ n fit
 at_switch_keeps (TripAbort name n) e fit h = counts_from_one _ n fit
 at_switch_keeps kind e fit h = absurd (none_some (sym h))
 
-pub at_switch_reads_none : (kind : Kind) (e : SwitchEnd) → IsHandedAt (switch_of kind) (Some e) → input_of kind ≡ None
+pub at_switch_reads_none : (kind : Kind) (e : SwitchEnd) → IsHandedAt (switch_of kind) (Some e) → source_file kind ≡ None
 at_switch_reads_none (Valve name) e h = refl
 at_switch_reads_none (TripShutdown name n) e h = refl
 at_switch_reads_none (TripAbort name n) e h = refl
@@ -62,7 +62,7 @@ at_switch_writes_none kind e h = absurd (none_some (sym h))
 pub plans_at_switch : {S D L B : Type 0} (chains : List graph.Chain) (k : ℕ) (kind : Kind) (d : Decider) (e : SwitchEnd) (w : Work S D L B) → IsHandedAt (switch_of kind) (Some e) → IsFreeWork chains k kind d w → (node : Node) → node.kind ≡ kind → node.decider ≡ d → IsPlanned chains k node (Works w)
 plans_at_switch chains k kind d e w h free node is same = record {
   work = subst (λ x. IsFreeWork chains k x node.decider w) (sym is) (subst (λ x. IsFreeWork chains k kind x w) (sym same) free);
-  no_input = ap input_of is ∙ at_switch_reads_none kind e h;
+  no_input = ap source_file is ∙ at_switch_reads_none kind e h;
   no_output = ap output_of is ∙ at_switch_writes_none kind e h;
 }
 

@@ -31,8 +31,8 @@ read_by (partitions n f) = None
 read_by unzips = None
 read_by (sinks file keeps) = None
 
-abbrev pub input_of : Kind → Option (List ℕ)
-input_of k = read_by (role_of k)
+abbrev pub source_file : Kind → Option (List ℕ)
+source_file k = read_by (role_of k)
 
 -- the file that a sink writes
 abbrev written_by : Role → Option (List ℕ)
@@ -65,7 +65,7 @@ output_of k = written_by (role_of k)
 
 -- of all nodes
 abbrev pub inputs_of_nodes : List Node → List (List ℕ)
-inputs_of_nodes nodes = filter_map (λ n. input_of n.kind) nodes
+inputs_of_nodes nodes = filter_map (λ n. source_file n.kind) nodes
 
 abbrev pub outputs_of_nodes : List Node → List (List ℕ)
 outputs_of_nodes nodes = filter_map (λ n. output_of n.kind) nodes

@@ -11,7 +11,7 @@ use Rattle.interpreter.specs.declared.parts.Place.{Place}
 use Rattle.interpreter.specs.declared.parts.Seated.{Seated}
 use Rattle.interpreter.specs.declared.parts.Work.{Work}
 use Rattle.blue_core.specs.declared.blueprint.Node.{Node}
-use Rattle.materializer.specs.Files.{input_of, output_of}
+use Rattle.materializer.specs.Files.{source_file, output_of}
 use Rattle.materializer.specs.Seats.{handles_left, IsFreeWork, IsWork, work_seat}
 use Rattle.materializer.specs.declared.seats.Planned.{Planned}
 use Rattle.materializer.specs.declared.seats.Planned.TheVariants.{Reads, Writes, Works}
@@ -35,7 +35,7 @@ pub record PlansWriter (n : Node) (shape : Kind) : Type 0 where
 -- a node without a file
 pub record PlansWork {S D L B : Type 0} (chains : List graph.Chain) (k : ℕ) (n : Node) (w : Work S D L B) : Type 0 where
   pub work : IsFreeWork chains k n.kind n.decider w
-  pub no_input : input_of n.kind ≡ None
+  pub no_input : source_file n.kind ≡ None
   pub no_output : output_of n.kind ≡ None
 
 -- what is to stand at the place of node k, in a blueprint with these chains
@@ -77,7 +77,7 @@ writes_in (s ∷ ss) = writes s.planned + writes_in ss
 pub record FillsAs {S D L B : Type 0} (chains : List graph.Chain) (k : ℕ) (n : Node) (sources : List S) (drains : List D) (p : Seated S D L B) (later_sources : List S) (later_drains : List D) : Type 0 where
   pub node : p.node ≡ k
   pub work : IsWork chains k n sources drains p.work
-  pub sources_left : later_sources ≡ handles_left (input_of n.kind) sources
+  pub sources_left : later_sources ≡ handles_left (source_file n.kind) sources
   pub drains_left : later_drains ≡ handles_left (output_of n.kind) drains
 
 abbrev pub Fills : {S D L B : Type 0} → List graph.Chain → Seat S D L B → List S → List D → Seated S D L B → List S → List D → Type 0

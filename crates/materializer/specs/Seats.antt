@@ -7,7 +7,7 @@ use Rattle.stream_model.specs.Graph as graph
 use Rattle.stream_model.specs.Graph.{steps_of}
 use Rattle.stream_model.specs.Composed.{inputs_of}
 use Rattle.stream_picture.specs.View.{outputs_of}
-use Rattle.stream_io.specs.Reading.{Reading}
+use Rattle.stream_io.specs.Reading.{ReaderState}
 use Rattle.kill_core.specs.Public.{SeatState}
 use Rattle.stage_linear.specs.States.{Logic, IsLinear, Begins}
 use Rattle.stage_state.specs.declared.logic.StateLogic.{StateLogic}
@@ -29,7 +29,7 @@ use Rattle.interpreter.specs.declared.parts.Seated.{Seated}
 use Rattle.interpreter.specs.declared.parts.Work.{Work}
 use Rattle.interpreter.specs.declared.parts.Work.TheVariants as work
 use Rattle.blue_core.specs.declared.blueprint.Node.{Node}
-use Rattle.materializer.specs.Files.{input_of, output_of}
+use Rattle.materializer.specs.Files.{source_file, output_of}
 
 -- the handle that a node takes where it has a file: the next one
 abbrev pub handle_of : {X : Type 0} → Option (List ℕ) → List X → Option X
@@ -43,8 +43,8 @@ handles_left (Some file) [] = []
 handles_left (Some file) (x ∷ xs) = xs
 
 -- a source of lines reads the next of the sources, and has read nothing
-pub record ReadsNext {S : Type 0} (n : Node) (sources : List S) (r : Reading S) : Type 0 where
-  pub source : handle_of (input_of n.kind) sources ≡ Some r.source
+pub record ReadsNext {S : Type 0} (n : Node) (sources : List S) (r : ReaderState S) : Type 0 where
+  pub source : handle_of (source_file n.kind) sources ≡ Some r.source
   pub kept : r.kept ≡ []
 
 -- a linear stage is at its start
@@ -112,7 +112,7 @@ IsWork chains k n sources drains w = IsFreeWork chains k n.kind n.decider w
 abbrev pub AreSeats : {S D L B : Type 0} → List graph.Chain → ℕ → List Node → List S → List D → List (Seated S D L B) → Type 0
 AreSeats chains k [] sources drains [] = ⊤
 AreSeats chains k (n ∷ ns) sources drains (p ∷ ps) =
-    (p.node ≡ k) × (IsWork chains k n sources drains p.work × AreSeats chains (k + 1) ns (handles_left (input_of n.kind) sources) (handles_left (output_of n.kind) drains) ps)
+    (p.node ≡ k) × (IsWork chains k n sources drains p.work × AreSeats chains (k + 1) ns (handles_left (source_file n.kind) sources) (handles_left (output_of n.kind) drains) ps)
 AreSeats chains k _ sources drains _ = ⊥
 
 -- the seat at its switch that a work has, where it is that of a valve or a trip

@@ -13,7 +13,7 @@ ghost use Rattle.stream_model.specs.declared.kind.Kind.TheVariants as kind;
 ghost use Rattle.materializer.specs.Files.{output_of, inputs_of_nodes, outputs_of_nodes};
 ghost use Rattle.materializer.specs.Firsts.{AreFirsts};
 ghost use Rattle.materializer.specs.Graphs.{chains_of, graph_of};
-ghost use Rattle.materializer.specs.Handed.{ReadsFile, WritesFile, WritesNoFile};
+ghost use Rattle.materializer.specs.Handed.{ReadsSourceFile, WritesFile, WritesNoFile};
 ghost use Rattle.stream_picture.specs.Joined.{IsJoined};
 ghost use Rattle.materializer.specs.Seats.{AreSeats};
 
@@ -40,7 +40,7 @@ pub fn parts_are_made_of_their_blueprint<S: Source, D: Drain, L: Logic, B: PlugB
 /// none (`ignores`).
 pub fn parts_hold_their_files<S: Source, D: Drain, L: Logic, B: PlugBook>()
     ensures sources { (chains : List graph.Chain) (nodes : List blue.Node) (sources : List S) (drains : List D) (places : List (Seated S D L B)) (firsts : List (IslandNode S D L B)) → AreSeats chains 0 nodes sources drains places → AllBecome places firsts
-        → (k : ℕ) (n : blue.Node) (name : List ℕ) → slice_get nodes k ≡ Some n → n.kind ≡ kind.Lines name → ReadsFile (inputs_of_nodes nodes) sources firsts k name }
+        → (k : ℕ) (n : blue.Node) (name : List ℕ) → slice_get nodes k ≡ Some n → n.kind ≡ kind.Lines name → ReadsSourceFile (inputs_of_nodes nodes) sources firsts k name }
     ensures drains { (chains : List graph.Chain) (nodes : List blue.Node) (sources : List S) (drains : List D) (places : List (Seated S D L B)) (firsts : List (IslandNode S D L B)) → AreSeats chains 0 nodes sources drains places → AllBecome places firsts
         → (k : ℕ) (n : blue.Node) (name : List ℕ) → slice_get nodes k ≡ Some n → n.kind ≡ kind.ToLines name → WritesFile (outputs_of_nodes nodes) drains firsts k name }
     ensures files { (chains : List graph.Chain) (nodes : List blue.Node) (sources : List S) (drains : List D) (places : List (Seated S D L B)) (firsts : List (IslandNode S D L B)) → AreSeats chains 0 nodes sources drains places → AllBecome places firsts

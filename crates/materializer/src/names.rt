@@ -2,7 +2,7 @@
 ghost use Rattle.std.specs.Prelude.{◌≡◌, IfOk};
 ghost use Rattle.std.specs.Option.{option_map};
 ghost use Rattle.materializer.specs.Choices.{pick_names};
-ghost use Rattle.materializer.specs.Files.{input_of, output_of, inputs_of_nodes, outputs_of_nodes, is_sink, sinks_of_nodes};
+ghost use Rattle.materializer.specs.Files.{source_file, output_of, inputs_of_nodes, outputs_of_nodes, is_sink, sinks_of_nodes};
 
 use blue_check::picks::picks;
 use blue_core::blueprint::{Blueprint, Node};
@@ -13,8 +13,8 @@ use std::alloc::Global;
 use stream_model::kind::Kind;
 
 /// The file that a source reads.
-pub fn input_of(kind: &Kind) -> Option<&Line>
-    ensures { option_map (λ l. l.now) result ≡ input_of kind.now }
+pub fn source_file(kind: &Kind) -> Option<&Line>
+    ensures { option_map (λ l. l.now) result ≡ source_file kind.now }
 {
     match kind {
         Kind::Lines(file) => Some(file),
@@ -45,7 +45,7 @@ fn inputs_of(alloc: Global, nodes: &[Node]) -> Result<Vec<Line>, NoMemory>
 {
     let mut names = Vec::new(alloc);
     for node in nodes {
-        if let Some(file) = input_of(&node.kind) {
+        if let Some(file) = source_file(&node.kind) {
             names.push(file.copy(alloc)?)?;
         }
     }

@@ -9,7 +9,7 @@ use Rattle.elem_core.specs.Values.{same_text}
 use Rattle.blue_rules.specs.First.{first_from, when}
 use Rattle.blue_rules.specs.Names.{is_named}
 use Rattle.plug_logic.specs.declared.plug.Plug.{Plug}
-use Rattle.plug_board.specs.Handing.{names_of, place_of, IsTaken}
+use Rattle.plug_board.specs.Handing.{names_of, plug_place, IsTaken}
 
 -- where a search finds nothing, no test holds
 none_here : (b : Bool) (k : ℕ) (later : Option ℕ) (rest : Bool) → (later ≡ None → rest ≡ true → ⊥) → option_or (when b k) later ≡ None → (b || rest) ≡ true → ⊥
@@ -38,10 +38,10 @@ module _ {L : Type 0} (name : List ℕ) where
   none_from k (p ∷ plugs) h is = none_here (same_text name p.head.name) k _ _ (none_from (k + 1) plugs) h is
 
 -- one that is named is found
-pub is_there : {L : Type 0} (name : List ℕ) (plugs : List (Plug L)) → place_of name plugs ≡ None → is_named name (names_of plugs) ≡ true → ⊥
+pub is_there : {L : Type 0} (name : List ℕ) (plugs : List (Plug L)) → plug_place name plugs ≡ None → is_named name (names_of plugs) ≡ true → ⊥
 is_there name plugs h is = none_from name 0 plugs h is
 
-found : {L : Type 0} (name : List ℕ) (plugs : List (Plug L)) (i : ℕ) → place_of name plugs ≡ Some i → (p : Plug L) × ((slice_get plugs i ≡ Some p) × (p.head.name ≡ name))
+found : {L : Type 0} (name : List ℕ) (plugs : List (Plug L)) (i : ℕ) → plug_place name plugs ≡ Some i → (p : Plug L) × ((slice_get plugs i ≡ Some p) × (p.head.name ≡ name))
 found name plugs i h =
     let f = found_from name 0 plugs i h in
     let is = f.is in
@@ -49,11 +49,11 @@ found name plugs i h =
     (f.plug, (subst (λ k. slice_get plugs k ≡ Some f.plug) e f.there, f.named))
 
 -- its place is within them
-pub found_within : {L : Type 0} (name : List ℕ) (plugs : List (Plug L)) (i : ℕ) → place_of name plugs ≡ Some i → i < length plugs
+pub found_within : {L : Type 0} (name : List ℕ) (plugs : List (Plug L)) (i : ℕ) → plug_place name plugs ≡ Some i → i < length plugs
 found_within name plugs i h = let f = found name plugs i h in slice_get_within plugs i f.0 f.1.0
 
 -- what is removed at its place is it
-pub found_taken : {L : Type 0} (name : List ℕ) (old : List (Plug L)) (i : ℕ) (p : Plug L) (new : List (Plug L)) → place_of name old ≡ Some i → ((d : Plug L) → slice_get old i ≡ Some d → p ≡ d) → new ≡ remove old i → IsTaken name old p new
+pub found_taken : {L : Type 0} (name : List ℕ) (old : List (Plug L)) (i : ℕ) (p : Plug L) (new : List (Plug L)) → plug_place name old ≡ Some i → ((d : Plug L) → slice_get old i ≡ Some d → p ≡ d) → new ≡ remove old i → IsTaken name old p new
 found_taken name old i p new h is left =
     let f = found name old i h in
     let same : p ≡ f.0 = is f.0 f.1.0 in

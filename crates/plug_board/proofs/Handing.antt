@@ -12,7 +12,7 @@ use Rattle.plug_core.specs.declared.head.PlugHead.{PlugHead}
 use Rattle.plug_logic.specs.declared.plug.Plug.{Plug}
 use Rattle.plug_logic.specs.Gives.{Gives}
 use Rattle.plug_board.specs.Handed.{GivesAsListed, HasPlugs, IsPlugged, ArePlugged}
-use Rattle.plug_board.specs.Handing.{names_of, IsHanded}
+use Rattle.plug_board.specs.Handing.{names_of, IsHandedPlug}
 use Rattle.plug_board.proofs.Naming.{Known, IsOnce, AreOnce, none_both, known_all, once_all, still_known}
 
 -- an element of a list has what all have
@@ -41,7 +41,7 @@ module _ {L : Type 0} (gives : L → Gives) (book : Book) where
     keep = keep;
   }
 
-  ready_next_of : (o : Option (List ℕ)) (nodes : List Node) (old new : List (Plug L)) (e : Option (Plug L)) → Known (names_of old) nodes → IsOnce o nodes → AreOnce nodes → All (GivesAsListed gives book) old → IsHanded o old e new → IsReady new nodes
+  ready_next_of : (o : Option (List ℕ)) (nodes : List Node) (old new : List (Plug L)) (e : Option (Plug L)) → Known (names_of old) nodes → IsOnce o nodes → AreOnce nodes → All (GivesAsListed gives book) old → IsHandedPlug o old e new → IsReady new nodes
   ready_next_of None nodes old new e known once others keep h = record {
     known = subst (λ left. Known (names_of left) nodes) (sym h.1) known;
     once = others;
@@ -54,15 +54,15 @@ module _ {L : Type 0} (gives : L → Gives) (book : Book) where
         keep = subst (λ left. All (GivesAsListed gives book) left) (sym t.left) (All-append (GivesAsListed gives book) (take t.at old) (drop (suc t.at) old) (All-take (GivesAsListed gives book) t.at old keep) (All-drop (GivesAsListed gives book) (suc t.at) old keep));
       }
 
-  pub ready_next : (n : Node) (nodes : List Node) (old new : List (Plug L)) (e : Option (Plug L)) → IsReady old (n ∷ nodes) → IsHanded (plug_of n.kind) old e new → IsReady new nodes
+  pub ready_next : (n : Node) (nodes : List Node) (old new : List (Plug L)) (e : Option (Plug L)) → IsReady old (n ∷ nodes) → IsHandedPlug (plug_of n.kind) old e new → IsReady new nodes
   ready_next n nodes old new e r h = ready_next_of (plug_of n.kind) nodes old new e r.known.1 r.once.0 r.once.1 r.keep h
 
   -- what it is handed is its own
-  plugged_of : (o : Option (List ℕ)) (old new : List (Plug L)) (e : Option (Plug L)) → All (GivesAsListed gives book) old → IsHanded o old e new → IsPlugged gives book o e
+  plugged_of : (o : Option (List ℕ)) (old new : List (Plug L)) (e : Option (Plug L)) → All (GivesAsListed gives book) old → IsHandedPlug o old e new → IsPlugged gives book o e
   plugged_of None old new e keep h = h.0
   plugged_of (Some name) old new e keep h = let t = h.1.1 in (h.0, (h.1.0, (t.named, at_all (GivesAsListed gives book) old t.at h.0 t.there keep)))
 
-  pub plugged : (n : Node) (nodes : List Node) (old new : List (Plug L)) (e : Option (Plug L)) → IsReady old (n ∷ nodes) → IsHanded (plug_of n.kind) old e new → IsPlugged gives book (plug_of n.kind) e
+  pub plugged : (n : Node) (nodes : List Node) (old new : List (Plug L)) (e : Option (Plug L)) → IsReady old (n ∷ nodes) → IsHandedPlug (plug_of n.kind) old e new → IsPlugged gives book (plug_of n.kind) e
   plugged n nodes old new e r h = plugged_of (plug_of n.kind) old new e r.keep h
 
   -- those that were handed theirs, with the nodes behind them, are all

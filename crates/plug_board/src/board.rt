@@ -3,7 +3,7 @@ ghost use Rattle.std.specs.Prelude.{◌≡◌, [], true, None, map, IfOk};
 ghost use Rattle.std.specs.List.{All};
 ghost use Rattle.blue_rules.specs.Names.{is_named, plug_of, unknown_plug_at};
 ghost use Rattle.plug_board.specs.Handed.{GivesAsListed, HasPlugs, ArePlugged};
-ghost use Rattle.plug_board.specs.Handing.{names_of, place_of, IsTaken, IsHanded};
+ghost use Rattle.plug_board.specs.Handing.{names_of, plug_place, IsTaken, IsHandedPlug};
 
 use blue_core::blueprint::Node;
 use blue_names::claims::plug_of;
@@ -16,8 +16,8 @@ use std::alloc::Global;
 use stream_model::kind::Kind;
 
 /// The place of the first plug of that name.
-fn place_of<L: Logic>(plugs: &[Plug<L>], name: &Line) -> Option<usize>
-    ensures { result ≡ place_of name.now plugs.now }
+fn plug_place<L: Logic>(plugs: &[Plug<L>], name: &Line) -> Option<usize>
+    ensures { result ≡ plug_place name.now plugs.now }
 {
     for (k, plug) in plugs.iter().enumerate() {
         if *name == plug.head.name {
@@ -32,7 +32,7 @@ fn take_named<L: Logic>(plugs: &mut Vec<Plug<L>>, name: &Line) -> Plug<L>
     requires { is_named name.now (names_of plugs.old.items) ≡ true }
     ensures { IsTaken name.now plugs.old.items result plugs.new.items }
 {
-    match place_of(plugs, name) {
+    match plug_place(plugs, name) {
         Some(place) => plugs.remove(place),
         None => unreachable!(),
     }
@@ -41,7 +41,7 @@ fn take_named<L: Logic>(plugs: &mut Vec<Plug<L>>, name: &Line) -> Plug<L>
 /// What a node of this kind is handed out of the plugs that are left.
 fn hand<L: Logic>(kind: &Kind, plugs: &mut Vec<Plug<L>>) -> Option<Plug<L>>
     requires { unknown_plug_at (names_of plugs.old.items) (plug_of kind.now) ≡ None }
-    ensures { IsHanded (plug_of kind.now) plugs.old.items result plugs.new.items }
+    ensures { IsHandedPlug (plug_of kind.now) plugs.old.items result plugs.new.items }
 {
     match plug_of(kind) {
         Some(name) => Some(take_named(plugs, name)),

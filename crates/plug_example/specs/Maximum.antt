@@ -6,7 +6,7 @@ use Rattle.elem_core.specs.Tree.{Tree}
 use Rattle.elem_core.specs.Order.{tree_cmp}
 use Rattle.stream_model.specs.Linear.{Book}
 use Rattle.plug_logic.specs.Gives.{Gives}
-use Rattle.plug_logic.specs.Shipped.{gave, silent}
+use Rattle.plug_logic.specs.Shipped.{reply_with, silent}
 
 -- the greater of two, and the first where they are equal
 abbrev pub greatest : Option Tree → Tree → Tree
@@ -20,11 +20,11 @@ greatest_behind best (t ∷ l) = greatest_behind (Some (greatest best t)) l
 
 -- what it gives where this was the greatest so far: behind each element the greatest, and nothing at the end
 abbrev pub maximum_after : Option Tree → Gives
-maximum_after best = record { reply = λ l t. gave (greatest (greatest_behind best l) t ∷ []); closing = λ l. gave [] }
+maximum_after best = record { reply = λ l t. reply_with (greatest (greatest_behind best l) t ∷ []); closing = λ l. reply_with [] }
 
 -- what the plug of this name gives; one of any other name gives nothing
-abbrev pub own : List ℕ → Gives
-own name = if pointwise ◌==◌ name (codes "maximum") then maximum_after None else silent
+abbrev pub own_plug : List ℕ → Gives
+own_plug name = if pointwise ◌==◌ name (codes "maximum") then maximum_after None else silent
 
 abbrev pub own_book : Book
-own_book = record { reply = λ name. (own name).reply; closing = λ name. (own name).closing }
+own_book = record { reply = λ name. (own_plug name).reply; closing = λ name. (own_plug name).closing }

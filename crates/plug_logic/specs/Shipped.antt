@@ -10,8 +10,8 @@ use Rattle.stream_model.specs.Linear.{Book, Reply, go, fail}
 use Rattle.plug_logic.specs.Gives.{Gives}
 
 -- these outputs, and it goes on
-abbrev pub gave : List Tree → Reply
-gave l = record { gave = l; verdict = go }
+abbrev pub reply_with : List Tree → Reply
+reply_with l = record { gave = l; verdict = go }
 
 -- ---- dedup
 
@@ -27,7 +27,7 @@ unrepeated (Some last) t = if is_eq (tree_cmp last t) then [] else t ∷ []
 
 -- what it gives where this element came last
 abbrev pub dedup_after : Option Tree → Gives
-dedup_after x = record { reply = λ l t. gave (unrepeated (last_behind x l) t); closing = λ l. gave [] }
+dedup_after x = record { reply = λ l t. reply_with (unrepeated (last_behind x l) t); closing = λ l. reply_with [] }
 
 -- ---- pairsum
 
@@ -39,27 +39,27 @@ waiting (Some a) (t ∷ l) = waiting None l
 
 -- a sum, or code 1 where it is out of range
 abbrev pub summed : Result Tree Why → Reply
-summed (Ok s) = gave (s ∷ [])
+summed (Ok s) = reply_with (s ∷ [])
 summed (Err w) = record { gave = []; verdict = fail 1 }
 
-abbrev pub paired : Option Tree → Tree → Reply
-paired None t = gave []
-paired (Some a) t = summed (sum_step a t)
+abbrev pub pair_reply : Option Tree → Tree → Reply
+pair_reply None t = reply_with []
+pair_reply (Some a) t = summed (sum_step a t)
 
 -- an odd last number
 abbrev pub odd : Option Tree → Reply
-odd None = gave []
-odd (Some a) = gave (a ∷ [])
+odd None = reply_with []
+odd (Some a) = reply_with (a ∷ [])
 
 -- what it gives where this number waits
 abbrev pub sums_after : Option Tree → Gives
-sums_after x = record { reply = λ l. paired (waiting x l); closing = λ l. odd (waiting x l) }
+sums_after x = record { reply = λ l. pair_reply (waiting x l); closing = λ l. odd (waiting x l) }
 
 -- ---- the book
 
 -- a plug that gives nothing
 abbrev pub silent : Gives
-silent = record { reply = λ l t. gave []; closing = λ l. gave [] }
+silent = record { reply = λ l t. reply_with []; closing = λ l. reply_with [] }
 
 -- what the plug of this name gives
 abbrev pub shipped : List ℕ → Gives

@@ -4,28 +4,28 @@ use Rattle.std.specs.Cmp.Lexicographic.{pointwise}
 use Rattle.elem_core.specs.Tree.{Tree}
 use Rattle.stream_model.specs.Linear.{Book, Reply, finish, fail}
 use Rattle.plug_logic.specs.Gives.{Gives}
-use Rattle.plug_logic.specs.Shipped.{gave, silent, last_behind}
+use Rattle.plug_logic.specs.Shipped.{reply_with, silent, last_behind}
 
 -- the first element twice, and it is done
 abbrev pub twin_gives : Gives
-twin_gives = record { reply = λ l t. record { gave = t ∷ t ∷ []; verdict = finish }; closing = λ l. gave [] }
+twin_gives = record { reply = λ l t. record { gave = t ∷ t ∷ []; verdict = finish }; closing = λ l. reply_with [] }
 
 -- whether an element came, where this says so of those before a list
-abbrev pub came : Bool → List Tree → Bool
-came b [] = b
-came b (t ∷ l) = true
+abbrev pub element_came : Bool → List Tree → Bool
+element_came b [] = b
+element_came b (t ∷ l) = true
 
 -- the first element, and code 7 at the second
 abbrev pub halted : Bool → Tree → Reply
-halted false t = gave (t ∷ [])
+halted false t = reply_with (t ∷ [])
 halted true t = record { gave = []; verdict = fail 7 }
 
 abbrev pub halts_after : Bool → Gives
-halts_after b = record { reply = λ l. halted (came b l); closing = λ l. gave [] }
+halts_after b = record { reply = λ l. halted (element_came b l); closing = λ l. reply_with [] }
 
 -- each element, and code 9 at the end
 abbrev pub spoils_gives : Gives
-spoils_gives = record { reply = λ l t. gave (t ∷ []); closing = λ l. record { gave = []; verdict = fail 9 } }
+spoils_gives = record { reply = λ l t. reply_with (t ∷ []); closing = λ l. record { gave = []; verdict = fail 9 } }
 
 -- nothing, and at the end the last element twice
 abbrev pub twice : Option Tree → List Tree
@@ -33,11 +33,11 @@ twice None = []
 twice (Some t) = t ∷ t ∷ []
 
 abbrev pub tail_after : Option Tree → Gives
-tail_after x = record { reply = λ l t. gave []; closing = λ l. gave (twice (last_behind x l)) }
+tail_after x = record { reply = λ l t. reply_with []; closing = λ l. reply_with (twice (last_behind x l)) }
 
 -- each element
-abbrev pub passes : Gives
-passes = record { reply = λ l t. gave (t ∷ []); closing = λ l. gave [] }
+abbrev pub passes_all : Gives
+passes_all = record { reply = λ l t. reply_with (t ∷ []); closing = λ l. reply_with [] }
 
 -- what the plug of this name gives; one of any other name gives nothing
 abbrev pub sample : List ℕ → Gives
@@ -46,8 +46,8 @@ sample name =
     else if pointwise ◌==◌ name (codes "halts") then halts_after false
     else if pointwise ◌==◌ name (codes "spoils") then spoils_gives
     else if pointwise ◌==◌ name (codes "tail") then tail_after None
-    else if pointwise ◌==◌ name (codes "left") then passes
-    else if pointwise ◌==◌ name (codes "right") then passes
+    else if pointwise ◌==◌ name (codes "left") then passes_all
+    else if pointwise ◌==◌ name (codes "right") then passes_all
     else silent
 
 abbrev pub sample_book : Book

@@ -1,7 +1,7 @@
 // Two plugs that meet only where two threads run.
 ghost use Rattle.std.specs.Prelude.{◌≡◌, codes};
 ghost use Rattle.plug_logic.specs.Gives.{listed};
-ghost use Rattle.plug_samples.specs.Samples.{passes, sample_book};
+ghost use Rattle.plug_samples.specs.Samples.{passes_all, sample_book};
 
 use elem_core::elem::Elem;
 use elem_core::elems::Elems;
@@ -43,7 +43,7 @@ impl Meets {
 }
 
 impl Logic for Meets {
-    ghost gives = { λ m. passes };
+    ghost gives = { λ m. passes_all };
 
     fn on_elem(&mut self, _alloc: Global, e: Elem, out: &mut Elems) -> Verdict {
         let _ = self.own.set(true);

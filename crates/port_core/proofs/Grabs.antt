@@ -3,7 +3,7 @@ use Rattle.std.proofs.Common.{◌≡◌, ◌≤◌, List, [], ◌∷◌, ◌++�
 use Rattle.elem_core.specs.Tree.{Tree}
 use Rattle.port_core.specs.Connection.{ConnStep, quiet, pulled, ready, pushed, Connection, unasked}
 use Rattle.port_core.specs.PortRules.{Move, pull, on_pull, push, on_push, grab, complete, fail, cancel, on_cancel, on_finish, on_fail, Allowed, next}
-use Rattle.port_core.specs.Runs.{Run, led, pushed_in, grabbed_in}
+use Rattle.port_core.specs.Runs.{AllowedRun, led, pushed_in, grabbed_in}
 
 -- the element that waits to be grabbed or is on its way
 abbrev held_by : ConnStep → Option Tree → List Tree
@@ -100,7 +100,7 @@ grabbed_first on_finish ms = refl
 grabbed_first (on_fail c) ms = refl
 
 -- what is at the connection and what is pushed are what is grabbed and what is at the connection then
-held_led : (ms : List Move) (p : Connection) → Fits p.step p.to_grab → Run p ms → held_by p.step p.to_grab ++ pushed_in ms ≡ grabbed_in ms ++ held_by (led p ms).step (led p ms).to_grab
+held_led : (ms : List Move) (p : Connection) → Fits p.step p.to_grab → AllowedRun p ms → held_by p.step p.to_grab ++ pushed_in ms ≡ grabbed_in ms ++ held_by (led p ms).step (led p ms).to_grab
 held_led [] p f run = append-nil _
 held_led (m ∷ ms) p f run =
     let h = held_by p.step p.to_grab in
@@ -115,5 +115,5 @@ held_led (m ∷ ms) p f run =
     ∙ sym (append_assoc (one_grabbed m) (grabbed_in ms) l)
     ∙ ap (λ (x : List Tree). x ++ l) (sym (grabbed_first m ms))
 
-pub grabbed_once : (ms : List Move) → Run unasked ms → (left : List Tree) × ((pushed_in ms ≡ grabbed_in ms ++ left) × (length left ≤ 1))
+pub grabbed_once : (ms : List Move) → AllowedRun unasked ms → (left : List Tree) × ((pushed_in ms ≡ grabbed_in ms ++ left) × (length left ≤ 1))
 grabbed_once ms run = (held_by (led unasked ms).step (led unasked ms).to_grab, (held_led ms unasked tt run, few (led unasked ms).step (led unasked ms).to_grab))

@@ -5,7 +5,7 @@ use Rattle.elem_core.specs.Tree.{Tree}
 use Rattle.port_core.specs.Connection.{quiet, pulled, ready, pushed, Connection}
 use Rattle.port_core.specs.PortRules.{Move, pull, on_pull, push, on_push, grab, complete, fail, cancel, on_cancel, on_finish, on_fail, IsOpen, Allowed, next}
 use Rattle.port_core.specs.Decoding.{is_idle, is_ready}
-use Rattle.port_core.specs.Runs.{Run, is_on_pull, is_on_push, is_grab, is_closing, is_ending}
+use Rattle.port_core.specs.Runs.{AllowedRun, is_on_pull, is_on_push, is_grab, is_closing, is_ending}
 
 is_one : (b : Bool) → (b ≡ true) ⊎ (b ≡ false)
 is_one true = inl refl
@@ -13,7 +13,7 @@ is_one false = inr refl
 
 -- Where a fact of the connection stays until a move of one sort comes, and it refuses the last move, a move of that sort came.
 pub until : (Q : Connection → Type 0) (sort : Move → Bool) → ((m : Move) (p : Connection) → sort m ≡ false → Q p → Allowed m p → Q (next m p))
-    → (last : Move) → ((p : Connection) → Q p → Allowed last p → ⊥) → (ms : List Move) (p : Connection) → Q p → Run p (ms ++ last ∷ []) → list_any sort ms ≡ true
+    → (last : Move) → ((p : Connection) → Q p → Allowed last p → ⊥) → (ms : List Move) (p : Connection) → Q p → AllowedRun p (ms ++ last ∷ []) → list_any sort ms ≡ true
 until Q sort keeps last clash [] p q run = absurd (clash p q run.0)
 until Q sort keeps last clash (m ∷ ms) p q run =
     elim (is_one (sort m)) [
@@ -38,12 +38,12 @@ unready_stays (on_fail c) p n q a = q
 unready_refuses : (e : Tree) (p : Connection) → is_ready p.step ≡ false → Allowed (push e) p → ⊥
 unready_refuses e p q a = let b : is_ready ready ≡ false = rw a.1 at q in cc
 
-pub push_after_pull : (p : Connection) (ms : List Move) (e : Tree) → is_ready p.step ≡ false → Run p (ms ++ push e ∷ []) → list_any is_on_pull ms ≡ true
+pub push_after_pull : (p : Connection) (ms : List Move) (e : Tree) → is_ready p.step ≡ false → AllowedRun p (ms ++ push e ∷ []) → list_any is_on_pull ms ≡ true
 push_after_pull p ms e q run = until (λ (r : Connection). is_ready r.step ≡ false) is_on_pull unready_stays (push e) (unready_refuses e) ms p q run
 
 -- no move opens a side again
 -- Where a fact of the connection stays whatever comes, and it refuses the last move, that move does not come.
-pub forever : (Q : Connection → Type 0) → ((m : Move) (p : Connection) → Q p → Q (next m p)) → (last : Move) → ((p : Connection) → Q p → Allowed last p → ⊥) → (ms : List Move) (p : Connection) → Q p → Run p (ms ++ last ∷ []) → ⊥
+pub forever : (Q : Connection → Type 0) → ((m : Move) (p : Connection) → Q p → Q (next m p)) → (last : Move) → ((p : Connection) → Q p → Allowed last p → ⊥) → (ms : List Move) (p : Connection) → Q p → AllowedRun p (ms ++ last ∷ []) → ⊥
 forever Q keeps last clash [] p q run = clash p q run.0
 forever Q keeps last clash (m ∷ ms) p q run = forever Q keeps last clash ms (next m p) (keeps m p q) run.1
 
@@ -74,7 +74,7 @@ out_stays on_finish p q = q
 out_stays (on_fail c) p q = q
 
 -- what needs both sides open does not come once a side is closed
-pub closed_for_good : (last : Move) → ((p : Connection) → Allowed last p → IsOpen p) → (m : Move) (p : Connection) (ms : List Move) → is_closing m ≡ true → Run p (m ∷ (ms ++ last ∷ [])) → ⊥
+pub closed_for_good : (last : Move) → ((p : Connection) → Allowed last p → IsOpen p) → (m : Move) (p : Connection) (ms : List Move) → is_closing m ≡ true → AllowedRun p (m ∷ (ms ++ last ∷ [])) → ⊥
 closed_for_good last opens pull p ms e run = cc
 closed_for_good last opens on_pull p ms e run = cc
 closed_for_good last opens (push t) p ms e run = cc
@@ -104,7 +104,7 @@ busy_stays (on_fail c) p n q a = q
 busy_refuses : (p : Connection) → is_idle p.step p.to_grab ≡ false → Allowed pull p → ⊥
 busy_refuses p q a = let b : is_idle quiet None ≡ false = rw (a.1.0, a.1.1) at q in cc
 
-pub pull_after_grab : (p : Connection) (ms : List Move) → is_idle p.step p.to_grab ≡ false → Run p (ms ++ pull ∷ []) → list_any is_grab ms ≡ true
+pub pull_after_grab : (p : Connection) (ms : List Move) → is_idle p.step p.to_grab ≡ false → AllowedRun p (ms ++ pull ∷ []) → list_any is_grab ms ≡ true
 pull_after_grab p ms q run = until (λ (r : Connection). is_idle r.step r.to_grab ≡ false) is_grab busy_stays pull busy_refuses ms p q run
 
 -- a pull is outstanding, until an element comes
@@ -121,7 +121,7 @@ asked_stays on_cancel p n q a = q
 asked_stays on_finish p n q a = q
 asked_stays (on_fail c) p n q a = q
 
-pub pull_after_push : (p : Connection) (ms : List Move) → (p.step ≡ quiet → ⊥) → Run p (ms ++ pull ∷ []) → list_any is_on_push ms ≡ true
+pub pull_after_push : (p : Connection) (ms : List Move) → (p.step ≡ quiet → ⊥) → AllowedRun p (ms ++ pull ∷ []) → list_any is_on_push ms ≡ true
 pull_after_push p ms q run = until (λ (r : Connection). r.step ≡ quiet → ⊥) is_on_push asked_stays pull (λ r n a. n a.1.0) ms p q run
 
 -- an element is on its way, until it comes
@@ -151,11 +151,11 @@ ending_refuses e on_cancel n p q a = cc
 ending_refuses e on_finish n p q a = a.0.1.1 e q
 ending_refuses e (on_fail c) n p q a = a.0.1.1 e q
 
-pub end_after_push : (p : Connection) (e : Tree) (m : Move) (ms : List Move) → is_ending m ≡ true → Run p (push e ∷ (ms ++ m ∷ [])) → list_any is_on_push ms ≡ true
+pub end_after_push : (p : Connection) (e : Tree) (m : Move) (ms : List Move) → is_ending m ≡ true → AllowedRun p (push e ∷ (ms ++ m ∷ [])) → list_any is_on_push ms ≡ true
 end_after_push p e m ms n run = until (λ (r : Connection). r.step ≡ pushed e) is_on_push (moving_stays e) m (ending_refuses e m n) ms (next (push e) p) refl run.1
 
 -- what comes to an input that is closed, or to an output
-pub no_push_after : (m : Move) (p : Connection) (ms : List Move) (e : Tree) → is_ending m ≡ true → Run p (m ∷ (ms ++ on_push e ∷ [])) → ⊥
+pub no_push_after : (m : Move) (p : Connection) (ms : List Move) (e : Tree) → is_ending m ≡ true → AllowedRun p (m ∷ (ms ++ on_push e ∷ [])) → ⊥
 no_push_after pull p ms e n run = cc
 no_push_after on_pull p ms e n run = cc
 no_push_after (push t) p ms e n run = cc
@@ -168,5 +168,5 @@ no_push_after on_cancel p ms e n run = cc
 no_push_after on_finish p ms e n run = forever (λ (r : Connection). r.in_closed ≡ true) in_stays (on_push e) (λ r q a. let f = a.0 in cc) ms (next on_finish p) refl run.1
 no_push_after (on_fail c) p ms e n run = forever (λ (r : Connection). r.in_closed ≡ true) in_stays (on_push e) (λ r q a. let f = a.0 in cc) ms (next (on_fail c) p) refl run.1
 
-pub no_pull_after : (p : Connection) (ms : List Move) → Run p (on_cancel ∷ (ms ++ on_pull ∷ [])) → ⊥
+pub no_pull_after : (p : Connection) (ms : List Move) → AllowedRun p (on_cancel ∷ (ms ++ on_pull ∷ [])) → ⊥
 no_pull_after p ms run = forever (λ (r : Connection). r.out_closed ≡ true) out_stays on_pull (λ r q a. let f = a.0.1 in cc) ms (next on_cancel p) refl run.1

@@ -7,8 +7,8 @@ use Rattle.elem_core.specs.declared.item.Item.TheVariants as item
 use Rattle.port_core.specs.Connection.{ConnStep, Connection, quiet, pulled, ready, pushed}
 use Rattle.port_core.specs.Decoding.{can_pull, can_push, is_at_rest}
 use Rattle.port_core.specs.View.{IsInOpen, IsOutOpen}
-use Rattle.port_core.specs.Wire.{JointPorts, new_wire, pull_of, push_of, close_of, cancel_of, end_of, closed_by, delivery_of, after_delivery, again}
-use Rattle.port_core.specs.Joint.{Joint, idle, asking, asked, moving, ending, closing, leaving, finished, parted, refused, wire_of, Histories, Queues, IsSound, Kept, Heard, under_way}
+use Rattle.port_core.specs.Wire.{JointPorts, new_wire, pull_of, push_of, close_of, cancel_of, end_item, closed_by, delivery_of, after_delivery, again}
+use Rattle.port_core.specs.Joint.{Joint, idle, asking, asked, moving, ending, closing, leaving, finished, parted, refused, wire_of, Histories, Queues, IsSound, LeavesSound, Heard, under_way}
 use Rattle.port_core.specs.declared.view.InView.{InView}
 use Rattle.port_core.specs.declared.view.InView.TheVariants.{Idle, Pulled, Cancelled}
 use Rattle.port_core.specs.declared.view.OutView.TheVariants.{Available, Closed}
@@ -24,7 +24,7 @@ same g s h = h ∙ sym (append-nil g)
 
 -- by the joint states
 pull_at : (j : Joint) (s g : List Item) (q : Bool) → Histories j s g → Queues j q → (wire_of j s g).inp ≡ Idle
-    → Kept (pull_of (wire_of j s g)) q (can_pull (wire_of j s g).conn)
+    → LeavesSound (pull_of (wire_of j s g)) q (can_pull (wire_of j s g).conn)
 pull_at idle s g q h r e = rw r (record { sound = record { joint = asking; is = refl; histories = h; queues = refl }; free = λ _. refl })
 pull_at asking s g q h r e = cc
 pull_at asked s g q h r e = cc
@@ -38,7 +38,7 @@ pull_at (parted t c) s g q h r e = cc
 pull_at (refused t c) s g q h r e = cc
 
 push_at : (x : Tree) (j : Joint) (s g : List Item) (q : Bool) → Histories j s g → Queues j q → (wire_of j s g).out ≡ Available
-    → Kept (push_of x (wire_of j s g)) q (can_push (wire_of j s g).conn)
+    → LeavesSound (push_of x (wire_of j s g)) q (can_push (wire_of j s g).conn)
 push_at x idle s g q h r e = cc
 push_at x asking s g q h r e = cc
 push_at x asked s g q h r e = rw r (record { sound = record { joint = moving x; is = refl; histories = ap (λ (l : List Item). l ++ item.Elem x ∷ []) h; queues = refl }; free = λ _. refl })
@@ -65,27 +65,27 @@ shut_with : (i : InView) (s g : List Item) (p q : Connection) → p ≡ q → �
 shut_with i s g p q e = ap (λ (r : Connection). record { out = Closed; inp = i; conn = r; sent = s; got = g }) e
 
 close_at : (c : Option Cause) (j : Joint) (s g : List Item) (q : Bool) → Histories j s g → Queues j q → IsOutOpen (wire_of j s g).out
-    → Kept (close_of c (wire_of j s g)) q (is_at_rest (wire_of j s g).conn)
-close_at c idle s g q h r e = rw r (record { sound = record { joint = ending c; is = shut_with Idle (s ++ end_of c ∷ []) g _ _ (closed_open c quiet); histories = ap (λ (l : List Item). l ++ end_of c ∷ []) h; queues = refl }; free = λ _. refl })
-close_at c asking s g q h r e = rw r (record { sound = record { joint = closing pulled c; is = shut_with Pulled (s ++ end_of c ∷ []) g _ _ (closed_open c pulled); histories = ap (λ (l : List Item). l ++ end_of c ∷ []) h; queues = refl }; free = λ f. cc })
-close_at c asked s g q h r e = rw r (record { sound = record { joint = closing ready c; is = shut_with Pulled (s ++ end_of c ∷ []) g _ _ (closed_open c ready); histories = ap (λ (l : List Item). l ++ end_of c ∷ []) h; queues = refl }; free = λ _. refl })
-close_at c (moving y) s g q h r e = rw r (record { sound = record { joint = closing (pushed y) c; is = shut_with Pulled (s ++ end_of c ∷ []) g _ _ (closed_open c (pushed y)); histories = longer g (item.Elem y ∷ []) s (end_of c) h; queues = refl }; free = λ f. cc })
+    → LeavesSound (close_of c (wire_of j s g)) q (is_at_rest (wire_of j s g).conn)
+close_at c idle s g q h r e = rw r (record { sound = record { joint = ending c; is = shut_with Idle (s ++ end_item c ∷ []) g _ _ (closed_open c quiet); histories = ap (λ (l : List Item). l ++ end_item c ∷ []) h; queues = refl }; free = λ _. refl })
+close_at c asking s g q h r e = rw r (record { sound = record { joint = closing pulled c; is = shut_with Pulled (s ++ end_item c ∷ []) g _ _ (closed_open c pulled); histories = ap (λ (l : List Item). l ++ end_item c ∷ []) h; queues = refl }; free = λ f. cc })
+close_at c asked s g q h r e = rw r (record { sound = record { joint = closing ready c; is = shut_with Pulled (s ++ end_item c ∷ []) g _ _ (closed_open c ready); histories = ap (λ (l : List Item). l ++ end_item c ∷ []) h; queues = refl }; free = λ _. refl })
+close_at c (moving y) s g q h r e = rw r (record { sound = record { joint = closing (pushed y) c; is = shut_with Pulled (s ++ end_item c ∷ []) g _ _ (closed_open c (pushed y)); histories = longer g (item.Elem y ∷ []) s (end_item c) h; queues = refl }; free = λ f. cc })
 close_at c (ending d) s g q h r e = absurd e
 close_at c (closing t d) s g q h r e = absurd e
-close_at c (leaving true t) s g q h r e = rw r (record { sound = record { joint = parted t None; is = shut_with Cancelled (s ++ end_of c ∷ []) g _ _ (closed_left c t); histories = (h.0 ++ end_of c ∷ [], longer g h.0 s (end_of c) h.1); queues = tt }; free = λ f. cc })
-close_at c (leaving false t) s g q h r e = rw r (record { sound = record { joint = parted t None; is = shut_with Cancelled (s ++ end_of c ∷ []) g _ _ (closed_left c t); histories = (h.0 ++ end_of c ∷ [], longer g h.0 s (end_of c) h.1); queues = tt }; free = λ f. cc })
+close_at c (leaving true t) s g q h r e = rw r (record { sound = record { joint = parted t None; is = shut_with Cancelled (s ++ end_item c ∷ []) g _ _ (closed_left c t); histories = (h.0 ++ end_item c ∷ [], longer g h.0 s (end_item c) h.1); queues = tt }; free = λ f. cc })
+close_at c (leaving false t) s g q h r e = rw r (record { sound = record { joint = parted t None; is = shut_with Cancelled (s ++ end_item c ∷ []) g _ _ (closed_left c t); histories = (h.0 ++ end_item c ∷ [], longer g h.0 s (end_item c) h.1); queues = tt }; free = λ f. cc })
 close_at c (finished t d) s g q h r e = absurd e
 close_at c (parted t d) s g q h r e = absurd e
 close_at c (refused t d) s g q h r e = absurd e
 
 cancel_at : (j : Joint) (s g : List Item) (q : Bool) → Histories j s g → Queues j q → IsInOpen (wire_of j s g).inp
-    → Kept (cancel_of (wire_of j s g)) q (is_at_rest (wire_of j s g).conn)
+    → LeavesSound (cancel_of (wire_of j s g)) q (is_at_rest (wire_of j s g).conn)
 cancel_at idle s g q h r e = rw r (record { sound = record { joint = leaving false quiet; is = refl; histories = ([], same g s h); queues = refl }; free = λ _. refl })
 cancel_at asking s g q h r e = rw r (record { sound = record { joint = leaving false pulled; is = refl; histories = ([], same g s h); queues = refl }; free = λ f. cc })
 cancel_at asked s g q h r e = rw r (record { sound = record { joint = leaving true ready; is = refl; histories = ([], same g s h); queues = refl }; free = λ _. refl })
 cancel_at (moving y) s g q h r e = rw r (record { sound = record { joint = leaving false (pushed y); is = refl; histories = (item.Elem y ∷ [], h); queues = refl }; free = λ f. cc })
-cancel_at (ending c) s g q h r e = rw r (record { sound = record { joint = parted quiet c; is = refl; histories = (end_of c ∷ [], h); queues = tt }; free = λ f. cc })
-cancel_at (closing t c) s g q h r e = rw r (record { sound = record { joint = parted t c; is = refl; histories = (under_way t ++ end_of c ∷ [], h); queues = tt }; free = λ f. cc })
+cancel_at (ending c) s g q h r e = rw r (record { sound = record { joint = parted quiet c; is = refl; histories = (end_item c ∷ [], h); queues = tt }; free = λ f. cc })
+cancel_at (closing t c) s g q h r e = rw r (record { sound = record { joint = parted t c; is = refl; histories = (under_way t ++ end_item c ∷ [], h); queues = tt }; free = λ f. cc })
 cancel_at (leaving true t) s g q h r e = absurd e
 cancel_at (leaving false t) s g q h r e = absurd e
 cancel_at (finished t c) s g q h r e = absurd e
@@ -107,7 +107,7 @@ deliver_at (closing pulled None) s g h r = record { joint = finished pulled None
 deliver_at (closing pulled (Some c)) s g h r = record { joint = finished pulled (Some c); is = refl; histories = h; queues = tt }
 deliver_at (closing ready None) s g h r = record { joint = finished ready None; is = refl; histories = h; queues = tt }
 deliver_at (closing ready (Some c)) s g h r = record { joint = finished ready (Some c); is = refl; histories = h; queues = tt }
-deliver_at (closing (pushed y) c) s g h r = record { joint = ending c; is = refl; histories = h ∙ sym (append_assoc g (item.Elem y ∷ []) (end_of c ∷ [])); queues = refl }
+deliver_at (closing (pushed y) c) s g h r = record { joint = ending c; is = refl; histories = h ∙ sym (append_assoc g (item.Elem y ∷ []) (end_item c ∷ [])); queues = refl }
 deliver_at (leaving true t) s g h r = record { joint = refused t None; is = refl; histories = h; queues = tt }
 deliver_at (leaving false t) s g h r = record { joint = refused t None; is = refl; histories = h; queues = tt }
 deliver_at (finished t c) s g h r = record { joint = finished t c; is = refl; histories = h; queues = tt }
@@ -135,17 +135,17 @@ heard_at (parted t c) s g r = tt
 heard_at (refused t c) s g r = tt
 
 -- for any wire
-pub pull_kept : (w : JointPorts) (q : Bool) → IsSound w q → w.inp ≡ Idle → Kept (pull_of w) q (can_pull w.conn)
-pull_kept w q h e = subst (λ (v : JointPorts). Kept (pull_of v) q (can_pull v.conn)) (sym h.is) (pull_at h.joint w.sent w.got q h.histories h.queues (sym (ap (λ (v : JointPorts). v.inp) h.is) ∙ e))
+pub pull_kept : (w : JointPorts) (q : Bool) → IsSound w q → w.inp ≡ Idle → LeavesSound (pull_of w) q (can_pull w.conn)
+pull_kept w q h e = subst (λ (v : JointPorts). LeavesSound (pull_of v) q (can_pull v.conn)) (sym h.is) (pull_at h.joint w.sent w.got q h.histories h.queues (sym (ap (λ (v : JointPorts). v.inp) h.is) ∙ e))
 
-pub push_kept : (x : Tree) (w : JointPorts) (q : Bool) → IsSound w q → w.out ≡ Available → Kept (push_of x w) q (can_push w.conn)
-push_kept x w q h e = subst (λ (v : JointPorts). Kept (push_of x v) q (can_push v.conn)) (sym h.is) (push_at x h.joint w.sent w.got q h.histories h.queues (sym (ap (λ (v : JointPorts). v.out) h.is) ∙ e))
+pub push_kept : (x : Tree) (w : JointPorts) (q : Bool) → IsSound w q → w.out ≡ Available → LeavesSound (push_of x w) q (can_push w.conn)
+push_kept x w q h e = subst (λ (v : JointPorts). LeavesSound (push_of x v) q (can_push v.conn)) (sym h.is) (push_at x h.joint w.sent w.got q h.histories h.queues (sym (ap (λ (v : JointPorts). v.out) h.is) ∙ e))
 
-pub close_kept : (c : Option Cause) (w : JointPorts) (q : Bool) → IsSound w q → IsOutOpen w.out → Kept (close_of c w) q (is_at_rest w.conn)
-close_kept c w q h e = subst (λ (v : JointPorts). Kept (close_of c v) q (is_at_rest v.conn)) (sym h.is) (close_at c h.joint w.sent w.got q h.histories h.queues (subst (λ (v : JointPorts). IsOutOpen v.out) h.is e))
+pub close_kept : (c : Option Cause) (w : JointPorts) (q : Bool) → IsSound w q → IsOutOpen w.out → LeavesSound (close_of c w) q (is_at_rest w.conn)
+close_kept c w q h e = subst (λ (v : JointPorts). LeavesSound (close_of c v) q (is_at_rest v.conn)) (sym h.is) (close_at c h.joint w.sent w.got q h.histories h.queues (subst (λ (v : JointPorts). IsOutOpen v.out) h.is e))
 
-pub cancel_kept : (w : JointPorts) (q : Bool) → IsSound w q → IsInOpen w.inp → Kept (cancel_of w) q (is_at_rest w.conn)
-cancel_kept w q h e = subst (λ (v : JointPorts). Kept (cancel_of v) q (is_at_rest v.conn)) (sym h.is) (cancel_at h.joint w.sent w.got q h.histories h.queues (subst (λ (v : JointPorts). IsInOpen v.inp) h.is e))
+pub cancel_kept : (w : JointPorts) (q : Bool) → IsSound w q → IsInOpen w.inp → LeavesSound (cancel_of w) q (is_at_rest w.conn)
+cancel_kept w q h e = subst (λ (v : JointPorts). LeavesSound (cancel_of v) q (is_at_rest v.conn)) (sym h.is) (cancel_at h.joint w.sent w.got q h.histories h.queues (subst (λ (v : JointPorts). IsInOpen v.inp) h.is e))
 
 pub deliver_kept : (w : JointPorts) → IsSound w true → IsSound (after_delivery (delivery_of w) w) (again (delivery_of w))
 deliver_kept w h = subst (λ (v : JointPorts). IsSound (after_delivery (delivery_of v) v) (again (delivery_of v))) (sym h.is) (deliver_at h.joint w.sent w.got h.histories h.queues)

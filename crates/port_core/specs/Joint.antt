@@ -8,7 +8,7 @@ use Rattle.elem_core.specs.declared.item.Item.TheVariants as item
 use Rattle.port_core.specs.Connection.{ConnStep, quiet, pulled, ready, pushed, Connection}
 use Rattle.port_core.specs.View.{IsOutOpen}
 use Rattle.port_core.specs.Call.{MayCome}
-use Rattle.port_core.specs.Wire.{JointPorts, end_of, Delivery, nothing, pull, cancel, arrived}
+use Rattle.port_core.specs.Wire.{JointPorts, end_item, Delivery, nothing, pull, cancel, arrived}
 use Rattle.port_core.specs.declared.view.InView.TheVariants.{Idle, Pulled, Finished, Cancelled}
 use Rattle.port_core.specs.declared.view.OutView.TheVariants as outlet
 
@@ -59,8 +59,8 @@ Histories idle s g = s ≡ g
 Histories asking s g = s ≡ g
 Histories asked s g = s ≡ g
 Histories (moving e) s g = s ≡ g ++ item.Elem e ∷ []
-Histories (ending c) s g = s ≡ g ++ end_of c ∷ []
-Histories (closing t c) s g = s ≡ g ++ (under_way t ++ end_of c ∷ [])
+Histories (ending c) s g = s ≡ g ++ end_item c ∷ []
+Histories (closing t c) s g = s ≡ g ++ (under_way t ++ end_item c ∷ [])
 Histories (leaving a t) s g = (r : List Item) × (s ≡ g ++ r)
 Histories (finished t c) s g = s ≡ g
 Histories (parted t c) s g = (r : List Item) × (s ≡ g ++ r)
@@ -87,7 +87,7 @@ pub record IsSound (w : JointPorts) (q : Bool) : Type 0 where
   pub queues : Queues joint q
 
 -- An action leaves a sound wire. It asks for a place in the queue, `queued`, only where the wire has none.
-pub record Kept (new : JointPorts) (q queued : Bool) : Type 0 where
+pub record LeavesSound (new : JointPorts) (q queued : Bool) : Type 0 where
   pub sound : IsSound new (q || queued)
   pub free : queued ≡ true → q ≡ false
 

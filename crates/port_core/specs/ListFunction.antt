@@ -27,7 +27,7 @@ goes_on (Failed w) = false
 
 -- f takes the list `took` and goes on as g: for every rest, f gives what was given for the list and then what g gives for
 -- the rest, and it stops and ends as g does
-pub record Residual (f : ListFunction) (took gave : List Tree) (g : ListFunction) : Type 0 where
+pub record ResidualFunction (f : ListFunction) (took gave : List Tree) (g : ListFunction) : Type 0 where
   pub gives : (rest : List Tree) → f.gives (took ++ rest) ≡ gave ++ g.gives rest
   pub stop : (rest : List Tree) → f.stop (took ++ rest) ≡ g.stop rest
   pub adds : (rest : List Tree) → f.adds (took ++ rest) ≡ g.adds rest
@@ -39,7 +39,7 @@ pub record Stops (f : ListFunction) (took gave : List Tree) (step : ChainStep) :
 
 -- how f goes on behind what it took, by its answer
 abbrev pub GoesBy : ListFunction → List Tree → List Tree → ChainStep → ListFunction → Type 0
-GoesBy f took gave Go g = Residual f took gave g
+GoesBy f took gave Go g = ResidualFunction f took gave g
 GoesBy f took gave Closed g = Stops f took gave Closed
 GoesBy f took gave (Failed w) g = Stops f took gave (Failed w)
 
@@ -53,13 +53,13 @@ pub record Pushed (f : ListFunction) (t : Tree) (step : ChainStep) (before after
 
 -- f took the normal end of its input and answered so: to the outputs it added what it gives for nothing more, and then what
 -- the end adds; where the end fails it, what it added does not count
-abbrev pub Finished : ListFunction → ChainStep → List Tree → List Tree → Type 0
-Finished f Go before after = (o : List Tree) × ((f.adds [] ≡ Ok o) × (after ≡ before ++ (f.gives [] ++ o)))
-Finished f Closed before after = ⊥
-Finished f (Failed w) before after = (f.adds [] ≡ Err w) × IsPrefix before after
+abbrev pub FunctionFinished : ListFunction → ChainStep → List Tree → List Tree → Type 0
+FunctionFinished f Go before after = (o : List Tree) × ((f.adds [] ≡ Ok o) × (after ≡ before ++ (f.gives [] ++ o)))
+FunctionFinished f Closed before after = ⊥
+FunctionFinished f (Failed w) before after = (f.adds [] ≡ Err w) × IsPrefix before after
 
 -- all that f gave for the list, and then what the end adds: the list function at an input that ends
-pub record Ends (f : ListFunction) (took gave : List Tree) : Type 0 where
+pub record FunctionEnds (f : ListFunction) (took gave : List Tree) : Type 0 where
   pub added : List Tree
   pub adds : f.adds took ≡ Ok added
   pub all : gave ≡ f.gives took ++ added

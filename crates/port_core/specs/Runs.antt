@@ -5,9 +5,9 @@ use Rattle.port_core.specs.Connection.{Connection}
 use Rattle.port_core.specs.PortRules.{Move, on_pull, push, on_push, grab, complete, fail, cancel, on_cancel, on_finish, on_fail, Allowed, next}
 
 -- from p on, the table allows each move in its turn
-abbrev pub Run : Connection → List Move → Type 0
-Run p [] = ⊤
-Run p (m ∷ ms) = Allowed m p × Run (next m p) ms
+abbrev pub AllowedRun : Connection → List Move → Type 0
+AllowedRun p [] = ⊤
+AllowedRun p (m ∷ ms) = Allowed m p × AllowedRun (next m p) ms
 
 -- the connection that they lead to
 abbrev pub led : Connection → List Move → Connection

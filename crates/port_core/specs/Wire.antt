@@ -36,9 +36,9 @@ abbrev pub push_of : Tree → JointPorts → JointPorts
 push_of e w = record w { out = outlet.Unpulled; conn = if can_push w.conn then next (rule.push e) w.conn else w.conn; sent = w.sent ++ item.Elem e ∷ [] }
 
 -- the end of an output, which completes, or fails with a cause
-abbrev pub end_of : Option Cause → Item
-end_of None = item.Ended
-end_of (Some c) = item.Failed c
+abbrev pub end_item : Option Cause → Item
+end_item None = item.Ended
+end_item (Some c) = item.Failed c
 
 -- the connection then
 abbrev pub closed_by : Option Cause → Connection → Connection
@@ -47,7 +47,7 @@ closed_by (Some c) p = next (rule.fail c) p
 
 -- the output completes, or fails with a cause
 abbrev pub close_of : Option Cause → JointPorts → JointPorts
-close_of c w = record w { out = outlet.Closed; conn = closed_by c w.conn; sent = w.sent ++ end_of c ∷ [] }
+close_of c w = record w { out = outlet.Closed; conn = closed_by c w.conn; sent = w.sent ++ end_item c ∷ [] }
 
 -- the input cancels
 abbrev pub cancel_of : JointPorts → JointPorts
@@ -70,9 +70,9 @@ moving_item (pushed e) = arrived (item.Elem e) false
 
 -- where the output has closed: an element that is on its way comes first
 abbrev pub closing_item : ConnStep → Option Cause → Delivery
-closing_item quiet c = arrived (end_of c) false
-closing_item pulled c = arrived (end_of c) false
-closing_item ready c = arrived (end_of c) false
+closing_item quiet c = arrived (end_item c) false
+closing_item pulled c = arrived (end_item c) false
+closing_item ready c = arrived (end_item c) false
 closing_item (pushed e) c = arrived (item.Elem e) true
 
 -- by the closed sides, the input's first and the output's second

@@ -3,15 +3,15 @@ use Rattle.std.specs.Prelude.{◌≡◌, ℕ, ◌+◌, ◌==◌, Bool, true, fal
 use Rattle.elem_core.specs.Tree.{Tree, num}
 use Rattle.elem_core.specs.declared.why.Cause.{Cause}
 use Rattle.port_core.specs.Connection.{ConnStep, quiet, pulled, ready, pushed, Connection}
-use Rattle.port_core.specs.Ring.{holds}
+use Rattle.port_core.specs.Ring.{is_waiting}
 
 -- one of the low four bits, beside the others
 abbrev pub with_low : ℕ → List ℕ
 with_low high = (high + 1) ∷ (high + 2) ∷ (high + 4) ∷ (high + 8) ∷ []
 
 -- every word: 16 for a closed input, 32 for a closed output, and 64 more where that failed; and exactly one of the low four bits
-abbrev pub words : List ℕ
-words = with_low 0 ++ with_low 32 ++ with_low 96 ++ with_low 16 ++ with_low 48 ++ with_low 112
+abbrev pub flag_words : List ℕ
+flag_words = with_low 0 ++ with_low 32 ++ with_low 96 ++ with_low 16 ++ with_low 48 ++ with_low 112
 
 -- whether the word has the bit
 abbrev pub has : ℕ → ℕ → Bool
@@ -20,7 +20,7 @@ has bit w = not (bit_and w bit == 0)
 -- What every connection keeps: its word is one of these, an element that was delivered is held only where nobody pulled, and where
 -- no element is held or on its way the number 0 stands in its place.
 pub record IsWord (w : ℕ) (held : Bool) (e : Tree) : Type 0 where
-  pub word : holds words w ≡ true
+  pub word : is_waiting flag_words w ≡ true
   pub quiet : held ≡ true → has 1 w ≡ true
   pub empty : held ≡ false → has 4 w ≡ false → e ≡ num (pos 0)
 

@@ -1,6 +1,6 @@
 ghost use Rattle.std.specs.Prelude.{◌≡◌, Bool, true, IsTrue, List, IfOk, OnOk};
 ghost use Rattle.elem_core.specs.Tree.{Tree};
-ghost use Rattle.port_core.specs.ListFunction.{ListFunction, Same, Pushed, Finished, goes_on};
+ghost use Rattle.port_core.specs.ListFunction.{ListFunction, Same, Pushed, FunctionFinished, goes_on};
 
 use elem_core::elem::Elem;
 use elem_core::elems::Elems;
@@ -48,6 +48,6 @@ pub trait Chain: Send + Sized + Drop {
     /// The answer is never `Closed`. After want of memory the chain is only dropped.
     fn end(&mut self, alloc: Global, out: &mut Elems) -> Result<ChainStep, NoMemory>
         requires { IsTrue (is_open self.old) }
-        ensures gives { IfOk result (λ step. Finished (rest self.old) step out.old out.new) }
+        ensures gives { IfOk result (λ step. FunctionFinished (rest self.old) step out.old out.new) }
         ensures same { OnOk result (Same (whole self.new) (whole self.old)) };
 }

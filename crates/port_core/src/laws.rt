@@ -15,39 +15,39 @@ ghost use Rattle.port_core.specs.declared.view.OutView.TheVariants.{Available};
 ghost use Rattle.port_core.specs.Decoding.{can_pull, can_push, is_at_rest};
 ghost use Rattle.port_core.specs.View.{View, IsInOpen, IsOutOpen, ActsAllowed, acted, acted_all};
 ghost use Rattle.port_core.specs.Wire.{JointPorts, new_wire, pull_of, push_of, close_of, cancel_of, delivery_of, after_delivery, again};
-ghost use Rattle.port_core.specs.Joint.{IsSound, Kept, Heard};
+ghost use Rattle.port_core.specs.Joint.{IsSound, LeavesSound, Heard};
 ghost use Rattle.port_core.specs.Call.{given_on};
-ghost use Rattle.port_core.specs.ListFunction.{ListFunction, Residual, Stops, Ends, Pushed, Finished, goes_on};
-ghost use Rattle.port_core.specs.Runs.{Run, is_on_pull, is_on_push, is_grab, is_closing, is_ending, pushed_in, grabbed_in};
+ghost use Rattle.port_core.specs.ListFunction.{ListFunction, ResidualFunction, Stops, FunctionEnds, Pushed, FunctionFinished, goes_on};
+ghost use Rattle.port_core.specs.Runs.{AllowedRun, is_on_pull, is_on_push, is_grab, is_closing, is_ending, pushed_in, grabbed_in};
 
 /// An output pushes only after it was pulled, before its next push, and before the connection is closed.
 pub fn output_pushes_when_pulled()
-    ensures first { (ms : List Move) (e : Tree) → Run unasked (ms ++ rule.push e ∷ []) → IsTrue (list_any is_on_pull ms) }
-    ensures again { (p : Connection) (d e : Tree) (ms : List Move) → Run p (rule.push d ∷ (ms ++ rule.push e ∷ [])) → IsTrue (list_any is_on_pull ms) }
-    ensures open { (p : Connection) (m : Move) (ms : List Move) (e : Tree) → IsTrue (is_closing m) → Run p (m ∷ (ms ++ rule.push e ∷ [])) → ⊥ }
+    ensures first { (ms : List Move) (e : Tree) → AllowedRun unasked (ms ++ rule.push e ∷ []) → IsTrue (list_any is_on_pull ms) }
+    ensures again { (p : Connection) (d e : Tree) (ms : List Move) → AllowedRun p (rule.push d ∷ (ms ++ rule.push e ∷ [])) → IsTrue (list_any is_on_pull ms) }
+    ensures open { (p : Connection) (m : Move) (ms : List Move) (e : Tree) → IsTrue (is_closing m) → AllowedRun p (m ∷ (ms ++ rule.push e ∷ [])) → ⊥ }
 {}
 
 /// An input pulls only when no pull is outstanding, no delivered element waits to be grabbed, and the connection is not closed.
 pub fn input_pulls_when_free()
-    ensures answered { (p : Connection) (ms : List Move) → Run p (rule.pull ∷ (ms ++ rule.pull ∷ [])) → IsTrue (list_any is_on_push ms) }
-    ensures grabbed { (p : Connection) (e : Tree) (ms : List Move) → Run p (rule.on_push e ∷ (ms ++ rule.pull ∷ [])) → IsTrue (list_any is_grab ms) }
-    ensures open { (p : Connection) (m : Move) (ms : List Move) → IsTrue (is_closing m) → Run p (m ∷ (ms ++ rule.pull ∷ [])) → ⊥ }
+    ensures answered { (p : Connection) (ms : List Move) → AllowedRun p (rule.pull ∷ (ms ++ rule.pull ∷ [])) → IsTrue (list_any is_on_push ms) }
+    ensures grabbed { (p : Connection) (e : Tree) (ms : List Move) → AllowedRun p (rule.on_push e ∷ (ms ++ rule.pull ∷ [])) → IsTrue (list_any is_grab ms) }
+    ensures open { (p : Connection) (m : Move) (ms : List Move) → IsTrue (is_closing m) → AllowedRun p (m ∷ (ms ++ rule.pull ∷ [])) → ⊥ }
 {}
 
 /// The elements that were pushed are grabbed once each, in their order, and all but at most one were grabbed.
 pub fn elements_are_grabbed_once()
-    ensures { (ms : List Move) → Run unasked ms → (left : List Tree) × ((pushed_in ms ≡ grabbed_in ms ++ left) × (length left ≤ 1)) }
+    ensures { (ms : List Move) → AllowedRun unasked ms → (left : List Tree) × ((pushed_in ms ≡ grabbed_in ms ++ left) × (length left ≤ 1)) }
 {}
 
 /// After a finish or a failure no element comes to the input, and after a cancel no pull comes to the output.
 pub fn nothing_comes_after_a_closing()
-    ensures input { (p : Connection) (m : Move) (ms : List Move) (e : Tree) → IsTrue (is_ending m) → Run p (m ∷ (ms ++ rule.on_push e ∷ [])) → ⊥ }
-    ensures output { (p : Connection) (ms : List Move) → Run p (rule.on_cancel ∷ (ms ++ rule.on_pull ∷ [])) → ⊥ }
+    ensures input { (p : Connection) (m : Move) (ms : List Move) (e : Tree) → IsTrue (is_ending m) → AllowedRun p (m ∷ (ms ++ rule.on_push e ∷ [])) → ⊥ }
+    ensures output { (p : Connection) (ms : List Move) → AllowedRun p (rule.on_cancel ∷ (ms ++ rule.on_pull ∷ [])) → ⊥ }
 {}
 
 /// An element that was pushed comes to the input before the end of the output does.
 pub fn elements_come_before_the_end()
-    ensures { (p : Connection) (e : Tree) (m : Move) (ms : List Move) → IsTrue (is_ending m) → Run p (rule.push e ∷ (ms ++ m ∷ [])) → IsTrue (list_any is_on_push ms) }
+    ensures { (p : Connection) (e : Tree) (m : Move) (ms : List Move) → IsTrue (is_ending m) → AllowedRun p (rule.push e ∷ (ms ++ m ∷ [])) → IsTrue (list_any is_on_push ms) }
 {}
 
 /// To close a side that is closed changes nothing, and a failure leaves no cause where a side was closed before.
@@ -71,20 +71,20 @@ pub fn actions_follow_one_another()
 /// What a chain gave, and then what it still gives for every rest, is its list function from its start: an element more
 /// keeps this, also where the chain stops within it, and the end brings what the list function says of an input that ends.
 pub fn chains_keep_their_list_function()
-    ensures goes { (f g h : ListFunction) (took gave before now : List Tree) (t : Tree) → Residual f took gave g → Pushed g t Go before now h → (given : List Tree) × ((now ≡ before ++ given) × Residual f (took ++ t ∷ []) (gave ++ given) h) }
-    ensures stops { (f g h : ListFunction) (took gave before now : List Tree) (t : Tree) (step : ChainStep) → goes_on step ≡ false → Residual f took gave g → Pushed g t step before now h → (given : List Tree) × ((now ≡ before ++ given) × Stops f (took ++ t ∷ []) (gave ++ given) step) }
-    ensures ends { (f g : ListFunction) (took gave before now : List Tree) → Residual f took gave g → Finished g Go before now → (given : List Tree) × ((now ≡ before ++ given) × Ends f took (gave ++ given)) }
-    ensures fails { (f g : ListFunction) (took gave before now : List Tree) (w : Why) → Residual f took gave g → Finished g (Failed w) before now → f.adds took ≡ Err w }
+    ensures goes { (f g h : ListFunction) (took gave before now : List Tree) (t : Tree) → ResidualFunction f took gave g → Pushed g t Go before now h → (given : List Tree) × ((now ≡ before ++ given) × ResidualFunction f (took ++ t ∷ []) (gave ++ given) h) }
+    ensures stops { (f g h : ListFunction) (took gave before now : List Tree) (t : Tree) (step : ChainStep) → goes_on step ≡ false → ResidualFunction f took gave g → Pushed g t step before now h → (given : List Tree) × ((now ≡ before ++ given) × Stops f (took ++ t ∷ []) (gave ++ given) step) }
+    ensures ends { (f g : ListFunction) (took gave before now : List Tree) → ResidualFunction f took gave g → FunctionFinished g Go before now → (given : List Tree) × ((now ≡ before ++ given) × FunctionEnds f took (gave ++ given)) }
+    ensures fails { (f g : ListFunction) (took gave before now : List Tree) (w : Why) → ResidualFunction f took gave g → FunctionFinished g (Failed w) before now → f.adds took ≡ Err w }
 {}
 
 /// A stage that keeps to the port rules as it sees them keeps to the table: on a wire whose two ends do so, each action and
 /// each delivery leads from a joint state to a joint state, whether or not a closing is on its way.
 pub fn wires_stay_sound()
     ensures new { IsSound new_wire false }
-    ensures pull { (w : JointPorts) (q : Bool) → IsSound w q → w.inp ≡ Idle → Kept (pull_of w) q (can_pull w.conn) }
-    ensures push { (e : Tree) (w : JointPorts) (q : Bool) → IsSound w q → w.out ≡ Available → Kept (push_of e w) q (can_push w.conn) }
-    ensures close { (c : Option Cause) (w : JointPorts) (q : Bool) → IsSound w q → IsOutOpen w.out → Kept (close_of c w) q (is_at_rest w.conn) }
-    ensures cancel { (w : JointPorts) (q : Bool) → IsSound w q → IsInOpen w.inp → Kept (cancel_of w) q (is_at_rest w.conn) }
+    ensures pull { (w : JointPorts) (q : Bool) → IsSound w q → w.inp ≡ Idle → LeavesSound (pull_of w) q (can_pull w.conn) }
+    ensures push { (e : Tree) (w : JointPorts) (q : Bool) → IsSound w q → w.out ≡ Available → LeavesSound (push_of e w) q (can_push w.conn) }
+    ensures close { (c : Option Cause) (w : JointPorts) (q : Bool) → IsSound w q → IsOutOpen w.out → LeavesSound (close_of c w) q (is_at_rest w.conn) }
+    ensures cancel { (w : JointPorts) (q : Bool) → IsSound w q → IsInOpen w.inp → LeavesSound (cancel_of w) q (is_at_rest w.conn) }
     ensures deliver { (w : JointPorts) → IsSound w true → IsSound (after_delivery (delivery_of w) w) (again (delivery_of w)) }
 {}
 

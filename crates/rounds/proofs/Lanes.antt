@@ -6,7 +6,7 @@ use Rattle.lane_core.specs.declared.room.Waits.{Waits}
 use Rattle.lane_meet.specs.Pairs.{MetAt}
 use Rattle.rounds.specs.declared.crossing.Crossing.{Crossing}
 use Rattle.rounds.specs.Bodies.{AllOf, EachOf, BrokeOff}
-use Rattle.rounds.specs.Crossings.{Meets, QuietBelow, AtRest, IsWithin, AreCrossings, JoinedAt, LanesFrom, LaneEvent, FirstEvent}
+use Rattle.rounds.specs.Crossings.{MeetsAt, QuietBelow, AtRest, IsWithin, AreCrossings, JoinedAt, LanesFrom, LaneEvent, FirstEvent}
 use Rattle.rounds.proofs.Each.{same_or, one_there, at_place, at_count}
 
 module _ {B : Type 0} where
@@ -108,7 +108,7 @@ module _ {B : Type 0} where
       m a.0 b.0 c d (h.meets a.0 b.0 c d a.1 b.1 ec ed)
 
   -- the two bodies that met are known by their places
-  pub meets_at : {E : Type 0} (met : B → ℕ → B → ℕ → B → B → Waits → Type 0) (c : Crossing) (w : Waits) (xs ys : List B) → MetAt {E = E} met xs c.from c.out c.to c.inp ys (Ok w) → Meets met xs c ys w
+  pub meets_at : {E : Type 0} (met : B → ℕ → B → ℕ → B → B → Waits → Type 0) (c : Crossing) (w : Waits) (xs ys : List B) → MetAt {E = E} met xs c.from c.out c.to c.inp ys (Ok w) → MeetsAt met xs c ys w
   meets_at met c w xs ys h = λ a b d e ea eb ed ee. h.meets a b d e ea eb ed ee
 
   -- one more lane at which nothing waits
@@ -121,7 +121,7 @@ module _ {B : Type 0} where
 
   -- a lane at which an item waits has something to do for the body that takes from it
   pub item_stirs : (may : B → ℕ → B → ℕ → Type 0) (met : B → ℕ → B → ℕ → B → B → Waits → Type 0) (goes idle : B → B → Type 0) → ((a b c d e : B) (o i : ℕ) (w : Waits) → may a o b i → met a o b i c d w → IsTrue w.item → goes d e → idle d e → ⊥)
-      → (xs ys zs : List B) (c : Crossing) (w : Waits) → IsWithin may xs c → length ys ≡ length xs → Meets met xs c ys w → w.item ≡ true → (y z : B) → slice_get ys c.to ≡ Some y → slice_get zs c.to ≡ Some z → goes y z → idle y z → ⊥
+      → (xs ys zs : List B) (c : Crossing) (w : Waits) → IsWithin may xs c → length ys ≡ length xs → MeetsAt met xs c ys w → w.item ≡ true → (y z : B) → slice_get ys c.to ≡ Some y → slice_get zs c.to ≡ Some z → goes y z → idle y z → ⊥
   item_stirs may met goes idle law xs ys zs c w within count m item y z ey ez g i =
       let a = at_place xs c.from within.from_there in
       let b = at_place xs c.to within.to_there in
@@ -133,7 +133,7 @@ module _ {B : Type 0} where
 
   -- and one at which demand waits for the body that sends on it
   pub demand_stirs : (may : B → ℕ → B → ℕ → Type 0) (met : B → ℕ → B → ℕ → B → B → Waits → Type 0) (goes idle : B → B → Type 0) → ((a b c d e : B) (o i : ℕ) (w : Waits) → may a o b i → met a o b i c d w → IsTrue w.demand → goes c e → idle c e → ⊥)
-      → (xs ys zs : List B) (c : Crossing) (w : Waits) → IsWithin may xs c → length ys ≡ length xs → Meets met xs c ys w → w.demand ≡ true → (y z : B) → slice_get ys c.from ≡ Some y → slice_get zs c.from ≡ Some z → goes y z → idle y z → ⊥
+      → (xs ys zs : List B) (c : Crossing) (w : Waits) → IsWithin may xs c → length ys ≡ length xs → MeetsAt met xs c ys w → w.demand ≡ true → (y z : B) → slice_get ys c.from ≡ Some y → slice_get zs c.from ≡ Some z → goes y z → idle y z → ⊥
   demand_stirs may met goes idle law xs ys zs c w within count m demand y z ey ez g i =
       let a = at_place xs c.from within.from_there in
       let b = at_place xs c.to within.to_there in

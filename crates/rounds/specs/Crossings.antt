@@ -19,8 +19,8 @@ abbrev pub JoinedAt : {B : Type 0} → (B → ℕ → B → ℕ → Waits → Ty
 JoinedAt joined bodies c w = (a b : _) → slice_get bodies c.from ≡ Some a → slice_get bodies c.to ≡ Some b → joined a c.out b c.inp w
 
 -- this meeting did it
-abbrev pub Meets : {B : Type 0} → (B → ℕ → B → ℕ → B → B → Waits → Type 0) → List B → Crossing → List B → Waits → Type 0
-Meets met old c new w = (a b d e : _) → slice_get old c.from ≡ Some a → slice_get old c.to ≡ Some b → slice_get new c.from ≡ Some d → slice_get new c.to ≡ Some e → met a c.out b c.inp d e w
+abbrev pub MeetsAt : {B : Type 0} → (B → ℕ → B → ℕ → B → B → Waits → Type 0) → List B → Crossing → List B → Waits → Type 0
+MeetsAt met old c new w = (a b d e : _) → slice_get old c.from ≡ Some a → slice_get old c.to ≡ Some b → slice_get new c.from ≡ Some d → slice_get new c.to ≡ Some e → met a c.out b c.inp d e w
 
 -- and so were those of each lane
 abbrev pub AllJoined : {B : Type 0} → (B → ℕ → B → ℕ → Waits → Type 0) → List B → List Crossing → Type 0

@@ -1,7 +1,7 @@
 // The ends of all lanes are brought together, and the first body that has an event is found.
 ghost use Rattle.std.specs.Prelude.{◌≡◌, ◌≤◌, ◌<◌, ◌⊎◌, ℕ, Bool, true, IsTrue, IfNone, IfSome, Some, length, slice_get};
 ghost use Rattle.rounds.specs.Bodies.{EachOf};
-ghost use Rattle.rounds.specs.Crossings.{Meets, IsWithin, AreCrossings, JoinedAt, AllJoined, LanesFrom, LaneEvent, AtRest, FirstEvent};
+ghost use Rattle.rounds.specs.Crossings.{MeetsAt, IsWithin, AreCrossings, JoinedAt, AllJoined, LanesFrom, LaneEvent, AtRest, FirstEvent};
 
 use crate::crossing::Crossing;
 use crate::turning::Turning;
@@ -14,7 +14,7 @@ pub(crate) fn join<B: Turning>(bodies: &mut [B], lane: &Crossing) -> Waits
     ensures stands { EachOf B.stands bodies.old bodies.new }
     ensures goes { EachOf B.goes bodies.old bodies.new }
     ensures joined { JoinedAt B.joined bodies.new lane.now result }
-    ensures met { Meets B.met bodies.old lane.now bodies.new result }
+    ensures met { MeetsAt B.met bodies.old lane.now bodies.new result }
 {
     match meet_at(
         bodies,

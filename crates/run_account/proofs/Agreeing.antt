@@ -19,7 +19,7 @@ use Rattle.stream_model.proofs.Compositions.{slice_get-below, composed_composes,
 use Rattle.stream_picture.specs.View.{outputs_of}
 use Rattle.wire_core.specs.Reading.{got_of, sent_of}
 use Rattle.fused_net.proofs.Reading.{get_there, some_same}
-use Rattle.run_account.specs.Items.{list_of, standing, Brought, MayPass, AllMayPass, AgreesWith}
+use Rattle.run_account.specs.Items.{list_of, end_of_items, ArrivedOf, MayPass, AllMayPass, AgreesWith}
 use Rattle.run_account.specs.Account.{Account, cell_by, read_ins, read_outs, knows, took, gave, KeepsLaws, AllMade}
 use Rattle.stream_model.specs.Fits.{moves_fit, inputs}
 use Rattle.stream_picture.specs.Joined.{IsJoined}
@@ -43,9 +43,9 @@ no_loss o l (failed d) sent f a c =
     rw same b
 
 -- what a wire brings may pass behind it, where what was sent may
-brought_passes : (g : Graph) (w : World) (o : Outlook) (lane : Option ℕ) (sent got : List Item) → Agrees o (list_of sent) (standing sent) → Brought lane sent got → MayPass (received g w lane o) got
-brought_passes g w o None sent got a b l e is = no_loss o l e (list_of sent) (standing sent) a (b l e is)
-brought_passes g w o (Some s) sent got a b l e is = carried s o (list_of sent) (standing sent) l e a (b l e is)
+brought_passes : (g : Graph) (w : World) (o : Outlook) (lane : Option ℕ) (sent got : List Item) → Agrees o (list_of sent) (end_of_items sent) → ArrivedOf lane sent got → MayPass (received g w lane o) got
+brought_passes g w o None sent got a b l e is = no_loss o l e (list_of sent) (end_of_items sent) a (b l e is)
+brought_passes g w o (Some s) sent got a b l e is = carried s o (list_of sent) (end_of_items sent) l e a (b l e is)
 
 -- where there is no wire nothing came
 nothing_passes : MayPass nothing []
@@ -62,7 +62,7 @@ read_there g f cells k q (suc n) (suc p) j h e =
     let later : q + suc p ≡ (q + 1) + p = omega arith in
     read_there g f cells k (q + 1) n p j (omega (arith, h)) (rw later at e)
 
-list_agrees : (o : Outlook) (h : List Item) → AgreesWith o h → Agrees o (list_of h) (standing h)
+list_agrees : (o : Outlook) (h : List Item) → AgreesWith o h → Agrees o (list_of h) (end_of_items h)
 list_agrees o h a = rw (a.is, list_of_told a.list a.end, standing_told a.list a.end) a.agrees
 
 module _ {N : Type 0} (row : N → View → Type 0) (law : N → N → View → List (List Item) → List (List Item) → Type 0) (asking : N → View → Type 0) (moves : N → List ℕ)
@@ -77,7 +77,7 @@ module _ {N : Type 0} (row : N → View → Type 0) (law : N → N → View → 
   pub node_laws : (k : ℕ) (n : graph.Node) → slice_get g.nodes k ≡ Some n → TellsAt k n → RunLaws g w k n (took g a k n) (gave g a k n)
   node_laws k n e tells = let m = keeps.each_node k n e in laws k n m.first m.now (knows g a k n) (took g a k n) (gave g a k n) (made k n m.first e m.first_at) (tells m.first m.now m.first_at m.now_at) (length_ins g got_of a.far k 0 (inputs_of n.kind)) m.law_holds
 
-  pub brings : (u : ℕ) (v : Edge) → slice_get g.wires u ≡ Some v → Brought v.lane (a.near u).wire.sent (a.far u).wire.got
+  pub brings : (u : ℕ) (v : Edge) → slice_get g.wires u ≡ Some v → ArrivedOf v.lane (a.near u).wire.sent (a.far u).wire.got
   brings u v e =
       let h = slice_get-below g.wires u v e in
       let n = keeps.near_sound u h in
@@ -87,7 +87,7 @@ module _ {N : Type 0} (row : N → View → Type 0) (law : N → N → View → 
   -- by any outlooks of the wires
   module _ (sent : ℕ → Outlook) where
     abbrev SentAgrees : ℕ → Type 0
-    SentAgrees u = Agrees (sent u) (list_of (a.near u).wire.sent) (standing (a.near u).wire.sent)
+    SentAgrees u = Agrees (sent u) (list_of (a.near u).wire.sent) (end_of_items (a.near u).wire.sent)
 
     -- what came in at an input
     input_passes : (k : ℕ) (o : Option ℕ) → ((i : ℕ) → o ≡ Some i → (v : Edge) × ((slice_get g.wires i ≡ Some v) × (v.to ≡ k))) → ((u : ℕ) (v : Edge) → slice_get g.wires u ≡ Some v → v.to ≡ k → SentAgrees u)
@@ -131,7 +131,7 @@ module _ {N : Type 0} (row : N → View → Type 0) (law : N → N → View → 
         wire_by (composed g w) j v.0 source.0 v.1 source.1 (told_at v.0.from source.0 source.1) (λ u x ux to. below u (slice_get-below g.wires u x ux) (ranked.rises u j x v.0 ux v.1 to))
 
     sent_agrees : (i : ℕ) → i < length g.wires → SentAgrees (composed g w) i
-    sent_agrees = all_agree g w rank ranked (λ u. list_of (a.near u).wire.sent) (λ u. standing (a.near u).wire.sent)
+    sent_agrees = all_agree g w rank ranked (λ u. list_of (a.near u).wire.sent) (λ u. end_of_items (a.near u).wire.sent)
         (λ j hj below. list_agrees (next g w (composed g w) j) (a.near j).wire.sent (wire_agrees j hj below))
 
     -- every wire, at its output

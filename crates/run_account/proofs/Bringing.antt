@@ -8,11 +8,11 @@ use Rattle.port_core.specs.Wire.{JointPorts}
 use Rattle.port_core.specs.Joint.{IsSound}
 use Rattle.stream_model.specs.Outlook.{End, unended, ended, failed}
 use Rattle.stream_model.specs.Lane.{Carries}
-use Rattle.run_account.specs.Items.{list_of, standing, Brought}
+use Rattle.run_account.specs.Items.{list_of, end_of_items, ArrivedOf}
 use Rattle.run_account.proofs.Histories.{Begun, begun, got_begins}
 
 -- what is carried on of a first part of a history is so of the history
-pub carries_sent : (s : ℕ) (t : List Tree) (e : End) (l : List Tree) (f : End) (sent : List Item) → Carries s t e l f → Begun t e sent → Carries s (list_of sent) (standing sent) l f
+pub carries_sent : (s : ℕ) (t : List Tree) (e : End) (l : List Tree) (f : End) (sent : List Item) → Carries s t e l f → Begun t e sent → Carries s (list_of sent) (end_of_items sent) l f
 carries_sent s t e l unended sent c b = prefix_trans c b.part
 carries_sent s t e l ended sent c b = let all = b.ended_all c.0 in (all.1, c.1 ∙ sym all.0)
 carries_sent s t e l (failed d) sent c b =
@@ -27,5 +27,5 @@ plain l unended = prefix_refl l
 plain l ended = (refl, refl)
 plain l (failed c) = (refl, prefix_refl l, omega arith)
 
-pub fused_brings : (w : JointPorts) (q : _) → IsSound w q → Brought None w.sent w.got
+pub fused_brings : (w : JointPorts) (q : _) → IsSound w q → ArrivedOf None w.sent w.got
 fused_brings w q h l e is = carries_sent 0 l e l e w.sent (plain l e) (begun l e w.got w.sent is (got_begins w q h))

@@ -11,7 +11,7 @@ use Rattle.stream_model.specs.Lane.{Carries}
 use Rattle.stage_law.specs.Held.{told}
 use Rattle.wire_core.specs.Cell.{WireState}
 use Rattle.run_account.specs.Account.{WireKeeps}
-use Rattle.run_account.specs.Items.{list_of, standing, Brought}
+use Rattle.run_account.specs.Items.{list_of, end_of_items, ArrivedOf}
 use Rattle.run_account.proofs.Histories.{Begun, begun, list_of_told, standing_told, got_begins}
 use Rattle.run_account.proofs.Bringing.{carries_sent, fused_brings}
 use Rattle.run_account.proofs.Coming.{elements_told}
@@ -41,7 +41,7 @@ carries_first s t e l f k (failed d) c b =
     let is : f ≡ failed d = sym (standing_told l f) ∙ all.1 in
     subst (λ (x : List Tree). Carries s t e x (failed d)) same (subst (λ (x : End). Carries s t e l x) is c)
 
-pub lane_brings : (s : ℕ) (near far : WireState) (p q : _) (o : OutEnd) (i : InEnd) → IsSound near.wire p → IsSound far.wire q → OutKeeps near o → InKeeps s far i → Met s o i → Brought (Some s) near.wire.sent far.wire.got
+pub lane_brings : (s : ℕ) (near far : WireState) (p q : _) (o : OutEnd) (i : InEnd) → IsSound near.wire p → IsSound far.wire q → OutKeeps near o → InKeeps s far i → Met s o i → ArrivedOf (Some s) near.wire.sent far.wire.got
 lane_brings s near far p q o i sn sf out inn met l e is =
     let first : Begun l e (told inn.pushed_list inn.pushed_end) = begun l e far.wire.got (told inn.pushed_list inn.pushed_end) is (subst (λ (x : List Item). IsPrefix far.wire.got x) inn.pushed_is (got_begins far.wire q sf)) in
     let took : Carries s inn.taken_list inn.taken_end l e = carries_first s inn.taken_list inn.taken_end inn.pushed_list inn.pushed_end l e inn.carries first in
@@ -49,7 +49,7 @@ lane_brings s near far p q o i sn sf out inn met l e is =
     carries_sent s inn.taken_list inn.taken_end l e near.wire.sent took (begun inn.taken_list inn.taken_end i.taken near.wire.sent inn.taken_is part)
 
 -- any wire
-pub wire_brings : (lane : Option ℕ) (near far : WireState) (asked : ℕ) (p q : _) → IsSound near.wire p → IsSound far.wire q → WireKeeps lane near far asked → Brought lane near.wire.sent far.wire.got
+pub wire_brings : (lane : Option ℕ) (near far : WireState) (asked : ℕ) (p q : _) → IsSound near.wire p → IsSound far.wire q → WireKeeps lane near far asked → ArrivedOf lane near.wire.sent far.wire.got
 wire_brings None near far asked p q sn sf k = rw k (fused_brings near.wire p sn)
 wire_brings (Some s) near far asked p q sn sf k = lane_brings s near far p q k.out k.inp sn sf k.out_keeps k.in_keeps k.met
 
@@ -66,12 +66,12 @@ carries_few s t e l ended c n = let same = ap length c.1 in omega (arith, same)
 carries_few s t e l (failed d) c n = c.2
 
 -- the counts of a wire that brings this of what was sent, which is of a list that may pass
-module _ (s : ℕ) (sent got : List Item) (list m l : List Tree) (f e : End) (brought : Carries s (list_of sent) (standing sent) l e)
+module _ (s : ℕ) (sent got : List Item) (list m l : List Tree) (f e : End) (brought : Carries s (list_of sent) (end_of_items sent) l e)
     (sent_told : sent ≡ told m f) (part : IsPrefix m list) (got_told : got ≡ told l e) where
   carried : Carries s m f l e
   carried =
       let same_list : list_of sent ≡ m = ap list_of sent_told ∙ list_of_told m f in
-      let same_end : standing sent ≡ f = ap standing sent_told ∙ standing_told m f in
+      let same_end : end_of_items sent ≡ f = ap end_of_items sent_told ∙ standing_told m f in
       rw (same_list, same_end) at brought
 
   got_count : elements got ≡ length l
@@ -91,7 +91,7 @@ module _ (s : ℕ) (sent got : List Item) (list m l : List Tree) (f e : End) (br
   list_same k h is = sym (list_of_told l e) ∙ (ap list_of (sym got_told ∙ is) ∙ list_of_told k h)
 
   end_same : (k : List Tree) (h : End) → got ≡ told k h → e ≡ h
-  end_same k h is = sym (standing_told l e) ∙ (ap standing (sym got_told ∙ is) ∙ standing_told k h)
+  end_same k h is = sym (standing_told l e) ∙ (ap end_of_items (sym got_told ∙ is) ∙ standing_told k h)
 
   pub parts : (k : List Tree) (h : End) → got ≡ told k h → IsPrefix k list
   parts k h is = subst (λ (x : List Tree). IsPrefix x list) (list_same k h is) (prefix_trans (carries_part s m f l e carried) part)

@@ -8,7 +8,7 @@ use Rattle.elem_core.specs.declared.item.Item.{Item}
 use Rattle.elem_core.specs.declared.item.Item.TheVariants as item
 use Rattle.elem_core.specs.declared.why.Cause.{Cause}
 use Rattle.port_core.specs.Connection.{ConnStep, quiet, pulled, ready, pushed}
-use Rattle.port_core.specs.Wire.{JointPorts, end_of}
+use Rattle.port_core.specs.Wire.{JointPorts, end_item}
 use Rattle.port_core.specs.Joint.{Joint, idle, asking, asked, moving, ending, closing, leaving, finished, parted, refused, wire_of, Histories, Queues, under_way, IsSound}
 use Rattle.port_core.specs.declared.view.InView.{InView}
 use Rattle.port_core.specs.declared.view.InView.TheVariants.{Pulled, Finished}
@@ -38,7 +38,7 @@ elements_told [] (failed c) = refl
 elements_told (t ∷ l) e = ap suc (elements_told l e)
 
 -- the end of a wire is no element, and one element at most is on its way
-end_none : (c : Option Cause) → elements (end_of c ∷ []) ≡ 0
+end_none : (c : Option Cause) → elements (end_item c ∷ []) ≡ 0
 end_none None = refl
 end_none (Some c) = refl
 
@@ -48,8 +48,8 @@ way_few pulled = omega arith
 way_few ready = omega arith
 way_few (pushed e) = omega arith
 
-closing_few : (t : ConnStep) (c : Option Cause) → elements (under_way t ++ end_of c ∷ []) ≤ 1
-closing_few t c = omega (arith, elements_append (under_way t) (end_of c ∷ []), end_none c, way_few t)
+closing_few : (t : ConnStep) (c : Option Cause) → elements (under_way t ++ end_item c ∷ []) ≤ 1
+closing_few t c = omega (arith, elements_append (under_way t) (end_item c ∷ []), end_none c, way_few t)
 
 -- an input that saw the end got all that was sent
 over_at : (j : Joint) (s g : List Item) → Histories j s g → (wire_of j s g).inp ≡ Finished → elements s ≡ elements g
@@ -73,8 +73,8 @@ waiting_at asked s g h e = let same : elements s ≡ elements g = ap elements h 
 waiting_at (moving x) s g h e = let same : elements s ≡ elements (g ++ item.Elem x ∷ []) = ap elements h in omega (arith, same, elements_append g (item.Elem x ∷ []))
 waiting_at (ending c) s g h e = cc
 waiting_at (closing t c) s g h e =
-    let same : elements s ≡ elements (g ++ (under_way t ++ end_of c ∷ [])) = ap elements h in
-    omega (arith, same, elements_append g (under_way t ++ end_of c ∷ []), closing_few t c)
+    let same : elements s ≡ elements (g ++ (under_way t ++ end_item c ∷ [])) = ap elements h in
+    omega (arith, same, elements_append g (under_way t ++ end_item c ∷ []), closing_few t c)
 waiting_at (leaving true t) s g h e = cc
 waiting_at (leaving false t) s g h e = cc
 waiting_at (finished t c) s g h e = cc

@@ -25,7 +25,7 @@ use Rattle.stage_law.specs.Held.{told}
 use Rattle.wire_core.specs.Reading.{inp_of, out_of, got_of, sent_of}
 use Rattle.run_account.specs.Account.{Account, read_ins, knows, took, gave, ins_wanted, outs_wanted, outs_shut, shut_of, NodeKeeps, KeepsLaws, AllMade, IsStill}
 use Rattle.run_account.specs.KindLaws.{HearsAll, Moments, PictureLaws}
-use Rattle.run_account.specs.Pictures.{counts_of, AllPass, in_port, out_port, in_ports, out_ports}
+use Rattle.run_account.specs.Pictures.{picture_counts, AllPass, in_port, out_port, in_ports, out_ports}
 use Rattle.run_account.specs.Ports.{InPort, OutPort, EachPort, InStands, OutStands, InRests, OutRests}
 use Rattle.stream_picture.specs.Joined.{IsJoined}
 use Rattle.run_account.proofs.Pictures.{ins_are, outs_are, reads_in, reads_out, each_in, each_out}
@@ -65,7 +65,7 @@ module _ {N : Type 0} (row : N → View → Type 0) (law : N → N → View → 
     → PictureLaws row law asking moves has_ended g w k n first now is os)
     (outlook : ℕ → Outlook) where
   abbrev pub counts : List WireCount
-  counts = counts_of a g
+  counts = picture_counts a g
 
   abbrev pub In : ℕ → graph.Node → List InPort
   In k n = in_ports a g outlook k (count_from 0 (inputs_of n.kind))

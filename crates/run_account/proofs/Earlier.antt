@@ -5,8 +5,8 @@ use Rattle.elem_core.specs.Prefix.{IsPrefix}
 use Rattle.elem_core.specs.Items.{elements}
 use Rattle.elem_core.specs.declared.item.Item.{Item}
 use Rattle.elem_core.specs.declared.item.Item.TheVariants as item
-use Rattle.port_core.specs.Ring.{holds}
-use Rattle.port_core.specs.Wire.{JointPorts, end_of}
+use Rattle.port_core.specs.Ring.{is_waiting}
+use Rattle.port_core.specs.Wire.{JointPorts, end_item}
 use Rattle.port_core.specs.Connection.{quiet, pulled, ready, pushed}
 use Rattle.port_core.specs.Joint.{Joint, idle, asking, asked, moving, ending, closing, leaving, finished, parted, refused, wire_of, Histories, IsSound}
 use Rattle.port_core.specs.View.{View, in_at, out_at}
@@ -20,17 +20,17 @@ use Rattle.wire_core.proofs.Marking.{cell}
 use Rattle.wire_core.specs.Reading.{no_wire, inp_of, out_of, got_of, sent_of}
 use Rattle.fused_net.specs.Net.{Net, read_all, end_at, ports_at, wire_at, view_of}
 use Rattle.fused_net.specs.Net as net
-use Rattle.fused_net.specs.Laws.{Wired, LastAsk, NodeAsked, GoesOn}
+use Rattle.fused_net.specs.Laws.{Wired, LastAsk, NodeAsked, NetGoesOn}
 use Rattle.fused_net.proofs.Reading.{some_same, get_there, read_at}
 use Rattle.stage_law.specs.Row.{OutClosed}
-use Rattle.run_account.specs.Account.{AllBegin, Stood, Earlier, Last, shut_of}
+use Rattle.run_account.specs.Account.{AllBegin, WantedAt, Earlier, LastAsked, shut_of}
 use Rattle.run_account.proofs.Coming.{all_came}
 use Rattle.run_account.proofs.Resting.{out_shut}
 
 -- ---- one wire
 
 abbrev Asks : InView → Bool → List Item → List Item → Type 0
-Asks x b s g = Stood x (if b then elements s + 1 else elements s) (elements g)
+Asks x b s g = WantedAt x (if b then elements s + 1 else elements s) (elements g)
 
 stood_j : (j : Joint) (s g : List Item) (b : Bool) → Histories j s g → IsMarked (cell (wire_of j s g) b) → Asks (wire_of j s g).inp b s g
 stood_j idle s g b h m = let mark : b ≡ false = m.unclosed refl in let same = ap elements h in rw mark (omega (arith, same))
@@ -51,14 +51,14 @@ stood_j (closing pulled c) s g b h m = let mark : b ≡ true = m.unclosed refl i
 stood_j (closing ready c) s g b h m = let mark : b ≡ true = m.unclosed refl in let same = ap elements h in rw mark (omega (arith, same, elements_end g c))
 stood_j (closing (pushed x) c) s g b h m =
     let mark : b ≡ false = m.unclosed refl in
-    let same : elements s ≡ elements (g ++ (item.Elem x ∷ end_of c ∷ [])) = ap elements h in
-    let more : elements (g ++ (item.Elem x ∷ end_of c ∷ [])) ≡ elements g + 1 = both g in
+    let same : elements s ≡ elements (g ++ (item.Elem x ∷ end_item c ∷ [])) = ap elements h in
+    let more : elements (g ++ (item.Elem x ∷ end_item c ∷ [])) ≡ elements g + 1 = both g in
     rw mark (omega (arith, same, more))
   where
-    one : elements (end_of c ∷ []) ≡ 0
+    one : elements (end_item c ∷ []) ≡ 0
     one = elements_end [] c
 
-    both : (l : List Item) → elements (l ++ (item.Elem x ∷ end_of c ∷ [])) ≡ elements l + 1
+    both : (l : List Item) → elements (l ++ (item.Elem x ∷ end_item c ∷ [])) ≡ elements l + 1
     both [] = omega (arith, one)
     both (item.Elem t ∷ l) = omega (arith, both l)
     both (item.Ended ∷ l) = both l
@@ -69,10 +69,10 @@ stood_j (finished t c) s g b h m = tt
 stood_j (parted t c) s g b h m = tt
 stood_j (refused t c) s g b h m = tt
 
-pub stood_cell : (c : WireState) (q : Bool) → IsSound c.wire q → IsMarked c → Stood c.wire.inp (wanted c) (elements c.wire.got)
+pub stood_cell : (c : WireState) (q : Bool) → IsSound c.wire q → IsMarked c → WantedAt c.wire.inp (wanted c) (elements c.wire.got)
 stood_cell c q h m =
     let marked : IsMarked (cell (wire_of h.joint c.wire.sent c.wire.got) c.asked) = subst (λ (v : JointPorts). IsMarked (cell v c.asked)) h.is m in
-    subst (λ (x : InView). Stood x (wanted c) (elements c.wire.got)) (sym (ap (λ (v : JointPorts). v.inp) h.is)) (stood_j h.joint c.wire.sent c.wire.got c.asked h.histories marked)
+    subst (λ (x : InView). WantedAt x (wanted c) (elements c.wire.got)) (sym (ap (λ (v : JointPorts). v.inp) h.is)) (stood_j h.joint c.wire.sent c.wire.got c.asked h.histories marked)
 
 wanted_asked : (c : WireState) → c.asked ≡ true → wanted c ≡ elements c.wire.sent + 1
 wanted_asked c e = rw e refl
@@ -130,7 +130,7 @@ module _ {N : Type 0} (row : N → View → Type 0) (law : N → N → View → 
     outs_within : (i q : ℕ) → slice_get (ports_at new j).outs i ≡ Some q → q < length new.wires
     outs_within i q e = (wired.output_from j i q hj e).0
 
-    module _ (old : Net N) (on : GoesOn old new) (grown : (u : ℕ) → u < length old.wires → Grown (wire_at old u) (wire_at new u)) (marked : (u : ℕ) → u < length old.wires → IsMarked (wire_at old u)) where
+    module _ (old : Net N) (on : NetGoesOn old new) (grown : (u : ℕ) → u < length old.wires → Grown (wire_at old u) (wire_at new u)) (marked : (u : ℕ) → u < length old.wires → IsMarked (wire_at old u)) where
       same_ports : ports_at old j ≡ ports_at new j
       same_ports = rw (sym on.ports) refl
 
@@ -159,11 +159,11 @@ module _ {N : Type 0} (row : N → View → Type 0) (law : N → N → View → 
           let now : slice_index_or (want_out new j) i 0 ≡ wanted (wire_at new slot.0) = read_at wanted new.wires (ports_at new j).outs i slot.0 0 slot_new in
           omega (arith, count, more, gave_count, now)
 
-      pub were_shut : ((u : ℕ) → u < length old.wires → IsSound (wire_at old u).wire (holds old.queue u)) → (i : ℕ) → OutClosed (out_at (view_of old j) i) → slice_index_or (shut_out new j) i true ≡ true
+      pub were_shut : ((u : ℕ) → u < length old.wires → IsSound (wire_at old u).wire (is_waiting old.queue u)) → (i : ℕ) → OutClosed (out_at (view_of old j) i) → slice_index_or (shut_out new j) i true ≡ true
       were_shut sound i closed =
           let within_old : (k q : ℕ) → slice_get (ports_at new j).outs k ≡ Some q → q < length old.wires = λ k q e. let wires = on.wires in let within = outs_within k q e in omega (arith, wires, within) in
           shut_grown old.wires new.wires grew (ports_at new j).outs outs_within i
-          (shut_there old.wires (λ q h. (holds old.queue q, sound q h)) (ports_at new j).outs within_old i (rw same_ports at closed))
+          (shut_there old.wires (λ q h. (is_waiting old.queue q, sound q h)) (ports_at new j).outs within_old i (rw same_ports at closed))
 
       -- the node as it was
       pub first_then : slice_get old.firsts j ≡ Some first
@@ -191,7 +191,7 @@ module _ {N : Type 0} (row : N → View → Type 0) (law : N → N → View → 
         let x = get_there a.old.nodes j (omega (arith, nodes, hj)) in
         let minds = (rw to at a.minded) x.0 first x.1 (first_then a.old a.on a.grown a.marked) in
         let slot_old : slice_get (ports_at a.old j).ins p ≡ Some q = rw (same_ports a.old a.on a.grown a.marked) slot in
-        let came = all_came (wire_at a.old q) (holds a.old.queue q) (a.marked q was) (a.sound q was) a.waits a.asked in
+        let came = all_came (wire_at a.old q) (is_waiting a.old.queue q) (a.marked q was) (a.sound q was) a.waits a.asked in
         record {
           old = x.0;
           knew = view_of a.old j;
@@ -248,13 +248,13 @@ module _ {N : Type 0} (row : N → View → Type 0) (law : N → N → View → 
     same_want : (i q : ℕ) → slice_get (ports_at new j).ins i ≡ Some q → get_or (want_in new j) i 0 ≡ wanted (wire_at a.old q)
     same_want i q e = read_at wanted new.wires (ports_at new j).ins i q 0 e ∙ a.same q (slot_within i q e) (rw (sym a.on.ends) ((wired.input_to j i q hj e).1.0))
 
-    stood_at : (i : ℕ) (o : _) → slice_get (ports_at new j).ins i ≡ o → Stood (in_at (view_of a.old j) i) (slice_index_or (want_in new j) i 0) (elements (slice_index_or (net.took a.old j) i []))
-    stood_at i None e = subst (λ (x : InView). Stood x (slice_index_or (want_in new j) i 0) (elements (slice_index_or (net.took a.old j) i []))) (sym (none_there inp_of a.old.wires (ports_at a.old j).ins i Cancelled (rw ports_then e))) tt
+    stood_at : (i : ℕ) (o : _) → slice_get (ports_at new j).ins i ≡ o → WantedAt (in_at (view_of a.old j) i) (slice_index_or (want_in new j) i 0) (elements (slice_index_or (net.took a.old j) i []))
+    stood_at i None e = subst (λ (x : InView). WantedAt x (slice_index_or (want_in new j) i 0) (elements (slice_index_or (net.took a.old j) i []))) (sym (none_there inp_of a.old.wires (ports_at a.old j).ins i Cancelled (rw ports_then e))) tt
     stood_at i (Some q) e =
         let slot : slice_get (ports_at a.old j).ins i ≡ Some q = rw ports_then e in
         let h = slot_within i q e in
         rw (read_at inp_of a.old.wires (ports_at a.old j).ins i q Cancelled slot, same_want i q e, read_at got_of a.old.wires (ports_at a.old j).ins i q [] slot)
-        (stood_cell (wire_at a.old q) (holds a.old.queue q) (a.sound q h) (a.marked q h))
+        (stood_cell (wire_at a.old q) (is_waiting a.old.queue q) (a.sound q h) (a.marked q h))
 
     first_old : slice_get a.old.firsts j ≡ Some first
     first_old = ap (λ (z : List N). slice_get z j) (sym a.on.firsts) ∙ first_at
@@ -295,7 +295,7 @@ module _ {N : Type 0} (row : N → View → Type 0) (law : N → N → View → 
         outs_still : (k : ℕ) → slice_index_or (shut_out a.old j) k true ≡ true → slice_index_or (shut_out new j) k true ≡ true
         outs_still k h = shut_grown a.old.wires new.wires (λ q l. a.grown q (let w = a.on.wires in omega (arith, w, l))) (ports_at new j).outs (λ m q e. (wired.output_from j m q hj e).0) k (rw ports_then at h)
 
-    pub last : Last row law asking moves first now (net.took new j) (net.gave new j) (want_in new j) (want_out new j) (shut_out new j)
+    pub last : LastAsked row law asking moves first now (net.took new j) (net.gave new j) (want_in new j) (want_out new j) (shut_out new j)
     last =
         let x = get_there a.old.nodes j within_old in
         let minds = a.minded x.0 first x.1 first_old in

@@ -3,7 +3,7 @@
 use Rattle.std.specs.Prelude.{slice_get, slice_index_or}
 use Rattle.std.proofs.Common.{◌≡◌, ℕ, ◌<◌, ◌≤◌, List, [], length, Option, None, Some, refl, ap, subst, ◌∙◌}
 use Rattle.elem_core.specs.declared.item.Item.{Item}
-use Rattle.port_core.specs.Ring.{holds}
+use Rattle.port_core.specs.Ring.{is_waiting}
 use Rattle.port_core.specs.View.{View}
 use Rattle.port_core.specs.declared.view.InView.{InView}
 use Rattle.port_core.specs.declared.view.OutView.{OutView}
@@ -18,7 +18,7 @@ use Rattle.fused_net.specs.Laws.{Settled}
 use Rattle.fused_net.proofs.Reading.{get_there, read_at}
 use Rattle.run_account.specs.Account.{Account, knows, took, gave, WireKeeps, WireQuiet, NodeKeeps, ins_wanted, outs_wanted, KeepsLaws, outs_shut, shut_of, IsStill}
 use Rattle.stream_picture.specs.Joined.{IsJoined}
-use Rattle.run_account.specs.Seats.{Seats, Covers, LanesKeep, LanesRest, joined}
+use Rattle.run_account.specs.Seats.{Seats, Covers, LanesKeep, LanesRest, joined_account}
 use Rattle.run_account.proofs.Earlier.{want_in, want_out, shut_out, earlier, last}
 use Rattle.run_account.proofs.Reading.{far_slot, read_in, read_out}
 
@@ -38,7 +38,7 @@ module _ {N : Type 0} (row : N → View → Type 0) (law : N → N → View → 
     (g : Graph) (nets : ℕ → Net N) (s : Seats) (is_joined : IsJoined g) (covers : Covers g nets s)
     (asked : ℕ → ℕ) (settled : (b : ℕ) → Settled row law asking moves (nets b)) (lanes : LanesKeep g nets s asked) where
   abbrev all : Account N
-  all = joined nets s asked
+  all = joined_account nets s asked
 
   abbrev home : ℕ → ℕ
   home k = (s.node k).island
@@ -109,8 +109,8 @@ module _ {N : Type 0} (row : N → View → Type 0) (law : N → N → View → 
   pub all_keep : KeepsLaws row law asking moves g all
   all_keep = record {
     each_node = node_keeps;
-    near_sound = λ u h. (holds (nets (s.near u).island).queue (s.near u).at, (settled (s.near u).island).sound (s.near u).at (near_there g nets s covers u h));
-    far_sound = λ u h. (holds (nets (s.far u).island).queue (s.far u).at, (settled (s.far u).island).sound (s.far u).at (far_there g nets s covers u h));
+    near_sound = λ u h. (is_waiting (nets (s.near u).island).queue (s.near u).at, (settled (s.near u).island).sound (s.near u).at (near_there g nets s covers u h));
+    far_sound = λ u h. (is_waiting (nets (s.far u).island).queue (s.far u).at, (settled (s.far u).island).sound (s.far u).at (far_there g nets s covers u h));
     near_marked = λ u h. (settled (s.near u).island).marked (s.near u).at (near_there g nets s covers u h);
     far_marked = λ u h. (settled (s.far u).island).marked (s.far u).at (far_there g nets s covers u h);
     wires = wires_keep;
@@ -119,13 +119,13 @@ module _ {N : Type 0} (row : N → View → Type 0) (law : N → N → View → 
 module _ {N : Type 0} (row : N → View → Type 0) (law : N → N → View → List (List Item) → List (List Item) → Type 0) (asking : N → View → Type 0) (moves : N → List ℕ)
     (g : Graph) (nets : ℕ → Net N) (s : Seats) (covers : Covers g nets s) (asked : ℕ → ℕ) (settled : (b : ℕ) → Settled row law asking moves (nets b)) where
   -- where no event is left in any of them and each lane rests, none is left on any wire
-  pub all_still : ((b : ℕ) → (nets b).queue ≡ []) → LanesRest g nets s asked → IsStill g (joined nets s asked)
+  pub all_still : ((b : ℕ) → (nets b).queue ≡ []) → LanesRest g nets s asked → IsStill g (joined_account nets s asked)
   all_still empty rest = record {
     near = λ u h. rw (empty (s.near u).island) at ((settled (s.near u).island).sound (s.near u).at (near_there g nets s covers u h));
     far = λ u h. rw (empty (s.far u).island) at ((settled (s.far u).island).sound (s.far u).at (far_there g nets s covers u h));
     quiet = λ u v e. by u v e v.lane refl;
   }
     where
-      by : (u : ℕ) (v : Edge) → slice_get g.wires u ≡ Some v → (lane : Option ℕ) → v.lane ≡ lane → WireQuiet lane ((joined nets s asked).near u) ((joined nets s asked).far u) (asked u)
+      by : (u : ℕ) (v : Edge) → slice_get g.wires u ≡ Some v → (lane : Option ℕ) → v.lane ≡ lane → WireQuiet lane ((joined_account nets s asked).near u) ((joined_account nets s asked).far u) (asked u)
       by u v e None is = tt
       by u v e (Some size) is = rest u v size e is

@@ -8,7 +8,7 @@ use Rattle.wire_core.specs.Marks.{IsMarked}
 use Rattle.stream_model.specs.Outlook.{End}
 use Rattle.stream_model.specs.Lane.{Carries}
 use Rattle.stage_law.specs.Held.{told}
-use Rattle.run_account.specs.Items.{list_of, standing, Brought}
+use Rattle.run_account.specs.Items.{list_of, end_of_items, ArrivedOf}
 use Rattle.run_account.specs.Ports.{InStands, OutStands, InRests, OutRests}
 use Rattle.run_account.proofs.Resting.{out_shut}
 use Rattle.run_account.specs.Ends.{LaneKeeps}
@@ -17,12 +17,12 @@ use Rattle.run_account.specs.Wires.{far_port, near_port}
 use Rattle.run_account.proofs.Carrying.{lane_brings, came_few, within, parts, few, all_came}
 use Rattle.run_account.proofs.Marks.{lane_reach, lane_wants, lane_least, lane_over, lane_waits, lane_in_shut, lane_asked, lane_unasked}
 
-pub brings : (s : ℕ) (near far : WireState) (p q : Bool) (asked : ℕ) → IsSound near.wire p → IsSound far.wire q → LaneKeeps s near far asked → Brought (Some s) near.wire.sent far.wire.got
+pub brings : (s : ℕ) (near far : WireState) (p q : Bool) (asked : ℕ) → IsSound near.wire p → IsSound far.wire q → LaneKeeps s near far asked → ArrivedOf (Some s) near.wire.sent far.wire.got
 brings s near far p q asked sn sf k = lane_brings s near far p q k.out k.inp sn sf k.out_keeps k.in_keeps k.met
 
 module _ (u s : ℕ) (near far : WireState) (p q : Bool) (asked : ℕ) (list m l : List Tree) (f e : End) (sn : IsSound near.wire p) (sf : IsSound far.wire q)
     (sent_told : near.wire.sent ≡ told m f) (part : IsPrefix m list) (got_told : far.wire.got ≡ told l e) (k : LaneKeeps s near far asked) where
-  brought : Carries s (list_of near.wire.sent) (standing near.wire.sent) l e
+  brought : Carries s (list_of near.wire.sent) (end_of_items near.wire.sent) l e
   brought = brings s near far p q asked sn sf k l e got_told
 
   pub stands_in : InStands (far_port u s near far asked list)

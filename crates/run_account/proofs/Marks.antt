@@ -19,7 +19,7 @@ use Rattle.stream_model.specs.Lane.{Carries}
 use Rattle.stage_law.specs.Held.{told}
 use Rattle.stage_law.specs.Law.{TookAs, GaveAs}
 use Rattle.stage_law.specs.Row.{InClosed, OutClosed}
-use Rattle.run_account.specs.Items.{standing}
+use Rattle.run_account.specs.Items.{end_of_items}
 use Rattle.run_account.proofs.Histories.{begun, standing_told}
 use Rattle.run_account.proofs.Resting.{waits, is_asked, is_unasked, all_idle, in_shut}
 use Rattle.run_account.specs.Ends.{OutEnd, InEnd, OutKeeps, InKeeps, Met}
@@ -172,7 +172,7 @@ module _ (s : ℕ) (near far : WireState) (o : OutEnd) (i : InEnd) (out : OutKee
             let n : out.came_end ≡ unended → ⊥ = over_ends out.came_end (rw is at out.came_as) in
             let pushed : inn.pushed_end ≡ unended = asked_open far.wire.out inn.pushed_end inn.pushed_as asks in
             let lists : told out.came_list out.came_end ≡ told inn.pushed_list inn.pushed_end = sym out.came_is ∙ (came ∙ inn.pushed_is) in
-            absurd (n (sym (standing_told out.came_list out.came_end) ∙ (ap standing lists ∙ (standing_told inn.pushed_list inn.pushed_end ∙ pushed))))
+            absurd (n (sym (standing_told out.came_list out.came_end) ∙ (ap end_of_items lists ∙ (standing_told inn.pushed_list inn.pushed_end ∙ pushed))))
         by Cancelled is = let yes : o.refused ≡ 1 = refuses is in let no : o.refused ≡ 0 = none in absurd (omega (arith, yes, no))
 
     -- it has closed its input

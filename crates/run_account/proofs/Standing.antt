@@ -10,7 +10,7 @@ use Rattle.stream_model.specs.Outlook.{End}
 use Rattle.stream_model.specs.Lane.{Carries}
 use Rattle.stage_law.specs.Held.{told}
 use Rattle.stage_law.specs.Row.{InClosed}
-use Rattle.run_account.specs.Items.{list_of, standing}
+use Rattle.run_account.specs.Items.{list_of, end_of_items}
 use Rattle.run_account.specs.Account.{WireKeeps, WireQuiet}
 use Rattle.run_account.specs.Ports.{InPort, OutPort, wire_count, InStands, OutStands, InRests, OutRests}
 use Rattle.run_account.proofs.Carrying.{wire_brings, came_few, within, parts, few, all_came}
@@ -30,7 +30,7 @@ module _ (u : ℕ) (near far : WireState) (asked : ℕ) (list : List Tree) (p q 
     (m : List Tree) (f : End) (sent_told : near.wire.sent ≡ told m f) (part : IsPrefix m list) (l : List Tree) (e : End) (got_told : far.wire.got ≡ told l e) where
   pub in_stands : (lane : Option ℕ) → WireKeeps lane near far asked → InStands (in_of u lane near far asked list)
   in_stands None k =
-      let brought : Carries 0 (list_of near.wire.sent) (standing near.wire.sent) l e = wire_brings None near far asked p q sn sf k l e got_told in
+      let brought : Carries 0 (list_of near.wire.sent) (end_of_items near.wire.sent) l e = wire_brings None near far asked p q sn sf k l e got_told in
       record {
         came = came_few 0 near.wire.sent far.wire.got list m l f e brought sent_told part got_told;
         part = parts 0 near.wire.sent far.wire.got list m l f e brought sent_told part got_told;

@@ -5,21 +5,21 @@ use Rattle.std.proofs.lemmas.Bool.Decides.{nat_tests}
 use Rattle.elem_core.specs.Items.{elements}
 use Rattle.elem_core.specs.declared.item.Item.{Item}
 use Rattle.port_core.specs.Joint.{IsSound}
-use Rattle.port_core.specs.Ring.{holds}
+use Rattle.port_core.specs.Ring.{is_waiting}
 use Rattle.port_core.specs.View.{View}
 use Rattle.wire_core.specs.Counts.{spent}
 use Rattle.stream_model.specs.declared.outcome.WireCount.{WireCount}
 use Rattle.stream_model.specs.Graph.{Graph, Edge}
 use Rattle.stream_picture.specs.Shape.{units_of, need_from, sent_at, count_needed}
-use Rattle.fused_net.specs.Costs.{sum_below, total}
+use Rattle.fused_net.specs.Costs.{sum_below, total_cost}
 use Rattle.fused_net.specs.Laws.{Settled}
 use Rattle.fused_net.specs.Net.{Net, wire_at}
 use Rattle.fused_net.proofs.Reading.{get_there}
 use Rattle.fused_net.proofs.Sums.{sum_le}
 use Rattle.run_account.specs.Account.{Account}
-use Rattle.run_account.specs.Pictures.{counts_of}
+use Rattle.run_account.specs.Pictures.{picture_counts}
 use Rattle.run_account.specs.Ports.{wire_count}
-use Rattle.run_account.specs.Seats.{Place, Seats, Covers, joined}
+use Rattle.run_account.specs.Seats.{IslandPlace, Seats, Covers, joined_account}
 use Rattle.run_account.specs.Units.{lane_at, if_lane, over_lanes, Owned, LanesCost}
 use Rattle.run_account.proofs.Costs.{connection_cost, paid}
 use Rattle.run_account.proofs.Joining.{near_there, far_there}
@@ -93,8 +93,8 @@ has_at h (suc n) w c l top = elim (test_cases w n) [
 
 -- ---- the connections of all islands, over the wires
 
-module _ (islands wires : ℕ) (size : ℕ → ℕ) (near far : ℕ → Place) (lane : ℕ → Option ℕ) (cost : ℕ → ℕ → ℕ) where
-  abbrev hit : Place → ℕ → ℕ → Bool
+module _ (islands wires : ℕ) (size : ℕ → ℕ) (near far : ℕ → IslandPlace) (lane : ℕ → Option ℕ) (cost : ℕ → ℕ → ℕ) where
+  abbrev hit : IslandPlace → ℕ → ℕ → Bool
   hit p b q = (p.island == b) && (p.at == q)
 
   abbrev near_part : ℕ → ℕ → ℕ → ℕ
@@ -107,7 +107,7 @@ module _ (islands wires : ℕ) (size : ℕ → ℕ) (near far : ℕ → Place) (
   hit_here b q = rw (eq_refl b, eq_refl q) refl
 
   -- one place has one cost
-  one_place : (p : Place) → sum_below (λ b. sum_below (λ q. when (hit p b q) (cost b q)) (size b)) islands ≤ cost p.island p.at
+  one_place : (p : IslandPlace) → sum_below (λ b. sum_below (λ q. when (hit p b q) (cost b q)) (size b)) islands ≤ cost p.island p.at
   one_place p = only (λ b. sum_below (λ q. when (hit p b q) (cost b q)) (size b)) islands p.island (cost p.island p.at)
       (λ b ne. sum_same (λ q. when (hit p b q) (cost b q)) (λ q. 0) (size b) (λ q. rw (eq_other p.island b (λ e. ne (sym e))) refl) ∙ sum_none (size b))
       (only (λ q. when (hit p p.island q) (cost p.island q)) (size p.island) p.at (cost p.island p.at) (λ q ne. missed q ne) at_it)
@@ -177,11 +177,11 @@ module _ {N : Type 0} (row : N → View → Type 0) (law : N → N → View → 
     (g : Graph) (nets : ℕ → Net N) (s : Seats) (asked cost : ℕ → ℕ) (islands : ℕ) (covers : Covers g nets s) (settled : (b : ℕ) → Settled row law asking moves (nets b)) (owned : Owned g nets s islands)
     (lanes : LanesCost g nets s asked cost) where
   abbrev all : Account N
-  all = joined nets s asked
+  all = joined_account nets s asked
 
   -- what a connection costs
   abbrev spent_at : ℕ → ℕ → ℕ
-  spent_at b q = spent (wire_at (nets b) q).wire (holds (nets b).queue q)
+  spent_at b q = spent (wire_at (nets b) q).wire (is_waiting (nets b).queue q)
 
   abbrev near_cost : ℕ → ℕ
   near_cost u = spent_at (s.near u).island (s.near u).at
@@ -207,45 +207,45 @@ module _ {N : Type 0} (row : N → View → Type 0) (law : N → N → View → 
       by u v e (inr f) None is = inl (sym (covers.fused u v e is) ∙ f)
       by u v e (inr f) (Some z) is = inr (z, (lane_there g.wires u v e ∙ is, f))
 
-  sent_there : (u : ℕ) → u < length g.wires → sent_at (counts_of all g) u ≡ elements (all.near u).wire.sent
+  sent_there : (u : ℕ) → u < length g.wires → sent_at (picture_counts all g) u ≡ elements (all.near u).wire.sent
   sent_there u h =
       let v = get_there g.wires u h in
       let none : 0 + u ≡ u = omega arith in
       let at = counts_at all 0 g.wires u v.0 v.1 in
-      sent_by (counts_of all g) u (wire_count v.0.lane (all.near u) (asked u)) (rw none at at)
+      sent_by (picture_counts all g) u (wire_count v.0.lane (all.near u) (asked u)) (rw none at at)
     where
       sent_by : (cs : List WireCount) (u : ℕ) (c : WireCount) → slice_get cs u ≡ Some c → sent_at cs u ≡ c.sent
       sent_by cs u c e = ap (λ (o : Option WireCount). elim o as (λ _. ℕ) [ Some d ↦ d.sent | None ↦ 0 ]) e
 
   -- one wire
-  wire_units : (u : ℕ) → u < length g.wires → ((near_cost u + if_lane (lane u) (far_cost u)) + if_lane (lane u) (cost u)) + 1 ≤ units_of (lane u) (sent_at (counts_of all g) u)
+  wire_units : (u : ℕ) → u < length g.wires → ((near_cost u + if_lane (lane u) (far_cost u)) + if_lane (lane u) (cost u)) + 1 ≤ units_of (lane u) (sent_at (picture_counts all g) u)
   wire_units u h = let v = get_there g.wires u h in rw (sent_there u h, lane_there g.wires u v.0 v.1) (by v.0 v.1 v.0.lane refl)
     where
-      near_sound : IsSound (all.near u).wire (holds (nets (s.near u).island).queue (s.near u).at)
+      near_sound : IsSound (all.near u).wire (is_waiting (nets (s.near u).island).queue (s.near u).at)
       near_sound = (settled (s.near u).island).sound (s.near u).at (near_there g nets s covers u h)
 
-      far_sound : IsSound (all.far u).wire (holds (nets (s.far u).island).queue (s.far u).at)
+      far_sound : IsSound (all.far u).wire (is_waiting (nets (s.far u).island).queue (s.far u).at)
       far_sound = (settled (s.far u).island).sound (s.far u).at (far_there g nets s covers u h)
 
       by : (v : Edge) → slice_get g.wires u ≡ Some v → (l : Option ℕ) → v.lane ≡ l → ((near_cost u + if_lane l (far_cost u)) + if_lane l (cost u)) + 1 ≤ units_of l (elements (all.near u).wire.sent)
-      by v e None is = let c = connection_cost (all.near u).wire (holds (nets (s.near u).island).queue (s.near u).at) near_sound in omega (arith, c)
+      by v e None is = let c = connection_cost (all.near u).wire (is_waiting (nets (s.near u).island).queue (s.near u).at) near_sound in omega (arith, c)
       by v e (Some z) is =
           let k = lanes u v z e is in
-          let c = paid z (all.near u) (all.far u) (holds (nets (s.near u).island).queue (s.near u).at) (holds (nets (s.far u).island).queue (s.far u).at) (asked u) near_sound far_sound k.0 in
+          let c = paid z (all.near u) (all.far u) (is_waiting (nets (s.near u).island).queue (s.near u).at) (is_waiting (nets (s.far u).island).queue (s.far u).at) (asked u) near_sound far_sound k.0 in
           let same = k.1 in
           omega (arith, c, same)
 
-  pub all_paid : (sum_below (λ b. total (nets b)) islands + over_lanes g cost) + length g.wires ≤ count_needed g (counts_of all g)
+  pub all_paid : (sum_below (λ b. total_cost (nets b)) islands + over_lanes g cost) + length g.wires ≤ count_needed g (picture_counts all g)
   all_paid =
       let n = length g.wires in
-      let first : sum_below (λ b. total (nets b)) islands ≤ sum_below (λ u. near_cost u + if_lane (lane u) (far_cost u)) (length g.wires) = all_costs islands (length g.wires) (λ b. length (nets b).wires) s.near s.far lane spent_at owner in
+      let first : sum_below (λ b. total_cost (nets b)) islands ≤ sum_below (λ u. near_cost u + if_lane (lane u) (far_cost u)) (length g.wires) = all_costs islands (length g.wires) (λ b. length (nets b).wires) s.near s.far lane spent_at owner in
       let two : sum_below (λ u. (near_cost u + if_lane (lane u) (far_cost u)) + if_lane (lane u) (cost u)) (length g.wires) ≡ sum_below (λ u. near_cost u + if_lane (lane u) (far_cost u)) (length g.wires) + over_lanes g cost =
       sum_add (λ u. near_cost u + if_lane (lane u) (far_cost u)) (λ u. if_lane (lane u) (cost u)) (length g.wires) in
       let three : sum_below (λ u. ((near_cost u + if_lane (lane u) (far_cost u)) + if_lane (lane u) (cost u)) + 1) (length g.wires) ≡ sum_below (λ u. (near_cost u + if_lane (lane u) (far_cost u)) + if_lane (lane u) (cost u)) (length g.wires) + sum_below (λ u. 1) (length g.wires) =
       sum_add (λ u. (near_cost u + if_lane (lane u) (far_cost u)) + if_lane (lane u) (cost u)) (λ u. 1) (length g.wires) in
       let ones = sum_ones (length g.wires) in
-      let most : sum_below (λ u. ((near_cost u + if_lane (lane u) (far_cost u)) + if_lane (lane u) (cost u)) + 1) (length g.wires) ≤ sum_below (λ u. units_of (lane u) (sent_at (counts_of all g) u)) (length g.wires) = sum_le _ _ (length g.wires) wire_units in
-      let need : count_needed g (counts_of all g) ≡ sum_below (λ u. units_of (lane u) (sent_at (counts_of all g) (0 + u))) (length g.wires) = need_sum g.wires 0 (sent_at (counts_of all g)) in
-      let same : sum_below (λ u. units_of (lane u) (sent_at (counts_of all g) (0 + u))) (length g.wires) ≡ sum_below (λ u. units_of (lane u) (sent_at (counts_of all g) u)) (length g.wires) =
+      let most : sum_below (λ u. ((near_cost u + if_lane (lane u) (far_cost u)) + if_lane (lane u) (cost u)) + 1) (length g.wires) ≤ sum_below (λ u. units_of (lane u) (sent_at (picture_counts all g) u)) (length g.wires) = sum_le _ _ (length g.wires) wire_units in
+      let need : count_needed g (picture_counts all g) ≡ sum_below (λ u. units_of (lane u) (sent_at (picture_counts all g) (0 + u))) (length g.wires) = need_sum g.wires 0 (sent_at (picture_counts all g)) in
+      let same : sum_below (λ u. units_of (lane u) (sent_at (picture_counts all g) (0 + u))) (length g.wires) ≡ sum_below (λ u. units_of (lane u) (sent_at (picture_counts all g) u)) (length g.wires) =
       sum_same _ _ (length g.wires) (λ u. let none : 0 + u ≡ u = omega arith in rw none refl) in
       omega (arith, first, two, three, ones, most, need, same)

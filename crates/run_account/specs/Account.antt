@@ -77,10 +77,10 @@ AllBegin (h ∷ hs) (x ∷ xs) = IsPrefix h x × AllBegin hs xs
 AllBegin _ _ = ⊥
 
 -- by what a node knew of an input, what was wanted there of what it had taken
-abbrev pub Stood : InView → ℕ → ℕ → Type 0
-Stood Pulled want had = want ≤ had + 1
-Stood Idle want had = want ≤ had
-Stood _ want had = ⊤
+abbrev pub WantedAt : InView → ℕ → ℕ → Type 0
+WantedAt Pulled want had = want ≤ had + 1
+WantedAt Idle want had = want ≤ had
+WantedAt _ want had = ⊤
 
 -- A wire that is no lane has one connection. A lane has two, and what is kept of its two ends and known of both joins them.
 abbrev pub WireKeeps : Option ℕ → WireState → WireState → ℕ → Type 0
@@ -115,7 +115,7 @@ module _ {N : Type 0} (row : N → View → Type 0) (law : N → N → View → 
     pub stays : length took ≡ 1 → length gave ≡ 0 → had ≡ took → now ≡ old
 
   -- The moment at which it last asked at any of them. At that moment each input that was asked had a moment of its own.
-  pub record Last (first now : N) (took gave : List (List Item)) (ins_want outs_want : List ℕ) (outs_closed : List Bool) : Type 0 where
+  pub record LastAsked (first now : N) (took gave : List (List Item)) (ins_want outs_want : List ℕ) (outs_closed : List Bool) : Type 0 where
     pub old : N
     pub knew : View
     pub had : List (List Item)
@@ -125,7 +125,7 @@ module _ {N : Type 0} (row : N → View → Type 0) (law : N → N → View → 
     pub asking_held : asking old knew
     pub port : ℕ
     pub waited : in_at knew port ≡ Pulled
-    pub stood : (i : ℕ) → Stood (in_at knew i) (slice_index_or ins_want i 0) (elements (slice_index_or had i []))
+    pub stood : (i : ℕ) → WantedAt (in_at knew i) (slice_index_or ins_want i 0) (elements (slice_index_or had i []))
     pub before : (i : ℕ) → i < length ins_want → 1 ≤ slice_index_or ins_want i 0 → Earlier i first old had given ins_want outs_want outs_closed
     pub took_on : AllBegin had took
     pub gave_on : AllBegin given gave
@@ -143,7 +143,7 @@ module _ {N : Type 0} (row : N → View → Type 0) (law : N → N → View → 
       pub row_holds : row now (knows g a k n)
       pub law_holds : law first now (knows g a k n) (took g a k n) (gave g a k n)
       pub asks : (p : ℕ) → p < inputs_of n.kind → 1 ≤ slice_index_or (ins_wanted g a k n) p 0 → Earlier p first now (took g a k n) (gave g a k n) (ins_wanted g a k n) (outs_wanted g a k n) (outs_shut g a k n)
-      pub last : (p : ℕ) → p < inputs_of n.kind → 1 ≤ slice_index_or (ins_wanted g a k n) p 0 → Last first now (took g a k n) (gave g a k n) (ins_wanted g a k n) (outs_wanted g a k n) (outs_shut g a k n)
+      pub last : (p : ℕ) → p < inputs_of n.kind → 1 ≤ slice_index_or (ins_wanted g a k n) p 0 → LastAsked first now (took g a k n) (gave g a k n) (ins_wanted g a k n) (outs_wanted g a k n) (outs_shut g a k n)
 
     -- what all nodes and wires keep
     pub record KeepsLaws : Type 0 where

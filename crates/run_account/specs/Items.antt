@@ -15,11 +15,11 @@ list_of (item.Elem t ∷ is) = t ∷ list_of is
 list_of (item.Ended ∷ is) = []
 list_of (item.Failed c ∷ is) = []
 
-abbrev pub standing : List Item → End
-standing [] = unended
-standing (item.Elem t ∷ is) = standing is
-standing (item.Ended ∷ is) = ended
-standing (item.Failed c ∷ is) = failed c
+abbrev pub end_of_items : List Item → End
+end_of_items [] = unended
+end_of_items (item.Elem t ∷ is) = end_of_items is
+end_of_items (item.Ended ∷ is) = ended
+end_of_items (item.Failed c ∷ is) = failed c
 
 -- how many elements a wire may lose at a failure: as many as a lane has places, and none where it is no lane
 abbrev pub lane_size : Option ℕ → ℕ
@@ -28,8 +28,8 @@ lane_size (Some s) = s
 
 -- of what was sent at one end of a wire, its other end got this: a first part; where it ended all; where it failed all but
 -- as many elements as the lane has places
-abbrev pub Brought : Option ℕ → List Item → List Item → Type 0
-Brought lane sent got = (l : List Tree) (e : End) → got ≡ told l e → Carries (lane_size lane) (list_of sent) (standing sent) l e
+abbrev pub ArrivedOf : Option ℕ → List Item → List Item → Type 0
+ArrivedOf lane sent got = (l : List Tree) (e : End) → got ≡ told l e → Carries (lane_size lane) (list_of sent) (end_of_items sent) l e
 
 -- whatever list and end a history is, it may pass
 abbrev pub MayPass : Outlook → List Item → Type 0
@@ -49,7 +49,7 @@ pub record AgreesWith (o : Outlook) (items : List Item) : Type 0 where
   pub agrees : Agrees o list end
 
 -- the history is a list, which is the first part of the outlook's, and how it stands
-pub record Passes (o : Outlook) (items : List Item) : Type 0 where
+pub record WithinOutlook (o : Outlook) (items : List Item) : Type 0 where
   pub list : List Tree
   pub end : End
   pub is : items ≡ told list end

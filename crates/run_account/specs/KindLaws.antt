@@ -21,7 +21,7 @@ use Rattle.stream_picture.specs.View.{EachWire}
 use Rattle.stream_picture.specs.View as picture
 use Rattle.stream_picture.specs.Rests.{IsShut}
 use Rattle.run_account.specs.Items.{AllMayPass, AgreesWith}
-use Rattle.run_account.specs.Account.{Earlier, Last}
+use Rattle.run_account.specs.Account.{Earlier, LastAsked}
 use Rattle.run_account.specs.Ports.{InPort, OutPort, EachPort, InStands, OutStands, InRests, OutRests}
 
 -- a kind that is one machine between one input and one output: in a run, and in a picture
@@ -33,7 +33,7 @@ pub record IsOneMachine (kd : Kind) (wk : Work) : Type 0 where
   pub rests : (g : Graph) (w : World) (k : ℕ) (d : Decider) (is os : List picture.SeenWire) → OneToOne (StageRests (of_machine (linear w.book wk) (begin_work k d wk) (holds_at_end wk))) is os → RowRests g w k kd d is os
 
 -- the history is a list and an end, which is known of the port
-pub record Heard (x : InView) (h : List Item) : Type 0 where
+pub record IsHistoryOf (x : InView) (h : List Item) : Type 0 where
   pub list : List Tree
   pub end : End
   pub is : h ≡ told list end
@@ -41,7 +41,7 @@ pub record Heard (x : InView) (h : List Item) : Type 0 where
 
 -- what came at each input is so
 abbrev pub HearsAll : View → List (List Item) → Type 0
-HearsAll v took = (p : ℕ) (h : List Item) → slice_get took p ≡ Some h → Heard (in_at v p) h
+HearsAll v took = (p : ℕ) (h : List Item) → slice_get took p ≡ Some h → IsHistoryOf (in_at v p) h
 
 -- In a run: where what a node took may pass by these outlooks, what it gave agrees with its own, and its moves fit them.
 pub record RunLaws (g : Graph) (w : World) (k : ℕ) (n : graph.Node) (took gave : List (List Item)) : Type 0 where
@@ -52,7 +52,7 @@ pub record RunLaws (g : Graph) (w : World) (k : ℕ) (n : graph.Node) (took gave
 abbrev pub Moments : {N : Type 0} → (N → View → Type 0) → (N → N → View → List (List Item) → List (List Item) → Type 0) → (N → View → Type 0) → (N → List ℕ) → N → N → List InPort → List OutPort → ℕ → Type 0
 Moments row law asking moves first now is os p =
     Earlier row law asking moves p first now (map (λ (i : InPort). i.got) is) (map (λ (o : OutPort). o.sent) os) (map (λ (i : InPort). i.want) is) (map (λ (o : OutPort). o.want) os) (map (λ (o : OutPort). o.wire.shut) os)
-    × Last row law asking moves first now (map (λ (i : InPort). i.got) is) (map (λ (o : OutPort). o.sent) os) (map (λ (i : InPort). i.want) is) (map (λ (o : OutPort). o.want) os) (map (λ (o : OutPort). o.wire.shut) os)
+    × LastAsked row law asking moves first now (map (λ (i : InPort). i.got) is) (map (λ (o : OutPort). o.sent) os) (map (λ (i : InPort). i.want) is) (map (λ (o : OutPort). o.want) os) (map (λ (o : OutPort). o.wire.shut) os)
 
 -- In a picture, by the ports and by the moments of the node's asks: its row of a lawful one, its row of one that rests, and that
 -- the input of a sink is shut exactly where it has ended.

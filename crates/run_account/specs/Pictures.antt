@@ -5,7 +5,7 @@ use Rattle.stream_model.specs.Graph.{Graph, Edge, find_wire, find_source}
 use Rattle.stream_model.specs.Outlook.{Outlook}
 use Rattle.stream_model.specs.declared.outcome.WireCount.{WireCount}
 use Rattle.stream_picture.specs.View.{view_of}
-use Rattle.run_account.specs.Items.{Passes}
+use Rattle.run_account.specs.Items.{WithinOutlook}
 use Rattle.run_account.specs.Account.{Account}
 use Rattle.run_account.specs.Ports.{InPort, OutPort, wire_count}
 
@@ -16,12 +16,12 @@ module _ {N : Type 0} (a : Account N) where
   counts_from i (v ∷ vs) = wire_count v.lane (a.near i) (a.asked i) ∷ counts_from (i + 1) vs
 
   -- the picture of a graph
-  abbrev pub counts_of : Graph → List WireCount
-  counts_of g = counts_from 0 g.wires
+  abbrev pub picture_counts : Graph → List WireCount
+  picture_counts g = counts_from 0 g.wires
 
   -- what was sent on each wire is a first part of the list of its outlook
   abbrev pub AllPass : Graph → (ℕ → Outlook) → Type 0
-  AllPass g outlook = (u : ℕ) → u < length g.wires → Passes (outlook u) (a.near u).wire.sent
+  AllPass g outlook = (u : ℕ) → u < length g.wires → WithinOutlook (outlook u) (a.near u).wire.sent
 
   module _ (g : Graph) (outlook : ℕ → Outlook) where
     abbrev pub in_port : ℕ → Edge → InPort

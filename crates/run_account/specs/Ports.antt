@@ -21,14 +21,14 @@ use Rattle.stage_law.specs.Held.{told}
 use Rattle.stage_law.specs.Row.{InClosed, OutClosed}
 
 -- the mark of a wire that is no lane is the connection's; of a lane, whether its input end asked for more than was pushed
-abbrev pub asked_of : Option ℕ → WireState → ℕ → Bool
-asked_of None near asked = near.asked
-asked_of (Some size) near asked = nat_le (suc (elements near.wire.sent)) asked
+abbrev pub has_demand : Option ℕ → WireState → ℕ → Bool
+has_demand None near asked = near.asked
+has_demand (Some size) near asked = nat_le (suc (elements near.wire.sent)) asked
 
 -- how a wire stands, by the connection at its output and by what the input end of a lane asked for in all: the elements that were
 -- pushed, whether its input waits for one, and whether either end has closed it
 abbrev pub wire_count : Option ℕ → WireState → ℕ → WireCount
-wire_count lane near asked = record { sent = elements near.wire.sent; asked = asked_of lane near asked; shut = not (is_open near.wire.conn) }
+wire_count lane near asked = record { sent = elements near.wire.sent; asked = has_demand lane near asked; shut = not (is_open near.wire.conn) }
 
 -- an input of a node: what the node knows of it and took there, what it has asked for in all, and the wire of the picture
 pub record InPort : Type 0 where

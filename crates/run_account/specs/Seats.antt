@@ -9,19 +9,19 @@ use Rattle.run_account.specs.Account.{Account, WireQuiet}
 use Rattle.run_account.specs.Ends.{LaneKeeps}
 
 -- an island, and a place in it
-pub record Place : Type 0 where
+pub record IslandPlace : Type 0 where
   pub island : ℕ
   pub at : ℕ
 
 -- the place of each node, and those of each wire's connections: the one at its output, and the one at its input
 pub record Seats : Type 0 where
-  pub node : ℕ → Place
-  pub near : ℕ → Place
-  pub far : ℕ → Place
+  pub node : ℕ → IslandPlace
+  pub near : ℕ → IslandPlace
+  pub far : ℕ → IslandPlace
 
 -- what the nets tell together, where the input ends of the lanes asked for so many elements
-abbrev pub joined : {N : Type 0} → (ℕ → Net N) → Seats → (ℕ → ℕ) → Account N
-joined nets s asked = record {
+abbrev pub joined_account : {N : Type 0} → (ℕ → Net N) → Seats → (ℕ → ℕ) → Account N
+joined_account nets s asked = record {
   firsts = λ k. slice_get (nets (s.node k).island).firsts (s.node k).at;
   nodes = λ k. slice_get (nets (s.node k).island).nodes (s.node k).at;
   near = λ u. wire_at (nets (s.near u).island) (s.near u).at;
@@ -57,7 +57,7 @@ module _ {N : Type 0} (g : Graph) (nets : ℕ → Net N) (s : Seats) where
       → WireQuiet (Some size) (wire_at (nets (s.near u).island) (s.near u).at) (wire_at (nets (s.far u).island) (s.far u).at) (asked u)
 
 -- one island of all nodes and wires, each at its number
-abbrev pub at_home : ℕ → Place
+abbrev pub at_home : ℕ → IslandPlace
 at_home k = record { island = 0; at = k }
 
 abbrev pub one_seat : Seats
@@ -65,4 +65,4 @@ one_seat = record { node = at_home; near = at_home; far = at_home }
 
 -- what one island tells, in which no wire is a lane
 abbrev pub account_of : {N : Type 0} → Net N → Account N
-account_of net = joined (λ b. net) one_seat (λ u. 0)
+account_of net = joined_account (λ b. net) one_seat (λ u. 0)

@@ -10,8 +10,8 @@ ghost use Rattle.wire_core.specs.Marks.{IsMarked};
 ghost use Rattle.stream_model.specs.Outlook.{End};
 ghost use Rattle.stage_law.specs.Held.{told};
 ghost use Rattle.run_account.specs.Ends.{LaneKeeps};
-ghost use Rattle.run_account.specs.Items.{Brought};
-ghost use Rattle.run_account.specs.Pictures.{counts_of};
+ghost use Rattle.run_account.specs.Items.{ArrivedOf};
+ghost use Rattle.run_account.specs.Pictures.{picture_counts};
 ghost use Rattle.run_account.specs.Ports.{InStands, OutStands, InRests, OutRests};
 ghost use Rattle.run_account.specs.Quiet.{LaneQuiet};
 ghost use Rattle.run_account.specs.Units.{over_lanes, Owned, LanesCost};
@@ -19,11 +19,11 @@ ghost use Rattle.run_account.specs.Wires.{far_port, near_port};
 ghost use Rattle.stream_model.specs.Graph.{Graph};
 ghost use Rattle.stream_picture.specs.Joined.{IsJoined};
 ghost use Rattle.stream_picture.specs.Shape.{count_needed};
-ghost use Rattle.fused_net.specs.Costs.{sum_below, total};
+ghost use Rattle.fused_net.specs.Costs.{sum_below, total_cost};
 ghost use Rattle.fused_net.specs.Net.{Net};
 ghost use Rattle.fused_net.specs.Laws.{Settled};
 ghost use Rattle.run_account.specs.Account.{KeepsLaws, IsStill};
-ghost use Rattle.run_account.specs.Seats.{Seats, Covers, LanesKeep, LanesRest, joined};
+ghost use Rattle.run_account.specs.Seats.{Seats, Covers, LanesKeep, LanesRest, joined_account};
 
 use stage_core::stage::Stage;
 
@@ -31,19 +31,19 @@ use stage_core::stage::Stage;
 /// places, keep its laws: each node its row, its law and the moments of its asks, and each wire what it does.
 pub fn nets_keep<S: Stage>()
     ensures { (g : Graph) (nets : ℕ → Net S) (s : Seats) (asked : ℕ → ℕ) → IsJoined g → Covers g nets s → ((b : ℕ) → Settled S.port_state S.law S.asking S.moves (nets b)) → LanesKeep g nets s asked
-        → KeepsLaws S.port_state S.law S.asking S.moves g (joined nets s asked) }
+        → KeepsLaws S.port_state S.law S.asking S.moves g (joined_account nets s asked) }
 {}
 
 /// Where moreover no net has an event and each lane rests, no event is left on any wire.
 pub fn nets_rest<S: Stage>()
     ensures { (g : Graph) (nets : ℕ → Net S) (s : Seats) (asked : ℕ → ℕ) → Covers g nets s → ((b : ℕ) → Settled S.port_state S.law S.asking S.moves (nets b)) → ((b : ℕ) → (nets b).queue ≡ []) → LanesRest g nets s asked
-        → IsStill g (joined nets s asked) }
+        → IsStill g (joined_account nets s asked) }
 {}
 
 /// Of what was sent at the output of a lane, the node at its input got a first part; where a normal end came all, and where a
 /// failure came all but as many elements as the lane has places.
 pub fn a_lane_brings_what_was_sent()
-    ensures { (s : ℕ) (near far : WireState) (p q : Bool) (asked : ℕ) → IsSound near.wire p → IsSound far.wire q → LaneKeeps s near far asked → Brought (Some s) near.wire.sent far.wire.got }
+    ensures { (s : ℕ) (near far : WireState) (p q : Bool) (asked : ℕ) → IsSound near.wire p → IsSound far.wire q → LaneKeeps s near far asked → ArrivedOf (Some s) near.wire.sent far.wire.got }
 {}
 
 /// At every moment a lane stands for the nodes at its ends as any wire does: no more came than was sent; a lane that is not asked
@@ -77,5 +77,5 @@ pub fn a_lane_is_paid()
 /// they were sent, which is 2n + 4 for a wire with n elements and 6n + 12 for a lane; below it by one for each wire.
 pub fn islands_are_paid<S: Stage>()
     ensures { (g : Graph) (nets : ℕ → Net S) (s : Seats) (asked cost : ℕ → ℕ) (islands : ℕ) → Covers g nets s → ((b : ℕ) → Settled S.port_state S.law S.asking S.moves (nets b)) → Owned g nets s islands → LanesCost g nets s asked cost
-        → (sum_below (λ b. total (nets b)) islands + over_lanes g cost) + length g.wires ≤ count_needed g (counts_of (joined nets s asked) g) }
+        → (sum_below (λ b. total_cost (nets b)) islands + over_lanes g cost) + length g.wires ≤ count_needed g (picture_counts (joined_account nets s asked) g) }
 {}

@@ -14,32 +14,32 @@ use Rattle.plug_core.specs.declared.head.PlugHead.{PlugHead}
 use Rattle.blue_rules.specs.Names.{Claim, called, opens, same_claim, text_of, first_again, file_of, opening, claims_of_nodes, claims, taken_twice}
 use Rattle.blue_check.specs.declared.fault.CheckFault.TheVariants.{TwoNames}
 use Rattle.blue_check.specs.Fitness.{IsFit}
-use Rattle.run_files.specs.Names.{Distinct}
-use Rattle.materializer.specs.Files.{input_of, output_of, inputs_of_nodes, outputs_of_nodes}
+use Rattle.run_files.specs.Names.{DistinctNames}
+use Rattle.materializer.specs.Files.{source_file, output_of, inputs_of_nodes, outputs_of_nodes}
 use Rattle.run_blueprint.proofs.Places.{contained_at, unfiltered_at}
 
 -- a filter of a list whose elements give different values gives each once
-distinct_more : (y : List ℕ) (ys : List (List ℕ)) → Distinct ys → ((j : ℕ) → slice_get ys j ≡ Some y → ⊥) → Distinct (y ∷ ys)
+distinct_more : (y : List ℕ) (ys : List (List ℕ)) → DistinctNames ys → ((j : ℕ) → slice_get ys j ≡ Some y → ⊥) → DistinctNames (y ∷ ys)
 distinct_more y ys d never zero zero n p q = refl
 distinct_more y ys d never zero (suc j) n p q = let same : y ≡ n = cc in absurd (never j (q ∙ ap Some (sym same)))
 distinct_more y ys d never (suc i) zero n p q = let same : y ≡ n = cc in absurd (never i (p ∙ ap Some (sym same)))
 distinct_more y ys d never (suc i) (suc j) n p q = ap suc (d i j n p q)
 
-distinct_cons : (o : Option (List ℕ)) (ys : List (List ℕ)) → Distinct ys → ((y : List ℕ) (j : ℕ) → o ≡ Some y → slice_get ys j ≡ Some y → ⊥) → Distinct (cons_option o ys)
+distinct_cons : (o : Option (List ℕ)) (ys : List (List ℕ)) → DistinctNames ys → ((y : List ℕ) (j : ℕ) → o ≡ Some y → slice_get ys j ≡ Some y → ⊥) → DistinctNames (cons_option o ys)
 distinct_cons None ys d never = d
 distinct_cons (Some y) ys d never = distinct_more y ys d (λ j e. never y j refl e)
 
 suc_same : (i j : ℕ) → suc i ≡ suc j → i ≡ j
 suc_same i j e = omega (arith, e)
 
-distinct_filtered : {A : Type 0} (h : A → Option (List ℕ)) (xs : List A) → ((i j : ℕ) (x z : A) (y : List ℕ) → slice_get xs i ≡ Some x → slice_get xs j ≡ Some z → h x ≡ Some y → h z ≡ Some y → i ≡ j) → Distinct (filter_map h xs)
+distinct_filtered : {A : Type 0} (h : A → Option (List ℕ)) (xs : List A) → ((i j : ℕ) (x z : A) (y : List ℕ) → slice_get xs i ≡ Some x → slice_get xs j ≡ Some z → h x ≡ Some y → h z ≡ Some y → i ≡ j) → DistinctNames (filter_map h xs)
 distinct_filtered h [] one = λ i j n p q. absurd cc
 distinct_filtered h (x ∷ xs) one = distinct_cons (h x) (filter_map h xs)
     (distinct_filtered h xs (λ i j y z v p q a b. suc_same i j (one (suc i) (suc j) y z v p q a b)))
     (λ y j e at. let there = unfiltered_at h xs j y at in let never : zero ≡ suc there.0 = one zero (suc there.0) x there.1.0 y refl there.1.1.0 e there.1.1.1 in absurd (omega (arith, never)))
 
 -- the files of sources and sinks are files of nodes
-input_file : (k : Kind) (f : List ℕ) → input_of k ≡ Some f → file_of k ≡ Some f
+input_file : (k : Kind) (f : List ℕ) → source_file k ≡ Some f → file_of k ≡ Some f
 input_file (Lines g) f e = e
 input_file _ f e = absurd cc
 
@@ -49,7 +49,7 @@ output_file (Head g) f e = e
 output_file (Last g) f e = e
 output_file _ f e = absurd cc
 
-not_both : (k : Kind) (f : List ℕ) → input_of k ≡ Some f → output_of k ≡ Some f → ⊥
+not_both : (k : Kind) (f : List ℕ) → source_file k ≡ Some f → output_of k ≡ Some f → ⊥
 not_both (Lines g) f a b = cc
 not_both _ f a b = cc
 
@@ -170,10 +170,10 @@ module _ (b : Blueprint) (plugs : List PlugHead) (taken : List (List ℕ)) (fit 
   pub not_taken : (k : ℕ) (n : Node) (f : List ℕ) → slice_get nodes k ≡ Some n → file_of n.kind ≡ Some f → Contains taken f → ⊥
   not_taken k n f p a c = taken_any taken f (untaken.1.0 (opens f) (nodes_fresh untaken.0 nodes untaken.1.1 k n f p a)) c
 
-  pub inputs_distinct : Distinct (inputs_of_nodes nodes)
-  inputs_distinct = distinct_filtered (λ n. input_of n.kind) nodes (λ i j n m f p q a c. one_file i j n m f p q (input_file n.kind f a) (input_file m.kind f c))
+  pub inputs_distinct : DistinctNames (inputs_of_nodes nodes)
+  inputs_distinct = distinct_filtered (λ n. source_file n.kind) nodes (λ i j n m f p q a c. one_file i j n m f p q (input_file n.kind f a) (input_file m.kind f c))
 
-  pub outputs_distinct : Distinct (outputs_of_nodes nodes)
+  pub outputs_distinct : DistinctNames (outputs_of_nodes nodes)
   outputs_distinct = distinct_filtered (λ n. output_of n.kind) nodes (λ i j n m f p q a c. one_file i j n m f p q (output_file n.kind f a) (output_file m.kind f c))
 
   -- a file that is read is not written
@@ -181,7 +181,7 @@ module _ (b : Blueprint) (plugs : List PlugHead) (taken : List (List ℕ)) (fit 
   inputs_unwritten f c d =
       let i = contained_at (inputs_of_nodes nodes) f c in
       let o = contained_at (outputs_of_nodes nodes) f d in
-      let at = unfiltered_at (λ (n : Node). input_of n.kind) nodes i.0 f i.1 in
+      let at = unfiltered_at (λ (n : Node). source_file n.kind) nodes i.0 f i.1 in
       let to = unfiltered_at (λ (n : Node). output_of n.kind) nodes o.0 f o.1 in
       let same : at.0 ≡ to.0 = one_file at.0 to.0 at.1.0 to.1.0 f at.1.1.0 to.1.1.0 (input_file at.1.0.kind f at.1.1.1) (output_file to.1.0.kind f to.1.1.1) in
       let node : at.1.0 ≡ to.1.0 = same_place nodes at.0 to.0 at.1.0 to.1.0 same at.1.1.0 to.1.1.0 in
@@ -191,7 +191,7 @@ module _ (b : Blueprint) (plugs : List PlugHead) (taken : List (List ℕ)) (fit 
   pub inputs_untaken : (f : List ℕ) → Contains (inputs_of_nodes nodes) f → Contains taken f → ⊥
   inputs_untaken f c t =
       let i = contained_at (inputs_of_nodes nodes) f c in
-      let at = unfiltered_at (λ (n : Node). input_of n.kind) nodes i.0 f i.1 in
+      let at = unfiltered_at (λ (n : Node). source_file n.kind) nodes i.0 f i.1 in
       not_taken at.0 at.1.0 f at.1.1.0 (input_file at.1.0.kind f at.1.1.1) t
 
   pub outputs_untaken : (f : List ℕ) → Contains (outputs_of_nodes nodes) f → Contains taken f → ⊥

@@ -36,7 +36,7 @@ use Rattle.blue_check.specs.Fitness.{IsFit}
 use Rattle.plug_core.specs.declared.head.PlugHead.{PlugHead}
 use Rattle.materializer.specs.Fit.{CanRun}
 use Rattle.materializer.specs.Files.{output_of, inputs_of_nodes, outputs_of_nodes}
-use Rattle.materializer.specs.Graphs.{node_of, graph_of}
+use Rattle.materializer.specs.Graphs.{graph_node, graph_of}
 use Rattle.run_files.specs.Opening.{OpensAll, GivesUp}
 use Rattle.run_files.specs.Closing.{ClosesAll}
 use Rattle.run_files.proofs.Stoppings.{gives_up}
@@ -278,9 +278,9 @@ module _ {S D L B : Type 0} (sources : S → SourceState) (drains : D → DrainS
         let z = writing_kept sources drains f.now y.0 y.1.1 in
         let here : slice_get final k ≡ Some (node.Writing z.0) = y.1.0 ∙ ap Some z.1.0 in
         let named : (drains z.0.drain).name ≡ file = ap (λ (s : DrainState). s.name) z.1.1 ∙ f.law.name ∙ f.first_named in
-        let wrote : SinkWrote sources drains book g left k (node_of n) f.first f.now = wrote_law g left run k (node_of n) f.first f.now (mapped_at node_of nodes k n at) f.there in
+        let wrote : SinkWrote sources drains book g left k (graph_node n) f.first f.now = wrote_law g left run k (graph_node n) f.first f.now (mapped_at graph_node nodes k n at) f.there in
         let ranked = ranked_law b can.plugs can.taken can.fit in
-        let tells : (w : World) → IsWorldOf book nodes drawn w → SinkTells (sink_outlook g w k (node_of n)) f.now.end wrote.written = λ w is. wrote.tells w ranked.0 is.book_is (drew.tells w is) ranked.1 in
+        let tells : (w : World) → IsWorldOf book nodes drawn w → SinkTells (sink_outlook g w k (graph_node n)) f.now.end wrote.written = λ w is. wrote.tells w ranked.0 is.book_is (drew.tells w is) ranked.1 in
         let grew = writes_grew sources drains b can final e.readers.items e.writers.items apart old mid _ _ opens new closes lone k file z.0 here named in
         record {
           held = wrote.written;
@@ -290,7 +290,7 @@ module _ {S D L B : Type 0} (sources : S → SourceState) (drains : D → DrainS
               ∙ ap (λ (s : DrainState). s.holds) z.1.1
               ∙ wrote.holds (f.start.holds (closes.told told));
           tells = tells;
-          part = λ w is. part_of (sink_outlook g w k (node_of n)) f.now.end wrote.written (tells w is);
+          part = λ w is. part_of (sink_outlook g w k (graph_node n)) f.now.end wrote.written (tells w is);
           writes = stands_writes f.now.end (drains f.first.drain) (drains f.now.drain) f.law.wrote f.now.count (old.wfaults file) (new.wfaults file) f.law.stands f.start.faults
               (subst (λ (s : DrainState). Grew (old.wfaults file) s.faults (new.wfaults file)) z.1.1 grew);
         }

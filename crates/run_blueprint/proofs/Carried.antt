@@ -16,7 +16,7 @@ use Rattle.stream_model.specs.Outlook.{Outlook, End}
 use Rattle.stream_model.proofs.Compositions.{slice_get-below}
 use Rattle.stage_law.specs.Held.{told}
 use Rattle.stream_picture.specs.Shape.{sent_at}
-use Rattle.run_account.specs.Items.{list_of, standing, AgreesWith}
+use Rattle.run_account.specs.Items.{list_of, end_of_items, AgreesWith}
 use Rattle.run_outlook_laws.specs.Reads.{GivesTexts}
 use Rattle.run_account.proofs.Coming.{elements_told}
 use Rattle.run_account.proofs.Histories.{list_of_told, standing_told}
@@ -24,14 +24,14 @@ use Rattle.blue_core.specs.declared.blueprint.Blueprint.{Blueprint}
 use Rattle.plug_core.specs.declared.head.PlugHead.{PlugHead}
 use Rattle.blue_check.specs.Fitness.{IsFit}
 use Rattle.blue_check.specs.Wires.{blueprint_wires}
-use Rattle.materializer.specs.Graphs.{node_of, graph_of}
+use Rattle.materializer.specs.Graphs.{graph_node, graph_of}
 use Rattle.run_type_laws.specs.Plugs.{KeepsPlugTypes}
 use Rattle.run_type_laws.specs.Sent.{exact, SendsItsType}
 use Rattle.run_type_laws.specs.Types.{AllTyped}
 use Rattle.run_type_laws.proofs.Sending.{exact_agrees}
 use Rattle.run_type_laws.proofs.Settling.{all_by_rank}
 use Rattle.interpreter.specs.Picks.{Pick}
-use Rattle.run_blueprint.specs.Carrying.{Carries}
+use Rattle.run_blueprint.specs.Carrying.{WiresCarry}
 use Rattle.run_blueprint.specs.Choosing.{HasPicks}
 use Rattle.run_blueprint.proofs.Places.{mapped_at, place_of}
 
@@ -46,7 +46,7 @@ pub record IsTold (items : List Item) : Type 0 where
   is : items ≡ told list end
 
 -- as all that may pass
-agrees_exactly : (items : List Item) → IsTold items → AgreesWith (exact (list_of items) (standing items)) items
+agrees_exactly : (items : List Item) → IsTold items → AgreesWith (exact (list_of items) (end_of_items items)) items
 agrees_exactly items t = record { list = t.list; end = t.end; is = t.is; agrees = rw (t.is, list_of_told t.list t.end, standing_told t.list t.end) (exact_agrees t.list t.end) }
 
 -- a source of lines, or none
@@ -64,7 +64,7 @@ module _ (g : Graph) (rank : ℕ → ℕ) (ranked : IsRanked g rank) (w : World)
       → ((name : List ℕ) × (n.kind ≡ Lines name)) ⊎ ((name : List ℕ) → n.kind ≢ Lines name) → IsTold (items j)
   told_on j v n at is below (inl r) = let s = texts j v n r.0 at is r.1 in record { list = map text s.texts; end = s.end; is = s.is }
   told_on j v n at is below (inr other) =
-      let a = gives (λ u. exact (list_of (items u)) (standing (items u))) j v n at is other
+      let a = gives (λ u. exact (list_of (items u)) (end_of_items (items u))) j v n at is other
       (λ u x ux to. agrees_exactly (items u) (below u (slice_get-below g.wires u x ux) (ranked.rises u j x v ux at to))) in
       record { list = a.list; end = a.end; is = a.is }
 
@@ -88,7 +88,7 @@ module _ (book : Book) (b : Blueprint) (wires : List WireCount) (picks : List Pi
   lists u = list_of (items u)
 
   abbrev ends : ℕ → End
-  ends u = standing (items u)
+  ends u = end_of_items (items u)
 
   counted : (i : ℕ) (v : Edge) → slice_get (blueprint_wires b) i ≡ Some v → sent_at wires i ≡ length (lists i)
   counted i v at =
@@ -96,7 +96,7 @@ module _ (book : Book) (b : Blueprint) (wires : List WireCount) (picks : List Pi
       let list : lists i ≡ s.list = ap list_of s.is ∙ list_of_told s.list s.end in
       counts i v at ∙ ap elements s.is ∙ elements_told s.list s.end ∙ ap length (sym list)
 
-  pub carries : Carries book b wires picks
+  pub carries : WiresCarry book b wires picks
   carries = record {
     lists = lists;
     ends = ends;
@@ -106,6 +106,6 @@ module _ (book : Book) (b : Blueprint) (wires : List WireCount) (picks : List Pi
         let list : lists i ≡ s.list = ap list_of s.is ∙ list_of_told s.list s.end in
         (s.carries.type, (s.carries.settles, subst (λ l. AllTyped s.carries.type l) (sym list) s.typed));
     given = λ w same has j v n at is other.
-        let a = gives w same has (λ u. exact (lists u) (ends u)) j v (node_of n) at (mapped_at node_of b.nodes.items v.from n is) other (λ u x ux to. agrees_exactly (items u) (told_there u x ux)) in
+        let a = gives w same has (λ u. exact (lists u) (ends u)) j v (graph_node n) at (mapped_at graph_node b.nodes.items v.from n is) other (λ u x ux to. agrees_exactly (items u) (told_there u x ux)) in
         rw (a.is, list_of_told a.list a.end, standing_told a.list a.end) a.agrees;
   }

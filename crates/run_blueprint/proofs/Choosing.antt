@@ -26,7 +26,7 @@ use Rattle.stage_state.specs.Handling.{StateLaw}
 use Rattle.stage_state.specs.Logics.{BeginsAs}
 use Rattle.stage_state.specs.Moves.{state_picks}
 use Rattle.stage_sub.specs.States as subs
-use Rattle.stage_sub.specs.Handling.{no_moves}
+use Rattle.stage_sub.specs.Handling.{new_log}
 use Rattle.stage_sub.specs.Handling as sub
 use Rattle.line_chain.specs.Line.{Line}
 use Rattle.stage_in.specs.declared.logic.InLogic.{InLogic}
@@ -48,7 +48,7 @@ use Rattle.interpreter.specs.Picks.{Pick, with_picks, picks_of}
 use Rattle.run_outlook_laws.specs.Made.{FirstOf}
 use Rattle.blue_core.specs.declared.blueprint.Node as blue
 use Rattle.blue_rules.specs.Picks.{picks, is_merged}
-use Rattle.materializer.specs.Graphs.{node_of}
+use Rattle.materializer.specs.Graphs.{graph_node}
 use Rattle.run_blueprint.specs.Choosing.{pick_places, picked, HasPicks}
 use Rattle.stream_model.specs.Linear.{Book}
 
@@ -126,7 +126,7 @@ state_chooses k shape d (state.Tripping f) (state.Tripping x) v took gave b law 
 state_chooses k shape d f x v took gave b law = absurd law
 
 -- substreams choose where they are joined as their outputs come
-joined_chooses : (j : Joining) (o : Option (List ℕ)) → sub.ChoosesAs (no_moves j) o → ChoosesAs (is_merged j) o
+joined_chooses : (j : Joining) (o : Option (List ℕ)) → sub.ChoosesAs (new_log j) o → ChoosesAs (is_merged j) o
 joined_chooses joining.Merge (Some ms) c = (ms, refl)
 joined_chooses joining.Merge None c = absurd c
 joined_chooses joining.Concat None c = refl
@@ -175,7 +175,7 @@ sink_free _ h = absurd h
 
 -- a node has chosen exactly where its kind chooses
 pub node_chooses : {S D L B : Type 0} (sources : S → SourceState) (drains : D → DrainState) (book : Book) (chains : List graph.Chain) (k : ℕ) (n : blue.Node) (first now : IslandNode S D L B) (v : View) (took gave : List (List Item))
-    → FirstOf sources chains k (node_of n) first → node_law sources drains book first now v took gave → ChoosesAs (picks n.kind) (node_picks now)
+    → FirstOf sources chains k (graph_node n) first → node_law sources drains book first now v took gave → ChoosesAs (picks n.kind) (node_picks now)
 node_chooses sources drains book chains k n (node.Reading f) (node.Reading x) v took gave made law = no_choice (picks n.kind) None (ap picks made.kind_is) refl
 node_chooses sources drains book chains k n (node.Making f) (node.Making x) v took gave made law = no_choice (picks n.kind) None (maker_free n.kind made.is_maker) refl
 node_chooses sources drains book chains k n (node.Linear f) (node.Linear x) v took gave made law = no_choice (picks n.kind) None (linear_free n.kind made.is_linear) refl

@@ -30,7 +30,7 @@ use Rattle.stream_io.specs.State.{FolderState, SourceState, DrainState}
 use Rattle.stream_io.specs.Reading.{FirstTooLong}
 use Rattle.nodes.specs.Drawing.{ended_lines}
 use Rattle.nodes.specs.Source.{Lines}
-use Rattle.nodes.specs.Sink.{Sink, StandsAs}
+use Rattle.nodes.specs.Sink.{Sink, SinkStandsAs}
 use Rattle.nodes.specs.Ignoring.{Ignorer}
 use Rattle.nodes.specs.declared.node.IslandNode.{IslandNode}
 use Rattle.nodes.specs.declared.node.IslandNode.TheVariants as node
@@ -42,7 +42,7 @@ use Rattle.run_account.specs.Ports.{wire_count}
 use Rattle.run_account.proofs.Coming.{elements_told}
 use Rattle.run_account.proofs.Pictures.{counts_at}
 use Rattle.run_outlook_laws.specs.Runs.{IsRun}
-use Rattle.run_outlook_laws.specs.Telling.{TellsPicks, Tells, AreSettled}
+use Rattle.run_outlook_laws.specs.Telling.{TellsPicks, WorldTells, AreSettled}
 use Rattle.run_outlook_laws.proofs.Choosing.{chosen_told}
 use Rattle.run_outlook_laws.specs.Sinks.{TookList, SinkWrote, SentTo, IsSinkAt, IgnoreTells, IsIgnorerAt}
 use Rattle.run_outlook_laws.specs.Reads.{IsSourceAt, ReadsAhead, SentLines, GivesTexts}
@@ -55,20 +55,20 @@ use Rattle.blue_walks.specs.Forest.{wiring}
 use Rattle.plug_core.specs.declared.head.PlugHead.{PlugHead}
 use Rattle.materializer.specs.Fit.{CanRun}
 use Rattle.materializer.specs.Files.{output_of, inputs_of_nodes, outputs_of_nodes, is_sink}
-use Rattle.materializer.specs.Graphs.{node_of, graph_of, chain_of}
+use Rattle.materializer.specs.Graphs.{graph_node, graph_of, plain_chain}
 use Rattle.run_files.specs.Names.{drain_names}
 use Rattle.run_type_laws.specs.Checked.{PassesRules}
 use Rattle.run_type_laws.specs.Plugs.{KeepsPlugTypes}
 use Rattle.run_type_laws.specs.Sent.{SendsItsType}
-use Rattle.run_blueprint.specs.Carrying.{Carries}
+use Rattle.run_blueprint.specs.Carrying.{WiresCarry}
 use Rattle.run_blueprint.specs.Choosing.{picked}
 use Rattle.run_blueprint.proofs.Carried.{unread, told_sent, carries}
 use Rattle.run_blueprint.specs.Drawing.{Drawn, IsSource, WasRead, IsWorldOf, DrawsFirst}
-use Rattle.island_runs.specs.Leaving.{Moment, Leaves, HasAsMany}
+use Rattle.island_runs.specs.Leaving.{Moment, RunLeaves, HasAsMany}
 use Rattle.run_blueprint.specs.Opening.{Opens}
 use Rattle.run_blueprint.specs.Tracing.{IsApart, Traces}
 use Rattle.run_blueprint.specs.Sending.{SentOn}
-use Rattle.run_blueprint.specs.Running.{SinkLeaves, IgnoreLeaves, LeavesFiles, WritesOf, Runs}
+use Rattle.run_blueprint.specs.Running.{SinkLeaves, IgnoreLeaves, LeavesFiles, FailedWritesOf, Runs}
 use Rattle.run_blueprint.specs.Stands.{SinkStand, has_ended_at, is_write_fault, is_unended}
 use Rattle.bodies_run.specs.Counts.{all_sent}
 use Rattle.run_blueprint.specs.Units.{Pays}
@@ -90,10 +90,10 @@ use Rattle.stream_model.specs.Linear.{Book}
 -- ---- the wires' counts
 
 -- the count of a wire in a picture is what was sent at its output
-sent_there : {N : Type 0} (a : Account N) (g : Graph) (u : ℕ) (v : Edge) → slice_get g.wires u ≡ Some v → sent_at (pictures.counts_of a g) u ≡ elements (a.near u).wire.sent
+sent_there : {N : Type 0} (a : Account N) (g : Graph) (u : ℕ) (v : Edge) → slice_get g.wires u ≡ Some v → sent_at (pictures.picture_counts a g) u ≡ elements (a.near u).wire.sent
 sent_there a g u v at =
     let place : 0 + u ≡ u = omega arith in
-    let there : slice_get (pictures.counts_of a g) u ≡ Some (wire_count v.lane (a.near u) (a.asked u)) = subst (λ (k : ℕ). slice_get (pictures.counts_of a g) u ≡ Some (wire_count v.lane (a.near k) (a.asked k))) place (counts_at a 0 g.wires u v at) in
+    let there : slice_get (pictures.picture_counts a g) u ≡ Some (wire_count v.lane (a.near u) (a.asked u)) = subst (λ (k : ℕ). slice_get (pictures.picture_counts a g) u ≡ Some (wire_count v.lane (a.near k) (a.asked k))) place (counts_at a 0 g.wires u v at) in
     ap (λ (o : Option WireCount). elim o as (λ _. ℕ) [ Some c ↦ c.sent | None ↦ 0 ]) there
 
 -- a picture has a count for each wire
@@ -104,13 +104,13 @@ counts_many a i (v ∷ vs) = ap suc (counts_many a (i + 1) vs)
 -- ---- the drain of a sink
 
 -- what the drain counted is added to the folder's count
-pub stands_writes : (e : EndState) (s t : DrainState) (wrote : List Tree) (n old new : ℕ) → StandsAs e s t wrote n → s.faults ≡ 0 → Grew old t.faults new → WritesOf e old new
+pub stands_writes : (e : EndState) (s t : DrainState) (wrote : List Tree) (n old new : ℕ) → SinkStandsAs e s t wrote n → s.faults ≡ 0 → Grew old t.faults new → FailedWritesOf e old new
 stands_writes Unended s t wrote n old new h none grew = subst (λ k. Grew old k new) (h.faults ∙ none) grew
 stands_writes Ended s t wrote n old new h none grew = subst (λ k. Grew old k new) (h.faults ∙ none) grew
 stands_writes (Failed c) s t wrote n old new h none grew = subst (λ k. Grew old k new) (h.faults ∙ none) grew
 stands_writes WriteFault s t wrote n old new h none grew = rose_by old t.faults new grew (rose_from_none s.faults t.faults none h.faults)
 
-calm_write : (e : EndState) (old new : ℕ) → is_write_fault e ≡ false → WritesOf e old new → Grew old 0 new
+calm_write : (e : EndState) (old new : ℕ) → is_write_fault e ≡ false → FailedWritesOf e old new → Grew old 0 new
 calm_write Unended old new h w = w
 calm_write Ended old new h w = w
 calm_write (Failed c) old new h w = w
@@ -196,7 +196,7 @@ module _ {S D : Type 0} (L B : Type 0) (sources : S → SourceState) (drains : D
       → (k : ℕ) (n : graph.Node) (first now : Sink D) → slice_get g.nodes k ≡ Some n → IsSinkAt a k first now → SinkWrote sources drains book g a k n first now
 
   abbrev TookLaw : Type 0
-  TookLaw = (g : Graph) (w : World) (rank : ℕ → ℕ) (a : Account (IslandNode S D L B)) → IsRun sources drains w.book g a → Tells sources g w a → IsRanked g rank
+  TookLaw = (g : Graph) (w : World) (rank : ℕ → ℕ) (a : Account (IslandNode S D L B)) → IsRun sources drains w.book g a → WorldTells sources g w a → IsRanked g rank
       → (k : ℕ) (n : graph.Node) (name : List ℕ) (first now : Sink D) → slice_get g.nodes k ≡ Some n → n.kind ≡ kind.ToLines name → IsSinkAt a k first now → TookList (sink_outlook g w k n) now.end (took g a k n)
 
   abbrev SentLaw : Type 0
@@ -216,23 +216,23 @@ module _ {S D : Type 0} (L B : Type 0) (sources : S → SourceState) (drains : D
 
   abbrev LawfulLaw : Type 0
   LawfulLaw = (g : Graph) (w : World) (rank : ℕ → ℕ) (a : Account (IslandNode S D L B)) → IsRun sources drains w.book g a → AreSettled g a
-      → Tells sources g w a → IsRanked g rank → IsLawful g w (pictures.counts_of a g) (composed g w)
+      → WorldTells sources g w a → IsRanked g rank → IsLawful g w (pictures.picture_counts a g) (composed g w)
 
   abbrev RestsLaw : Type 0
   RestsLaw = (g : Graph) (w : World) (rank : ℕ → ℕ) (a : Account (IslandNode S D L B)) → IsRun sources drains w.book g a → IsStill g a
-      → Tells sources g w a → IsRanked g rank → Rests g w (pictures.counts_of a g) (composed g w)
+      → WorldTells sources g w a → IsRanked g rank → Rests g w (pictures.picture_counts a g) (composed g w)
 
   abbrev MovesLaw : Type 0
   MovesLaw = (g : Graph) (w : World) (rank : ℕ → ℕ) (a : Account (IslandNode S D L B)) → IsRun sources drains w.book g a → AreSettled g a
-      → Tells sources g w a → IsRanked g rank → Fits g w
+      → WorldTells sources g w a → IsRanked g rank → Fits g w
 
   abbrev MatchLaw : Type 0
   MatchLaw = (g : Graph) (w : World) (a : Account (IslandNode S D L B)) (outlook : ℕ → Outlook) → IsRun sources drains book g a → IsStill g a
-      → SinksMatch g w (pictures.counts_of a g) outlook (λ k. ended_there (a.nodes k))
+      → SinksMatch g w (pictures.picture_counts a g) outlook (λ k. ended_there (a.nodes k))
 
   abbrev AgreeLaw : Type 0
   AgreeLaw = (g : Graph) (w : World) (rank : ℕ → ℕ) (a : Account (IslandNode S D L B)) → IsRun sources drains w.book g a
-      → Tells sources g w a → IsRanked g rank → (i : ℕ) → i < length g.wires → AgreesWith (composed g w i) (a.near i).wire.sent
+      → WorldTells sources g w a → IsRanked g rank → (i : ℕ) → i < length g.wires → AgreesWith (composed g w i) (a.near i).wire.sent
 
   abbrev TreesLaw : Type 0
   TreesLaw = (g : Graph) (w : World) (counts : List WireCount) (outlook : ℕ → Outlook) → IsWired g counts → Rests g w counts outlook → IsPolytree g → (ended : ℕ → Bool) → SinksMatch g w counts outlook ended
@@ -243,7 +243,7 @@ module _ {S D : Type 0} (L B : Type 0) (sources : S → SourceState) (drains : D
       → (k : ℕ) (n : graph.Node) → slice_get g.nodes k ≡ Some n → n.kind ≡ kind.Ignore → (first : Ignorer) × ((now : Ignorer) × IsIgnorerAt a k first now)
 
   abbrev FitsLaw : Type 0
-  FitsLaw = (b : Blueprint) (plugs : List PlugHead) (taken : List (List ℕ)) (g : Graph) → IsFit b plugs taken → g.nodes ≡ map node_of b.nodes.items → g.wires ≡ blueprint_wires b → g.chains ≡ map chain_of b.chains.items
+  FitsLaw = (b : Blueprint) (plugs : List PlugHead) (taken : List (List ℕ)) (g : Graph) → IsFit b plugs taken → g.nodes ≡ map graph_node b.nodes.items → g.wires ≡ blueprint_wires b → g.chains ≡ map plain_chain b.chains.items
       → PassesRules plugs b.chains.items b.nodes.items g
 
   abbrev TypesLaw : Type 0
@@ -281,7 +281,7 @@ module _ {S D : Type 0} (L B : Type 0) (sources : S → SourceState) (drains : D
 
 -- ---- what a run leaves
 
-module _ {S D L B : Type 0} (sources : S → SourceState) (drains : D → DrainState) (book : Book) (handles : HandleLaws L B sources drains book) (laws : RunLaws L B sources drains book) (b : Blueprint) (can : CanRun b) (ss : List S) (ds : List D) (budget : ℕ) (st : Stopped S D) (l : Leaves L B sources drains book b ss ds budget st)
+module _ {S D L B : Type 0} (sources : S → SourceState) (drains : D → DrainState) (book : Book) (handles : HandleLaws L B sources drains book) (laws : RunLaws L B sources drains book) (b : Blueprint) (can : CanRun b) (ss : List S) (ds : List D) (budget : ℕ) (st : Stopped S D) (l : RunLeaves L B sources drains book b ss ds budget st)
     (old mid : FolderState) (trace : Option (List ℕ)) (separate : IsApart b trace) (opens : Opens old mid (inputs_of_nodes b.nodes.items) (outputs_of_nodes b.nodes.items) (option_to_list trace) (map sources ss) (map drains ds)) (new : FolderState)
     (closes : Shuts mid new (option_to_list trace) (map sources st.end.readers.items) (map drains st.end.writers.items)) where
   abbrev nodes : List blue.Node
@@ -353,7 +353,7 @@ module _ {S D L B : Type 0} (sources : S → SourceState) (drains : D → DrainS
   settled : AreSettled g left
   settled = l.settled
 
-  wires_are : st.wires.items ≡ pictures.counts_of left g
+  wires_are : st.wires.items ≡ pictures.picture_counts left g
   wires_are = l.wires
 
   wire_count_at : (u : ℕ) (v : Edge) → slice_get (blueprint_wires b) u ≡ Some v → sent_at st.wires.items u ≡ elements (left.near u).wire.sent
@@ -389,7 +389,7 @@ module _ {S D L B : Type 0} (sources : S → SourceState) (drains : D → DrainS
       let here : slice_get nodes s.0 ≡ Some m.0 = subst (λ j. slice_get nodes j ≡ Some m.0) (sym place) m.1 in
       let found : slice_get last s.0 ≡ Some from.1.0 = subst (λ j. slice_get last j ≡ Some from.1.0) (sym place) from.1.1.0 in
       let shape : oneway.is_sink m.0.kind ≡ true = (profile from.0 m.0 from.1.0 m.1 from.1.1.0).sink s from.1.1.1 in
-      let input = run.joined.each_input s.0 (node_of m.0) 0 (mapped_at node_of nodes s.0 m.0 here) (sink_input m.0.kind shape) in
+      let input = run.joined.each_input s.0 (graph_node m.0) 0 (mapped_at graph_node nodes s.0 m.0 here) (sink_input m.0.kind shape) in
       let wire = found_first (λ w. w.to) (λ w. w.input) s.0 0 (blueprint_wires b) input.0 input.1 in
       record {
         node = m.0;
@@ -444,7 +444,7 @@ module _ {S D L B : Type 0} (sources : S → SourceState) (drains : D → DrainS
           reads_of sources drains book handles b can ss ds left last between old mid opens tells_was k file f new (drawn.given k) (subst (λ n. Grew (old.read file) n (new.read file)) (sym given) read) faults
 
     -- the world tells of every source
-    world_tells : (w : World) → IsWorldOf book nodes drawn w → Tells sources g w left
+    world_tells : (w : World) → IsWorldOf book nodes drawn w → WorldTells sources g w left
     world_tells w is = drew.tells w is
 
     -- what was sent on each wire may pass
@@ -460,11 +460,11 @@ module _ {S D L B : Type 0} (sources : S → SourceState) (drains : D → DrainS
 
     -- a sink's file
     module _ (k : ℕ) (n : blue.Node) (file : List ℕ) (at : slice_get nodes k ≡ Some n) (f : ASink k file) where
-      at_graph : slice_get g.nodes k ≡ Some (node_of n)
-      at_graph = mapped_at node_of nodes k n at
+      at_graph : slice_get g.nodes k ≡ Some (graph_node n)
+      at_graph = mapped_at graph_node nodes k n at
 
-      wrote : SinkWrote sources drains book g left k (node_of n) f.first f.now
-      wrote = laws.wrote g left run k (node_of n) f.first f.now at_graph f.there
+      wrote : SinkWrote sources drains book g left k (graph_node n) f.first f.now
+      wrote = laws.wrote g left run k (graph_node n) f.first f.now at_graph f.there
 
       sink_leaves : SinkLeaves book new b drawn st.wires.items st.at_rest k n file f.now.count f.now.end
       sink_leaves = record {
@@ -474,20 +474,20 @@ module _ {S D L B : Type 0} (sources : S → SourceState) (drains : D → DrainS
         lines_are = wrote.lines_are;
         sent = λ shape u v at to.
             let ranked = laws.ranked b can.plugs can.taken can.fit in
-            let list = laws.took g world ranked.0 left (run_at world has_files.book_is) (world_tells world has_files) ranked.1 k (node_of n) file f.first f.now at_graph shape f.there in
+            let list = laws.took g world ranked.0 left (run_at world has_files.book_is) (world_tells world has_files) ranked.1 k (graph_node n) file f.first f.now at_graph shape f.there in
             subst (λ (m : ℕ). SentOn v.lane f.now.end m f.now.count) (sym (wire_count_at u v at))
-            (sink_sent sources drains book g left run u v at (composed g world u) (sent_agrees u v at world has_files) k (node_of n) at_graph (ap inputs_of shape) to f.now.end (sink_outlook g world k (node_of n)) list f.now.count
-            (laws.sent g left run k (node_of n) file f.first f.now u v at_graph shape f.there at to));
+            (sink_sent sources drains book g left run u v at (composed g world u) (sent_agrees u v at world has_files) k (graph_node n) at_graph (ap inputs_of shape) to f.now.end (sink_outlook g world k (graph_node n)) list f.now.count
+            (laws.sent g left run k (graph_node n) file f.first f.now u v at_graph shape f.there at to));
         rests = λ shape rest unended u v at to.
-            wire_count_at u v at ∙ sink_rests sources drains book g left run u v at (composed g world u) (sent_agrees u v at world has_files) k (node_of n) at_graph (ap inputs_of shape) to f.first f.now f.there (still rest) unended
-            ∙ laws.rest g left run k (node_of n) file f.first f.now u v at_graph shape f.there at to (still rest) unended;
+            wire_count_at u v at ∙ sink_rests sources drains book g left run u v at (composed g world u) (sent_agrees u v at world has_files) k (graph_node n) at_graph (ap inputs_of shape) to f.first f.now f.there (still rest) unended
+            ∙ laws.rest g left run k (graph_node n) file f.first f.now u v at_graph shape f.there at to (still rest) unended;
       }
 
     -- a sink without a file
     ignore_leaves : (i : ℕ) (s : SinkStand) (n : blue.Node) → slice_get st.end.sinks.items i ≡ Some s → slice_get nodes s.0 ≡ Some n → n.kind ≡ kind.Ignore → IgnoreLeaves book b drawn st.wires.items s.0 n s.1 s.2
     ignore_leaves i s n at here shape =
-        let at_graph : slice_get g.nodes s.0 ≡ Some (node_of n) = mapped_at node_of nodes s.0 n here in
-        let there = laws.ignorer g left run s.0 (node_of n) at_graph shape in
+        let at_graph : slice_get g.nodes s.0 ≡ Some (graph_node n) = mapped_at graph_node nodes s.0 n here in
+        let there = laws.ignorer g left run s.0 (graph_node n) at_graph shape in
         let now = there.1.0 in
         let among : slice_get (filter_map stand_in last) i ≡ Some s = subst (λ (x : List SinkStand). slice_get x i ≡ Some s) (l.sinks ∙ sinks_filtered last) at in
         let from = unfiltered_at stand_in last i s among in
@@ -501,14 +501,14 @@ module _ {S D L B : Type 0} (sources : S → SourceState) (drains : D → DrainS
         record {
           none = ap (λ (t : SinkStand). t.1) (sym same);
           tells = λ w is_world u v wire to.
-              subst (λ (e : EndState). IgnoreTells (sink_outlook g w s.0 (node_of n)) e (sent_at st.wires.items u)) (ap (λ (t : SinkStand). t.2) same)
-              (subst (λ (c : ℕ). IgnoreTells (sink_outlook g w s.0 (node_of n)) now.end c) (sym (wire_count_at u v wire))
-              (ignorer_told sources drains book g left run u v wire w (sent_agrees u v wire w is_world) s.0 (node_of n) at_graph shape to there.0 now there.1.1));
+              subst (λ (e : EndState). IgnoreTells (sink_outlook g w s.0 (graph_node n)) e (sent_at st.wires.items u)) (ap (λ (t : SinkStand). t.2) same)
+              (subst (λ (c : ℕ). IgnoreTells (sink_outlook g w s.0 (graph_node n)) now.end c) (sym (wire_count_at u v wire))
+              (ignorer_told sources drains book g left run u v wire w (sent_agrees u v wire w is_world) s.0 (graph_node n) at_graph shape to there.0 now there.1.1));
         }
 
     -- the picture of the run
     abbrev picture : List WireCount
-    picture = pictures.counts_of left g
+    picture = pictures.picture_counts left g
 
     picture_wired : IsWired g picture
     picture_wired =
@@ -528,10 +528,10 @@ module _ {S D L B : Type 0} (sources : S → SourceState) (drains : D → DrainS
         let ranked = laws.ranked b can.plugs can.taken can.fit in
         none_unended st.end.sinks.items (λ i s at.
         let h = sink_here i s at in
-        let n : slice_get g.nodes h.is.to ≡ Some (node_of h.node) = subst (λ j. slice_get g.nodes j ≡ Some (node_of h.node)) (sym h.to) (mapped_at node_of nodes s.0 h.node h.at) in
+        let n : slice_get g.nodes h.is.to ≡ Some (graph_node h.node) = subst (λ j. slice_get g.nodes j ≡ Some (graph_node h.node)) (sym h.to) (mapped_at graph_node nodes s.0 h.node h.at) in
         let over : ended_there (left.nodes h.is.to) ≡ true =
         laws.trees g world picture (composed g world) picture_wired (laws.rests g world ranked.0 left (run_at world has_files.book_is) (still rest) (world_tells world has_files) ranked.1) (tree_by_wires g tree)
-        (λ k. ended_there (left.nodes k)) (laws.match g world left (composed g world) run (still rest)) h.wire h.is (node_of h.node) h.there n h.shape in
+        (λ k. ended_there (left.nodes k)) (laws.match g world left (composed g world) run (still rest)) h.wire h.is (graph_node h.node) h.there n h.shape in
         ended_goes s.2 (sym h.ended ∙ ap (λ (k : ℕ). ended_there (left.nodes k)) (sym h.to) ∙ over))
 
     needed : (w : World) → IsWorldOf book nodes drawn w → count_needed g st.wires.items ≤ need g (composed g w)
@@ -564,12 +564,12 @@ module _ {S D L B : Type 0} (sources : S → SourceState) (drains : D → DrainS
               let f = source_at k file is in
               let d = drew.source k file f in
               let told = draws_told d.bytes (sources f.first.reader.source) (sources f.now.reader.source) (left.near u).wire.sent (sent_at st.wires.items u) f.start.faults (wire_count_at u v at)
-              (laws.reads g left run k (node_of is.node) f.first f.now u v d.bytes (mapped_at node_of nodes k is.node is.at) f.there at from d.whole) in
+              (laws.reads g left run k (graph_node is.node) f.first f.now u v d.bytes (mapped_at graph_node nodes k is.node is.at) f.there at from d.whole) in
               rw (d.drawn_bytes, d.given, d.faulted) told;
           lawful = λ w is. subst (λ (c : List WireCount). IsLawful g w c (composed g w)) (sym wires_are) (laws.lawful g w ranked.0 left (run_at w is.book_is) settled (world_tells w is) ranked.1);
           rest = λ rest w is. subst (λ (c : List WireCount). Rests g w c (composed g w)) (sym wires_are) (laws.rests g w ranked.0 left (run_at w is.book_is) (still rest) (world_tells w is) ranked.1);
           matching = λ rest w k n at is.
-              let m = unmapped_at node_of nodes k n at in
+              let m = unmapped_at graph_node nodes k n at in
               let shape : oneway.is_sink m.0.kind ≡ true = ap (λ (x : graph.Node). oneway.is_sink x.kind) (sym m.1.1) ∙ is in
               let below : k < length last = subst (λ j. k < j) (as_many sources drains book handles b ss ds left last between old mid opens) (place_within nodes k m.0 m.1.0) in
               let x = place_of last k below in
@@ -579,7 +579,7 @@ module _ {S D L B : Type 0} (sources : S → SourceState) (drains : D → DrainS
               let ended : ended_there (left.nodes k) ≡ has_ended_at st.end.sinks.items k =
               ended_as (left.nodes k) x.0 stand.0 (between.node_at k ∙ x.1) stand.1.0 ∙ sym by_place ∙ ap (λ (y : List SinkStand). has_ended_at y k) (sym (l.sinks ∙ sinks_filtered last)) in
               subst (λ (c : List WireCount). EachWire (λ i. i.shut ≡ has_ended_at st.end.sinks.items k) (ins g c (composed g w) k n.kind)) (sym wires_are)
-              (subst (λ (e : Bool). EachWire (λ i. i.shut ≡ e) (ins g (pictures.counts_of left g) (composed g w) k n.kind)) ended
+              (subst (λ (e : Bool). EachWire (λ i. i.shut ≡ e) (ins g (pictures.picture_counts left g) (composed g w) k n.kind)) ended
               (laws.match g w left (composed g w) run (still rest) k n at is));
         }
 
@@ -617,7 +617,7 @@ module _ {S D L B : Type 0} (sources : S → SourceState) (drains : D → DrainS
   moved = made_moves sources drains book handles b can ss ds left last between old mid opens
 
   -- what passed each wire is a list, of its type where the plugs keep to theirs
-  carried : Carries book b st.wires.items drawn.picks
+  carried : WiresCarry book b st.wires.items drawn.picks
   carried =
       let ranks = laws.ranked b can.plugs can.taken can.fit in
       let chosen = chosen_told book (unread book moved).file left in
@@ -647,7 +647,7 @@ module _ {S D L B : Type 0} (sources : S → SourceState) (drains : D → DrainS
     writes = λ i s n file at here shape.
         let found = stand_of i s n file (subst (λ (x : List SinkStand). slice_get x i ≡ Some s) sinks at) here shape in
         let f = found.0 in
-        subst (λ (t : SinkStand). WritesOf t.2 (old.wfaults file) (new.wfaults file)) (sym found.1)
+        subst (λ (t : SinkStand). FailedWritesOf t.2 (old.wfaults file) (new.wfaults file)) (sym found.1)
         (stands_writes f.now.end (drains f.first.drain) (drains f.now.drain) f.law.wrote f.now.count (old.wfaults file) (new.wfaults file) f.law.stands f.start.faults (sink_writes s.0 file f));
     faults = λ i s at fault.
         let among : slice_get (filter_map stand_in last) i ≡ Some s = subst (λ (x : List SinkStand). slice_get x i ≡ Some s) (sinks ∙ l.sinks ∙ sinks_filtered last) at in
@@ -664,7 +664,7 @@ module _ {S D L B : Type 0} (sources : S → SourceState) (drains : D → DrainS
         record {
           file = shape.0;
           output = contains_at (outputs_of_nodes nodes) file.0 shape.0 file.1;
-          rose = subst (λ (e : EndState). WritesOf e (old.wfaults shape.0) (new.wfaults shape.0)) failed
+          rose = subst (λ (e : EndState). FailedWritesOf e (old.wfaults shape.0) (new.wfaults shape.0)) failed
               (stands_writes f.now.end (drains f.first.drain) (drains f.now.drain) f.law.wrote f.now.count (old.wfaults shape.0) (new.wfaults shape.0) f.law.stands f.start.faults (sink_writes from.0 shape.0 f));
         };
     calm = λ none calm. calm_writes (λ i s at. none i s (subst (λ (x : List SinkStand). slice_get x i ≡ Some s) (sym sinks) at)) (calm_trace old new b trace _ ran.trace_failed (traced_so ran traced) calm);

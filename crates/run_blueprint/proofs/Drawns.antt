@@ -13,13 +13,13 @@ use Rattle.nodes.specs.declared.node.IslandNode.{IslandNode}
 use Rattle.nodes.specs.declared.node.IslandNode.TheVariants as node
 use Rattle.run_account.specs.Account.{Account}
 use Rattle.interpreter.specs.Picks.{picks_of}
-use Rattle.run_outlook_laws.specs.Telling.{TellsFile, TellsNode, TellsFiles, TellsPicks, Tells, moves_at}
+use Rattle.run_outlook_laws.specs.Telling.{TellsFile, TellsNode, TellsFiles, TellsPicks, WorldTells, moves_at}
 use Rattle.blue_core.specs.declared.blueprint.Blueprint.{Blueprint}
 use Rattle.blue_rules.specs.Names.{file_of}
 use Rattle.blue_core.specs.declared.blueprint.Node as blue
 use Rattle.materializer.specs.Fit.{CanRun}
 use Rattle.materializer.specs.Files.{inputs_of_nodes, outputs_of_nodes}
-use Rattle.materializer.specs.Graphs.{node_of, graph_of, chains_of}
+use Rattle.materializer.specs.Graphs.{graph_node, graph_of, chains_of}
 use Rattle.run_blueprint.specs.Choosing.{pick_places, picked, HasPicks}
 use Rattle.run_blueprint.specs.Opening.{Opens}
 use Rattle.run_blueprint.specs.Drawing.{Drawn, IsSource, WasRead, IsWorldOf}
@@ -108,7 +108,7 @@ module _ {S D L B : Type 0} (sources : S → SourceState) (drains : D → DrainS
   -- the same of every source; and a world that has the files as they were read tells of them
   pub record Draws : Type 0 where
     pub source : (k : ℕ) (file : List ℕ) (f : Source k file) → DrawsOf k file f
-    pub tells : (w : World) → IsWorldOf book nodes drawn w → Tells sources (graph_of b) w left
+    pub tells : (w : World) → IsWorldOf book nodes drawn w → WorldTells sources (graph_of b) w left
     pub has_files : IsWorldOf book nodes drawn (world_of book nodes drawn made_moves)
 
   module _ (tells_was : IsTrue old.tells) where
@@ -148,7 +148,7 @@ module _ {S D L B : Type 0} (sources : S → SourceState) (drains : D → DrainS
 
     files_told : (w : World) → IsWorldOf book nodes drawn w → TellsFiles sources (graph_of b) w left
     files_told w is k n first now gi fi ni = tells_node sources w n first now (λ a c name fa nc shape.
-        let m = unmapped_at node_of nodes k n gi in
+        let m = unmapped_at graph_node nodes k n gi in
         let place : IsSource nodes k name = record { node = m.0; at = m.1.0; kind_is = ap (λ (x : graph.Node). x.kind) (sym m.1.1) ∙ shape } in
         let f = source_facts sources drains book handles b ss ds left last l old mid opens k name place in
         let first_is : f.first ≡ a = reading_same f.first a first (one_node first (node.Reading f.first) fi f.there.at_first) fa in
@@ -156,7 +156,7 @@ module _ {S D L B : Type 0} (sources : S → SourceState) (drains : D → DrainS
         subst (λ (x : Lines S). TellsFile (sources x.reader.source) (sources c.reader.source) (w.file name)) first_is
         (subst (λ (x : Lines S). TellsFile (sources f.first.reader.source) (sources x.reader.source) (w.file name)) now_is (file_told k name f w (is.files k name place))))
 
-    world_tells : (w : World) → IsWorldOf book nodes drawn w → Tells sources (graph_of b) w left
+    world_tells : (w : World) → IsWorldOf book nodes drawn w → WorldTells sources (graph_of b) w left
     world_tells w is = record { files = files_told w is; picks = picks_told w is.moves }
 
     pub draws_all : Draws

@@ -26,8 +26,8 @@ use Rattle.run_outlook_laws.specs.Reads.{IsSourceAt}
 use Rattle.blue_core.specs.declared.blueprint.Blueprint.{Blueprint}
 use Rattle.blue_core.specs.declared.blueprint.Node as blue
 use Rattle.materializer.specs.Files.{output_of, inputs_of_nodes, outputs_of_nodes, is_sink}
-use Rattle.materializer.specs.Graphs.{node_of, graph_of, chains_of}
-use Rattle.materializer.specs.Handed.{ReadsFile, WritesFile}
+use Rattle.materializer.specs.Graphs.{graph_node, graph_of, chains_of}
+use Rattle.materializer.specs.Handed.{ReadsSourceFile, WritesFile}
 use Rattle.materializer.specs.Seats.{AreSeats}
 use Rattle.run_files.specs.Names.{source_names, drain_names}
 use Rattle.run_files.specs.Opening.{AtStart, HoldsNone}
@@ -50,7 +50,7 @@ pub record IsSinkInto (nodes : List blue.Node) (k : ℕ) (file : List ℕ) : Typ
 module _ {S D : Type 0} (L B : Type 0) (sources : S → SourceState) (drains : D → DrainState) (book : Book) where
   abbrev pub SourcesLaw : Type 0
   SourcesLaw = (chains : List graph.Chain) (nodes : List blue.Node) (ss : List S) (ds : List D) (places : List (Seated S D L B)) (firsts : List (IslandNode S D L B)) → AreSeats chains 0 nodes ss ds places → AllBecome places firsts
-      → (k : ℕ) (n : blue.Node) (name : List ℕ) → slice_get nodes k ≡ Some n → n.kind ≡ kind.Lines name → ReadsFile (inputs_of_nodes nodes) ss firsts k name
+      → (k : ℕ) (n : blue.Node) (name : List ℕ) → slice_get nodes k ≡ Some n → n.kind ≡ kind.Lines name → ReadsSourceFile (inputs_of_nodes nodes) ss firsts k name
 
   abbrev pub DrainsLaw : Type 0
   DrainsLaw = (chains : List graph.Chain) (nodes : List blue.Node) (ss : List S) (ds : List D) (places : List (Seated S D L B)) (firsts : List (IslandNode S D L B)) → AreSeats chains 0 nodes ss ds places → AllBecome places firsts
@@ -104,7 +104,7 @@ module _ {S D L B : Type 0} (sources : S → SourceState) (drains : D → DrainS
   -- node k, as it was handed in: as the blueprint names it; and its law
   pub record NodeFacts (k : ℕ) (n : blue.Node) (x : IslandNode S D L B) : Type 0 where
     pub first : IslandNode S D L B
-    pub made : FirstOf sources (chains_of b) k (node_of n) first
+    pub made : FirstOf sources (chains_of b) k (graph_node n) first
     pub knew : View
     pub came : List (List Item)
     pub went : List (List Item)
@@ -112,16 +112,16 @@ module _ {S D L B : Type 0} (sources : S → SourceState) (drains : D → DrainS
 
   pub node_facts : (k : ℕ) (n : blue.Node) (x : IslandNode S D L B) → slice_get nodes k ≡ Some n → slice_get last k ≡ Some x → NodeFacts k n x
   node_facts k n x at here =
-      let there : slice_get (graph_of b).nodes k ≡ Some (node_of n) = mapped_at node_of nodes k n at in
-      let m = l.run.keeps.each_node k (node_of n) there in
+      let there : slice_get (graph_of b).nodes k ≡ Some (graph_node n) = mapped_at graph_node nodes k n at in
+      let m = l.run.keeps.each_node k (graph_node n) there in
       let same : m.now ≡ x = some_one m.now x (sym m.now_at ∙ l.node_at k ∙ here) in
       record {
         first = m.first;
-        made = l.run.made k (node_of n) m.first there m.first_at;
-        knew = knows (graph_of b) left k (node_of n);
-        came = took (graph_of b) left k (node_of n);
-        went = gave (graph_of b) left k (node_of n);
-        law = subst (λ (y : IslandNode S D L B). node_law sources drains book m.first y (knows (graph_of b) left k (node_of n)) (took (graph_of b) left k (node_of n)) (gave (graph_of b) left k (node_of n))) same m.law_holds;
+        made = l.run.made k (graph_node n) m.first there m.first_at;
+        knew = knows (graph_of b) left k (graph_node n);
+        came = took (graph_of b) left k (graph_node n);
+        went = gave (graph_of b) left k (graph_node n);
+        law = subst (λ (y : IslandNode S D L B). node_law sources drains book m.first y (knows (graph_of b) left k (graph_node n)) (took (graph_of b) left k (graph_node n)) (gave (graph_of b) left k (graph_node n))) same m.law_holds;
       }
 
   -- a source, as it was handed in and now
@@ -139,12 +139,12 @@ module _ {S D L B : Type 0} (sources : S → SourceState) (drains : D → DrainS
 
   pub source_facts : (k : ℕ) (file : List ℕ) → IsSource nodes k file → SourceFacts k file
   source_facts k file is =
-      let in_graph : slice_get (graph_of b).nodes k ≡ Some (node_of is.node) = mapped_at node_of nodes k is.node is.at in
-      let there = laws.source_there (graph_of b) left l.run k (node_of is.node) file in_graph is.kind_is in
+      let in_graph : slice_get (graph_of b).nodes k ≡ Some (graph_node is.node) = mapped_at graph_node nodes k is.node is.at in
+      let there = laws.source_there (graph_of b) left l.run k (graph_node is.node) file in_graph is.kind_is in
       let handed = laws.reads_law (chains_of b) nodes ss ds l.places l.firsts l.seats l.become k is.node file is.at is.kind_is in
       let first_at : left.firsts k ≡ Some (node.Reading handed.first) = l.first_at k ∙ handed.at in
       let last_at : left.nodes k ≡ Some (node.Reading there.1.0) = there.1.1.at_last in
-      let kept = kept_as node_port_state (node_law sources drains book) node_asking node_moves (graph_of b) left l.run.keeps k (node_of is.node) (node.Reading handed.first) (node.Reading there.1.0) in_graph first_at last_at in
+      let kept = kept_as node_port_state (node_law sources drains book) node_asking node_moves (graph_of b) left l.run.keeps k (graph_node is.node) (node.Reading handed.first) (node.Reading there.1.0) in_graph first_at last_at in
       let state : slice_get (map sources ss) handed.place ≡ Some (sources handed.first.reader.source) = mapped_at sources ss handed.place handed.first.reader.source handed.source in
       let called : slice_get (source_names (map sources ss)) handed.place ≡ Some (sources handed.first.reader.source).name = mapped_at (λ (i : SourceState). i.name) (map sources ss) handed.place (sources handed.first.reader.source) state in
       let filed : slice_get (inputs_of_nodes nodes) handed.place ≡ Some (sources handed.first.reader.source).name = subst (λ (x : List (List ℕ)). slice_get x handed.place ≡ Some (sources handed.first.reader.source).name) opens.input_names called in
@@ -155,9 +155,9 @@ module _ {S D L B : Type 0} (sources : S → SourceState) (drains : D → DrainS
         at = sym (l.node_at k) ∙ last_at;
         start = all_at (AtStart old) (map sources ss) handed.place (sources handed.first.reader.source) opens.sources state;
         first_named = place_one (inputs_of_nodes nodes) handed.place (sources handed.first.reader.source).name file filed handed.file;
-        knew = knows (graph_of b) left k (node_of is.node);
-        came = took (graph_of b) left k (node_of is.node);
-        went = gave (graph_of b) left k (node_of is.node);
+        knew = knows (graph_of b) left k (graph_node is.node);
+        came = took (graph_of b) left k (graph_node is.node);
+        went = gave (graph_of b) left k (graph_node is.node);
         law = kept.law_holds;
       }
 
@@ -177,13 +177,13 @@ module _ {S D L B : Type 0} (sources : S → SourceState) (drains : D → DrainS
 
   pub sink_facts : (k : ℕ) (file : List ℕ) → IsSinkInto nodes k file → SinkFacts k file
   sink_facts k file is =
-      let in_graph : slice_get (graph_of b).nodes k ≡ Some (node_of is.node) = mapped_at node_of nodes k is.node is.at in
-      let there = laws.sink_there (graph_of b) left l.run k (node_of is.node) in_graph (writes_file is.node.kind file is.file_is) in
+      let in_graph : slice_get (graph_of b).nodes k ≡ Some (graph_node is.node) = mapped_at graph_node nodes k is.node is.at in
+      let there = laws.sink_there (graph_of b) left l.run k (graph_node is.node) in_graph (writes_file is.node.kind file is.file_is) in
       let handed = laws.writes_law (chains_of b) nodes ss ds l.places l.firsts l.seats l.become k is.node file is.at is.file_is in
       let first_at : left.firsts k ≡ Some (node.Writing handed.first) = l.first_at k ∙ handed.at in
       let last_at : left.nodes k ≡ Some (node.Writing there.1.0) = there.1.1.at_last in
-      let kept = kept_as node_port_state (node_law sources drains book) node_asking node_moves (graph_of b) left l.run.keeps k (node_of is.node) (node.Writing handed.first) (node.Writing there.1.0) in_graph first_at last_at in
-      let law : SinkLaw drains handed.first there.1.0 (knows (graph_of b) left k (node_of is.node)) (took (graph_of b) left k (node_of is.node)) (gave (graph_of b) left k (node_of is.node)) = kept.law_holds in
+      let kept = kept_as node_port_state (node_law sources drains book) node_asking node_moves (graph_of b) left l.run.keeps k (graph_node is.node) (node.Writing handed.first) (node.Writing there.1.0) in_graph first_at last_at in
+      let law : SinkLaw drains handed.first there.1.0 (knows (graph_of b) left k (graph_node is.node)) (took (graph_of b) left k (graph_node is.node)) (gave (graph_of b) left k (graph_node is.node)) = kept.law_holds in
       let state : slice_get (map drains ds) handed.place ≡ Some (drains handed.first.drain) = mapped_at drains ds handed.place handed.first.drain handed.drain in
       let called : slice_get (drain_names (map drains ds)) handed.place ≡ Some (drains handed.first.drain).name = mapped_at (λ (o : DrainState). o.name) (map drains ds) handed.place (drains handed.first.drain) state in
       let filed : slice_get (outputs_of_nodes nodes) handed.place ≡ Some (drains handed.first.drain).name = subst (λ (x : List (List ℕ)). slice_get x handed.place ≡ Some (drains handed.first.drain).name) opens.output_names called in
@@ -194,9 +194,9 @@ module _ {S D L B : Type 0} (sources : S → SourceState) (drains : D → DrainS
         at = sym (l.node_at k) ∙ last_at;
         start = all_at (HoldsNone mid) (map drains ds) handed.place (drains handed.first.drain) opens.drains state;
         first_named = place_one (outputs_of_nodes nodes) handed.place (drains handed.first.drain).name file filed handed.file;
-        knew = knows (graph_of b) left k (node_of is.node);
-        came = took (graph_of b) left k (node_of is.node);
-        went = gave (graph_of b) left k (node_of is.node);
+        knew = knows (graph_of b) left k (graph_node is.node);
+        came = took (graph_of b) left k (graph_node is.node);
+        went = gave (graph_of b) left k (graph_node is.node);
         law = law;
         place = law.node ∙ handed.node;
       }

@@ -29,8 +29,8 @@ use Rattle.interpreter.specs.Island.{sinks_of, readers_of, writers_of}
 use Rattle.run_outlook_laws.specs.Made.{FirstOf}
 use Rattle.run_picture_laws.specs.Picture.{has_ended}
 use Rattle.blue_core.specs.declared.blueprint.Node as blue
-use Rattle.materializer.specs.Files.{input_of, output_of, is_sink}
-use Rattle.materializer.specs.Graphs.{node_of}
+use Rattle.materializer.specs.Files.{source_file, output_of, is_sink}
+use Rattle.materializer.specs.Graphs.{graph_node}
 use Rattle.run_blueprint.specs.Stands.{SinkStand, sink_places, has_ended_at}
 use Rattle.stream_model.specs.Linear.{Book}
 
@@ -101,14 +101,14 @@ StandsAt k false o = o ≡ None
 -- what node k leaves: a reader where its kind reads a file, which the reader names; a drain where its kind writes one; and how
 -- it stands where it is a sink, and where it stands its kind is a sink's
 pub record Profile {S D L B : Type 0} (sources : S → SourceState) (drains : D → DrainState) (k : ℕ) (n : blue.Node) (x : IslandNode S D L B) : Type 0 where
-  pub input : input_of n.kind ≡ option_map (λ s. (sources s).name) (reader_in x)
+  pub input : source_file n.kind ≡ option_map (λ s. (sources s).name) (reader_in x)
   pub output : output_of n.kind ≡ option_map (λ d. (drains d).name) (writer_in x)
   pub stand : StandsAt k (is_sink n) (stand_in x)
   pub sink : (s : SinkStand) → stand_in x ≡ Some s → oneway.is_sink n.kind ≡ true
 
 -- a kind with some output that reads no file: a stage, or a source without a file
 record IsInner (shape : Kind) : Type 0 where
-  input : input_of shape ≡ None
+  input : source_file shape ≡ None
   output : output_of shape ≡ None
   outputs : (outputs_of shape == 0) ≡ false
 
@@ -171,7 +171,7 @@ maker_inner _ h = absurd h
 -- a sink with a file has one, and reads none
 record HasFile (shape : Kind) : Type 0 where
   name : List ℕ
-  input : input_of shape ≡ None
+  input : source_file shape ≡ None
   output : output_of shape ≡ Some name
   none : (outputs_of shape == 0) ≡ true
   sink : oneway.is_sink shape ≡ true
@@ -200,7 +200,7 @@ a_sink k false o s e f g = absurd cc
 module _ {S D L B : Type 0} (sources : S → SourceState) (drains : D → DrainState) (book : Book) (k : ℕ) (n : blue.Node) where
   reading_profile : (x : Lines S) (name : List ℕ) → n.kind ≡ kind.Lines name → (sources x.reader.source).name ≡ name → Profile {S = S} {D = D} {L = L} {B = B} sources drains k n (node.Reading x)
   reading_profile x name is named = record {
-    input = ap input_of is ∙ ap Some (sym named);
+    input = ap source_file is ∙ ap Some (sym named);
     output = ap output_of is;
     stand = no_sink k (is_sink n) None (ap (λ (s : Kind). outputs_of s == 0) is) refl;
     sink = λ s e. absurd cc;
@@ -218,7 +218,7 @@ module _ {S D L B : Type 0} (sources : S → SourceState) (drains : D → DrainS
 
   ignoring_profile : (x : Ignorer) → n.kind ≡ kind.Ignore → x.node ≡ k → Profile {S = S} {D = D} {L = L} {B = B} sources drains k n (node.Ignoring x)
   ignoring_profile x is place = record {
-    input = ap input_of is;
+    input = ap source_file is;
     output = ap output_of is;
     stand = a_sink k (is_sink n) (Some (x.node, 0, x.end)) (x.node, 0, x.end) (ap (λ (s : Kind). outputs_of s == 0) is) refl place;
     sink = λ s e. ap oneway.is_sink is;
@@ -233,7 +233,7 @@ module _ {S D L B : Type 0} (sources : S → SourceState) (drains : D → DrainS
   }
 
   -- what a node leaves, whatever its kind is, where its source and its drain have the names of their files
-  pub node_profile : (chains : List graph.Chain) (first now : IslandNode S D L B) (v : View) (took gave : List (List Item)) → FirstOf sources chains k (node_of n) first → node_law sources drains book first now v took gave
+  pub node_profile : (chains : List graph.Chain) (first now : IslandNode S D L B) (v : View) (took gave : List (List Item)) → FirstOf sources chains k (graph_node n) first → node_law sources drains book first now v took gave
       → ((name : List ℕ) (x : Lines S) → n.kind ≡ kind.Lines name → now ≡ node.Reading x → (sources x.reader.source).name ≡ name)
       → ((name : List ℕ) (x : Sink D) → output_of n.kind ≡ Some name → now ≡ node.Writing x → (drains x.drain).name ≡ name)
       → Profile sources drains k n now
@@ -251,7 +251,7 @@ module _ {S D L B : Type 0} (sources : S → SourceState) (drains : D → DrainS
   node_profile chains f x v took gave made law reads writes = absurd law
 
   -- a sink with a file is one by its kind
-  pub writing_kind : (chains : List graph.Chain) (first now : IslandNode S D L B) (x : Sink D) (v : View) (took gave : List (List Item)) → FirstOf sources chains k (node_of n) first → node_law sources drains book first now v took gave → now ≡ node.Writing x → (name : List ℕ) × (output_of n.kind ≡ Some name)
+  pub writing_kind : (chains : List graph.Chain) (first now : IslandNode S D L B) (x : Sink D) (v : View) (took gave : List (List Item)) → FirstOf sources chains k (graph_node n) first → node_law sources drains book first now v took gave → now ≡ node.Writing x → (name : List ℕ) × (output_of n.kind ≡ Some name)
   writing_kind chains (node.Writing f) (node.Writing y) x v took gave made law is = let f = file_sink n.kind made.is_sink in (f.name, f.output)
   writing_kind chains (node.Reading f) (node.Reading y) x v took gave made law is = absurd cc
   writing_kind chains (node.Making f) (node.Making y) x v took gave made law is = absurd cc

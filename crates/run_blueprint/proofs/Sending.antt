@@ -35,7 +35,7 @@ use Rattle.nodes.specs.Nodes.{node_port_state, node_law, node_asking, node_moves
 use Rattle.nodes.specs.Ports.{OneInOf}
 use Rattle.nodes.specs.Sink.{Sink, sink_port_state_in, end_seen}
 use Rattle.run_account.specs.Account.{Account, knows, took, gave, WireKeeps, IsStill}
-use Rattle.run_account.specs.Items.{list_of, standing, lane_size, AgreesWith, Brought}
+use Rattle.run_account.specs.Items.{list_of, end_of_items, lane_size, AgreesWith, ArrivedOf}
 use Rattle.run_account.proofs.Carrying.{wire_brings, carries_part}
 use Rattle.run_account.proofs.Coming.{elements_prefix, elements_told, no_fewer, resting_same}
 use Rattle.run_account.proofs.Histories.{list_of_told, standing_told}
@@ -78,7 +78,7 @@ sent_on (Some z) Unended near far count h all s = let least = h.least in let mos
 sent_on (Some z) WriteFault near far count h all s = let least = h.least in let most = h.most in (omega (arith, least, s), omega (arith, most, s))
 
 -- a list of which a normal end came is all that was sent
-all_came : (s : ℕ) (sent : List Item) (m l : List Tree) (f e : End) → sent ≡ told m f → Carries s (list_of sent) (standing sent) l e → e ≡ ended → elements sent ≡ length l
+all_came : (s : ℕ) (sent : List Item) (m l : List Tree) (f e : End) → sent ≡ told m f → Carries s (list_of sent) (end_of_items sent) l e → e ≡ ended → elements sent ≡ length l
 all_came s sent m l f ended is c same = ap elements is ∙ elements_told m f ∙ ap length (sym (c.1 ∙ ap list_of is ∙ list_of_told m f))
 all_came s sent m l f unended is c same = cc
 all_came s sent m l f (failed d) is c same = cc
@@ -147,7 +147,7 @@ module _ {S D L B : Type 0} (sources : S → SourceState) (drains : D → DrainS
   holds : Holds v.lane (elements (a.near u).wire.sent) (elements (a.far u).wire.sent)
   holds = wire_holds v.lane (a.near u) (a.far u) (a.asked u) near_sound.0 near_sound.1 keeps
 
-  brings : Brought v.lane (a.near u).wire.sent (a.far u).wire.got
+  brings : ArrivedOf v.lane (a.near u).wire.sent (a.far u).wire.got
   brings = wire_brings v.lane (a.near u) (a.far u) (a.asked u) near_sound.0 far_sound.0 near_sound.1 far_sound.1 keeps
 
   module _ (o : Outlook) (sent : AgreesWith o (a.near u).wire.sent) (k : ℕ) (n : graph.Node) (ni : slice_get g.nodes k ≡ Some n) (one : inputs_of n.kind ≡ 1) (to : v.to ≡ k) where
@@ -205,9 +205,9 @@ module _ {S D L B : Type 0} (sources : S → SourceState) (drains : D → DrainS
         let law : IgnoreLaw first now (knows g a k n) (took g a k n) (gave g a k n) = kept.law_holds in
         let came : took g a k n ≡ (a.far u).wire.got ∷ [] = read_one g got_of a.far k (inputs_of n.kind) u (ap inputs_of shape) ignored in
         let got : (a.far u).wire.got ≡ told law.elems law.in_end = heads_same (a.far u).wire.got (told law.elems law.in_end) (sym came ∙ law.took_is) in
-        let brought : Carries (lane_size v.lane) (list_of (a.near u).wire.sent) (standing (a.near u).wire.sent) law.elems law.in_end = brings law.elems law.in_end got in
+        let brought : Carries (lane_size v.lane) (list_of (a.near u).wire.sent) (end_of_items (a.near u).wire.sent) law.elems law.in_end = brings law.elems law.in_end got in
         let list : list_of (a.near u).wire.sent ≡ sent.list = ap list_of sent.is ∙ list_of_told sent.list sent.end in
-        let end : standing (a.near u).wire.sent ≡ sent.end = ap standing sent.is ∙ standing_told sent.list sent.end in
+        let end : end_of_items (a.near u).wire.sent ≡ sent.end = ap end_of_items sent.is ∙ standing_told sent.list sent.end in
         let carries : Carries (lane_size v.lane) sent.list sent.end law.elems law.in_end = rw (list, end) at brought in
         let count : elements (a.near u).wire.sent ≡ length sent.list = ap elements sent.is ∙ elements_told sent.list sent.end in
         rw count (ignore_told now.end (sink_outlook g w k n) sent.list sent.end (lane_size v.lane) law.elems law.in_end law.ends carries passes)

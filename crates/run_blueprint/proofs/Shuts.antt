@@ -4,7 +4,7 @@ use Rattle.std.specs.Prelude.{IsTrue, Option, Some, None, slice_index_or}
 use Rattle.std.specs.List.{All, Contains}
 use Rattle.stream_io.specs.Counts.{Grew}
 use Rattle.stream_io.specs.State.{FolderState, SourceState, DrainState, ClosesDrain, SameRefusals}
-use Rattle.run_files.specs.Names.{source_names, drain_names, Distinct}
+use Rattle.run_files.specs.Names.{source_names, drain_names, DistinctNames}
 use Rattle.run_files.specs.Closing.{ClosesAll}
 use Rattle.run_blueprint.specs.Opening.{ClosesAs}
 use Rattle.run_blueprint.proofs.Places.{place_of, place_reads, mapped_at, contains_at}
@@ -15,14 +15,14 @@ Lone others os = (n : List ℕ) → Contains (drain_names os) n → Contains oth
 
 -- these sources and drains were closed; of the files and the counts of failed writes of other names only those of these others changed
 pub record Shuts (old new : FolderState) (others : List (List ℕ)) (is : List SourceState) (os : List DrainState) : Type 0 where
-  pub read_each : Distinct (source_names is) → All (λ i. Grew (old.read i.name) i.given (new.read i.name)) is
+  pub read_each : DistinctNames (source_names is) → All (λ i. Grew (old.read i.name) i.given (new.read i.name)) is
   pub read_others : (n : List ℕ) → ¬ (Contains (source_names is) n) → new.read n ≡ old.read n
-  pub rfaults_each : Distinct (source_names is) → All (λ i. Grew (old.rfaults i.name) i.faults (new.rfaults i.name)) is
+  pub rfaults_each : DistinctNames (source_names is) → All (λ i. Grew (old.rfaults i.name) i.faults (new.rfaults i.name)) is
   pub rfaults_others : (n : List ℕ) → ¬ (Contains (source_names is) n) → new.rfaults n ≡ old.rfaults n
-  pub wfaults_each : Distinct (drain_names os) → Lone others os → All (λ o. Grew (old.wfaults o.name) o.faults (new.wfaults o.name)) os
+  pub wfaults_each : DistinctNames (drain_names os) → Lone others os → All (λ o. Grew (old.wfaults o.name) o.faults (new.wfaults o.name)) os
   pub wfaults_others : (n : List ℕ) → ¬ (Contains (drain_names os) n) → ¬ (Contains others n) → new.wfaults n ≡ old.wfaults n
   pub told : IsTrue new.tells → IsTrue old.tells
-  pub held : Distinct (drain_names os) → Lone others os → IsTrue new.tells → All (λ o. new.file o.name ≡ o.holds) os
+  pub held : DistinctNames (drain_names os) → Lone others os → IsTrue new.tells → All (λ o. new.file o.name ≡ o.holds) os
   pub held_others : IsTrue new.tells → (n : List ℕ) → ¬ (Contains (drain_names os) n) → ¬ (Contains others n) → new.file n ≡ old.file n
   pub refusals : SameRefusals old new
 

@@ -14,8 +14,8 @@ use Rattle.interpreter.specs.Island.{readers_of, writers_of}
 use Rattle.blue_core.specs.declared.blueprint.Blueprint.{Blueprint}
 use Rattle.blue_core.specs.declared.blueprint.Node as blue
 use Rattle.materializer.specs.Fit.{CanRun}
-use Rattle.materializer.specs.Files.{input_of, output_of, inputs_of_nodes, outputs_of_nodes}
-use Rattle.run_files.specs.Names.{source_names, drain_names, Distinct}
+use Rattle.materializer.specs.Files.{source_file, output_of, inputs_of_nodes, outputs_of_nodes}
+use Rattle.run_files.specs.Names.{source_names, drain_names, DistinctNames}
 use Rattle.run_blueprint.specs.Opening.{Opens}
 use Rattle.run_blueprint.proofs.Shuts.{Shuts}
 use Rattle.run_files.proofs.Counts.{grew_same}
@@ -27,7 +27,7 @@ use Rattle.run_blueprint.proofs.Profiles.{reader_in, writer_in, readers_filtered
 -- these nodes have the names of the files of their nodes in the blueprint, and these are their handles
 pub record TakenApart {S D L B : Type 0} (sources : S → SourceState) (drains : D → DrainState) (b : Blueprint) (final : List (IslandNode S D L B)) (readers : List S) (writers : List D) : Type 0 where
   pub as_many : length b.nodes.items ≡ length final
-  pub input : (k : ℕ) (n : blue.Node) (x : IslandNode S D L B) → slice_get b.nodes.items k ≡ Some n → slice_get final k ≡ Some x → input_of n.kind ≡ option_map (λ s. (sources s).name) (reader_in x)
+  pub input : (k : ℕ) (n : blue.Node) (x : IslandNode S D L B) → slice_get b.nodes.items k ≡ Some n → slice_get final k ≡ Some x → source_file n.kind ≡ option_map (λ s. (sources s).name) (reader_in x)
   pub output : (k : ℕ) (n : blue.Node) (x : IslandNode S D L B) → slice_get b.nodes.items k ≡ Some n → slice_get final k ≡ Some x → output_of n.kind ≡ option_map (λ d. (drains d).name) (writer_in x)
   pub readers_are : readers ≡ readers_of final
   pub writers_are : writers ≡ writers_of final
@@ -42,7 +42,7 @@ module _ {S D L B : Type 0} (sources : S → SourceState) (drains : D → DrainS
   reader_names =
       map_two (λ (i : SourceState). i.name) sources readers
       ∙ ap (map (λ (s : S). (sources s).name)) (apart.readers_are ∙ readers_filtered final)
-      ∙ sym (filtered_along (λ (n : blue.Node). input_of n.kind) reader_in (λ (s : S). (sources s).name) b.nodes.items final apart.as_many apart.input)
+      ∙ sym (filtered_along (λ (n : blue.Node). source_file n.kind) reader_in (λ (s : S). (sources s).name) b.nodes.items final apart.as_many apart.input)
 
   writer_names : drain_names (map drains writers) ≡ outputs_of_nodes b.nodes.items
   writer_names =
@@ -69,11 +69,11 @@ module _ {S D L B : Type 0} (sources : S → SourceState) (drains : D → DrainS
   writers_named : drain_names (map drains writers) ≡ outputs_of_nodes nodes
   writers_named = writer_names sources drains b final readers writers apart
 
-  readers_distinct : Distinct (source_names (map sources readers))
-  readers_distinct = subst Distinct (sym readers_named) (inputs_distinct b can.plugs can.taken can.fit)
+  readers_distinct : DistinctNames (source_names (map sources readers))
+  readers_distinct = subst DistinctNames (sym readers_named) (inputs_distinct b can.plugs can.taken can.fit)
 
-  writers_distinct : Distinct (drain_names (map drains writers))
-  writers_distinct = subst Distinct (sym writers_named) (outputs_distinct b can.plugs can.taken can.fit)
+  writers_distinct : DistinctNames (drain_names (map drains writers))
+  writers_distinct = subst DistinctNames (sym writers_named) (outputs_distinct b can.plugs can.taken can.fit)
 
   writers_lone : (n : List ℕ) → Contains (drain_names (map drains writers)) n → Contains others n → ⊥
   writers_lone n c = lone n (subst (λ (l : List (List ℕ)). Contains l n) writers_named c)

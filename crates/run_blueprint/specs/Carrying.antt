@@ -30,7 +30,7 @@ settled_type b plugs v = wire_type plugs b.chains.items b.nodes.items (graph_of 
 -- On each wire a list passed, and it stands so: as many elements as the picture counts (`counted`), all of the type that the
 -- check settles for the wire (`typed`). What a node gave that is no source of lines agrees with what it gives of the lists that
 -- passed on its inputs, by every world that has what the stages chose (`given`).
-pub record Carries (book : Book) (b : Blueprint) (wires : List WireCount) (picks : List Pick) : Type 0 where
+pub record WiresCarry (book : Book) (b : Blueprint) (wires : List WireCount) (picks : List Pick) : Type 0 where
   pub lists : ℕ → List Tree
   pub ends : ℕ → End
   pub counted : (i : ℕ) (v : Edge) → slice_get (blueprint_wires b) i ≡ Some v → sent_at wires i ≡ length (lists i)

@@ -22,12 +22,12 @@ use Rattle.stream_picture.specs.Shape.{IsPolytree, sent_at, need, count_needed}
 use Rattle.stream_io.specs.Counts.{Rose, Grew}
 use Rattle.stream_io.specs.State.{FolderState}
 use Rattle.run_outlook_laws.specs.Sinks.{SinkTells, IgnoreTells}
-use Rattle.materializer.specs.Graphs.{node_of, graph_of}
+use Rattle.materializer.specs.Graphs.{graph_node, graph_of}
 use Rattle.materializer.specs.Files.{output_of, inputs_of_nodes, outputs_of_nodes}
 use Rattle.run_files.specs.Quiet.{Quiet}
 use Rattle.run_files.specs.Opening.{GivesUp}
 use Rattle.interpreter.specs.Picks.{Pick, pick_of}
-use Rattle.run_blueprint.specs.Carrying.{Carries}
+use Rattle.run_blueprint.specs.Carrying.{WiresCarry}
 use Rattle.run_blueprint.specs.Choosing.{pick_places, picked}
 use Rattle.run_blueprint.specs.Drawing.{Drawn, IsSource, WasRead, WereRead, IsWorldOf, DrawsFirst}
 use Rattle.run_blueprint.specs.Sending.{SentOn}
@@ -45,7 +45,7 @@ use Rattle.stream_model.specs.Linear.{Book}
 pub record SinkLeaves (book : Book) (new : FolderState) (b : Blueprint) (d : Drawn) (wires : List WireCount) (at_rest : Bool) (k : ℕ) (n : Node) (file : List ℕ) (count : ℕ) (end : EndState) : Type 0 where
   pub held : List ℕ
   pub there : IsTrue new.tells → new.file file ≡ Some held
-  pub tells : (w : World) → IsWorldOf book b.nodes.items d w → SinkTells (sink_outlook (graph_of b) w k (node_of n)) end held
+  pub tells : (w : World) → IsWorldOf book b.nodes.items d w → SinkTells (sink_outlook (graph_of b) w k (graph_node n)) end held
   pub lines_are : whole_lines (length held) held ≡ count
   pub sent : n.kind ≡ ToLines file → (u : ℕ) (v : Edge) → slice_get (blueprint_wires b) u ≡ Some v → v.to ≡ k → SentOn v.lane end (sent_at wires u) count
   pub rests : n.kind ≡ ToLines file → IsTrue at_rest → end ≡ Unended → (u : ℕ) (v : Edge) → slice_get (blueprint_wires b) u ≡ Some v → v.to ≡ k → sent_at wires u ≡ count
@@ -55,7 +55,7 @@ pub record SinkLeaves (book : Book) (new : FolderState) (b : Blueprint) (d : Dra
 pub record IgnoreLeaves (book : Book) (b : Blueprint) (d : Drawn) (wires : List WireCount) (k : ℕ) (n : Node) (count : ℕ) (end : EndState) : Type 0 where
   pub none : count ≡ 0
   pub tells : (w : World) → IsWorldOf book b.nodes.items d w → (u : ℕ) (v : Edge) → slice_get (blueprint_wires b) u ≡ Some v → v.to ≡ k
-      → IgnoreTells (sink_outlook (graph_of b) w k (node_of n)) end (sent_at wires u)
+      → IgnoreTells (sink_outlook (graph_of b) w k (graph_node n)) end (sent_at wires u)
 
 -- The inputs were read, and each sink wrote what its outlook lets it write. No other file but that of the trace is changed, where the
 -- folder still tells its files. The lines that were
@@ -85,9 +85,9 @@ pub record LeavesFiles (book : Book) (old new : FolderState) (b : Blueprint) (tr
   pub needed : (w : World) → IsWorldOf book b.nodes.items drawn w → count_needed (graph_of b) wires ≤ need (graph_of b) (composed (graph_of b) w)
 
 -- the count of failed writes of a sink's file rose exactly where a write failed
-abbrev pub WritesOf : EndState → ℕ → ℕ → Type 0
-WritesOf WriteFault old new = Rose old new
-WritesOf _ old new = Grew old 0 new
+abbrev pub FailedWritesOf : EndState → ℕ → ℕ → Type 0
+FailedWritesOf WriteFault old new = Rose old new
+FailedWritesOf _ old new = Grew old 0 new
 
 -- the count of failed writes of some sink's file rose
 pub record SomeWriteRose (old new : FolderState) (b : Blueprint) : Type 0 where
@@ -106,7 +106,7 @@ pub record Runs (book : Book) (old new : FolderState) (b : Blueprint) (trace : O
   pub leaves : IsTrue old.tells → LeavesFiles book old new b trace ran.sinks.items (map pick_of ran.picks.items) ran.wires.items ran.at_rest
   pub refusals : Quiet old.refusals new.refusals
   pub reads : (n : List ℕ) → ¬ (Contains (inputs_of_nodes b.nodes.items) n) → Grew (old.rfaults n) 0 (new.rfaults n)
-  pub writes : (i : ℕ) (s : SinkStand) (n : Node) (file : List ℕ) → slice_get ran.sinks.items i ≡ Some s → slice_get b.nodes.items s.0 ≡ Some n → output_of n.kind ≡ Some file → WritesOf s.2 (old.wfaults file) (new.wfaults file)
+  pub writes : (i : ℕ) (s : SinkStand) (n : Node) (file : List ℕ) → slice_get ran.sinks.items i ≡ Some s → slice_get b.nodes.items s.0 ≡ Some n → output_of n.kind ≡ Some file → FailedWritesOf s.2 (old.wfaults file) (new.wfaults file)
   pub faults : (i : ℕ) (s : SinkStand) → slice_get ran.sinks.items i ≡ Some s → s.2 ≡ WriteFault → SomeWriteRose old new b
   pub calm : ((i : ℕ) (s : SinkStand) → slice_get ran.sinks.items i ≡ Some s → is_write_fault s.2 ≡ false) → ran.trace_failed ≡ false → Quiet old.wfaults new.wfaults
   pub other_writes : (n : List ℕ) → ¬ (Contains (outputs_of_nodes b.nodes.items) n) → trace ≢ Some n → Grew (old.wfaults n) 0 (new.wfaults n)
@@ -114,7 +114,7 @@ pub record Runs (book : Book) (old new : FolderState) (b : Blueprint) (trace : O
   pub within : ran.used ≤ budget
   pub spent : ran.at_rest ≡ false → ran.used ≡ budget
   pub pays : Pays b ran.wires.items ran.used
-  pub carries : Carries book b ran.wires.items (map pick_of ran.picks.items)
+  pub carries : WiresCarry book b ran.wires.items (map pick_of ran.picks.items)
   pub wired : 1 ≤ length ran.sinks.items → 1 ≤ length (blueprint_wires b)
 
 -- A source of a run in which memory was wanting: its file was there with these bytes, so many of them were read, and at most one
@@ -132,9 +132,9 @@ pub record SinkBreaks (book : Book) (old new : FolderState) (b : Blueprint) (d :
   pub held : List ℕ
   pub end : EndState
   pub there : IsTrue new.tells → new.file file ≡ Some held
-  pub tells : (w : World) → IsWorldOf book b.nodes.items d w → SinkTells (sink_outlook (graph_of b) w k (node_of n)) end held
-  pub part : (w : World) → IsWorldOf book b.nodes.items d w → IsPrefix held (text_lines (sink_outlook (graph_of b) w k (node_of n)).list)
-  pub writes : WritesOf end (old.wfaults file) (new.wfaults file)
+  pub tells : (w : World) → IsWorldOf book b.nodes.items d w → SinkTells (sink_outlook (graph_of b) w k (graph_node n)) end held
+  pub part : (w : World) → IsWorldOf book b.nodes.items d w → IsPrefix held (text_lines (sink_outlook (graph_of b) w k (graph_node n)).list)
+  pub writes : FailedWritesOf end (old.wfaults file) (new.wfaults file)
 
 -- The inputs were read, and each sink wrote a first part of what it may write; the trace's file is empty, and no other file is
 -- changed. What the stages chose is not answered; there is a list of moves for each stage whose kind chooses, and no other.

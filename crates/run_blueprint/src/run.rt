@@ -9,7 +9,7 @@ ghost use Rattle.materializer.specs.Files.{inputs_of_nodes, outputs_of_nodes};
 ghost use Rattle.run_files.specs.Opening.{MissesInput, RefusesOutput};
 ghost use Rattle.run_files.specs.Closing.{ClosesAll};
 ghost use Rattle.run_report.specs.Trace.{trace_text, moves_in};
-ghost use Rattle.island_runs.specs.Leaving.{Leaves, LeavesBroken, HasAsMany};
+ghost use Rattle.island_runs.specs.Leaving.{RunLeaves, LeavesBroken, HasAsMany};
 ghost use Rattle.run_blueprint.specs.Receipt.{IsReceipt};
 ghost use Rattle.run_blueprint.specs.Opening.{Opens, OpensAs, WritesAs, ClosesAs};
 ghost use Rattle.run_blueprint.specs.Running.{Runs, Wants, WantsWithin};
@@ -151,11 +151,11 @@ fn close<F: Folder, L: Logic, B: PlugBook>(
     requires { room.items ≡ [] }
     ensures runs { (old : FolderState) (b : plan.Blueprint) (trace : Option (List ℕ)) (budget : ℕ) (ss : List F.Inp) (ds : List F.Out) → CanRun b → IsApart b trace → choosers.now ≡ pick_names b.nodes.items
         → Opens old (F.state folder.old) (inputs_of_nodes b.nodes.items) (outputs_of_nodes b.nodes.items) (option_to_list trace) (map F.Inp.state ss) (map F.Out.state ds) → OpensAs (F.state folder.old) trace (option_map F.Out.state drain)
-        → Leaves L B F.Inp.state F.Out.state B.lists b ss ds budget stopped → Runs B.lists old (F.state folder.new) b trace budget result }
+        → RunLeaves L B F.Inp.state F.Out.state B.lists b ss ds budget stopped → Runs B.lists old (F.state folder.new) b trace budget result }
     ensures handles { F.handles folder.new ≡ F.handles folder.old - (length stopped.end.readers.items + length stopped.end.writers.items + length (option_to_list drain)) }
     ensures all { (old : FolderState) (b : plan.Blueprint) (trace : Option (List ℕ)) (budget : ℕ) (ss : List F.Inp) (ds : List F.Out) → CanRun b → IsApart b trace
         → Opens old (F.state folder.old) (inputs_of_nodes b.nodes.items) (outputs_of_nodes b.nodes.items) (option_to_list trace) (map F.Inp.state ss) (map F.Out.state ds) → OpensAs (F.state folder.old) trace (option_map F.Out.state drain)
-        → Leaves L B F.Inp.state F.Out.state B.lists b ss ds budget stopped → HasAsMany ss ds stopped.end }
+        → RunLeaves L B F.Inp.state F.Out.state B.lists b ss ds budget stopped → HasAsMany ss ds stopped.end }
     ensures same { (result.used ≡ stopped.used) × (result.at_rest ≡ stopped.at_rest) × (result.ran ≡ stopped.ran) }
 {
     every_wire_agrees::<F::Inp, F::Out, L, B>();

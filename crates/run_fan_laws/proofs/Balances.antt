@@ -36,7 +36,7 @@ use Rattle.stage_balance.proofs.BalanceNodes as node
 use Rattle.stage_out.specs.OutLogics.{BeginsBalance}
 use Rattle.run_account.specs.Account.{Earlier}
 use Rattle.run_account.specs.Items.{MayPass, AllMayPass, AgreesWith}
-use Rattle.run_account.specs.KindLaws.{Heard, HearsAll, Moments, PictureLaws, RunLaws}
+use Rattle.run_account.specs.KindLaws.{IsHistoryOf, HearsAll, Moments, PictureLaws, RunLaws}
 use Rattle.run_account.specs.Ports.{InPort, OutPort, EachPort, InStands, OutStands, InRests, OutRests}
 use Rattle.run_account.proofs.Coming.{elements_told}
 use Rattle.run_account.proofs.Histories.{list_of_told}
@@ -246,4 +246,4 @@ balance_laws g w k n first now v took gave b told_so law = record {
 pub balance_hears : (first now : Balancing) (v : View) (took gave : List (List Item)) → BalancesAs first now v took gave → HearsAll v took
 balance_hears first now v took gave law p h at =
     let one = one_given law.taken h p (subst (λ (hs : List (List Item)). slice_get hs p ≡ Some h) law.took_is at) in
-    subst (λ q. Heard (in_at v q) h) (sym one.0) (record { list = law.law.flow.list; end = law.law.flow.end; is = one.1 ∙ law.law.took_is; as_seen = law.law.took_as })
+    subst (λ q. IsHistoryOf (in_at v q) h) (sym one.0) (record { list = law.law.flow.list; end = law.law.flow.end; is = one.1 ∙ law.law.took_is; as_seen = law.law.took_as })

@@ -14,7 +14,7 @@ use Rattle.stream_picture.specs.Lawful.{sent_in}
 use Rattle.stage_law.specs.Held.{told}
 use Rattle.stage_law.specs.Law.{TookAs}
 use Rattle.stage_fans.specs.PortsLaws.{InPortsLaw}
-use Rattle.run_account.specs.Items.{list_of, standing}
+use Rattle.run_account.specs.Items.{list_of, end_of_items}
 use Rattle.run_account.specs.Ports.{InPort, EachPort, InStands}
 use Rattle.run_account.proofs.Coming.{elements_told}
 use Rattle.run_account.proofs.Histories.{list_of_told, standing_told, begun}
@@ -99,8 +99,8 @@ done_same f g h s a b p n = by f.end refl
     lists : list_of s ≡ g.list
     lists = ap list_of b ∙ list_of_told g.list g.end
 
-    ends : standing s ≡ g.end
-    ends = ap standing b ∙ standing_told g.list g.end
+    ends : end_of_items s ≡ g.end
+    ends = ap end_of_items b ∙ standing_told g.list g.end
 
     by : (e : End) → f.end ≡ e → (g.list ≡ f.list) × (g.end ≡ f.end)
     by unended e = absurd (n e)

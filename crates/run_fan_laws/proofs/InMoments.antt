@@ -14,9 +14,9 @@ use Rattle.port_core.specs.declared.view.OutView.TheVariants.{Available}
 use Rattle.stream_model.specs.Outlook.{End, unended, ended, failed}
 use Rattle.stream_model.specs.FanIn.{Tagged, Inflow, flow, pairs}
 use Rattle.stream_model.proofs.Compositions.{same_number}
-use Rattle.stage_law.specs.Fans.{FanKept, FanKeeps, Uses, used, fan_gives}
+use Rattle.stage_law.specs.Fans.{FanKept, FanKeeps, UsesInputs, used, fan_gives}
 use Rattle.stage_law.specs.Held.{told}
-use Rattle.stage_law.specs.Inflows.{nothing, joined_at, joined, joined_all}
+use Rattle.stage_law.specs.Inflows.{nothing_came, joined_at, joined, joined_all}
 use Rattle.stage_core.specs.declared.phase.Phase.{Phase}
 use Rattle.stage_core.specs.declared.phase.Phase.TheVariants.{New, Open, Closed}
 use Rattle.stage_in.specs.declared.logic.InLogic.{InLogic}
@@ -24,7 +24,7 @@ use Rattle.stage_in.specs.declared.logic.InLogic.TheVariants as logic
 use Rattle.stage_in.specs.Kinds.{taking_by, sorting}
 use Rattle.stage_fans.specs.PortsLaws.{InPortsLaw}
 use Rattle.stage_in.specs.Logics.{InPortState, InLaw}
-use Rattle.stage_in.specs.Pairings.{Pairing, inlet_view, inlet_flow, listed, pair_view, port_state_by}
+use Rattle.stage_in.specs.Pairings.{Pairing, inlet_view, inlet_flow, waiting_element, pair_view, port_state_by}
 use Rattle.stage_fans.specs.Seats.{wish, InsClosed}
 use Rattle.stage_in.specs.Seats.{seat, seats, none_of}
 use Rattle.stage_in.specs.Sortings as sorted
@@ -89,7 +89,7 @@ pub record Turn (segment : Option ℕ) (p : ℕ) (v : port.View) (had given : Li
   pub ins : v.ins ≡ seats 0 over p true
   pub asked : out_at v 0 ≡ Available
   pub came : Flows v.ins had flows
-  pub uses : Uses 0 used (none_of over) flows
+  pub uses : UsesInputs 0 used (none_of over) flows
   pub order : InOrder segment over p
   pub count : elements (slice_index_or given 0 []) ≡ length used
 
@@ -125,7 +125,7 @@ turn_of first (logic.Merging l) v had given p r law waits = absurd law.same
 -- ---- a merge_sorted or a zip
 
 -- an input that waits holds nothing
-inlet_empty : (h : Option Tree) (o : Bool) → inlet_view (record { held = h; over = o }) ≡ Pulled → listed h ≡ []
+inlet_empty : (h : Option Tree) (o : Bool) → inlet_view (record { held = h; over = o }) ≡ Pulled → waiting_element h ≡ []
 inlet_empty None o e = refl
 inlet_empty (Some t) true e = cc
 inlet_empty (Some t) false e = cc
@@ -133,12 +133,12 @@ inlet_empty (Some t) false e = cc
 -- it was open, and nothing of input p waits
 pub record Waits (l : Pairing) (p : ℕ) : Type 0 where
   pub is_open : l.phase ≡ Open
-  pub empty : ((p ≡ 0) × (listed l.left.held ≡ [])) ⊎ ((p ≡ 1) × (listed l.right.held ≡ []))
+  pub empty : ((p ≡ 0) × (waiting_element l.left.held ≡ [])) ⊎ ((p ≡ 1) × (waiting_element l.right.held ≡ []))
 
 pub pair_waits : (Sound : Pairing → Type 0) (l : Pairing) (v : port.View) (p : ℕ) → (l.phase ≡ New → ⊥) → port_state_by Sound l.phase l v → in_at v p ≡ Pulled → Waits l p
 pair_waits Sound l v p started r waits = by l.phase refl r
   where
-    at : (q : ℕ) → in_at (pair_view l) q ≡ Pulled → ((q ≡ 0) × (listed l.left.held ≡ [])) ⊎ ((q ≡ 1) × (listed l.right.held ≡ []))
+    at : (q : ℕ) → in_at (pair_view l) q ≡ Pulled → ((q ≡ 0) × (waiting_element l.left.held ≡ [])) ⊎ ((q ≡ 1) × (waiting_element l.right.held ≡ []))
     at zero e = inl (refl, inlet_empty l.left.held l.left.over e)
     at (suc zero) e = inr (refl, inlet_empty l.right.held l.right.over e)
     at (suc (suc q)) e = cc
@@ -159,8 +159,8 @@ grown_flow f y h s a b p = by f.end refl
     by unended e =
         let part : IsPrefix f.list y.list = subst (λ (l : List Tree). IsPrefix f.list l) (ap list_of b ∙ list_of_told y.list y.end) (begun f.list f.end h s a p).part in
         (record { list = part.rest; end = y.end }, ap (λ (x : End). joined_at x f.list (record { list = part.rest; end = y.end })) e ∙ ap (λ (l : List Tree). record { list = l; end = y.end }) (sym part.is))
-    by ended e = (nothing, ap (λ (x : End). joined_at x f.list nothing) e ∙ (ap (λ (x : End). record { list = f.list; end = x }) (sym e) ∙ sym (done (λ x. let z : ended ≡ unended = sym e ∙ x in cc))))
-    by (failed c) e = (nothing, ap (λ (x : End). joined_at x f.list nothing) e ∙ (ap (λ (x : End). record { list = f.list; end = x }) (sym e) ∙ sym (done (λ x. let z : failed c ≡ unended = sym e ∙ x in cc))))
+    by ended e = (nothing_came, ap (λ (x : End). joined_at x f.list nothing_came) e ∙ (ap (λ (x : End). record { list = f.list; end = x }) (sym e) ∙ sym (done (λ x. let z : ended ≡ unended = sym e ∙ x in cc))))
+    by (failed c) e = (nothing_came, ap (λ (x : End). joined_at x f.list nothing_came) e ∙ (ap (λ (x : End). record { list = f.list; end = x }) (sym e) ∙ sym (done (λ x. let z : failed c ≡ unended = sym e ∙ x in cc))))
 
 -- what comes to two inputs
 abbrev two_more : Inflow → Inflow → ℕ → Inflow
@@ -185,7 +185,7 @@ module _ (first l : Pairing) (v : port.View) (had given : List (List Item)) (p :
       let more = two_more r.0 q.0 in
       let whole_now : joined_all 0 (a ∷ b ∷ []) more ≡ c ∷ d ∷ [] = ap (λ (x : Inflow). x ∷ joined b q.0 ∷ []) r.1 ∙ ap (λ (x : Inflow). c ∷ x ∷ []) q.1 in
       let gives = ap (λ (fs : List Inflow). fan_gives sorting sorted.nowhere (joined_all 0 fs more)) (sym ins) ∙ kept.rest more in
-      let uses = subst (λ (fs : List Inflow). Uses 0 kept.given (inlet_flow l.left ∷ inlet_flow l.right ∷ []) fs) ins kept.uses in
+      let uses = subst (λ (fs : List Inflow). UsesInputs 0 kept.given (inlet_flow l.left ∷ inlet_flow l.right ∷ []) fs) ins kept.uses in
       record {
         given_used = kept.given;
         part = record { rest = _; is = ap (λ (fs : List Inflow). fan_gives sorting sorted.nowhere fs) (sym whole_now) ∙ gives };
@@ -196,7 +196,7 @@ module _ (first l : Pairing) (v : port.View) (had given : List (List Item)) (p :
       at_port : (q : ℕ) (x : List Item) → p ≡ q → slice_index_or (h ∷ k ∷ []) q [] ≡ x → elements (slice_index_or had p []) ≡ elements x
       at_port q x e y = ap elements (ap (λ (hs : List (List Item)). slice_index_or hs p []) had_is ∙ (ap (λ n. slice_index_or (h ∷ k ∷ []) n []) e ∙ y))
 
-      all_used : (g : List Tagged) → Uses 0 g (inlet_flow l.left ∷ inlet_flow l.right ∷ []) (a ∷ b ∷ []) → ((p ≡ 0) × (listed l.left.held ≡ [])) ⊎ ((p ≡ 1) × (listed l.right.held ≡ [])) → elements (slice_index_or had p []) ≡ used p g
+      all_used : (g : List Tagged) → UsesInputs 0 g (inlet_flow l.left ∷ inlet_flow l.right ∷ []) (a ∷ b ∷ []) → ((p ≡ 0) × (waiting_element l.left.held ≡ [])) ⊎ ((p ≡ 1) × (waiting_element l.right.held ≡ [])) → elements (slice_index_or had p []) ≡ used p g
       all_used g u (inl e) =
           let here = at_port 0 h e.0 refl in
           let count = flow_count a ha in

@@ -23,7 +23,7 @@ use Rattle.stage_core.specs.declared.phase.Phase.{Phase}
 use Rattle.stage_core.specs.declared.phase.Phase.TheVariants.{New, Open, Closed}
 use Rattle.stage_merge.specs.declared.merging.Queued.{Queued}
 use Rattle.stage_merge.specs.Mergings as merging
-use Rattle.stage_merge.specs.Mergings.{Merging, of_port, waiting, place, places}
+use Rattle.stage_merge.specs.Mergings.{Merging, of_port, waiting, input_view, places}
 use Rattle.stage_merge.proofs.MergeNodes.{moves_held}
 use Rattle.stage_in.specs.declared.logic.InLogic.{InLogic}
 use Rattle.stage_in.specs.declared.logic.InLogic.TheVariants as logic
@@ -81,7 +81,7 @@ came_at (x ∷ xs) (h ∷ hs) [] p w = absurd w
 came_at (x ∷ xs) (h ∷ hs) (f ∷ fs) zero w = flow_count f w.0.0
 came_at (x ∷ xs) (h ∷ hs) (f ∷ fs) (suc p) w = came_at xs hs fs p w.1
 
-place_empty : (b : Bool) (l : List Tree) → place b l ≡ Pulled → l ≡ []
+place_empty : (b : Bool) (l : List Tree) → input_view b l ≡ Pulled → l ≡ []
 place_empty true l e = cc
 place_empty false [] e = refl
 place_empty false (t ∷ l) e = cc

@@ -13,7 +13,7 @@ use Rattle.stream_picture.specs.View as picture
 use Rattle.stream_picture.specs.View.{demand, total, wanted, size_of}
 use Rattle.stream_picture.specs.Lawful.{sent_in, ConcatInputs, taken_or_wanted}
 use Rattle.stream_picture.specs.Rests.{IsShut}
-use Rattle.stage_law.specs.Fans.{Uses}
+use Rattle.stage_law.specs.Fans.{UsesInputs}
 use Rattle.stage_law.specs.Held.{told}
 use Rattle.stage_law.specs.Law.{TookAs}
 use Rattle.stage_fans.specs.Seats.{end_by}
@@ -22,7 +22,7 @@ use Rattle.stage_in.specs.Takings.{OverBetween}
 use Rattle.stage_fans.proofs.Flags.{other}
 use Rattle.stage_in.proofs.Seats.{marked_before}
 use Rattle.fused_net.proofs.Reading.{same_or_not}
-use Rattle.run_account.specs.Account.{AllBegin, Stood}
+use Rattle.run_account.specs.Account.{AllBegin, WantedAt}
 use Rattle.run_account.specs.Ports.{InPort, EachPort, InStands}
 use Rattle.run_fan_laws.proofs.Flows.{Flows, all_elements, some_elements, flow_count, ended_over, over_ended, done_same}
 use Rattle.run_fan_laws.proofs.Counting.{used_all, used_few}
@@ -41,7 +41,7 @@ Wires is = map (λ (i : InPort). i.wire) is
 
 -- ---- where nothing waits, all that came was used
 
-uses_sum : (n : ℕ) (g : List Tagged) (over : List Bool) (xs : List InView) (hs : List (List Item)) (fs : List Inflow) → Uses n g (none_of over) fs → Flows xs hs fs → all_elements hs ≡ used_all n (length hs) g
+uses_sum : (n : ℕ) (g : List Tagged) (over : List Bool) (xs : List InView) (hs : List (List Item)) (fs : List Inflow) → UsesInputs n g (none_of over) fs → Flows xs hs fs → all_elements hs ≡ used_all n (length hs) g
 uses_sum n g [] [] [] [] u f = refl
 uses_sum n g (b ∷ over) (x ∷ xs) (h ∷ hs) (w ∷ fs) u f =
     let here = flow_count w f.0.0 in
@@ -57,7 +57,7 @@ uses_sum n g (b ∷ over) [] [] (w ∷ fs) u f = absurd f
 uses_sum n g (b ∷ over) [] (h ∷ hs) (w ∷ fs) u f = absurd f
 uses_sum n g (b ∷ over) (x ∷ xs) [] (w ∷ fs) u f = absurd f
 
-pub used_up : (g : List Tagged) (over : List Bool) (xs : List InView) (hs : List (List Item)) (fs : List Inflow) → Uses 0 g (none_of over) fs → Flows xs hs fs → all_elements hs ≤ length g
+pub used_up : (g : List Tagged) (over : List Bool) (xs : List InView) (hs : List (List Item)) (fs : List Inflow) → UsesInputs 0 g (none_of over) fs → Flows xs hs fs → all_elements hs ≤ length g
 used_up g over xs hs fs u f = let a = uses_sum 0 g over xs hs fs u f in let b = used_few 0 (length hs) g in omega (arith, a, b)
 
 -- ---- one after another
@@ -99,7 +99,7 @@ port_at (i ∷ is) (suc p) v s e = let r = port_at is p v s.1 e in record { port
 
 -- the inputs that had ended are shut, and all that was sent to them had come
 ended_before : (p n : ℕ) (g : List Tagged) (over : List Bool) (is : List InPort) (now : List Inflow) (xs : List InView) (hs : List (List Item)) (fs : List Inflow) → EachPort InStands is → Flows (Views is) (Gots is) now → AllBegin hs (Gots is)
-    → Flows xs hs fs → Uses n g (none_of over) fs → ((k : ℕ) → k < p → slice_get over k ≡ Some true) → FirstShut p (Wires is) × (sent_in (take p (Wires is)) ≤ all_elements (take p hs))
+    → Flows xs hs fs → UsesInputs n g (none_of over) fs → ((k : ℕ) → k < p → slice_get over k ≡ Some true) → FirstShut p (Wires is) × (sent_in (take p (Wires is)) ≤ all_elements (take p hs))
 ended_before zero n g over is now xs hs fs s w b f u o = (tt, omega arith)
 ended_before (suc p) n g over [] now xs hs fs s w b f u o = (tt, omega arith)
 ended_before (suc p) n g (t ∷ over) (i ∷ is) (y ∷ now) (x ∷ xs) (h ∷ hs) (k ∷ fs) s w b f u o =
@@ -124,7 +124,7 @@ ended_before (suc p) n g [] (i ∷ is) (y ∷ now) (x ∷ xs) (h ∷ hs) (k ∷ 
 
 module _ (is : List InPort) (now : List Inflow) (stands : EachPort InStands is) (came : Flows (Views is) (Gots is) now) where
   -- as input p asked, which was the only one that was asked, and all before it had ended
-  pub concat_asked : (p : ℕ) (g : List Tagged) (over : List Bool) (xs : List InView) (hs : List (List Item)) (fs : List Inflow) (most : ℕ) → AllBegin hs (Gots is) → Flows xs hs fs → Uses 0 g (none_of over) fs → OverBetween over 0 p
+  pub concat_asked : (p : ℕ) (g : List Tagged) (over : List Bool) (xs : List InView) (hs : List (List Item)) (fs : List Inflow) (most : ℕ) → AllBegin hs (Gots is) → Flows xs hs fs → UsesInputs 0 g (none_of over) fs → OverBetween over 0 p
       → slice_index_or (Wants is) p 0 ≡ elements (slice_index_or hs p []) + 1 → length g + 1 ≤ most → (v : picture.SeenWire) → slice_get (Wires is) p ≡ Some v → FirstShut p (Wires is) × (demand v + (0 + sent_in (take p (Wires is))) ≤ most)
   concat_asked p g over xs hs fs most begins f u o one enough v at =
       let i = port_at is p v stands at in
@@ -192,7 +192,7 @@ pub taken_demand : (v : picture.SeenWire) → taken_or_wanted v ≤ demand v
 taken_demand v = few_wanted v.shut v.asked v.sent (size_of v)
 
 -- an input at a moment from which it was not asked again
-turn_port : (i : InPort) (x : InView) (h : List Item) (f y : Inflow) (xs : List InView) → InStands i → (i.got ≡ told y.list y.end) × TookAs i.view y.end → IsPrefix h i.got → (h ≡ told f.list f.end) × TookAs x f.end → x ≢ Cancelled → Stood x i.want (elements h)
+turn_port : (i : InPort) (x : InView) (h : List Item) (f y : Inflow) (xs : List InView) → InStands i → (i.got ≡ told y.list y.end) × TookAs i.view y.end → IsPrefix h i.got → (h ≡ told f.list f.end) × TookAs x f.end → x ≢ Cancelled → WantedAt x i.want (elements h)
     → taken_or_wanted i.wire + waiting_count xs ≤ elements h + waiting_count (x ∷ xs)
 turn_port i Pulled h f y xs s w b k l st = let most = taken_demand i.wire in let reach = s.reach in omega (arith, most, reach, st)
 turn_port i Idle h f y xs s w b k l st = let most = taken_demand i.wire in let reach = s.reach in omega (arith, most, reach, st)
@@ -210,7 +210,7 @@ turn_port i Finished h f y xs s w b k l st =
 
 -- all of them
 pub turn_ports : (is : List InPort) (now : List Inflow) (xs : List InView) (hs : List (List Item)) (fs : List Inflow) → EachPort InStands is → Flows (Views is) (Gots is) now → AllBegin hs (Gots is) → Flows xs hs fs → ((n : ℕ) → n < length xs → slice_index_or xs n Cancelled ≢ Cancelled)
-    → ((n : ℕ) → Stood (slice_index_or xs n Cancelled) (slice_index_or (Wants is) n 0) (elements (slice_index_or hs n []))) → total taken_or_wanted (Wires is) ≤ all_elements hs + waiting_count xs
+    → ((n : ℕ) → WantedAt (slice_index_or xs n Cancelled) (slice_index_or (Wants is) n 0) (elements (slice_index_or hs n []))) → total taken_or_wanted (Wires is) ≤ all_elements hs + waiting_count xs
 turn_ports [] now xs hs fs s w b f l st = omega arith
 turn_ports (i ∷ is) (y ∷ now) (x ∷ xs) (h ∷ hs) (k ∷ fs) s w b f l st =
     let here = turn_port i x h k y xs s.0 w.0 b.0 f.0 (l 0 (omega arith)) (st 0) in

@@ -28,7 +28,7 @@ use Rattle.stage_fans.specs.Outs.{want_view, open_count, asks_count}
 use Rattle.stage_out.specs.Copies.{quiet_count}
 use Rattle.stage_out.specs.Machines.{number_starts}
 use Rattle.stage_out.specs.OwnRows.{Even}
-use Rattle.stage_out.specs.PartitionStates.{PartitionLogic, stage_of, state_of, held_of, dues, kept}
+use Rattle.stage_out.specs.PartitionStates.{PartitionLogic, stage_of, state_of, held_of, dues, held_for}
 use Rattle.stage_out.proofs.Rests.{told_lists}
 use Rattle.run_account.specs.Account.{AllBegin}
 use Rattle.run_account.specs.Ports.{OutPort, EachPort, OutStands}
@@ -133,14 +133,14 @@ module _ (book : Book) (node n : ℕ) (f : MapFn) where
   AllDealt l q _ _ = ⊥
 
   module _ (x : PartitionLogic) (none : x.held ≡ None) (lasts : x.over ≡ false) (v : View) (waits : in_at v 0 ≡ Pulled) (took : List Item) (l : List Tree) (e : End) (is : took ≡ told l e) where
-    dealt_one : (q : ℕ) (h : List Item) → (law : Law (machine book node n f q) (start book node n f q) (owing (record { gave = kept q x.to x.held; state = state_of x.over (stage_of x q) })) (in_at v 0) (out_at v q) took h)
+    dealt_one : (q : ℕ) (h : List Item) → (law : Law (machine book node n f q) (start book node n f q) (owing (record { gave = held_for q x.to x.held; state = state_of x.over (stage_of x q) })) (in_at v 0) (out_at v q) took h)
         → (elements h ≡ length (ran q l).gave) × (is_going (ran q l).state ≡ true)
     dealt_one q h law =
         let same : law.in_list ≡ l = told_lists law.in_list l law.in_end e (sym law.took_is ∙ is) in
         let end : law.in_end ≡ unended = open_end law.in_end (subst (λ y. TookAs y law.in_end) waits law.took_as) in
-        let now : ran q law.in_list ≡ record { gave = law.out_list ++ kept q x.to x.held; state = state_of x.over (stage_of x q) } = ap (λ (d : End). ends_by (machine book node n f q) (ran q law.in_list) d) (sym end) ∙ law.keeps.1.0 in
+        let now : ran q law.in_list ≡ record { gave = law.out_list ++ held_for q x.to x.held; state = state_of x.over (stage_of x q) } = ap (λ (d : End). ends_by (machine book node n f q) (ran q law.in_list) d) (sym end) ∙ law.keeps.1.0 in
         let still : ran q l ≡ record { gave = law.out_list ++ []; state = going (stage_of x q) } =
-        ap (λ (k : List Tree). ran q k) (sym same) ∙ (now ∙ (ap (λ y. record { gave = law.out_list ++ kept q x.to y; state = state_of x.over (stage_of x q) }) none ∙ ap (λ b. record { gave = law.out_list ++ []; state = state_of b (stage_of x q) }) lasts)) in (
+        ap (λ (k : List Tree). ran q k) (sym same) ∙ (now ∙ (ap (λ y. record { gave = law.out_list ++ held_for q x.to y; state = state_of x.over (stage_of x q) }) none ∙ ap (λ b. record { gave = law.out_list ++ []; state = state_of b (stage_of x q) }) lasts)) in (
           ap elements law.gave_is ∙ (elements_told law.out_list law.out_end ∙ (sym (ap length (append-nil law.out_list)) ∙ ap (λ (y : Run Stage Tree). length y.gave) (sym still))),
           ap (λ (y : Run Stage Tree). is_going y.state) still,
         )

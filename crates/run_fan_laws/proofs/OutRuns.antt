@@ -17,7 +17,7 @@ use Rattle.stage_out.specs.Machines.{outlets, owed, IsMachines, Begins}
 use Rattle.stage_out.specs.MachineNodes.{MachinesLaw}
 use Rattle.stage_out.proofs.MachineNodes.{stage_agrees, length-outlets}
 use Rattle.run_account.specs.Items.{MayPass, AllMayPass, AgreesWith}
-use Rattle.run_account.specs.KindLaws.{Heard, HearsAll, RunLaws}
+use Rattle.run_account.specs.KindLaws.{IsHistoryOf, HearsAll, RunLaws}
 use Rattle.run_fan_laws.proofs.InRuns.{at_index, one_given}
 use Rattle.run_fan_laws.proofs.OutLists.{Came, came_in}
 use Rattle.run_fan_laws.proofs.OutPictures.{some_outputs}
@@ -54,4 +54,4 @@ pub machines_hear : (book : Book) (k : ℕ) (kd : Kind) (first now : OutMachines
 machines_hear book k kd first now v took gave ok b law p h at =
     let c = came_of book first now v took gave law (some_outputs k kd first now ok b law.outputs) in
     let one = one_given law.taken h p (subst (λ (hs : List (List Item)). slice_get hs p ≡ Some h) law.took_is at) in
-    subst (λ q. Heard (in_at v q) h) (sym one.0) (record { list = c.list; end = c.end; is = one.1 ∙ c.is; as_seen = c.as_seen })
+    subst (λ q. IsHistoryOf (in_at v q) h) (sym one.0) (record { list = c.list; end = c.end; is = one.1 ∙ c.is; as_seen = c.as_seen })

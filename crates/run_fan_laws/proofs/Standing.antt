@@ -3,7 +3,7 @@ use Rattle.std.proofs.Common.{◌≡◌, ℕ, Bool, List, map, subst, ◌∙◌}
 use Rattle.elem_core.specs.Prefix.{IsPrefix}
 use Rattle.elem_core.specs.declared.item.Item.{Item}
 use Rattle.port_core.specs.View.{View}
-use Rattle.run_account.specs.Account.{Earlier, Last}
+use Rattle.run_account.specs.Account.{Earlier, LastAsked}
 use Rattle.run_account.specs.KindLaws.{Moments}
 use Rattle.run_account.specs.Ports.{InPort, OutPort}
 
@@ -41,8 +41,8 @@ module _ {N L : Type 0} (row : N → View → Type 0) (law : N → N → View �
           stays = λ one none had. same now s.stage (e.stays one none had ∙ s.is);
         }
 
-    last_of : (now : L) (took gave : List (List Item)) (ins_want outs_want : List ℕ) (outs_closed : List Bool) → Last row law asking moves (as_node first) (as_node now) took gave ins_want outs_want outs_closed
-        → Last its_row its_law its_asking its_moves first now took gave ins_want outs_want outs_closed
+    last_of : (now : L) (took gave : List (List Item)) (ins_want outs_want : List ℕ) (outs_closed : List Bool) → LastAsked row law asking moves (as_node first) (as_node now) took gave ins_want outs_want outs_closed
+        → LastAsked its_row its_law its_asking its_moves first now took gave ins_want outs_want outs_closed
     last_of now took gave ins_want outs_want outs_closed e =
         let s = stands e.old e.knew e.had e.given e.row_held e.law_held in
         record {

@@ -6,8 +6,8 @@ use Rattle.std.proofs.lemmas.List.{map-append}
 use Rattle.std.proofs.lemmas.List.Elements.{All-nil, All-push, Contains-append_left, Contains-push}
 use Rattle.stream_io.specs.Counts.{Grew}
 use Rattle.stream_io.specs.State.{FolderState, SourceState, DrainState, SameFiles, ClosesSource, ClosesDrain}
-use Rattle.run_files.specs.Names.{drain_names, Distinct}
-use Rattle.run_files.specs.Closing.{Adds, Keeps, ClosesAll}
+use Rattle.run_files.specs.Names.{drain_names, DistinctNames}
+use Rattle.run_files.specs.Closing.{Adds, KeepsFiles, ClosesAll}
 use Rattle.run_files.proofs.Counts.{grew_same, grew_two, quiet_same, quiet_two, same_name}
 use Rattle.run_files.proofs.Openings.{tells_still}
 use Rattle.run_files.proofs.Lists.{all_with, all_left, all_last, contains_none, contains_map, distinct_left, distinct_last}
@@ -27,7 +27,7 @@ module _ {X : Type 0} (name : X → List ℕ) (amount : X → ℕ) where
       let names : map name (xs ++ x ∷ []) ≡ map name xs ++ name x ∷ [] = map-append name xs (x ∷ []) in
       record {
         each = λ d.
-            let apart : Distinct (map name xs ++ name x ∷ []) = subst (λ ns. Distinct ns) names d in
+            let apart : DistinctNames (map name xs ++ name x ∷ []) = subst (λ ns. DistinctNames ns) names d in
             let new : ¬ (Contains (map name xs) (name x)) = distinct_last (map name xs) (name x) apart in
             All-push (λ y. Grew (f (name y)) (amount y) (h (name y))) xs x
             (all_with (λ y. Grew (f (name y)) (amount y) (g (name y))) (λ y. Grew (f (name y)) (amount y) (h (name y))) xs
@@ -63,7 +63,7 @@ module _ {X : Type 0} (name : X → List ℕ) (amount : X → ℕ) where
   }
 
 -- where no drain is closed no file is changed
-pub keeps_none : (s t : FolderState) → SameFiles s t → Keeps s t []
+pub keeps_none : (s t : FolderState) → SameFiles s t → KeepsFiles s t []
 keeps_none s t same =
     let told : IsTrue t.tells → IsTrue s.tells = tells_still s t (sym same.telling) in
     record {
@@ -78,14 +78,14 @@ no_push : (os : List DrainState) (o : DrainState) → os ++ o ∷ [] ≡ [] → 
 no_push [] o e = cc
 no_push (p ∷ ps) o e = cc
 
-pub keeps_more : (s t u : FolderState) (os : List DrainState) (o : DrainState) → Keeps s t os → ClosesDrain t u o → Keeps s u (os ++ o ∷ [])
+pub keeps_more : (s t u : FolderState) (os : List DrainState) (o : DrainState) → KeepsFiles s t os → ClosesDrain t u o → KeepsFiles s u (os ++ o ∷ [])
 keeps_more s t u os o was closed =
     let names : drain_names (os ++ o ∷ []) ≡ drain_names os ++ o.name ∷ [] = map-append (λ (p : DrainState). p.name) os (o ∷ []) in
     record {
       told = λ tells. was.told (closed.told tells);
       still = λ e. absurd (no_push os o e);
       each = λ d tells.
-          let apart : Distinct (drain_names os ++ o.name ∷ []) = subst (λ ns. Distinct ns) names d in
+          let apart : DistinctNames (drain_names os ++ o.name ∷ []) = subst (λ ns. DistinctNames ns) names d in
           let new : ¬ (Contains (drain_names os) o.name) = distinct_last (drain_names os) o.name apart in
           All-push (λ p. u.file p.name ≡ p.holds) os o
           (all_with (λ p. t.file p.name ≡ p.holds) (λ p. u.file p.name ≡ p.holds) os
@@ -108,7 +108,7 @@ keeps_more s t u os o was closed =
     }
 
 -- files that no drain's closing changed before are as they were then
-pub keeps_before : (s t u : FolderState) (os : List DrainState) → SameFiles s t → Keeps t u os → Keeps s u os
+pub keeps_before : (s t u : FolderState) (os : List DrainState) → SameFiles s t → KeepsFiles t u os → KeepsFiles s u os
 keeps_before s t u os same was =
     let told : IsTrue t.tells → IsTrue s.tells = tells_still s t (sym same.telling) in
     record {
@@ -119,7 +119,7 @@ keeps_before s t u os same was =
       others = λ tells n no. was.others tells n no ∙ same.files (told (was.told tells)) n;
     }
 
-pub same_files : (s t : FolderState) → Keeps s t [] → SameFiles s t
+pub same_files : (s t : FolderState) → KeepsFiles s t [] → SameFiles s t
 same_files s t none = record {
   telling = none.still refl;
   files = λ tells n. none.others (tells_still t s (none.still refl) tells) n (contains_none n);

@@ -4,7 +4,7 @@ use Rattle.std.specs.List.{All, Contains}
 use Rattle.std.proofs.lemmas.List.{length-map, get_or-map}
 use Rattle.std.proofs.lemmas.List.Elements.{All-nil, All-cons, All-head, All-tail, All-contains, Contains-get_or, Contains-push}
 use Rattle.std.proofs.lemmas.Option.{slice_get_within, slice_get-get_or}
-use Rattle.run_files.specs.Names.{Distinct}
+use Rattle.run_files.specs.Names.{DistinctNames}
 
 -- what stands in a list with more behind it
 pub get_before : {A : Type 0} (xs ys : List A) (k : ℕ) → k < length xs → slice_get (xs ++ ys) k ≡ slice_get xs k
@@ -37,12 +37,12 @@ contains_map f xs x c =
     (c.0, omega (arith, size, within), get_or-map f xs c.0 x (f x) within ∙ ap f c.2)
 
 -- distinct names are so without the last one, which is none of them
-pub distinct_left : (ns : List (List ℕ)) (n : List ℕ) → Distinct (ns ++ n ∷ []) → Distinct ns
+pub distinct_left : (ns : List (List ℕ)) (n : List ℕ) → DistinctNames (ns ++ n ∷ []) → DistinctNames ns
 distinct_left ns n d =
     let more : (k : ℕ) (m : List ℕ) → slice_get ns k ≡ Some m → slice_get (ns ++ n ∷ []) k ≡ Some m = λ k m e. get_before ns (n ∷ []) k (slice_get_within ns k m e) ∙ e in
     λ i j m a b. d i j m (more i m a) (more j m b)
 
-pub distinct_last : (ns : List (List ℕ)) (n : List ℕ) → Distinct (ns ++ n ∷ []) → ¬ (Contains ns n)
+pub distinct_last : (ns : List (List ℕ)) (n : List ℕ) → DistinctNames (ns ++ n ∷ []) → ¬ (Contains ns n)
 distinct_last ns n d c =
     let within : c.0 < length ns = c.1 in
     let first : slice_get (ns ++ n ∷ []) c.0 ≡ Some n = get_before ns (n ∷ []) c.0 within ∙ slice_get-get_or ns c.0 n within ∙ ap Some c.2 in

@@ -4,7 +4,7 @@ use Rattle.std.specs.Prelude.{IsTrue, IsSome}
 use Rattle.std.specs.List.{All, Contains}
 use Rattle.std.proofs.lemmas.List.Elements.{All-weaker, All-map}
 use Rattle.stream_io.specs.Counts.{Rose}
-use Rattle.stream_io.specs.State.{FolderState, SourceState, DrainState, SameFiles, SameFaults, SameRefusals, RefusesName, Lacks}
+use Rattle.stream_io.specs.State.{FolderState, SourceState, DrainState, SameFiles, SameFaults, SameRefusals, RefusesName, LacksFile}
 use Rattle.run_files.specs.Quiet.{Quiet, QuietBut}
 use Rattle.run_files.specs.Opening.{AtStart, HoldsNone, Empties, OpensAll, MissesInput, RefusesOutput, GivesUp}
 use Rattle.run_files.specs.Stopping.{StopsAtInput, StopsAtOutput, LacksRoom}
@@ -74,7 +74,7 @@ emptied_none s u none = record {
   files = λ h n. none.others (tells_still u s (none.still refl) h) n (contains_none n);
 }
 
-pub lacks_before : (s t : FolderState) (n : List ℕ) → Empties s t [] → Lacks t n → Lacks s n
+pub lacks_before : (s t : FolderState) (n : List ℕ) → Empties s t [] → LacksFile t n → LacksFile s n
 lacks_before s t n none lacks = (none.told lacks.0, sym (none.others lacks.0 n (contains_none n)) ∙ lacks.1)
 
 pub misses : (s t u : FolderState) (inputs : List (List ℕ)) (n : List ℕ) (is : List SourceState) (os : List DrainState) → StopsAtInput s t inputs n is os → ClosesAll t u is os → MissesInput s u inputs n

@@ -10,5 +10,5 @@ abbrev pub drain_names : List DrainState → List (List ℕ)
 drain_names os = map (λ o. o.name) os
 
 -- no name stands at two places
-abbrev pub Distinct : List (List ℕ) → Type 0
-Distinct names = (i j : ℕ) (n : List ℕ) → slice_get names i ≡ Some n → slice_get names j ≡ Some n → i ≡ j
+abbrev pub DistinctNames : List (List ℕ) → Type 0
+DistinctNames names = (i j : ℕ) (n : List ℕ) → slice_get names i ≡ Some n → slice_get names j ≡ Some n → i ≡ j

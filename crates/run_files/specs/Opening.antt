@@ -2,7 +2,7 @@
 use Rattle.std.specs.Prelude.{◌≡◌, ℕ, ◌⊎◌, IsTrue, IsSome, List, [], ◌∷◌, ◌++◌, Some}
 use Rattle.std.specs.List.{All, Contains}
 use Rattle.stream_io.specs.Counts.{Rose}
-use Rattle.stream_io.specs.State.{FolderState, SourceState, DrainState, SameFiles, Lacks}
+use Rattle.stream_io.specs.State.{FolderState, SourceState, DrainState, SameFiles, LacksFile}
 use Rattle.run_files.specs.Quiet.{Quiet, QuietBut}
 use Rattle.run_files.specs.Names.{source_names, drain_names}
 
@@ -45,7 +45,7 @@ pub record MissesInput (old new : FolderState) (inputs : List (List ℕ)) (n : L
   pub after : List (List ℕ)
   pub place : inputs ≡ before ++ n ∷ after
   pub there : IsTrue old.tells → All (λ m. IsSome (old.file m)) before
-  pub why : Lacks old n ⊎ Rose (old.refusals n) (new.refusals n)
+  pub why : LacksFile old n ⊎ Rose (old.refusals n) (new.refusals n)
   pub files : SameFiles old new
   pub refusals : QuietBut n old.refusals new.refusals
   pub read : Quiet old.read new.read

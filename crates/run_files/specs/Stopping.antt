@@ -1,7 +1,7 @@
 -- Openings that stop at a name, before the handles that are open are closed.
 use Rattle.std.specs.Prelude.{◌≡◌, ℕ, ◌⊎◌, List, [], ◌∷◌, ◌++◌}
 use Rattle.stream_io.specs.Counts.{Rose}
-use Rattle.stream_io.specs.State.{FolderState, SourceState, DrainState, SameFiles, SameFaults, SameRefusals, RefusesName, Lacks}
+use Rattle.stream_io.specs.State.{FolderState, SourceState, DrainState, SameFiles, SameFaults, SameRefusals, RefusesName, LacksFile}
 use Rattle.run_files.specs.Opening.{OpensAll}
 
 -- the inputs before this name were opened; its own opening was refused, or its file is not there
@@ -13,7 +13,7 @@ pub record StopsAtInput (old new : FolderState) (inputs : List (List ℕ)) (n : 
   pub opens : OpensAll old mid before [] is os
   pub files : SameFiles mid new
   pub faults : SameFaults mid new
-  pub why : Lacks mid n ⊎ Rose (mid.refusals n) (new.refusals n)
+  pub why : LacksFile mid n ⊎ Rose (mid.refusals n) (new.refusals n)
   pub refusal : RefusesName mid new n
 
 -- the inputs and the outputs before this name were opened; its own opening was refused

@@ -17,10 +17,10 @@ use Rattle.run_account.specs.Items.{AllMayPass, AgreesWith}
 use Rattle.run_account.proofs.Agreeing.{every_wire, every_input, gives_by, all_fit}
 use Rattle.run_outlook_laws.specs.Made.{FirstOf}
 use Rattle.run_outlook_laws.specs.Runs.{IsRun}
-use Rattle.run_outlook_laws.specs.Telling.{TellsNode, TellsMoves, TellsPicks, Tells}
+use Rattle.run_outlook_laws.specs.Telling.{TellsNode, TellsMoves, TellsPicks, WorldTells}
 use Rattle.run_outlook_laws.proofs.AnyKind.{node_laws}
 
-module _ {S D L B : Type 0} (sources : S → SourceState) (drains : D → DrainState) (g : Graph) (w : World) (a : Account (IslandNode S D L B)) (run : IsRun sources drains w.book g a) (tells : Tells sources g w a) (rank : ℕ → ℕ) (ranked : IsRanked g rank) where
+module _ {S D L B : Type 0} (sources : S → SourceState) (drains : D → DrainState) (g : Graph) (w : World) (a : Account (IslandNode S D L B)) (run : IsRun sources drains w.book g a) (tells : WorldTells sources g w a) (rank : ℕ → ℕ) (ranked : IsRanked g rank) where
   -- what the world tells of each node
   told : (k : ℕ) (n : graph.Node) (first now : IslandNode S D L B) → slice_get g.nodes k ≡ Some n → a.firsts k ≡ Some first → a.nodes k ≡ Some now → TellsNode sources w n first now × TellsMoves w k now
   told k n first now e f x = (tells.files k n first now e f x, tells.picks k now x)

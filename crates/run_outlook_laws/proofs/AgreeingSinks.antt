@@ -35,7 +35,7 @@ use Rattle.nodes.specs.Ports.{OneInOf}
 use Rattle.nodes.specs.Kinds.{IsMaker, IsFileSink, writes_of}
 use Rattle.nodes.specs.declared.sink.Writes.{Writes}
 use Rattle.nodes.specs.declared.sink.Writes.TheVariants.{Each}
-use Rattle.nodes.specs.Sink.{Sink, sink_port_state_in, WrotePart, StandsAs, end_seen, WritesOf, SinkLaw}
+use Rattle.nodes.specs.Sink.{Sink, sink_port_state_in, WrotePart, SinkStandsAs, end_seen, WritesOf, SinkLaw}
 use Rattle.nodes.specs.Ignoring.{Ignorer, ignore_port_state_in, IgnoreLaw}
 use Rattle.nodes.proofs.SinkTexts.{has_lines}
 use Rattle.stage_in.specs.Logics.{IsFanIn}
@@ -45,7 +45,7 @@ use Rattle.run_account.proofs.Coming.{elements_told, no_fewer}
 use Rattle.run_account.proofs.Nodes.{KeptAs, kept_as, one_input, read_one}
 use Rattle.run_outlook_laws.specs.Made.{FirstWriting, FirstIgnoring, FirstOf}
 use Rattle.run_outlook_laws.specs.Runs.{IsRun}
-use Rattle.run_outlook_laws.specs.Telling.{Tells}
+use Rattle.run_outlook_laws.specs.Telling.{WorldTells}
 use Rattle.run_outlook_laws.specs.Sinks.{TookList, SinkTells, SentTo, IsSinkAt, IgnoreTells, IsIgnorerAt}
 use Rattle.run_outlook_laws.proofs.Counting.{sent_by, rests_by, ignored_by}
 use Rattle.run_outlook_laws.proofs.Faults.{sent_wanted, none_behind}
@@ -202,7 +202,7 @@ module _ {S D L B : Type 0} (sources : S → SourceState) (drains : D → DrainS
 
     none_more : now.end ≡ WriteFault → elements (a.far u).wire.sent ≤ elements (a.far u).wire.got
     none_more fault =
-        let part : WrotePart (drains first.drain) (drains now.drain) law.wrote now.count = subst (λ (s : EndState). StandsAs s (drains first.drain) (drains now.drain) law.wrote now.count) fault law.stands in
+        let part : WrotePart (drains first.drain) (drains now.drain) law.wrote now.count = subst (λ (s : EndState). SinkStandsAs s (drains first.drain) (drains now.drain) law.wrote now.count) fault law.stands in
         let some : length law.wrote ≡ length (part.before ++ part.last ∷ []) = ap length part.wrote_is in
         let same : length law.wrote ≡ length law.elems = ap length each.0 in
         let open_end : law.in_end ≡ unended = each.1 ∙ ap end_seen fault in
@@ -232,7 +232,7 @@ module _ {S D L B : Type 0} (sources : S → SourceState) (drains : D → DrainS
       → whole_lines (length written) written ≡ now.count
   sink_lines k n first now written ni at h l = (has_lines drains first now (knows g a k n) (took g a k n) (gave g a k n) written (sink_law k n first now ni at) h l).0
 
-  module _ (w : World) (same : w.book ≡ book) (tells : Tells sources g w a) (rank : ℕ → ℕ) (ranked : IsRanked g rank) where
+  module _ (w : World) (same : w.book ≡ book) (tells : WorldTells sources g w a) (rank : ℕ → ℕ) (ranked : IsRanked g rank) where
     -- the run, by the book of this world
     its_run : IsRun sources drains w.book g a
     its_run = subst (λ (b : Book). IsRun sources drains b g a) (sym same) run

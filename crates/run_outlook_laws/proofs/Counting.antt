@@ -15,7 +15,7 @@ use Rattle.stream_io.specs.State.{DrainState}
 use Rattle.stage_law.specs.Held.{told}
 use Rattle.stage_law.specs.Law.{TookAs}
 use Rattle.nodes.specs.Ports.{OneInOf}
-use Rattle.nodes.specs.Sink.{sink_port_state_in, StandsAs, end_seen}
+use Rattle.nodes.specs.Sink.{sink_port_state_in, SinkStandsAs, end_seen}
 use Rattle.nodes.specs.Ignoring.{ignore_port_state_in, EndsWith}
 use Rattle.run_outlook_laws.specs.Sinks.{SentTo, IgnoreTells}
 use Rattle.run_account.proofs.Coming.{elements_told, over_same, waiting_few, resting_same, no_fewer}
@@ -77,7 +77,7 @@ module _ (c : JointPorts) (q : Bool) (sound : IsSound c q) (b : Bool) (outs : Li
     wrote_count : length wrote ≡ length elems
     wrote_count = ap length all
 
-    pub sent_by : (s : EndState) → (s ≡ WriteFault → elements c.sent ≤ elements c.got) → e ≡ end_seen s → OneInOf (sink_port_state_in b s) (c.inp ∷ []) outs → StandsAs s old new wrote n → SentTo s (elements c.sent) n
+    pub sent_by : (s : EndState) → (s ≡ WriteFault → elements c.sent ≤ elements c.got) → e ≡ end_seen s → OneInOf (sink_port_state_in b s) (c.inp ∷ []) outs → SinkStandsAs s old new wrote n → SentTo s (elements c.sent) n
     sent_by Ended none is r w = all_ended is ∙ sym wrote_count ∙ sym w.count
     sent_by (Failed d) none is r w = all_failed d is ∙ sym wrote_count ∙ sym w.count
     sent_by Unended none is r w =
@@ -95,7 +95,7 @@ module _ (c : JointPorts) (q : Bool) (sound : IsSound c q) (b : Bool) (outs : Li
         let same : length wrote ≡ length elems = wrote_count in
         omega (arith, least, most, got_count, count, more, same, length-append w.before (w.last ∷ []))
 
-    pub rests_by : (s : EndState) → s ≡ Unended → q ≡ false → OneInOf (sink_port_state_in b s) (c.inp ∷ []) outs → StandsAs s old new wrote n → elements c.sent ≡ n
+    pub rests_by : (s : EndState) → s ≡ Unended → q ≡ false → OneInOf (sink_port_state_in b s) (c.inp ∷ []) outs → SinkStandsAs s old new wrote n → elements c.sent ≡ n
     rests_by Unended is none r w = resting_same c q sound none (open_waits b c.inp outs r) ∙ got_count ∙ sym wrote_count ∙ sym w.count
     rests_by Ended is none r w = cc
     rests_by (Failed d) is none r w = cc

@@ -17,9 +17,9 @@ use Rattle.nodes.specs.Nodes.{node_port_state, node_law, node_asking, node_moves
 use Rattle.wire_core.specs.Cell.{WireState}
 use Rattle.wire_core.specs.Reading.{no_wire}
 use Rattle.run_account.specs.Account.{Account, AllMade, IsStill}
-use Rattle.run_account.specs.Pictures.{counts_from, counts_of}
+use Rattle.run_account.specs.Pictures.{counts_from, picture_counts}
 use Rattle.run_account.specs.Ports.{wire_count}
-use Rattle.run_account.specs.Seats.{Seats, Covers, LanesKeep, LanesRest, joined, one_seat, account_of}
+use Rattle.run_account.specs.Seats.{Seats, Covers, LanesKeep, LanesRest, joined_account, one_seat, account_of}
 use Rattle.run_account.proofs.Joining.{all_keep, all_still}
 use Rattle.run_account.proofs.Reading.{found_both}
 use Rattle.run_outlook_laws.specs.Made.{FirstOf, Materializes}
@@ -54,14 +54,14 @@ counts_same a i (v ∷ ws) (c ∷ cells) fused e f =
 -- any number of islands, with lanes
 module _ {S D L B : Type 0} (sources : S → SourceState) (drains : D → DrainState) (book : Book) (g : Graph) (nets : ℕ → Net (IslandNode S D L B)) (seats : Seats) (asked : ℕ → ℕ) (covers : Covers g nets seats)
     (settled : (b : ℕ) → Settled node_port_state (node_law sources drains book) node_asking node_moves (nets b)) where
-  pub all_run : IsJoined g → LanesKeep g nets seats asked → AllMade (FirstOf sources g.chains) g (joined nets seats asked) → IsRun sources drains book g (joined nets seats asked)
+  pub all_run : IsJoined g → LanesKeep g nets seats asked → AllMade (FirstOf sources g.chains) g (joined_account nets seats asked) → IsRun sources drains book g (joined_account nets seats asked)
   all_run is_joined lanes made = record {
     joined = is_joined;
     keeps = all_keep node_port_state (node_law sources drains book) node_asking node_moves g nets seats is_joined covers asked settled lanes;
     made = made;
   }
 
-  pub all_rest : ((b : ℕ) → (nets b).queue ≡ []) → LanesRest g nets seats asked → IsStill g (joined nets seats asked)
+  pub all_rest : ((b : ℕ) → (nets b).queue ≡ []) → LanesRest g nets seats asked → IsStill g (joined_account nets seats asked)
   all_rest = all_still node_port_state (node_law sources drains book) node_asking node_moves g nets seats covers asked settled
 
 -- one island, in which no wire is a lane
@@ -155,5 +155,5 @@ module _ {S D L B : Type 0} (sources : S → SourceState) (drains : D → DrainS
       still u h = rw empty at (settled.sound u h)
 
   -- its picture is that of the island's wires
-  pub island_counts : counts_of (account_of net) g ≡ map (λ (c : WireState). wire_count None c 0) net.wires
+  pub island_counts : picture_counts (account_of net) g ≡ map (λ (c : WireState). wire_count None c 0) net.wires
   island_counts = counts_same (account_of net) 0 g.wires net.wires (λ u v e. (made.each_wire u v e).no_lane) (let a = settled.wired.each_wire in let b = made.wires in omega (arith, a, b)) (λ k h. let none : 0 + k ≡ k = omega arith in rw none refl)

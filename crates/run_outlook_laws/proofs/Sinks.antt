@@ -15,7 +15,7 @@ use Rattle.stream_io.specs.State.{DrainState}
 use Rattle.stage_law.specs.Held.{told}
 use Rattle.nodes.specs.declared.sink.Writes.{Writes}
 use Rattle.nodes.specs.declared.sink.Writes.TheVariants.{Each, First, Last}
-use Rattle.nodes.specs.Sink.{Sink, WroteAll, StandsAs, end_seen, WritesOf, SinkLaw}
+use Rattle.nodes.specs.Sink.{Sink, WroteAll, SinkStandsAs, end_seen, WritesOf, SinkLaw}
 use Rattle.nodes.proofs.Drawings.{text_lines-append}
 use Rattle.nodes.proofs.SinkTexts.{has_lines}
 use Rattle.run_outlook_laws.specs.Sinks.{TookList, HoldsText, SinkTells}
@@ -41,7 +41,7 @@ part_of o l ended a = rw a.1 (prefix_refl o.list)
 part_of o l (failed c) a = a.0
 
 tells_by : (s : EndState) (wr : Writes) (o : Outlook) (old new : DrainState) (wrote : List Tree) (n : ℕ) (written : List ℕ) → old.holds ≡ Some [] → new.holds ≡ Some written
-    → Agrees o wrote (end_by s wr) → StandsAs s old new wrote n → IsPrefix written (text_lines wrote) → SinkTells o s written
+    → Agrees o wrote (end_by s wr) → SinkStandsAs s old new wrote n → IsPrefix written (text_lines wrote) → SinkTells o s written
 tells_by Ended wr o old new wrote n written h k a w p = wrote_text o ended old new wrote n written h k a w
 tells_by (Failed c) wr o old new wrote n written h k a w p = wrote_text o (failed c) old new wrote n written h k a w
 tells_by Unended wr o old new wrote n written h k a w p = wrote_text o unended old new wrote n written h k a w

@@ -36,7 +36,7 @@ use Rattle.stage_sub.specs.declared.opening.OpenBy.TheVariants.{Before, Behind, 
 use Rattle.stage_sub.specs.KeptSubs.{opening_of}
 use Rattle.stage_sub.specs.Joined.{untag}
 use Rattle.stage_sub.specs.States.{Logic, Owes, begun}
-use Rattle.stage_sub.specs.Handling.{BeginsAs, ChoosesAs, SubLaw, Tells, no_moves}
+use Rattle.stage_sub.specs.Handling.{BeginsAs, ChoosesAs, SubLaw, TellsMachine, new_log}
 use Rattle.stage_sub.proofs.Beginning.{begun_owes}
 use Rattle.stage_sub.proofs.Standing.{concat_stands, merge_stands}
 use Rattle.line_chain.specs.Line.{Line, line_whole, line_rest, line_is_open, no_plugs, IsLine}
@@ -86,7 +86,7 @@ pub record SubFirst (k : ℕ) (kd : Kind) (chain : Line) (x : Logic Line) : Type
   pub how : OpenBy
   pub join : Joining
   pub kind : IsSubKind kd (opening_of how) join
-  pub is : x ≡ begun k how (no_moves join) chain
+  pub is : x ≡ begun k how (new_log join) chain
 
 pub sub_first : (k : ℕ) (kd : Kind) (chain : Line) (x : Logic Line) → BeginsAs kd k chain x → SubFirst k kd chain x
 sub_first k (GroupBy n f name) chain x b = record { how = Key n f; join = Merge; kind = group_kind n f name; is = b }
@@ -96,15 +96,15 @@ sub_first k _ chain x b = absurd b
 
 -- ---- what its law tells, by its chain
 
-module _ (k : ℕ) (first now : Logic Line) (v : View) (took gave : List (List Item)) (how : OpenBy) (join : Joining) (is : first ≡ begun k how (no_moves join) first.chain) (law : SubLaw line_rest line_is_open line_whole first now v took gave) where
+module _ (k : ℕ) (first now : Logic Line) (v : View) (took gave : List (List Item)) (how : OpenBy) (join : Joining) (is : first ≡ begun k how (new_log join) first.chain) (law : SubLaw line_rest line_is_open line_whole first now v took gave) where
   -- by whatever its chain comes to in the model
-  tells_by : (f : ListFunction) (yields : List Tree → End → Given Tree) → Same (line_whole first.chain) f → Means yields f → Tells line_rest line_is_open f yields (begin_subs yields k) first now v law.took_list law.gave_list
+  tells_by : (f : ListFunction) (yields : List Tree → End → Given Tree) → Same (line_whole first.chain) f → Means yields f → TellsMachine line_rest line_is_open f yields (begin_subs yields k) first now v law.took_list law.gave_list
   tells_by f yields same means =
       law.tells f same yields means (begin_subs yields k)
-      (subst (λ (x : Logic Line). Owes line_rest line_is_open f yields x (owing (untag (begin_subs yields k)))) (sym is) (begun_owes line_rest line_is_open k how (no_moves join) first.chain f yields))
+      (subst (λ (x : Logic Line). Owes line_rest line_is_open f yields x (owing (untag (begin_subs yields k)))) (sym is) (begun_owes line_rest line_is_open k how (new_log join) first.chain f yields))
 
   -- by the chain of these steps
-  pub tells_of : (book : Book) (steps : List graph.Step) → IsLine k steps first.chain → Tells line_rest line_is_open (list_function book (chain_of k steps)) (through book (chain_of k steps)) (begin_subs (through book (chain_of k steps)) k) first now v law.took_list law.gave_list
+  pub tells_of : (book : Book) (steps : List graph.Step) → IsLine k steps first.chain → TellsMachine line_rest line_is_open (list_function book (chain_of k steps)) (through book (chain_of k steps)) (begin_subs (through book (chain_of k steps)) k) first now v law.took_list law.gave_list
   tells_of book steps line =
       tells_by (list_function book (chain_of k steps)) (through book (chain_of k steps))
       (subst (λ (xs : Chain). Same (line_whole first.chain) (list_function book xs)) line.starts (line.same book))
@@ -136,14 +136,14 @@ module _ (g : Graph) (w : World) (k : ℕ) (n : graph.Node) (first now : Logic L
   abbrev yields : List Tree → End → Given Tree
   yields = yields_of g w k n.kind
 
-  its : Tells line_rest line_is_open (list_function w.book (chain_of k (steps_of (chain_name n.kind) g.chains))) yields (begin_subs yields k) first now v law.took_list law.gave_list
+  its : TellsMachine line_rest line_is_open (list_function w.book (chain_of k (steps_of (chain_name n.kind) g.chains))) yields (begin_subs yields k) first now v law.took_list law.gave_list
   its = tells_of k first now v took gave f.how f.join f.is law w.book (steps_of (chain_name n.kind) g.chains) made.line
 
   how_is : opening_of first.how ≡ opening_of f.how
   how_is = ap (λ (x : Logic Line). opening_of x.how) f.is
 
   -- by the way of joining: it agrees, and its moves fit
-  by_join : (j : Joining) → first.moves ≡ no_moves j → (o : Outlook) → Agrees o its.law.in_list its.law.in_end
+  by_join : (j : Joining) → first.moves ≡ new_log j → (o : Outlook) → Agrees o its.law.in_list its.law.in_end
       → Agrees (outlook_by j yields k (opening_of first.how) (w.moves k) o) its.law.out_list its.law.out_end × (fits_by j yields k (opening_of first.how) (w.moves k) o ≡ true)
   by_join Merge m o a =
       let log = logs_on first.moves now.moves law.chooses m in

@@ -13,7 +13,7 @@ use Rattle.stream_model.specs.Graph as graph
 use Rattle.stream_model.specs.Composed.{sink_outlook}
 use Rattle.stream_io.specs.State.{SourceState, DrainState}
 use Rattle.nodes.specs.declared.node.IslandNode.{IslandNode}
-use Rattle.nodes.specs.Sink.{Sink, WroteAll, StandsAs, SinkLaw}
+use Rattle.nodes.specs.Sink.{Sink, WroteAll, SinkStandsAs, SinkLaw}
 use Rattle.nodes.proofs.SinkTexts.{has_lines}
 use Rattle.run_account.specs.Account.{Account, knows, took, gave}
 use Rattle.run_outlook_laws.specs.Runs.{IsRun}
@@ -29,7 +29,7 @@ holding s held = record { name = s.name; holds = Some held; faults = s.faults }
 -- what was written by one that held nothing at first
 record Written (e : EndState) (old new : DrainState) (wrote : List Tree) (n : ℕ) : Type 0 where
   pub bytes : List ℕ
-  pub stands : StandsAs e (holding old []) (holding new bytes) wrote n
+  pub stands : SinkStandsAs e (holding old []) (holding new bytes) wrote n
   pub holds : old.holds ≡ Some [] → new.holds ≡ Some bytes
 
 held_by : (o new : Option (List ℕ)) (more : List ℕ) → new ≡ option_map (λ held. held ++ more) o → o ≡ Some [] → new ≡ Some more
@@ -38,7 +38,7 @@ held_by o new more e f = e ∙ ap (λ (p : Option (List ℕ)). option_map (λ he
 all_written : (old new : DrainState) (wrote : List Tree) (n : ℕ) → WroteAll old new wrote n → WroteAll (holding old []) (holding new (text_lines wrote)) wrote n
 all_written old new wrote n w = record { holds = refl; count = w.count; faults = w.faults }
 
-written_by : (e : EndState) (old new : DrainState) (wrote : List Tree) (n : ℕ) → StandsAs e old new wrote n → Written e old new wrote n
+written_by : (e : EndState) (old new : DrainState) (wrote : List Tree) (n : ℕ) → SinkStandsAs e old new wrote n → Written e old new wrote n
 written_by Unended old new wrote n w = record { bytes = text_lines wrote; stands = all_written old new wrote n w; holds = held_by old.holds new.holds (text_lines wrote) w.holds }
 written_by Ended old new wrote n w = record { bytes = text_lines wrote; stands = all_written old new wrote n w; holds = held_by old.holds new.holds (text_lines wrote) w.holds }
 written_by (Failed c) old new wrote n w = record { bytes = text_lines wrote; stands = all_written old new wrote n w; holds = held_by old.holds new.holds (text_lines wrote) w.holds }

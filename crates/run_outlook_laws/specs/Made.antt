@@ -47,17 +47,17 @@ pub record FirstState (k : ℕ) (n : graph.Node) (x : StateLogic) : Type 0 where
   pub begins : state.Begins k n.kind n.decider x
 
 -- the chain that a mention names
-abbrev chain_in : Mention → List ℕ
-chain_in no_name = []
-chain_in (a_file file) = []
-chain_in (a_switch switch) = []
-chain_in (a_trip order switch n) = []
-chain_in (a_plug plug) = []
-chain_in (a_chain name) = name
+abbrev mentioned_chain : Mention → List ℕ
+mentioned_chain no_name = []
+mentioned_chain (a_file file) = []
+mentioned_chain (a_switch switch) = []
+mentioned_chain (a_trip order switch n) = []
+mentioned_chain (a_plug plug) = []
+mentioned_chain (a_chain name) = name
 
 -- the name of the chain through which each substream of a stage goes
 abbrev pub chain_name : Kind → List ℕ
-chain_name k = chain_in (mention_of k)
+chain_name k = mentioned_chain (mention_of k)
 
 -- a stage with substreams at its start, each of which goes through the chain that its kind names
 pub record FirstSub (chains : List graph.Chain) (k : ℕ) (n : graph.Node) (x : subs.Logic Line) : Type 0 where

@@ -20,7 +20,7 @@ use Rattle.nodes.specs.declared.node.IslandNode.{IslandNode}
 use Rattle.nodes.specs.declared.node.IslandNode.TheVariants.{Writing, Ignoring}
 use Rattle.nodes.specs.Sink.{Sink, end_seen}
 use Rattle.nodes.specs.Ignoring.{Ignorer}
-use Rattle.run_outlook_laws.specs.Telling.{Tells}
+use Rattle.run_outlook_laws.specs.Telling.{WorldTells}
 
 -- it took a list that may pass and stand as its input does
 pub record TookList (o : Outlook) (e : EndState) (took : List (List Item)) : Type 0 where
@@ -61,7 +61,7 @@ pub record SinkWrote {S D L B : Type 0} (sources : S → SourceState) (drains : 
   pub written : List ℕ
   pub lines_are : whole_lines (length written) written ≡ now.count
   pub holds : (drains first.drain).holds ≡ Some [] → (drains now.drain).holds ≡ Some written
-  pub tells : (w : World) (rank : ℕ → ℕ) → w.book ≡ book → Tells sources g w a → IsRanked g rank → SinkTells (sink_outlook g w k n) now.end written
+  pub tells : (w : World) (rank : ℕ → ℕ) → w.book ≡ book → WorldTells sources g w a → IsRanked g rank → SinkTells (sink_outlook g w k n) now.end written
 
 -- So many elements were sent to a sink that keeps nothing: they are a list that may pass and stand so; while it waits, the
 -- list that it took, and one element more at most.

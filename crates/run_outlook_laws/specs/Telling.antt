@@ -60,6 +60,6 @@ module _ {S D L B : Type 0} (sources : S → SourceState) where
   TellsFiles g w a = (k : ℕ) (n : graph.Node) (first now : IslandNode S D L B) → slice_get g.nodes k ≡ Some n → a.firsts k ≡ Some first → a.nodes k ≡ Some now → TellsNode w n first now
 
   -- the files of all nodes, and what they chose
-  pub record Tells (g : Graph) (w : World) (a : Account (IslandNode S D L B)) : Type 0 where
+  pub record WorldTells (g : Graph) (w : World) (a : Account (IslandNode S D L B)) : Type 0 where
     pub files : TellsFiles g w a
     pub picks : TellsPicks w a

@@ -23,14 +23,14 @@ ghost use Rattle.nodes.specs.Source.{Lines};
 ghost use Rattle.nodes.specs.declared.node.IslandNode.{IslandNode};
 ghost use Rattle.run_account.specs.Account.{Account, AllMade, took, IsStill};
 ghost use Rattle.run_account.specs.Items.{AgreesWith};
-ghost use Rattle.run_account.specs.Pictures.{counts_of};
+ghost use Rattle.run_account.specs.Pictures.{picture_counts};
 ghost use Rattle.run_account.specs.Ports.{wire_count};
-ghost use Rattle.run_account.specs.Seats.{Seats, Covers, LanesKeep, LanesRest, joined, account_of};
+ghost use Rattle.run_account.specs.Seats.{Seats, Covers, LanesKeep, LanesRest, joined_account, account_of};
 ghost use Rattle.run_outlook_laws.specs.Made.{FirstOf, Materializes};
 ghost use Rattle.run_outlook_laws.specs.Runs.{IsRun};
 ghost use Rattle.run_outlook_laws.specs.Reads.{IsSourceAt, SentLines, GivesTexts};
 ghost use Rattle.run_outlook_laws.specs.Sinks.{TookList, SinkTells, SinkWrote, SentTo, IsSinkAt, IgnoreTells, IsIgnorerAt};
-ghost use Rattle.run_outlook_laws.specs.Telling.{TellsPicks, Tells};
+ghost use Rattle.run_outlook_laws.specs.Telling.{TellsPicks, WorldTells};
 
 use plug_logic::book::PlugBook;
 use plug_logic::logic::Logic;
@@ -41,7 +41,7 @@ use stream_io::outside::{Drain, Source};
 pub fn an_island_leaves_a_run<S: Source, D: Drain, L: Logic, B: PlugBook>()
     ensures run { (g : Graph) (net : Net (IslandNode S D L B)) → IsJoined g → Settled node_port_state (node_law S.state D.state B.lists) node_asking node_moves net → Materializes S.state g net.firsts net.ends → IsRun S.state D.state B.lists g (account_of net) }
     ensures still { (g : Graph) (net : Net (IslandNode S D L B)) → Settled node_port_state (node_law S.state D.state B.lists) node_asking node_moves net → Materializes S.state g net.firsts net.ends → net.queue ≡ [] → IsStill g (account_of net) }
-    ensures counts { (g : Graph) (net : Net (IslandNode S D L B)) → Settled node_port_state (node_law S.state D.state B.lists) node_asking node_moves net → Materializes S.state g net.firsts net.ends → counts_of (account_of net) g ≡ map (λ (c : WireState). wire_count None c 0) net.wires }
+    ensures counts { (g : Graph) (net : Net (IslandNode S D L B)) → Settled node_port_state (node_law S.state D.state B.lists) node_asking node_moves net → Materializes S.state g net.firsts net.ends → picture_counts (account_of net) g ≡ map (λ (c : WireState). wire_count None c 0) net.wires }
 {}
 
 /// Islands in which the nodes and wires of a blueprint have their places, between two events, leave a run of it where its nodes
@@ -50,16 +50,16 @@ pub fn an_island_leaves_a_run<S: Source, D: Drain, L: Logic, B: PlugBook>()
 pub fn islands_leave_a_run<S: Source, D: Drain, L: Logic, B: PlugBook>()
     ensures run { (g : Graph) (nets : ℕ → Net (IslandNode S D L B)) (seats : Seats) (asked : ℕ → ℕ) → IsJoined g → Covers g nets seats
         → ((b : ℕ) → Settled node_port_state (node_law S.state D.state B.lists) node_asking node_moves (nets b)) → LanesKeep g nets seats asked
-        → AllMade (FirstOf S.state g.chains) g (joined nets seats asked) → IsRun S.state D.state B.lists g (joined nets seats asked) }
+        → AllMade (FirstOf S.state g.chains) g (joined_account nets seats asked) → IsRun S.state D.state B.lists g (joined_account nets seats asked) }
     ensures still { (g : Graph) (nets : ℕ → Net (IslandNode S D L B)) (seats : Seats) (asked : ℕ → ℕ) → Covers g nets seats
         → ((b : ℕ) → Settled node_port_state (node_law S.state D.state B.lists) node_asking node_moves (nets b)) → ((b : ℕ) → (nets b).queue ≡ []) → LanesRest g nets seats asked
-        → IsStill g (joined nets seats asked) }
+        → IsStill g (joined_account nets seats asked) }
 {}
 
 /// What was sent on each wire, its elements and its end, agrees with the composed outlook of that wire, over the input files
 /// as the world tells them.
 pub fn every_wire_agrees<S: Source, D: Drain, L: Logic, B: PlugBook>()
-    ensures { (g : Graph) (w : World) (rank : ℕ → ℕ) (a : Account (IslandNode S D L B)) → IsRun S.state D.state w.book g a → Tells S.state g w a → IsRanked g rank
+    ensures { (g : Graph) (w : World) (rank : ℕ → ℕ) (a : Account (IslandNode S D L B)) → IsRun S.state D.state w.book g a → WorldTells S.state g w a → IsRanked g rank
         → (i : ℕ) → i < length g.wires → AgreesWith (composed g w i) (a.near i).wire.sent }
 {}
 
@@ -71,14 +71,14 @@ pub fn every_wire_agrees<S: Source, D: Drain, L: Logic, B: PlugBook>()
 pub fn every_sink_agrees<S: Source, D: Drain, L: Logic, B: PlugBook>()
     ensures there { (g : Graph) (a : Account (IslandNode S D L B)) → IsRun S.state D.state B.lists g a
         → (k : ℕ) (n : graph.Node) → slice_get g.nodes k ≡ Some n → IsFileSink n.kind → (first : Sink D) × ((now : Sink D) × IsSinkAt a k first now) }
-    ensures took { (g : Graph) (w : World) (rank : ℕ → ℕ) (a : Account (IslandNode S D L B)) → IsRun S.state D.state w.book g a → Tells S.state g w a → IsRanked g rank
+    ensures took { (g : Graph) (w : World) (rank : ℕ → ℕ) (a : Account (IslandNode S D L B)) → IsRun S.state D.state w.book g a → WorldTells S.state g w a → IsRanked g rank
         → (k : ℕ) (n : graph.Node) (name : List ℕ) (first now : Sink D) → slice_get g.nodes k ≡ Some n → n.kind ≡ kind.ToLines name → IsSinkAt a k first now → TookList (sink_outlook g w k n) now.end (took g a k n) }
-    ensures tells { (g : Graph) (w : World) (rank : ℕ → ℕ) (a : Account (IslandNode S D L B)) → IsRun S.state D.state w.book g a → Tells S.state g w a → IsRanked g rank
+    ensures tells { (g : Graph) (w : World) (rank : ℕ → ℕ) (a : Account (IslandNode S D L B)) → IsRun S.state D.state w.book g a → WorldTells S.state g w a → IsRanked g rank
         → (k : ℕ) (n : graph.Node) (first now : Sink D) (written : List ℕ) → slice_get g.nodes k ≡ Some n → IsSinkAt a k first now
         → (D.state first.drain).holds ≡ Some [] → (D.state now.drain).holds ≡ Some written → SinkTells (sink_outlook g w k n) now.end written }
     ensures ignorer { (g : Graph) (a : Account (IslandNode S D L B)) → IsRun S.state D.state B.lists g a
         → (k : ℕ) (n : graph.Node) → slice_get g.nodes k ≡ Some n → n.kind ≡ kind.Ignore → (first : Ignorer) × ((now : Ignorer) × IsIgnorerAt a k first now) }
-    ensures ignores { (g : Graph) (w : World) (rank : ℕ → ℕ) (a : Account (IslandNode S D L B)) → IsRun S.state D.state w.book g a → Tells S.state g w a → IsRanked g rank
+    ensures ignores { (g : Graph) (w : World) (rank : ℕ → ℕ) (a : Account (IslandNode S D L B)) → IsRun S.state D.state w.book g a → WorldTells S.state g w a → IsRanked g rank
         → (k : ℕ) (n : graph.Node) (first now : Ignorer) (u : ℕ) (v : Edge) → slice_get g.nodes k ≡ Some n → IsIgnorerAt a k first now → slice_get g.wires u ≡ Some v → v.to ≡ k
         → IgnoreTells (sink_outlook g w k n) now.end (elements (a.far u).wire.sent) }
 {}

@@ -30,7 +30,7 @@ use Rattle.run_account.specs.KindLaws.{HearsAll}
 use Rattle.run_account.proofs.Coming.{elements_told}
 use Rattle.run_outlook_laws.specs.Made.{FirstState, FirstOf}
 use Rattle.run_outlook_laws.specs.Runs.{IsRun}
-use Rattle.run_outlook_laws.specs.Telling.{AreSettled, TellsMoves, TellsPicks, Tells, seat_at}
+use Rattle.run_outlook_laws.specs.Telling.{AreSettled, TellsMoves, TellsPicks, WorldTells, seat_at}
 use Rattle.run_outlook_laws.proofs.Agreeing.{every_input_of}
 use Rattle.run_outlook_laws.proofs.Hearing.{node_hears}
 use Rattle.run_outlook_laws.proofs.States.{Told}
@@ -123,7 +123,7 @@ module _ {S D L B : Type 0} (sources : S → SourceState) (drains : D → DrainS
           (node_told w k n (knows g a k n) (took g a k n) (gave g a k n) sources drains w.book g.chains m.first m.now (run.made k n m.first e m.first_at) (chose k m.now m.now_at) m.law_holds s here)
 
   -- no node took more elements than may come in there
-  pub few_came : Tells sources g w a → (rank : ℕ → ℕ) → IsRanked g rank → (k : ℕ) (n : graph.Node) → slice_get g.nodes k ≡ Some n → took_at g a k ≤ length (head_of (inputs g w k n)).list
+  pub few_came : WorldTells sources g w a → (rank : ℕ → ℕ) → IsRanked g rank → (k : ℕ) (n : graph.Node) → slice_get g.nodes k ≡ Some n → took_at g a k ≤ length (head_of (inputs g w k n)).list
   few_came tells rank ranked k n e =
       let m = run.keeps.each_node k n e in
       let hears = node_hears sources drains w.book g.chains k n m.first m.now (knows g a k n) (took g a k n) (gave g a k n) (run.made k n m.first e m.first_at) m.law_holds in

@@ -27,10 +27,10 @@ use Rattle.stage_law.specs.Row.{InClosed, OutClosed}
 use Rattle.stage_core.specs.declared.phase.Phase.{Phase}
 use Rattle.stage_core.specs.declared.phase.Phase.TheVariants.{New, Open, Closed}
 use Rattle.chain_core.specs.LineChains.{list_function}
-use Rattle.stage_sub.specs.Joined.{untag, joined}
+use Rattle.stage_sub.specs.Joined.{untag, joined_machine}
 use Rattle.stage_sub.specs.KeptSubs.{opening_of}
 use Rattle.stage_sub.specs.States.{Logic, port_state_in}
-use Rattle.stage_sub.specs.Handling.{SubPortState, SubLaw, Tells}
+use Rattle.stage_sub.specs.Handling.{SubPortState, SubLaw, TellsMachine}
 use Rattle.stage_sub.proofs.Rows.{waiting_gave}
 use Rattle.stage_sub.proofs.Untagging.{run_untag, closed_untag}
 use Rattle.line_chain.specs.Line.{Line, line_whole, line_rest, line_is_open}
@@ -87,7 +87,7 @@ module _ (a b : OneWay) (s : Alike a b) (i o : picture.SeenWire) where
   alike_rests (inr (inr h)) = inr (inr (sym s.holds ∙ h.0, h.1, h.2))
 
 -- so have the machine of substreams and the one that joins them
-joined_alike : (yields : List Tree → End → Given Tree) (o : Opening) (start : Run Subs Tagged) → Alike (of_machine (joined yields o) (untag start) true) (of_machine (substreams yields o) start true)
+joined_alike : (yields : List Tree → End → Given Tree) (o : Opening) (start : Run Subs Tagged) → Alike (of_machine (joined_machine yields o) (untag start) true) (of_machine (substreams yields o) start true)
 joined_alike yields o start = record {
   given = λ l. ap (λ (y : Run Subs Tree). length y.gave) (run_untag yields o start l) ∙ length-map (run (substreams yields o) start l).gave (λ (x : Tagged). x.item);
   given_at_end = λ l. ap (λ (y : Given Tree). length y.list) (closed_untag yields o start l ended) ∙ length-map (close (substreams yields o) (run (substreams yields o) start l) ended).list (λ (x : Tagged). x.item);
@@ -119,14 +119,14 @@ module _ {S D : Type 0} (L B : Type 0) (sources : S → SourceState) (drains : D
     yields = yields_of g w k n.kind
 
     abbrev m : Machine Subs Tree
-    m = joined yields (opening_of first.how)
+    m = joined_machine yields (opening_of first.how)
 
     abbrev start : Run Subs Tree
     start = untag (begin_subs yields k)
 
     -- its law, by the chain that its kind names
     tells_at : (now : Logic Line) (v : View) (took gave : List (List Item)) → (law : SubLaw line_rest line_is_open line_whole first now v took gave)
-        → Tells line_rest line_is_open (list_function w.book (chain_of k (steps_of (chain_name n.kind) g.chains))) yields (begin_subs yields k) first now v law.took_list law.gave_list
+        → TellsMachine line_rest line_is_open (list_function w.book (chain_of k (steps_of (chain_name n.kind) g.chains))) yields (begin_subs yields k) first now v law.took_list law.gave_list
     tells_at now v took gave law = tells_of k first now v took gave f.how f.join f.is law w.book (steps_of (chain_name n.kind) g.chains) made.line
 
     -- one that waits was asked, and gave all that its machine gives
@@ -161,7 +161,7 @@ module _ {S D : Type 0} (L B : Type 0) (sources : S → SourceState) (drains : D
 
     module _ (x : Logic Line) (i : InPort) (o : OutPort) (r : SubPortState line_rest line_is_open x (record { ins = i.view ∷ []; outs = o.view ∷ [] }))
         (law : SubLaw line_rest line_is_open line_whole first x (record { ins = i.view ∷ []; outs = o.view ∷ [] }) (i.got ∷ []) (o.sent ∷ [])) where
-      its : Tells line_rest line_is_open (list_function w.book (chain_of k (steps_of (chain_name n.kind) g.chains))) yields (begin_subs yields k) first x (record { ins = i.view ∷ []; outs = o.view ∷ [] }) law.took_list law.gave_list
+      its : TellsMachine line_rest line_is_open (list_function w.book (chain_of k (steps_of (chain_name n.kind) g.chains))) yields (begin_subs yields k) first x (record { ins = i.view ∷ []; outs = o.view ∷ [] }) law.took_list law.gave_list
       its = tells_at x _ _ _ law
 
       at : Law m start its.held i.view o.view i.got o.sent

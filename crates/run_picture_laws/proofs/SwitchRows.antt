@@ -32,7 +32,7 @@ use Rattle.stage_law.specs.Law.{Law}
 use Rattle.stage_law.specs.Row.{InClosed, OutClosed}
 use Rattle.stage_core.specs.declared.phase.Phase.{Phase}
 use Rattle.stage_core.specs.declared.phase.Phase.TheVariants.{New, Open, Closed}
-use Rattle.stage_switch.specs.Valves.{ValveKeeps, ValveStandsOf, GaveAll}
+use Rattle.stage_switch.specs.Valves.{ValveKeeps, ValveStandsOf, PassedAll}
 use Rattle.stage_switch.specs.States.{Valve, valve_held, passing_port_state, Trip, trip_held, trip_held_in, trip_stage}
 use Rattle.stage_switch.specs.Handling.{ValvePortState, ValveAs, TripPortState, TripAs}
 use Rattle.stage_switch.proofs.Outlooks as valves
@@ -103,7 +103,7 @@ module _ (first now : Valve) (v : View) (took gave : List (List Item)) (law : Va
   -- one that waits gave all that came
   passed_all : ValvePortState now v → in_at v 0 ≡ Pulled → elements sent ≡ elements got
   passed_all r waits =
-      let all : GaveAll (flow.f ∷ []) law.by.law.out_list = subst (λ (fs : List Inflow). GaveAll fs law.by.law.out_list) flow.ins (valve_waits first now v took gave r law waits).1 in
+      let all : PassedAll (flow.f ∷ []) law.by.law.out_list = subst (λ (fs : List Inflow). PassedAll fs law.by.law.out_list) flow.ins (valve_waits first now v took gave r law waits).1 in
       flow_sent Kept v took gave law.by got sent flow ∙ ap length all ∙ sym (flow_got Kept v took gave law.by got sent flow)
 
   -- one that acted gave just what its moves count

@@ -6,7 +6,7 @@ use Rattle.elem_core.specs.Tree.{Tree}
 use Rattle.elem_core.specs.declared.item.Item.{Item}
 use Rattle.stream_model.specs.Outlook.{Outlook, End, unended, ended, failed, Agrees}
 use Rattle.stage_law.specs.Held.{told}
-use Rattle.run_account.specs.Items.{AgreesWith, Passes}
+use Rattle.run_account.specs.Items.{AgreesWith, WithinOutlook}
 
 -- a first part of a history tells a first part of its list
 told_part : (l k : List Tree) (e f : End) (r : List Item) → told k f ≡ told l e ++ r → IsPrefix l k
@@ -29,5 +29,5 @@ agrees_part o l unended h = h
 agrees_part o l ended h = rw h.1 (prefix_refl o.list)
 agrees_part o l (failed c) h = h.0
 
-pub agrees_passes : (o : Outlook) (items : List Item) → AgreesWith o items → Passes o items
+pub agrees_passes : (o : Outlook) (items : List Item) → AgreesWith o items → WithinOutlook o items
 agrees_passes o items a = record { list = a.list; end = a.end; is = a.is; part = agrees_part o a.list a.end a.agrees }

@@ -12,10 +12,10 @@ ghost use Rattle.stream_picture.specs.Lawful.{IsLawful};
 ghost use Rattle.stream_picture.specs.Rests.{Rests, SinksMatch};
 ghost use Rattle.nodes.specs.declared.node.IslandNode.{IslandNode};
 ghost use Rattle.run_account.specs.Account.{Account, IsStill};
-ghost use Rattle.run_account.specs.Items.{AgreesWith, Passes};
-ghost use Rattle.run_account.specs.Pictures.{counts_of, AllPass};
+ghost use Rattle.run_account.specs.Items.{AgreesWith, WithinOutlook};
+ghost use Rattle.run_account.specs.Pictures.{picture_counts, AllPass};
 ghost use Rattle.run_outlook_laws.specs.Runs.{IsRun};
-ghost use Rattle.run_outlook_laws.specs.Telling.{AreSettled, TellsPicks, Tells};
+ghost use Rattle.run_outlook_laws.specs.Telling.{AreSettled, TellsPicks, WorldTells};
 ghost use Rattle.run_picture_laws.specs.Picture.{ended_there};
 
 use plug_logic::book::PlugBook;
@@ -24,7 +24,7 @@ use stream_io::outside::{Drain, Source};
 
 /// What agrees with an outlook is a first part of its list, and then an end or none.
 pub fn what_agrees_passes()
-    ensures { (o : Outlook) (items : List Item) → AgreesWith o items → Passes o items }
+    ensures { (o : Outlook) (items : List Item) → AgreesWith o items → WithinOutlook o items }
 {}
 
 /// The picture of a graph is lawful: no node gave more than it may, and each asks only while it goes on and where what it was
@@ -33,9 +33,9 @@ pub fn what_agrees_passes()
 /// (`composed`), where the world tells what the stages chose.
 pub fn every_picture_is_lawful<S: Source, D: Drain, L: Logic, B: PlugBook>()
     ensures any { (g : Graph) (w : World) (a : Account (IslandNode S D L B)) (outlook : ℕ → Outlook) → IsRun S.state D.state w.book g a → AreSettled g a → TellsPicks w a
-        → AllPass a g outlook → IsLawful g w (counts_of a g) outlook }
+        → AllPass a g outlook → IsLawful g w (picture_counts a g) outlook }
     ensures composed { (g : Graph) (w : World) (rank : ℕ → ℕ) (a : Account (IslandNode S D L B)) → IsRun S.state D.state w.book g a → AreSettled g a
-        → Tells S.state g w a → IsRanked g rank → IsLawful g w (counts_of a g) (composed g w) }
+        → WorldTells S.state g w a → IsRanked g rank → IsLawful g w (picture_counts a g) (composed g w) }
 {}
 
 /// Where no event is left, the picture of a graph rests: each node has all its wires shut, or has nothing to do. So it is by
@@ -43,16 +43,16 @@ pub fn every_picture_is_lawful<S: Source, D: Drain, L: Logic, B: PlugBook>()
 /// input is shut exactly where the sink has ended (`sinks`).
 pub fn a_picture_without_events_rests<S: Source, D: Drain, L: Logic, B: PlugBook>()
     ensures any { (g : Graph) (w : World) (a : Account (IslandNode S D L B)) (outlook : ℕ → Outlook) → IsRun S.state D.state w.book g a → IsStill g a → TellsPicks w a
-        → AllPass a g outlook → Rests g w (counts_of a g) outlook }
+        → AllPass a g outlook → Rests g w (picture_counts a g) outlook }
     ensures composed { (g : Graph) (w : World) (rank : ℕ → ℕ) (a : Account (IslandNode S D L B)) → IsRun S.state D.state w.book g a → IsStill g a
-        → Tells S.state g w a → IsRanked g rank → Rests g w (counts_of a g) (composed g w) }
+        → WorldTells S.state g w a → IsRanked g rank → Rests g w (picture_counts a g) (composed g w) }
     ensures sinks { (g : Graph) (w : World) (a : Account (IslandNode S D L B)) (outlook : ℕ → Outlook) → IsRun S.state D.state B.lists g a → IsStill g a
-        → SinksMatch g w (counts_of a g) outlook (λ k. ended_there (a.nodes k)) }
+        → SinksMatch g w (picture_counts a g) outlook (λ k. ended_there (a.nodes k)) }
 {}
 
 /// The moves of a run fit: each stage could have made them of what may come in on its inputs, and the orders by which valves
 /// acted were given, where the seats of its switches were settled.
 pub fn every_move_fits<S: Source, D: Drain, L: Logic, B: PlugBook>()
     ensures { (g : Graph) (w : World) (rank : ℕ → ℕ) (a : Account (IslandNode S D L B)) → IsRun S.state D.state w.book g a → AreSettled g a
-        → Tells S.state g w a → IsRanked g rank → Fits g w }
+        → WorldTells S.state g w a → IsRanked g rank → Fits g w }
 {}

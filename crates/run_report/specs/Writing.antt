@@ -4,7 +4,7 @@ use Rattle.stream_io.specs.State.{DrainState}
 use Rattle.stream_io.specs.Putting.{Puts}
 
 -- a first part of the whole was put, and the rest is still to come
-pub record Leaves (old new : DrainState) (whole rest : List ℕ) : Type 0 where
+pub record LeavesRest (old new : DrainState) (whole rest : List ℕ) : Type 0 where
   pub sofar : List ℕ
   pub puts : Puts old new sofar
   pub is : whole ≡ sofar ++ rest

@@ -3,7 +3,7 @@ ghost use Rattle.std.specs.Prelude.{◌≡◌, ◌+◌, ◌≤◌, ◌++◌, [],
 ghost use Rattle.std.specs.List.{flat_map};
 ghost use Rattle.run_report.specs.Trace.{move_text, pick_line, trace_text, moves_in};
 ghost use Rattle.stream_io.specs.Putting.{Puts, PutsPart};
-ghost use Rattle.run_report.specs.Writing.{Leaves};
+ghost use Rattle.run_report.specs.Writing.{LeavesRest};
 
 use elem_core::line::Line;
 use itoa::Buffer;
@@ -41,7 +41,7 @@ fn flush<D: Drain>(file: &mut D, gathered: &mut Vec<u8>) -> Result<(), Failed>
 
 /// Gathers a piece, or puts it behind what is gathered where there is no room for it.
 fn add<D: Drain>(file: &mut D, gathered: &mut Vec<u8>, piece: &[u8]) -> Result<(), Failed>
-    ensures ok { OnOk result (Leaves (D.state file.old) (D.state file.new) (gathered.old.items ++ piece.now) gathered.new.items) }
+    ensures ok { OnOk result (LeavesRest (D.state file.old) (D.state file.new) (gathered.old.items ++ piece.now) gathered.new.items) }
     ensures err { OnErr result (PutsPart (D.state file.old) (D.state file.new) (gathered.old.items ++ piece.now)) }
 {
     if has_room(gathered, piece) {
@@ -55,7 +55,7 @@ fn add<D: Drain>(file: &mut D, gathered: &mut Vec<u8>, piece: &[u8]) -> Result<(
 
 /// Adds a move behind a space.
 fn add_move<D: Drain>(file: &mut D, gathered: &mut Vec<u8>, m: u32) -> Result<(), Failed>
-    ensures ok { OnOk result (Leaves (D.state file.old) (D.state file.new) (gathered.old.items ++ move_text m) gathered.new.items) }
+    ensures ok { OnOk result (LeavesRest (D.state file.old) (D.state file.new) (gathered.old.items ++ move_text m) gathered.new.items) }
     ensures err { OnErr result (PutsPart (D.state file.old) (D.state file.new) (gathered.old.items ++ move_text m)) }
 {
     let mut buffer = Buffer::new();
@@ -65,7 +65,7 @@ fn add_move<D: Drain>(file: &mut D, gathered: &mut Vec<u8>, m: u32) -> Result<()
 
 /// Adds moves, each behind a space.
 fn add_moves<D: Drain>(file: &mut D, gathered: &mut Vec<u8>, moves: &[u32]) -> Result<(), Failed>
-    ensures ok { OnOk result (Leaves (D.state file.old) (D.state file.new) (gathered.old.items ++ flat_map move_text moves.now) gathered.new.items) }
+    ensures ok { OnOk result (LeavesRest (D.state file.old) (D.state file.new) (gathered.old.items ++ flat_map move_text moves.now) gathered.new.items) }
     ensures err { OnErr result (PutsPart (D.state file.old) (D.state file.new) (gathered.old.items ++ flat_map move_text moves.now)) }
 {
     for m in moves {
@@ -76,7 +76,7 @@ fn add_moves<D: Drain>(file: &mut D, gathered: &mut Vec<u8>, moves: &[u32]) -> R
 
 /// Adds moves and the end of their line.
 fn add_rest<D: Drain>(file: &mut D, gathered: &mut Vec<u8>, moves: &[u32]) -> Result<(), Failed>
-    ensures ok { OnOk result (Leaves (D.state file.old) (D.state file.new) (gathered.old.items ++ (flat_map move_text moves.now ++ codes "\n")) gathered.new.items) }
+    ensures ok { OnOk result (LeavesRest (D.state file.old) (D.state file.new) (gathered.old.items ++ (flat_map move_text moves.now ++ codes "\n")) gathered.new.items) }
     ensures err { OnErr result (PutsPart (D.state file.old) (D.state file.new) (gathered.old.items ++ (flat_map move_text moves.now ++ codes "\n"))) }
 {
     add_moves(file, gathered, moves)?;
@@ -85,7 +85,7 @@ fn add_rest<D: Drain>(file: &mut D, gathered: &mut Vec<u8>, moves: &[u32]) -> Re
 
 /// Adds the beginning of a stage's line.
 fn add_head<D: Drain>(file: &mut D, gathered: &mut Vec<u8>, name: &Line) -> Result<(), Failed>
-    ensures ok { OnOk result (Leaves (D.state file.old) (D.state file.new) (gathered.old.items ++ (codes "pick " ++ name.now)) gathered.new.items) }
+    ensures ok { OnOk result (LeavesRest (D.state file.old) (D.state file.new) (gathered.old.items ++ (codes "pick " ++ name.now)) gathered.new.items) }
     ensures err { OnErr result (PutsPart (D.state file.old) (D.state file.new) (gathered.old.items ++ (codes "pick " ++ name.now))) }
 {
     add(file, gathered, b"pick ")?;
@@ -99,7 +99,7 @@ fn add_pick<D: Drain>(
     name: &Line,
     picks: &PickList,
 ) -> Result<(), Failed>
-    ensures ok { OnOk result (Leaves (D.state file.old) (D.state file.new) (gathered.old.items ++ pick_line name.now (moves_in picks.now)) gathered.new.items) }
+    ensures ok { OnOk result (LeavesRest (D.state file.old) (D.state file.new) (gathered.old.items ++ pick_line name.now (moves_in picks.now)) gathered.new.items) }
     ensures err { OnErr result (PutsPart (D.state file.old) (D.state file.new) (gathered.old.items ++ pick_line name.now (moves_in picks.now))) }
 {
     add_head(file, gathered, name)?;
@@ -113,7 +113,7 @@ fn add_picks<D: Drain>(
     names: &[Line],
     picks: &[PickList],
 ) -> Result<(), Failed>
-    ensures ok { OnOk result (Leaves (D.state file.old) (D.state file.new) (gathered.old.items ++ trace_text names.now (map moves_in picks.now)) gathered.new.items) }
+    ensures ok { OnOk result (LeavesRest (D.state file.old) (D.state file.new) (gathered.old.items ++ trace_text names.now (map moves_in picks.now)) gathered.new.items) }
     ensures err { OnErr result (PutsPart (D.state file.old) (D.state file.new) (gathered.old.items ++ trace_text names.now (map moves_in picks.now))) }
 {
     for i in 0..names.len().min(picks.len()) {

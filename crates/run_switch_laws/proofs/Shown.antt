@@ -15,7 +15,7 @@ use Rattle.stream_model.specs.Node.{World}
 use Rattle.stream_model.specs.Fits.{CanTrip, valve_order, Fits, inputs}
 use Rattle.stream_model.specs.Fits as model
 use Rattle.stream_model.specs.Node.{head_of}
-use Rattle.stage_switch.specs.States.{number_of}
+use Rattle.stage_switch.specs.States.{order_number}
 use Rattle.run_switch_laws.specs.Settling.{IsAt, ValveTold, SeatTold, SeatsAre, IsSettled, AllSettled, OneOrderShown, kinds_of}
 
 -- a seat of the list that gave the order
@@ -28,7 +28,7 @@ who o (s ∷ ss) (inr h) = let r = who o ss h in (r.0, ((suc r.1.0.0, (let k = r
 record Shows (s : List ℕ) (v : List ℕ × ℕ) (seat : SeatState) : Type 0 where
   order : Order
   name : v.0 ≡ s
-  number : v.1 ≡ number_of order
+  number : v.1 ≡ order_number order
   knows : seat.knows ≡ Some order
 
 shows : (moves s : List ℕ) (v : List ℕ × ℕ) (seat : SeatState) → ValveTold moves seat → valve_order (Valve s) moves ≡ Some v → Shows s v seat
@@ -62,10 +62,10 @@ valve_of (Valve s) moves v h = (s, (refl, named moves s v h))
 valve_of k moves v h = cc
 
 -- a seat that gave an order is that of a trip
-tripping : (k : Kind) (moves : List ℕ) (took : ℕ) (seat : SeatState) (o : Order) (name : List ℕ) → SeatTold k moves took seat → IsAt name k → seat.gave ≡ Some o → CanTrip name (number_of o) k took
+tripping : (k : Kind) (moves : List ℕ) (took : ℕ) (seat : SeatState) (o : Order) (name : List ℕ) → SeatTold k moves took seat → IsAt name k → seat.gave ≡ Some o → CanTrip name (order_number o) k took
 tripping (Valve s) moves took seat o name t at e = let n = t.gave in cc
-tripping (TripShutdown s n) moves took seat o name t at e = let r : (o ≡ Shutdown) × (n ≤ took) = subst (λ (m : Option Order). IfSome m (λ p. (p ≡ Shutdown) × (n ≤ took))) e t in (ap number_of r.0, at, r.1)
-tripping (TripAbort s n) moves took seat o name t at e = let r : (o ≡ Abort) × (n ≤ took) = subst (λ (m : Option Order). IfSome m (λ p. (p ≡ Abort) × (n ≤ took))) e t in (ap number_of r.0, at, r.1)
+tripping (TripShutdown s n) moves took seat o name t at e = let r : (o ≡ Shutdown) × (n ≤ took) = subst (λ (m : Option Order). IfSome m (λ p. (p ≡ Shutdown) × (n ≤ took))) e t in (ap order_number r.0, at, r.1)
+tripping (TripAbort s n) moves took seat o name t at e = let r : (o ≡ Abort) × (n ≤ took) = subst (λ (m : Option Order). IfSome m (λ p. (p ≡ Abort) × (n ≤ took))) e t in (ap order_number r.0, at, r.1)
 tripping k moves took seat o name t at e = absurd at
 
 pub can_still : (name : List ℕ) (order : ℕ) (k : Kind) (few many : ℕ) → few ≤ many → CanTrip name order k few → CanTrip name order k many
@@ -92,7 +92,7 @@ module _ (g : Graph) (w : World) (took : ℕ → ℕ) (seat : ℕ → Option Sea
   record AtValve (v : List ℕ × ℕ) (name : List ℕ) (stands : Option Order) : Type 0 where
     order : Order
     name_is : v.0 ≡ name
-    number : v.1 ≡ number_of order
+    number : v.1 ≡ order_number order
     stands_is : stands ≡ Some order
 
   at_valve : (node : ℕ) (n : Node) (v : List ℕ × ℕ) (name : List ℕ) (seats : List SeatState) (stands : Option Order) → SeatsAre (kinds_of g) name seat seats → IsSettled seats stands
@@ -133,7 +133,7 @@ module _ (g : Graph) (w : World) (took : ℕ → ℕ) (seat : ℕ → Option Sea
       let a = at_valve node n v v.0 z.0 z.1.0 z.1.1.0 z.1.1.1 at h refl in
       let b = at_valve other m u v.0 z.0 z.1.0 z.1.1.0 z.1.1.1 there k (sym (name_is v.0 u.0 same)) in
       let o : a.order ≡ b.order = let f : Some a.order ≡ Some b.order = sym a.stands_is ∙ b.stands_is in cc in
-      a.number ∙ ap number_of o ∙ sym b.number
+      a.number ∙ ap order_number o ∙ sym b.number
 
   pub shown : OneOrderShown g w took
   shown = record { given = given_by_trip; one = one_order }

@@ -16,11 +16,11 @@ use Rattle.plug_core.specs.declared.head.PlugHead.{PlugHead}
 use Rattle.blue_rules.specs.Rounds.{wire_into, type_on, port_type, half_type, arrivals, attempt, settled, is_joining, is_deep, clash_of}
 use Rattle.blue_rules.specs.StageTypes.{limited, source_type, stage_typed}
 use Rattle.blue_rules.specs.declared.typed.Typed.TheVariants.{Gives}
-use Rattle.materializer.specs.Graphs.{node_of}
+use Rattle.materializer.specs.Graphs.{graph_node}
 use Rattle.run_type_laws.specs.Checked.{PassesRules, wire_type, CarriesType}
 use Rattle.run_type_laws.specs.Kinds.{Shape, source, joining, zipping, single, shape_of, function_want, chain_in, StepsTake}
 use Rattle.run_type_laws.specs.Plugs.{KeepsPlugTypes}
-use Rattle.run_type_laws.specs.Types.{AllTyped, OutlooksTyped, Takes}
+use Rattle.run_type_laws.specs.Types.{AllTyped, OutlooksTyped, TakesSort}
 use Rattle.run_type_laws.proofs.Lists.{retype_all}
 use Rattle.run_type_laws.proofs.Given.{limited_is}
 use Rattle.run_type_laws.proofs.Stages.{source_keeps, single_keeps, joining_keeps, zip_keeps}
@@ -30,9 +30,9 @@ use Rattle.run_type_laws.proofs.Shapes.{one_input, is_zip, no_input, joins, stan
 use Rattle.run_type_laws.proofs.Chains.{chain_takes}
 use Rattle.run_type_laws.proofs.Settling.{all_by_rank, HasSettled, TypedInput, typed_input, every_wire_settles}
 
-pub plain_at : (nodes : List Node) (k : ℕ) (n : Node) → slice_get nodes k ≡ Some n → slice_get (map node_of nodes) k ≡ Some (node_of n)
+pub plain_at : (nodes : List Node) (k : ℕ) (n : Node) → slice_get nodes k ≡ Some n → slice_get (map graph_node nodes) k ≡ Some (graph_node n)
 plain_at [] k n h = cc
-plain_at (m ∷ nodes) zero n h = let same : m ≡ n = cc in ap (λ x. Some (node_of x)) same
+plain_at (m ∷ nodes) zero n h = let same : m ≡ n = cc in ap (λ x. Some (graph_node x)) same
 plain_at (m ∷ nodes) (suc k) n h = plain_at nodes k n h
 
 pub one_some : (o : Option Sort) (s t : Sort) → o ≡ Some s → o ≡ Some t → s ≡ t
@@ -178,8 +178,8 @@ module _ (plugs : List PlugHead) (chains : List ChainDecl) (nodes : List Node) (
         -- what node v.from gives on the wire
         pub node_gives : AllTyped (half_type n.kind v.output u) (next g w sent j).list
         node_gives =
-            let in_graph : slice_get g.nodes v.from ≡ Some (node_of n) = ap (λ (l : List graph.Node). slice_get l v.from) passes.nodes_are ∙ plain_at nodes v.from n is in
-            let of_wire : next g w sent j ≡ given_on g w sent v.from (Some (node_of n)) v.output =
+            let in_graph : slice_get g.nodes v.from ≡ Some (graph_node n) = ap (λ (l : List graph.Node). slice_get l v.from) passes.nodes_are ∙ plain_at nodes v.from n is in
+            let of_wire : next g w sent j ≡ given_on g w sent v.from (Some (graph_node n)) v.output =
             ap (sent_on g w sent) at ∙ ap (λ (m : Option graph.Node). given_on g w sent v.from m v.output) in_graph in
             subst (λ (o : Outlook). AllTyped (half_type n.kind v.output u) o.list) (sym of_wire) (gives_by (shape_of n.kind) refl)
 
@@ -207,7 +207,7 @@ module _ (plugs : List PlugHead) (chains : List ChainDecl) (nodes : List Node) (
     every_wire_typed = all_by_rank rank (length g.wires) (HasTyped w (composed g w)) wire_gives
 
     -- the function at the end of a wire
-    target_takes : (i : ℕ) (v : Edge) (m : Node) (t : Sort) → slice_get g.wires i ≡ Some v → slice_get nodes v.to ≡ Some m → wire_type plugs chains nodes g v ≡ Some t → (b : Bool) → is_joining m.kind ≡ b → Takes (function_want plugs m.kind) t
+    target_takes : (i : ℕ) (v : Edge) (m : Node) (t : Sort) → slice_get g.wires i ≡ Some v → slice_get nodes v.to ≡ Some m → wire_type plugs chains nodes g v ≡ Some t → (b : Bool) → is_joining m.kind ≡ b → TakesSort (function_want plugs m.kind) t
     target_takes i v m t at to e true j = joining_takes plugs chains m.kind t j
     target_takes i v m t at to e false j = takes plugs chains m.kind i t (known_kind plugs chains nodes passes.no_unknown v.to m to) (meets plugs chains nodes g.wires passes.no_clash i v v.to m t at refl to e j)
 

@@ -24,8 +24,8 @@ use Rattle.blue_rules.specs.declared.typed.Typed.{Typed}
 use Rattle.blue_rules.specs.declared.typed.Typed.TheVariants.{Gives, Clashes, TooDeep}
 use Rattle.blue_rules.specs.declared.want.Want.TheVariants.{Is}
 use Rattle.std.proofs.lemmas.Cmp.{nat_list_eq_equiv}
-use Rattle.materializer.specs.Graphs.{chain_of as declared_chain}
-use Rattle.line_chain.specs.Line.{step_of}
+use Rattle.materializer.specs.Graphs.{plain_chain as declared_chain}
+use Rattle.line_chain.specs.Line.{model_step}
 use Rattle.run_type_laws.specs.Kinds.{is_known, chain_in, StepsTake}
 use Rattle.run_type_laws.specs.Plugs.{KeepsPlugTypes}
 use Rattle.run_type_laws.specs.Types.{AllTyped}
@@ -64,14 +64,14 @@ ChainTyped plugs t u [] = t ≡ u
 ChainTyped plugs t u (s ∷ ss) = (v : Sort) × RunTyped plugs t v s × ChainTyped plugs v u ss
 
 module _ (plugs : List PlugHead) (node : ℕ) where
-  pub chain_typed_by : (steps : List Step) (t u : Sort) → list_all (λ (s : Step). is_known plugs s.kind) steps ≡ true → chain_typed plugs steps t ≡ Gives u → ChainTyped plugs t u (chain_of node (map step_of steps))
+  pub chain_typed_by : (steps : List Step) (t u : Sort) → list_all (λ (s : Step). is_known plugs s.kind) steps ≡ true → chain_typed plugs steps t ≡ Gives u → ChainTyped plugs t u (chain_of node (map model_step steps))
   chain_typed_by [] t u a e = cc
   chain_typed_by (s ∷ ss) t u a e =
       let known = and_parts (is_known plugs s.kind) (list_all (λ (s : Step). is_known plugs s.kind) ss) a in
       by_step (step_typed plugs s.kind t) refl (λ v later. chain_typed_by ss v u known.1 later) known.0 e
     where
-      by_step : (r : Typed) → step_typed plugs s.kind t ≡ r → ((v : Sort) → chain_typed plugs ss v ≡ Gives u → ChainTyped plugs v u (chain_of node (map step_of ss))) → is_known plugs s.kind ≡ true
-          → and_then plugs r (chain_typed plugs ss) ≡ Gives u → ChainTyped plugs t u (chain_of node (map step_of (s ∷ ss)))
+      by_step : (r : Typed) → step_typed plugs s.kind t ≡ r → ((v : Sort) → chain_typed plugs ss v ≡ Gives u → ChainTyped plugs v u (chain_of node (map model_step ss))) → is_known plugs s.kind ≡ true
+          → and_then plugs r (chain_typed plugs ss) ≡ Gives u → ChainTyped plugs t u (chain_of node (map model_step (s ∷ ss)))
       by_step (Gives v) is more known h = (v, begin_typed plugs t v node s.decider (unwrap_or (work_of s.kind) passing) (work_typed plugs t v s.kind known is), more v h)
       by_step (Clashes x y) is more known h = cc
       by_step TooDeep is more known h = cc
@@ -112,12 +112,12 @@ same_either : (xs ys : List ℕ) → same_text xs ys ≡ same_text ys xs
 same_either xs ys = nat_list_eq_equiv.symm xs ys
 
 -- the steps of a chain of a graph are those of the chain of that name
-pub steps_are : (name : List ℕ) (chains : List ChainDecl) → steps_of name (map declared_chain chains) ≡ map step_of (chain_named name chains)
+pub steps_are : (name : List ℕ) (chains : List ChainDecl) → steps_of name (map declared_chain chains) ≡ map model_step (chain_named name chains)
 steps_are name [] = refl
 steps_are name (c ∷ cs) = by_test (same_text c.name name) (same_text name c.name) (same_either c.name name) (steps_are name cs)
   where
-    by_test : (a b : Bool) → a ≡ b → steps_of name (map declared_chain cs) ≡ map step_of (chain_named name cs)
-        → (if a then map step_of c.steps.items else steps_of name (map declared_chain cs)) ≡ map step_of (steps_in (if b then Some c else named (λ (d : ChainDecl). d.name) name cs))
+    by_test : (a b : Bool) → a ≡ b → steps_of name (map declared_chain cs) ≡ map model_step (chain_named name cs)
+        → (if a then map model_step c.steps.items else steps_of name (map declared_chain cs)) ≡ map model_step (steps_in (if b then Some c else named (λ (d : ChainDecl). d.name) name cs))
     by_test true true e more = refl
     by_test true false e more = cc
     by_test false true e more = cc

@@ -20,7 +20,7 @@ use Rattle.elem_core.specs.declared.function.FoldOp.TheVariants as o
 use Rattle.elem_core.specs.declared.function.ReduceOp.{ReduceOp}
 use Rattle.elem_core.specs.declared.function.ReduceOp.TheVariants as r
 use Rattle.blue_rules.specs.FnTypes.{map_want, map_gives, expand_want, expand_gives, fold_gives, reduce_want, reduce_gives}
-use Rattle.run_type_laws.specs.Types.{HasType, AllTyped, Takes}
+use Rattle.run_type_laws.specs.Types.{HasType, AllTyped, TakesSort}
 use Rattle.run_type_laws.proofs.Lists.{typed_append, typed_row, typed_if}
 
 -- ---- values of one type, whatever they are
@@ -42,7 +42,7 @@ short_typed bs y h = short_by (nat_le (length bs) 65536) bs y h
 
 -- ---- a function of one element
 
-pub map_typed : (g : MapFn) (t : Sort) (e y : Tree) → Takes (map_want g) t → HasType t e → map_value g e ≡ Ok y → HasType (map_gives g t) y
+pub map_typed : (g : MapFn) (t : Sort) (e y : Tree) → TakesSort (map_want g) t → HasType t e → map_value g e ≡ Ok y → HasType (map_gives g t) y
 map_typed f.Num t (text bs) y w h v = number_typed (number_of bs) y v
 map_typed f.Num t _ y w h v = cc
 map_typed f.Show t e y w h v = short_typed (text_of e) y v
@@ -91,7 +91,7 @@ texts_typed : (ls : List (List ℕ)) → AllTyped text_type (map text ls)
 texts_typed [] = tt
 texts_typed (l ∷ ls) = (tt, texts_typed ls)
 
-pub expansion_typed : (g : Expand) (t : Sort) (e : Tree) → Takes (expand_want g) t → HasType t e → AllTyped (expand_gives g t) (expansion g e)
+pub expansion_typed : (g : Expand) (t : Sort) (e : Tree) → TakesSort (expand_want g) t → HasType t e → AllTyped (expand_gives g t) (expansion g e)
 expansion_typed x.Words t (text bs) w h = texts_typed (words bs)
 expansion_typed x.Words t _ w h = tt
 expansion_typed x.Flat (seq_type t) (seq i) w h = h
@@ -131,7 +131,7 @@ step_typed o.Collect t _ e y k h v = cc
 -- ---- reductions
 
 -- a reduction gives the type that it takes
-pub reduced_same : (g : ReduceOp) (t : Sort) → Takes (reduce_want g) t → reduce_gives g t ≡ t
+pub reduced_same : (g : ReduceOp) (t : Sort) → TakesSort (reduce_want g) t → reduce_gives g t ≡ t
 reduced_same r.Sum t w = sort_from_same num_type t w
 reduced_same r.Max t w = refl
 reduced_same r.Min t w = refl
@@ -139,7 +139,7 @@ reduced_same r.Min t w = refl
 chosen_typed : (t : Sort) (b : Bool) (a e y : Tree) → HasType t a → HasType t e → (if b then e else a) ≡ y → HasType t y
 chosen_typed t b a e y k h same = subst (HasType t) same (typed_if t b e a h k)
 
-pub reduced_typed : (g : ReduceOp) (t : Sort) (a e y : Tree) → Takes (reduce_want g) t → HasType t a → HasType t e → reduce_step g a e ≡ Ok y → HasType t y
+pub reduced_typed : (g : ReduceOp) (t : Sort) (a e y : Tree) → TakesSort (reduce_want g) t → HasType t a → HasType t e → reduce_step g a e ≡ Ok y → HasType t y
 reduced_typed r.Sum t a e y w k h v = subst (λ s. HasType s y) (sort_from_same num_type t w) (sum_typed a e y v)
 reduced_typed r.Max t a e y w k h v =
     let same : (if is_gt (tree_cmp e a) then e else a) ≡ y = cc in

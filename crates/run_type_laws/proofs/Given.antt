@@ -10,7 +10,7 @@ use Rattle.blue_rules.specs.declared.want.Want.{Want}
 use Rattle.blue_rules.specs.declared.want.Want.TheVariants.{Is}
 use Rattle.blue_rules.specs.FnTypes.{suits}
 use Rattle.blue_rules.specs.StageTypes.{limited, clash_or, keyed}
-use Rattle.run_type_laws.specs.Types.{Takes}
+use Rattle.run_type_laws.specs.Types.{TakesSort}
 
 limited_by : (b : Bool) (s u : Sort) → (if b then Gives s else TooDeep) ≡ Gives u → s ≡ u
 limited_by true s u h = cc
@@ -23,11 +23,11 @@ wanted_by : (b : Bool) (t : Sort) (w : Want) (r : Typed) (u : Sort) → (if b th
 wanted_by true t w r u h = (refl, h)
 wanted_by false t w r u h = cc
 
-pub wanted : (w : Option Want) (t : Sort) (r : Typed) (u : Sort) → clash_or w t r ≡ Gives u → Takes w t × (r ≡ Gives u)
+pub wanted : (w : Option Want) (t : Sort) (r : Typed) (u : Sort) → clash_or w t r ≡ Gives u → TakesSort w t × (r ≡ Gives u)
 wanted None t r u h = (tt, h)
 wanted (Some w) t r u h = wanted_by (suits w t) t w r u h
 
-pub given : (w : Option Want) (t s u : Sort) → clash_or w t (limited s) ≡ Gives u → Takes w t × (s ≡ u)
+pub given : (w : Option Want) (t s u : Sort) → clash_or w t (limited s) ≡ Gives u → TakesSort w t × (s ≡ u)
 given w t s u h = let e = wanted w t (limited s) u h in (e.0, limited_is s u e.1)
 
 pub parted_by : (b : Bool) (t p u : Sort) → (if b then Gives t else Clashes p (Is num_type)) ≡ Gives u → t ≡ u

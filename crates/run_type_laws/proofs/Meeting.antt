@@ -22,31 +22,31 @@ use Rattle.elem_core.specs.declared.function.ReduceOp.{ReduceOp}
 use Rattle.elem_core.specs.declared.function.ReduceOp.TheVariants as r
 use Rattle.blue_rules.specs.declared.want.Want.TheVariants.{Is, AnySeq, AnyPair}
 use Rattle.blue_rules.specs.FnTypes.{map_want, map_gives, pred_want, fold_want, fold_gives, reduce_want}
-use Rattle.run_type_laws.specs.Types.{HasType, AllTyped, Takes}
+use Rattle.run_type_laws.specs.Types.{HasType, AllTyped, TakesSort}
 use Rattle.run_type_laws.proofs.Functions.{map_typed}
 
 -- ---- an element of a type that is wanted, by its form
 
-by_number : (P : Tree → Type 0) → ((z : ℤ) → P (num z)) → (t : Sort) (x : Tree) → Takes (Some (Is num_type)) t → HasType t x → P x
+by_number : (P : Tree → Type 0) → ((z : ℤ) → P (num z)) → (t : Sort) (x : Tree) → TakesSort (Some (Is num_type)) t → HasType t x → P x
 by_number P g t x w h = go x (subst (λ s. HasType s x) (sym (sort_from_same num_type t w)) h)
   where
     go : (y : Tree) → HasType num_type y → P y
     go (num z) k = g z
     go _ k = absurd k
 
-by_text : (P : Tree → Type 0) → ((bs : List ℕ) → P (text bs)) → (t : Sort) (x : Tree) → Takes (Some (Is text_type)) t → HasType t x → P x
+by_text : (P : Tree → Type 0) → ((bs : List ℕ) → P (text bs)) → (t : Sort) (x : Tree) → TakesSort (Some (Is text_type)) t → HasType t x → P x
 by_text P g t x w h = go x (subst (λ s. HasType s x) (sym (sort_from_same text_type t w)) h)
   where
     go : (y : Tree) → HasType text_type y → P y
     go (text bs) k = g bs
     go _ k = absurd k
 
-by_pair : (P : Tree → Type 0) → ((a b : Tree) → P (both a b)) → (t : Sort) (x : Tree) → Takes (Some AnyPair) t → HasType t x → P x
+by_pair : (P : Tree → Type 0) → ((a b : Tree) → P (both a b)) → (t : Sort) (x : Tree) → TakesSort (Some AnyPair) t → HasType t x → P x
 by_pair P g (pair_type t u) (both a b) w h = g a b
 by_pair P g (pair_type t u) _ w h = absurd h
 by_pair P g _ x w h = cc
 
-by_list : (P : Tree → Type 0) → ((i : Row) → P (seq i)) → (t : Sort) (x : Tree) → Takes (Some AnySeq) t → HasType t x → P x
+by_list : (P : Tree → Type 0) → ((i : Row) → P (seq i)) → (t : Sort) (x : Tree) → TakesSort (Some AnySeq) t → HasType t x → P x
 by_list P g (seq_type t) (seq i) w h = g i
 by_list P g (seq_type t) _ w h = absurd h
 by_list P g _ x w h = cc
@@ -112,7 +112,7 @@ sum_says acc (_ ∷ ts) h = absurd h.0
 sum_of_says : (ts : List Tree) → AllTyped num_type ts → Says (sum_of ts)
 sum_of_says ts h = rw (numbers_all ts h) (sum_says (pos 0) ts h)
 
-by_numbers : (P : Tree → Type 0) → ((i : Row) → AllTyped num_type (items i) → P (seq i)) → (t : Sort) (x : Tree) → Takes (Some (Is (seq_type num_type))) t → HasType t x → P x
+by_numbers : (P : Tree → Type 0) → ((i : Row) → AllTyped num_type (items i) → P (seq i)) → (t : Sort) (x : Tree) → TakesSort (Some (Is (seq_type num_type))) t → HasType t x → P x
 by_numbers P g t x w h = go x (subst (λ s. HasType s x) (sym (sort_from_same (seq_type num_type) t w)) h)
   where
     go : (y : Tree) → HasType (seq_type num_type) y → P y
@@ -122,7 +122,7 @@ by_numbers P g t x w h = go x (subst (λ s. HasType s x) (sym (sort_from_same (s
 -- ---- functions
 
 -- only the number that a text is may be wanting
-pub map_meets : (g : MapFn) (t : Sort) (x : Tree) → Takes (map_want g) t → HasType t x → map_value g x ≡ Err NotANumber → g ≡ f.Num
+pub map_meets : (g : MapFn) (t : Sort) (x : Tree) → TakesSort (map_want g) t → HasType t x → map_value g x ≡ Err NotANumber → g ≡ f.Num
 map_meets f.Num t x w h = λ e. refl
 map_meets f.Show t x w h = λ e. absurd (short_says (text_of x) e)
 map_meets (f.Add k) t x w h = by_number (λ y. map_value (f.Add k) y ≡ Err NotANumber → f.Add k ≡ f.Num) (λ z e. absurd (number_says (z +ℤ k) e)) t x w h
@@ -149,7 +149,7 @@ is_field_says (Ok bs) v s h = cc
 is_field_says (Err w) v s h = let same : Result.Err w ≡ Err NotANumber = cc in s same
 
 -- a predicate always says whether an element passes, or why not
-pub pred_meets : (q : Pred) (t : Sort) (x : Tree) → Takes (Some (pred_want q)) t → HasType t x → Says (pred_value q x)
+pub pred_meets : (q : Pred) (t : Sort) (x : Tree) → TakesSort (Some (pred_want q)) t → HasType t x → Says (pred_value q x)
 pred_meets p.Even t x w h = by_number (λ y. Says (pred_value p.Even y)) (λ z e. cc) t x w h
 pred_meets p.Odd t x w h = by_number (λ y. Says (pred_value p.Odd y)) (λ z e. cc) t x w h
 pred_meets (p.Lt k) t x w h = by_number (λ y. Says (pred_value (p.Lt k) y)) (λ z e. cc) t x w h
@@ -174,7 +174,7 @@ of_number : (P : Tree → Type 0) → ((z : ℤ) → P (num z)) → (a : Tree) �
 of_number P g (num z) k = g z
 of_number P g _ k = absurd k
 
-pub step_meets : (g : FoldOp) (t : Sort) (a x : Tree) → Takes (fold_want g) t → HasType (fold_gives g t) a → HasType t x → Says (fold_step g a x)
+pub step_meets : (g : FoldOp) (t : Sort) (a x : Tree) → TakesSort (fold_want g) t → HasType (fold_gives g t) a → HasType t x → Says (fold_step g a x)
 step_meets o.Sum t a x w k h = of_number (λ b. Says (fold_step o.Sum b x)) (λ z. by_number (λ y. Says (fold_step o.Sum (num z) y)) (λ v. number_says (z +ℤ v)) t x w h) a k
 step_meets o.SumNonneg t a x w k h =
     of_number (λ b. Says (fold_step o.SumNonneg b x))
@@ -183,7 +183,7 @@ step_meets o.Count t a x w k h = of_number (λ b. Says (fold_step o.Count b x)) 
 step_meets o.Collect t (seq i) x w k h = λ e. cc
 step_meets o.Collect t _ x w k h = absurd k
 
-pub reduce_meets : (g : ReduceOp) (t : Sort) (a x : Tree) → Takes (reduce_want g) t → HasType t a → HasType t x → Says (reduce_step g a x)
+pub reduce_meets : (g : ReduceOp) (t : Sort) (a x : Tree) → TakesSort (reduce_want g) t → HasType t a → HasType t x → Says (reduce_step g a x)
 reduce_meets r.Sum t a x w k h = by_number (λ b. Says (reduce_step r.Sum b x)) (λ z. by_number (λ y. Says (reduce_step r.Sum (num z) y)) (λ v. number_says (z +ℤ v)) t x w h) t a w k
 reduce_meets r.Max t a x w k h = λ e. cc
 reduce_meets r.Min t a x w k h = λ e. cc
@@ -197,5 +197,5 @@ part_says n (Ok (seq i)) k e = absurd (k (seq i) refl)
 part_says n (Ok (both a b)) k e = absurd (k (both a b) refl)
 part_says n (Err w) k e = cc
 
-pub part_meets : (n : ℕ) (g : MapFn) (t : Sort) (x : Tree) → Takes (map_want g) t → map_gives g t ≡ num_type → HasType t x → part_of n (map_value g x) ≡ Err NotANumber → g ≡ f.Num
+pub part_meets : (n : ℕ) (g : MapFn) (t : Sort) (x : Tree) → TakesSort (map_want g) t → map_gives g t ≡ num_type → HasType t x → part_of n (map_value g x) ≡ Err NotANumber → g ≡ f.Num
 part_meets n g t x w num_is h e = map_meets g t x w h (part_says n (map_value g x) (λ y v. subst (λ s. HasType s y) num_is (map_typed g t x y w h v)) e)

@@ -20,7 +20,7 @@ use Rattle.blue_rules.specs.First.{first_from, when}
 use Rattle.std.specs.List.{list_any, list_all}
 use Rattle.elem_core.specs.Values.{same_text}
 use Rattle.blue_rules.specs.Names.{plug_of, unknown_plug_at, unknown_in_steps, unknown_in_chains, unknown_in_nodes, unknown_plug}
-use Rattle.blue_rules.specs.Ports.{OpenPort, lacks_output, lacks_input, is_number, port_missing, port_twice, port_open, open_input, open_output}
+use Rattle.blue_rules.specs.Ports.{OpenPort, lacks_output, lacks_input, is_port_number, port_missing, port_twice, port_open, open_input, open_output}
 use Rattle.blue_rules.specs.Rounds.{wire_into, settled, type_on, type_clash, too_deep, clash_with, clash_on, is_joining, unlike, clash_of, is_deep, attempt_at}
 use Rattle.blue_rules.specs.Sizes.{is_within, sizes_fit, node_wrong}
 use Rattle.blue_rules.specs.StageTypes.{plug_named, stage_typed}
@@ -117,11 +117,11 @@ only_wire nodes ws missing twice op i v n at is one =
     (when_none (lacks_output (slice_get nodes v.from) v.output || lacks_input (slice_get nodes v.to) v.input) i lacks)).1 in
     let below : v.input < inputs_of n.kind = leb-false (inputs_of n.kind) v.input (subst (λ o. lacks_input o v.input ≡ false) is has) in
     let first : v.input ≡ 0 = omega (arith, below, one) in
-    let again = nowhere (λ j x. when (not (is_number j (find_source x.from x.output ws)) || not (is_number j (find_wire x.to x.input ws))) j) ws i v twice at in
-    let alone = (or_parts (not (is_number i (find_source v.from v.output ws))) (not (is_number i (find_wire v.to v.input ws)))
-    (when_none (not (is_number i (find_source v.from v.output ws)) || not (is_number i (find_wire v.to v.input ws))) i again)).1 in
+    let again = nowhere (λ j x. when (not (is_port_number j (find_source x.from x.output ws)) || not (is_port_number j (find_wire x.to x.input ws))) j) ws i v twice at in
+    let alone = (or_parts (not (is_port_number i (find_source v.from v.output ws))) (not (is_port_number i (find_wire v.to v.input ws)))
+    (when_none (not (is_port_number i (find_source v.from v.output ws)) || not (is_port_number i (find_wire v.to v.input ws))) i again)).1 in
     let into = input_there nodes ws op v.to 0 n is (rw one (omega arith)) in
-    let same : into.number ≡ i = number_is into.number i (subst (λ o. not (is_number i o) ≡ false) into.finds (subst (λ p. not (is_number i (find_wire v.to p ws)) ≡ false) first alone)) in
+    let same : into.number ≡ i = number_is into.number i (subst (λ o. not (is_port_number i o) ≡ false) into.finds (subst (λ p. not (is_port_number i (find_wire v.to p ws)) ≡ false) first alone)) in
     ap (option_and_then (slice_get ws)) into.finds ∙ ap (slice_get ws) same ∙ at
   where
     number_is : (k j : ℕ) → not (k == j) ≡ false → k ≡ j

@@ -17,7 +17,7 @@ use Rattle.stream_model.proofs.Compositions.{slice_get-below}
 use Rattle.stream_model.proofs.PickTraces.{agrees_prefix}
 use Rattle.stage_law.specs.Held.{told}
 use Rattle.fused_net.proofs.Reading.{get_there}
-use Rattle.run_account.specs.Items.{list_of, standing, AgreesWith}
+use Rattle.run_account.specs.Items.{list_of, end_of_items, AgreesWith}
 use Rattle.run_outlook_laws.specs.Reads.{GivesTexts}
 use Rattle.run_account.proofs.Histories.{list_of_told, standing_told}
 use Rattle.blue_core.specs.declared.blueprint.ChainDecl.{ChainDecl}
@@ -25,7 +25,7 @@ use Rattle.blue_core.specs.declared.blueprint.Node.{Node}
 use Rattle.plug_core.specs.declared.head.PlugHead.{PlugHead}
 use Rattle.blue_rules.specs.Rounds.{half_type, settled}
 use Rattle.blue_rules.specs.StageTypes.{source_type}
-use Rattle.materializer.specs.Graphs.{node_of}
+use Rattle.materializer.specs.Graphs.{graph_node}
 use Rattle.run_type_laws.specs.Checked.{PassesRules, wire_type}
 use Rattle.run_type_laws.specs.Plugs.{KeepsPlugTypes}
 use Rattle.run_type_laws.specs.Sent.{exact, SendsItsType}
@@ -54,7 +54,7 @@ module _ (plugs : List PlugHead) (chains : List ChainDecl) (nodes : List Node) (
     → ((u : ℕ) (x : Edge) → slice_get g.wires u ≡ Some x → x.to ≡ v.from → AgreesWith (sent u) (items u)) → AgreesWith (next g w sent j) (items j)) where
   -- what was sent, as all that may pass
   abbrev as_sent : ℕ → Outlook
-  as_sent u = exact (list_of (items u)) (standing (items u))
+  as_sent u = exact (list_of (items u)) (end_of_items (items u))
 
   -- what was sent on wire i is of the type that is settled for it
   record Passed (i : ℕ) : Type 0 where
@@ -77,7 +77,7 @@ module _ (plugs : List PlugHead) (chains : List ChainDecl) (nodes : List Node) (
   }
 
   module _ (j : ℕ) (l : j < length g.wires) (below : (i : ℕ) → i < length g.wires → rank i < rank j → Passed i) (v : Edge) (at : slice_get g.wires j ≡ Some v) (n : Node) (is : slice_get nodes v.from ≡ Some n) where
-    in_graph : slice_get g.nodes v.from ≡ Some (node_of n)
+    in_graph : slice_get g.nodes v.from ≡ Some (graph_node n)
     in_graph = ap (λ (ns : List graph.Node). slice_get ns v.from) passes.nodes_are ∙ plain_at nodes v.from n is
 
     text_wire : (name : List ℕ) → n.kind ≡ Lines name → (t : Sort) → wire_type plugs chains nodes g v ≡ Some t → text_type ≡ t
@@ -89,7 +89,7 @@ module _ (plugs : List PlugHead) (chains : List ChainDecl) (nodes : List Node) (
 
     passed_by : ((name : List ℕ) × (n.kind ≡ Lines name)) ⊎ ((name : List ℕ) → n.kind ≢ Lines name) → Passed j
     passed_by (inl r) =
-        let s = texts j v (node_of n) r.0 at in_graph r.1 in
+        let s = texts j v (graph_node n) r.0 at in_graph r.1 in
         record {
           list = map text s.texts;
           end = s.end;
@@ -99,7 +99,7 @@ module _ (plugs : List PlugHead) (chains : List ChainDecl) (nodes : List Node) (
               retype_all text_type t (map text s.texts) (text_wire r.0 r.1 t (subst (λ y. wire_type plugs chains nodes g y ≡ Some t) same e)) (lines_typed s.texts);
         }
     passed_by (inr other) =
-        let a = gives as_sent j v (node_of n) at in_graph other (λ u x ux to. as_agreed u (below u (slice_get-below g.wires u x ux) (ranked.rises u j x v ux at to))) in
+        let a = gives as_sent j v (graph_node n) at in_graph other (λ u x ux to. as_agreed u (below u (slice_get-below g.wires u x ux) (ranked.rises u j x v ux at to))) in
         record {
           list = a.list;
           end = a.end;

@@ -22,7 +22,7 @@ use Rattle.blue_rules.specs.declared.typed.Typed.{Typed}
 use Rattle.blue_rules.specs.declared.typed.Typed.TheVariants.{Gives, Clashes, TooDeep}
 use Rattle.blue_rules.specs.declared.want.Want.{Want}
 use Rattle.run_type_laws.specs.Kinds.{is_known, source, joining, zipping, single, shape_of, function_want, chain_in, StepsTake}
-use Rattle.run_type_laws.specs.Types.{Takes}
+use Rattle.run_type_laws.specs.Types.{TakesSort}
 
 -- ---- inputs and outputs
 
@@ -75,7 +75,7 @@ no_joining_source _ u s h = cc
 
 -- ---- a type that is met
 
-pub clash_by : (w : Option Want) (i : ℕ) (t : Sort) (r : Typed) → clash_of i (clash_or w t r) ≡ None → Takes w t × (clash_or w t r ≡ r)
+pub clash_by : (w : Option Want) (i : ℕ) (t : Sort) (r : Typed) → clash_of i (clash_or w t r) ≡ None → TakesSort w t × (clash_or w t r ≡ r)
 clash_by None i t r h = (tt, refl)
 clash_by (Some w) i t r h = by_test (suits w t) h
   where
@@ -118,14 +118,14 @@ is_chained _ = bare (λ plugs chains t. tt)
 
 module _ (plugs : List PlugHead) (chains : List ChainDecl) where
   -- the function of a node takes what does not clash there
-  pub takes : (k : Kind) (i : ℕ) (t : Sort) → is_known plugs k ≡ true → clash_of i (stage_typed plugs chains k t) ≡ None → Takes (function_want plugs k) t
+  pub takes : (k : Kind) (i : ℕ) (t : Sort) → is_known plugs k ≡ true → clash_of i (stage_typed plugs chains k t) ≡ None → TakesSort (function_want plugs k) t
   takes (GroupBy n f c) i t a h = (clash_by (map_want f) i t (keyed plugs (map_gives f t) (chain_typed plugs (chain_named c chains) t)) h).0
   takes (SplitWhen p c j) i t a h = (clash_by (Some (pred_want p)) i t (chain_typed plugs (chain_named c chains) t) h).0
   takes (SplitAfter p c j) i t a h = (clash_by (Some (pred_want p)) i t (chain_typed plugs (chain_named c chains) t) h).0
   takes (Partition n f) i t a h = (clash_by (map_want f) i t (parted plugs (fixed_or (map_fixed f) (map_shape f t)) t) h).0
   takes k i t a h = (clash_by (stage_want plugs k) i t (limited (stage_gives plugs k t)) h).0
 
-  pub joining_takes : (k : Kind) (t : Sort) → is_joining k ≡ true → Takes (function_want plugs k) t
+  pub joining_takes : (k : Kind) (t : Sort) → is_joining k ≡ true → TakesSort (function_want plugs k) t
   joining_takes (Merge n) t j = tt
   joining_takes (Concat n) t j = tt
   joining_takes (Interleave n s) t j = tt

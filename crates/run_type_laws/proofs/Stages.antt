@@ -29,11 +29,11 @@ use Rattle.blue_rules.specs.declared.want.Want.TheVariants.{Is, AnyPair}
 use Rattle.blue_rules.specs.FnTypes.{map_want, map_gives, pred_want, left_type, right_type}
 use Rattle.blue_rules.specs.Rounds.{half_type}
 use Rattle.blue_rules.specs.StageTypes.{source_type, stage_typed, parted, keyed, chain_typed, chain_named}
-use Rattle.materializer.specs.Graphs.{chain_of as declared_chain}
-use Rattle.line_chain.specs.Line.{step_of}
+use Rattle.materializer.specs.Graphs.{plain_chain as declared_chain}
+use Rattle.line_chain.specs.Line.{model_step}
 use Rattle.run_type_laws.specs.Kinds.{joining, single, shape_of, is_known}
 use Rattle.run_type_laws.specs.Plugs.{KeepsPlugTypes}
-use Rattle.run_type_laws.specs.Types.{AllTyped, OutlooksTyped, Takes}
+use Rattle.run_type_laws.specs.Types.{AllTyped, OutlooksTyped, TakesSort}
 use Rattle.run_type_laws.proofs.Lists.{retype_all}
 use Rattle.run_type_laws.proofs.Given.{given, wanted, parted_by, keyed_is}
 use Rattle.run_type_laws.proofs.Machines.{output_typed}
@@ -43,7 +43,7 @@ use Rattle.run_type_laws.proofs.Fans.{items_typed, concat_typed, inlets_typed, i
 use Rattle.run_type_laws.proofs.Choices.{lefts_typed, rights_typed, sent_typed, acted_typed, recover_typed, buffered_typed}
 
 -- the outputs of an unzip
-unzip_by : (b : Bool) (t : Sort) (o : Outlook) → Takes (Some AnyPair) t → AllTyped t o.list → AllTyped (if b then left_type t else right_type t) (if b then left_outlook o else right_outlook o).list
+unzip_by : (b : Bool) (t : Sort) (o : Outlook) → TakesSort (Some AnyPair) t → AllTyped t o.list → AllTyped (if b then left_type t else right_type t) (if b then left_outlook o else right_outlook o).list
 unzip_by true (pair_type t u) o w h = lefts_typed t u o.list h
 unzip_by true _ o w h = cc
 unzip_by false (pair_type t u) o w h = rights_typed t u o.list h
@@ -102,7 +102,7 @@ module _ (g : Graph) (w : World) (node : ℕ) (d : Decider) (is : List Outlook) 
     -- the chain of a node with substreams
     chain_at : (name : List ℕ) → chain_typed plugs (chain_named name chains) t ≡ Gives u → ChainTyped plugs t u (chain_of node (steps_of name g.chains))
     chain_at name e =
-        let are : steps_of name g.chains ≡ map step_of (chain_named name chains) = ap (steps_of name) chains_are ∙ steps_are name chains in
+        let are : steps_of name g.chains ≡ map model_step (chain_named name chains) = ap (steps_of name) chains_are ∙ steps_are name chains in
         subst (λ ss. ChainTyped plugs t u (chain_of node ss)) (sym are) (chain_typed_by plugs node (chain_named name chains) t u (steps_known plugs name chains steps) e)
 
     merged : (o : Opening) (name : List ℕ) → chain_typed plugs (chain_named name chains) t ≡ Gives u → AllTyped u (merge_subs (through w.book (chain_of node (steps_of name g.chains))) node o (w.moves node) (head_of is)).list

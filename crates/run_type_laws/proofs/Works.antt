@@ -13,7 +13,7 @@ use Rattle.elem_core.specs.declared.why.Why.TheVariants.{Plug}
 use Rattle.plug_core.specs.declared.head.PlugHead.{PlugHead}
 use Rattle.blue_rules.specs.StageTypes.{plug_named}
 use Rattle.blue_rules.specs.FnTypes.{map_want, map_gives, expand_want, expand_gives, fold_gives, reduce_want}
-use Rattle.run_type_laws.specs.Types.{HasType, AllTyped, Takes}
+use Rattle.run_type_laws.specs.Types.{HasType, AllTyped, TakesSort}
 use Rattle.run_type_laws.specs.Plugs.{KeepsPlugTypes}
 use Rattle.run_type_laws.proofs.Keeping.{RunKeeps, FinishKeeps}
 use Rattle.run_type_laws.proofs.Lists.{retype, retype_all, typed_append, typed_row}
@@ -34,12 +34,12 @@ pub record PlugTyped (plugs : List PlugHead) (t u : Sort) (name : List ℕ) (tak
 
 -- the work is for elements of type t, gives elements of type u, and holds what it may
 abbrev pub WorkTyped : List PlugHead → Sort → Sort → Work → Type 0
-WorkTyped plugs t u (mapping g) = Takes (map_want g) t × (map_gives g t ≡ u)
+WorkTyped plugs t u (mapping g) = TakesSort (map_want g) t × (map_gives g t ≡ u)
 WorkTyped plugs t u (grouping n held) = AllTyped t held × (seq_type t ≡ u)
-WorkTyped plugs t u (expanding g) = Takes (expand_want g) t × (expand_gives g t ≡ u)
+WorkTyped plugs t u (expanding g) = TakesSort (expand_want g) t × (expand_gives g t ≡ u)
 WorkTyped plugs t u (folding g a) = HasType u a × (fold_gives g t ≡ u)
 WorkTyped plugs t u (scanning g a) = HasType u a × (fold_gives g t ≡ u)
-WorkTyped plugs t u (reducing g held) = IfHeld t held × Takes (reduce_want g) t × (t ≡ u)
+WorkTyped plugs t u (reducing g held) = IfHeld t held × TakesSort (reduce_want g) t × (t ≡ u)
 WorkTyped plugs t u (lasting held) = IfHeld t held × (t ≡ u)
 WorkTyped plugs t u (plugged name taken) = PlugTyped plugs t u name taken
 WorkTyped plugs t u _ = t ≡ u

@@ -14,8 +14,8 @@ use Rattle.blue_rules.specs.Ports.{port_missing, port_twice, port_open}
 use Rattle.blue_rules.specs.Rounds.{settled, type_on, type_clash, too_deep}
 use Rattle.blue_rules.specs.Sizes.{node_wrong}
 use Rattle.run_type_laws.specs.Kinds.{is_known, function_want, chain_in, StepsTake}
-use Rattle.run_type_laws.specs.Types.{AllTyped, Takes}
-use Rattle.materializer.specs.Graphs.{node_of, chain_of}
+use Rattle.run_type_laws.specs.Types.{AllTyped, TakesSort}
+use Rattle.materializer.specs.Graphs.{graph_node, plain_chain}
 
 -- a plug that a step of a chain names is handed in: so it is where the rule on plugs is not broken
 pub record HasKnownSteps (plugs : List PlugHead) (chains : List ChainDecl) : Type 0 where
@@ -24,8 +24,8 @@ pub record HasKnownSteps (plugs : List PlugHead) (chains : List ChainDecl) : Typ
 module _ (plugs : List PlugHead) (chains : List ChainDecl) (nodes : List Node) (g : Graph) where
   -- the graph has these nodes and chains, and no rule on plugs, ports, sizes of nodes or types is broken
   pub record PassesRules : Type 0 where
-    pub nodes_are : g.nodes ≡ map node_of nodes
-    pub chains_are : g.chains ≡ map chain_of chains
+    pub nodes_are : g.nodes ≡ map graph_node nodes
+    pub chains_are : g.chains ≡ map plain_chain chains
     pub no_unknown : unknown_plug plugs chains nodes ≡ None
     pub no_missing : port_missing nodes g.wires ≡ None
     pub no_twice : port_twice g.wires ≡ None
@@ -45,5 +45,5 @@ module _ (plugs : List PlugHead) (chains : List ChainDecl) (nodes : List Node) (
     pub typed : AllTyped type (composed g w i).list
     pub target : Node
     pub at : slice_get nodes v.to ≡ Some target
-    pub takes : Takes (function_want plugs target.kind) type
+    pub takes : TakesSort (function_want plugs target.kind) type
     pub steps : StepsTake plugs (chain_in chains target.kind) type

@@ -9,7 +9,7 @@ use Rattle.plug_core.specs.declared.head.PlugHead.{PlugHead}
 use Rattle.blue_rules.specs.declared.want.Want.{Want}
 use Rattle.blue_rules.specs.FnTypes.{map_want, pred_want}
 use Rattle.blue_rules.specs.StageTypes.{plug_named, chain_named, stage_want, stage_gives}
-use Rattle.run_type_laws.specs.Types.{Takes}
+use Rattle.run_type_laws.specs.Types.{TakesSort}
 
 -- a plug that is handed in, or anything else
 abbrev known_by : List PlugHead → Mention → Bool
@@ -104,4 +104,4 @@ chain_in chains k = chain_by chains (mention_of k)
 -- the function of each step takes what the steps before it give
 abbrev pub StepsTake : List PlugHead → List Step → Sort → Type 0
 StepsTake plugs [] t = Unit {0}
-StepsTake plugs (s ∷ ss) t = Takes (stage_want plugs s.kind) t × StepsTake plugs ss (stage_gives plugs s.kind t)
+StepsTake plugs (s ∷ ss) t = TakesSort (stage_want plugs s.kind) t × StepsTake plugs ss (stage_gives plugs s.kind t)

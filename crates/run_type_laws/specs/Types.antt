@@ -28,6 +28,6 @@ abbrev pub OutlooksTyped : Sort → List Outlook → Type 0
 OutlooksTyped t os = Each (λ (o : Outlook). AllTyped t o.list) os
 
 -- a function that wants no type in particular takes each; any other takes those that are wanted
-abbrev pub Takes : Option Want → Sort → Type 0
-Takes None t = Unit {0}
-Takes (Some w) t = IsTrue (suits w t)
+abbrev pub TakesSort : Option Want → Sort → Type 0
+TakesSort None t = Unit {0}
+TakesSort (Some w) t = IsTrue (suits w t)

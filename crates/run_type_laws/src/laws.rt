@@ -37,12 +37,12 @@ ghost use Rattle.blue_rules.specs.Rounds.{half_type};
 ghost use Rattle.blue_rules.specs.StageTypes.{source_type, stage_typed};
 ghost use Rattle.blue_check.specs.Fitness.{IsFit};
 ghost use Rattle.blue_check.specs.Wires.{blueprint_wires};
-ghost use Rattle.materializer.specs.Graphs.{node_of, chain_of};
+ghost use Rattle.materializer.specs.Graphs.{graph_node, plain_chain};
 ghost use Rattle.run_type_laws.specs.Checked.{PassesRules, HasKnownSteps, CarriesType};
 ghost use Rattle.run_type_laws.specs.Kinds.{is_known, shape_of, joining, single};
 ghost use Rattle.run_type_laws.specs.Plugs.{KeepsPlugTypes};
 ghost use Rattle.run_type_laws.specs.Sent.{SendsItsType};
-ghost use Rattle.run_type_laws.specs.Types.{HasType, AllTyped, OutlooksTyped, Takes};
+ghost use Rattle.run_type_laws.specs.Types.{HasType, AllTyped, OutlooksTyped, TakesSort};
 
 use plug_logic::book::PlugBook;
 use plug_logic::logic::Logic;
@@ -51,23 +51,23 @@ use stream_io::outside::{Drain, Source};
 /// Each function gives an element of the type that its table says, where it has a value for an element of a type that it
 /// takes: a map, an expansion, a fold at its zero and at each step, and a reduction, which gives the type that it takes.
 pub fn functions_keep_types()
-    ensures map { (f : MapFn) (t : Sort) (x y : Tree) → Takes (map_want f) t → HasType t x → map_value f x ≡ Ok y → HasType (map_gives f t) y }
-    ensures expand { (f : Expand) (t : Sort) (x : Tree) → Takes (expand_want f) t → HasType t x → AllTyped (expand_gives f t) (expansion f x) }
+    ensures map { (f : MapFn) (t : Sort) (x y : Tree) → TakesSort (map_want f) t → HasType t x → map_value f x ≡ Ok y → HasType (map_gives f t) y }
+    ensures expand { (f : Expand) (t : Sort) (x : Tree) → TakesSort (expand_want f) t → HasType t x → AllTyped (expand_gives f t) (expansion f x) }
     ensures zero { (f : FoldOp) (t : Sort) → HasType (fold_gives f t) (fold_zero f) }
     ensures step { (f : FoldOp) (t : Sort) (a x y : Tree) → HasType (fold_gives f t) a → HasType t x → fold_step f a x ≡ Ok y → HasType (fold_gives f t) y }
-    ensures same { (f : ReduceOp) (t : Sort) → Takes (reduce_want f) t → reduce_gives f t ≡ t }
-    ensures reduce { (f : ReduceOp) (t : Sort) (a x y : Tree) → Takes (reduce_want f) t → HasType t a → HasType t x → reduce_step f a x ≡ Ok y → HasType t y }
+    ensures same { (f : ReduceOp) (t : Sort) → TakesSort (reduce_want f) t → reduce_gives f t ≡ t }
+    ensures reduce { (f : ReduceOp) (t : Sort) (a x y : Tree) → TakesSort (reduce_want f) t → HasType t a → HasType t x → reduce_step f a x ≡ Ok y → HasType t y }
 {}
 
 /// A function that meets an element of a type that it takes never lacks a value because the element is of another type: only
 /// `num` answers `NotANumber`, of a text that is no number, and a partition by it. So it is of maps, predicates, the steps of
 /// folds and reductions, and the part that a partition finds.
 pub fn functions_meet_their_types()
-    ensures map { (f : MapFn) (t : Sort) (x : Tree) → Takes (map_want f) t → HasType t x → map_value f x ≡ Err NotANumber → f ≡ fn_kind.Num }
-    ensures predicate { (q : Pred) (t : Sort) (x : Tree) → Takes (Some (pred_want q)) t → HasType t x → pred_value q x ≡ Err NotANumber → ⊥ }
-    ensures step { (f : FoldOp) (t : Sort) (a x : Tree) → Takes (fold_want f) t → HasType (fold_gives f t) a → HasType t x → fold_step f a x ≡ Err NotANumber → ⊥ }
-    ensures reduce { (f : ReduceOp) (t : Sort) (a x : Tree) → Takes (reduce_want f) t → HasType t a → HasType t x → reduce_step f a x ≡ Err NotANumber → ⊥ }
-    ensures part { (n : ℕ) (f : MapFn) (t : Sort) (x : Tree) → Takes (map_want f) t → map_gives f t ≡ num_type → HasType t x → part_of n (map_value f x) ≡ Err NotANumber → f ≡ fn_kind.Num }
+    ensures map { (f : MapFn) (t : Sort) (x : Tree) → TakesSort (map_want f) t → HasType t x → map_value f x ≡ Err NotANumber → f ≡ fn_kind.Num }
+    ensures predicate { (q : Pred) (t : Sort) (x : Tree) → TakesSort (Some (pred_want q)) t → HasType t x → pred_value q x ≡ Err NotANumber → ⊥ }
+    ensures step { (f : FoldOp) (t : Sort) (a x : Tree) → TakesSort (fold_want f) t → HasType (fold_gives f t) a → HasType t x → fold_step f a x ≡ Err NotANumber → ⊥ }
+    ensures reduce { (f : ReduceOp) (t : Sort) (a x : Tree) → TakesSort (reduce_want f) t → HasType t a → HasType t x → reduce_step f a x ≡ Err NotANumber → ⊥ }
+    ensures part { (n : ℕ) (f : MapFn) (t : Sort) (x : Tree) → TakesSort (map_want f) t → map_gives f t ≡ num_type → HasType t x → part_of n (map_value f x) ≡ Err NotANumber → f ≡ fn_kind.Num }
 {}
 
 /// What may pass an output of a node is of its type, where what may pass its inputs is of theirs: a source gives its type
@@ -76,7 +76,7 @@ pub fn functions_meet_their_types()
 pub fn stages_keep_types()
     ensures source { (g : Graph) (w : World) (node : ℕ) (d : Decider) (is : List Outlook) (k : Kind) (t : Sort) → source_type k ≡ Some t → (p : ℕ) → AllTyped t (node_outlook g w node k d is p).list }
     ensures single { (g : Graph) (w : World) (node : ℕ) (d : Decider) (o : Outlook) (plugs : List PlugHead) (chains : List ChainDecl) (k : Kind) (t u : Sort) → KeepsPlugTypes plugs w.book
-        → g.chains ≡ map chain_of chains → HasKnownSteps plugs chains → is_known plugs k ≡ true → shape_of k ≡ single
+        → g.chains ≡ map plain_chain chains → HasKnownSteps plugs chains → is_known plugs k ≡ true → shape_of k ≡ single
         → stage_typed plugs chains k t ≡ Gives u → AllTyped t o.list → (p : ℕ) → AllTyped (half_type k p u) (node_outlook g w node k d (o ∷ []) p).list }
     ensures joining { (g : Graph) (w : World) (node : ℕ) (d : Decider) (is : List Outlook) (k : Kind) (t : Sort) → shape_of k ≡ joining → OutlooksTyped t is → (p : ℕ) → AllTyped t (node_outlook g w node k d is p).list }
     ensures zip { (g : Graph) (w : World) (node : ℕ) (d : Decider) (o r : Outlook) (t u : Sort) → AllTyped t o.list → AllTyped u r.list → (p : ℕ) → AllTyped (pair_type t u) (node_outlook g w node kind.Zip d (o ∷ r ∷ []) p).list }
@@ -84,7 +84,7 @@ pub fn stages_keep_types()
 
 /// A graph of a blueprint that breaks no rule passes the rules that the laws below rest on.
 pub fn fit_blueprints_pass_the_rules()
-    ensures { (b : Blueprint) (plugs : List PlugHead) (taken : List (List ℕ)) (g : Graph) → IsFit b plugs taken → g.nodes ≡ map node_of b.nodes.items → g.wires ≡ blueprint_wires b → g.chains ≡ map chain_of b.chains.items
+    ensures { (b : Blueprint) (plugs : List PlugHead) (taken : List (List ℕ)) (g : Graph) → IsFit b plugs taken → g.nodes ≡ map graph_node b.nodes.items → g.wires ≡ blueprint_wires b → g.chains ≡ map plain_chain b.chains.items
         → PassesRules plugs b.chains.items b.nodes.items g }
 {}
 

@@ -6,7 +6,7 @@ use Rattle.std.specs.declared.alloc.Global.{Global}
 use Rattle.std.proofs.lemmas.Bool.{cases_eq, eq-eqb, ne_eqb, eqb-true, cond-true, cond-false}
 use Rattle.std.proofs.lemmas.List.{append-nil, take_more, length-reverse, reverse-append, get_or-set_same, get_or-set_other}
 use Rattle.std.proofs.lemmas.Option.{slice_get-get_or}
-use Rattle.scatter.specs.Shares.{of_home, count_of, rank_of, items_at, room_at, AreEmptyFor, AreShares, AreWhole}
+use Rattle.scatter.specs.Shares.{of_home, share_of, rank_of, items_at, room_at, AreEmptyFor, AreShares, AreWhole}
 use Rattle.scatter.proofs.Sharing.{count_here}
 
 get_set_same : {X : Type 0} (xs : List X) (i : ℕ) (v : X) → i < length xs → slice_get (set xs i v) i ≡ Some v
@@ -84,7 +84,7 @@ module _ {X : Type 0} (hs : List ℕ) (items : List X) where
   pub record Sharing (i : ℕ) (rest : List X) (lists : List (Vec X Global)) : Type 0 where
     pub left : i + length rest ≡ length hs
     pub so : (k : ℕ) → items_at lists k ++ of_home (drop i hs) k rest ≡ of_home hs k items
-    pub room : (k : ℕ) → k < length lists → length (items_at lists k) + count_of k (drop i hs) ≤ room_at lists k
+    pub room : (k : ℕ) → k < length lists → length (items_at lists k) + share_of k (drop i hs) ≤ room_at lists k
 
   pub sharing_first : (lists : List (Vec X Global)) → length items ≡ length hs → AreEmptyFor hs (length lists) lists → Sharing 0 items lists
   sharing_first lists e a = record {
@@ -99,7 +99,7 @@ module _ {X : Type 0} (hs : List ℕ) (items : List X) where
       let h = slice_index hs i in
       let size : length rest ≡ suc (length later) = ap length e in
       let lt : i < length hs = omega (arith, s.left, size) in
-      let one : count_of h (drop i hs) ≡ suc (count_of h (drop (i + 1) hs)) = ap (count_of h) (drop_here hs i lt) ∙ count_here h h (drop (i + 1) hs) (eq-eqb h h refl) in
+      let one : share_of h (drop i hs) ≡ suc (share_of h (drop (i + 1) hs)) = ap (share_of h) (drop_here hs i lt) ∙ count_here h h (drop (i + 1) hs) (eq-eqb h h refl) in
       let r = s.room h below in
       omega (arith, r, one)
 
@@ -124,8 +124,8 @@ module _ {X : Type 0} (hs : List ℕ) (items : List X) where
             cond_move (h == k) x (items_at lists k) (of_home (drop (i + 1) hs) k later) (items_at new k) (more k) ∙ ap (λ l. items_at lists k ++ l) (sym next) ∙ s.so k;
         room = λ k below.
             let all = s.room k (omega (arith, below, many)) in
-            let next : count_of k (drop i hs) ≡ cond (h == k) (suc (count_of k (drop (i + 1) hs))) (count_of k (drop (i + 1) hs)) = ap (count_of k) (drop_here hs i lt) in
-            let moved = cond_count (h == k) x (items_at lists k) (items_at new k) (count_of k (drop (i + 1) hs)) (more k) in
+            let next : share_of k (drop i hs) ≡ cond (h == k) (suc (share_of k (drop (i + 1) hs))) (share_of k (drop (i + 1) hs)) = ap (share_of k) (drop_here hs i lt) in
+            let moved = cond_count (h == k) x (items_at lists k) (items_at new k) (share_of k (drop (i + 1) hs)) (more k) in
             omega (arith, all, next, moved, same k);
       }
 
@@ -141,9 +141,9 @@ module _ {X : Type 0} (hs : List ℕ) (items : List X) where
 
 -- ---- the loop of ranks
 
-count_push : (k h : ℕ) (hs : List ℕ) → count_of k (hs ++ h ∷ []) ≡ cond (h == k) (suc (count_of k hs)) (count_of k hs)
+count_push : (k h : ℕ) (hs : List ℕ) → share_of k (hs ++ h ∷ []) ≡ cond (h == k) (suc (share_of k hs)) (share_of k hs)
 count_push k h [] = refl
-count_push k h (g ∷ hs) = by (g == k) (h == k) (count_of k hs) (count_of k (hs ++ h ∷ [])) (count_push k h hs)
+count_push k h (g ∷ hs) = by (g == k) (h == k) (share_of k hs) (share_of k (hs ++ h ∷ [])) (count_push k h hs)
   where
     by : (a b : Bool) (n m : ℕ) → m ≡ cond b (suc n) n → cond a (suc m) m ≡ cond b (suc (cond a (suc n) n)) (cond a (suc n) n)
     by true true n m e = ap suc e
@@ -151,15 +151,15 @@ count_push k h (g ∷ hs) = by (g == k) (h == k) (count_of k hs) (count_of k (hs
     by false true n m e = e
     by false false n m e = e
 
-pub count_next : (k : ℕ) (hs : List ℕ) (i : ℕ) → i < length hs → count_of k (take (i + 1) hs) ≡ cond (slice_index hs i == k) (suc (count_of k (take i hs))) (count_of k (take i hs))
-count_next k hs i lt = ap (count_of k) (take_more hs i 0 lt) ∙ count_push k (slice_index hs i) (take i hs)
+pub count_next : (k : ℕ) (hs : List ℕ) (i : ℕ) → i < length hs → share_of k (take (i + 1) hs) ≡ cond (slice_index hs i == k) (suc (share_of k (take i hs))) (share_of k (take i hs))
+count_next k hs i lt = ap (share_of k) (take_more hs i 0 lt) ∙ count_push k (slice_index hs i) (take i hs)
 
 -- the first i ranks, and how many of the first i homes each is
 pub record Ranking (hs : List ℕ) (count i : ℕ) (ranks counts : List ℕ) : Type 0 where
   pub each : length ranks ≡ i
   pub ranks_are : (j : ℕ) → j < i → slice_index ranks j ≡ rank_of hs j
   pub many : length counts ≡ count
-  pub counts_are : (k : ℕ) → k < count → slice_index counts k ≡ count_of k (take i hs)
+  pub counts_are : (k : ℕ) → k < count → slice_index counts k ≡ share_of k (take i hs)
 
 index_push : (xs : List ℕ) (x i : ℕ) → (i < length xs → slice_index (xs ++ x ∷ []) i ≡ slice_index xs i) × (i ≡ length xs → slice_index (xs ++ x ∷ []) i ≡ x)
 index_push [] x i = (λ lt. absurd (omega arith), λ e. ap (slice_index (x ∷ [])) e)
@@ -182,7 +182,7 @@ pub ranking_next : (hs : List ℕ) (count i r : ℕ) (ranks counts ranks' counts
     → counts' ≡ set counts (slice_index hs i) (r + 1) → Ranking hs count (i + 1) ranks' counts'
 ranking_next hs count i r ranks counts ranks' counts' lt below a is pushed was_set =
     let h = slice_index hs i in
-    let rank : r ≡ count_of h (take i hs) = is ∙ a.counts_are h below in
+    let rank : r ≡ share_of h (take i hs) = is ∙ a.counts_are h below in
     let size : length ranks' ≡ length (ranks ++ r ∷ []) = ap length pushed in
     record {
       each = let one : length (ranks ++ r ∷ []) ≡ length ranks + 1 = length-append ranks (r ∷ []) in omega (arith, size, one, a.each);
@@ -196,8 +196,8 @@ ranking_next hs count i r ranks counts ranks' counts' lt below a is pushed was_s
           ap (λ l. slice_index l k) was_set ∙ index_set counts h k (r + 1) (omega (arith, below, a.many)) ∙ by (h == k) k (λ t. eqb-true h k t) lk ∙ sym (count_next k hs i lt);
     }
   where
-    by : (b : Bool) (k : ℕ) → (b ≡ true → slice_index hs i ≡ k) → k < count → cond b (r + 1) (slice_index counts k) ≡ cond b (suc (count_of k (take i hs))) (count_of k (take i hs))
-    by true k same lk = let e : r ≡ count_of k (take i hs) = is ∙ ap (slice_index counts) (same refl) ∙ a.counts_are k lk in omega (arith, e)
+    by : (b : Bool) (k : ℕ) → (b ≡ true → slice_index hs i ≡ k) → k < count → cond b (r + 1) (slice_index counts k) ≡ cond b (suc (share_of k (take i hs))) (share_of k (take i hs))
+    by true k same lk = let e : r ≡ share_of k (take i hs) = is ∙ ap (slice_index counts) (same refl) ∙ a.counts_are k lk in omega (arith, e)
     by false k same lk = a.counts_are k lk
 
 -- ---- the loop that gathers, from the last home to the first
@@ -211,7 +211,7 @@ module _ {X : Type 0} (hs : List ℕ) (all : List (Vec X Global)) where
     pub many : length lists ≡ length all
     pub each : j + length items ≡ length hs
     pub so : (k : ℕ) → items_at all k ≡ items_at lists k ++ of_home (drop j hs) k (reverse items)
-    pub left : (k : ℕ) → k < length lists → length (items_at lists k) ≡ count_of k (take j hs)
+    pub left : (k : ℕ) → k < length lists → length (items_at lists k) ≡ share_of k (take j hs)
 
   drop_all : (gs : List ℕ) → drop (length gs) gs ≡ []
   drop_all [] = refl
@@ -226,11 +226,11 @@ module _ {X : Type 0} (hs : List ℕ) (all : List (Vec X Global)) where
     many = refl;
     each = let size : length items ≡ 0 = ap length e in omega (arith, size);
     so = λ k. sym (append-nil (items_at all k)) ∙ ap (λ l. items_at all k ++ l) (sym (ap (λ l. of_home l k (reverse items)) (drop_all hs)));
-    left = λ k lt. w.counts k lt ∙ ap (count_of k) (sym (take_all hs));
+    left = λ k lt. w.counts k lt ∙ ap (share_of k) (sym (take_all hs));
   }
 
-  next_take : (j : ℕ) → j < length hs → (k : ℕ) → count_of k (take (suc j) hs) ≡ cond (slice_index hs j == k) (suc (count_of k (take j hs))) (count_of k (take j hs))
-  next_take j lt k = let e : suc j ≡ j + 1 = omega arith in ap (λ n. count_of k (take n hs)) e ∙ count_next k hs j lt
+  next_take : (j : ℕ) → j < length hs → (k : ℕ) → share_of k (take (suc j) hs) ≡ cond (slice_index hs j == k) (suc (share_of k (take j hs))) (share_of k (take j hs))
+  next_take j lt k = let e : suc j ≡ j + 1 = omega arith in ap (λ n. share_of k (take n hs)) e ∙ count_next k hs j lt
 
   pub gathering_some : (j : ℕ) (items : List X) (lists : List (Vec X Global)) → AreWhole hs all → Gathering (suc j) items lists → 0 < length (items_at lists (slice_index hs j))
   gathering_some j items lists w a =
@@ -238,7 +238,7 @@ module _ {X : Type 0} (hs : List ℕ) (all : List (Vec X Global)) where
       let h = slice_index hs j in
       let there = w.below j lt in
       let n = a.left h (omega (arith, there, a.many)) in
-      let one : count_of h (take (suc j) hs) ≡ suc (count_of h (take j hs)) = next_take j lt h ∙ cond-true (h == h) _ _ (eq-eqb h h refl) in
+      let one : share_of h (take (suc j) hs) ≡ suc (share_of h (take j hs)) = next_take j lt h ∙ cond-true (h == h) _ _ (eq-eqb h h refl) in
       omega (arith, n, one)
 
   cond_back : (b : Bool) (x : X) (us vs ws : List X) → us ≡ vs ++ cond b (x ∷ []) [] → us ++ ws ≡ vs ++ cond b (x ∷ ws) ws
@@ -261,7 +261,7 @@ module _ {X : Type 0} (hs : List ℕ) (all : List (Vec X Global)) where
             let shares : of_home (drop j hs) k (reverse items') ≡ cond (h == k) (x ∷ of_home (drop (suc j) hs) k (reverse items)) (of_home (drop (suc j) hs) k (reverse items)) =
             ap (λ l. of_home l k (reverse items')) (drop_next hs j lt) ∙ ap (of_home (h ∷ drop (suc j) hs) k) (ap reverse more ∙ reverse_push items x) in
             a.so k ∙ cond_back (h == k) x (items_at lists k) (items_at new k) (of_home (drop (suc j) hs) k (reverse items)) (less k) ∙ ap (λ l. items_at new k ++ l) (sym shares);
-        left = λ k below. cond_fewer (h == k) x (items_at lists k) (items_at new k) (count_of k (take j hs)) _ (less k) (a.left k (omega (arith, below, many))) (next_take j lt k);
+        left = λ k below. cond_fewer (h == k) x (items_at lists k) (items_at new k) (share_of k (take j hs)) _ (less k) (a.left k (omega (arith, below, many))) (next_take j lt k);
       }
 
   -- nothing is left

@@ -2,7 +2,7 @@
 use Rattle.std.proofs.Common.{◌≡◌, ℕ, zero, suc, ◌≤◌, Bool, true, false, cond, ◌==◌, List, [], ◌∷◌, ◌++◌, length, map, take, Some, refl, ap, sym, ◌∙◌, ⊎_elim, arith}
 use Rattle.std.specs.Prelude.{slice_get}
 use Rattle.std.proofs.lemmas.Bool.{cases_Bool, eqb-true, eq-eqb, cond-true, cond-false}
-use Rattle.scatter.specs.Shares.{of_home, count_of}
+use Rattle.scatter.specs.Shares.{of_home, share_of}
 
 -- one item more, by whether its home is k
 pub here : {X : Type 0} (h k : ℕ) (hs : List ℕ) (x : X) (xs : List X) → (h == k) ≡ true → of_home (h ∷ hs) k (x ∷ xs) ≡ x ∷ of_home hs k xs
@@ -11,14 +11,14 @@ here h k hs x xs t = cond-true (h == k) (x ∷ of_home hs k xs) (of_home hs k xs
 pub elsewhere : {X : Type 0} (h k : ℕ) (hs : List ℕ) (x : X) (xs : List X) → (h == k) ≡ false → of_home (h ∷ hs) k (x ∷ xs) ≡ of_home hs k xs
 elsewhere h k hs x xs f = cond-false (h == k) (x ∷ of_home hs k xs) (of_home hs k xs) f
 
-pub count_here : (h k : ℕ) (hs : List ℕ) → (h == k) ≡ true → count_of k (h ∷ hs) ≡ suc (count_of k hs)
-count_here h k hs t = cond-true (h == k) (suc (count_of k hs)) (count_of k hs) t
+pub count_here : (h k : ℕ) (hs : List ℕ) → (h == k) ≡ true → share_of k (h ∷ hs) ≡ suc (share_of k hs)
+count_here h k hs t = cond-true (h == k) (suc (share_of k hs)) (share_of k hs) t
 
-pub count_elsewhere : (h k : ℕ) (hs : List ℕ) → (h == k) ≡ false → count_of k (h ∷ hs) ≡ count_of k hs
-count_elsewhere h k hs f = cond-false (h == k) (suc (count_of k hs)) (count_of k hs) f
+pub count_elsewhere : (h k : ℕ) (hs : List ℕ) → (h == k) ≡ false → share_of k (h ∷ hs) ≡ share_of k hs
+count_elsewhere h k hs f = cond-false (h == k) (suc (share_of k hs)) (share_of k hs) f
 
 -- a home has no more items than there are
-pub count_within : (k : ℕ) (hs : List ℕ) → count_of k hs ≤ length hs
+pub count_within : (k : ℕ) (hs : List ℕ) → share_of k hs ≤ length hs
 count_within k [] = omega arith
 count_within k (h ∷ hs) =
     let rest = count_within k hs in
@@ -27,7 +27,7 @@ count_within k (h ∷ hs) =
     (λ (f : (h == k) ≡ false). omega (arith, count_elsewhere h k hs f, rest))
     (cases_Bool (h == k))
 
-pub share_count : {X : Type 0} (hs : List ℕ) (xs : List X) (k : ℕ) → length xs ≡ length hs → length (of_home hs k xs) ≡ count_of k hs
+pub share_count : {X : Type 0} (hs : List ℕ) (xs : List X) (k : ℕ) → length xs ≡ length hs → length (of_home hs k xs) ≡ share_of k hs
 share_count [] xs k e = refl
 share_count (h ∷ hs) [] k e = absurd (omega (arith, e))
 share_count (h ∷ hs) (x ∷ xs) k e =
@@ -38,7 +38,7 @@ share_count (h ∷ hs) (x ∷ xs) k e =
     (cases_Bool (h == k))
 
 -- an item stands in the share of its home, at its rank
-pub share_at : {X : Type 0} (hs : List ℕ) (xs : List X) (i k : ℕ) (x : X) → slice_get xs i ≡ Some x → slice_get hs i ≡ Some k → slice_get (of_home hs k xs) (count_of k (take i hs)) ≡ Some x
+pub share_at : {X : Type 0} (hs : List ℕ) (xs : List X) (i k : ℕ) (x : X) → slice_get xs i ≡ Some x → slice_get hs i ≡ Some k → slice_get (of_home hs k xs) (share_of k (take i hs)) ≡ Some x
 share_at [] xs i k x at home = absurd cc
 share_at (h ∷ hs) [] i k x at home = absurd cc
 share_at (h ∷ hs) (y ∷ xs) zero k x at home =
@@ -47,8 +47,8 @@ share_at (h ∷ hs) (y ∷ xs) zero k x at home =
 share_at (h ∷ hs) (y ∷ xs) (suc i) k x at home =
     let rest = share_at hs xs i k x at home in
     ⊎_elim
-    (λ (t : (h == k) ≡ true). ap (λ n. slice_get (of_home (h ∷ hs) k (y ∷ xs)) n) (count_here h k (take i hs) t) ∙ ap (λ l. slice_get l (suc (count_of k (take i hs)))) (here h k hs y xs t) ∙ rest)
-    (λ (f : (h == k) ≡ false). ap (λ n. slice_get (of_home (h ∷ hs) k (y ∷ xs)) n) (count_elsewhere h k (take i hs) f) ∙ ap (λ l. slice_get l (count_of k (take i hs))) (elsewhere h k hs y xs f) ∙ rest)
+    (λ (t : (h == k) ≡ true). ap (λ n. slice_get (of_home (h ∷ hs) k (y ∷ xs)) n) (count_here h k (take i hs) t) ∙ ap (λ l. slice_get l (suc (share_of k (take i hs)))) (here h k hs y xs t) ∙ rest)
+    (λ (f : (h == k) ≡ false). ap (λ n. slice_get (of_home (h ∷ hs) k (y ∷ xs)) n) (count_elsewhere h k (take i hs) f) ∙ ap (λ l. slice_get l (share_of k (take i hs))) (elsewhere h k hs y xs f) ∙ rest)
     (cases_Bool (h == k))
 
 -- where an item of a share comes from
@@ -56,7 +56,7 @@ pub record IsFrom {X : Type 0} (hs : List ℕ) (xs : List X) (k p : ℕ) (x : X)
   pub from : ℕ
   pub at : slice_get xs from ≡ Some x
   pub home : slice_get hs from ≡ Some k
-  pub rank : count_of k (take from hs) ≡ p
+  pub rank : share_of k (take from hs) ≡ p
 
 pub share_from : {X : Type 0} (hs : List ℕ) (xs : List X) (k p : ℕ) (x : X) → slice_get (of_home hs k xs) p ≡ Some x → IsFrom hs xs k p x
 share_from [] xs k p x at = absurd cc

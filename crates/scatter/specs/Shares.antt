@@ -10,13 +10,13 @@ of_home (h ∷ hs) k [] = []
 of_home (h ∷ hs) k (x ∷ xs) = if h == k then x ∷ of_home hs k xs else of_home hs k xs
 
 -- how many of the homes are k
-abbrev pub count_of : ℕ → List ℕ → ℕ
-count_of k [] = 0
-count_of k (h ∷ hs) = if h == k then suc (count_of k hs) else count_of k hs
+abbrev pub share_of : ℕ → List ℕ → ℕ
+share_of k [] = 0
+share_of k (h ∷ hs) = if h == k then suc (share_of k hs) else share_of k hs
 
 -- the place of item i among those of its home: how many before it have the same
 abbrev pub rank_of : List ℕ → ℕ → ℕ
-rank_of homes i = count_of (slice_index homes i) (take i homes)
+rank_of homes i = share_of (slice_index homes i) (take i homes)
 
 -- the items of list k, and how many it has room for; there are none where there is no such list
 abbrev pub items_in : {X : Type 0} → Option (Vec X Global) → List X
@@ -38,13 +38,13 @@ pub record AreRanks (homes : List ℕ) (count : ℕ) (ranks counts : List ℕ) :
   pub each : length ranks ≡ length homes
   pub ranks_are : (i : ℕ) → i < length homes → slice_index ranks i ≡ rank_of homes i
   pub many : length counts ≡ count
-  pub counts_are : (k : ℕ) → k < count → slice_index counts k ≡ count_of k homes
+  pub counts_are : (k : ℕ) → k < count → slice_index counts k ≡ share_of k homes
 
 -- empty lists, one for each of so many homes, that have room for the items of these homes
 pub record AreEmptyFor {X : Type 0} (homes : List ℕ) (count : ℕ) (lists : List (Vec X Global)) : Type 0 where
   pub many : length lists ≡ count
   pub none : (k : ℕ) → items_at lists k ≡ []
-  pub room : (k : ℕ) → k < count → count_of k homes ≤ room_at lists k
+  pub room : (k : ℕ) → k < count → share_of k homes ≤ room_at lists k
 
 -- the lists are the shares of these items
 pub record AreShares {X : Type 0} (homes : List ℕ) (items : List X) (lists : List (Vec X Global)) : Type 0 where
@@ -54,4 +54,4 @@ pub record AreShares {X : Type 0} (homes : List ℕ) (items : List X) (lists : L
 -- each list has as many items as there are of its home
 pub record AreWhole {X : Type 0} (homes : List ℕ) (lists : List (Vec X Global)) : Type 0 where
   pub below : (i : ℕ) → i < length homes → slice_index homes i < length lists
-  pub counts : (k : ℕ) → k < length lists → length (items_at lists k) ≡ count_of k homes
+  pub counts : (k : ℕ) → k < length lists → length (items_at lists k) ≡ share_of k homes

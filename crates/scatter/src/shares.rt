@@ -1,12 +1,12 @@
 // The lists of homes.
 ghost use Rattle.std.specs.Prelude.{◌≡◌, ◌<◌, ◌≤◌, ◌==◌, ◌+◌, [], ◌∷◌, ◌++◌, ℕ, List, IfOk, All, if◌then◌else◌, length, slice_index, vec_len, vec_capacity};
-ghost use Rattle.scatter.specs.Shares.{items_at, room_at, count_of, AreEmptyFor, AreShares, AreWhole};
+ghost use Rattle.scatter.specs.Shares.{items_at, room_at, share_of, AreEmptyFor, AreShares, AreWhole};
 
 use std::alloc::{AllocError, Global};
 
 /// Empty lists with room for so many items each.
 pub fn rooms<T: Drop>(alloc: Global, counts: &[usize]) -> Result<Vec<Vec<T>>, AllocError>
-    ensures { (homes : List ℕ) → ((k : ℕ) → k < length counts.now → slice_index counts.now k ≡ count_of k homes) → IfOk result (λ lists. AreEmptyFor homes (length counts.now) lists.items) }
+    ensures { (homes : List ℕ) → ((k : ℕ) → k < length counts.now → slice_index counts.now k ≡ share_of k homes) → IfOk result (λ lists. AreEmptyFor homes (length counts.now) lists.items) }
 {
     let mut lists = Vec::new(alloc);
     for count in counts {

@@ -33,7 +33,7 @@ use Rattle.stage_core.specs.Handling.{Starts, Handles}
 use Rattle.stage_core.specs.Histories.{given_all, brought_by, AllEmpty}
 use Rattle.stage_law.specs.Held.{told}
 use Rattle.stage_law.specs.Law.{TookAs, GaveAs}
-use Rattle.stage_law.specs.Inflows.{joined, nothing, coming}
+use Rattle.stage_law.specs.Inflows.{joined, nothing_came, coming}
 use Rattle.stage_law.specs.OwnPorts.{own_input}
 use Rattle.stage_law.proofs.Told.{told-append}
 use Rattle.stage_law.proofs.Inflows.{told_coming, as_coming}
@@ -260,9 +260,9 @@ fresh_law l v took gave may r a b m k =
     let p = open_ports l v r.live r.row in
     let s : Sound l.core = (subst (λ b. port_state_by b l.core v) r.live r.row).1 in
     let open_now : l.core.over ≡ false = (subst (λ w. Holding w l.core) r.empty s.holds).0 in
-    let owes : held l ≡ waits [] nothing = ap (λ b. held_by b l.log.moves l.core) r.live ∙ rw (r.unmoved, r.empty, open_now) refl in
-    let law : BalanceLaw (waits [] nothing) v [] (λ j. slice_index_or gave j []) = record {
-      flow = nothing;
+    let owes : held l ≡ waits [] nothing_came = ap (λ b. held_by b l.log.moves l.core) r.live ∙ rw (r.unmoved, r.empty, open_now) refl in
+    let law : BalanceLaw (waits [] nothing_came) v [] (λ j. slice_index_or gave j []) = record {
+      flow = nothing_came;
       lists = λ j. [];
       ends = λ j. unended;
       took_is = refl;

@@ -19,8 +19,8 @@ use Rattle.port_core.specs.Call.{pulls, arrives, cancels, Meets, given_on}
 use Rattle.stream_model.specs.Outlook.{End, unended, ended, failed}
 use Rattle.stream_model.specs.FanIn.{Inflow}
 use Rattle.stage_core.specs.Handling.{Pulls}
-use Rattle.stage_law.specs.Inflows.{flow_of, joined, nothing}
-use Rattle.stage_law.proofs.Inflows.{joined-nothing}
+use Rattle.stage_law.specs.Inflows.{flow_of, joined, nothing_came}
+use Rattle.stage_law.proofs.Inflows.{joined-nothing_came}
 use Rattle.stage_fans.specs.Seats.{end_by}
 use Rattle.stage_fans.specs.declared.outs.OutputState.TheVariants.{Quiet, Asks, Gone}
 use Rattle.stage_fans.specs.Outs.{want_view, open_count, at_open, OutsClosed, AllClosed}
@@ -330,14 +330,14 @@ module _ (old : Balancing) (j : ℕ) (h : old.core.live ≡ true) (sound : Sound
       let none : open_count (slice_set old.core.outs j Gone) ≡ 0 = let a = one_open in let b = sound.count in omega (arith, a, b, one) in
       let outs_closed : OutsClosed (slice_set (map want_view old.core.outs) j outlet.Cancelled) = subst (λ (ys : List OutView). OutsClosed ys) (sym lost_outs) (gone_views (slice_set old.core.outs j Gone) none) in
       let c = cancelled old.core.over old.core.pulled (slice_set (map want_view old.core.outs) j outlet.Cancelled) outs_closed in
-      let close : BalanceClose old.log.moves (joined (waited old.core) nothing) (λ k. given_on k (cancel_by old.core.over)) old.log.moves = record {
+      let close : BalanceClose old.log.moves (joined (waited old.core) nothing_came) (λ k. given_on k (cancel_by old.core.over)) old.log.moves = record {
         more = [];
         given = λ k. [];
         ends = λ k. unended;
         left = waited_by old.core.waiting;
         now_is = sym (append-nil old.log.moves);
         out_is = λ k. none_given old.core.over k;
-        handed = none_handed (joined (waited old.core) nothing).list (waited_by old.core.waiting) (ap (λ (f : Inflow). f.list) (joined-nothing (waited old.core)));
+        handed = none_handed (joined (waited old.core) nothing_came).list (waited_by old.core.waiting) (ap (λ (f : Inflow). f.list) (joined-nothing_came (waited old.core)));
         completes = λ k e. cc;
         fails = λ k d e. cc;
       } in
@@ -388,7 +388,7 @@ module _ (old : Balancing) (j : ℕ) (h : old.core.live ≡ true) (sound : Sound
       handle (cancels j) old to [] h (record {
         allowed = tt;
         row_then = is_standing to lost_view h (ap (λ (ys : List OutView). record { ins = input_of old.core.over old.core.pulled ∷ []; outs = ys }) lost_outs) s;
-        turn = turn_open old.log.moves (waited old.core) nothing (λ k. []) to h (quiet old.log.moves (joined (waited old.core) nothing) (λ k. []) (waited to.core) (λ k. refl) (joined-nothing (waited old.core)));
+        turn = turn_open old.log.moves (waited old.core) nothing_came (λ k. []) to h (quiet old.log.moves (joined (waited old.core) nothing_came) (λ k. []) (waited to.core) (λ k. refl) (joined-nothing_came (waited old.core)));
         outputs = lost_long;
         stands = tt;
         pulls = λ p. absurd p;

@@ -23,8 +23,8 @@ use Rattle.stream_model.specs.FanIn.{Inflow}
 use Rattle.stream_model.specs.Picks.{all_below, sent_to}
 use Rattle.stage_core.specs.Handling.{Pulls}
 use Rattle.stage_law.specs.Held.{told}
-use Rattle.stage_law.specs.Inflows.{joined, nothing, coming}
-use Rattle.stage_law.proofs.Inflows.{joined-nothing}
+use Rattle.stage_law.specs.Inflows.{joined, nothing_came, coming}
+use Rattle.stage_law.proofs.Inflows.{joined-nothing_came}
 use Rattle.stage_fans.specs.Seats.{end_by}
 use Rattle.stage_fans.specs.declared.outs.OutputState.{OutputState}
 use Rattle.stage_fans.specs.declared.outs.OutputState.TheVariants.{Quiet, Asks}
@@ -181,7 +181,7 @@ started_on l h m =
     handle starts l l [] h (record {
       allowed = tt;
       row_then = is_standing l (view_of l.core) h refl f.sound;
-      turn = turn_open l.log.moves (waited l.core) nothing (λ j. []) l h (quiet l.log.moves (joined (waited l.core) nothing) (λ j. []) (waited l.core) (λ j. refl) (joined-nothing (waited l.core)));
+      turn = turn_open l.log.moves (waited l.core) nothing_came (λ j. []) l h (quiet l.log.moves (joined (waited l.core) nothing_came) (λ j. []) (waited l.core) (λ j. refl) (joined-nothing_came (waited l.core)));
       outputs = refl;
       stands = tt;
       pulls = λ p. absurd p;
@@ -216,8 +216,8 @@ module _ (old : Balancing) (j : ℕ) (h : old.core.live ≡ true) (q : slice_get
   pushed_back : slice_set (slice_set (map want_view old.core.outs) j Available) j Unpulled ≡ map want_view old.core.outs
   pushed_back = view_twice (map want_view old.core.outs) j Available Unpulled ∙ want_set old.core.outs j Quiet ∙ ap (λ (ws : List OutputState). map want_view ws) (set_self old.core.outs j Quiet q)
 
-  waits_one : (t : Tree) → old.core.waiting ≡ Some t → (joined (waited old.core) nothing).list ≡ t ∷ []
-  waits_one t w = ap (λ (f : Inflow). f.list) (joined-nothing (waited old.core)) ∙ ap waited_by w
+  waits_one : (t : Tree) → old.core.waiting ≡ Some t → (joined (waited old.core) nothing_came).list ≡ t ∷ []
+  waits_one t w = ap (λ (f : Inflow). f.list) (joined-nothing_came (waited old.core)) ∙ ap waited_by w
 
   none_queued : (t : Tree) → old.core.waiting ≡ Some t → old.core.queue ≡ []
   none_queued t w = let s : Holding (Some t) old.core = subst (λ x. Holding x old.core) w sound.holds in s.0
@@ -235,9 +235,9 @@ module _ (old : Balancing) (j : ℕ) (h : old.core.live ≡ true) (q : slice_get
       handle (pulls j) old (emptied log old) (Push j t ∷ []) h (record {
         allowed = (asked_at old.core.outs j Quiet q, tt);
         row_then = is_standing (emptied log old) (acted_all asked_view (Push j t ∷ [])) h (ap (λ (ys : List OutView). record { ins = input_of old.core.over old.core.pulled ∷ []; outs = ys }) pushed_back) s;
-        turn = turn_open old.log.moves (waited old.core) nothing (λ k. given_on k (Push j t ∷ [])) (emptied log old) h
-            (one_turn old.log.moves log.moves (joined (waited old.core) nothing) (waited (emptied log old).core) j t (λ k. given_on k (Push j t ∷ [])) (waits_one t w) refl
-            (sym (ap (λ (f : Inflow). f.end) (joined-nothing (waited old.core)))) grown (λ k. push_told (j == k) t unended [] refl));
+        turn = turn_open old.log.moves (waited old.core) nothing_came (λ k. given_on k (Push j t ∷ [])) (emptied log old) h
+            (one_turn old.log.moves log.moves (joined (waited old.core) nothing_came) (waited (emptied log old).core) j t (λ k. given_on k (Push j t ∷ [])) (waits_one t w) refl
+            (sym (ap (λ (f : Inflow). f.end) (joined-nothing_came (waited old.core)))) grown (λ k. push_told (j == k) t unended [] refl));
         outputs = refl;
         stands = tt;
         pulls = λ p. absurd p;
@@ -253,15 +253,15 @@ module _ (old : Balancing) (j : ℕ) (h : old.core.live ≡ true) (q : slice_get
       let a = completes_all x old.core.outs in
       let v : ◌≡◌ {A = View} (record { ins = x ∷ []; outs = slice_set (slice_set (map want_view old.core.outs) j Available) j Unpulled }) (record { ins = x ∷ []; outs = map want_view old.core.outs }) =
       ap (λ (ys : List OutView). record { ins = x ∷ []; outs = ys }) pushed_back in
-      let close : BalanceClose old.log.moves (joined (waited old.core) nothing) (λ k. given_on k (Push j t ∷ ends)) log.moves = record {
+      let close : BalanceClose old.log.moves (joined (waited old.core) nothing_came) (λ k. given_on k (Push j t ∷ ends)) log.moves = record {
         more = j ∷ [];
         given = to_one j t;
         ends = λ k. end_of ended item.Ended (given_on k ends) (completions k old.core.outs);
         left = [];
         now_is = grown;
         out_is = λ k. push_told (j == k) t (end_of ended item.Ended (given_on k ends) (completions k old.core.outs)) (given_on k ends) (end_told ended item.Ended (given_on k ends) refl (completions k old.core.outs));
-        handed = one_handed j t (joined (waited old.core) nothing).list (waits_one t w);
-        completes = λ k e. (ap (λ (f : Inflow). f.end) (joined-nothing (waited old.core)) ∙ ap end_by on, refl);
+        handed = one_handed j t (joined (waited old.core) nothing_came).list (waits_one t w);
+        completes = λ k e. (ap (λ (f : Inflow). f.end) (joined-nothing_came (waited old.core)) ∙ ap end_by on, refl);
         fails = λ k c e. absurd (completed item.Ended (given_on k ends) c (completions k old.core.outs) e);
       } in
       handle (pulls j) old (closed (emptied log old)) (Push j t ∷ ends) h (record {
@@ -299,9 +299,9 @@ module _ (old : Balancing) (j : ℕ) (h : old.core.live ≡ true) (q : slice_get
       handle (pulls j) old to (if b then [] else Pull 0 ∷ []) h (record {
         allowed = subst (λ (w : View). ActsAllowed w (if b then [] else Pull 0 ∷ [])) (sym before) (rw held_none.0 (may_pull b (slice_set (map want_view old.core.outs) j Available)));
         row_then = is_standing to (acted_all asked_view (if b then [] else Pull 0 ∷ [])) h then_is s;
-        turn = turn_open old.log.moves (waited old.core) nothing (λ k. given_on k (if b then [] else Pull 0 ∷ [])) to h
-            (subst (λ (ms : List ℕ). BalanceTurn old.log.moves (joined (waited old.core) nothing) (λ k. given_on k (if b then [] else Pull 0 ∷ [])) ms (waited to.core)) (sym same)
-            (quiet old.log.moves (joined (waited old.core) nothing) (λ k. given_on k (if b then [] else Pull 0 ∷ [])) (waited to.core) (none_given b) (joined-nothing (waited old.core))));
+        turn = turn_open old.log.moves (waited old.core) nothing_came (λ k. given_on k (if b then [] else Pull 0 ∷ [])) to h
+            (subst (λ (ms : List ℕ). BalanceTurn old.log.moves (joined (waited old.core) nothing_came) (λ k. given_on k (if b then [] else Pull 0 ∷ [])) ms (waited to.core)) (sym same)
+            (quiet old.log.moves (joined (waited old.core) nothing_came) (λ k. given_on k (if b then [] else Pull 0 ∷ [])) (waited to.core) (none_given b) (joined-nothing_came (waited old.core))));
         outputs = long;
         stands = pull_stands b;
         pulls = λ p. subst (λ (w : View). SomeAsked w) (sym then_is) (j, view_at outs j Asks (now_asks old.core.outs j q));

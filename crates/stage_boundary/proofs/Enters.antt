@@ -15,7 +15,7 @@ use Rattle.stage_core.specs.Handling.{Starts}
 use Rattle.stream_model.specs.Outlook.{End, unended}
 use Rattle.stage_law.specs.Held.{told}
 use Rattle.stage_law.specs.Law.{GaveAs}
-use Rattle.stage_boundary.specs.Ports.{output_only, Does}
+use Rattle.stage_boundary.specs.Ports.{output_only, MayDo}
 use Rattle.stage_boundary.specs.Entering.{Entering, EnteringFresh, EnteringPortState, EnteringLaw}
 use Rattle.stage_boundary.proofs.Histories.{end_after, list_after, told_after}
 
@@ -69,27 +69,27 @@ gave_more x first y z took gave i o g law =
       same = law.same;
     }
 
-push_at : (x first : Entering) (y : OutView) (took gave : List (List Item)) (j : ℕ) (t : Tree) → EnteringLaw first x (output_only y) took gave → out_at (output_only y) j ≡ Available → Does EnteringPortState EnteringLaw x first (output_only y) took gave (Push j t)
+push_at : (x first : Entering) (y : OutView) (took gave : List (List Item)) (j : ℕ) (t : Tree) → EnteringLaw first x (output_only y) took gave → out_at (output_only y) j ≡ Available → MayDo EnteringPortState EnteringLaw x first (output_only y) took gave (Push j t)
 push_at x first y took gave zero t law h = record { allowed = h; row_holds = (Unpulled, refl); law_holds = gave_more x first y Unpulled took gave (item.Elem t) (asked_open y h) refl law }
 push_at x first y took gave (suc j) t law h = absurd cc
 
-complete_at : (x first : Entering) (y : OutView) (took gave : List (List Item)) (j : ℕ) → EnteringLaw first x (output_only y) took gave → IsOutOpen (out_at (output_only y) j) → Does EnteringPortState EnteringLaw x first (output_only y) took gave (Complete j)
+complete_at : (x first : Entering) (y : OutView) (took gave : List (List Item)) (j : ℕ) → EnteringLaw first x (output_only y) took gave → IsOutOpen (out_at (output_only y) j) → MayDo EnteringPortState EnteringLaw x first (output_only y) took gave (Complete j)
 complete_at x first y took gave zero law o = record { allowed = o; row_holds = (Closed, refl); law_holds = gave_more x first y Closed took gave item.Ended o tt law }
 complete_at x first y took gave (suc j) law o = absurd o
 
-fail_at : (x first : Entering) (y : OutView) (took gave : List (List Item)) (j : ℕ) (c : Cause) → EnteringLaw first x (output_only y) took gave → IsOutOpen (out_at (output_only y) j) → Does EnteringPortState EnteringLaw x first (output_only y) took gave (FailOut j c)
+fail_at : (x first : Entering) (y : OutView) (took gave : List (List Item)) (j : ℕ) (c : Cause) → EnteringLaw first x (output_only y) took gave → IsOutOpen (out_at (output_only y) j) → MayDo EnteringPortState EnteringLaw x first (output_only y) took gave (FailOut j c)
 fail_at x first y took gave zero c law o = record { allowed = o; row_holds = (Closed, refl); law_holds = gave_more x first y Closed took gave (item.Failed c) o tt law }
 fail_at x first y took gave (suc j) c law o = absurd o
 
 module _ (first now : Entering) (v : View) (took gave : List (List Item)) (r : EnteringPortState now v) (law : EnteringLaw first now v took gave) where
   abbrev Done : (View → Type 0) → Act → View → Type 0
-  Done H a w = EnteringLaw first now w took gave → H w → Does EnteringPortState EnteringLaw now first w took gave a
+  Done H a w = EnteringLaw first now w took gave → H w → MayDo EnteringPortState EnteringLaw now first w took gave a
 
-  pub may_push : (j : ℕ) (t : Tree) → out_at v j ≡ Available → Does EnteringPortState EnteringLaw now first v took gave (Push j t)
+  pub may_push : (j : ℕ) (t : Tree) → out_at v j ≡ Available → MayDo EnteringPortState EnteringLaw now first v took gave (Push j t)
   may_push j t h = subst (Done (λ w. out_at w j ≡ Available) (Push j t)) (sym r.1) (push_at now first r.0 took gave j t) law h
 
-  pub may_complete : (j : ℕ) → IsOutOpen (out_at v j) → Does EnteringPortState EnteringLaw now first v took gave (Complete j)
+  pub may_complete : (j : ℕ) → IsOutOpen (out_at v j) → MayDo EnteringPortState EnteringLaw now first v took gave (Complete j)
   may_complete j h = subst (Done (λ w. IsOutOpen (out_at w j)) (Complete j)) (sym r.1) (complete_at now first r.0 took gave j) law h
 
-  pub may_fail : (j : ℕ) (c : Cause) → IsOutOpen (out_at v j) → Does EnteringPortState EnteringLaw now first v took gave (FailOut j c)
+  pub may_fail : (j : ℕ) (c : Cause) → IsOutOpen (out_at v j) → MayDo EnteringPortState EnteringLaw now first v took gave (FailOut j c)
   may_fail j c h = subst (Done (λ w. IsOutOpen (out_at w j)) (FailOut j c)) (sym r.1) (fail_at now first r.0 took gave j c) law h

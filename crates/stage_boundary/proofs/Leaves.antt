@@ -14,7 +14,7 @@ use Rattle.stage_core.specs.Handling.{Starts, Handles}
 use Rattle.stream_model.specs.Outlook.{End, unended}
 use Rattle.stage_law.specs.Held.{told}
 use Rattle.stage_law.specs.Law.{TookAs}
-use Rattle.stage_boundary.specs.Ports.{input_only, Does}
+use Rattle.stage_boundary.specs.Ports.{input_only, MayDo}
 use Rattle.stage_boundary.specs.Leaving.{Leaving, LeavingFresh, leaving_in, LeavingPortState, LeavingLaw}
 use Rattle.stage_boundary.proofs.Histories.{end_after, list_after, told_after, took_after}
 
@@ -135,20 +135,20 @@ known x first y z took gave o f law = record {
   same = law.same;
 }
 
-pull_at : (x first : Leaving) (y : InView) (took gave : List (List Item)) (i : ℕ) → x.waits ≡ [] → LeavingLaw first x (input_only y) took gave → in_at (input_only y) i ≡ Idle → Does LeavingPortState LeavingLaw x first (input_only y) took gave (Pull i)
+pull_at : (x first : Leaving) (y : InView) (took gave : List (List Item)) (i : ℕ) → x.waits ≡ [] → LeavingLaw first x (input_only y) took gave → in_at (input_only y) i ≡ Idle → MayDo LeavingPortState LeavingLaw x first (input_only y) took gave (Pull i)
 pull_at x first y took gave zero none law h = record { allowed = h; row_holds = (Pulled, (refl, none)); law_holds = known x first y Pulled took gave (idle_open y h) (λ e s. s) law }
 pull_at x first y took gave (suc i) none law h = absurd cc
 
-cancel_at : (x first : Leaving) (y : InView) (took gave : List (List Item)) (i : ℕ) → LeavingLaw first x (input_only y) took gave → IsInOpen (in_at (input_only y) i) → Does LeavingPortState LeavingLaw x first (input_only y) took gave (Cancel i)
+cancel_at : (x first : Leaving) (y : InView) (took gave : List (List Item)) (i : ℕ) → LeavingLaw first x (input_only y) took gave → IsInOpen (in_at (input_only y) i) → MayDo LeavingPortState LeavingLaw x first (input_only y) took gave (Cancel i)
 cancel_at x first y took gave zero law o = record { allowed = o; row_holds = (Cancelled, (refl, tt)); law_holds = known x first y Cancelled took gave o (λ e s. s) law }
 cancel_at x first y took gave (suc i) law o = absurd o
 
 module _ (first now : Leaving) (v : View) (took gave : List (List Item)) (r : LeavingPortState now v) (law : LeavingLaw first now v took gave) where
   abbrev Done : (View → Type 0) → Act → View → Type 0
-  Done H a w = LeavingLaw first now w took gave → H w → Does LeavingPortState LeavingLaw now first w took gave a
+  Done H a w = LeavingLaw first now w took gave → H w → MayDo LeavingPortState LeavingLaw now first w took gave a
 
-  pub may_pull : (i : ℕ) → now.waits ≡ [] → in_at v i ≡ Idle → Does LeavingPortState LeavingLaw now first v took gave (Pull i)
+  pub may_pull : (i : ℕ) → now.waits ≡ [] → in_at v i ≡ Idle → MayDo LeavingPortState LeavingLaw now first v took gave (Pull i)
   may_pull i none h = subst (Done (λ w. in_at w i ≡ Idle) (Pull i)) (sym r.1.0) (pull_at now first r.0 took gave i none) law h
 
-  pub may_cancel : (i : ℕ) → IsInOpen (in_at v i) → Does LeavingPortState LeavingLaw now first v took gave (Cancel i)
+  pub may_cancel : (i : ℕ) → IsInOpen (in_at v i) → MayDo LeavingPortState LeavingLaw now first v took gave (Cancel i)
   may_cancel i h = subst (Done (λ w. IsInOpen (in_at w i)) (Cancel i)) (sym r.1.0) (cancel_at now first r.0 took gave i) law h

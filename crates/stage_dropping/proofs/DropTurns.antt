@@ -14,7 +14,7 @@ use Rattle.port_core.specs.declared.act.Act.{Act}
 use Rattle.port_core.specs.View.{View, out_at, ActsAllowed, acted_all}
 use Rattle.port_core.specs.Call.{Call, starts, pulls, arrives, cancels, AllIdle, CallAllowed, seen, brought_to, given_on}
 use Rattle.stage_law.specs.Law.{GaveAs}
-use Rattle.stage_law.specs.Inflows.{nothing, joined, joined_at, joined_all, coming}
+use Rattle.stage_law.specs.Inflows.{nothing_came, joined, joined_at, joined_all, coming}
 use Rattle.stage_law.proofs.Inflows.{Stepped, ports_law, new_ports}
 use Rattle.stage_dropping.specs.Drops.{DropHeld, holds, shut, buffer_at, overflow_at, overflow_of, DropTurn, completes, fails, overflows, DropStep, DropRefused, DropTurnAt, DropKeeps, DropLaw, DropRest, DropStandsOf, drop_moves}
 
@@ -156,10 +156,10 @@ module _ (node : ℕ) (p : Policy) (n : ℕ) where
     keeps = subst (λ (l : List Tree). BufferStands node p n now f l unended) (sym (append-nil g)) (subst (λ (m : List ℕ). BufferStands node p n m f g unended) (sym r.1) (stood came moves held f.list g out k.1.1.0 k.1.1.1 f refl));
   }
 
-  still : (e : End) (f : Inflow) → f.end ≡ e → joined f nothing ≡ f
-  still e f is = joined_is f nothing e is ∙ by_end e is
+  still : (e : End) (f : Inflow) → f.end ≡ e → joined f nothing_came ≡ f
+  still e f is = joined_is f nothing_came e is ∙ by_end e is
     where
-      by_end : (e : End) → f.end ≡ e → ◌≡◌ {A = Inflow} (record { list = f.list ++ (joined_at e [] nothing).list; end = (joined_at e [] nothing).end }) f
+      by_end : (e : End) → f.end ≡ e → ◌≡◌ {A = Inflow} (record { list = f.list ++ (joined_at e [] nothing_came).list; end = (joined_at e [] nothing_came).end }) f
       by_end unended is = ap (λ (l : List Tree). record { list = l; end = unended }) (append-nil f.list) ∙ ap (λ (e : End). record { list = f.list; end = e }) (sym is)
       by_end ended is = ap (λ (l : List Tree). record { list = l; end = ended }) (append-nil f.list) ∙ ap (λ (e : End). record { list = f.list; end = e }) (sym is)
       by_end (failed c) is = ap (λ (l : List Tree). record { list = l; end = failed c }) (append-nil f.list) ∙ ap (λ (e : End). record { list = f.list; end = e }) (sym is)

@@ -36,15 +36,15 @@ pub record Dropping : Type 0 where
   pub moves : List ℕ
 
 -- it drops, and has room for something
-abbrev pub Drops : Dropping → Type 0
-Drops l = (l.policy ≢ Backpressure) × (0 < l.size)
+abbrev pub IsDropping : Dropping → Type 0
+IsDropping l = (l.policy ≢ Backpressure) × (0 < l.size)
 
 -- It waits until its input ends, and holds nothing where its output is asked; then it holds something, and is not asked.
 abbrev pub drop_at : Dropping → Phase → Bool → Bool → InView → OutView → Type 0
-drop_at l New false false Idle Unpulled = (l.held ≡ []) × Drops l
-drop_at l Open false true Pulled Available = (l.held ≡ []) × Drops l
-drop_at l Open false false Pulled Unpulled = (length l.held ≤ l.size) × Drops l
-drop_at l Open true false Finished Unpulled = (0 < length l.held) × Drops l
+drop_at l New false false Idle Unpulled = (l.held ≡ []) × IsDropping l
+drop_at l Open false true Pulled Available = (l.held ≡ []) × IsDropping l
+drop_at l Open false false Pulled Unpulled = (length l.held ≤ l.size) × IsDropping l
+drop_at l Open true false Finished Unpulled = (0 < length l.held) × IsDropping l
 drop_at l Closed over asked i o = BothClosed i o
 drop_at l _ _ _ _ _ = ⊥
 

@@ -5,7 +5,7 @@ use Rattle.elem_core.specs.declared.item.Item.{Item}
 use Rattle.port_core.specs.Call.{arrives}
 use Rattle.stream_model.specs.FanIn.{Inflow}
 use Rattle.stage_law.specs.Inflows.{joined_all, coming}
-use Rattle.stage_law.proofs.Inflows.{joined_all-nothing}
+use Rattle.stage_law.proofs.Inflows.{joined_all-nothing_came}
 use Rattle.stage_fans.proofs.Flags.{other}
 
 -- what a call brings to other inputs is nothing
@@ -13,5 +13,5 @@ pub not_here : (n i : ℕ) (b : Item) (fs : List Inflow) → i < n → joined_al
 not_here n i b [] h = refl
 not_here n i b (f ∷ fs) h =
     let x : (i == n) ≡ false = other i n (λ e. absurd (omega (arith, h, e))) in
-    let first : joined_all n (f ∷ []) (coming (arrives i b)) ≡ f ∷ [] = rw x (joined_all-nothing n (f ∷ [])) in
+    let first : joined_all n (f ∷ []) (coming (arrives i b)) ≡ f ∷ [] = rw x (joined_all-nothing_came n (f ∷ [])) in
     ap (λ (g : List Inflow). g ++ joined_all (n + 1) fs (coming (arrives i b))) first ∙ ap (λ (g : List Inflow). f ∷ g) (not_here (n + 1) i b fs (omega (arith, h)))

@@ -5,7 +5,7 @@ use Rattle.std.proofs.lemmas.Bool.{cases_order}
 use Rattle.std.proofs.lemmas.Bool.Decides.{nat_tests}
 use Rattle.std.proofs.lemmas.List.{length-replicate, length-set, length-map, length-append, get_or-map, get_or_append_left, get_or_at}
 use Rattle.stage_in.specs.Kinds.{behind_input}
-use Rattle.stage_in.specs.Takings.{OverBetween, IsNext, AllOver, Follows, Linked, Ring, followed_by, relinked}
+use Rattle.stage_in.specs.Takings.{OverBetween, IsNext, AllOver, Follows, HasFollowers, InputRing, followed_by, relinked}
 use Rattle.stage_fans.proofs.Flags.{same, set_here, set_other, set_keeps}
 
 -- ---- a new stage
@@ -52,7 +52,7 @@ behind_next n c h = by_test (c + 1 == n) refl
           next = inl (record { here = open_flag n (c + 1) w; between = inl (omega arith, λ i a b. absurd (omega (arith, a, b))) });
         }
 
-pub ring_linked : (n : ℕ) (next : List ℕ) → Ring n next → Linked (replicate n false) next
+pub ring_linked : (n : ℕ) (next : List ℕ) → InputRing n next → HasFollowers (replicate n false) next
 ring_linked n next r = let l = length-replicate n false in record {
   long = r.long ∙ sym l;
   at = λ c h. let w : c < n = omega (arith, h, l) in subst (λ d. Follows (replicate n false) c d) (sym (r.at c w)) (behind_next n c w);
@@ -180,7 +180,7 @@ module _ (over : List Bool) (i : ℕ) (there : i < length over) where
       by_next (inl x) (inr all) = inr (all_left all)
       by_next (inl x) (inl y) = next_then c e (subst (λ k. IsNext over c k) is x) y g.there
 
-  pub relinks : (next : List ℕ) → Linked over next → Linked left (relinked i next)
+  pub relinks : (next : List ℕ) → HasFollowers over next → HasFollowers left (relinked i next)
   relinks next w = record {
     long = length-map next (followed_by i (slice_index_or next i 0)) ∙ w.long ∙ sym (length-set over i true);
     at = λ c h. at_input c (let l = length-set over i true in omega (arith, h, l));

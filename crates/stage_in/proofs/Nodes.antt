@@ -20,7 +20,7 @@ use Rattle.stage_core.specs.declared.stage.TheConstants.{MOST_ACTS}
 use Rattle.stage_core.specs.Handling.{Starts, Handles}
 use Rattle.stage_core.specs.Histories.{given_all, brought_by, AllEmpty}
 use Rattle.stage_law.specs.Law.{GaveAs}
-use Rattle.stage_law.specs.Inflows.{PortsLaw, nothing, untouched}
+use Rattle.stage_law.specs.Inflows.{PortsLaw, nothing_came, untouched}
 use Rattle.stage_law.specs.Fans.{FanHeld, FanTurnAt, FanKeeps}
 use Rattle.stage_law.specs.Fans as fan
 use Rattle.stage_law.specs.Zips.{ZipHeld, ZipKeeps}
@@ -35,7 +35,7 @@ use Rattle.stage_in.specs.Kinds.{taking_by, sorting}
 use Rattle.stage_fans.specs.Seats.{wish}
 use Rattle.stage_in.specs.Seats.{seats, none_of}
 use Rattle.stage_in.specs.declared.inlet.Inlet.{Inlet}
-use Rattle.stage_in.specs.Pairings.{Pairing, IsBlank, inlet_flow, port_state_by}
+use Rattle.stage_in.specs.Pairings.{Pairing, IsVacant, inlet_flow, port_state_by}
 use Rattle.stage_in.specs.Takings as taking
 use Rattle.stage_in.specs.Takings.{Taking}
 use Rattle.stage_in.specs.Sortings as sorted
@@ -191,7 +191,7 @@ handled c old new acts n s o t = record {
 none_over : (n c : ℕ) (over : List Bool) (asked : Bool) → AllIdle (seats n over c asked) → none_of over ≡ untouched (length (seats n over c asked))
 none_over n c [] asked h = refl
 none_over n c (true ∷ over) asked h = let e = h.0 in cc
-none_over n c (false ∷ over) asked h = ap (λ (ws : List Inflow). nothing ∷ ws) (none_over (n + 1) c over asked h.1)
+none_over n c (false ∷ over) asked h = ap (λ (ws : List Inflow). nothing_came ∷ ws) (none_over (n + 1) c over asked h.1)
 
 unasked_open : (y : OutView) → y ≡ outlet.Unpulled → GaveAs y unended
 unasked_open y e = subst (λ z. GaveAs z unended) (sym e) refl
@@ -210,7 +210,7 @@ fresh_taking l v took gave may live r a b m n =
     (subst (λ x. PortsLaw (FanKeeps (taking_by l.segment) (taking.place_of l) x) v (λ _. []) []) (sym held)
     (fan_new (taking_by l.segment) (taking.place_of l) v may.0 (subst (λ ys. GaveAs (slice_index_or ys 0 outlet.Closed) unended) (sym outs) (unasked_open (wish l.asked) quiet))))
 
-blank_flow : (i : Inlet) → IsBlank i → inlet_flow i ≡ nothing
+blank_flow : (i : Inlet) → IsVacant i → inlet_flow i ≡ nothing_came
 blank_flow i h = ap (λ x. inlet_flow (record { held = x; over = i.over })) h.0 ∙ ap (λ b. inlet_flow (record { held = None; over = b })) h.1
 
 fresh_sorting : (l : Pairing) (v : View) (took gave : List (List Item)) → CallAllowed starts v → l.phase ≡ New → sorted.port_state l v → AllEmpty took → AllEmpty gave → length took ≡ length v.ins → length gave ≡ length v.outs
@@ -220,7 +220,7 @@ fresh_sorting l v took gave may new r a b m n =
     let outs : v.outs ≡ outlet.Unpulled ∷ [] = ap (λ (w : View). w.outs) s.0 in
     let ins : v.ins ≡ Idle ∷ Idle ∷ [] = ap (λ (w : View). w.ins) s.0 in
     let held : sorted.held l ≡ fan.waits sorted.nowhere (untouched (length v.ins)) =
-    ap (λ p. sorted.held_by p l) new ∙ ap (λ x. fan.waits sorted.nowhere (x ∷ inlet_flow l.right ∷ [])) (blank_flow l.left s.1.0) ∙ ap (λ x. fan.waits sorted.nowhere (nothing ∷ x ∷ [])) (blank_flow l.right s.1.1.0)
+    ap (λ p. sorted.held_by p l) new ∙ ap (λ x. fan.waits sorted.nowhere (x ∷ inlet_flow l.right ∷ [])) (blank_flow l.left s.1.0) ∙ ap (λ x. fan.waits sorted.nowhere (nothing_came ∷ x ∷ [])) (blank_flow l.right s.1.1.0)
     ∙ ap (λ (xs : List InView). fan.waits sorted.nowhere (untouched (length xs))) (sym ins) in
     begun (FanKeeps sorting sorted.nowhere (sorted.held l)) v took gave a b m (n ∙ ap length outs)
     (subst (λ x. PortsLaw (FanKeeps sorting sorted.nowhere x) v (λ _. []) []) (sym held)
@@ -232,8 +232,8 @@ fresh_zipping l v took gave may new r a b m n =
     let s = subst (λ p. port_state_by zipping.Sound p l v) new r in
     let outs : v.outs ≡ outlet.Unpulled ∷ [] = ap (λ (w : View). w.outs) s.0 in
     let ins : v.ins ≡ Idle ∷ Idle ∷ [] = ap (λ (w : View). w.ins) s.0 in
-    let held : zipping.held l ≡ zip.waits nothing nothing =
-    ap (λ p. zipping.held_by p l) new ∙ ap (λ x. zip.waits x (inlet_flow l.right)) (blank_flow l.left s.1.0) ∙ ap (λ x. zip.waits nothing x) (blank_flow l.right s.1.1.0) in
+    let held : zipping.held l ≡ zip.waits nothing_came nothing_came =
+    ap (λ p. zipping.held_by p l) new ∙ ap (λ x. zip.waits x (inlet_flow l.right)) (blank_flow l.left s.1.0) ∙ ap (λ x. zip.waits nothing_came x) (blank_flow l.right s.1.1.0) in
     begun (ZipKeeps (zipping.held l)) v took gave a b m (n ∙ ap length outs)
     (subst (λ x. PortsLaw (ZipKeeps x) v (λ _. []) []) (sym held)
     (zip_new v (ap length ins) may.0 (subst (λ ys. GaveAs (slice_index_or ys 0 outlet.Closed) unended) (sym outs) refl)))

@@ -19,13 +19,13 @@ use Rattle.port_core.specs.Call.{Call, starts, pulls, arrives, cancels, CallAllo
 use Rattle.stream_model.specs.Outlook.{ended, failed}
 use Rattle.stream_model.specs.FanIn.{Tagged, tag, Inflow, flow}
 use Rattle.stage_law.specs.Held.{told}
-use Rattle.stage_law.specs.Inflows.{nothing, joined_all, coming}
-use Rattle.stage_law.specs.Fans.{Place, AllFew, elements, fan_gives, FanTurn, FanClose, completes, fails}
-use Rattle.stage_law.proofs.Inflows.{joined_all-nothing}
+use Rattle.stage_law.specs.Inflows.{nothing_came, joined_all, coming}
+use Rattle.stage_law.specs.Fans.{FanPlace, AllFew, untagged, fan_gives, FanTurn, FanClose, completes, fails}
+use Rattle.stage_law.proofs.Inflows.{joined_all-nothing_came}
 use Rattle.stage_in.specs.Kinds.{taking_by}
 use Rattle.stage_fans.specs.Seats.{wish, open_cancels, InsClosed, OneClosed, FanClosed}
 use Rattle.stage_in.specs.Seats.{seat, seats, none_of}
-use Rattle.stage_in.specs.Takings.{Begins, Taking, place_of, OverBetween, AllOverBut, InOrder, IsNext, view_of, Sound, port_state_by, port_state, Turned, Counted, fresh_left, WentOn, goes_on, ends, Does, Passed, without, failed_by, relinked, Linked, Finished, another, current}
+use Rattle.stage_in.specs.Takings.{Begins, Taking, place_of, OverBetween, AllOverBut, InOrder, IsNext, view_of, Sound, port_state_by, port_state, Turned, Counted, fresh_left, WentOn, goes_on, ends, Does, Passed, without, failed_by, relinked, HasFollowers, InputFinished, another, current}
 use Rattle.stage_fans.proofs.Flags.{set_here, set_other, set_keeps}
 use Rattle.stage_fans.proofs.Closings.{unasked_wish, open_wish, cancels_give, cancels_stand}
 use Rattle.stage_in.proofs.Seats.{ended_seat, waits_current, open_seat, unmarked, all_cancelled, idle_seat, marked_now, over_now, all_over_closed}
@@ -45,7 +45,7 @@ few_wait segment over = rw (no_hold segment) (none_few over)
 
 module _ (segment : Option ℕ) where
   -- nothing is given, and the state is another that gives the same
-  moved_turn : (s t : Place) (over : List Bool) (waited : List Inflow) → waited ≡ none_of over
+  moved_turn : (s t : FanPlace) (over : List Bool) (waited : List Inflow) → waited ≡ none_of over
       → ((more : ℕ → Inflow) → fan_gives (taking_by segment) s (joined_all 0 (none_of over) more) ≡ fan_gives (taking_by segment) t (joined_all 0 (none_of over) more))
       → FanTurn (taking_by segment) s waited [] t (none_of over)
   moved_turn s t over waited is same = record {
@@ -56,8 +56,8 @@ module _ (segment : Option ℕ) where
     same = λ more. rw is (same more);
   }
 
-  quiet_turn : (s : Place) (over : List Bool) → FanTurn (taking_by segment) s (joined_all 0 (none_of over) (λ _. nothing)) [] s (none_of over)
-  quiet_turn s over = moved_turn s s over (joined_all 0 (none_of over) (λ _. nothing)) (joined_all-nothing 0 (none_of over)) (λ more. refl)
+  quiet_turn : (s : FanPlace) (over : List Bool) → FanTurn (taking_by segment) s (joined_all 0 (none_of over) (λ _. nothing_came)) [] s (none_of over)
+  quiet_turn s over = moved_turn s s over (joined_all 0 (none_of over) (λ _. nothing_came)) (joined_all-nothing_came 0 (none_of over)) (λ more. refl)
 
   -- an element of the current input is given
   element_turn : (old new : Taking) (e : Tree) → slice_get old.over old.current ≡ Some false → Counted segment old new
@@ -206,7 +206,7 @@ module _ (old : Taking) (port : ℕ) (h : old.live ≡ true) (sound : Sound old)
   waited_ends : joined_all 0 (none_of old.over) (coming (arrives port item.Ended)) ≡ none_of over
   waited_ends = let z : 0 + port ≡ port = omega arith in let r = came_end 0 port old.over open_port in rw z at r
 
-  linked_then : Linked over (relinked port old.next)
+  linked_then : HasFollowers over (relinked port old.next)
   linked_then = relinks old.over port (slice_get_within old.over port false open_port) old.next sound.linked
 
   few_then : length over ≤ 16
@@ -296,7 +296,7 @@ module _ (old : Taking) (port : ℕ) (h : old.live ≡ true) (sound : Sound old)
     last_ends : AllOverBut old.current over → Handled (arrives port item.Ended) old (Complete 0 ∷ []) (record (without port old) { live = false })
     last_ends all =
         let none : fan_gives (taking_by old.segment) (place_of old) (none_of over) ≡ [] = none_given old.segment (place_of old) (map flow (none_of over)) (none_waits over) in
-        let close : FanClose (taking_by old.segment) (place_of old) (none_of over) (item.Ended ∷ []) = completes (all_ended over (all_gone all)) (ap (λ (l : List Tagged). told (elements l) ended) (sym none)) in
+        let close : FanClose (taking_by old.segment) (place_of old) (none_of over) (item.Ended ∷ []) = completes (all_ended over (all_gone all)) (ap (λ (l : List Tagged). told (untagged l) ended) (sym none)) in
         record {
           ports = obeys (arrives port item.Ended) old (record (without port old) { live = false }) (Complete 0 ∷ []) h (λ may s. record {
             allowed = (open_wish old.asked, tt);
@@ -313,7 +313,7 @@ module _ (old : Taking) (port : ℕ) (h : old.live ≡ true) (sound : Sound old)
         subst (λ (l : List Act). Handled (arrives port item.Ended) old l new) (sym acts_are)
         (subst (λ (x : Taking). Handled (arrives port item.Ended) old (Complete 0 ∷ []) x) (sym to_is) (last_ends all))
 
-  finished_by : (new : Taking) (acts : List Act) → Finished port old new acts → Handled (arrives port item.Ended) old acts new
+  finished_by : (new : Taking) (acts : List Act) → InputFinished port old new acts → Handled (arrives port item.Ended) old acts new
   finished_by new acts (another n to_is acts_are) = rw (to_is, acts_are) (another_ends n)
   finished_by new acts (current here w) = went here new acts w
 
@@ -335,7 +335,7 @@ module _ (old : Taking) (port : ℕ) (h : old.live ≡ true) (sound : Sound old)
         gives = record { turn = rw (h, given) close; segment = refl; inputs = length-set old.over port true; stands = cancels_stand 0 over };
       }
 
-pub finished : (old new : Taking) (acts : List Act) (port : ℕ) → old.live ≡ true → Meets (arrives port item.Ended) (port_state old) → Finished port old new acts → Handled (arrives port item.Ended) old acts new
+pub finished : (old new : Taking) (acts : List Act) (port : ℕ) → old.live ≡ true → Meets (arrives port item.Ended) (port_state old) → InputFinished port old new acts → Handled (arrives port item.Ended) old acts new
 finished old new acts port h m f =
     let s = found (arrives port item.Ended) old h m in
     finished_by old port h s.sound (open_seat 0 old.current port old.over old.asked s.may) new acts f
@@ -387,4 +387,4 @@ new_row inputs segment l two few b =
     let long : length l.over ≡ inputs = ap length b.over ∙ length-replicate inputs false in
     let c : l.current ≡ 0 = b.current in
     let is : view_of l ≡ record { ins = replicate inputs inlet.Idle; outs = Unpulled ∷ [] } = ap (λ (xs : List InView). record { ins = xs; outs = wish l.asked ∷ [] }) ins ∙ ap (λ a. record { ins = replicate inputs inlet.Idle; outs = wish a ∷ [] }) b.unasked in
-    is_standing l (record { ins = replicate inputs inlet.Idle; outs = Unpulled ∷ [] }) b.live (sym is) (record { here = here; order = rw c (no_order l.segment l.over); few = omega (arith, long, few); linked = subst (λ o. Linked o l.next) (sym b.over) (ring_linked inputs l.next b.ring) })
+    is_standing l (record { ins = replicate inputs inlet.Idle; outs = Unpulled ∷ [] }) b.live (sym is) (record { here = here; order = rw c (no_order l.segment l.over); few = omega (arith, long, few); linked = subst (λ o. HasFollowers o l.next) (sym b.over) (ring_linked inputs l.next b.ring) })

@@ -29,19 +29,19 @@ abbrev pub inlet_view : Inlet → InView
 inlet_view i = inlet_view_by i.over i.held
 
 -- what waits of an input
-abbrev pub listed : Option Tree → List Tree
-listed None = []
-listed (Some t) = t ∷ []
+abbrev pub waiting_element : Option Tree → List Tree
+waiting_element None = []
+waiting_element (Some t) = t ∷ []
 
 abbrev pub inlet_flow : Inlet → Inflow
-inlet_flow i = record { list = listed i.held; end = end_by i.over }
+inlet_flow i = record { list = waiting_element i.held; end = end_by i.over }
 
 abbrev pub pair_view : Pairing → View
 pair_view l = record { ins = inlet_view l.left ∷ inlet_view l.right ∷ []; outs = wish l.asked ∷ [] }
 
 -- no element waits, and it has not ended
-abbrev pub IsBlank : Inlet → Type 0
-IsBlank i = (i.held ≡ None) × (i.over ≡ false)
+abbrev pub IsVacant : Inlet → Type 0
+IsVacant i = (i.held ≡ None) × (i.over ≡ false)
 
 -- before its start
 abbrev pub new_view : View
@@ -53,7 +53,7 @@ new_pair = record { phase = New; left = record { held = None; over = false }; ri
 
 -- its row, by what an open one keeps
 abbrev pub port_state_by : (Pairing → Type 0) → Phase → Pairing → View → Type 0
-port_state_by Sound New l v = (v ≡ new_view) × (IsBlank l.left × (IsBlank l.right × (l.asked ≡ false)))
+port_state_by Sound New l v = (v ≡ new_view) × (IsVacant l.left × (IsVacant l.right × (l.asked ≡ false)))
 port_state_by Sound Open l v = (v ≡ pair_view l) × Sound l
 port_state_by Sound Closed l v = FanClosed v
 

@@ -5,7 +5,7 @@ ghost use Rattle.port_core.specs.Call.{Obeys, Meets, starts, pulls, arrives, can
 ghost use Rattle.stage_core.specs.declared.phase.Phase.TheVariants.{New, Open, Closed};
 ghost use Rattle.stage_fans.specs.Seats.{room_for};
 ghost use Rattle.stage_in.specs.Pairings.{Does, new_pair, placed, without, closing};
-ghost use Rattle.stage_in.specs.Sortings.{port_state, Turned, next_side, is_used_up, held_at, taken, over_at, number, behind, behind_acts, give, give_acts, ended, ended_acts};
+ghost use Rattle.stage_in.specs.Sortings.{port_state, Turned, next_side, is_used_up, held_at, taken, over_at, number, behind_element, behind_acts, give, give_acts, ended, ended_acts};
 
 use crate::inlet::{Inlet, Side};
 use elem_core::elem::Elem;
@@ -233,7 +233,7 @@ impl Sorting {
     // An element of this input went out.
     fn go_on(&mut self, side: Side, acts: &mut Acts)
         requires room { length acts.old.items + 3 ≤ acts.old.room }
-        ensures stage { self.new ≡ behind self.old }
+        ensures stage { self.new ≡ behind_element self.old }
         ensures acts { acts.new ≡ record acts.old { items = acts.old.items ++ behind_acts side self.old } }
     {
         if self.is_used_up() {

@@ -3,7 +3,7 @@ ghost use Rattle.elem_core.specs.declared.item.Item.TheVariants as item;
 ghost use Rattle.port_core.specs.declared.act.Act.TheVariants as act;
 ghost use Rattle.port_core.specs.Call.{Obeys, Meets, starts, pulls, arrives, cancels};
 ghost use Rattle.stage_fans.specs.Seats.{open_cancels, room_for};
-ghost use Rattle.stage_in.specs.Takings.{port_state, Turned, Begins, Counted, WentOn, Does, Passed, Finished, without, failed_by, followed_by, Linked, Ring, IsNext, AllOverBut};
+ghost use Rattle.stage_in.specs.Takings.{port_state, Turned, Begins, Counted, WentOn, Does, Passed, InputFinished, without, failed_by, followed_by, HasFollowers, InputRing, IsNext, AllOverBut};
 ghost use Rattle.stage_in.specs.Kinds.{behind_input};
 
 use elem_core::elem::Elem;
@@ -164,7 +164,7 @@ impl Taking {
     // An element of the current input goes out.
     fn pass(&mut self, e: Elem, acts: &mut Acts)
         requires here { self.old.current < length self.old.over }
-        requires linked { Linked self.old.over self.old.next }
+        requires linked { HasFollowers self.old.over self.old.next }
         requires empty { acts.old.items ≡ [] }
         requires room { 1 ≤ acts.old.room }
         ensures passed { Passed self.old e self.new acts.new.items }
@@ -179,10 +179,10 @@ impl Taking {
     fn finish(&mut self, port: u8, acts: &mut Acts)
         requires here { self.old.current < length self.old.over }
         requires there { port < length self.old.over }
-        requires linked { Linked self.old.over self.old.next }
+        requires linked { HasFollowers self.old.over self.old.next }
         requires empty { acts.old.items ≡ [] }
         requires room { 1 ≤ acts.old.room }
-        ensures finished { Finished port self.old self.new acts.new.items }
+        ensures finished { InputFinished port self.old self.new acts.new.items }
         ensures room { acts.new.room ≡ acts.old.room }
     {
         self.pass_over(port);
@@ -221,7 +221,7 @@ impl Taking {
     // An element of the current input went out: behind a segment the next open input is current.
     fn count(&mut self)
         requires here { self.old.current < length self.old.over }
-        requires linked { Linked self.old.over self.old.next }
+        requires linked { HasFollowers self.old.over self.old.next }
         ensures place { Counted self.old.segment self.old self.new }
         ensures other { self.new ≡ record self.old { current = self.new.current; left = self.new.left } }
     {
@@ -238,7 +238,7 @@ impl Taking {
     // The current input has ended: the stage goes to the next open one, which it asks where its output is asked, or it ends.
     fn go_on(&mut self, acts: &mut Acts)
         requires here { self.old.current < length self.old.over }
-        requires linked { Linked self.old.over self.old.next }
+        requires linked { HasFollowers self.old.over self.old.next }
         requires empty { acts.old.items ≡ [] }
         requires room { 1 ≤ acts.old.room }
         ensures went { WentOn self.old self.new acts.new.items }
@@ -262,7 +262,7 @@ impl Taking {
     // The next open input behind the current one, around the inputs.
     fn next_open(&self) -> Option<u8>
         requires here { self.now.current < length self.now.over }
-        requires linked { Linked self.now.over self.now.next }
+        requires linked { HasFollowers self.now.over self.now.next }
         ensures next { IfSome result (IsNext self.now.over self.now.current) }
         ensures none { IfNone result (AllOverBut self.now.current self.now.over) }
     {
@@ -277,7 +277,7 @@ impl Taking {
     // An input has ended: each that it followed is followed by the one behind it.
     fn pass_over(&mut self, port: u8)
         requires there { port < length self.old.over }
-        requires linked { Linked self.old.over self.old.next }
+        requires linked { HasFollowers self.old.over self.old.next }
         ensures { self.new ≡ without port self.old }
     {
         self.over[port as usize] = true;
@@ -289,7 +289,7 @@ impl Taking {
 // Of each of so many inputs the one behind it, around them.
 fn ring(alloc: Global, inputs: u32) -> Result<Vec<u8>, NoMemory>
     requires few { inputs ≤ 16 }
-    ensures { IfOk result (λ next. Ring inputs (vec_items next)) }
+    ensures { IfOk result (λ next. InputRing inputs (vec_items next)) }
 {
     let mut next = Vec::with_capacity(alloc, inputs as usize)?;
     for c in 0..inputs {

@@ -6,7 +6,7 @@ ghost use Rattle.port_core.specs.Call.{Obeys, Meets, starts, pulls, arrives, can
 ghost use Rattle.stage_core.specs.declared.phase.Phase.TheVariants.{New, Open, Closed};
 ghost use Rattle.stage_fans.specs.Seats.{room_for};
 ghost use Rattle.stage_in.specs.Pairings.{Does, new_pair, placed, without, closing};
-ghost use Rattle.stage_in.specs.Zippings.{port_state, Turned, Lacks, emptied, held_at, pair, pair_acts, behind_pair, behind_acts, ended_at, ended_acts};
+ghost use Rattle.stage_in.specs.Zippings.{port_state, Turned, LacksOne, emptied, held_at, pair, pair_acts, behind_pair, behind_acts, ended_at, ended_acts};
 
 use crate::inlet::Inlet;
 use elem_core::elem::{Elem, Form, Pair};
@@ -202,7 +202,7 @@ impl Zipping {
     // What waits, where both inputs have an element; then the output is asked no more.
     fn take_both(&mut self) -> Option<(Elem, Elem)>
         ensures some { IfSome result (λ p. (self.old.left.held ≡ Some p.0) × ((self.old.right.held ≡ Some p.1) × (self.new ≡ emptied self.old))) }
-        ensures none { IfNone result ((self.new ≡ self.old) × Lacks self.old.left.held self.old.right.held true) }
+        ensures none { IfNone result ((self.new ≡ self.old) × LacksOne self.old.left.held self.old.right.held true) }
     {
         match (self.left.held.take(), self.right.held.take()) {
             (Some(left), Some(right)) => {

@@ -15,9 +15,9 @@ use Rattle.port_core.specs.declared.act.Act.{Act}
 use Rattle.stage_law.specs.Law.{GaveAs}
 use Rattle.port_core.specs.View.{View, out_at, ActsAllowed, acted_all}
 use Rattle.port_core.specs.Call.{Call, starts, pulls, arrives, cancels, AllIdle, CallAllowed, seen, brought_to, given_on}
-use Rattle.stage_law.specs.Inflows.{nothing, joined_at, joined, joined_all, coming, untouched}
-use Rattle.stage_law.specs.Fans.{Fan, FanHeld, waits, shut, elements, used, Uses, AllFew, fan_gives, FanTurn, FanClose, completes, fails, FanTurnAt, FanKept, FanKeeps, FanLaw}
-use Rattle.stage_law.proofs.Inflows.{joined_all-assoc, joined_all-nothing, Stepped, ports_law, new_ports}
+use Rattle.stage_law.specs.Inflows.{nothing_came, joined_at, joined, joined_all, coming, untouched}
+use Rattle.stage_law.specs.Fans.{Fan, FanHeld, waits, shut, untagged, used, UsesInputs, AllFew, fan_gives, FanTurn, FanClose, completes, fails, FanTurnAt, FanKept, FanKeeps, FanLaw}
+use Rattle.stage_law.proofs.Inflows.{joined_all-assoc, joined_all-nothing_came, Stepped, ports_law, new_ports}
 
 -- ---- how many elements of an input are used
 
@@ -65,7 +65,7 @@ joined_uses unended n l k r h = omega (arith, h, length-append l r.list, length-
 joined_uses ended n l k r h = h
 joined_uses (failed c) n l k r h = h
 
-uses_more : (n : ℕ) (l : List Tagged) (ws fs : List Inflow) (more : ℕ → Inflow) → Uses n l ws fs → Uses n l (joined_all n ws more) (joined_all n fs more)
+uses_more : (n : ℕ) (l : List Tagged) (ws fs : List Inflow) (more : ℕ → Inflow) → UsesInputs n l ws fs → UsesInputs n l (joined_all n ws more) (joined_all n fs more)
 uses_more n l [] [] more u = tt
 uses_more n l [] (f ∷ fs) more u = absurd u
 uses_more n l (w ∷ ws) [] more u = absurd u
@@ -74,7 +74,7 @@ uses_more n l (w ∷ ws) (f ∷ fs) more u = (
   uses_more (n + 1) l ws fs more u.1,
 )
 
-uses_then : (n : ℕ) (l k : List Tagged) (us ws fs : List Inflow) → Uses n l ws fs → Uses n k us ws → Uses n (l ++ k) us fs
+uses_then : (n : ℕ) (l k : List Tagged) (us ws fs : List Inflow) → UsesInputs n l ws fs → UsesInputs n k us ws → UsesInputs n (l ++ k) us fs
 uses_then n l k [] [] [] u v = tt
 uses_then n l k [] [] (f ∷ fs) u v = absurd u
 uses_then n l k [] (w ∷ ws) fs u v = absurd v
@@ -92,7 +92,7 @@ record There (l : List Tagged) (n i : ℕ) (w : Inflow) (fs : List Inflow) : Typ
   count : used (n + i) l + length w.list ≡ length inflow.list
   ends : w.end ≡ inflow.end
 
-there : (l : List Tagged) (n i : ℕ) (w : Inflow) (ws fs : List Inflow) → Uses n l ws fs → slice_get ws i ≡ Some w → There l n i w fs
+there : (l : List Tagged) (n i : ℕ) (w : Inflow) (ws fs : List Inflow) → UsesInputs n l ws fs → slice_get ws i ≡ Some w → There l n i w fs
 there l n i w [] fs u h = cc
 there l n i w (x ∷ ws) [] u h = absurd u
 there l n zero w (x ∷ ws) (f ∷ fs) u h =
@@ -105,7 +105,7 @@ there l n (suc i) w (x ∷ ws) (f ∷ fs) u h =
     record { inflow = r.inflow; at = r.at; count = rw e r.count; ends = r.ends }
 
 -- every input ends where all that waits does
-ends_alike : (n : ℕ) (l : List Tagged) (ws fs : List Inflow) → Uses n l ws fs → all_end (map flow fs) ≡ all_end (map flow ws)
+ends_alike : (n : ℕ) (l : List Tagged) (ws fs : List Inflow) → UsesInputs n l ws fs → all_end (map flow fs) ≡ all_end (map flow ws)
 ends_alike n l [] [] u = refl
 ends_alike n l [] (f ∷ fs) u = absurd u
 ends_alike n l (w ∷ ws) [] u = absurd u
@@ -113,7 +113,7 @@ ends_alike n l (w ∷ ws) (f ∷ fs) u =
     let ih : all_end (map flow fs) ≡ all_end (map flow ws) = ends_alike (n + 1) l ws fs u.1 in
     ap (λ b. is_ended f.end && b) ih ∙ ap (λ e. is_ended e && all_end (map flow ws)) (sym u.0.1)
 
-untouched_uses : (n m : ℕ) → Uses m [] (untouched n) (untouched n)
+untouched_uses : (n m : ℕ) → UsesInputs m [] (untouched n) (untouched n)
 untouched_uses zero m = tt
 untouched_uses (suc n) m = ((refl, refl), untouched_uses n (m + 1))
 
@@ -127,13 +127,13 @@ module _ {S : Type 0} (k : Fan S) (start : S) where
   -- all that it gives of what came is what it gave, and what it gives from now on
   now_gives : (s : S) (ws ins : List Inflow) (g : List Tree) → (kept : FanKept k start s ws ins g) → k.from start (map flow ins) ≡ kept.given ++ k.from s (map flow ws)
   now_gives s ws ins g kept =
-      ap (λ fs. k.from start (map flow fs)) (sym (joined_all-nothing 0 ins)) ∙ kept.rest (λ _. nothing)
-      ∙ ap (λ fs. kept.given ++ k.from s (map flow fs)) (joined_all-nothing 0 ws)
+      ap (λ fs. k.from start (map flow fs)) (sym (joined_all-nothing_came 0 ins)) ∙ kept.rest (λ _. nothing_came)
+      ∙ ap (λ fs. kept.given ++ k.from s (map flow fs)) (joined_all-nothing_came 0 ws)
 
-  prefix_now : (s : S) (ws ins : List Inflow) (g : List Tree) → (kept : FanKept k start s ws ins g) → IsPrefix g (elements (k.from start (map flow ins)))
+  prefix_now : (s : S) (ws ins : List Inflow) (g : List Tree) → (kept : FanKept k start s ws ins g) → IsPrefix g (untagged (k.from start (map flow ins)))
   prefix_now s ws ins g kept = record {
-    rest = elements (k.from s (map flow ws));
-    is = ap elements (now_gives s ws ins g kept) ∙ map-append (λ (x : Tagged). x.item) kept.given (k.from s (map flow ws)) ∙ ap (λ l. l ++ elements (k.from s (map flow ws))) (sym kept.gave_is);
+    rest = untagged (k.from s (map flow ws));
+    is = ap untagged (now_gives s ws ins g kept) ∙ map-append (λ (x : Tagged). x.item) kept.given (k.from s (map flow ws)) ∙ ap (λ l. l ++ untagged (k.from s (map flow ws))) (sym kept.gave_is);
   }
 
   -- at any moment: what it gave stands, over what it took
@@ -153,14 +153,14 @@ module _ {S : Type 0} (k : Fan S) (start : S) where
   turned : (s : S) (ws ins : List Inflow) (g : List Tree) (more : ℕ → Inflow) (out : List Item) (t : S) (us : List Inflow) → FanKept k start s ws ins g → FanTurn k s (joined_all 0 ws more) out t us
       → Stepped (FanKeeps k start (waits t us)) (joined_all 0 ins more) g out
   turned s ws ins g more out t us kept turn = record {
-    list = elements turn.given;
+    list = untagged turn.given;
     end = unended;
     out_is = turn.out_is;
     keeps = (
       refl,
       record {
         given = kept.given ++ turn.given;
-        gave_is = ap (λ l. l ++ elements turn.given) kept.gave_is ∙ sym (map-append (λ (x : Tagged). x.item) kept.given turn.given);
+        gave_is = ap (λ l. l ++ untagged turn.given) kept.gave_is ∙ sym (map-append (λ (x : Tagged). x.item) kept.given turn.given);
         uses = uses_then 0 kept.given turn.given us (joined_all 0 ws more) (joined_all 0 ins more) (uses_more 0 kept.given ws ins more kept.uses) turn.uses;
         few = turn.few;
         rest = λ rest. kept_more s ws ins g more kept rest ∙ ap (λ l. kept.given ++ l) (turn.same rest) ∙ sym (append_assoc kept.given turn.given (fan_gives k t (joined_all 0 us rest)));
@@ -173,10 +173,10 @@ module _ {S : Type 0} (k : Fan S) (start : S) where
   gives_now s ws ins g more kept = kept.rest more
 
   all_items : (s : S) (ws ins : List Inflow) (g : List Tree) (more : ℕ → Inflow) → (kept : FanKept k start s ws ins g)
-      → elements (k.from start (map flow (joined_all 0 ins more))) ≡ g ++ elements (k.from s (map flow (joined_all 0 ws more)))
+      → untagged (k.from start (map flow (joined_all 0 ins more))) ≡ g ++ untagged (k.from s (map flow (joined_all 0 ws more)))
   all_items s ws ins g more kept =
-      ap elements (kept.rest more) ∙ map-append (λ (x : Tagged). x.item) kept.given (k.from s (map flow (joined_all 0 ws more)))
-      ∙ ap (λ l. l ++ elements (k.from s (map flow (joined_all 0 ws more)))) (sym kept.gave_is)
+      ap untagged (kept.rest more) ∙ map-append (λ (x : Tagged). x.item) kept.given (k.from s (map flow (joined_all 0 ws more)))
+      ∙ ap (λ l. l ++ untagged (k.from s (map flow (joined_all 0 ws more)))) (sym kept.gave_is)
 
   -- the first elements that were given use all of a failed input but what waits
   failed_from : (s : S) (ws ins : List Inflow) (g : List Tree) (more : ℕ → Inflow) (i : ℕ) (w : Inflow) (c : Cause) → (kept : FanKept k start s ws ins g) → slice_get (joined_all 0 ws more) i ≡ Some w → w.end ≡ failed c → length w.list ≤ k.hold
@@ -201,7 +201,7 @@ module _ {S : Type 0} (k : Fan S) (start : S) where
 
   closed : (s : S) (ws ins : List Inflow) (g : List Tree) (more : ℕ → Inflow) (out : List Item) → FanKept k start s ws ins g → FanClose k s (joined_all 0 ws more) out → Stepped (FanKeeps k start shut) (joined_all 0 ins more) g out
   closed s ws ins g more out kept (completes all is) = record {
-    list = elements (k.from s (map flow (joined_all 0 ws more)));
+    list = untagged (k.from s (map flow (joined_all 0 ws more)));
     end = ended;
     out_is = is;
     keeps = (ends_alike 0 kept.given (joined_all 0 ws more) (joined_all 0 ins more) (uses_more 0 kept.given ws ins more kept.uses) ∙ all, sym (all_items s ws ins g more kept));
@@ -211,7 +211,7 @@ module _ {S : Type 0} (k : Fan S) (start : S) where
     end = failed c;
     out_is = is;
     keeps = rw append-nil (
-      record { rest = elements (k.from s (map flow (joined_all 0 ws more))); is = all_items s ws ins g more kept },
+      record { rest = untagged (k.from s (map flow (joined_all 0 ws more))); is = all_items s ws ins g more kept },
       failed_from s ws ins g more i w c kept at bad few,
     );
   }
@@ -222,7 +222,7 @@ module _ {S : Type 0} (k : Fan S) (start : S) where
     list = [];
     end = unended;
     out_is = is;
-    keeps = rw append-nil (record { rest = elements (k.from s (map flow (joined_all 0 ws more))); is = all_items s ws ins g more kept });
+    keeps = rw append-nil (record { rest = untagged (k.from s (map flow (joined_all 0 ws more))); is = all_items s ws ins g more kept });
   }
 
   stepped : (call : Call) (s : S) (ws : List Inflow) (new : FanHeld S) (ins : List Inflow) (g : List Tree) (out : List Item) → FanKept k start s ws ins g → FanTurnAt k call (waits s ws) out new
@@ -257,7 +257,7 @@ module _ {S : Type 0} (k : Fan S) (start : S) where
 
   -- over its whole history
   pub fan_rest : (s : S) (ws : List Inflow) (v : View) (took : ℕ → List Item) (gave : List Item) → (law : FanLaw k start (waits s ws) v took gave) → (more : ℕ → Inflow)
-      → elements (fan_gives k start (joined_all 0 law.ins more)) ≡ law.out_list ++ elements (fan_gives k s (joined_all 0 ws more))
+      → untagged (fan_gives k start (joined_all 0 law.ins more)) ≡ law.out_list ++ untagged (fan_gives k s (joined_all 0 ws more))
   fan_rest s ws v took gave law more = all_items s ws law.ins law.out_list more law.keeps.1
 
   pub fan_history_stands : (x : FanHeld S) (v : View) (took : ℕ → List Item) (gave : List Item) → (law : FanLaw k start x v took gave) → FanStands k.hold (k.from start) law.ins law.out_list law.out_end

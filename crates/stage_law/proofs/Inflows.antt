@@ -16,7 +16,7 @@ use Rattle.port_core.specs.View.{View, in_at, out_at, with_in, ActsAllowed, acte
 use Rattle.port_core.specs.Call.{Call, starts, pulls, arrives, cancels, AllIdle, MayCome, came, CallAllowed, seen, brought_to, given_on}
 use Rattle.stage_law.specs.Held.{told}
 use Rattle.stage_law.specs.Law.{TookAs, GaveAs}
-use Rattle.stage_law.specs.Inflows.{nothing, flow_of, joined_at, joined, joined_all, coming, untouched, PortsLaw}
+use Rattle.stage_law.specs.Inflows.{nothing_came, flow_of, joined_at, joined, joined_all, coming, untouched, PortsLaw}
 use Rattle.stage_law.proofs.Told.{told-append}
 use Rattle.stage_law.proofs.Ports.{SetAt, is_set, is_same, set_at, in_unended, took_acted, may_open, came_at, gave_seen, gave_acted}
 
@@ -39,17 +39,17 @@ joined_all-assoc n (f ∷ fs) a b =
     let others : joined_all (n + 1) (joined_all (n + 1) fs a) b ≡ joined_all (n + 1) fs (λ i. joined (a i) (b i)) = joined_all-assoc (n + 1) fs a b in
     ap (λ x. x ∷ joined_all (n + 1) (joined_all (n + 1) fs a) b) first ∙ ap (λ xs. joined f (joined (a n) (b n)) ∷ xs) others
 
-joined_at-nothing : (e : End) (l : List Tree) → ◌≡◌ {A = Inflow} (joined_at e l nothing) (record { list = l; end = e })
-joined_at-nothing unended l = ap (λ (x : List Tree). record { list = x; end = unended }) (append-nil l)
-joined_at-nothing ended l = refl
-joined_at-nothing (failed c) l = refl
+joined_at-nothing_came : (e : End) (l : List Tree) → ◌≡◌ {A = Inflow} (joined_at e l nothing_came) (record { list = l; end = e })
+joined_at-nothing_came unended l = ap (λ (x : List Tree). record { list = x; end = unended }) (append-nil l)
+joined_at-nothing_came ended l = refl
+joined_at-nothing_came (failed c) l = refl
 
-pub joined-nothing : (f : Inflow) → joined f nothing ≡ f
-joined-nothing f = joined_at-nothing f.end f.list
+pub joined-nothing_came : (f : Inflow) → joined f nothing_came ≡ f
+joined-nothing_came f = joined_at-nothing_came f.end f.list
 
-pub joined_all-nothing : (n : ℕ) (fs : List Inflow) → joined_all n fs (λ _. nothing) ≡ fs
-joined_all-nothing n [] = refl
-joined_all-nothing n (f ∷ fs) = ap (λ x. x ∷ joined_all (n + 1) fs (λ _. nothing)) (joined-nothing f) ∙ ap (λ xs. f ∷ xs) (joined_all-nothing (n + 1) fs)
+pub joined_all-nothing_came : (n : ℕ) (fs : List Inflow) → joined_all n fs (λ _. nothing_came) ≡ fs
+joined_all-nothing_came n [] = refl
+joined_all-nothing_came n (f ∷ fs) = ap (λ x. x ∷ joined_all (n + 1) fs (λ _. nothing_came)) (joined-nothing_came f) ∙ ap (λ xs. f ∷ xs) (joined_all-nothing_came (n + 1) fs)
 
 pub length-joined_all : (n : ℕ) (fs : List Inflow) (more : ℕ → Inflow) → length (joined_all n fs more) ≡ length fs
 length-joined_all n [] more = refl
@@ -101,11 +101,11 @@ told_item (item.Failed c) = refl
 told_more : (f : Inflow) (r : Inflow) → f.end ≡ unended → told (joined f r).list (joined f r).end ≡ told f.list f.end ++ told r.list r.end
 told_more f r u = rw u (told-append f.list r.list r.end)
 
-quiet_told : (t : List Item) (f : Inflow) → t ≡ told f.list f.end → t ++ [] ≡ told (joined f nothing).list (joined f nothing).end
-quiet_told t f is = append-nil t ∙ is ∙ ap (λ (g : Inflow). told g.list g.end) (sym (joined-nothing f))
+quiet_told : (t : List Item) (f : Inflow) → t ≡ told f.list f.end → t ++ [] ≡ told (joined f nothing_came).list (joined f nothing_came).end
+quiet_told t f is = append-nil t ∙ is ∙ ap (λ (g : Inflow). told g.list g.end) (sym (joined-nothing_came f))
 
 told_by : (i k : ℕ) (b : Item) (t : List Item) (f : Inflow) (m : Bool) → Which i k m → (i ≡ k → f.end ≡ unended) → t ≡ told f.list f.end
-    → t ++ (if m then b ∷ [] else []) ≡ told (joined f (if m then flow_of b else nothing)).list (joined f (if m then flow_of b else nothing)).end
+    → t ++ (if m then b ∷ [] else []) ≡ told (joined f (if m then flow_of b else nothing_came)).list (joined f (if m then flow_of b else nothing_came)).end
 told_by i k b t f true (this_one h e) u is = ap (λ (x : List Item). x ++ b ∷ []) is ∙ ap (λ (x : List Item). told f.list f.end ++ x) (sym (told_item b)) ∙ sym (told_more f (flow_of b) (u e))
 told_by i k b t f false (another h e) u is = quiet_told t f is
 told_by i k b t f true (another h e) u is = cc
@@ -126,8 +126,8 @@ known_item b f u = rw u (of_item b)
     of_item item.Ended = tt
     of_item (item.Failed c) = tt
 
-quiet_as : (x : InView) (f : Inflow) → TookAs x f.end → TookAs x (joined f nothing).end
-quiet_as x f known = rw joined-nothing known
+quiet_as : (x : InView) (f : Inflow) → TookAs x f.end → TookAs x (joined f nothing_came).end
+quiet_as x f known = rw joined-nothing_came known
 
 -- another input stays as it is
 in_other : (v : View) (i k : ℕ) (x : InView) → (i ≡ k → ⊥) → in_at (with_in v i x) k ≡ in_at v k
@@ -137,7 +137,7 @@ in_other v i k x n = by_place (set_at Cancelled v.ins i x k)
     by_place (is_set same h) = absurd (n same)
     by_place (is_same h f) = h
 
-as_by : (v : View) (i k : ℕ) (b : Item) (f : Inflow) (m : Bool) → Which i k m → MayCome b (in_at v i) → TookAs (in_at v k) f.end → TookAs (in_at (with_in v i (came b)) k) (joined f (if m then flow_of b else nothing)).end
+as_by : (v : View) (i k : ℕ) (b : Item) (f : Inflow) (m : Bool) → Which i k m → MayCome b (in_at v i) → TookAs (in_at v k) f.end → TookAs (in_at (with_in v i (came b)) k) (joined f (if m then flow_of b else nothing_came)).end
 as_by v i k b f true (this_one h e) may known =
     let here : in_at (with_in v i (came b)) k ≡ came b = ap (λ n. in_at (with_in v i (came b)) n) (sym e) ∙ came_at b v i may in
     let u : f.end ≡ unended = in_unended (in_at v k) f.end (let open_here = may_open b (in_at v i) may in rw e at open_here) known in
@@ -201,7 +201,7 @@ ports_law K L call v took gave acts may allowed law u s = record {
 
 -- ---- before anything came
 
-pub untouched_at : (n i : ℕ) (f : Inflow) → slice_get (untouched n) i ≡ Some f → f ≡ nothing
+pub untouched_at : (n i : ℕ) (f : Inflow) → slice_get (untouched n) i ≡ Some f → f ≡ nothing_came
 untouched_at zero i f h = cc
 untouched_at (suc n) zero f h = cc
 untouched_at (suc n) (suc i) f h = untouched_at n i f h

@@ -18,7 +18,7 @@ use Rattle.port_core.specs.View.{View, out_at, ActsAllowed, acted_all}
 use Rattle.port_core.specs.Call.{Call, starts, pulls, arrives, cancels, AllIdle, CallAllowed, seen, brought_to, given_on}
 use Rattle.stage_law.specs.Law.{GaveAs}
 use Rattle.stage_law.specs.Inflows.{joined_at, joined_all, coming, untouched}
-use Rattle.stage_law.specs.Fans.{elements}
+use Rattle.stage_law.specs.Fans.{untagged}
 use Rattle.stage_law.specs.Merges.{MergeHeld, waits, shut, lists_of, left_at, left_by, SameEnds, Merged, MergeTurn, MergeClose, completes, fails, MergeTurnAt, MergeKeeps, moves_of, MergeLaw}
 use Rattle.stage_law.proofs.Inflows.{Stepped, ports_law, new_ports}
 
@@ -135,7 +135,7 @@ more_merged moves ins ws g more m =
     let is = lists_joined 0 ins more in
     record {
       finds = rw is (app_finds moves (lists_of ins) (rests 0 ins more) m.finds);
-      gave = m.gave ∙ ap elements (sym (ap (merge_of moves) is ∙ app_merge moves (lists_of ins) (rests 0 ins more) m.finds));
+      gave = m.gave ∙ ap untagged (sym (ap (merge_of moves) is ∙ app_merge moves (lists_of ins) (rests 0 ins more) m.finds));
       left =
           ap (left_by moves) is ∙ app_left moves (lists_of ins) (rests 0 ins more) m.finds ∙ ap (λ l. app l (rests 0 ins more)) m.left
           ∙ ap (λ r. app (lists_of ws) r) (sym (rests_same 0 ws ins more m.ends)) ∙ sym (lists_joined 0 ws more);
@@ -146,8 +146,8 @@ then_merged : (moves more : List ℕ) (ins ws us : List Inflow) (g h : List Tree
 then_merged moves more ins ws us g h m k = record {
   finds = then_finds moves more (lists_of ins) m.finds (rw m.left k.finds);
   gave =
-      ap (λ l. l ++ h) m.gave ∙ ap (λ l. elements (merge_of moves (lists_of ins)) ++ l) (k.gave ∙ ap (λ ls. elements (merge_of more ls)) (sym m.left))
-      ∙ sym (map-append (λ (x : Tagged). x.item) (merge_of moves (lists_of ins)) (merge_of more (left_by moves (lists_of ins)))) ∙ ap elements (sym (then_merge moves more (lists_of ins) m.finds));
+      ap (λ l. l ++ h) m.gave ∙ ap (λ l. untagged (merge_of moves (lists_of ins)) ++ l) (k.gave ∙ ap (λ ls. untagged (merge_of more ls)) (sym m.left))
+      ∙ sym (map-append (λ (x : Tagged). x.item) (merge_of moves (lists_of ins)) (merge_of more (left_by moves (lists_of ins)))) ∙ ap untagged (sym (then_merge moves more (lists_of ins) m.finds));
   left = then_left moves more (lists_of ins) ∙ ap (left_by more) m.left ∙ k.left;
   ends = same_ends us ws ins k.ends m.ends;
 }
@@ -317,8 +317,8 @@ merge_history_stands x v took gave law = merge_stands x law.ins law.out_list law
 
 -- for every further list of moves and every rest: what all moves give is what was given and what the further ones give of what waits
 pub merge_rest : (moves : List ℕ) (ins ws : List Inflow) (g : List Tree) → Merged moves ins g ws → (more : ℕ → Inflow) (further : List ℕ)
-    → elements (merge_of (moves ++ further) (lists_of (joined_all 0 ins more))) ≡ g ++ elements (merge_of further (lists_of (joined_all 0 ws more)))
+    → untagged (merge_of (moves ++ further) (lists_of (joined_all 0 ins more))) ≡ g ++ untagged (merge_of further (lists_of (joined_all 0 ws more)))
 merge_rest moves ins ws g m more further =
     let k = more_merged moves ins ws g more m in
-    ap elements (then_merge moves further (lists_of (joined_all 0 ins more)) k.finds) ∙ map-append (λ (x : Tagged). x.item) (merge_of moves (lists_of (joined_all 0 ins more))) (merge_of further (left_by moves (lists_of (joined_all 0 ins more))))
-    ∙ ap (λ l. l ++ elements (merge_of further (left_by moves (lists_of (joined_all 0 ins more))))) (sym k.gave) ∙ ap (λ ls. g ++ elements (merge_of further ls)) k.left
+    ap untagged (then_merge moves further (lists_of (joined_all 0 ins more)) k.finds) ∙ map-append (λ (x : Tagged). x.item) (merge_of moves (lists_of (joined_all 0 ins more))) (merge_of further (left_by moves (lists_of (joined_all 0 ins more))))
+    ∙ ap (λ l. l ++ untagged (merge_of further (left_by moves (lists_of (joined_all 0 ins more))))) (sym k.gave) ∙ ap (λ ls. g ++ untagged (merge_of further ls)) k.left

@@ -10,8 +10,8 @@ use Rattle.port_core.specs.declared.act.Act.{Act}
 use Rattle.stage_law.specs.Law.{GaveAs}
 use Rattle.port_core.specs.View.{View, out_at, ActsAllowed, acted_all}
 use Rattle.port_core.specs.Call.{Call, starts, pulls, arrives, cancels, AllIdle, CallAllowed, seen, brought_to, given_on}
-use Rattle.stage_law.specs.Inflows.{joined_at, joined, joined_all, coming, nothing, untouched}
-use Rattle.stage_law.specs.Zips.{ZipHeld, waits, shut, Paired, Finished, FailedWith, ZipTurn, ZipClose, completes, fails, ZipTurnAt, ZipKeeps, ZipLaw, ZipStandsOf}
+use Rattle.stage_law.specs.Inflows.{joined_at, joined, joined_all, coming, nothing_came, untouched}
+use Rattle.stage_law.specs.Zips.{ZipHeld, waits, shut, Paired, IsUsedUp, FailedWith, ZipTurn, ZipClose, completes, fails, ZipTurnAt, ZipKeeps, ZipLaw, ZipStandsOf}
 use Rattle.stage_law.proofs.Inflows.{Stepped, ports_law, new_ports}
 
 -- even fronts are paired by themselves
@@ -51,7 +51,7 @@ module _ (a b w u : Inflow) (g : List Tree) (p : Paired a b g w u) where
   right_long = ap length p.right_is ∙ length-append p.rights u.list ∙ ap (λ n. n + length u.list) (sym p.even ∙ sym gave_long)
 
   -- the last pairs
-  done_left : Finished w → (g ≡ pairs a.list b.list) × IsPaired a b
+  done_left : IsUsedUp w → (g ≡ pairs a.list b.list) × IsPaired a b
   done_left f =
       let no_more : pairs w.list u.list ≡ [] = ap (λ l. pairs l u.list) f.1 in
       let n : length w.list ≡ 0 = ap length f.1 in
@@ -61,13 +61,13 @@ module _ (a b w u : Inflow) (g : List Tree) (p : Paired a b g w u) where
   none_right [] = refl
   none_right (x ∷ l) = refl
 
-  done_right : Finished u → (g ≡ pairs a.list b.list) × IsPaired b a
+  done_right : IsUsedUp u → (g ≡ pairs a.list b.list) × IsPaired b a
   done_right f =
       let no_more : pairs w.list u.list ≡ [] = ap (λ l. pairs w.list l) f.1 ∙ none_right w.list in
       let n : length u.list ≡ 0 = ap length f.1 in
       (sym (paired_now ∙ ap (λ l. g ++ l) no_more ∙ append-nil g), (sym p.right_end ∙ f.0, omega (arith, left_long, right_long, n)))
 
-  pub done_stands : Finished w ⊎ Finished u → ZipStands a b g ended
+  pub done_stands : IsUsedUp w ⊎ IsUsedUp u → ZipStands a b g ended
   done_stands (inl f) = let d = done_left f in (d.0, inl d.1)
   done_stands (inr f) = let d = done_right f in (d.0, inr d.1)
 
@@ -177,10 +177,10 @@ open_keeps w u (a ∷ []) g f k = absurd k
 open_keeps w u (a ∷ b ∷ d ∷ ins) g f k = absurd k
 
 -- before anything came
-pub zip_new : (v : View) → length v.ins ≡ 2 → AllIdle v.ins → GaveAs (out_at v 0) unended → ZipLaw (waits nothing nothing) v (λ _. []) []
+pub zip_new : (v : View) → length v.ins ≡ 2 → AllIdle v.ins → GaveAs (out_at v 0) unended → ZipLaw (waits nothing_came nothing_came) v (λ _. []) []
 zip_new v two idle open_out =
-    let k : ZipKeeps (waits nothing nothing) (untouched 2) [] unended = (refl, (record { lefts = []; rights = []; left_is = refl; right_is = refl; even = refl; gave_is = refl; left_end = refl; right_end = refl }, (omega arith, omega arith))) in
-    new_ports (ZipKeeps (waits nothing nothing)) v idle open_out (rw two k)
+    let k : ZipKeeps (waits nothing_came nothing_came) (untouched 2) [] unended = (refl, (record { lefts = []; rights = []; left_is = refl; right_is = refl; even = refl; gave_is = refl; left_end = refl; right_end = refl }, (omega arith, omega arith))) in
+    new_ports (ZipKeeps (waits nothing_came nothing_came)) v idle open_out (rw two k)
 
 -- a call keeps the law
 pub zip_call : (call : Call) (old new : ZipHeld) (v : View) (took : ℕ → List Item) (gave : List Item) (acts : List Act) → CallAllowed call v → ActsAllowed (seen call v) acts → ZipTurnAt call old (given_on 0 acts) new

@@ -23,13 +23,13 @@ pub data FanHeld (S : Type 0) : Type 0 where
   shut : FanHeld S
 
 -- a state that serves each kind: the input whose turn it is, and how many more elements of its segment are to come
-pub record Place : Type 0 where
+pub record FanPlace : Type 0 where
   pub current : ℕ
   pub left : ℕ
 
 -- the elements without their inputs
-abbrev pub elements : List Tagged → List Tree
-elements l = map (λ x. x.item) l
+abbrev pub untagged : List Tagged → List Tree
+untagged l = map (λ x. x.item) l
 
 -- how many are of input n
 abbrev pub used : ℕ → List Tagged → ℕ
@@ -37,10 +37,10 @@ used n [] = 0
 used n (x ∷ l) = if x.port == n then suc (used n l) else used n l
 
 -- of each input from n on these used elements and then what waits are all that came, and what waits stands as the input does
-abbrev pub Uses : ℕ → List Tagged → List Inflow → List Inflow → Type 0
-Uses n l [] [] = ⊤
-Uses n l (w ∷ ws) (f ∷ fs) = ((used n l + length w.list ≡ length f.list) × (w.end ≡ f.end)) × Uses (n + 1) l ws fs
-Uses _ _ _ _ = ⊥
+abbrev pub UsesInputs : ℕ → List Tagged → List Inflow → List Inflow → Type 0
+UsesInputs n l [] [] = ⊤
+UsesInputs n l (w ∷ ws) (f ∷ fs) = ((used n l + length w.list ≡ length f.list) × (w.end ≡ f.end)) × UsesInputs (n + 1) l ws fs
+UsesInputs _ _ _ _ = ⊥
 
 -- no more than h wait at an input
 abbrev pub AllFew : ℕ → List Inflow → Type 0
@@ -56,14 +56,14 @@ module _ {S : Type 0} (k : Fan S) where
   -- came, and then the rest, is what is pushed and then what is given from the new state.
   pub record FanTurn (s : S) (waited : List Inflow) (out : List Item) (t : S) (waits_then : List Inflow) : Type 0 where
     pub given : List Tagged
-    pub out_is : out ≡ told (elements given) unended
-    pub uses : Uses 0 given waits_then waited
+    pub out_is : out ≡ told (untagged given) unended
+    pub uses : UsesInputs 0 given waits_then waited
     pub few : AllFew k.hold waits_then
     pub same : (more : ℕ → Inflow) → fan_gives s (joined_all 0 waited more) ≡ given ++ fan_gives t (joined_all 0 waits_then more)
 
   -- how it closes its output: every input has ended, and all that waited is given; or an input failed, and what waits is dropped
   pub data FanClose (s : S) (waited : List Inflow) (out : List Item) : Type 0 where
-    completes : IsTrue (all_end (map flow waited)) → out ≡ told (elements (fan_gives s waited)) ended → FanClose s waited out
+    completes : IsTrue (all_end (map flow waited)) → out ≡ told (untagged (fan_gives s waited)) ended → FanClose s waited out
     fails : (i : ℕ) (f : Inflow) (c : Cause) → slice_get waited i ≡ Some f → f.end ≡ failed c → length f.list ≤ k.hold → out ≡ item.Failed c ∷ [] → FanClose s waited out
 
   -- What a handler owes by its call: a cancel ends the stage; whatever else comes is a turn or closes the output. One that
@@ -78,8 +78,8 @@ module _ {S : Type 0} (k : Fan S) where
     -- for every rest of every input: what it gives in all is what it gave, and then what it gives from now on
     pub record FanKept (s : S) (ws : List Inflow) (ins : List Inflow) (g : List Tree) : Type 0 where
       pub given : List Tagged
-      pub gave_is : g ≡ elements given
-      pub uses : Uses 0 given ws ins
+      pub gave_is : g ≡ untagged given
+      pub uses : UsesInputs 0 given ws ins
       pub few : AllFew k.hold ws
       pub rest : (more : ℕ → Inflow) → fan_gives start (joined_all 0 ins more) ≡ given ++ fan_gives s (joined_all 0 ws more)
 

@@ -11,8 +11,8 @@ use Rattle.stage_law.specs.Held.{told}
 use Rattle.stage_law.specs.Law.{TookAs, GaveAs}
 
 -- nothing came
-abbrev pub nothing : Inflow
-nothing = record { list = []; end = unended }
+abbrev pub nothing_came : Inflow
+nothing_came = record { list = []; end = unended }
 
 -- one item came
 abbrev pub flow_of : Item → Inflow
@@ -37,15 +37,15 @@ joined_all n (f ∷ fs) more = joined f (more n) ∷ joined_all (n + 1) fs more
 
 -- what a call brings to input k
 abbrev pub coming : Call → ℕ → Inflow
-coming starts k = nothing
-coming (pulls j) k = nothing
-coming (arrives i b) k = if i == k then flow_of b else nothing
-coming (cancels j) k = nothing
+coming starts k = nothing_came
+coming (pulls j) k = nothing_came
+coming (arrives i b) k = if i == k then flow_of b else nothing_came
+coming (cancels j) k = nothing_came
 
 -- n inputs to which nothing came
 abbrev pub untouched : ℕ → List Inflow
 untouched zero = []
-untouched (suc n) = nothing ∷ untouched n
+untouched (suc n) = nothing_came ∷ untouched n
 
 -- The law of a stage with several inputs, at its one output: each input's history and the output's are a list and an end,
 -- which are as the stage knows of its ports. What these have to do with each other, `Keeps` says: that alone is a matter of

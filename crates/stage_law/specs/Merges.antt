@@ -11,7 +11,7 @@ use Rattle.port_core.specs.View.{View}
 use Rattle.port_core.specs.Call.{Call, cancels}
 use Rattle.stage_law.specs.Held.{told}
 use Rattle.stage_law.specs.Inflows.{joined_all, coming, PortsLaw}
-use Rattle.stage_law.specs.Fans.{elements}
+use Rattle.stage_law.specs.Fans.{untagged}
 
 -- between two calls: its moves, and what came to each input and did not go out yet; or its output is closed
 pub data MergeHeld : Type 0 where
@@ -41,7 +41,7 @@ SameEnds _ _ = ⊥
 -- by these moves g is what was given of these inputs, and the others wait
 pub record Merged (moves : List ℕ) (ins : List Inflow) (g : List Tree) (ws : List Inflow) : Type 0 where
   pub finds : Finds moves (lists_of ins)
-  pub gave : g ≡ elements (merge_of moves (lists_of ins))
+  pub gave : g ≡ untagged (merge_of moves (lists_of ins))
   pub left : left_by moves (lists_of ins) ≡ lists_of ws
   pub ends : SameEnds ws ins
 

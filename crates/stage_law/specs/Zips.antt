@@ -32,8 +32,8 @@ abbrev pub OneEach : Inflow → Inflow → Type 0
 OneEach w u = (length w.list ≤ 1) × (length u.list ≤ 1)
 
 -- an input has ended, and none of its elements waits
-abbrev pub Finished : Inflow → Type 0
-Finished w = (w.end ≡ ended) × (w.list ≡ [])
+abbrev pub IsUsedUp : Inflow → Type 0
+IsUsedUp w = (w.end ≡ ended) × (w.list ≡ [])
 
 -- an input failed, with at most one element that waits
 abbrev pub FailedWith : Cause → Inflow → Type 0
@@ -48,7 +48,7 @@ pub record ZipTurn (a b : Inflow) (out : List Item) (w u : Inflow) : Type 0 wher
 
 -- how it closes its output: it gives the last pairs, and an input has ended with none that waits; or an input failed, and what waits is dropped
 pub data ZipClose (a b : Inflow) (out : List Item) : Type 0 where
-  completes : (given : List Tree) (w u : Inflow) → Paired a b given w u → Finished w ⊎ Finished u → out ≡ told given ended → ZipClose a b out
+  completes : (given : List Tree) (w u : Inflow) → Paired a b given w u → IsUsedUp w ⊎ IsUsedUp u → out ≡ told given ended → ZipClose a b out
   fails : (c : Cause) → FailedWith c a ⊎ FailedWith c b → out ≡ item.Failed c ∷ [] → ZipClose a b out
 
 -- what a handler owes by its call; one that has closed its output is not called

@@ -18,13 +18,13 @@ ghost use Rattle.stream_model.specs.Machine.{State, Run, Machine, Stands, output
 ghost use Rattle.stage_law.specs.Held.{Held, owing, shut, gives, whole};
 ghost use Rattle.stage_law.specs.Turn.{TurnAt, ResidualAt};
 ghost use Rattle.stage_law.specs.Law.{TookAs, GaveAs, Law};
-ghost use Rattle.stage_law.specs.Inflows.{nothing, joined, joined_all, untouched};
+ghost use Rattle.stage_law.specs.Inflows.{nothing_came, joined, joined_all, untouched};
 ghost use Rattle.stage_law.specs.Merges as merge;
 ghost use Rattle.stage_law.specs.Merges.{MergeHeld, Merged, MergeTurnAt, MergeLaw, lists_of, moves_of};
 ghost use Rattle.stage_law.specs.Outs.{Outlet, OutsLaw, TurnsAt, owe};
 ghost use Rattle.stage_law.specs.Zips as zip;
 ghost use Rattle.stage_law.specs.Zips.{ZipHeld, Paired, ZipTurnAt, ZipLaw, ZipStandsOf};
-ghost use Rattle.stage_law.specs.Fans.{Fan, FanHeld, waits, Place, elements, fan_gives, FanTurnAt, FanLaw};
+ghost use Rattle.stage_law.specs.Fans.{Fan, FanHeld, waits, FanPlace, untagged, fan_gives, FanTurnAt, FanLaw};
 ghost use Rattle.stage_law.specs.OwnPorts.{OwnRests};
 
 /// One step of the machine is the residual law: what is pushed, and then what the stage gives from now on, is what it gave
@@ -59,18 +59,18 @@ pub fn a_stage_that_waits_rests()
 /// call keeps it, once the call's actions are done; and then, for every rest and every end of each input, what it gives in
 /// all is what it gave and what it gives from now on, and what it gave is what such a stage may have given.
 pub fn fans_keep_the_law()
-    ensures new { (k : Fan Place) (start : Place) (v : View) → AllIdle v.ins → GaveAs (out_at v 0) unended → FanLaw k start (waits start (untouched (length v.ins))) v (λ _. []) [] }
-    ensures call { (k : Fan Place) (start : Place) (call : Call) (old new : FanHeld Place) (v : View) (took : ℕ → List Item) (gave : List Item) (acts : List Act)
+    ensures new { (k : Fan FanPlace) (start : FanPlace) (v : View) → AllIdle v.ins → GaveAs (out_at v 0) unended → FanLaw k start (waits start (untouched (length v.ins))) v (λ _. []) [] }
+    ensures call { (k : Fan FanPlace) (start : FanPlace) (call : Call) (old new : FanHeld FanPlace) (v : View) (took : ℕ → List Item) (gave : List Item) (acts : List Act)
         → CallAllowed call v → ActsAllowed (seen call v) acts → FanTurnAt k call old (given_on 0 acts) new → FanLaw k start old v took gave
         → FanLaw k start new (acted_all (seen call v) acts) (λ i. took i ++ brought_to i call) (gave ++ given_on 0 acts) }
-    ensures rest { (k : Fan Place) (start s : Place) (ws : List Inflow) (v : View) (took : ℕ → List Item) (gave : List Item) → (law : FanLaw k start (waits s ws) v took gave)
-        → (more : ℕ → Inflow) → elements (fan_gives k start (joined_all 0 law.ins more)) ≡ law.out_list ++ elements (fan_gives k s (joined_all 0 ws more)) }
-    ensures stands { (k : Fan Place) (start : Place) (x : FanHeld Place) (v : View) (took : ℕ → List Item) (gave : List Item) → (law : FanLaw k start x v took gave) → FanStands k.hold (k.from start) law.ins law.out_list law.out_end }
+    ensures rest { (k : Fan FanPlace) (start s : FanPlace) (ws : List Inflow) (v : View) (took : ℕ → List Item) (gave : List Item) → (law : FanLaw k start (waits s ws) v took gave)
+        → (more : ℕ → Inflow) → untagged (fan_gives k start (joined_all 0 law.ins more)) ≡ law.out_list ++ untagged (fan_gives k s (joined_all 0 ws more)) }
+    ensures stands { (k : Fan FanPlace) (start : FanPlace) (x : FanHeld FanPlace) (v : View) (took : ℕ → List Item) (gave : List Item) → (law : FanLaw k start x v took gave) → FanStands k.hold (k.from start) law.ins law.out_list law.out_end }
 {}
 
 /// The same of a zip: for every rest of its inputs, all pairs are those that it gave and those of what waits with the rest.
 pub fn zips_keep_the_law()
-    ensures new { (v : View) → length v.ins ≡ 2 → AllIdle v.ins → GaveAs (out_at v 0) unended → ZipLaw (zip.waits nothing nothing) v (λ _. []) [] }
+    ensures new { (v : View) → length v.ins ≡ 2 → AllIdle v.ins → GaveAs (out_at v 0) unended → ZipLaw (zip.waits nothing_came nothing_came) v (λ _. []) [] }
     ensures call { (call : Call) (old new : ZipHeld) (v : View) (took : ℕ → List Item) (gave : List Item) (acts : List Act)
         → CallAllowed call v → ActsAllowed (seen call v) acts → ZipTurnAt call old (given_on 0 acts) new → ZipLaw old v took gave
         → ZipLaw new (acted_all (seen call v) acts) (λ i. took i ++ brought_to i call) (gave ++ given_on 0 acts) }
@@ -86,7 +86,7 @@ pub fn merges_keep_the_law()
         → CallAllowed call v → ActsAllowed (seen call v) acts → MergeTurnAt call old (given_on 0 acts) new → MergeLaw old v took gave
         → MergeLaw new (acted_all (seen call v) acts) (λ i. took i ++ brought_to i call) (gave ++ given_on 0 acts) }
     ensures rest { (moves : List ℕ) (ins ws : List Inflow) (g : List Tree) → Merged moves ins g ws → (more : ℕ → Inflow) (further : List ℕ)
-        → elements (merge_of (moves ++ further) (lists_of (joined_all 0 ins more))) ≡ g ++ elements (merge_of further (lists_of (joined_all 0 ws more))) }
+        → untagged (merge_of (moves ++ further) (lists_of (joined_all 0 ins more))) ≡ g ++ untagged (merge_of further (lists_of (joined_all 0 ws more))) }
     ensures stands { (x : MergeHeld) (v : View) (took : ℕ → List Item) (gave : List Item) → (law : MergeLaw x v took gave) → MergeStands (moves_of x) law.ins law.out_list law.out_end }
 {}
 

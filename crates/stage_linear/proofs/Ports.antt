@@ -22,7 +22,7 @@ use Rattle.stage_linear.specs.Tasks.{HasMore, Spreads, ReactedBy}
 use Rattle.stage_linear.specs.Plugs.{StaysOn}
 use Rattle.port_core.specs.declared.act.Act.{Act}
 use Rattle.stage_linear.specs.Outcomes.{working, answered, answer_acts, CameTo}
-use Rattle.stage_linear.specs.Pending.{closed_by, closed_acts, given_on_from, last_acts, StaysReady}
+use Rattle.stage_linear.specs.Pending.{ended_by, closed_acts, given_on_from, last_acts, StaysReady}
 use Rattle.stage_linear.specs.States.{Logic, port_state, port_state_in, MayHold}
 use Rattle.stage_linear.proofs.Pushes.{Waits}
 use Rattle.stage_linear.proofs.States.{of_parts, readied, of_logic}
@@ -191,7 +191,7 @@ ends_spread book s (plugged name taken) u us h e = (refl, refl)
 
 module _ (book : Book) (s : Stage) (b c : Bool) where
   abbrev EndedAt : Course → Finish Tree → InView → OutView → Type 0
-  EndedAt r f x y = ActsAllowed (seen (arrives 0 item.Ended) (ports x y)) (closed_acts (of_parts s r b []) f) × port_state (readied (closed_by (of_parts s r b []) f) c) (acted_all (seen (arrives 0 item.Ended) (ports x y)) (closed_acts (of_parts s r b []) f))
+  EndedAt r f x y = ActsAllowed (seen (arrives 0 item.Ended) (ports x y)) (closed_acts (of_parts s r b []) f) × port_state (readied (ended_by (of_parts s r b []) f) c) (acted_all (seen (arrives 0 item.Ended) (ports x y)) (closed_acts (of_parts s r b []) f))
 
   asked_at : (f : Finish Tree) → finish_of book s s.work ≡ f → HasMore s.work → EndedAt course.Waits f Pulled outlet.Available
   asked_at (adds []) is h = ((tt, tt), tt)
@@ -245,18 +245,18 @@ module _ (book : Book) (s : Stage) (b c : Bool) where
   ended_ports course.Ends Cancelled y h = absurd h
 
   ended_in : (r : Course) (xs : List InView) (ys : List OutView) → OneOneOf (port_state_in Open r [] s.work b) xs ys
-      → ActsAllowed (seen (arrives 0 item.Ended) (record { ins = xs; outs = ys })) (closed_acts (of_parts s r b []) last) × port_state (readied (closed_by (of_parts s r b []) last) c) (acted_all (seen (arrives 0 item.Ended) (record { ins = xs; outs = ys })) (closed_acts (of_parts s r b []) last))
+      → ActsAllowed (seen (arrives 0 item.Ended) (record { ins = xs; outs = ys })) (closed_acts (of_parts s r b []) last) × port_state (readied (ended_by (of_parts s r b []) last) c) (acted_all (seen (arrives 0 item.Ended) (record { ins = xs; outs = ys })) (closed_acts (of_parts s r b []) last))
   ended_in r (x ∷ []) (y ∷ []) h = ended_ports r x y h
   ended_in r [] ys h = absurd h
   ended_in r (x ∷ []) [] h = absurd h
   ended_in r (x ∷ []) (y ∷ z ∷ ys) h = absurd h
   ended_in r (x ∷ w ∷ xs) ys h = absurd h
 
-  pub ended_parts : (r : Course) → Obeys (arrives 0 item.Ended) (port_state (of_parts s r b [])) (port_state (readied (closed_by (of_parts s r b []) last) c)) (closed_acts (of_parts s r b []) last)
+  pub ended_parts : (r : Course) → Obeys (arrives 0 item.Ended) (port_state (of_parts s r b [])) (port_state (readied (ended_by (of_parts s r b []) last) c)) (closed_acts (of_parts s r b []) last)
   ended_parts r = record { allowed = λ v _ h. (ended_in r v.ins v.outs h).0; row = λ v _ h. (ended_in r v.ins v.outs h).1 }
 
 pub ended_obeys : (book : Book) (l : Logic) (c : Bool) → l.phase ≡ Open → l.pending ≡ []
-    → Obeys (arrives 0 item.Ended) (port_state l) (port_state (readied (closed_by l (finish_of book l.stage l.stage.work)) c)) (closed_acts l (finish_of book l.stage l.stage.work))
+    → Obeys (arrives 0 item.Ended) (port_state l) (port_state (readied (ended_by l (finish_of book l.stage l.stage.work)) c)) (closed_acts l (finish_of book l.stage l.stage.work))
 ended_obeys book l c h none =
-    subst (λ (x : Logic). Obeys (arrives 0 item.Ended) (port_state x) (port_state (readied (closed_by x (finish_of book x.stage x.stage.work)) c)) (closed_acts x (finish_of book x.stage x.stage.work))) (sym (of_logic l l.course [] h refl none))
+    subst (λ (x : Logic). Obeys (arrives 0 item.Ended) (port_state x) (port_state (readied (ended_by x (finish_of book x.stage x.stage.work)) c)) (closed_acts x (finish_of book x.stage x.stage.work))) (sym (of_logic l l.course [] h refl none))
     (ended_parts book l.stage l.ready c l.course)

@@ -52,9 +52,9 @@ ended_acts Waits (t ∷ []) = Push 0 t ∷ Complete 0 ∷ []
 ended_acts Waits (t ∷ u ∷ l) = Push 0 t ∷ []
 ended_acts _ (t ∷ l) = []
 
-abbrev pub closed_by : Logic → Finish Tree → Logic
-closed_by l (adds us) = ended_with l l.course us
-closed_by l (refuses c) = record l { phase = Closed }
+abbrev pub ended_by : Logic → Finish Tree → Logic
+ended_by l (adds us) = ended_with l l.course us
+ended_by l (refuses c) = record l { phase = Closed }
 
 abbrev pub closed_acts : Logic → Finish Tree → List Act
 closed_acts l (adds us) = ended_acts l.course us
@@ -65,7 +65,7 @@ closed_acts l (refuses c) = FailOut 0 c ∷ []
 -- it is done with the last, and this is what its input's end adds then
 abbrev pub behind_last : Logic → Course → Finish Tree → Logic
 behind_last l Leaves f = record l { phase = Closed }
-behind_last l Closes f = closed_by l f
+behind_last l Closes f = ended_by l f
 behind_last l Ends f = record l { phase = Closed }
 behind_last l _ f = l
 

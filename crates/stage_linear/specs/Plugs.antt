@@ -21,8 +21,8 @@ pub record PlugState : Type 0 where
   pub running : Bool
 
 -- While it goes on, its logic gives what the book lists of its name, behind what it took.
-abbrev pub Follows : Book → List ℕ → List Tree → Bool → Gives → Type 0
-Follows b name taken on p = on ≡ true → Is p taken (listed b name)
+abbrev pub FollowsBook : Book → List ℕ → List Tree → Bool → Gives → Type 0
+FollowsBook b name taken on p = on ≡ true → Is p taken (listed b name)
 
 abbrev pub plug_work : PlugState → Work
 plug_work s = plugged s.name s.taken
@@ -39,6 +39,6 @@ StaysOn on (outcome.Blames why) = on ≡ true
 StaysOn on (outcome.Fails why) = ⊤
 
 -- what came of the end of the input of a stage of this work: its last outputs, or that it fails
-abbrev pub EndsAs : Book → Work → LinearEnd → Type 0
-EndsAs b w (last.Adds us) = (s : Stage) → finish_of b s w ≡ adds us
-EndsAs b w (last.Refuses why) = (s : Stage) → finish_of b s w ≡ refuses (blame_end s why)
+abbrev pub WorkEndsAs : Book → Work → LinearEnd → Type 0
+WorkEndsAs b w (last.Adds us) = (s : Stage) → finish_of b s w ≡ adds us
+WorkEndsAs b w (last.Refuses why) = (s : Stage) → finish_of b s w ≡ refuses (blame_end s why)

@@ -59,22 +59,22 @@ abbrev pub MayHold : Work → List Tree → Type 0
 MayHold w p = (p ≡ []) ⊎ Spreads w
 
 -- it may take one more element
-abbrev pub Takes : Work → Bool → Type 0
-Takes w r = HasMore w × (r ≡ true)
+abbrev pub MayTake : Work → Bool → Type 0
+MayTake w r = HasMore w × (r ≡ true)
 
 -- it holds something
-abbrev pub Keeps : Work → List Tree → Type 0
-Keeps w p = (0 < length p) × Spreads w
+abbrev pub HoldsSomething : Work → List Tree → Type 0
+HoldsSomething w p = (0 < length p) × Spreads w
 
 -- Its row: before its start nobody asked; then it asks where its output is asked and nothing is held; where it is done, or its
 -- input has ended, it holds something; or all is closed.
 abbrev pub port_state_in : Phase → Course → List Tree → Work → Bool → InView → OutView → Type 0
 port_state_in New c p w r Idle Unpulled = r ≡ true
-port_state_in Open Waits p w r Pulled Available = (p ≡ []) × Takes w r
-port_state_in Open Idles p w r Idle Unpulled = MayHold w p × Takes w r
-port_state_in Open Leaves p w r Idle Unpulled = Keeps w p
-port_state_in Open Closes p w r Finished Unpulled = Keeps w p × (r ≡ true)
-port_state_in Open Ends p w r Finished Unpulled = Keeps w p
+port_state_in Open Waits p w r Pulled Available = (p ≡ []) × MayTake w r
+port_state_in Open Idles p w r Idle Unpulled = MayHold w p × MayTake w r
+port_state_in Open Leaves p w r Idle Unpulled = HoldsSomething w p
+port_state_in Open Closes p w r Finished Unpulled = HoldsSomething w p × (r ≡ true)
+port_state_in Open Ends p w r Finished Unpulled = HoldsSomething w p
 port_state_in Closed c p w r i o = BothClosed i o
 port_state_in _ _ _ _ _ _ _ = ⊥
 

@@ -9,7 +9,7 @@ ghost use Rattle.stream_model.specs.declared.kind.Kind.TheVariants as kind;
 ghost use Rattle.stage_linear.specs.declared.course.Course.TheVariants as course;
 ghost use Rattle.stage_linear.specs.Outcomes.{answered, answer_acts, CameTo};
 ghost use Rattle.stage_linear.specs.Plugs.{Is};
-ghost use Rattle.stage_linear.specs.Pending.{spread, first_acts, leaving, leaving_acts, ended_with, ended_acts, closed_by, closed_acts, given_on_from, last_acts, behind_last, behind_last_acts, StaysReady};
+ghost use Rattle.stage_linear.specs.Pending.{spread, first_acts, leaving, leaving_acts, ended_with, ended_acts, ended_by, closed_acts, given_on_from, last_acts, behind_last, behind_last_acts, StaysReady};
 ghost use Rattle.stage_linear.specs.Tasks.{HasMore, outcome_of};
 ghost use Rattle.stage_linear.specs.States.{Begins, port_state, Turned, HasTask, counted, skipped, decided_by, decided_acts, failing_acts};
 
@@ -485,7 +485,7 @@ impl<L: Logic, B: PlugBook> LinearLogic<L, B> {
     fn close_input(&mut self, alloc: Global, acts: &mut Acts) -> Result<(), NoMemory>
         requires ready { self.old.ready ≡ true }
         requires room { length acts.old.items + 3 ≤ acts.old.room }
-        ensures stage { OnOk result (self.new ≡ record (closed_by self.old (finish_of B.lists self.old.stage self.old.stage.work)) { ready = self.new.ready }) }
+        ensures stage { OnOk result (self.new ≡ record (ended_by self.old (finish_of B.lists self.old.stage self.old.stage.work)) { ready = self.new.ready }) }
         ensures acts { OnOk result (acts.new ≡ record acts.old { items = acts.old.items ++ closed_acts self.old (finish_of B.lists self.old.stage self.old.stage.work) }) }
         ensures room { acts.new.room ≡ acts.old.room }
     {

@@ -1,7 +1,7 @@
 ghost use Rattle.std.specs.Prelude.{◌≡◌, [], true, IfOk};
 ghost use Rattle.plug_logic.specs.Gives.{listed};
 ghost use Rattle.stage_linear.specs.Tasks.{ReactedBy};
-ghost use Rattle.stage_linear.specs.Plugs.{Is, plug_work, StaysOn, EndsAs};
+ghost use Rattle.stage_linear.specs.Plugs.{Is, plug_work, StaysOn, WorkEndsAs};
 
 use crate::task::{LinearEnd, LinearReaction};
 use elem_core::elem::Elem;
@@ -27,7 +27,7 @@ pub struct PlugTask<L: Logic, B: PlugBook> {
 impl<L: Logic, B: PlugBook> Model for PlugTask<L, B> {
     ghost use Rattle.std.specs.Coded.{codes};
     ghost use Rattle.elem_core.specs.TreeCode.{tree_coded};
-    ghost use Rattle.stage_linear.specs.Plugs.{PlugState, Follows};
+    ghost use Rattle.stage_linear.specs.Plugs.{PlugState, FollowsBook};
 
     ghost Value = { PlugState };
 
@@ -35,7 +35,7 @@ impl<L: Logic, B: PlugBook> Model for PlugTask<L, B> {
 
     ghost view = { λ p. record { name = p.name; taken = p.taken.items; running = p.running } };
 
-    ghost invariant = { λ p. Follows B.lists p.name p.taken.items p.running (L.gives p.logic) };
+    ghost invariant = { λ p. FollowsBook B.lists p.name p.taken.items p.running (L.gives p.logic) };
 }
 
 impl<L: Logic, B: PlugBook> PlugTask<L, B> {
@@ -83,7 +83,7 @@ impl<L: Logic, B: PlugBook> PlugTask<L, B> {
     /// The end of the input. It is not to be called any more.
     pub fn end(&mut self, alloc: Global) -> Result<LinearEnd, NoMemory>
         requires { self.old.running ≡ true }
-        ensures last { IfOk result (EndsAs B.lists (plug_work self.old)) }
+        ensures last { IfOk result (WorkEndsAs B.lists (plug_work self.old)) }
         ensures work { plug_work self.new ≡ plug_work self.old }
     {
         let mut out = Elems::new(alloc);

@@ -1,6 +1,6 @@
 ghost use Rattle.std.specs.Prelude.{◌≡◌, [], IfOk, IfSome, IfNone};
 ghost use Rattle.stage_linear.specs.Tasks.{HasMore, ReactedBy, outcome_of};
-ghost use Rattle.stage_linear.specs.Plugs.{EndsAs};
+ghost use Rattle.stage_linear.specs.Plugs.{WorkEndsAs};
 ghost use Rattle.stage_linear.specs.Workers.{work_by, CanTake, GoesOnReady};
 
 use crate::plug::PlugTask;
@@ -54,7 +54,7 @@ impl<L: Logic, B: PlugBook> Worker<L, B> {
     /// The end of the input: what it gives then. A task gives nothing, and takes no memory.
     pub fn end(&mut self, alloc: Global) -> Result<LinearEnd, NoMemory>
         requires ready { CanTake self.old }
-        ensures last { IfOk result (EndsAs B.lists (work_by self.old)) }
+        ensures last { IfOk result (WorkEndsAs B.lists (work_by self.old)) }
         ensures work { work_by self.new ≡ work_by self.old }
     {
         match self {

@@ -8,17 +8,17 @@ use Rattle.port_core.specs.View as port
 use Rattle.stream_model.specs.FanIn.{Inflow}
 use Rattle.stream_picture.specs.View.{EachWire, SomeWire}
 use Rattle.stream_picture.specs.Rests.{IsShut, Waits, WaitsIdlesOrShut, MergeRests}
-use Rattle.stage_law.specs.Inflows.{nothing, untouched}
+use Rattle.stage_law.specs.Inflows.{nothing_came, untouched}
 use Rattle.stage_law.specs.OwnPorts.{own_input, own_output}
 use Rattle.stage_core.specs.declared.phase.Phase.{Phase}
 use Rattle.stage_core.specs.declared.phase.Phase.TheVariants.{New, Open, Closed}
 use Rattle.stage_merge.specs.declared.merging.Queued.{Queued}
 use Rattle.stage_fans.specs.Seats.{wish}
 use Rattle.stage_fans.specs.OwnRows.{own_inputs, FanRests}
-use Rattle.stage_merge.specs.Mergings.{Core, Merging, Begins, of_port, place, places, idles, waiting, open_count, Sound, Fresh, port_state_by, port_state}
+use Rattle.stage_merge.specs.Mergings.{Core, Merging, Begins, of_port, input_view, places, idles, waiting, open_count, Sound, Fresh, port_state_by, port_state}
 use Rattle.stage_fans.proofs.Closings.{closed_rests}
 
-place_any : (b : Bool) (l u : List Tree) → WaitsIdlesOrShut (own_input (place b l) u)
+place_any : (b : Bool) (l u : List Tree) → WaitsIdlesOrShut (own_input (input_view b l) u)
 place_any true l u = inr (inr refl)
 place_any false [] u = inl (refl, refl)
 place_any false (t ∷ l) u = inr (inl (inr (refl, refl)))
@@ -69,7 +69,7 @@ all_open (suc k) = ap suc (all_open k)
 
 pub none_waits : (n k : ℕ) → waiting n (replicate k false) [] ≡ untouched k
 none_waits n zero = refl
-none_waits n (suc k) = ap (λ (fs : List Inflow). nothing ∷ fs) (none_waits (n + 1) k)
+none_waits n (suc k) = ap (λ (fs : List Inflow). nothing_came ∷ fs) (none_waits (n + 1) k)
 
 abbrev begun : ℕ → Core
 begun k = record { phase = New; over = replicate k false; queue = []; room = k; asked = false; left = k }

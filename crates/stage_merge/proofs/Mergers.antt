@@ -21,12 +21,12 @@ use Rattle.stream_model.specs.FanIn.{Inflow, flow}
 use Rattle.stream_model.specs.Picks.{used_up}
 use Rattle.stage_law.specs.Inflows.{joined_all, coming}
 use Rattle.stage_law.specs.Merges.{MergeHeld, waits, shut, MergeTurn, MergeClose, completes, fails, MergeTurnAt}
-use Rattle.stage_law.proofs.Inflows.{joined_all-nothing}
+use Rattle.stage_law.proofs.Inflows.{joined_all-nothing_came}
 use Rattle.stage_core.specs.declared.phase.Phase.{Phase}
 use Rattle.stage_core.specs.declared.phase.Phase.TheVariants.{New, Open, Closed}
 use Rattle.stage_merge.specs.declared.merging.Queued.{Queued}
 use Rattle.stage_fans.specs.Seats.{wish, open_cancels, InsClosed, OneClosed, FanClosed}
-use Rattle.stage_merge.specs.Mergings.{Core, Merging, of_port, waiting, place, places, idles, pull_acts, open_count, PortsThere, view_of, new_view, Sound, Fresh, port_state_by, port_state, held_by, held, Turned, Does, Ends, done, opens, more, Again, over, still, HandedOn, Gave, first, none, Took, passed, stored, without, Ended, FirstOut, LastIn}
+use Rattle.stage_merge.specs.Mergings.{Core, Merging, of_port, waiting, input_view, places, idles, pull_acts, open_count, PortsThere, view_of, new_view, Sound, Fresh, port_state_by, port_state, held_by, held, Turned, Does, EndsIfDone, done, opens, more, Again, over, still, HandedOn, Gave, first, none, Took, passed, stored, without, Ended, FirstOut, LastIn}
 use Rattle.stage_fans.proofs.Closings.{open_wish, unasked_wish, Cancels, set_behind, at_behind, ins_append, cancels_give, cancels_stand}
 use Rattle.stage_merge.proofs.Fewer.{fewer}
 use Rattle.stage_merge.proofs.Merges.{queued, AllOver, out_merged, none_merged, used_none, used_one, ended_place, open_place, over_closed, came_now, ended_now, stored_now, released_now, idle_now, gone_now, failed_now, none_now, here_now, only_head, tail_once, stored_once, there_stored, there_by, one_less, none_open}
@@ -164,7 +164,7 @@ module _ (i : ℕ) (t : Tree) (l : Core) (moves : List ℕ) (now : Picks) (now_i
         grows = now_is;
       }
 
-  ended_by : (new : Merging) (acts : List Act) → slice_get l.over i ≡ Some true → Ends (Push 0 t ∷ []) to new acts → At before moves waited new acts
+  ended_by : (new : Merging) (acts : List Act) → slice_get l.over i ≡ Some true → EndsIfDone (Push 0 t ∷ []) to new acts → At before moves waited new acts
   ended_by new acts h (done a b to_is acts_are) = rw (to_is, acts_are) (again_done a b)
   ended_by new acts h (opens a to_is acts_are) = rw (to_is, acts_are) (again_over h (λ e. a))
   ended_by new acts h (more a to_is acts_are) = rw (to_is, acts_are) (again_over h (λ e. absurd (a e)))
@@ -198,14 +198,14 @@ module _ (old : Merging) (h : old.core.phase ≡ Open) where
       ends_ok (pulls 0) to [] refl (asked_turn old.log.moves ws []) (record {
         allowed = tt;
         row_then = is_open to.core (seen (pulls 0) (view_of old.core)) h refl s;
-        turn = subst (λ w. Then old.log.moves w [] (held to)) (sym (joined_all-nothing 0 ws)) q2;
+        turn = subst (λ w. Then old.log.moves w [] (held to)) (sym (joined_all-nothing_came 0 ws)) q2;
         stands = tt;
         started = not_new h;
         more = [];
         grows = grown;
       })
 
-  ends_long : (b : List Act) (mid new : Merging) (acts : List Act) → Ends b mid new acts → length new.core.over ≡ length mid.core.over
+  ends_long : (b : List Act) (mid new : Merging) (acts : List Act) → EndsIfDone b mid new acts → length new.core.over ≡ length mid.core.over
   ends_long b mid new acts (done x y to_is z) = ap (λ (m : Merging). length m.core.over) to_is
   ends_long b mid new acts (opens x to_is z) = ap (λ (m : Merging). length m.core.over) to_is
   ends_long b mid new acts (more x to_is z) = ap (λ (m : Merging). length m.core.over) to_is
@@ -227,7 +227,7 @@ module _ (old : Merging) (h : old.core.phase ≡ Open) where
       subst (λ (qs : List Queued). At (record { ins = places 0 old.core.over qs; outs = outlet.Available ∷ [] }) old.log.moves (waiting 0 old.core.over qs) new acts) (sym is) a in
       ends_ok (pulls 0) new acts (again_long x.port (Push 0 x.item ∷ []) (record { log = handed.log; core = l }) new acts handed.again)
       (asked_turn old.log.moves (waiting 0 old.core.over old.core.queue) (given_on 0 acts))
-      (subst (λ w. At (seen (pulls 0) (view_of old.core)) old.log.moves w new acts) (sym (joined_all-nothing 0 (waiting 0 old.core.over old.core.queue))) b)
+      (subst (λ w. At (seen (pulls 0) (view_of old.core)) old.log.moves w new acts) (sym (joined_all-nothing_came 0 (waiting 0 old.core.over old.core.queue))) b)
 
   -- ---- an element came
 
@@ -315,7 +315,7 @@ queue_there old h m = (found (pulls 0) old h m).sound.there
 
 -- ---- all that are open are cancelled
 
-open_free : (l : List Tree) → IsInOpen (place false l)
+open_free : (l : List Tree) → IsInOpen (input_view false l)
 open_free [] = tt
 open_free (t ∷ l) = tt
 
@@ -327,7 +327,7 @@ cancels_from (true ∷ bs) q n before outs h k =
     rw e (cancels_from bs q (n + 1) (before ++ Finished ∷ []) outs (let l = length-append before (Finished ∷ []) in omega (arith, l, h)) (ins_append before (Finished ∷ []) k (tt, tt)))
 cancels_from (false ∷ bs) q n before outs h k =
     let rest = places (n + 1) bs q in
-    let x = place false (of_port n q) in
+    let x = input_view false (of_port n q) in
     let e : slice_set (before ++ x ∷ rest) n Cancelled ≡ (before ++ Cancelled ∷ []) ++ rest = set_behind before rest x Cancelled n h ∙ sym (append_assoc before (Cancelled ∷ []) rest) in
     let at : slice_index_or (before ++ x ∷ rest) n Cancelled ≡ x = at_behind before rest x n h in
     let r = cancels_from bs q (n + 1) (before ++ Cancelled ∷ []) outs (let l = length-append before (Cancelled ∷ []) in omega (arith, l, h)) (ins_append before (Cancelled ∷ []) k (tt, tt)) in
@@ -419,7 +419,7 @@ module _ (old : Merging) (i : ℕ) (h : old.core.phase ≡ Open) (sound : Sound 
         grows = sym (append-nil old.log.moves);
       })
 
-  end_by : (new : Merging) (acts : List Act) → Ends [] (without i old) new acts → Handled (arrives i item.Ended) old acts new
+  end_by : (new : Merging) (acts : List Act) → EndsIfDone [] (without i old) new acts → Handled (arrives i item.Ended) old acts new
   end_by new acts (done a b to_is acts_are) = rw (to_is, acts_are) (end_done a b)
   end_by new acts (opens a to_is acts_are) = rw (to_is, acts_are) (end_kept (λ e. a))
   end_by new acts (more a to_is acts_are) = rw (to_is, acts_are) (end_kept (λ e. absurd (a e)))
@@ -485,7 +485,7 @@ started old new acts h m does =
         row = λ w may x. let y = subst (λ f. port_state_by f old.core w) h x in subst (λ u. port_state to (acted_all u (pull_acts 0 old.core.over))) (sym y.0) (v, s);
       };
       gives = record {
-        turn = rw (h, pulls_give 0 old.core.over) (subst (λ w. MergeTurn old.log.moves w [] old.log.moves ws) (sym (joined_all-nothing 0 ws)) (quiet old.log.moves old.core.over old.core.queue));
+        turn = rw (h, pulls_give 0 old.core.over) (subst (λ w. MergeTurn old.log.moves w [] old.log.moves ws) (sym (joined_all-nothing_came 0 ws)) (quiet old.log.moves old.core.over old.core.queue));
         inputs = refl;
         stands = pulls_stand 0 old.core.over;
         started = λ e. cc;
@@ -517,7 +517,7 @@ fits old mid i t h m is =
 
 -- ---- the order
 
-ends_queue : (b : List Act) (mid new : Merging) (acts : List Act) → Ends b mid new acts → (new.core.queue ≡ mid.core.queue) × (new.log ≡ mid.log)
+ends_queue : (b : List Act) (mid new : Merging) (acts : List Act) → EndsIfDone b mid new acts → (new.core.queue ≡ mid.core.queue) × (new.log ≡ mid.log)
 ends_queue b mid new acts (done x y is z) = (ap (λ (m : Merging). m.core.queue) is, ap (λ (m : Merging). m.log) is)
 ends_queue b mid new acts (opens x is z) = (ap (λ (m : Merging). m.core.queue) is, ap (λ (m : Merging). m.log) is)
 ends_queue b mid new acts (more x is z) = (ap (λ (m : Merging). m.core.queue) is, ap (λ (m : Merging). m.log) is)

@@ -14,10 +14,10 @@ use Rattle.stream_model.specs.FanIn.{Inflow, flow}
 use Rattle.stream_model.specs.Picks.{used_up, FailsWithin}
 use Rattle.stage_law.specs.Inflows.{joined_all, coming}
 use Rattle.stage_law.specs.Merges.{SameEnds, Merged, lists_of}
-use Rattle.stage_law.proofs.Inflows.{joined-nothing}
+use Rattle.stage_law.proofs.Inflows.{joined-nothing_came}
 use Rattle.stage_merge.specs.declared.merging.Queued.{Queued}
 use Rattle.stage_fans.specs.Seats.{end_by, InsClosed}
-use Rattle.stage_merge.specs.Mergings.{of_port, waiting, place, places, open_count, PortsThere}
+use Rattle.stage_merge.specs.Mergings.{of_port, waiting, input_view, places, open_count, PortsThere}
 use Rattle.stage_fans.proofs.Flags.{same, other}
 use Rattle.stage_fans.proofs.Arrivals.{not_here}
 
@@ -55,8 +55,8 @@ waiting_same n (b ∷ over) q r h =
 places_same : (n : ℕ) (over : List Bool) (q r : List Queued) → ((m : ℕ) → n ≤ m → of_port m q ≡ of_port m r) → places n over q ≡ places n over r
 places_same n [] q r h = refl
 places_same n (b ∷ over) q r h =
-    ap (λ (l : List Tree). place b l ∷ places (n + 1) over q) (h n (omega arith))
-    ∙ ap (λ (xs : List InView). place b (of_port n r) ∷ xs) (places_same (n + 1) over q r (λ m k. h m (omega (arith, k))))
+    ap (λ (l : List Tree). input_view b l ∷ places (n + 1) over q) (h n (omega arith))
+    ∙ ap (λ (xs : List InView). input_view b (of_port n r) ∷ xs) (places_same (n + 1) over q r (λ m k. h m (omega (arith, k))))
 
 -- ---- what comes
 
@@ -77,7 +77,7 @@ came_stored n (suc j) t (b ∷ over) q h =
     let f : Inflow = record { list = of_port n q; end = end_by b } in
     let here : of_port n (q ++ queued (n + suc j) t ∷ []) ≡ of_port n q = last_away n (n + suc j) t q (λ e. absurd (omega (arith, e))) in
     let r = came_stored (n + 1) j t over q h in
-    rw (x, here) (ap (λ (g : Inflow). g ∷ joined_all (n + 1) (waiting (n + 1) over q) (coming (arrives (n + suc j) (item.Elem t)))) (joined-nothing f)
+    rw (x, here) (ap (λ (g : Inflow). g ∷ joined_all (n + 1) (waiting (n + 1) over q) (coming (arrives (n + suc j) (item.Elem t)))) (joined-nothing_came f)
     ∙ rw e (ap (λ (fs : List Inflow). f ∷ fs) r))
 
 came_over : (n j : ℕ) (over : List Bool) (q : List Queued) → slice_get over j ≡ Some false
@@ -94,7 +94,7 @@ came_over n (suc j) (b ∷ over) q h =
     let e : n + suc j ≡ n + 1 + j = omega arith in
     let f : Inflow = record { list = of_port n q; end = end_by b } in
     let r = came_over (n + 1) j over q h in
-    rw x (ap (λ (g : Inflow). g ∷ joined_all (n + 1) (waiting (n + 1) over q) (coming (arrives (n + suc j) item.Ended))) (joined-nothing f)
+    rw x (ap (λ (g : Inflow). g ∷ joined_all (n + 1) (waiting (n + 1) over q) (coming (arrives (n + suc j) item.Ended))) (joined-nothing_came f)
     ∙ rw e (ap (λ (fs : List Inflow). f ∷ fs) r))
 
 came_failed : (n j : ℕ) (c : Cause) (over : List Bool) (q : List Queued) → slice_get over j ≡ Some false → length (of_port (n + j) q) ≤ 1
@@ -184,13 +184,13 @@ stored_place n zero t (b ∷ over) q h =
     let others : places (n + 1) over q ≡ places (n + 1) over (q ++ queued (n + 0) t ∷ []) = places_same (n + 1) over q (q ++ queued (n + 0) t ∷ []) (λ m k. sym (last_away m (n + 0) t q (λ e. absurd (omega (arith, e, k))))) in
     rw (o, here) (ap (λ (xs : List InView). Idle ∷ xs) others ∙ ap (λ (x : InView). x ∷ places (n + 1) over (q ++ queued (n + 0) t ∷ [])) (sym (by_list (of_port n q))))
   where
-    by_list : (l : List Tree) → place false (l ++ t ∷ []) ≡ Idle
+    by_list : (l : List Tree) → input_view false (l ++ t ∷ []) ≡ Idle
     by_list [] = refl
     by_list (u ∷ l) = refl
 stored_place n (suc j) t (b ∷ over) q h =
     let e : n + suc j ≡ n + 1 + j = omega arith in
     let here : of_port n (q ++ queued (n + 1 + j) t ∷ []) ≡ of_port n q = last_away n (n + 1 + j) t q (λ e. absurd (omega (arith, e))) in
-    rw (e, here) (ap (λ (xs : List InView). place b (of_port n q) ∷ xs) (stored_place (n + 1) j t over q h))
+    rw (e, here) (ap (λ (xs : List InView). input_view b (of_port n q) ∷ xs) (stored_place (n + 1) j t over q h))
 
 released : (n j : ℕ) (t : Tree) (over : List Bool) (q : List Queued) → slice_get over j ≡ Some false → of_port (n + j) q ≡ [] → slice_set (places n over (queued (n + j) t ∷ q)) j Pulled ≡ places n over q
 released n j t [] q h k = cc
@@ -204,7 +204,7 @@ released n (suc j) t (b ∷ over) q h k =
     let e : n + suc j ≡ n + 1 + j = omega arith in
     let l : of_port (n + 1 + j) q ≡ [] = (let r = k in rw e at r) in
     let here : of_port n (queued (n + 1 + j) t ∷ q) ≡ of_port n q = first_away n (n + 1 + j) t q (λ e. absurd (omega (arith, e))) in
-    rw (e, here) (ap (λ (xs : List InView). place b (of_port n q) ∷ xs) (released (n + 1) j t over q h l))
+    rw (e, here) (ap (λ (xs : List InView). input_view b (of_port n q) ∷ xs) (released (n + 1) j t over q h l))
 
 released_idle : (n j : ℕ) (t : Tree) (over : List Bool) (q : List Queued) → slice_get over j ≡ Some false → slice_index_or (places n over (queued (n + j) t ∷ q)) j Cancelled ≡ Idle
 released_idle n j t [] q h = cc
@@ -223,12 +223,12 @@ released_over n zero t (b ∷ over) q h =
 released_over n (suc j) t (b ∷ over) q h =
     let e : n + suc j ≡ n + 1 + j = omega arith in
     let here : of_port n (queued (n + 1 + j) t ∷ q) ≡ of_port n q = first_away n (n + 1 + j) t q (λ e. absurd (omega (arith, e))) in
-    rw (e, here) (ap (λ (xs : List InView). place b (of_port n q) ∷ xs) (released_over (n + 1) j t over q h))
+    rw (e, here) (ap (λ (xs : List InView). input_view b (of_port n q) ∷ xs) (released_over (n + 1) j t over q h))
 
 pub ended_place : (n i : ℕ) (over : List Bool) (q : List Queued) → slice_set (places n over q) i Finished ≡ places n (slice_set over i true) q
 ended_place n i [] q = refl
 ended_place n zero (b ∷ over) q = refl
-ended_place n (suc i) (b ∷ over) q = ap (λ (xs : List InView). place b (of_port n q) ∷ xs) (ended_place (n + 1) i over q)
+ended_place n (suc i) (b ∷ over) q = ap (λ (xs : List InView). input_view b (of_port n q) ∷ xs) (ended_place (n + 1) i over q)
 
 pub record Waits (n j : ℕ) (over : List Bool) (q : List Queued) : Type 0 where
   pub here : slice_get over j ≡ Some false
@@ -238,7 +238,7 @@ waits_place : (n j : ℕ) (over : List Bool) (q : List Queued) → slice_index_o
 waits_place n j [] q h = cc
 waits_place n zero (b ∷ over) q h = let z : n + 0 ≡ n = omega arith in by_parts b (of_port n q) (ap (λ m. of_port m q) z) h
   where
-    by_parts : (b : Bool) (l : List Tree) → of_port (n + 0) q ≡ l → place b l ≡ Pulled → Waits n 0 (b ∷ over) q
+    by_parts : (b : Bool) (l : List Tree) → of_port (n + 0) q ≡ l → input_view b l ≡ Pulled → Waits n 0 (b ∷ over) q
     by_parts true l e h = cc
     by_parts false [] e h = record { here = refl; none = e }
     by_parts false (t ∷ l) e h = cc

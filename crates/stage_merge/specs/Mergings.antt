@@ -45,15 +45,15 @@ waiting n [] q = []
 waiting n (b ∷ bs) q = record { list = of_port n q; end = end_by b } ∷ waiting (n + 1) bs q
 
 -- what is known of an input: it is asked where nothing of it waits
-abbrev pub place : Bool → List Tree → InView
-place true l = Finished
-place false [] = Pulled
-place false (t ∷ l) = Idle
+abbrev pub input_view : Bool → List Tree → InView
+input_view true l = Finished
+input_view false [] = Pulled
+input_view false (t ∷ l) = Idle
 
 -- the inputs from number n on
 abbrev pub places : ℕ → List Bool → List Queued → List InView
 places n [] q = []
-places n (b ∷ bs) q = place b (of_port n q) ∷ places (n + 1) bs q
+places n (b ∷ bs) q = input_view b (of_port n q) ∷ places (n + 1) bs q
 
 -- before the start
 abbrev pub idles : List Bool → List InView
@@ -136,14 +136,14 @@ pub record Does (new : Merging) (acts : List Act) (to : Merging) (list : List Ac
   pub acts_are : acts ≡ list
 
 -- it ends where every input has ended and nothing waits
-pub data Ends (before : List Act) (old new : Merging) (acts : List Act) : Type 0 where
-  done : old.core.left ≡ 0 → old.core.queue ≡ [] → new ≡ record old { core = record old.core { phase = Closed } } → acts ≡ before ++ Complete 0 ∷ [] → Ends before old new acts
-  opens : 1 ≤ old.core.left → new ≡ old → acts ≡ before → Ends before old new acts
-  more : old.core.queue ≢ [] → new ≡ old → acts ≡ before → Ends before old new acts
+pub data EndsIfDone (before : List Act) (old new : Merging) (acts : List Act) : Type 0 where
+  done : old.core.left ≡ 0 → old.core.queue ≡ [] → new ≡ record old { core = record old.core { phase = Closed } } → acts ≡ before ++ Complete 0 ∷ [] → EndsIfDone before old new acts
+  opens : 1 ≤ old.core.left → new ≡ old → acts ≡ before → EndsIfDone before old new acts
+  more : old.core.queue ≢ [] → new ≡ old → acts ≡ before → EndsIfDone before old new acts
 
 -- the input of an element that went out
 pub data Again (i : ℕ) (before : List Act) (old new : Merging) (acts : List Act) : Type 0 where
-  over : slice_get old.core.over i ≡ Some true → Ends before old new acts → Again i before old new acts
+  over : slice_get old.core.over i ≡ Some true → EndsIfDone before old new acts → Again i before old new acts
   still : slice_get old.core.over i ≡ Some false → new ≡ old → acts ≡ before ++ Pull i ∷ [] → Again i before old new acts
 
 -- an element of input i went out
@@ -168,7 +168,7 @@ without i l = record l { core = record l.core { over = slice_set l.core.over i t
 
 -- input i has ended
 abbrev pub Ended : ℕ → Merging → Merging → List Act → Type 0
-Ended i old new acts = Ends [] (without i old) new acts
+Ended i old new acts = EndsIfDone [] (without i old) new acts
 
 -- ---- the order
 

@@ -5,7 +5,7 @@ ghost use Rattle.port_core.specs.Call.{Obeys, Meets, starts, pulls, arrives, can
 ghost use Rattle.stream_model.specs.declared.kind.TheConstants.{MAX_FAN};
 ghost use Rattle.stage_core.specs.declared.phase.Phase.TheVariants.{New, Open, Closed};
 ghost use Rattle.stage_fans.specs.Seats.{open_cancels, room_for};
-ghost use Rattle.stage_merge.specs.Mergings.{port_state, Turned, FirstOut, LastIn, Begins, Does, Gave, HandedOn, Took, Ends, Again, Ended, without, pull_acts, PortsThere, open_count};
+ghost use Rattle.stage_merge.specs.Mergings.{port_state, Turned, FirstOut, LastIn, Begins, Does, Gave, HandedOn, Took, EndsIfDone, Again, Ended, without, pull_acts, PortsThere, open_count};
 
 use elem_core::elem::Elem;
 use elem_core::why::{Cause, NoMemory};
@@ -280,7 +280,7 @@ impl Merging {
     // It ends where every input has ended and nothing waits.
     fn end_if_done(&mut self, acts: &mut Acts)
         requires room { length acts.old.items < acts.old.room }
-        ensures ends { Ends acts.old.items self.old self.new acts.new.items }
+        ensures ends { EndsIfDone acts.old.items self.old self.new acts.new.items }
         ensures room { acts.new.room ≡ acts.old.room }
     {
         if self.left == 0 && self.queue.is_empty() {

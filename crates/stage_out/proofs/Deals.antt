@@ -27,7 +27,7 @@ use Rattle.stage_law.specs.Outs.{TurnsAt}
 use Rattle.stage_fans.specs.declared.outs.OutputState.{OutputState}
 use Rattle.stage_fans.specs.declared.outs.OutputState.TheVariants.{Quiet, Asks, Gone}
 use Rattle.stage_fans.specs.Outs.{want_view, open_count, at_open, AllClosed, OutsClosed, asks_count}
-use Rattle.stage_out.specs.PartitionStates.{PartitionLogic, input_of, view_of, Holding, Sound, port_state_by, port_state, kept, stage_of, state_of, due_of, held_of, dealers, dues, Turned, Parts, pull_by, waits_by, EndedFor, ends_now, ends_later, with_asks, Noted, pulls_input, rests, AskedOf, gets, notes, moved_by, moving_by, Dealt, given, keeps, drops, with_given, Served, dealt, blamed, blaming, struck, less_by, PassedOver, dropped, kept_on, Lost, last, others}
+use Rattle.stage_out.specs.PartitionStates.{PartitionLogic, input_of, view_of, Holding, Sound, port_state_by, port_state, held_for, stage_of, state_of, due_of, held_of, dealers, dues, Turned, Parts, pull_by, waits_by, EndedFor, ends_now, ends_later, with_asks, Noted, pulls_input, rests, AskedOf, gets, notes, moved_on, moving_acts, Dealt, given, keeps, drops, with_given, Served, dealt, blamed, blaming, struck, less_by, PassedOver, dropped, kept_on, Lost, last, others}
 use Rattle.stage_fans.proofs.OutViews.{want_set, is_quiet, is_open, gone_views, after_one, shut_views}
 use Rattle.stage_out.proofs.Wants.{same, other, quiet_lost, asked_lost, Acted, given_one, acts_from, all_open}
 use Rattle.stage_out.proofs.Dues.{get_of, same_get, set_at, pull_given, open_given, mach, turns_each, is_gone, still, gone_here, out_here, last_here, ends_asked, ends_lost, deal_given, deal_kept, deal_other, deal_blamed, end_now, end_later, fail_now}
@@ -71,7 +71,7 @@ pub record Handled (call : Call) (old : PartitionLogic) (acts : List Act) (new :
 pub started : (l : PartitionLogic) → l.live ≡ true → Meets starts (port_state l) → Handled starts l [] l
 started l h m = record {
   ports = obeys starts l l [] h (record { allowed = tt; row_then = is_standing l (view_of l) h refl (found starts l h m).sound });
-  gives = record { turns = λ book. rw h (turns_each book l starts [] (held_of l) (held_of l) l.outs l.outs 0 refl (λ i m w v e p q. still (mach book l m) m starts (kept m l.to l.held) (state_of l.over (stage_of l m)) w v tt (ap is_gone (same_get l.outs i w v p q)))); node = refl; parts = refl; fun = refl; outputs = refl; stands = tt };
+  gives = record { turns = λ book. rw h (turns_each book l starts [] (held_of l) (held_of l) l.outs l.outs 0 refl (λ i m w v e p q. still (mach book l m) m starts (held_for m l.to l.held) (state_of l.over (stage_of l m)) w v tt (ap is_gone (same_get l.outs i w v p q)))); node = refl; parts = refl; fun = refl; outputs = refl; stands = tt };
 }
 
 -- ---- an end
@@ -101,7 +101,7 @@ fails_zero old c h o =
       gives = record {
         turns = λ book. turns_each book old (arrives 0 (item.Failed c)) (at_open (λ j. FailOut j c) 0 old.outs) (held_of old) (λ m v. shut) old.outs old.outs 0 refl (λ i m w v e p q.
             let g = open_given (λ j. FailOut j c) (λ j. item.Failed c) (λ k n. refl) old.outs 0 i m w e p in
-            rw (g, o) (fail_now book old.parts old.fun old.node old.taken m (kept m old.to old.held) c w));
+            rw (g, o) (fail_now book old.parts old.fun old.node old.taken m (held_for m old.to old.held) c w));
         node = refl;
         parts = refl;
         fun = refl;
@@ -116,7 +116,7 @@ failed_on old new acts i c h m d =
     let p = in_zero old.over old.waits i f.may in
     rw (d.to_is, d.acts_are) (subst (λ n. Handled (arrives n (item.Failed c)) old (at_open (λ j. FailOut j c) 0 old.outs) (shut_l old)) (sym p.0) (fails_zero old c h p.1))
 
-none_kept : (m to : ℕ) (h : Option Tree) → h ≡ None → kept m to h ≡ []
+none_kept : (m to : ℕ) (h : Option Tree) → h ≡ None → held_for m to h ≡ []
 none_kept m to h e = rw e refl
 
 ends_zero : (old : PartitionLogic) → old.live ≡ true → old.over ≡ false → old.held ≡ None → Handled (arrives 0 item.Ended) old (at_open (λ j. Complete j) 0 old.outs) (shut_l old)
@@ -164,7 +164,7 @@ waits_zero old h o s n = record {
   gives = record {
     turns = λ book. rw h (turns_each book old (arrives 0 item.Ended) [] (held_of old) (held_of (record old { over = true })) old.outs old.outs 0 refl (λ i m w v e p q.
         let x : w ≡ v = same_get old.outs i w v p q in
-        subst (λ (y : OutputState). TurnAt (mach book old m) m (arrives 0 item.Ended) (held_of old m w) [] (held_of (record old { over = true }) m y)) x (rw o (end_later book old.parts old.fun old.node old.taken m (kept m old.to old.held) w))));
+        subst (λ (y : OutputState). TurnAt (mach book old m) m (arrives 0 item.Ended) (held_of old m w) [] (held_of (record old { over = true }) m y)) x (rw o (end_later book old.parts old.fun old.node old.taken m (held_for m old.to old.held) w))));
     node = refl;
     parts = refl;
     fun = refl;
@@ -266,7 +266,7 @@ module _ (old : PartitionLogic) (j : ℕ) (h : old.live ≡ true) (sound : Sound
 
   noted_turns : (book : Book) (acts : List Act) (w : Bool) → ((m : ℕ) → given_on m acts ≡ []) → TurnsAt 0 (pulls j) (dealers book old (held_of old) 0 old.outs) acts (dues (held_of (asks_to w)) 0 (slice_set old.outs j Asks))
   noted_turns book acts b g = turns_each book old (pulls j) acts (held_of old) (held_of (asks_to b)) old.outs (slice_set old.outs j Asks) 0 (length-set old.outs j Asks) (λ i m w v e p s.
-      rw (g m) (still (mach book old m) m (pulls j) (kept m old.to old.held) (state_of old.over (stage_of old m)) w v tt (alike i w v p (set_at old.outs j i Asks w v p s))))
+      rw (g m) (still (mach book old m) m (pulls j) (held_for m old.to old.held) (state_of old.over (stage_of old m)) w v tt (alike i w v p (set_at old.outs j i Asks w v p s))))
     where
       alike : (i : ℕ) (w v : OutputState) → slice_get old.outs i ≡ Some w → ((j ≡ i) × (v ≡ Asks)) ⊎ ((j ≢ i) × (v ≡ w)) → is_gone w ≡ is_gone v
       alike i w v p (inl (e, a)) = let x : slice_get old.outs i ≡ Some Quiet = rw (← e) q in let y : w ≡ Quiet = same_get old.outs i w Quiet p x in rw (y, a) refl
@@ -311,7 +311,7 @@ completes m w = given_one (λ i. Complete i) (λ i. item.Ended) (λ a n. refl) m
 push_given : (j m : ℕ) (b : Bool) (t : Tree) (acts : List Act) → (j == m) ≡ b → given_on m (Push j t ∷ acts) ≡ (if b then item.Elem t ∷ [] else []) ++ given_on m acts
 push_given j m b t acts e = rw e refl
 
-kept_is : (old : PartitionLogic) (j m : ℕ) (b : Bool) (t : Tree) → old.to ≡ j → old.held ≡ Some t → (j == m) ≡ b → kept m old.to old.held ≡ (if b then t ∷ [] else [])
+kept_is : (old : PartitionLogic) (j m : ℕ) (b : Bool) (t : Tree) → old.to ≡ j → old.held ≡ Some t → (j == m) ≡ b → held_for m old.to old.held ≡ (if b then t ∷ [] else [])
 kept_is old j m b t d k e = rw (d, k, e) refl
 
 equal_by : (j m : ℕ) → (j == m) ≡ true → j ≡ m
@@ -394,7 +394,7 @@ module _ (old : PartitionLogic) (j : ℕ) (t : Tree) (h : old.live ≡ true) (so
           push_given j m (j == m) t (at_open (λ i. Complete i) 0 old.outs) refl ∙ ap (λ (l : List Item). (if j == m then item.Elem t ∷ [] else []) ++ l) (open_given (λ i. Complete i) (λ i. item.Ended) (λ a n. refl) old.outs 0 i m w e p) in
           rw (g, u, o) (by_bool book m w (j == m) refl (quiet_there i m w e p))
 
-  by_over : (b : Bool) → old.over ≡ b → Handled (pulls j) old (Push j t ∷ moving_by b (record old { held = None })) (moved_by b (record old { held = None }))
+  by_over : (b : Bool) → old.over ≡ b → Handled (pulls j) old (Push j t ∷ moving_acts b (record old { held = None })) (moved_on b (record old { held = None }))
   by_over true o = gets_last o
   by_over false o = gets_more o
 
@@ -490,7 +490,7 @@ module _ (old : PartitionLogic) (j : ℕ) (h : old.live ≡ true) (sound : Sound
       }
     where
       by_fate : (book : Book) (m : ℕ) (w v : OutputState) → v ≡ Gone → ((j ≡ m) × (v ≡ Gone)) ⊎ ((j ≢ m) × (v ≡ w)) → TurnAt (mach book old m) m (cancels j) (held_of old m w) [] shut
-      by_fate book m w v g (inl (e, x)) = gone_here (mach book old m) m j (kept m old.to old.held) (state_of old.over (stage_of old m)) w e
+      by_fate book m w v g (inl (e, x)) = gone_here (mach book old m) m j (held_for m old.to old.held) (state_of old.over (stage_of old m)) w e
       by_fate book m w v g (inr (n, x)) = let y : w ≡ Gone = sym x ∙ g in rw y (refl, refl)
 
   struck_sound : (k : Option Tree) (w : Bool) → old.open_outs ≢ 1 → Holding k (record (struck j old) { held = k; waits = w }) → Sound (record (struck j old) { held = k; waits = w })
@@ -502,13 +502,13 @@ module _ (old : PartitionLogic) (j : ℕ) (h : old.live ≡ true) (sound : Sound
   struck_views = want_set old.outs j Gone
 
   -- the turns where all that is left goes on
-  lost_turns : (book : Book) (acts : List Act) (k : Option Tree) (b : Bool) → ((m : ℕ) → given_on m acts ≡ []) → ((m : ℕ) → j ≢ m → kept m old.to old.held ≡ kept m old.to k)
+  lost_turns : (book : Book) (acts : List Act) (k : Option Tree) (b : Bool) → ((m : ℕ) → given_on m acts ≡ []) → ((m : ℕ) → j ≢ m → held_for m old.to old.held ≡ held_for m old.to k)
       → TurnsAt 0 (cancels j) (dealers book old (held_of old) 0 old.outs) acts (dues (held_of (record (struck j old) { held = k; waits = b })) 0 left)
   lost_turns book acts k b g same_kept = turns_each book old (cancels j) acts (held_of old) (held_of (record (struck j old) { held = k; waits = b })) old.outs left 0 (length-set old.outs j Gone) (λ i m w v x p s. rw (g m) (by_fate m w v (fate i m w v x p s)))
     where
-      by_fate : (m : ℕ) (w v : OutputState) → ((j ≡ m) × (v ≡ Gone)) ⊎ ((j ≢ m) × (v ≡ w)) → TurnAt (mach book old m) m (cancels j) (held_of old m w) [] (due_of (kept m old.to k) (state_of old.over (stage_of old m)) v)
-      by_fate m w v (inl (e, x)) = rw x (gone_here (mach book old m) m j (kept m old.to old.held) (state_of old.over (stage_of old m)) w e)
-      by_fate m w v (inr (n, x)) = rw (x, ← same_kept m n) (still (mach book old m) m (cancels j) (kept m old.to old.held) (state_of old.over (stage_of old m)) w w (other j m (λ e. n e)) refl)
+      by_fate : (m : ℕ) (w v : OutputState) → ((j ≡ m) × (v ≡ Gone)) ⊎ ((j ≢ m) × (v ≡ w)) → TurnAt (mach book old m) m (cancels j) (held_of old m w) [] (due_of (held_for m old.to k) (state_of old.over (stage_of old m)) v)
+      by_fate m w v (inl (e, x)) = rw x (gone_here (mach book old m) m j (held_for m old.to old.held) (state_of old.over (stage_of old m)) w e)
+      by_fate m w v (inr (n, x)) = rw (x, ← same_kept m n) (still (mach book old m) m (cancels j) (held_for m old.to old.held) (state_of old.over (stage_of old m)) w w (other j m (λ e. n e)) refl)
 
   kept_lost : old.open_outs ≢ 1 → (old.to ≡ j → old.held ≡ None) → Handled (cancels j) old [] (struck j old)
   kept_lost n d = record {
@@ -529,7 +529,7 @@ module _ (old : PartitionLogic) (j : ℕ) (h : old.live ≡ true) (sound : Sound
   abbrev drop_to : PartitionLogic
   drop_to = record (struck j old) { held = None; waits = waits_by asks_left }
 
-  drop_kept : (t : Tree) → old.to ≡ j → old.held ≡ Some t → (m : ℕ) → j ≢ m → kept m old.to old.held ≡ []
+  drop_kept : (t : Tree) → old.to ≡ j → old.held ≡ Some t → (m : ℕ) → j ≢ m → held_for m old.to old.held ≡ []
   drop_kept t d k m n = let x : (j == m) ≡ false = other j m (λ e. n e) in rw (k, d, x) refl
 
   drop_more : (t : Tree) → old.open_outs ≢ 1 → old.to ≡ j → old.held ≡ Some t → old.over ≡ false → Handled (cancels j) old (pull_by asks_left) drop_to
@@ -569,14 +569,14 @@ module _ (old : PartitionLogic) (j : ℕ) (h : old.live ≡ true) (sound : Sound
       }
     where
       by_fate : (book : Book) (m : ℕ) (w v : OutputState) → ((j ≡ m) × (v ≡ Gone)) ⊎ ((j ≢ m) × (v ≡ w)) → TurnAt (mach book old m) m (cancels j) (held_of old m w) (given_one (λ i. Complete i) (λ i. item.Ended) (λ a n. refl) m v) shut
-      by_fate book m w v (inl (e, x)) = rw x (gone_here (mach book old m) m j (kept m old.to old.held) (state_of old.over (stage_of old m)) w e)
+      by_fate book m w v (inl (e, x)) = rw x (gone_here (mach book old m) m j (held_for m old.to old.held) (state_of old.over (stage_of old m)) w e)
       by_fate book m w v (inr (n, x)) = rw (x, drop_kept t d k m n, o) (ends_lost (mach book old m) m j w (other j m (λ e. n e)))
 
   by_pass : (new : PartitionLogic) (acts : List Act) → old.open_outs ≢ 1 → PassedOver j (struck j old) new acts → Handled (cancels j) old acts new
   by_pass new acts n (kept_on d to_is acts_are) = rw (to_is, acts_are) (kept_lost n d)
   by_pass new acts n (dropped t d k to_is acts_are) = rw (to_is, acts_are) (by_over_of old.over refl)
     where
-      by_over_of : (b : Bool) → old.over ≡ b → Handled (cancels j) old (moving_by b (record (struck j old) { held = None })) (moved_by b (record (struck j old) { held = None }))
+      by_over_of : (b : Bool) → old.over ≡ b → Handled (cancels j) old (moving_acts b (record (struck j old) { held = None })) (moved_on b (record (struck j old) { held = None }))
       by_over_of true o = drop_last t d k o
       by_over_of false o = drop_more t n d k o
 

@@ -31,7 +31,7 @@ use Rattle.stage_out.specs.CopyStates as copy
 use Rattle.stage_out.specs.PartitionStates.{PartitionLogic, input_of, view_of, Holding, Sound, dealers, then_of}
 use Rattle.stage_out.specs.PartitionStates as part
 use Rattle.stage_out.specs.Machines.{is_live, room_of, port_state, no_stage, copiers, outlets}
-use Rattle.stage_out.specs.OwnRows.{own_outs, Even, OutLists, OutRests}
+use Rattle.stage_out.specs.OwnRows.{own_outs, Even, OutLists, OutputsRest}
 use Rattle.stage_out.proofs.OutMachines.{copiers_are}
 use Rattle.stage_out.proofs.Rests.{copy_rests, ins_shut, outs_shut, outlists}
 
@@ -92,11 +92,11 @@ module _ (l : PartitionLogic) (took : List Tree) (gs : List (List Tree)) (e : le
   by_held None true c o w x = let f : true ≡ false = sym o ∙ x.0 in cc
   by_held (Some t) true c o w x = inr (unasked_there l.outs gs l.to e x.1, inr refl)
 
-deals_rest : (l : PartitionLogic) (v : port.View) (took : List Tree) (gs : List (List Tree)) → part.port_state l v → length gs ≡ length l.outs → OutRests (Deals l) v took gs
+deals_rest : (l : PartitionLogic) (v : port.View) (took : List Tree) (gs : List (List Tree)) → part.port_state l v → length gs ≡ length l.outs → OutputsRest (Deals l) v took gs
 deals_rest l v took gs r e = by_live l.live r
   where
-    by_live : (b : Bool) → part.port_state_by b l v → OutRests (Deals l) v took gs
-    by_live true r = subst (λ w. OutRests (Deals l) w took gs) (sym r.0) (inr (by_held l took gs e r.1 l.held l.over l.waits refl refl r.1.holds))
+    by_live : (b : Bool) → part.port_state_by b l v → OutputsRest (Deals l) v took gs
+    by_live true r = subst (λ w. OutputsRest (Deals l) w took gs) (sym r.0) (inr (by_held l took gs e r.1 l.held l.over l.waits refl refl r.1.holds))
     by_live false r = inl (ins_shut v.ins took r.0, outs_shut v.outs gs r.1)
 
 -- ---- all kinds
@@ -115,10 +115,10 @@ from_listed : (n : ℕ) (gave : ℕ → List Item) → Listed 0 n gave → OutLi
 from_listed n gave r = record { lists = r.lists; ports = r.ports; told_at = at_zero r.lists gave r.told_at }
 
 copies_stand : (book : Book) (l : CopyLogic) (v : port.View) (took : List Item) (gave : ℕ → List Item) (taken : List Tree) (e : End) → copy.port_state l v → took ≡ told taken e → OutsLaw 0 (outlets book (Copies l)) v took gave
-    → (o : OutLists (length (outlets book (Copies l))) gave) × OutRests (Copies l) v taken o.lists
+    → (o : OutLists (length (outlets book (Copies l))) gave) × OutputsRest (Copies l) v taken o.lists
 copies_stand book l v took gave taken e r is law = by_live l.live refl r law
   where
-    by_live : (b : Bool) → l.live ≡ b → copy.port_state_by b l v → OutsLaw 0 (copiers (part_by l.halves) b 0 l.outs) v took gave → (o : OutLists (length (outlets book (Copies l))) gave) × OutRests (Copies l) v taken o.lists
+    by_live : (b : Bool) → l.live ≡ b → copy.port_state_by b l v → OutsLaw 0 (copiers (part_by l.halves) b 0 l.outs) v took gave → (o : OutLists (length (outlets book (Copies l))) gave) × OutputsRest (Copies l) v taken o.lists
     by_live true h r law =
         let laws : OutsLaw 0 (copies.outlets (part_by l.halves) 0 no_stage l.outs) v took gave = subst (λ os. OutsLaw 0 os v took gave) (copiers_are (part_by l.halves) 0 l.outs) law in
         let o = outlists (part_by l.halves) no_stage v took taken e is l.outs 0 gave laws in
@@ -129,13 +129,13 @@ copies_stand book l v took gave taken e r is law = by_live l.live refl r law
         (record { lists = k.lists; ports = k.ports ∙ n; told_at = at_zero k.lists gave k.told_at }, inl (ins_shut v.ins taken r.0, outs_shut v.outs k.lists r.1))
 
 deals_stand : (book : Book) (l : PartitionLogic) (v : port.View) (took : List Item) (gave : ℕ → List Item) (taken : List Tree) → part.port_state l v → OutsLaw 0 (outlets book (Deals l)) v took gave
-    → (o : OutLists (length (outlets book (Deals l))) gave) × OutRests (Deals l) v taken o.lists
+    → (o : OutLists (length (outlets book (Deals l))) gave) × OutputsRest (Deals l) v taken o.lists
 deals_stand book l v took gave taken r law =
     let k = from_listed (length (outlets book (Deals l))) gave (listed (outlets book (Deals l)) 0 v took gave law) in
     (k, deals_rest l v taken k.lists r (k.ports ∙ length-dealers book l (then_of l.live l) 0 l.outs))
 
 pub stage_rests : (book : Book) (l : OutMachines) (v : port.View) (took : List Item) (gave : ℕ → List Item) (taken : List Tree) (e : End) → port_state l v → took ≡ told taken e → OutsLaw 0 (outlets book l) v took gave
-    → (o : OutLists (length (outlets book l)) gave) × OutRests l v taken o.lists
+    → (o : OutLists (length (outlets book l)) gave) × OutputsRest l v taken o.lists
 stage_rests book (Copies l) v took gave taken e r is law = copies_stand book l v took gave taken e r is law
 stage_rests book (Deals l) v took gave taken e r is law = deals_stand book l v took gave taken r law
 

@@ -7,23 +7,23 @@ use Rattle.elem_core.specs.declared.why.Why.{Why}
 use Rattle.port_core.specs.declared.act.Act.{Act}
 use Rattle.port_core.specs.declared.act.Act.TheVariants.{Push, Cancel, FailOut}
 use Rattle.stage_fans.specs.Outs.{at_open}
-use Rattle.stage_out.specs.PartitionStates.{PartitionLogic, TookFor, moved_by, moving_by, Noted, AskedOf, gets, notes, PassedOver, dropped, kept_on, Dealt, Served, dealt, blamed}
+use Rattle.stage_out.specs.PartitionStates.{PartitionLogic, TookFor, moved_on, moving_acts, Noted, AskedOf, gets, notes, PassedOver, dropped, kept_on, Dealt, Served, dealt, blamed}
 
 pub took_by : (j : ℕ) (old new : PartitionLogic) (h : Option Tree) → old.to ≡ j → h ≡ old.held → new ≡ record old { held = None } → TookFor j old new h
 took_by j old new (Some t) e h n = (e, sym h, n)
 took_by j old new None e h n = (λ x. sym h, n ∙ ap (λ (k : Option Tree). record old { held = k }) h)
 
-pub got : (j : ℕ) (old mid new : PartitionLogic) (acts : List Act) (r : Option Tree) (t : Tree) → TookFor j old mid r → r ≡ Some t → new ≡ moved_by mid.over mid → acts ≡ Push j t ∷ moving_by mid.over mid → AskedOf j old new acts
+pub got : (j : ℕ) (old mid new : PartitionLogic) (acts : List Act) (r : Option Tree) (t : Tree) → TookFor j old mid r → r ≡ Some t → new ≡ moved_on mid.over mid → acts ≡ Push j t ∷ moving_acts mid.over mid → AskedOf j old new acts
 got j old mid new acts r t k is n a = let x : TookFor j old mid (Some t) = subst (λ o. TookFor j old mid o) is k in
-    gets t x.0 x.1 (subst (λ (m : PartitionLogic). new ≡ moved_by m.over m) x.2 n) (subst (λ (m : PartitionLogic). acts ≡ Push j t ∷ moving_by m.over m) x.2 a)
+    gets t x.0 x.1 (subst (λ (m : PartitionLogic). new ≡ moved_on m.over m) x.2 n) (subst (λ (m : PartitionLogic). acts ≡ Push j t ∷ moving_acts m.over m) x.2 a)
 
 pub got_none : (j : ℕ) (old mid new : PartitionLogic) (acts : List Act) (r : Option Tree) → TookFor j old mid r → r ≡ None → Noted j mid new acts → AskedOf j old new acts
 got_none j old mid new acts r k is n = let x : TookFor j old mid None = subst (λ o. TookFor j old mid o) is k in
     notes x.0 (subst (λ m. Noted j m new acts) x.1 n)
 
-pub over_some : (j : ℕ) (old mid new : PartitionLogic) (acts : List Act) (r : Option Tree) (t : Tree) → TookFor j old mid r → r ≡ Some t → new ≡ moved_by mid.over mid → acts ≡ moving_by mid.over mid → PassedOver j old new acts
+pub over_some : (j : ℕ) (old mid new : PartitionLogic) (acts : List Act) (r : Option Tree) (t : Tree) → TookFor j old mid r → r ≡ Some t → new ≡ moved_on mid.over mid → acts ≡ moving_acts mid.over mid → PassedOver j old new acts
 over_some j old mid new acts r t k is n a = let x : TookFor j old mid (Some t) = subst (λ o. TookFor j old mid o) is k in
-    dropped t x.0 x.1 (subst (λ (m : PartitionLogic). new ≡ moved_by m.over m) x.2 n) (subst (λ (m : PartitionLogic). acts ≡ moving_by m.over m) x.2 a)
+    dropped t x.0 x.1 (subst (λ (m : PartitionLogic). new ≡ moved_on m.over m) x.2 n) (subst (λ (m : PartitionLogic). acts ≡ moving_acts m.over m) x.2 a)
 
 pub over_none : (j : ℕ) (old mid : PartitionLogic) (r : Option Tree) → TookFor j old mid r → r ≡ None → PassedOver j old mid []
 over_none j old mid r k is = let x : TookFor j old mid None = subst (λ o. TookFor j old mid o) is k in kept_on x.0 x.1 refl

@@ -45,5 +45,5 @@ pub record OutLists (n : ℕ) (gave : ℕ → List Item) : Type 0 where
   pub told_at : (i : ℕ) (g : List Tree) → slice_get lists i ≡ Some g → (h : End) × (gave i ≡ told g h)
 
 -- it has closed its ports, or has nothing to do, where it took l and gave these
-abbrev pub OutRests : OutMachines → port.View → List Tree → List (List Tree) → Type 0
-OutRests x v l gs = (EachWire IsShut (own_ins v.ins l) × EachWire IsShut (own_outs v.outs gs)) ⊎ rests_as x (own_ins v.ins l) (own_outs v.outs gs)
+abbrev pub OutputsRest : OutMachines → port.View → List Tree → List (List Tree) → Type 0
+OutputsRest x v l gs = (EachWire IsShut (own_ins v.ins l) × EachWire IsShut (own_outs v.outs gs)) ⊎ rests_as x (own_ins v.ins l) (own_outs v.outs gs)

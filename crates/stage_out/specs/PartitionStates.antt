@@ -68,9 +68,9 @@ abbrev pub port_state : PartitionLogic → View → Type 0
 port_state l v = port_state_by l.live l v
 
 -- what is held for output m
-abbrev pub kept : ℕ → ℕ → Option Tree → List Tree
-kept m to None = []
-kept m to (Some t) = if to == m then t ∷ [] else []
+abbrev pub held_for : ℕ → ℕ → Option Tree → List Tree
+held_for m to None = []
+held_for m to (Some t) = if to == m then t ∷ [] else []
 
 -- the machine's stage at output m
 abbrev pub stage_of : PartitionLogic → ℕ → Stage
@@ -87,7 +87,7 @@ due_of g st Gone = shut
 
 -- what output m owes
 abbrev pub held_of : PartitionLogic → ℕ → OutputState → Held Stage
-held_of l m w = due_of (kept m l.to l.held) (state_of l.over (stage_of l m)) w
+held_of l m w = due_of (held_for m l.to l.held) (state_of l.over (stage_of l m)) w
 
 -- the same, and nothing once it has closed all
 abbrev pub then_of : Bool → PartitionLogic → ℕ → OutputState → Held Stage
@@ -126,13 +126,13 @@ abbrev pub waits_by : ℕ → Bool
 waits_by q = if q == 0 then false else true
 
 -- once it holds nothing: it ends where its input has ended, and else goes on
-abbrev pub moved_by : Bool → PartitionLogic → PartitionLogic
-moved_by true l = record l { live = false }
-moved_by false l = record l { waits = waits_by l.asking }
+abbrev pub moved_on : Bool → PartitionLogic → PartitionLogic
+moved_on true l = record l { live = false }
+moved_on false l = record l { waits = waits_by l.asking }
 
-abbrev pub moving_by : Bool → PartitionLogic → List Act
-moving_by true l = at_open (λ j. Complete j) 0 l.outs
-moving_by false l = pull_by l.asking
+abbrev pub moving_acts : Bool → PartitionLogic → List Act
+moving_acts true l = at_open (λ j. Complete j) 0 l.outs
+moving_acts false l = pull_by l.asking
 
 -- it took out what it held for output j; or it holds nothing for it
 abbrev pub TookFor : ℕ → PartitionLogic → PartitionLogic → Option Tree → Type 0
@@ -149,7 +149,7 @@ pub data Noted (j : ℕ) (old new : PartitionLogic) (acts : List Act) : Type 0 w
 
 -- output j asks
 pub data AskedOf (j : ℕ) (old new : PartitionLogic) (acts : List Act) : Type 0 where
-  gets : (t : Tree) → old.to ≡ j → old.held ≡ Some t → new ≡ moved_by old.over (record old { held = None }) → acts ≡ Push j t ∷ moving_by old.over (record old { held = None }) → AskedOf j old new acts
+  gets : (t : Tree) → old.to ≡ j → old.held ≡ Some t → new ≡ moved_on old.over (record old { held = None }) → acts ≡ Push j t ∷ moving_acts old.over (record old { held = None }) → AskedOf j old new acts
   notes : (old.to ≡ j → old.held ≡ None) → Noted j old new acts → AskedOf j old new acts
 
 abbrev pub with_given : ℕ → PartitionLogic → PartitionLogic
@@ -185,7 +185,7 @@ struck j l = record l { outs = slice_set l.outs j Gone; open_outs = l.open_outs 
 
 -- output j is not there any more: what is held for it is dropped
 pub data PassedOver (j : ℕ) (old new : PartitionLogic) (acts : List Act) : Type 0 where
-  dropped : (t : Tree) → old.to ≡ j → old.held ≡ Some t → new ≡ moved_by old.over (record old { held = None }) → acts ≡ moving_by old.over (record old { held = None }) → PassedOver j old new acts
+  dropped : (t : Tree) → old.to ≡ j → old.held ≡ Some t → new ≡ moved_on old.over (record old { held = None }) → acts ≡ moving_acts old.over (record old { held = None }) → PassedOver j old new acts
   kept_on : (old.to ≡ j → old.held ≡ None) → new ≡ old → acts ≡ [] → PassedOver j old new acts
 
 -- output j was cancelled

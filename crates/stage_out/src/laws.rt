@@ -23,7 +23,7 @@ ghost use Rattle.stage_out.specs.Machines as machines;
 ghost use Rattle.stage_out.specs.MachineNodes.{MachinesLaw, GaveAgrees};
 ghost use Rattle.stage_out.specs.OutLogics.{is_live, room_of, port_state, OutAsking, Turned, OutFresh, OutLaw};
 ghost use Rattle.stage_out.specs.Moves.{out_moves};
-ghost use Rattle.stage_out.specs.OwnRows.{OutLists, OutRests};
+ghost use Rattle.stage_out.specs.OwnRows.{OutLists, OutputsRest};
 
 /// Where each output is a machine over the input, what a call owes is a turn at each output, whose machines stay.
 pub fn a_call_turns_each_output()
@@ -45,7 +45,7 @@ pub fn a_call_wants_little_room()
 /// for the lists that its outputs were given.
 pub fn a_stage_rests()
     ensures { (book : Book) (l : OutMachines) (v : View) (took : List Item) (gave : ℕ → List Item) (taken : List Tree) (e : End) → machines.port_state l v → took ≡ told taken e → OutsLaw 0 (outlets book l) v took gave
-        → (o : OutLists (length (outlets book l)) gave) × OutRests l v taken o.lists }
+        → (o : OutLists (length (outlets book l)) gave) × OutputsRest l v taken o.lists }
 {}
 
 /// What a handler owes to the port rules and to the law is all that is asked of a stage: its start begins the law of its

@@ -8,7 +8,7 @@ ghost use Rattle.stream_model.specs.declared.kind.TheConstants.{MAX_FAN};
 ghost use Rattle.stage_fans.specs.declared.outs.OutputState.TheVariants.{Quiet, Asks, Gone};
 ghost use Rattle.stage_fans.specs.Seats.{room_for};
 ghost use Rattle.stage_fans.specs.Outs.{at_open};
-ghost use Rattle.stage_out.specs.PartitionStates.{port_state, Turned, Parts, pull_by, waits_by, moved_by, moving_by, TookFor, Noted, AskedOf, Dealt, Served, EndedFor, struck, PassedOver, Lost, with_asks, with_given, blaming, begun};
+ghost use Rattle.stage_out.specs.PartitionStates.{port_state, Turned, Parts, pull_by, waits_by, moved_on, moving_acts, TookFor, Noted, AskedOf, Dealt, Served, EndedFor, struck, PassedOver, Lost, with_asks, with_given, blaming, begun};
 
 use elem_core::count::one_more;
 use elem_core::elem::{Elem, Form};
@@ -210,8 +210,8 @@ impl PartitionLogic {
     fn move_on(&mut self, acts: &mut Acts)
         requires few { length self.old.outs ≤ 16 }
         requires room { length acts.old.items + length self.old.outs < acts.old.room }
-        ensures stage { self.new ≡ moved_by self.old.over self.old }
-        ensures acts { acts.new ≡ record acts.old { items = acts.old.items ++ moving_by self.old.over self.old } }
+        ensures stage { self.new ≡ moved_on self.old.over self.old }
+        ensures acts { acts.new ≡ record acts.old { items = acts.old.items ++ moving_acts self.old.over self.old } }
     {
         if self.over {
             self.complete_all(acts);

@@ -15,7 +15,7 @@ use Rattle.port_core.specs.View.{View, out_at, ActsAllowed, acted_all}
 use Rattle.port_core.specs.Call.{Call, starts, pulls, arrives, cancels, AllIdle, CallAllowed, seen, brought_to, given_on}
 use Rattle.stage_law.specs.Held.{told}
 use Rattle.stage_law.specs.Law.{GaveAs}
-use Rattle.stage_law.specs.Inflows.{nothing, joined, joined_at, joined_all, coming}
+use Rattle.stage_law.specs.Inflows.{nothing_came, joined, joined_at, joined_all, coming}
 use Rattle.stage_law.proofs.Inflows.{Stepped, ports_law, new_ports}
 use Rattle.stage_law.proofs.Told.{told-append}
 use Rattle.stage_recover.specs.Recovers.{RecoverHeld, passes, turned, shut, own_items, recovered, recovered_by, recover_gives, IsBroken, RecoverCloses, RecoverStep, OwnStep, RecoverRefused, RecoverTurnAt, RecoverKeeps, RecoverLaw, RecoverStandsOf, RecoverResidual, RecoverRest, recover_moves}
@@ -108,18 +108,18 @@ module _ (t : Tree) where
   same : (f : Inflow) (g : List Tree) → g ≡ f.list → IsPrefix g f.list
   same f g all = subst (λ (l : List Tree). IsPrefix g l) all (prefix_refl g)
 
-  still : (f : Inflow) → joined f nothing ≡ f
+  still : (f : Inflow) → joined f nothing_came ≡ f
   still f = by_end f.end refl
     where
-      by_end : (e : End) → f.end ≡ e → joined f nothing ≡ f
-      by_end unended is = joined_is f nothing is ∙ ap (λ (l : List Tree). record { list = l; end = unended }) (append-nil f.list) ∙ ap (λ (e : End). record { list = f.list; end = e }) (sym is)
-      by_end ended is = ap (λ (e : End). joined_at e f.list nothing) is ∙ ap (λ (e : End). record { list = f.list; end = e }) (sym is)
-      by_end (failed c) is = joined_broken f nothing c is
+      by_end : (e : End) → f.end ≡ e → joined f nothing_came ≡ f
+      by_end unended is = joined_is f nothing_came is ∙ ap (λ (l : List Tree). record { list = l; end = unended }) (append-nil f.list) ∙ ap (λ (e : End). record { list = f.list; end = e }) (sym is)
+      by_end ended is = ap (λ (e : End). joined_at e f.list nothing_came) is ∙ ap (λ (e : End). record { list = f.list; end = e }) (sym is)
+      by_end (failed c) is = joined_broken f nothing_came c is
 
   stepped : (call : Call) (x new : RecoverHeld) (f : Inflow) (g : List Tree) (e : End) (out : List Item) → RecoverKeeps t x (f ∷ []) g e → RecoverTurnAt t call x out new → Stepped (RecoverKeeps t new) (joined f (coming call 0) ∷ []) g out
   stepped call (shut moves) new f g e out k s = absurd s
-  stepped starts (passes n) new f g e out k s = rw (joined_is f nothing k.1.0) (steps n f nothing g out k.1.1.0 k.1.1.1 new s)
-  stepped (pulls j) (passes n) new f g e out k s = rw (joined_is f nothing k.1.0) (steps n f nothing g out k.1.1.0 k.1.1.1 new s)
+  stepped starts (passes n) new f g e out k s = rw (joined_is f nothing_came k.1.0) (steps n f nothing_came g out k.1.1.0 k.1.1.1 new s)
+  stepped (pulls j) (passes n) new f g e out k s = rw (joined_is f nothing_came k.1.0) (steps n f nothing_came g out k.1.1.0 k.1.1.1 new s)
   stepped (arrives i b) (passes n) new f g e out k s = rw (joined_is f (coming (arrives i b) 0) k.1.0) (steps n f (coming (arrives i b) 0) g out k.1.1.0 k.1.1.1 new s)
   stepped (cancels j) (passes n) new f g e out k s = rw (still f) (leaves [] f g out new (omega arith) (same f g k.1.1.0) s)
   stepped starts (turned n) new f g e out k s = rw (still f) (owed n f g out new k.1.0 k.1.1 s)

@@ -89,15 +89,15 @@ IsStateful kind = machine.IsMachine kind
 abbrev pub IsUnusedEnd : SwitchEnd → Type 0
 IsUnusedEnd e = IsUnused (arc_value e.switch) e.seat
 
-abbrev pub IsHanded : Kind → Option SwitchEnd → Type 0
-IsHanded (Valve name) None = ⊥
-IsHanded (Valve name) (Some e) = IsUnusedEnd e
-IsHanded (TripShutdown name n) None = ⊥
-IsHanded (TripShutdown name n) (Some e) = IsUnusedEnd e
-IsHanded (TripAbort name n) None = ⊥
-IsHanded (TripAbort name n) (Some e) = IsUnusedEnd e
-IsHanded kind None = ⊤
-IsHanded kind (Some e) = ⊥
+abbrev pub IsHandedEnd : Kind → Option SwitchEnd → Type 0
+IsHandedEnd (Valve name) None = ⊥
+IsHandedEnd (Valve name) (Some e) = IsUnusedEnd e
+IsHandedEnd (TripShutdown name n) None = ⊥
+IsHandedEnd (TripShutdown name n) (Some e) = IsUnusedEnd e
+IsHandedEnd (TripAbort name n) None = ⊥
+IsHandedEnd (TripAbort name n) (Some e) = IsUnusedEnd e
+IsHandedEnd kind None = ⊤
+IsHandedEnd kind (Some e) = ⊥
 
 -- a new stage of this kind: what a machine owes at its start; a buffer or a recover to which nothing came; a valve or a trip
 -- to which nothing came, whose seat is of its switch, gave nothing and knows nothing

@@ -4,7 +4,7 @@ ghost use Rattle.elem_core.specs.declared.item.Item.TheVariants as item;
 ghost use Rattle.port_core.specs.Call.{Obeys, Meets, starts, pulls, arrives, cancels};
 ghost use Rattle.stage_core.specs.declared.phase.Phase.TheVariants.{New, Open};
 ghost use Rattle.stage_state.specs.Handling.{Begins};
-ghost use Rattle.stage_state.specs.Logics.{Chooses, IsHanded, IsStateful, TakesNone, TakesNoneAsked, TakesNoneEnded, TakesNoneFailed, phase_of, port_state, Turned};
+ghost use Rattle.stage_state.specs.Logics.{Chooses, IsHandedEnd, IsStateful, TakesNone, TakesNoneAsked, TakesNoneEnded, TakesNoneFailed, phase_of, port_state, Turned};
 ghost use Rattle.stage_state.specs.Moves.{state_moves, state_picks, state_seat};
 
 use crate::machine::MachineLogic;
@@ -49,7 +49,7 @@ impl StateLogic {
         switch: Option<SwitchEnd>,
     ) -> Result<StateLogic, NoMemory>
         requires kind { IsStateful kind }
-        requires handed { IsHanded kind switch }
+        requires handed { IsHandedEnd kind switch }
         ensures begins { IfOk result (Begins stage kind decider) }
         ensures seat { IfOk result (λ l. state_seat l ≡ option_map (λ e. e.seat) switch) }
     {

@@ -15,7 +15,7 @@ use Rattle.stream_model.specs.FanIn.{Tagged, tag}
 use Rattle.stream_model.specs.Substreams.{Sub, by_element, find_key, take_in, take_at, given_by, news, fault_of, trouble}
 use Rattle.port_core.specs.ListFunction.{ListFunction}
 use Rattle.chain_core.specs.Means.{Means}
-use Rattle.chain_core.specs.Slots.{MayCall, Holds, Fed}
+use Rattle.chain_core.specs.Slots.{MayCall, SlotHolds, Fed}
 use Rattle.stage_sub.specs.Groups.{MayCallAll, EachHolds}
 use Rattle.stage_sub.proofs.Models.{pick, first_of, trouble_fails, sub_fails, news_append, news_new, sub_calm, given_open}
 use Rattle.stage_sub.proofs.Lasts.{calm_slot}
@@ -61,9 +61,9 @@ module _ {C : Type 0} (rest : C → ListFunction) (is_open : C → Bool) where
       pub holds : EachHolds rest is_open f (slice_set cs i d) (take_at i t ss)
 
     pub group_fed : (n i : ℕ) (cs : List (Option C)) (ss : List Sub) (t : Tree) (c d : Option C) (before now : List Tree) → EachHolds rest is_open f cs ss → slice_get cs i ≡ Some c
-        → ((took : List Tree) → Holds rest is_open f c took → Fed rest is_open f took t None before now d) → GroupFed n i cs ss t d before now
+        → ((took : List Tree) → SlotHolds rest is_open f c took → Fed rest is_open f took t None before now d) → GroupFed n i cs ss t d before now
     group_fed n zero (b ∷ cs) (s ∷ ss) t c d before now h e fed =
-        let x = fed s.took (subst (λ (k : Option C). Holds rest is_open f k s.took) (same_Some b c e) h.0.1) in
+        let x = fed s.took (subst (λ (k : Option C). SlotHolds rest is_open f k s.took) (same_Some b c e) h.0.1) in
         let more : (given_by yields (take_in t s)).list ≡ (given_by yields s).list ++ x.0 = open_given (take_in t s) h.0.0 ∙ x.1.0 ∙ ap (λ (l : List Tree). l ++ x.0) (sym (open_given s h.0.0)) in
         record {
           gave = x.0;
@@ -84,7 +84,7 @@ module _ {C : Type 0} (rest : C → ListFunction) (is_open : C → Bool) where
     group_fed n i (b ∷ cs) [] t c d before now h e fed = absurd h
 
     -- a new one behind them
-    pub each_push : (cs : List (Option C)) (ss : List Sub) (d : Option C) (s : Sub) → EachHolds rest is_open f cs ss → s.ended ≡ false → Holds rest is_open f d s.took → EachHolds rest is_open f (cs ++ d ∷ []) (ss ++ s ∷ [])
+    pub each_push : (cs : List (Option C)) (ss : List Sub) (d : Option C) (s : Sub) → EachHolds rest is_open f cs ss → s.ended ≡ false → SlotHolds rest is_open f d s.took → EachHolds rest is_open f (cs ++ d ∷ []) (ss ++ s ∷ [])
     each_push [] [] d s h e k = ((e, k), tt)
     each_push (c ∷ cs) (r ∷ ss) d s h e k = (h.0, each_push cs ss d s h.1 e k)
     each_push [] (r ∷ ss) d s h e k = absurd h
@@ -116,13 +116,13 @@ module _ {C : Type 0} (rest : C → ListFunction) (is_open : C → Bool) (f : Li
 
   -- the substream at place i took it
   pub group_takes : (i : ℕ) (cs : List (Option C)) (ss : List Sub) (t : Tree) (c d : Option C) (before now : List Tree) → EachHolds rest is_open f cs ss → slice_get cs i ≡ Some c
-      → ((took : List Tree) → Holds rest is_open f c took → Fed rest is_open f took t None before now d) → (gave : List Tree) × ((now ≡ before ++ gave) × GroupMoves ss (take_at i t ss) (slice_set cs i d) i gave)
+      → ((took : List Tree) → SlotHolds rest is_open f c took → Fed rest is_open f took t None before now d) → (gave : List Tree) × ((now ≡ before ++ gave) × GroupMoves ss (take_at i t ss) (slice_set cs i d) i gave)
   group_takes i cs ss t c d before now h e fed =
       let r = group_fed rest is_open f yields means 0 i cs ss t c d before now h e fed in
       (r.gave, (r.out, record { calm = each_calm rest is_open f yields means (slice_set cs i d) (take_at i t ss) r.holds; out = r.fresh ∙ ap (λ k. map (tag k) r.gave) (omega arith); holds = r.holds }))
 
   -- a new one opened
-  pub group_opens : (cs : List (Option C)) (ss : List Sub) (key t : Tree) (d : Option C) → EachHolds rest is_open f cs ss → Holds rest is_open f d (t ∷ [])
+  pub group_opens : (cs : List (Option C)) (ss : List Sub) (key t : Tree) (d : Option C) → EachHolds rest is_open f cs ss → SlotHolds rest is_open f d (t ∷ [])
       → GroupMoves ss (ss ++ record { key = key; took = t ∷ []; ended = false } ∷ []) (cs ++ d ∷ []) (length ss) (f.gives (t ∷ []))
   group_opens cs ss key t d h k =
       let s : Sub = record { key = key; took = t ∷ []; ended = false } in
@@ -131,9 +131,9 @@ module _ {C : Type 0} (rest : C → ListFunction) (is_open : C → Bool) (f : Li
 
   -- the substream at place i failed: it is the first that did
   pub group_fails : (i : ℕ) (cs : List (Option C)) (ss : List Sub) (t : Tree) (c : Option C) (w : Why) → EachHolds rest is_open f cs ss → slice_get cs i ≡ Some c
-      → ((took : List Tree) → Holds rest is_open f c took → f.stop (took ++ t ∷ []) ≡ Failed w) → trouble yields (take_at i t ss) ≡ Some (by_element w)
+      → ((took : List Tree) → SlotHolds rest is_open f c took → f.stop (took ++ t ∷ []) ≡ Failed w) → trouble yields (take_at i t ss) ≡ Some (by_element w)
   group_fails zero (b ∷ cs) (s ∷ ss) t c w h e stops =
-      trouble_fails yields (take_in t s) ss (by_element w) (sub_fails f yields means (take_in t s) w (stops s.took (subst (λ (k : Option C). Holds rest is_open f k s.took) (same_Some b c e) h.0.1)))
+      trouble_fails yields (take_in t s) ss (by_element w) (sub_fails f yields means (take_in t s) w (stops s.took (subst (λ (k : Option C). SlotHolds rest is_open f k s.took) (same_Some b c e) h.0.1)))
   group_fails (suc i) (b ∷ cs) (s ∷ ss) t c w h e stops =
       let is : s ≡ record { key = s.key; took = s.took; ended = false } = ap (λ (x : Bool). record { key = s.key; took = s.took; ended = x }) h.0.0 in
       let well : fault_of yields s ≡ None = ap (fault_of yields) is ∙ sub_calm f yields means s.key s.took (calm_slot rest is_open f b s.took h.0.1) in

@@ -10,7 +10,7 @@ use Rattle.port_core.specs.ListFunction.{ListFunction, Same}
 use Rattle.chain_core.specs.Means.{Means}
 use Rattle.stage_sub.specs.Splits.{Last, MayCallLast}
 use Rattle.stage_sub.specs.Groups.{MayCallAll, Within}
-use Rattle.stage_sub.specs.Subs.{Split, Takes}
+use Rattle.stage_sub.specs.Subs.{Split, SubsTake}
 use Rattle.stage_sub.specs.Places.{place_in}
 use Rattle.stage_sub.specs.KeptSubs.{KeptSubs, MayCallKept, Keeps, TakesBy}
 use Rattle.stage_sub.specs.declared.blame.Blame.{Blame}
@@ -34,7 +34,7 @@ module _ {C : Type 0} (rest : C → ListFunction) (is_open : C → Bool) where
   may_slots {E} k slots (Err e) m h n = tt
 
   pub before_takes : {E : Type 0} (whole : ListFunction) (how : OpenBy) (p : Pred) (k old : KeptSubs C) (last : Last C) (r : Result (Option Blame) E) (e : Tree) (b a : List Tagged) → how ≡ Before p → k ≡ old
-      → IfOk r (λ x. (f : ListFunction) → Same whole f → (yields : List Tree → End → Given Tree) → Means yields f → (ss : List Sub) → Split rest is_open f yields k.last ss → Takes rest is_open f yields (before p) ss e x b a last)
+      → IfOk r (λ x. (f : ListFunction) → Same whole f → (yields : List Tree → End → Given Tree) → Means yields f → (ss : List Sub) → Split rest is_open f yields k.last ss → SubsTake rest is_open f yields (before p) ss e x b a last)
       → IfOk r (λ x. (f : ListFunction) → Same whole f → (yields : List Tree → End → Given Tree) → Means yields f → (ss : List Sub) → Keeps rest is_open f yields how old ss → TakesBy rest is_open f yields how ss e x b a (record k { last = last }))
   before_takes {E} whole how p k old last (Ok x) e b a is same h =
       subst (λ (o : KeptSubs C). (f : ListFunction) → Same whole f → (yields : List Tree → End → Given Tree) → Means yields f → (ss : List Sub) → Keeps rest is_open f yields how o ss → TakesBy rest is_open f yields how ss e x b a (record k { last = last })) same
@@ -42,7 +42,7 @@ module _ {C : Type 0} (rest : C → ListFunction) (is_open : C → Bool) where
   before_takes {E} whole how p k old last (Err q) e b a is same h = tt
 
   pub behind_takes : {E : Type 0} (whole : ListFunction) (how : OpenBy) (p : Pred) (k old : KeptSubs C) (last : Last C) (r : Result (Option Blame) E) (e : Tree) (b a : List Tagged) → how ≡ Behind p → k ≡ old
-      → IfOk r (λ x. (f : ListFunction) → Same whole f → (yields : List Tree → End → Given Tree) → Means yields f → (ss : List Sub) → Split rest is_open f yields k.last ss → Takes rest is_open f yields (behind p) ss e x b a last)
+      → IfOk r (λ x. (f : ListFunction) → Same whole f → (yields : List Tree → End → Given Tree) → Means yields f → (ss : List Sub) → Split rest is_open f yields k.last ss → SubsTake rest is_open f yields (behind p) ss e x b a last)
       → IfOk r (λ x. (f : ListFunction) → Same whole f → (yields : List Tree → End → Given Tree) → Means yields f → (ss : List Sub) → Keeps rest is_open f yields how old ss → TakesBy rest is_open f yields how ss e x b a (record k { last = last }))
   behind_takes {E} whole how p k old last (Ok x) e b a is same h =
       subst (λ (o : KeptSubs C). (f : ListFunction) → Same whole f → (yields : List Tree → End → Given Tree) → Means yields f → (ss : List Sub) → Keeps rest is_open f yields how o ss → TakesBy rest is_open f yields how ss e x b a (record k { last = last })) same

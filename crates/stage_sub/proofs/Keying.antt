@@ -16,10 +16,10 @@ use Rattle.stream_model.specs.FanIn.{Tagged, tag}
 use Rattle.stream_model.specs.Substreams.{Sub, by_element, by_end, by_key, arranged, find_key, end_sub, end_all, take_at, given_by, news, trouble}
 use Rattle.port_core.specs.ListFunction.{ListFunction, Same}
 use Rattle.chain_core.specs.Means.{Means}
-use Rattle.chain_core.specs.Slots.{Holds, Fed, Begun}
-use Rattle.stage_sub.specs.Splits.{Last, Took, LastEnds}
-use Rattle.stage_sub.specs.Groups.{EachHolds, Grouped, Halfway, EndsAt, EndsOne, Within}
-use Rattle.stage_sub.specs.Subs.{Reaches, Arranges}
+use Rattle.chain_core.specs.Slots.{SlotHolds, Fed, Begun}
+use Rattle.stage_sub.specs.Splits.{Last, LastTook, LastEnds}
+use Rattle.stage_sub.specs.Groups.{EachHolds, Grouped, Halfway, GroupEndsAt, EndsOne, Within}
+use Rattle.stage_sub.specs.Subs.{SubsReach, Arranges}
 use Rattle.stage_sub.specs.declared.blame.Blame.{Blame}
 use Rattle.stage_sub.specs.declared.blame.Blame.TheVariants.{AtElement}
 use Rattle.stage_sub.proofs.Models.{trouble_append, trouble_both, trouble_one, trouble_fails, sub_fails, end_calm, end_fails, end_append, given_end, news_one}
@@ -40,7 +40,7 @@ module _ {C : Type 0} (rest : C → ListFunction) (is_open : C → Bool) where
 
   -- what `feed_at` ensures
   abbrev pub FedAt : List (Option C) → ℕ → Tree → Option Why → List Tree → List (Option C) → Type 0
-  FedAt cs i t r a new = (d : Option C) × ((new ≡ slice_set cs i d) × ((f : ListFunction) (took : List Tree) (c : Option C) → slice_get cs i ≡ Some c → Holds rest is_open f c took → Fed rest is_open f took t r [] a d))
+  FedAt cs i t r a new = (d : Option C) × ((new ≡ slice_set cs i d) × ((f : ListFunction) (took : List Tree) (c : Option C) → slice_get cs i ≡ Some c → SlotHolds rest is_open f c took → Fed rest is_open f took t r [] a d))
 
   module _ (f : ListFunction) (yields : List Tree → End → Given Tree) (means : Means yields f) (ss : List Sub) where
     pub feed_some_exit : (cs new : List (Option C)) (i : ℕ) (t : Tree) (r : Option Why) (a : List Tree) (w : Why) → r ≡ Some w → i < length cs → FedAt cs i t r a new → EachHolds rest is_open f cs ss → trouble yields (take_at i t ss) ≡ Some (by_element w)
@@ -49,7 +49,7 @@ module _ {C : Type 0} (rest : C → ListFunction) (is_open : C → Bool) where
         group_fails rest is_open f yields means i cs ss t at.0 w h at.1 (λ took k. subst (λ x. Fed rest is_open f took t x [] a fed.0) is (fed.1.1 f took at.0 at.1 k))
 
     pub feed_none_exit : (cs new : List (Option C)) (i : ℕ) (t : Tree) (r : Option Why) (a : List Tree) (b out : List Tagged) → r ≡ None → i < length cs → FedAt cs i t r a new → out ≡ b ++ map (tag i) a → EachHolds rest is_open f cs ss
-        → Reaches yields (EachHolds rest is_open f new) ss (take_at i t ss) None b out
+        → SubsReach yields (EachHolds rest is_open f new) ss (take_at i t ss) None b out
     feed_none_exit cs new i t r a b out is within fed put h =
         let at = there cs i within in
         let x = group_takes rest is_open f yields means i cs ss t at.0 fed.0 [] a h at.1 (λ took k. subst (λ q. Fed rest is_open f took t q [] a fed.0) is (fed.1.1 f took at.0 at.1 k)) in
@@ -64,7 +64,7 @@ module _ {C : Type 0} (rest : C → ListFunction) (is_open : C → Bool) where
     pub open_none_exit : (cs new : List (Option C)) (old now : Tree → Option ℕ) (key t : Tree) (a : List Tree) (b out : List Tagged) → old key ≡ None
         → ((k : Tree) → now k ≡ (if is_eq (tree_cmp key k) then Some (length cs) else old k))
         → (d : Option C) × ((new ≡ cs ++ d ∷ []) × Begun rest is_open f t (Ok d) [] a) → out ≡ b ++ map (tag (length cs)) a → Grouped rest is_open f old cs ss
-        → Reaches yields (Grouped rest is_open f now new) ss (ss ++ record { key = key; took = t ∷ []; ended = false } ∷ []) None b out
+        → SubsReach yields (Grouped rest is_open f now new) ss (ss ++ record { key = key; took = t ∷ []; ended = false } ∷ []) None b out
     open_none_exit cs new old now key t a b out none adds begun put g =
         let s : Sub = record { key = key; took = t ∷ []; ended = false } in
         let n : length cs ≡ length ss = each_length f cs ss g.holds in
@@ -106,19 +106,19 @@ module _ {C : Type 0} (rest : C → ListFunction) (is_open : C → Bool) (whole 
   TakesFor now new b a x = (f : ListFunction) → Same whole f → (yields : List Tree → End → Given Tree) → Means yields f → (ss : List Sub) → Grouped rest is_open f places cs ss → Arranges yields (Grouped rest is_open f now new) (by_key most by) ss t x b a
 
   kept : (f : ListFunction) (yields : List Tree → End → Given Tree) (ss : List Sub) (new : List (Option C)) (i : ℕ) (x : Option Blame) (b a : List Tagged) → Grouped rest is_open f places cs ss
-      → Reaches yields (EachHolds rest is_open f new) ss (take_at i t ss) x b a → Reaches yields (Grouped rest is_open f places new) ss (take_at i t ss) x b a
+      → SubsReach yields (EachHolds rest is_open f new) ss (take_at i t ss) x b a → SubsReach yields (Grouped rest is_open f places new) ss (take_at i t ss) x b a
   kept f yields ss new i None b a g h = (h.0, (h.1.0, record { at = λ k. g.at k ∙ sym (find_taken k t 0 i ss); holds = h.1.1 }))
   kept f yields ss new i (Some x) b a g h = h
 
   pub taken_found : {E : Type 0} (new : List (Option C)) (i : ℕ) (b a : List Tagged) (r : Result (Option Blame) E) → map_value by t ≡ Ok key → places key ≡ Some i
-      → IfOk r (λ x. (f : ListFunction) (yields : List Tree → End → Given Tree) → Means yields f → (ss : List Sub) → EachHolds rest is_open f cs ss → Reaches yields (EachHolds rest is_open f new) ss (take_at i t ss) x b a)
+      → IfOk r (λ x. (f : ListFunction) (yields : List Tree → End → Given Tree) → Means yields f → (ss : List Sub) → EachHolds rest is_open f cs ss → SubsReach yields (EachHolds rest is_open f new) ss (take_at i t ss) x b a)
       → IfOk r (TakesFor places new b a)
   taken_found {E} new i b a (Ok x) v p h = λ f same yields means ss g. inr (take_at i t ss, (arranged_found t key most by ss i v (sym (g.at key) ∙ p), kept f yields ss new i x b a g (h f yields means ss g.holds)))
   taken_found {E} new i b a (Err e) v p h = tt
 
   pub taken_new : {E : Type 0} (new : List (Option C)) (now : Tree → Option ℕ) (b a : List Tagged) (r : Result (Option Blame) E) → map_value by t ≡ Ok key → places key ≡ None → nat_lt (length cs) most ≡ true
       → IfOk r (λ x. (f : ListFunction) → Same whole f → (yields : List Tree → End → Given Tree) → Means yields f → (ss : List Sub) → Grouped rest is_open f places cs ss
-      → Reaches yields (Grouped rest is_open f now new) ss (ss ++ record { key = key; took = t ∷ []; ended = false } ∷ []) x b a)
+      → SubsReach yields (Grouped rest is_open f now new) ss (ss ++ record { key = key; took = t ∷ []; ended = false } ∷ []) x b a)
       → IfOk r (TakesFor now new b a)
   taken_new {E} new now b a (Ok x) v p l h = λ f same yields means ss g.
       inr (ss ++ record { key = key; took = t ∷ []; ended = false } ∷ [], (arranged_new t key most by ss v (sym (g.at key) ∙ p) (ap (λ n. nat_lt n most) (sym (each_length rest is_open f cs ss g.holds)) ∙ l), h f same yields means ss g))
@@ -146,7 +146,7 @@ module _ {C : Type 0} (rest : C → ListFunction) (is_open : C → Bool) where
     pub half_start : (cs : List (Option C)) (b : List Tagged) → EachHolds rest is_open f cs ss → Halfway rest is_open f yields 0 cs ss b b
     half_start cs b h = record { olds = []; left = ss; are = refl; count = refl; calm = refl; out = sym (append-nil b); holds = h }
 
-    half_by : {cs : List (Option C)} {i : ℕ} {c : Option C} {b m a : List Tagged} {new : Last C} → (h : Halfway rest is_open f yields i (c ∷ cs) ss b m) → (left : List Sub) → h.left ≡ left → EachHolds rest is_open f (c ∷ cs) left → EndsAt rest is_open i c None m a new
+    half_by : {cs : List (Option C)} {i : ℕ} {c : Option C} {b m a : List Tagged} {new : Last C} → (h : Halfway rest is_open f yields i (c ∷ cs) ss b m) → (left : List Sub) → h.left ≡ left → EachHolds rest is_open f (c ∷ cs) left → GroupEndsAt rest is_open i c None m a new
         → Halfway rest is_open f yields (i + 1) cs ss b a
     half_by h [] is k e = absurd k
     half_by {cs} {i} {c} {b} {m} {a} {new} h (s ∷ left) is k e =
@@ -163,30 +163,30 @@ module _ {C : Type 0} (rest : C → ListFunction) (is_open : C → Bool) where
           holds = k.1;
         }
 
-    pub half_step : {ds cs : List (Option C)} {i : ℕ} {c : Option C} {r : Option Why} {b m a : List Tagged} {new : Last C} → r ≡ None → ds ≡ c ∷ cs → Halfway rest is_open f yields i ds ss b m → EndsAt rest is_open i c r m a new → Halfway rest is_open f yields (i + 1) cs ss b a
+    pub half_step : {ds cs : List (Option C)} {i : ℕ} {c : Option C} {r : Option Why} {b m a : List Tagged} {new : Last C} → r ≡ None → ds ≡ c ∷ cs → Halfway rest is_open f yields i ds ss b m → GroupEndsAt rest is_open i c r m a new → Halfway rest is_open f yields (i + 1) cs ss b a
     half_step {ds} {cs} {i} {c} {r} {b} {m} {a} {new} is are h e =
         let g : Halfway rest is_open f yields i (c ∷ cs) ss b m = subst (λ l. Halfway rest is_open f yields i l ss b m) are h in
-        half_by g g.left refl g.holds (subst (λ x. EndsAt rest is_open i c x m a new) is e)
+        half_by g g.left refl g.holds (subst (λ x. GroupEndsAt rest is_open i c x m a new) is e)
 
-    fails_by : {cs : List (Option C)} {i : ℕ} {c : Option C} {b m a : List Tagged} {new : Last C} {w : Why} → (h : Halfway rest is_open f yields i (c ∷ cs) ss b m) → (left : List Sub) → h.left ≡ left → EachHolds rest is_open f (c ∷ cs) left → EndsAt rest is_open i c (Some w) m a new
+    fails_by : {cs : List (Option C)} {i : ℕ} {c : Option C} {b m a : List Tagged} {new : Last C} {w : Why} → (h : Halfway rest is_open f yields i (c ∷ cs) ss b m) → (left : List Sub) → h.left ≡ left → EachHolds rest is_open f (c ∷ cs) left → GroupEndsAt rest is_open i c (Some w) m a new
         → trouble yields (end_all ss) ≡ Some (by_end w)
     fails_by h [] is k e = absurd k
     fails_by {cs} {i} {c} {b} {m} {a} {new} {w} h (s ∷ left) is k e =
         ap (λ (l : List Sub). trouble yields (end_all l)) (h.are ∙ ap (λ (l : List Sub). h.olds ++ l) is) ∙ ap (trouble yields) (end_append h.olds (s ∷ left))
         ∙ trouble_append yields (end_all h.olds) (end_all (s ∷ left)) h.calm ∙ trouble_fails yields (end_sub s) (end_all left) (by_end w) (end_fails f yields means s w (e f (Some s.took) (refl, k.0.1)))
 
-    pub half_fails : {ds cs : List (Option C)} {i : ℕ} {c : Option C} {r : Option Why} {b m a : List Tagged} {new : Last C} {w : Why} → r ≡ Some w → ds ≡ c ∷ cs → Halfway rest is_open f yields i ds ss b m → EndsAt rest is_open i c r m a new → trouble yields (end_all ss) ≡ Some (by_end w)
+    pub half_fails : {ds cs : List (Option C)} {i : ℕ} {c : Option C} {r : Option Why} {b m a : List Tagged} {new : Last C} {w : Why} → r ≡ Some w → ds ≡ c ∷ cs → Halfway rest is_open f yields i ds ss b m → GroupEndsAt rest is_open i c r m a new → trouble yields (end_all ss) ≡ Some (by_end w)
     half_fails {ds} {cs} {i} {c} {r} {b} {m} {a} {new} {w} is are h e =
         let g : Halfway rest is_open f yields i (c ∷ cs) ss b m = subst (λ l. Halfway rest is_open f yields i l ss b m) are h in
-        fails_by g g.left refl g.holds (subst (λ x. EndsAt rest is_open i c x m a new) is e)
+        fails_by g g.left refl g.holds (subst (λ x. GroupEndsAt rest is_open i c x m a new) is e)
 
-    done_by : {i : ℕ} {b a : List Tagged} → (h : Halfway rest is_open f yields i [] ss b a) → (left : List Sub) → h.left ≡ left → EachHolds rest is_open f [] left → Reaches yields (λ now. ⊤) ss (end_all ss) None b a
+    done_by : {i : ℕ} {b a : List Tagged} → (h : Halfway rest is_open f yields i [] ss b a) → (left : List Sub) → h.left ≡ left → EachHolds rest is_open f [] left → SubsReach yields (λ now. ⊤) ss (end_all ss) None b a
     done_by {i} {b} {a} h [] is k =
         let all : ss ≡ h.olds = h.are ∙ ap (λ (l : List Sub). h.olds ++ l) is ∙ append-nil h.olds in
-        subst (λ (l : List Sub). Reaches yields (λ now. ⊤) l (end_all l) None b a) (sym all) (h.calm, (h.out, tt))
+        subst (λ (l : List Sub). SubsReach yields (λ now. ⊤) l (end_all l) None b a) (sym all) (h.calm, (h.out, tt))
     done_by h (s ∷ left) is k = absurd k
 
-    pub half_done : {ds : List (Option C)} {i : ℕ} {b a : List Tagged} → ds ≡ [] → Halfway rest is_open f yields i ds ss b a → Reaches yields (λ now. ⊤) ss (end_all ss) None b a
+    pub half_done : {ds : List (Option C)} {i : ℕ} {b a : List Tagged} → ds ≡ [] → Halfway rest is_open f yields i ds ss b a → SubsReach yields (λ now. ⊤) ss (end_all ss) None b a
     half_done {ds} {i} {b} {a} none h = let g : Halfway rest is_open f yields i [] ss b a = subst (λ l. Halfway rest is_open f yields i l ss b a) none h in done_by g g.left refl g.holds
 
 -- ---- the loop
@@ -219,7 +219,7 @@ module _ {C : Type 0} (rest : C → ListFunction) (is_open : C → Bool) (all : 
   half_fault slots i r m a w is h e = λ f yields means ss k. half_fails rest is_open f yields means ss is (slot_drop slots i e.0 None e.1.0).0 (h f yields means ss k) e.1.1.1
 
   pub half_all : (slots : List (Option C)) (i : ℕ) (a : List Tagged) → length slots ≤ i → Half i slots a
-      → (f : ListFunction) (yields : List Tree → End → Given Tree) → Means yields f → (ss : List Sub) → EachHolds rest is_open f all ss → Reaches yields (λ now. ⊤) ss (end_all ss) None b a
+      → (f : ListFunction) (yields : List Tree → End → Given Tree) → Means yields f → (ss : List Sub) → EachHolds rest is_open f all ss → SubsReach yields (λ now. ⊤) ss (end_all ss) None b a
   half_all slots i a long h = λ f yields means ss k. half_done rest is_open f yields means ss (drop_all slots i long) (h f yields means ss k)
 
 pub within_after : {C E : Type 0} (rest : C → ListFunction) (is_open : C → Bool) (cs new : List (Option C)) (places : Tree → Option ℕ) (r : Result (Option Blame) E) → Within places cs → OnOk r (length new ≡ length cs) → OnOk r (Within places new)
@@ -227,5 +227,5 @@ within_after rest is_open cs new places (Ok x) h n = within_same rest is_open cs
 within_after rest is_open cs new places (Err e) h n = tt
 
 pub ends_one : {C : Type 0} (rest : C → ListFunction) (is_open : C → Bool) (slots : List (Option C)) (i : ℕ) (c : Option C) (l new : Last C) (why : Option Why) (b a : List Tagged) → slice_get slots i ≡ Some c → l ≡ record { ended = i; live = true; slot = c }
-    → ((f : ListFunction) (took : Option (List Tree)) → Took rest is_open f l took → LastEnds rest is_open f l took why b a new) → EndsOne rest is_open slots i why b a
-ends_one rest is_open slots i c l new why b a e is h = (c, (e, (new, subst (λ k. (f : ListFunction) (took : Option (List Tree)) → Took rest is_open f k took → LastEnds rest is_open f k took why b a new) is h)))
+    → ((f : ListFunction) (took : Option (List Tree)) → LastTook rest is_open f l took → LastEnds rest is_open f l took why b a new) → EndsOne rest is_open slots i why b a
+ends_one rest is_open slots i c l new why b a e is h = (c, (e, (new, subst (λ k. (f : ListFunction) (took : Option (List Tree)) → LastTook rest is_open f k took → LastEnds rest is_open f k took why b a new) is h)))

@@ -11,7 +11,7 @@ use Rattle.stream_model.specs.Substreams.{Sub, Fault, by_element, by_end, end_su
 use Rattle.port_core.specs.declared.chain.ChainStep.{ChainStep}
 use Rattle.port_core.specs.declared.chain.ChainStep.TheVariants.{Go, Closed, Failed}
 use Rattle.port_core.specs.ListFunction.{ListFunction}
-use Rattle.chain_core.specs.Means.{StandsAs, EndsAs, Means}
+use Rattle.chain_core.specs.Means.{ChainStandsAs, ChainEndsAs, Means}
 use Rattle.stage_sub.specs.Splits.{EndsSub, Calm}
 use Rattle.stage_sub.specs.Subs.{AllEnded}
 
@@ -98,13 +98,13 @@ take_append t (r ∷ q ∷ a) s = ap (λ (l : List Sub). r ∷ l) (take_append t
 -- ---- one substream
 
 module _ (f : ListFunction) (yields : List Tree → End → Given Tree) (means : Means yields f) where
-  calm_end : (x : ChainStep) (e a : End) → (x ≡ Go) ⊎ (x ≡ Closed) → StandsAs x e → fault_in yields false e a ≡ None
+  calm_end : (x : ChainStep) (e a : End) → (x ≡ Go) ⊎ (x ≡ Closed) → ChainStandsAs x e → fault_in yields false e a ≡ None
   calm_end Go e a h s = rw s refl
   calm_end Closed e a h s = rw s refl
   calm_end (Failed w) e a (inl h) s = cc
   calm_end (Failed w) e a (inr h) s = cc
 
-  failing_end : (b : Bool) (x : ChainStep) (e a : End) (w : Why) → x ≡ Failed w → StandsAs x e → fault_in yields b e a ≡ Some (by_element w)
+  failing_end : (b : Bool) (x : ChainStep) (e a : End) (w : Why) → x ≡ Failed w → ChainStandsAs x e → fault_in yields b e a ≡ Some (by_element w)
   failing_end b (Failed v) e a w h s = rw s.1.0 (ap (λ (u : Why). Some (by_element u)) (s.1.1 ∙ cc))
   failing_end b Go e a w h s = cc
   failing_end b Closed e a w h s = cc
@@ -119,12 +119,12 @@ module _ (f : ListFunction) (yields : List Tree → End → Given Tree) (means :
 
   -- its end
   ends_as : (took given : List Tree) → EndsSub f took None given → yields took ended ≡ record { list = f.gives took ++ given; end = ended }
-  ends_as took given (inl h) = subst (λ x. EndsAs x (f.gives took) (yields took ended)) h.1 (means.ends took h.0)
+  ends_as took given (inl h) = subst (λ x. ChainEndsAs x (f.gives took) (yields took ended)) h.1 (means.ends took h.0)
   ends_as took given (inr h) =
       let same : f.gives took ≡ f.gives took ++ given = sym (append-nil (f.gives took)) ∙ ap (λ (l : List Tree). f.gives took ++ l) (sym h.1) in
       means.closed took h.0 ∙ ap (λ (l : List Tree). record { list = l; end = ended }) same
 
-  stands_open : (x : ChainStep) (e a : End) → (x ≡ Go) ⊎ (x ≡ Closed) → StandsAs x e → a ≡ ended → fault_in yields true e a ≡ None
+  stands_open : (x : ChainStep) (e a : End) → (x ≡ Go) ⊎ (x ≡ Closed) → ChainStandsAs x e → a ≡ ended → fault_in yields true e a ≡ None
   stands_open Go e a h s q = rw (s, q) refl
   stands_open Closed e a h s q = rw (s, q) refl
   stands_open (Failed w) e a (inl h) s q = cc
@@ -137,13 +137,13 @@ module _ (f : ListFunction) (yields : List Tree → End → Given Tree) (means :
   pub end_calm : (s : Sub) (given : List Tree) → EndsSub f s.took None given → fault_of yields (end_sub s) ≡ None
   end_calm s given h = stands_open (f.stop s.took) (yields s.took unended).end (yields s.took ended).end (ends_calm s.took given h) (means.stands s.took) (ap (λ (g : Given Tree). g.end) (ends_as s.took given h))
 
-  failing_at_end : (x : ChainStep) (e a : End) (w : Why) → x ≡ Go → StandsAs x e → (c : Cause) × ((a ≡ failed c) × (c.why ≡ w)) → fault_in yields true e a ≡ Some (by_end w)
+  failing_at_end : (x : ChainStep) (e a : End) (w : Why) → x ≡ Go → ChainStandsAs x e → (c : Cause) × ((a ≡ failed c) × (c.why ≡ w)) → fault_in yields true e a ≡ Some (by_end w)
   failing_at_end Go e a w h s q = rw (s, q.1.0) (ap (λ (u : Why). Some (by_end u)) q.1.1)
   failing_at_end Closed e a w h s q = cc
   failing_at_end (Failed v) e a w h s q = cc
 
   pub end_fails : (s : Sub) (w : Why) → EndsSub f s.took (Some w) [] → fault_of yields (end_sub s) ≡ Some (by_end w)
-  end_fails s w h = failing_at_end (f.stop s.took) (yields s.took unended).end (yields s.took ended).end w h.0 (means.stands s.took) (subst (λ x. EndsAs x (f.gives s.took) (yields s.took ended)) h.1 (means.ends s.took h.0))
+  end_fails s w h = failing_at_end (f.stop s.took) (yields s.took unended).end (yields s.took ended).end w h.0 (means.stands s.took) (subst (λ x. ChainEndsAs x (f.gives s.took) (yields s.took ended)) h.1 (means.ends s.took h.0))
 
   -- what it gave
   pub given_open : (key : Tree) (took : List Tree) → (given_by yields (record { key = key; took = took; ended = false })).list ≡ f.gives took

@@ -34,11 +34,11 @@ use Rattle.stage_law.proofs.Ports.{in_unended, may_open}
 use Rattle.stage_core.specs.declared.phase.Phase.{Phase}
 use Rattle.stage_core.specs.declared.phase.Phase.TheVariants.{New, Open, Closed}
 use Rattle.chain_core.specs.Means.{Means}
-use Rattle.stage_sub.specs.Joined.{items, untag, joined}
+use Rattle.stage_sub.specs.Joined.{items, untag, joined_machine}
 use Rattle.stage_sub.specs.KeptSubs.{opening_of}
 use Rattle.stage_sub.specs.Moves.{port_in, noted, added, arising}
-use Rattle.stage_sub.specs.States.{Logic, port_state, port_state_in, OwesIn, Owes, Queues, Turned, Ready}
-use Rattle.stage_sub.specs.Handling.{sub_moves, IsUnmoved, ChoosesAs, ports_of, ready_of, SubFresh, SubPortState, Tells, SubLaw}
+use Rattle.stage_sub.specs.States.{Logic, port_state, port_state_in, OwesIn, Owes, QueuesOutputs, Turned, Ready}
+use Rattle.stage_sub.specs.Handling.{sub_moves, IsUnmoved, ChoosesAs, ports_given, ready_of, SubFresh, SubPortState, TellsMachine, SubLaw}
 use Rattle.stage_sub.proofs.Telling.{told_then, told_still}
 use Rattle.stage_sub.proofs.Untagging.{state_untag}
 use Rattle.stage_sub.proofs.Rows.{called_open, first_call}
@@ -132,7 +132,7 @@ chooses_self (Some a) = tt
 record Noted (was : Option (List ℕ)) (gave : Option Tagged) (ms : List ℕ) : Type 0 where
   before_it : List ℕ
   is : was ≡ Some before_it
-  now : ms ≡ before_it ++ ports_of (option_to_list gave)
+  now : ms ≡ before_it ++ ports_given (option_to_list gave)
 
 noted_as : (was : Option (List ℕ)) (gave : Option Tagged) (ms : List ℕ) → noted was (port_in gave) ≡ Some ms → Noted was gave ms
 noted_as None gave ms h = cc
@@ -181,7 +181,7 @@ module _ {C : Type 0} (whole rest : C → ListFunction) (is_open : C → Bool) w
     o = opening_of first.how
 
     abbrev j : Machine Subs Tree
-    j = joined yields o
+    j = joined_machine yields o
 
     abbrev ready : List Tree → End → List Tagged
     ready = ready_of yields o start
@@ -190,41 +190,41 @@ module _ {C : Type 0} (whole rest : C → ListFunction) (is_open : C → Bool) w
     -- that is ready are the moves, and then others: those of what is held, where it is not closed.
     record Counted (old new : Logic C) (gave : Option Tagged) (was now : List Tagged) (ms ks : List ℕ) : Type 0 where
       others : List ℕ
-      ports : ports_of now ≡ ks ++ others
-      held_still : new.phase ≢ Closed → others ≡ ports_of new.pending
+      ports : ports_given now ≡ ks ++ others
+      held_still : new.phase ≢ Closed → others ≡ ports_given new.pending
 
-    counted : (call : Call) (x : Run Subs Tree) (old new : Logic C) (gave : Option Tagged) (was now : List Tagged) (ms ks : List ℕ) → Queues (substreams yields o) call (owing x) old gave new → now ≡ was ++ arising (substreams yields o) call x.state
-        → ports_of was ≡ ms ++ ports_of old.pending → ks ≡ ms ++ ports_of (option_to_list gave) → Counted old new gave was now ms ks
+    counted : (call : Call) (x : Run Subs Tree) (old new : Logic C) (gave : Option Tagged) (was now : List Tagged) (ms ks : List ℕ) → QueuesOutputs (substreams yields o) call (owing x) old gave new → now ≡ was ++ arising (substreams yields o) call x.state
+        → ports_given was ≡ ms ++ ports_given old.pending → ks ≡ ms ++ ports_given (option_to_list gave) → Counted old new gave was now ms ks
     counted call x old new gave was now ms ks (inl q) r p k =
         let arose : List Tagged = arising (substreams yields o) call x.state in
-        let tail : ports_of old.pending ++ ports_of arose ≡ ports_of (option_to_list gave) ++ ports_of new.pending =
-        sym (map-append (λ (y : Tagged). y.port) old.pending arose) ∙ ap ports_of (sym q) ∙ map-append (λ (y : Tagged). y.port) (option_to_list gave) new.pending in
+        let tail : ports_given old.pending ++ ports_given arose ≡ ports_given (option_to_list gave) ++ ports_given new.pending =
+        sym (map-append (λ (y : Tagged). y.port) old.pending arose) ∙ ap ports_given (sym q) ∙ map-append (λ (y : Tagged). y.port) (option_to_list gave) new.pending in
         record {
-          others = ports_of new.pending;
+          others = ports_given new.pending;
           ports =
-              ap ports_of r ∙ map-append (λ (y : Tagged). y.port) was arose ∙ ap (λ (l : List ℕ). l ++ ports_of arose) p ∙ append_assoc ms (ports_of old.pending) (ports_of arose)
-              ∙ ap (λ (l : List ℕ). ms ++ l) tail ∙ sym (append_assoc ms (ports_of (option_to_list gave)) (ports_of new.pending)) ∙ ap (λ (l : List ℕ). l ++ ports_of new.pending) (sym k);
+              ap ports_given r ∙ map-append (λ (y : Tagged). y.port) was arose ∙ ap (λ (l : List ℕ). l ++ ports_given arose) p ∙ append_assoc ms (ports_given old.pending) (ports_given arose)
+              ∙ ap (λ (l : List ℕ). ms ++ l) tail ∙ sym (append_assoc ms (ports_given (option_to_list gave)) (ports_given new.pending)) ∙ ap (λ (l : List ℕ). l ++ ports_given new.pending) (sym k);
           held_still = λ open_. refl;
         }
     counted call x old new gave was now ms ks (inr q) r p k =
         let arose : List Tagged = arising (substreams yields o) call x.state in
-        let same : ks ≡ ms = k ∙ ap (λ (g : Option Tagged). ms ++ ports_of (option_to_list g)) q.0 ∙ append-nil ms in
+        let same : ks ≡ ms = k ∙ ap (λ (g : Option Tagged). ms ++ ports_given (option_to_list g)) q.0 ∙ append-nil ms in
         record {
-          others = ports_of old.pending ++ ports_of arose;
+          others = ports_given old.pending ++ ports_given arose;
           ports =
-              ap ports_of r ∙ map-append (λ (y : Tagged). y.port) was arose ∙ ap (λ (l : List ℕ). l ++ ports_of arose) p ∙ append_assoc ms (ports_of old.pending) (ports_of arose)
-              ∙ ap (λ (l : List ℕ). l ++ (ports_of old.pending ++ ports_of arose)) (sym same);
+              ap ports_given r ∙ map-append (λ (y : Tagged). y.port) was arose ∙ ap (λ (l : List ℕ). l ++ ports_given arose) p ∙ append_assoc ms (ports_given old.pending) (ports_given arose)
+              ∙ ap (λ (l : List ℕ). l ++ (ports_given old.pending ++ ports_given arose)) (sym same);
           held_still = λ open_. absurd (open_ q.1);
         }
 
     -- the moves are as many as the elements that were given
-    as_many : (ms : List ℕ) (g : List Tree) (gave : Option Tagged) → length ms ≡ length g → length (ms ++ ports_of (option_to_list gave)) ≡ length (g ++ items (option_to_list gave))
+    as_many : (ms : List ℕ) (g : List Tree) (gave : Option Tagged) → length ms ≡ length g → length (ms ++ ports_given (option_to_list gave)) ≡ length (g ++ items (option_to_list gave))
     as_many ms g None e = ap length (append-nil ms) ∙ e ∙ ap length (sym (append-nil g))
     as_many ms g (Some x) e = length-append ms (x.port ∷ []) ∙ ap (λ n. n + 1) e ∙ sym (length-append g (x.item ∷ []))
 
     module _ (call : Call) (old new : Logic C) (v : View) (acts : List Act) (took gave : List Item) where
       abbrev Later : Type 0
-      Later = Tells rest is_open f yields start first new (acted_all (seen call v) acts) (took ++ brought_to 0 call) (gave ++ given_on 0 acts)
+      Later = TellsMachine rest is_open f yields start first new (acted_all (seen call v) acts) (took ++ brought_to 0 call) (gave ++ given_on 0 acts)
 
       abbrev OldLaw : Run Subs Tree → Type 0
       OldLaw x = Law j (untag start) (owing x) (in_at v 0) (out_at v 0) took gave
@@ -236,9 +236,9 @@ module _ {C : Type 0} (whole rest : C → ListFunction) (is_open : C → Bool) w
 
       tells_owing : (x : Run Subs Tree) → Owes rest is_open f yields old (owing x) → (law : OldLaw x)
           → ((ms : List ℕ) → old.moves ≡ Some ms → length ms ≡ length law.out_list)
-          → ((ms : List ℕ) → old.moves ≡ Some ms → old.phase ≢ Closed → ports_of (ready law.in_list law.in_end) ≡ ms ++ ports_of old.pending)
+          → ((ms : List ℕ) → old.moves ≡ Some ms → old.phase ≢ Closed → ports_given (ready law.in_list law.in_end) ≡ ms ++ ports_given old.pending)
           → port_state old v → CallAllowed call v → ActsAllowed (seen call v) acts → (t : Turned whole rest is_open call old acts new)
-          → (y : Held Subs) → Owes rest is_open f yields new y → TurnAt j 0 call (owing x) (given_on 0 acts) y → Queues (substreams yields o) call (owing x) old t.gave new → Later
+          → (y : Held Subs) → Owes rest is_open f yields new y → TurnAt j 0 call (owing x) (given_on 0 acts) y → QueuesOutputs (substreams yields o) call (owing x) old t.gave new → Later
       tells_owing x owes law counts queued r may allowed t y now turn queues =
           let next = call_law j (untag start) 0 call (owing x) y v took gave acts (one_input (port_state_in old.phase old.over old.asked old.pending) v.ins v.outs r) may allowed turn law in
           let out = told_then gave (gave ++ given_on 0 acts) (given_on 0 acts) law.out_list (items (option_to_list t.gave)) law.out_end t.closing next.out_list next.out_end law.gave_is law.keeps.0 t.out next.gave_is refl in
@@ -254,20 +254,20 @@ module _ {C : Type 0} (whole rest : C → ListFunction) (is_open : C → Bool) w
             owes = now;
             law = next;
             counts = count;
-            moves = λ ms e. let a = all ms e in front ms (ports_of (ready next.in_list next.in_end)) a.others next.out_list (count ms e) a.ports;
+            moves = λ ms e. let a = all ms e in front ms (ports_given (ready next.in_list next.in_end)) a.others next.out_list (count ms e) a.ports;
             queued = λ ms e open_. let a = all ms e in a.ports ∙ ap (λ (l : List ℕ). ms ++ l) (a.held_still open_);
           }
 
       tells_after : port_state old v → CallAllowed call v → ActsAllowed (seen call v) acts → Turned whole rest is_open call old acts new → old.how ≡ first.how → Same (whole old.chain) f → Means yields f
-          → Tells rest is_open f yields start first old v took gave → Later
+          → TellsMachine rest is_open f yields start first old v took gave → Later
       tells_after r may allowed t how same means tells = by_held tells.held tells.owes tells.law tells.counts tells.queued
         where
           by_held : (x : Held Subs) → Owes rest is_open f yields old x → (law : Law j (untag start) x (in_at v 0) (out_at v 0) took gave)
               → ((ms : List ℕ) → old.moves ≡ Some ms → length ms ≡ length law.out_list)
-              → ((ms : List ℕ) → old.moves ≡ Some ms → old.phase ≢ Closed → ports_of (ready law.in_list law.in_end) ≡ ms ++ ports_of old.pending) → Later
+              → ((ms : List ℕ) → old.moves ≡ Some ms → old.phase ≢ Closed → ports_given (ready law.in_list law.in_end) ≡ ms ++ ports_given old.pending) → Later
           by_held shut owes law counts queued = absurd (none_shut f yields call old v owes r may)
           by_held (owing x) owes law counts queued =
-              let step = subst (λ h. (y : Held Subs) × (Owes rest is_open f yields new y × (TurnAt (joined yields (opening_of h)) 0 call (owing x) (given_on 0 acts) y × Queues (substreams yields (opening_of h)) call (owing x) old t.gave new))) how (t.turn f same yields means (owing x) owes) in
+              let step = subst (λ h. (y : Held Subs) × (Owes rest is_open f yields new y × (TurnAt (joined_machine yields (opening_of h)) 0 call (owing x) (given_on 0 acts) y × QueuesOutputs (substreams yields (opening_of h)) call (owing x) old t.gave new))) how (t.turn f same yields means (owing x) owes) in
               tells_owing x owes law counts queued r may allowed t step.0 step.1.0 step.1.1.0 step.1.1.1
 
   law_after : (call : Call) (first old new : Logic C) (v : View) (acts : List Act) (took gave : List (List Item)) → port_state old v → CallAllowed call v → ActsAllowed (seen call v) acts → Turned whole rest is_open call old acts new
@@ -345,12 +345,12 @@ module _ {C : Type 0} (whole rest : C → ListFunction) (is_open : C → Bool) w
   no_items (x ∷ l) e = cc
 
   fresh_tells : (f : ListFunction) (yields : List Tree → End → Given Tree) (start : Run Subs Tagged) (l : Logic C) (v : View) (x : InView) (y : OutView) → l.phase ≡ New → IsUnmoved l.moves → News l.pending x y → v.ins ≡ x ∷ [] → v.outs ≡ y ∷ []
-      → Owes rest is_open f yields l (owing (untag start)) → Tells rest is_open f yields start l l v [] []
+      → Owes rest is_open f yields l (owing (untag start)) → TellsMachine rest is_open f yields start l l v [] []
   fresh_tells f yields start l v x y n u news a b owes =
       let o : Opening = opening_of l.how in
       let none : start.gave ≡ [] = no_items start.gave (owed_new f yields l (untag start) n owes ∙ ap items news.none) in
-      let law : Law (joined yields o) (untag start) (owing (untag start)) (in_at v 0) (out_at v 0) [] [] =
-      at_ports (joined yields o) (untag start) (owing (untag start)) v x y a b (new_law (joined yields o) (untag start) x y news.took_as news.gave_as (λ h. ap items none)) in
+      let law : Law (joined_machine yields o) (untag start) (owing (untag start)) (in_at v 0) (out_at v 0) [] [] =
+      at_ports (joined_machine yields o) (untag start) (owing (untag start)) v x y a b (new_law (joined_machine yields o) (untag start) x y news.took_as news.gave_as (λ h. ap items none)) in
       let took = told_still [] [] [] unended law.in_list law.in_end refl law.took_is refl in
       let gave = told_still [] [] [] unended law.out_list law.out_end refl law.gave_is refl in
       let nothing : ready_of yields o start law.in_list law.in_end ≡ [] =
@@ -360,8 +360,8 @@ module _ {C : Type 0} (whole rest : C → ListFunction) (is_open : C → Bool) w
         owes = owes;
         law = law;
         counts = λ ms e. ap length (unmoved_none l.moves ms u e) ∙ ap length (sym gave.0);
-        moves = λ ms e. unmoved_none l.moves ms u e ∙ ap (λ (g : List Tree). take (length g) (ports_of (ready_of yields o start law.in_list law.in_end))) (sym gave.0);
-        queued = λ ms e open_. ap ports_of nothing ∙ ap ports_of (sym news.none) ∙ ap (λ (k : List ℕ). k ++ ports_of l.pending) (sym (unmoved_none l.moves ms u e));
+        moves = λ ms e. unmoved_none l.moves ms u e ∙ ap (λ (g : List Tree). take (length g) (ports_given (ready_of yields o start law.in_list law.in_end))) (sym gave.0);
+        queued = λ ms e open_. ap ports_given nothing ∙ ap ports_given (sym news.none) ∙ ap (λ (k : List ℕ). k ++ ports_given l.pending) (sym (unmoved_none l.moves ms u e));
       }
 
   fresh_law : (l : Logic C) (v : View) (took gave : List (List Item)) → SubFresh rest is_open l v → histories.AllEmpty took → histories.AllEmpty gave → length took ≡ length v.ins → length gave ≡ length v.outs → SubLaw rest is_open whole l l v took gave

@@ -26,10 +26,10 @@ use Rattle.stage_core.specs.declared.phase.Phase.{Phase}
 use Rattle.stage_core.specs.declared.phase.Phase.TheVariants.{New, Open}
 use Rattle.chain_core.specs.Means.{Means}
 use Rattle.stage_sub.specs.Subs.{fault_in_model}
-use Rattle.stage_sub.specs.Joined.{items, untag, joined}
+use Rattle.stage_sub.specs.Joined.{items, untag, joined_machine}
 use Rattle.stage_sub.specs.KeptSubs.{KeptSubs, opening_of, Keeps, TakesBy}
 use Rattle.stage_sub.specs.Moves.{noted, port_in}
-use Rattle.stage_sub.specs.States.{Logic, port_state, port_state_in, Owes, Queues, Turned, cause_by, answered, answer_acts, answer_gave}
+use Rattle.stage_sub.specs.States.{Logic, port_state, port_state_in, Owes, QueuesOutputs, Turned, cause_of_blame, answered, answer_acts, answer_gave}
 use Rattle.stage_sub.specs.declared.opening.OpenBy.{OpenBy}
 use Rattle.stage_sub.specs.declared.blame.Blame.{Blame}
 use Rattle.stage_sub.specs.declared.blame.Blame.TheVariants.{AtElement, AtEnd}
@@ -101,7 +101,7 @@ module _ (yields : List Tree → End → Given Tree) (s : Subs) where
   pub stepped_err : (o : Opening) (t : Tree) (w : Why) → arranged o s.subs t ≡ Err w → sub_step yields o s t ≡ record { gave = []; state = broken (blame s w) }
   stepped_err o t w a = step_is o t ∙ ap of_result a
 
-  cause_is : (b : Blame) → cause_of s (fault_in_model b) ≡ cause_by s.node (s.taken + 1) b
+  cause_is : (b : Blame) → cause_of s (fault_in_model b) ≡ cause_of_blame s.node (s.taken + 1) b
   cause_is (AtElement w) = refl
   cause_is (AtEnd w) = refl
 
@@ -129,7 +129,7 @@ module _ {C : Type 0} (rest : C → ListFunction) (is_open : C → Bool) (node n
 
   module _ (f : ListFunction) (yields : List Tree → End → Given Tree) where
     abbrev machine : Machine Subs Tree
-    machine = joined yields (opening_of how)
+    machine = joined_machine yields (opening_of how)
 
     abbrev at : Subs → Run Subs Tree
     at s = record { gave = []; state = going s }
@@ -138,7 +138,7 @@ module _ {C : Type 0} (rest : C → ListFunction) (is_open : C → Bool) (node n
     abbrev Steps : KeptSubs C → List Tagged → Option Blame → Subs → Type 0
     Steps now after b s =
         (y : Held Subs) × (Owes rest is_open f yields (then_one now after b) y
-        × (TurnAt machine 0 (arrives 0 (item.Elem t)) (owing (at s)) (given_on 0 (acts_then now after b)) y × Queues (substreams yields (opening_of how)) (arrives 0 (item.Elem t)) (owing (at s)) old_one (gave_then now after b) (then_one now after b)))
+        × (TurnAt machine 0 (arrives 0 (item.Elem t)) (owing (at s)) (given_on 0 (acts_then now after b)) y × QueuesOutputs (substreams yields (opening_of how)) (arrives 0 (item.Elem t)) (owing (at s)) old_one (gave_then now after b) (then_one now after b)))
 
     -- the step of the machine, and what came of it
     fed : (s : Subs) (x : Run Subs Tagged) → sub_step yields (opening_of how) s t ≡ x → feed machine (at s) t ≡ untag x
@@ -169,9 +169,9 @@ module _ {C : Type 0} (rest : C → ListFunction) (is_open : C → Bool) (node n
           ),
         )
 
-    breaks : (s : Subs) (now : KeptSubs C) (after : List Tagged) (b : Blame) (c : Cause) → c ≡ cause_by node (n + 1) b → sub_step yields (opening_of how) s t ≡ record { gave = []; state = broken c } → Steps now after (Some b) s
+    breaks : (s : Subs) (now : KeptSubs C) (after : List Tagged) (b : Blame) (c : Cause) → c ≡ cause_of_blame node (n + 1) b → sub_step yields (opening_of how) s t ≡ record { gave = []; state = broken c } → Steps now after (Some b) s
     breaks s now after b c is e =
-        (shut, (tt, ((subst (λ x. Emits machine x (item.Failed (cause_by node (n + 1) b) ∷ []) shut) (sym (fed s _ e)) (refl, ap (λ (d : Cause). item.Failed d ∷ []) (sym is)), tt), inr (refl, refl))))
+        (shut, (tt, ((subst (λ x. Emits machine x (item.Failed (cause_of_blame node (n + 1) b) ∷ []) shut) (sym (fed s _ e)) (refl, ap (λ (d : Cause). item.Failed d ∷ []) (sym is)), tt), inr (refl, refl))))
 
     steps : (s : Subs) (now : KeptSubs C) (after : List Tagged) (b : Option Blame) → s.node ≡ node → s.taken ≡ n → TakesBy rest is_open f yields how s.subs t b [] after now → Steps now after b s
     steps s now after None sn st (inl (w, (e, q))) = cc
@@ -179,9 +179,9 @@ module _ {C : Type 0} (rest : C → ListFunction) (is_open : C → Bool) (node n
         goes s now subs after sn st (stepped yields s (opening_of how) t subs e h.0 ∙ ap (λ (l : List Tagged). record { gave = l; state = going (goes_to yields s subs) }) (sym h.1.0)) h.1.1
     steps s now after (Some b) sn st (inl (w, (e, q))) =
         let same : b ≡ AtElement w = same_Some b (AtElement w) q in
-        breaks s now after b (blame s w) (ap (λ k. record { stage = k; nth = s.taken + 1; why = w }) sn ∙ ap (λ k. record { stage = node; nth = k + 1; why = w }) st ∙ ap (cause_by node (n + 1)) (sym same)) (stepped_err yields s (opening_of how) t w e)
+        breaks s now after b (blame s w) (ap (λ k. record { stage = k; nth = s.taken + 1; why = w }) sn ∙ ap (λ k. record { stage = node; nth = k + 1; why = w }) st ∙ ap (cause_of_blame node (n + 1)) (sym same)) (stepped_err yields s (opening_of how) t w e)
     steps s now after (Some b) sn st (inr (subs, (e, h))) =
-        breaks s now after b (cause_of s (fault_in_model b)) (cause_is yields s b ∙ ap (λ k. cause_by k (s.taken + 1) b) sn ∙ ap (λ k. cause_by node (k + 1) b) st) (stepped_fault yields s (opening_of how) t subs (fault_in_model b) e h)
+        breaks s now after b (cause_of s (fault_in_model b)) (cause_is yields s b ∙ ap (λ k. cause_of_blame k (s.taken + 1) b) sn ∙ ap (λ k. cause_of_blame node (k + 1) b) st) (stepped_fault yields s (opening_of how) t subs (fault_in_model b) e h)
 
     owing_by : (x : Run Subs Tree) (s : Subs) → x.gave ≡ [] → x.state ≡ going s → x ≡ at s
     owing_by x s g e = ap (λ (l : List Tree). record { gave = l; state = x.state }) g ∙ ap (λ (k : State Subs). record { gave = []; state = k }) e
@@ -189,7 +189,7 @@ module _ {C : Type 0} (rest : C → ListFunction) (is_open : C → Bool) (node n
     abbrev Turns : KeptSubs C → List Tagged → Option Blame → Held Subs → Type 0
     Turns now after b x =
         (y : Held Subs) × (Owes rest is_open f yields (then_one now after b) y
-        × (TurnAt machine 0 (arrives 0 (item.Elem t)) x (given_on 0 (acts_then now after b)) y × Queues (substreams yields (opening_of how)) (arrives 0 (item.Elem t)) x old_one (gave_then now after b) (then_one now after b)))
+        × (TurnAt machine 0 (arrives 0 (item.Elem t)) x (given_on 0 (acts_then now after b)) y × QueuesOutputs (substreams yields (opening_of how)) (arrives 0 (item.Elem t)) x old_one (gave_then now after b) (then_one now after b)))
 
     turns : (now : KeptSubs C) (after : List Tagged) (b : Option Blame) → ((ss : List Sub) → Keeps rest is_open f yields how kept ss → TakesBy rest is_open f yields how ss t b [] after now)
         → (x : Held Subs) → Owes rest is_open f yields old_one x → Turns now after b x
@@ -221,7 +221,7 @@ module _ {C : Type 0} (rest : C → ListFunction) (is_open : C → Bool) (node n
 
   abbrev closing_by : Option Blame → End
   closing_by None = unended
-  closing_by (Some b) = failed (cause_by node (n + 1) b)
+  closing_by (Some b) = failed (cause_of_blame node (n + 1) b)
 
   out_by : (now : KeptSubs C) (after : List Tagged) (b : Option Blame) → given_on 0 (acts_then now after b) ≡ told (items (option_to_list (gave_then now after b))) (closing_by b)
   out_by now [] None = refl

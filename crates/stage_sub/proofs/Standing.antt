@@ -13,9 +13,9 @@ use Rattle.stream_model.specs.Machine.{Run, Given, run, close, Fails, Stands}
 use Rattle.stream_model.specs.Outlook.{End, unended, ended, failed}
 use Rattle.stream_model.specs.Substreams.{Opening, Subs, substreams, begin_subs, by_sub, sub_count, MergedStands}
 use Rattle.stage_law.proofs.Whole.{stage_stands}
-use Rattle.stage_sub.specs.Joined.{items, untag, joined}
+use Rattle.stage_sub.specs.Joined.{items, untag, joined_machine}
 use Rattle.stage_sub.specs.KeptSubs.{opening_of}
-use Rattle.stage_sub.specs.Handling.{ports_of, ready_of, Tells}
+use Rattle.stage_sub.specs.Handling.{ports_given, ready_of, TellsMachine}
 use Rattle.stage_sub.specs.States.{Logic}
 use Rattle.stage_sub.proofs.Fifo.{given_by_moves, found_by_moves}
 use Rattle.stage_sub.proofs.Untagging.{stands_tagged, ready_part}
@@ -25,13 +25,13 @@ module _ (yields : List Tree → End → Given Tree) (node : ℕ) (o : Opening) 
   begin = begin_subs yields node
 
   -- by moves that are the substreams of the first outputs that are ready, as many as were given
-  merged : (ms : List ℕ) (l : List Tree) (e : End) (g : List Tree) (f : End) → length ms ≡ length g → ms ≡ take (length g) (ports_of (ready_of yields o begin l e)) → Stands (joined yields o) (untag begin) l e g f → MergedStands yields node o ms l e g f
+  merged : (ms : List ℕ) (l : List Tree) (e : End) (g : List Tree) (f : End) → length ms ≡ length g → ms ≡ take (length g) (ports_given (ready_of yields o begin l e)) → Stands (joined_machine yields o) (untag begin) l e g f → MergedStands yields node o ms l e g f
   merged ms l e g f count is stands =
       let all : List Tagged = ready_of yields o begin l e in
       let gave : List Tagged = take (length g) all in
       let part = ready_part yields o begin l e g f stands in
       let first : IsPrefix gave all = prefix_take (length g) all in
-      let same : ports_of gave ≡ ms = sym (take-map (λ (x : Tagged). x.port) (length g) all) ∙ sym is in
+      let same : ports_given gave ≡ ms = sym (take-map (λ (x : Tagged). x.port) (length g) all) ∙ sym is in
       record {
         ready = all;
         are = refl;
@@ -41,7 +41,7 @@ module _ (yields : List Tree → End → Given Tree) (node : ℕ) (o : Opening) 
         fails = λ c d. at_failure f ms count stands c d;
       }
     where
-      at_end : (f : End) (ms : List ℕ) → length ms ≡ length g → Stands (joined yields o) (untag begin) l e g f → f ≡ ended
+      at_end : (f : End) (ms : List ℕ) → length ms ≡ length g → Stands (joined_machine yields o) (untag begin) l e g f → f ≡ ended
           → ((close (substreams yields o) (run (substreams yields o) begin l) e).end ≡ ended) × (length ms ≡ length (ready_of yields o begin l e))
       at_end ended ms count s d =
           let t = stands_tagged yields o begin l e g ended s in
@@ -50,7 +50,7 @@ module _ (yields : List Tree → End → Given Tree) (node : ℕ) (o : Opening) 
       at_end unended ms count s d = cc
       at_end (failed c) ms count s d = cc
 
-      at_failure : (f : End) (ms : List ℕ) → length ms ≡ length g → Stands (joined yields o) (untag begin) l e g f → (c : Cause) → f ≡ failed c → (t : List Tagged) × Fails (substreams yields o) begin l e t c × (length t ≤ length ms)
+      at_failure : (f : End) (ms : List ℕ) → length ms ≡ length g → Stands (joined_machine yields o) (untag begin) l e g f → (c : Cause) → f ≡ failed c → (t : List Tagged) × Fails (substreams yields o) begin l e t c × (length t ≤ length ms)
       at_failure (failed d) ms count s c q =
           let t = stands_tagged yields o begin l e g (failed d) s in
           let long : length t.0 ≡ length ms = sym (length-map t.0 (λ (x : Tagged). x.item)) ∙ ap length t.1.0 ∙ sym count in
@@ -60,14 +60,14 @@ module _ (yields : List Tree → End → Given Tree) (node : ℕ) (o : Opening) 
       at_failure ended ms count s c q = cc
 
 module _ {C : Type 0} (rest : C → ListFunction) (is_open : C → Bool) (f : ListFunction) (yields : List Tree → End → Given Tree) (node : ℕ) (first now : Logic C) (v : View) (took gave : List Item) where
-  pub concat_stands : (t : Tells rest is_open f yields (begin_subs yields node) first now v took gave)
+  pub concat_stands : (t : TellsMachine rest is_open f yields (begin_subs yields node) first now v took gave)
       → (g : List Tagged) × ((items g ≡ t.law.out_list) × Stands (substreams yields (opening_of first.how)) (begin_subs yields node) t.law.in_list t.law.in_end g t.law.out_end)
   concat_stands t =
       stands_tagged yields (opening_of first.how) (begin_subs yields node) t.law.in_list t.law.in_end t.law.out_list t.law.out_end
-      (stage_stands (joined yields (opening_of first.how)) (untag (begin_subs yields node)) t.held (in_at v 0) (out_at v 0) took gave t.law)
+      (stage_stands (joined_machine yields (opening_of first.how)) (untag (begin_subs yields node)) t.held (in_at v 0) (out_at v 0) took gave t.law)
 
-  pub merge_stands : (t : Tells rest is_open f yields (begin_subs yields node) first now v took gave) (ms : List ℕ) → now.moves ≡ Some ms
+  pub merge_stands : (t : TellsMachine rest is_open f yields (begin_subs yields node) first now v took gave) (ms : List ℕ) → now.moves ≡ Some ms
       → MergedStands yields node (opening_of first.how) ms t.law.in_list t.law.in_end t.law.out_list t.law.out_end
   merge_stands t ms e =
       merged yields node (opening_of first.how) ms t.law.in_list t.law.in_end t.law.out_list t.law.out_end (t.counts ms e) (t.moves ms e)
-      (stage_stands (joined yields (opening_of first.how)) (untag (begin_subs yields node)) t.held (in_at v 0) (out_at v 0) took gave t.law)
+      (stage_stands (joined_machine yields (opening_of first.how)) (untag (begin_subs yields node)) t.held (in_at v 0) (out_at v 0) took gave t.law)

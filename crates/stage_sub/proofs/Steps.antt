@@ -12,8 +12,8 @@ use Rattle.stream_model.specs.Substreams.{Sub, by_element, by_end, end_sub, end_
 use Rattle.port_core.specs.declared.chain.ChainStep.TheVariants.{Failed}
 use Rattle.port_core.specs.ListFunction.{ListFunction}
 use Rattle.chain_core.specs.Means.{Means}
-use Rattle.stage_sub.specs.Splits.{Last, Took, LastEnds, LastOpens, LastFeeds, LastGrows}
-use Rattle.stage_sub.specs.Subs.{AllEnded, grown, Split, Becomes}
+use Rattle.stage_sub.specs.Splits.{Last, LastTook, LastEnds, LastOpens, LastFeeds, LastGrows}
+use Rattle.stage_sub.specs.Subs.{AllEnded, grown, Split, SubsBecome}
 use Rattle.stage_sub.proofs.Models.{trouble_append, trouble_both, trouble_one, trouble_fails, news_append, news_one, news_new, done_append, end_done, end_append, open_append, open_done, take_append, sub_calm, sub_fails, end_calm, end_fails, given_open, given_end}
 
 -- what it gave before, where there was one
@@ -52,7 +52,7 @@ module _ {C : Type 0} (rest : C → ListFunction) (is_open : C → Bool) (f : Li
     pub more : (given_by yields now).list ≡ given_before yields old ++ gave
     pub out : after ≡ before ++ map (tag (length olds)) gave
     pub counts : new.ended ≡ length olds
-    pub took : Took rest is_open f new (Some now.took)
+    pub took : LastTook rest is_open f new (Some now.took)
 
   abbrev fresh : Tree → Sub
   fresh t = record { key = t; took = t ∷ []; ended = false }
@@ -113,7 +113,7 @@ module _ {C : Type 0} (rest : C → ListFunction) (is_open : C → Bool) (f : Li
   abbrev pub grows_split : (ss : List Sub) (t : Tree) (before after : List Tagged) (new : Last C) → Grows ss t before after new → Split rest is_open f yields new (grown ss t)
   grows_split ss t before after new g = record { olds = g.olds; tail = Some g.now; are = g.now_are; done = g.done; calm = g.calm; counts = g.counts; lasts = g.lasts; took = g.took }
 
-  pub grows_becomes : (ss : List Sub) (t : Tree) (before after : List Tagged) (new : Last C) → Grows ss t before after new → Becomes rest is_open f yields ss (grown ss t) None before after new
+  pub grows_becomes : (ss : List Sub) (t : Tree) (before after : List Tagged) (new : Last C) → Grows ss t before after new → SubsBecome rest is_open f yields ss (grown ss t) None before after new
   grows_becomes ss t before after new g =
       let calm : trouble yields (grown ss t) ≡ None = ap (trouble yields) g.now_are ∙ trouble_both yields g.olds (g.now ∷ []) g.calm (trouble_one yields g.now g.well) in
       let same : news yields 0 ss (grown ss t) ≡ map (tag (length g.olds)) g.gave =
@@ -124,7 +124,7 @@ module _ {C : Type 0} (rest : C → ListFunction) (is_open : C → Bool) (f : Li
 
   -- and then it ends
   pub grows_ends : (ss : List Sub) (t : Tree) (before mid after : List Tagged) (l new : Last C) (g : Grows ss t before mid l) → LastEnds rest is_open f l (Some g.now.took) None mid after new
-      → Becomes rest is_open f yields ss (end_all (grown ss t)) None before after new
+      → SubsBecome rest is_open f yields ss (end_all (grown ss t)) None before after new
   grows_ends ss t before mid after l new g h =
       let now_are : end_all (grown ss t) ≡ g.olds ++ end_sub g.now ∷ [] = ap end_all g.now_are ∙ end_append g.olds (g.now ∷ []) ∙ ap (λ (l : List Sub). l ++ end_sub g.now ∷ []) (end_done g.olds g.done) in
       let well : fault_of yields (end_sub g.now) ≡ None = end_calm f yields means g.now h.0 h.1.0 in
@@ -159,7 +159,7 @@ module _ {C : Type 0} (rest : C → ListFunction) (is_open : C → Bool) (f : Li
 
   -- by whether there is one
   ends_by : (l new : Last C) (ss olds : List Sub) (tail : Option Sub) (before after : List Tagged) → ss ≡ olds ++ option_to_list tail → AllEnded olds → trouble yields olds ≡ None → l.ended ≡ length olds → IfSome tail (λ s. s.ended ≡ false)
-      → LastEnds rest is_open f l (option_map (λ s. s.took) tail) None before after new → Becomes rest is_open f yields ss (end_all ss) None before after new
+      → LastEnds rest is_open f l (option_map (λ s. s.took) tail) None before after new → SubsBecome rest is_open f yields ss (end_all ss) None before after new
   ends_by l new ss olds None before after are done calm counts open_s h =
       let ss_are : ss ≡ olds = are ∙ append-nil olds in
       let now_are : end_all ss ≡ olds = ap end_all ss_are ∙ end_done olds done in
@@ -193,7 +193,7 @@ module _ {C : Type 0} (rest : C → ListFunction) (is_open : C → Bool) (f : Li
         ),
       )
 
-  pub ends_becomes : (l new : Last C) (ss : List Sub) (before after : List Tagged) (sp : Split rest is_open f yields l ss) → LastEnds rest is_open f l (option_map (λ s. s.took) sp.tail) None before after new → Becomes rest is_open f yields ss (end_all ss) None before after new
+  pub ends_becomes : (l new : Last C) (ss : List Sub) (before after : List Tagged) (sp : Split rest is_open f yields l ss) → LastEnds rest is_open f l (option_map (λ s. s.took) sp.tail) None before after new → SubsBecome rest is_open f yields ss (end_all ss) None before after new
   ends_becomes l new ss before after sp h = ends_by l new ss sp.olds sp.tail before after sp.are sp.done sp.calm sp.counts sp.lasts h
 
   fails_by : (ss olds more : List Sub) (l new : Last C) (tail : Option Sub) (w : Why) (before after : List Tagged) → ss ≡ olds ++ option_to_list tail → AllEnded olds → trouble yields olds ≡ None
@@ -241,8 +241,8 @@ module _ {C : Type 0} (rest : C → ListFunction) (is_open : C → Bool) (f : Li
   grow_some l new ss t w before after sp h = grow_some_by l new ss sp.olds sp.tail t w before after sp.are sp.done sp.calm sp.lasts h
 
   -- all end, and then a new one opens
-  ends_opens : (ss : List Sub) (t : Tree) (before mid after : List Tagged) (l new : Last C) → Becomes rest is_open f yields ss (end_all ss) None before mid l → Becomes rest is_open f yields (end_all ss) (end_all ss ++ fresh t ∷ []) None mid after new
-      → Becomes rest is_open f yields ss (end_all ss ++ fresh t ∷ []) None before after new
+  ends_opens : (ss : List Sub) (t : Tree) (before mid after : List Tagged) (l new : Last C) → SubsBecome rest is_open f yields ss (end_all ss) None before mid l → SubsBecome rest is_open f yields (end_all ss) (end_all ss ++ fresh t ∷ []) None mid after new
+      → SubsBecome rest is_open f yields ss (end_all ss ++ fresh t ∷ []) None before after new
   ends_opens ss t before mid after l new a b =
       let first : news yields 0 (end_all ss) (end_all ss ++ fresh t ∷ []) ≡ news yields (0 + length (end_all ss)) [] (fresh t ∷ []) =
       ap (λ (l : List Sub). news yields 0 l (end_all ss ++ fresh t ∷ [])) (sym (append-nil (end_all ss))) ∙ news_append yields 0 (end_all ss) [] (fresh t ∷ []) in
@@ -263,9 +263,9 @@ module _ {C : Type 0} (rest : C → ListFunction) (is_open : C → Bool) (f : Li
   grown_ended : (ss : List Sub) (t : Tree) → grown (end_all ss) t ≡ end_all ss ++ fresh t ∷ []
   grown_ended ss t = ap (λ (l : List Sub). grown l t) (sym (append-nil (end_all ss))) ∙ grown_none (end_all ss) t (all_done ss)
 
-  pub end_and_open_none : (l mid_l new : Last C) (ss : List Sub) (t : Tree) (before mid after : List Tagged) → Becomes rest is_open f yields ss (end_all ss) None before mid mid_l
-      → Becomes rest is_open f yields (end_all ss) (grown (end_all ss) t) None mid after new → Becomes rest is_open f yields ss (opened t t ss) None before after new
-  end_and_open_none l mid_l new ss t before mid after a b = ends_opens ss t before mid after mid_l new a (subst (λ x. Becomes rest is_open f yields (end_all ss) x None mid after new) (grown_ended ss t) b)
+  pub end_and_open_none : (l mid_l new : Last C) (ss : List Sub) (t : Tree) (before mid after : List Tagged) → SubsBecome rest is_open f yields ss (end_all ss) None before mid mid_l
+      → SubsBecome rest is_open f yields (end_all ss) (grown (end_all ss) t) None mid after new → SubsBecome rest is_open f yields ss (opened t t ss) None before after new
+  end_and_open_none l mid_l new ss t before mid after a b = ends_opens ss t before mid after mid_l new a (subst (λ x. SubsBecome rest is_open f yields (end_all ss) x None mid after new) (grown_ended ss t) b)
 
   pub opened_fails : (ss : List Sub) (t : Tree) (w : Why) → trouble yields (grown (end_all ss) t) ≡ Some (by_element w) → trouble yields (opened t t ss) ≡ Some (by_element w)
   opened_fails ss t w e = ap (trouble yields) (sym (grown_ended ss t)) ∙ e

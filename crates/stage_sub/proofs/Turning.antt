@@ -23,11 +23,11 @@ use Rattle.stage_law.specs.Turn.{Emits, TurnAt}
 use Rattle.stage_core.specs.declared.phase.Phase.{Phase}
 use Rattle.stage_core.specs.declared.phase.Phase.TheVariants.{New, Open, Closed}
 use Rattle.chain_core.specs.Means.{Means}
-use Rattle.stage_sub.specs.Subs.{Reaches, fault_in_model}
-use Rattle.stage_sub.specs.Joined.{items, untag_finish, joined}
+use Rattle.stage_sub.specs.Subs.{SubsReach, fault_in_model}
+use Rattle.stage_sub.specs.Joined.{items, untag_finish, joined_machine}
 use Rattle.stage_sub.specs.KeptSubs.{KeptSubs, opening_of, Keeps}
-use Rattle.stage_sub.specs.Moves.{noted, port_in, first_of, added, arising}
-use Rattle.stage_sub.specs.States.{Logic, port_state, port_state_in, StateIs, Owes, Queues, Turned, cause_by, pulled, pulled_acts, finished, finish_acts, finish_gave, cancel_acts}
+use Rattle.stage_sub.specs.Moves.{noted, port_in, first_output, added, arising}
+use Rattle.stage_sub.specs.States.{Logic, port_state, port_state_in, StateIs, Owes, QueuesOutputs, Turned, cause_of_blame, pulled, pulled_acts, finished, finish_acts, finish_gave, cancel_acts}
 use Rattle.stage_sub.specs.declared.opening.OpenBy.{OpenBy}
 use Rattle.stage_sub.specs.declared.blame.Blame.{Blame}
 use Rattle.stage_sub.specs.declared.blame.Blame.TheVariants.{AtElement, AtEnd}
@@ -92,33 +92,33 @@ module _ {C : Type 0} (whole rest : C → ListFunction) (is_open : C → Bool) (
   }
     where
       by_held : (f : ListFunction) (yields : List Tree → End → Given Tree) (x : Held Subs) → Owes rest is_open f yields (logic New kept p asked over) x
-          → (y : Held Subs) × (Owes rest is_open f yields (logic Open kept p asked over) y × (TurnAt (joined yields (opening_of how)) 0 starts x [] y × Queues (substreams yields (opening_of how)) starts x (logic New kept p asked over) None (logic Open kept p asked over)))
+          → (y : Held Subs) × (Owes rest is_open f yields (logic Open kept p asked over) y × (TurnAt (joined_machine yields (opening_of how)) 0 starts x [] y × QueuesOutputs (substreams yields (opening_of how)) starts x (logic New kept p asked over) None (logic Open kept p asked over)))
       by_held f yields (owing x) h = (owing x, ((h.0, opened_state rest is_open node n how chain ms f yields kept p asked over x.state h.1), ((refl, refl), inl (sym (append-nil p)))))
       by_held f yields shut h = absurd h
 
   -- ---- an ask
 
   abbrev asked_then : KeptSubs C → List Tagged → Bool → Bool → Logic C
-  asked_then kept p asked over = record (pulled (bare kept p asked over) p) { moves = noted ms (port_in (first_of p)) }
+  asked_then kept p asked over = record (pulled (bare kept p asked over) p) { moves = noted ms (port_in (first_output p)) }
 
   module _ (f : ListFunction) (yields : List Tree → End → Given Tree) (kept : KeptSubs C) where
     abbrev Asks : List Tagged → Bool → Bool → Held Subs → Type 0
     Asks p asked over x =
         (y : Held Subs) × (Owes rest is_open f yields (asked_then kept p asked over) y
-        × (TurnAt (joined yields (opening_of how)) 0 (pulls 0) x (given_on 0 (pulled_acts over p)) y × Queues (substreams yields (opening_of how)) (pulls 0) x (logic Open kept p asked over) (first_of p) (asked_then kept p asked over)))
+        × (TurnAt (joined_machine yields (opening_of how)) 0 (pulls 0) x (given_on 0 (pulled_acts over p)) y × QueuesOutputs (substreams yields (opening_of how)) (pulls 0) x (logic Open kept p asked over) (first_output p) (asked_then kept p asked over)))
 
     state_kept : (p q : List Tagged) (a b over : Bool) (l k : Option (List ℕ)) (st : State Subs) → StateIs rest is_open f yields over (of_parts Open node n how chain kept p a over l) st → StateIs rest is_open f yields over (of_parts Open node n how chain kept q b over k) st
     state_kept p q a b false l k st h = h
     state_kept p q a b true l k st h = h
 
-    gave_first : (x : Run Subs Tree) (o : Tagged) (os : List Tagged) → x.gave ≡ items (o ∷ os) → Emits (joined yields (opening_of how)) x (item.Elem o.item ∷ []) (owing (record { gave = items os; state = x.state }))
+    gave_first : (x : Run Subs Tree) (o : Tagged) (os : List Tagged) → x.gave ≡ items (o ∷ os) → Emits (joined_machine yields (opening_of how)) x (item.Elem o.item ∷ []) (owing (record { gave = items os; state = x.state }))
     gave_first x o os e = (ap (λ (l : List Tree). told l unended) e, refl)
 
     asks_at : (p : List Tagged) (asked over : Bool) (x : Held Subs) → Owes rest is_open f yields (logic Open kept p asked over) x → Asks p asked over x
     asks_at [] asked over (owing x) h = (owing x, ((h.0, state_kept [] [] asked true over ms (noted ms None) x.state h.1), ((refl, refl), inl refl)))
     asks_at (o ∷ os) asked false (owing x) h = (owing (record { gave = items os; state = x.state }), ((refl, h.1), (gave_first x o os h.0, inl (sym (append-nil (o ∷ os))))))
     asks_at (o ∷ []) asked true (owing x) h =
-        (shut, (tt, (subst (λ (k : Run Subs Tree). Emits (joined yields (opening_of how)) k (item.Elem o.item ∷ item.Ended ∷ []) shut) (sym (ap (λ (l : List Tree). record { gave = l; state = x.state }) h.0 ∙ ap (λ (k : State Subs). record { gave = o.item ∷ []; state = k }) h.1)) (refl, refl), inl refl)))
+        (shut, (tt, (subst (λ (k : Run Subs Tree). Emits (joined_machine yields (opening_of how)) k (item.Elem o.item ∷ item.Ended ∷ []) shut) (sym (ap (λ (l : List Tree). record { gave = l; state = x.state }) h.0 ∙ ap (λ (k : State Subs). record { gave = o.item ∷ []; state = k }) h.1)) (refl, refl), inl refl)))
     asks_at (o ∷ u ∷ os) asked true (owing x) h = (owing (record { gave = items (u ∷ os); state = x.state }), ((refl, h.1), (gave_first x o (u ∷ os) h.0, inl (sym (append-nil (o ∷ u ∷ os))))))
     asks_at p asked over shut h = absurd h
 
@@ -138,7 +138,7 @@ module _ {C : Type 0} (whole rest : C → ListFunction) (is_open : C → Bool) (
 
   module _ (f : ListFunction) (yields : List Tree → End → Given Tree) (kept now : KeptSubs C) (held : List Tagged) where
     abbrev machine : Machine Subs Tree
-    machine = joined yields (opening_of how)
+    machine = joined_machine yields (opening_of how)
 
     abbrev tagged_machine : Machine Subs Tagged
     tagged_machine = substreams yields (opening_of how)
@@ -146,7 +146,7 @@ module _ {C : Type 0} (whole rest : C → ListFunction) (is_open : C → Bool) (
     abbrev Ends : List Tagged → Bool → Option Blame → Run Subs Tree → Type 0
     Ends after asked b x =
         (y : Held Subs) × (Owes rest is_open f yields (ended_then now after asked b) y
-        × (TurnAt machine 0 (arrives 0 item.Ended) (owing x) (given_on 0 (finish_acts (bare now after asked false) b)) y × Queues tagged_machine (arrives 0 item.Ended) (owing x) (logic Open kept held asked false) (gave_at_end now after asked b) (ended_then now after asked b)))
+        × (TurnAt machine 0 (arrives 0 item.Ended) (owing x) (given_on 0 (finish_acts (bare now after asked false) b)) y × QueuesOutputs tagged_machine (arrives 0 item.Ended) (owing x) (logic Open kept held asked false) (gave_at_end now after asked b) (ended_then now after asked b)))
 
     abbrev Queue : List Tagged → Run Subs Tree → Type 0
     Queue p x = p ≡ held ++ arising tagged_machine (arrives 0 item.Ended) x.state
@@ -170,12 +170,12 @@ module _ {C : Type 0} (whole rest : C → ListFunction) (is_open : C → Bool) (
     finish_is : (s : Subs) (v : Option Fault) → trouble yields (end_all s.subs) ≡ v → sub_finish yields s ≡ of_fault s v
     finish_is s v e = finish_by s (trouble yields (end_all s.subs)) ∙ ap (of_fault s) e
 
-    cause_is : (s : Subs) (b : Blame) → s.node ≡ node → blame_end s (why_of (fault_in_model b)) ≡ cause_by node 0 b
+    cause_is : (s : Subs) (b : Blame) → s.node ≡ node → blame_end s (why_of (fault_in_model b)) ≡ cause_of_blame node 0 b
     cause_is s (AtElement w) e = ap (λ k. record { stage = k; nth = 0; why = w }) e
     cause_is s (AtEnd w) e = ap (λ k. record { stage = k; nth = 0; why = w }) e
 
     ends : (after : List Tagged) (asked : Bool) (b : Option Blame) (x : Run Subs Tree) (s : Subs) → x.gave ≡ items held → x.state ≡ going s → s.node ≡ node
-        → Reaches yields (λ k. ⊤) s.subs (end_all s.subs) b held after → Ends after asked b x
+        → SubsReach yields (λ k. ⊤) s.subs (end_all s.subs) b held after → Ends after asked b x
     ends after_ asked None x s g st sn h =
         let k : Run Subs Tree = record { gave = items held; state = going s } in
         let is : x ≡ k = ap (λ (l : List Tree). record { gave = l; state = x.state }) g ∙ ap (λ (q : State Subs). record { gave = items held; state = q }) st in
@@ -190,13 +190,13 @@ module _ {C : Type 0} (whole rest : C → ListFunction) (is_open : C → Bool) (
         (shut, (tt, (inr (s, (blame_end s (why_of (fault_in_model b)), (st, (ap untag_finish fin, ((inr (omega arith), omega arith), (ap (λ (c : Cause). item.Failed c ∷ []) (sym (cause_is s b sn)), refl)))))), inr (refl, refl))))
 
   abbrev AllEnd : KeptSubs C → List Tagged → Option Blame → List Tagged → Type 0
-  AllEnd kept p b after = (f : ListFunction) (yields : List Tree → End → Given Tree) → Means yields f → (ss : List Sub) → Keeps rest is_open f yields how kept ss → Reaches yields (λ k. ⊤) ss (end_all ss) b p after
+  AllEnd kept p b after = (f : ListFunction) (yields : List Tree → End → Given Tree) → Means yields f → (ss : List Sub) → Keeps rest is_open f yields how kept ss → SubsReach yields (λ k. ⊤) ss (end_all ss) b p after
 
   end_turns : (kept now : KeptSubs C) (p after : List Tagged) (asked : Bool) (b : Option Blame) → AllEnd kept p b after
       → (f : ListFunction) (yields : List Tree → End → Given Tree) → Means yields f → (x : Held Subs) → Owes rest is_open f yields (logic Open kept p asked false) x
       → (y : Held Subs) × (Owes rest is_open f yields (ended_then now after asked b) y
-      × (TurnAt (joined yields (opening_of how)) 0 (arrives 0 item.Ended) x (given_on 0 (finish_acts (bare now after asked false) b)) y
-      × Queues (substreams yields (opening_of how)) (arrives 0 item.Ended) x (logic Open kept p asked false) (gave_at_end now after asked b) (ended_then now after asked b)))
+      × (TurnAt (joined_machine yields (opening_of how)) 0 (arrives 0 item.Ended) x (given_on 0 (finish_acts (bare now after asked false) b)) y
+      × QueuesOutputs (substreams yields (opening_of how)) (arrives 0 item.Ended) x (logic Open kept p asked false) (gave_at_end now after asked b) (ended_then now after asked b)))
   end_turns kept now p after asked b becomes f yields means shut h = absurd h
   end_turns kept now p after asked b becomes f yields means (owing x) h = let s : Subs = h.1.0 in ends f yields kept now p after asked b x s h.0 h.1.1.0 h.1.1.1.0 (becomes f yields means s.subs h.1.1.1.1.1)
 
@@ -207,7 +207,7 @@ module _ {C : Type 0} (whole rest : C → ListFunction) (is_open : C → Bool) (
   end_at kept now p (o ∷ os) false None h = record { gave = None; closing = unended; out = refl; turn = λ f same yields means. end_turns kept now p (o ∷ os) false None h f yields means; moves = refl; node = refl; how = refl; chain = refl; stands = tt; started = λ e. cc }
   end_at kept now p (o ∷ []) true None h = record { gave = Some o; closing = ended; out = refl; turn = λ f same yields means. end_turns kept now p (o ∷ []) true None h f yields means; moves = refl; node = refl; how = refl; chain = refl; stands = tt; started = λ e. cc }
   end_at kept now p (o ∷ u ∷ os) true None h = record { gave = Some o; closing = unended; out = refl; turn = λ f same yields means. end_turns kept now p (o ∷ u ∷ os) true None h f yields means; moves = refl; node = refl; how = refl; chain = refl; stands = tt; started = λ e. cc }
-  end_at kept now p after asked (Some b) h = record { gave = None; closing = failed (cause_by node 0 b); out = refl; turn = λ f same yields means. end_turns kept now p after asked (Some b) h f yields means; moves = refl; node = refl; how = refl; chain = refl; stands = tt; started = λ e. cc }
+  end_at kept now p after asked (Some b) h = record { gave = None; closing = failed (cause_of_blame node 0 b); out = refl; turn = λ f same yields means. end_turns kept now p after asked (Some b) h f yields means; moves = refl; node = refl; how = refl; chain = refl; stands = tt; started = λ e. cc }
 
   -- ---- a failure of the input, and a cancel of the output
 
@@ -226,7 +226,7 @@ module _ {C : Type 0} (whole rest : C → ListFunction) (is_open : C → Bool) (
   }
     where
       by_held : (f : ListFunction) (yields : List Tree → End → Given Tree) (x : Held Subs) → Owes rest is_open f yields (logic Open kept p asked false) x
-          → (y : Held Subs) × (Owes rest is_open f yields (logic Closed kept p asked false) y × (TurnAt (joined yields (opening_of how)) 0 (arrives 0 (item.Failed c)) x (item.Failed c ∷ []) y × Queues (substreams yields (opening_of how)) (arrives 0 (item.Failed c)) x (logic Open kept p asked false) None (logic Closed kept p asked false)))
+          → (y : Held Subs) × (Owes rest is_open f yields (logic Closed kept p asked false) y × (TurnAt (joined_machine yields (opening_of how)) 0 (arrives 0 (item.Failed c)) x (item.Failed c ∷ []) y × QueuesOutputs (substreams yields (opening_of how)) (arrives 0 (item.Failed c)) x (logic Open kept p asked false) None (logic Closed kept p asked false)))
       by_held f yields (owing x) h =
           let goes : IsTrue (is_going x.state) = ap (λ (k : State Subs). is_going k) h.1.1.0 in
           (shut, (tt, (inr ((goes, inr (omega arith)), (refl, refl)), inr (refl, refl))))
@@ -255,7 +255,7 @@ module _ {C : Type 0} (whole rest : C → ListFunction) (is_open : C → Bool) (
       stands_by false = tt
 
       by_held : (f : ListFunction) (yields : List Tree → End → Given Tree) (x : Held Subs) → Owes rest is_open f yields (logic Open kept p asked over) x
-          → (y : Held Subs) × (Owes rest is_open f yields (logic Closed kept p asked over) y × (TurnAt (joined yields (opening_of how)) 0 (cancels 0) x (given_on 0 (cancel_acts over)) y × Queues (substreams yields (opening_of how)) (cancels 0) x (logic Open kept p asked over) None (logic Closed kept p asked over)))
+          → (y : Held Subs) × (Owes rest is_open f yields (logic Closed kept p asked over) y × (TurnAt (joined_machine yields (opening_of how)) 0 (cancels 0) x (given_on 0 (cancel_acts over)) y × QueuesOutputs (substreams yields (opening_of how)) (cancels 0) x (logic Open kept p asked over) None (logic Closed kept p asked over)))
       by_held f yields (owing x) h = (shut, (tt, ((none_out over, refl), inr (refl, refl))))
       by_held f yields shut h = absurd h
 
@@ -278,21 +278,21 @@ module _ {C : Type 0} (whole rest : C → ListFunction) (is_open : C → Bool) w
           rw (n, a) (subst (λ p. Turned whole rest is_open starts (of_parts p st.node st.taken st.how st.chain st.kept st.pending st.asked st.over m) [] (of_parts Open st.node st.taken st.how st.chain st.kept st.pending st.asked st.over m)) (sym h) core)
 
   pub on_asked : (old st now : Logic C) (acts : List Act) (port : Option ℕ) (m room ms : Option (List ℕ)) → record st { moves = m } ≡ old → old.phase ≡ Open
-      → now ≡ pulled st st.pending → acts ≡ pulled_acts st.over st.pending → port ≡ port_in (first_of st.pending) → room ≡ m → ms ≡ noted room port → Turned whole rest is_open (pulls 0) old acts (record now { moves = ms })
+      → now ≡ pulled st st.pending → acts ≡ pulled_acts st.over st.pending → port ≡ port_in (first_output st.pending) → room ≡ m → ms ≡ noted room port → Turned whole rest is_open (pulls 0) old acts (record now { moves = ms })
   on_asked old st now acts port m room ms is h n a p r s =
       subst (λ (l : Logic C). l.phase ≡ Open → Turned whole rest is_open (pulls 0) l acts (record now { moves = ms })) is (λ h. at_old h) h
     where
-      core : Turned whole rest is_open (pulls 0) (of_parts Open st.node st.taken st.how st.chain st.kept st.pending st.asked st.over m) (pulled_acts st.over st.pending) (record (pulled (with_all st Open st.over st.moves) st.pending) { moves = noted m (port_in (first_of st.pending)) })
+      core : Turned whole rest is_open (pulls 0) (of_parts Open st.node st.taken st.how st.chain st.kept st.pending st.asked st.over m) (pulled_acts st.over st.pending) (record (pulled (with_all st Open st.over st.moves) st.pending) { moves = noted m (port_in (first_output st.pending)) })
       core = ask_at whole rest is_open st.node st.taken st.how st.chain m st.moves st.kept st.pending st.asked st.over
 
       at_old : st.phase ≡ Open → Turned whole rest is_open (pulls 0) (record st { moves = m }) acts (record now { moves = ms })
       at_old h =
           rw (n, a, s, r, p)
-          (subst (λ p. Turned whole rest is_open (pulls 0) (of_parts p st.node st.taken st.how st.chain st.kept st.pending st.asked st.over m) (pulled_acts st.over st.pending) (record (pulled (with_all st p st.over st.moves) st.pending) { moves = noted m (port_in (first_of st.pending)) })) (sym h) core)
+          (subst (λ p. Turned whole rest is_open (pulls 0) (of_parts p st.node st.taken st.how st.chain st.kept st.pending st.asked st.over m) (pulled_acts st.over st.pending) (record (pulled (with_all st p st.over st.moves) st.pending) { moves = noted m (port_in (first_output st.pending)) })) (sym h) core)
 
   abbrev AllEnds : Logic C → Logic C → Option Blame → Type 0
   AllEnds old st b =
-      (f : ListFunction) (yields : List Tree → End → Given Tree) → Means yields f → (ss : List Sub) → Keeps rest is_open f yields old.how old.kept ss → Reaches yields (λ k. ⊤) ss (end_all ss) b old.pending st.pending
+      (f : ListFunction) (yields : List Tree → End → Given Tree) → Means yields f → (ss : List Sub) → Keeps rest is_open f yields old.how old.kept ss → SubsReach yields (λ k. ⊤) ss (end_all ss) b old.pending st.pending
 
   ended_once : (old st : Logic C) (b : Option Blame) → old.phase ≡ Open → old.over ≡ false → st ≡ record old { kept = st.kept; pending = st.pending; moves = st.moves } → AllEnds old st b
       → Turned whole rest is_open (arrives 0 item.Ended) old (finish_acts st b) (record (finished st b) { moves = noted old.moves (port_in (finish_gave st b)) })

@@ -10,14 +10,14 @@ use Rattle.stream_model.specs.Outlook.{End, unended, ended, failed}
 use Rattle.stream_model.specs.Machine.{State, going, done, broken, Run, Finish, adds, refuses, Machine, Given, is_going, feed, run, close, finish_at, CutBy, Fails, own_doing, at_finish, of_input, Stands}
 use Rattle.stream_model.specs.FanIn.{Tagged}
 use Rattle.stream_model.specs.Substreams.{Opening, Subs, substreams, sub_finish}
-use Rattle.stage_sub.specs.Joined.{items, untag, untag_finish, joined}
+use Rattle.stage_sub.specs.Joined.{items, untag, untag_finish, joined_machine}
 
 module _ (yields : List Tree → End → Given Tree) (o : Opening) where
   abbrev m : Machine Subs Tagged
   m = substreams yields o
 
   abbrev j : Machine Subs Tree
-  j = joined yields o
+  j = joined_machine yields o
 
   feed_untag : (g : List Tagged) (st : State Subs) (t : Tree) → feed j (record { gave = items g; state = st }) t ≡ untag (feed m (record { gave = g; state = st }) t)
   feed_untag g (going s) t = ap (λ (l : List Tree). record { gave = l; state = (m.step s t).state }) (sym (map-append (λ (x : Tagged). x.item) g (m.step s t).gave))

@@ -6,8 +6,8 @@ use Rattle.stream_model.specs.Machine.{Given}
 use Rattle.stream_model.specs.FanIn.{Tagged}
 use Rattle.stream_model.specs.Substreams.{Sub, find_key, end_all, trouble, news}
 use Rattle.port_core.specs.ListFunction.{ListFunction}
-use Rattle.chain_core.specs.Slots.{MayCall, Holds}
-use Rattle.stage_sub.specs.Splits.{Last, Took, LastEnds}
+use Rattle.chain_core.specs.Slots.{MayCall, SlotHolds}
+use Rattle.stage_sub.specs.Splits.{Last, LastTook, LastEnds}
 use Rattle.elem_core.specs.declared.why.Why.{Why}
 
 module _ {C : Type 0} (rest : C → ListFunction) (is_open : C → Bool) where
@@ -19,7 +19,7 @@ module _ {C : Type 0} (rest : C → ListFunction) (is_open : C → Bool) where
   -- the chains of these substreams, place by place
   abbrev pub EachHolds : ListFunction → List (Option C) → List Sub → Type 0
   EachHolds f [] [] = ⊤
-  EachHolds f (c ∷ cs) (s ∷ ss) = ((s.ended ≡ false) × Holds rest is_open f c s.took) × EachHolds f cs ss
+  EachHolds f (c ∷ cs) (s ∷ ss) = ((s.ended ≡ false) × SlotHolds rest is_open f c s.took) × EachHolds f cs ss
   EachHolds f _ _ = ⊥
 
   -- the places of the keys, and the chains, are those of these substreams
@@ -38,13 +38,13 @@ module _ {C : Type 0} (rest : C → ListFunction) (is_open : C → Bool) where
     pub holds : EachHolds f slots left
 
   -- the end of the substream of number i, with its chain in c
-  abbrev pub EndsAt : ℕ → Option C → Option Why → List Tagged → List Tagged → Last C → Type 0
-  EndsAt i c why before after new =
-      (f : ListFunction) (took : Option (List Tree)) → Took rest is_open f (record { ended = i; live = true; slot = c }) took → LastEnds rest is_open f (record { ended = i; live = true; slot = c }) took why before after new
+  abbrev pub GroupEndsAt : ℕ → Option C → Option Why → List Tagged → List Tagged → Last C → Type 0
+  GroupEndsAt i c why before after new =
+      (f : ListFunction) (took : Option (List Tree)) → LastTook rest is_open f (record { ended = i; live = true; slot = c }) took → LastEnds rest is_open f (record { ended = i; live = true; slot = c }) took why before after new
 
   -- the end of the substream at place i
   abbrev pub EndsOne : List (Option C) → ℕ → Option Why → List Tagged → List Tagged → Type 0
-  EndsOne slots i why before after = (c : Option C) × ((slice_get slots i ≡ Some c) × ((new : Last C) × EndsAt i c why before after new))
+  EndsOne slots i why before after = (c : Option C) × ((slice_get slots i ≡ Some c) × ((new : Last C) × GroupEndsAt i c why before after new))
 
 -- each place is that of a slot
 abbrev pub Within : {C : Type 0} → (Tree → Option ℕ) → List (Option C) → Type 0

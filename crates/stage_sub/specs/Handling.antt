@@ -20,7 +20,7 @@ use Rattle.stage_law.specs.Law.{Law}
 use Rattle.stage_core.specs.declared.phase.Phase.TheVariants.{New, Closed}
 use Rattle.chain_core.specs.Means.{Means}
 use Rattle.stage_sub.specs.declared.opening.OpenBy.TheVariants.{Before, Behind, Key}
-use Rattle.stage_sub.specs.Joined.{untag, joined}
+use Rattle.stage_sub.specs.Joined.{untag, joined_machine}
 use Rattle.stage_sub.specs.KeptSubs.{opening_of}
 use Rattle.stage_sub.specs.States.{Logic, port_state, Owes, Ready, begun}
 
@@ -44,8 +44,8 @@ ChoosesAs (Some first) (Some now) = ⊤
 ChoosesAs _ _ = ⊥
 
 -- the substreams of some outputs, in order
-abbrev pub ports_of : List Tagged → List ℕ
-ports_of l = map (λ x. x.port) l
+abbrev pub ports_given : List Tagged → List ℕ
+ports_given l = map (λ x. x.port) l
 
 -- what is ready to be given of a list that stands so
 abbrev pub ready_of : (List Tree → End → Given Tree) → Opening → Run Subs Tagged → List Tree → End → List Tagged
@@ -68,13 +68,13 @@ module _ {C : Type 0} (rest : C → ListFunction) (is_open : C → Bool) where
   -- At what a chain with the list function f yields in the model, from a start that the first one owed: what it owes now, the law
   -- of the machine that joins its substreams, and that the moves of a merge are the substreams of what it gave, in order. While
   -- it is not closed, the substreams of all that is ready are those of what it gave and then of what it holds.
-  pub record Tells (f : ListFunction) (yields : List Tree → End → Given Tree) (start : Run Subs Tagged) (first now : Logic C) (v : View) (took gave : List Item) : Type 0 where
+  pub record TellsMachine (f : ListFunction) (yields : List Tree → End → Given Tree) (start : Run Subs Tagged) (first now : Logic C) (v : View) (took gave : List Item) : Type 0 where
     pub held : Held Subs
     pub owes : Owes rest is_open f yields now held
-    pub law : Law (joined yields (opening_of first.how)) (untag start) held (in_at v 0) (out_at v 0) took gave
+    pub law : Law (joined_machine yields (opening_of first.how)) (untag start) held (in_at v 0) (out_at v 0) took gave
     pub counts : (ms : List ℕ) → now.moves ≡ Some ms → length ms ≡ length law.out_list
-    pub moves : (ms : List ℕ) → now.moves ≡ Some ms → ms ≡ take (length law.out_list) (ports_of (ready_of yields (opening_of first.how) start law.in_list law.in_end))
-    pub queued : (ms : List ℕ) → now.moves ≡ Some ms → now.phase ≢ Closed → ports_of (ready_of yields (opening_of first.how) start law.in_list law.in_end) ≡ ms ++ ports_of now.pending
+    pub moves : (ms : List ℕ) → now.moves ≡ Some ms → ms ≡ take (length law.out_list) (ports_given (ready_of yields (opening_of first.how) start law.in_list law.in_end))
+    pub queued : (ms : List ℕ) → now.moves ≡ Some ms → now.phase ≢ Closed → ports_given (ready_of yields (opening_of first.how) start law.in_list law.in_end) ≡ ms ++ ports_given now.pending
 
   -- The law of its output, by the stage as it was at first and as it is now, whatever its chains come to in the model.
   pub record SubLaw (whole : C → ListFunction) (first now : Logic C) (v : View) (took gave : List (List Item)) : Type 0 where
@@ -87,7 +87,7 @@ module _ {C : Type 0} (rest : C → ListFunction) (is_open : C → Bool) where
     pub chain : now.chain ≡ first.chain
     pub chooses : ChoosesAs first.moves now.moves
     pub tells : (f : ListFunction) → Same (whole first.chain) f → (yields : List Tree → End → Given Tree) → Means yields f → (start : Run Subs Tagged) → Owes rest is_open f yields first (owing (untag start))
-        → Tells f yields start first now v took_list gave_list
+        → TellsMachine f yields start first now v took_list gave_list
 
 -- A stage that waits for its input: it is asked, its machine gave just this for what the stage took, and goes on.
 pub record GaveAll (m : Machine Subs Tree) (start : Run Subs Tree) (out : OutView) (took gave : List Tree) : Type 0 where
@@ -103,15 +103,15 @@ IsSub (SplitAfter p name j) = ⊤
 IsSub _ = ⊥
 
 -- the log of a new stage, by the way of joining
-abbrev pub no_moves : Joining → Option (List ℕ)
-no_moves joining.Merge = Some []
-no_moves joining.Concat = None
+abbrev pub new_log : Joining → Option (List ℕ)
+new_log joining.Merge = Some []
+new_log joining.Concat = None
 
 -- a new stage of node `node` is of its kind, and each of its substreams goes through such a chain
 abbrev pub BeginsAs : {C : Type 0} → Kind → ℕ → C → Logic C → Type 0
-BeginsAs (GroupBy n f name) node chain new = new ≡ begun node (Key n f) (no_moves joining.Merge) chain
-BeginsAs (SplitWhen p name j) node chain new = new ≡ begun node (Before p) (no_moves j) chain
-BeginsAs (SplitAfter p name j) node chain new = new ≡ begun node (Behind p) (no_moves j) chain
+BeginsAs (GroupBy n f name) node chain new = new ≡ begun node (Key n f) (new_log joining.Merge) chain
+BeginsAs (SplitWhen p name j) node chain new = new ≡ begun node (Before p) (new_log j) chain
+BeginsAs (SplitAfter p name j) node chain new = new ≡ begun node (Behind p) (new_log j) chain
 BeginsAs _ node chain new = ⊥
 
 -- and may be started

@@ -17,6 +17,6 @@ untag_finish (adds l) = adds (items l)
 untag_finish (refuses c) = refuses c
 
 -- what substreams give, in the order in which it arises
-abbrev pub joined : (List Tree → End → Given Tree) → Opening → Machine Subs Tree
-joined yields o =
+abbrev pub joined_machine : (List Tree → End → Given Tree) → Opening → Machine Subs Tree
+joined_machine yields o =
     let m = substreams yields o in record { step = λ s t. untag (m.step s t); finish = λ s. untag_finish (m.finish s); hold = m.hold; early = m.early }

@@ -18,9 +18,9 @@ noted (Some ms) None = Some ms
 noted (Some ms) (Some port) = Some (ms ++ port ∷ [])
 
 -- the first of these outputs
-abbrev pub first_of : List Tagged → Option Tagged
-first_of [] = None
-first_of (o ∷ os) = Some o
+abbrev pub first_output : List Tagged → Option Tagged
+first_output [] = None
+first_output (o ∷ os) = Some o
 
 -- what an end of the input adds
 abbrev pub added : Finish Tagged → List Tagged

@@ -6,8 +6,8 @@ use Rattle.elem_core.specs.Tree.{Tree}
 use Rattle.elem_core.specs.Order.{tree_cmp}
 
 -- the place at a key
-abbrev pub place : BTreeMap Tree ℕ → Tree → Option ℕ
-place m k = get tree_cmp m k
+abbrev pub place_at : BTreeMap Tree ℕ → Tree → Option ℕ
+place_at m k = get tree_cmp m k
 
 -- the place at a key among entries
 abbrev pub place_in : List (Tree × ℕ) → Tree → Option ℕ

@@ -5,7 +5,7 @@ use Rattle.elem_core.specs.declared.why.Why.{Why}
 use Rattle.stream_model.specs.FanIn.{Tagged, tag}
 use Rattle.port_core.specs.declared.chain.ChainStep.TheVariants.{Go, Closed, Failed}
 use Rattle.port_core.specs.ListFunction.{ListFunction}
-use Rattle.chain_core.specs.Slots.{MayCall, Holds}
+use Rattle.chain_core.specs.Slots.{MayCall, SlotHolds}
 
 -- the end of a substream that took this list, by its list function: it adds this, or it had stopped; or it fails
 abbrev pub EndsSub : ListFunction → List Tree → Option Why → List Tree → Type 0
@@ -29,9 +29,9 @@ pub record Last (C : Type 0) : Type 0 where
 
 module _ {C : Type 0} (rest : C → ListFunction) (is_open : C → Bool) (f : ListFunction) where
   -- the one that has not ended, where there is one, took this list
-  abbrev pub Took : Last C → Option (List Tree) → Type 0
-  Took l None = l.live ≡ false
-  Took l (Some took) = (l.live ≡ true) × (Holds rest is_open f l.slot took)
+  abbrev pub LastTook : Last C → Option (List Tree) → Type 0
+  LastTook l None = l.live ≡ false
+  LastTook l (Some took) = (l.live ≡ true) × (SlotHolds rest is_open f l.slot took)
 
   -- it has ended, and gave this
   abbrev pub LastEnds : Last C → Option (List Tree) → Option Why → List Tagged → List Tagged → Last C → Type 0
@@ -41,12 +41,12 @@ module _ {C : Type 0} (rest : C → ListFunction) (is_open : C → Bool) (f : Li
 
   -- a new one took its first element
   abbrev pub LastOpens : Last C → Tree → Option Why → List Tagged → List Tagged → Last C → Type 0
-  LastOpens l t None before after new = (after ≡ before ++ map (tag l.ended) (f.gives (t ∷ []))) × (Calm f (t ∷ []) × ((new.ended ≡ l.ended) × Took new (Some (t ∷ []))))
+  LastOpens l t None before after new = (after ≡ before ++ map (tag l.ended) (f.gives (t ∷ []))) × (Calm f (t ∷ []) × ((new.ended ≡ l.ended) × LastTook new (Some (t ∷ []))))
   LastOpens l t (Some w) before after new = f.stop (t ∷ []) ≡ Failed w
 
   -- it took one more
   abbrev pub LastFeeds : Last C → List Tree → Tree → Option Why → List Tagged → List Tagged → Last C → Type 0
-  LastFeeds l took t None before after new = (given : List Tree) × (FeedsSub f took t None given × ((after ≡ before ++ map (tag l.ended) given) × ((new.ended ≡ l.ended) × Took new (Some (took ++ t ∷ [])))))
+  LastFeeds l took t None before after new = (given : List Tree) × (FeedsSub f took t None given × ((after ≡ before ++ map (tag l.ended) given) × ((new.ended ≡ l.ended) × LastTook new (Some (took ++ t ∷ [])))))
   LastFeeds l took t (Some w) before after new = FeedsSub f took t (Some w) []
 
 module _ {C : Type 0} (rest : C → ListFunction) (is_open : C → Bool) (f : ListFunction) where

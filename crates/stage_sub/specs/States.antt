@@ -23,8 +23,8 @@ use Rattle.stage_core.specs.declared.phase.Phase.{Phase}
 use Rattle.stage_core.specs.declared.phase.Phase.TheVariants.{New, Open, Closed}
 use Rattle.chain_core.specs.Means.{Means}
 use Rattle.stage_sub.specs.KeptSubs.{KeptSubs, opening_of, Keeps, MayCallKept}
-use Rattle.stage_sub.specs.Joined.{items, joined}
-use Rattle.stage_sub.specs.Moves.{noted, port_in, first_of, arising}
+use Rattle.stage_sub.specs.Joined.{items, joined_machine}
+use Rattle.stage_sub.specs.Moves.{noted, port_in, first_output, arising}
 use Rattle.stage_sub.specs.declared.opening.OpenBy.{OpenBy}
 use Rattle.stage_sub.specs.declared.blame.Blame.{Blame}
 use Rattle.stage_sub.specs.declared.blame.Blame.TheVariants.{AtElement, AtEnd}
@@ -72,9 +72,9 @@ abbrev pub port_state : {C : Type 0} → Logic C → View → Type 0
 port_state l v = OneOne (port_state_in l.phase l.over l.asked l.pending) v
 
 -- the cause of a failure at the n-th element
-abbrev pub cause_by : ℕ → ℕ → Blame → Cause
-cause_by node n (AtElement w) = record { stage = node; nth = n; why = w }
-cause_by node n (AtEnd w) = record { stage = node; nth = 0; why = w }
+abbrev pub cause_of_blame : ℕ → ℕ → Blame → Cause
+cause_of_blame node n (AtElement w) = record { stage = node; nth = n; why = w }
+cause_of_blame node n (AtEnd w) = record { stage = node; nth = 0; why = w }
 
 module _ {C : Type 0} (rest : C → ListFunction) (is_open : C → Bool) (f : ListFunction) (yields : List Tree → End → Given Tree) where
   -- the state of its machine: its input goes on, with these substreams, or has ended
@@ -93,9 +93,9 @@ module _ {C : Type 0} (rest : C → ListFunction) (is_open : C → Bool) (f : Li
   Owes l x = OwesIn l.phase l x
 
 -- What a stage held and what arose by the call goes out in that order, and the others are held; or nothing goes out any more.
-abbrev pub Queues : {C : Type 0} → Machine Subs Tagged → Call → Held Subs → Logic C → Option Tagged → Logic C → Type 0
-Queues m call shut old gave new = (gave ≡ None) × (new.phase ≡ Closed)
-Queues m call (owing x) old gave new = (option_to_list gave ++ new.pending ≡ old.pending ++ arising m call x.state) ⊎ ((gave ≡ None) × (new.phase ≡ Closed))
+abbrev pub QueuesOutputs : {C : Type 0} → Machine Subs Tagged → Call → Held Subs → Logic C → Option Tagged → Logic C → Type 0
+QueuesOutputs m call shut old gave new = (gave ≡ None) × (new.phase ≡ Closed)
+QueuesOutputs m call (owing x) old gave new = (option_to_list gave ++ new.pending ≡ old.pending ++ arising m call x.state) ⊎ ((gave ≡ None) × (new.phase ≡ Closed))
 
 -- Whatever its chains come to in the model, one step of its machine: from what it owed to what it owes, the outputs in the
 -- order in which they arose. It gave one output or none, and then perhaps an end; a merge noted the number of that output's
@@ -105,7 +105,7 @@ pub record Turned {C : Type 0} (whole rest : C → ListFunction) (is_open : C �
   pub closing : End
   pub out : given_on 0 acts ≡ told (items (option_to_list gave)) closing
   pub turn : (f : ListFunction) → Same (whole old.chain) f → (yields : List Tree → End → Given Tree) → Means yields f → (x : Held Subs) → Owes rest is_open f yields old x
-      → (y : Held Subs) × (Owes rest is_open f yields new y × (TurnAt (joined yields (opening_of old.how)) 0 call x (given_on 0 acts) y × Queues (substreams yields (opening_of old.how)) call x old gave new))
+      → (y : Held Subs) × (Owes rest is_open f yields new y × (TurnAt (joined_machine yields (opening_of old.how)) 0 call x (given_on 0 acts) y × QueuesOutputs (substreams yields (opening_of old.how)) call x old gave new))
   pub moves : new.moves ≡ noted old.moves (port_in gave)
   pub node : new.node ≡ old.node
   pub how : new.how ≡ old.how
@@ -135,11 +135,11 @@ answered l n (Some b) = record l { phase = Closed }
 
 abbrev pub answer_acts : {C : Type 0} → Logic C → ℕ → Option Blame → List Act
 answer_acts l n None = first_acts l.pending
-answer_acts l n (Some b) = FailOut 0 (cause_by l.node n b) ∷ Cancel 0 ∷ []
+answer_acts l n (Some b) = FailOut 0 (cause_of_blame l.node n b) ∷ Cancel 0 ∷ []
 
 -- the output that goes out then
 abbrev pub answer_gave : {C : Type 0} → Logic C → Option Blame → Option Tagged
-answer_gave l None = first_of l.pending
+answer_gave l None = first_output l.pending
 answer_gave l (Some b) = None
 
 -- the output was asked: the first of what is held goes out, and the stage ends with the last, where its input has ended; or it asks
@@ -174,7 +174,7 @@ sealed_acts true (o ∷ os) = Push 0 o.item ∷ emptied_acts true os
 
 abbrev pub sealed_gave : Bool → List Tagged → Option Tagged
 sealed_gave false p = None
-sealed_gave true p = first_of p
+sealed_gave true p = first_output p
 
 abbrev pub finished : {C : Type 0} → Logic C → Option Blame → Logic C
 finished l None = sealed l.asked l l.pending
@@ -182,7 +182,7 @@ finished l (Some b) = record l { phase = Closed }
 
 abbrev pub finish_acts : {C : Type 0} → Logic C → Option Blame → List Act
 finish_acts l None = sealed_acts l.asked l.pending
-finish_acts l (Some b) = FailOut 0 (cause_by l.node 0 b) ∷ []
+finish_acts l (Some b) = FailOut 0 (cause_of_blame l.node 0 b) ∷ []
 
 abbrev pub finish_gave : {C : Type 0} → Logic C → Option Blame → Option Tagged
 finish_gave l None = sealed_gave l.asked l.pending

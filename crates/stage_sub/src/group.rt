@@ -2,7 +2,7 @@ ghost use Rattle.std.specs.Prelude.{◌≡◌, ◌<◌, ◌+◌, ◌++◌, ◌�
 ghost use Rattle.elem_core.specs.Tree.{Tree};
 ghost use Rattle.elem_core.specs.declared.why.Why.{Why};
 ghost use Rattle.port_core.specs.ListFunction.{ListFunction, Same};
-ghost use Rattle.chain_core.specs.Slots.{Holds, Fed, Begun};
+ghost use Rattle.chain_core.specs.Slots.{SlotHolds, Fed, Begun};
 ghost use Rattle.stage_sub.specs.Groups.{MayCallAll};
 
 use chain_core::slot::{begin_slot, feed_slot};
@@ -23,7 +23,7 @@ pub fn feed_at<C: Chain>(
 ) -> Result<Option<Why>, NoMemory>
     requires within { i < length slots.old.items }
     requires may { MayCallAll C.rest C.is_open slots.old.items }
-    ensures fed { IfOk result (λ why. (d : Option C) × ((slots.new.items ≡ slice_set slots.old.items i d) × ((f : ListFunction) (took : List Tree) (c : Option C) → slice_get slots.old.items i ≡ Some c → Holds C.rest C.is_open f c took
+    ensures fed { IfOk result (λ why. (d : Option C) × ((slots.new.items ≡ slice_set slots.old.items i d) × ((f : ListFunction) (took : List Tree) (c : Option C) → slice_get slots.old.items i ≡ Some c → SlotHolds C.rest C.is_open f c took
         → Fed C.rest C.is_open f took e why out.old out.new d))) }
     ensures may { OnOk result (MayCallAll C.rest C.is_open slots.new.items) }
 {

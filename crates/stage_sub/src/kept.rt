@@ -5,7 +5,7 @@ ghost use Rattle.stream_model.specs.Machine.{Given};
 ghost use Rattle.stream_model.specs.Substreams.{Sub, end_all};
 ghost use Rattle.port_core.specs.ListFunction.{ListFunction, Same};
 ghost use Rattle.chain_core.specs.Means.{Means};
-ghost use Rattle.stage_sub.specs.Subs.{Reaches};
+ghost use Rattle.stage_sub.specs.Subs.{SubsReach};
 ghost use Rattle.stage_sub.specs.KeptSubs.{MayCallKept, Keeps, TakesBy};
 
 use crate::blame::Blame;
@@ -119,7 +119,7 @@ impl<C: Chain> KeptSubs<C> {
     ) -> Result<Option<Blame>, NoMemory>
         requires may { MayCallKept C.rest C.is_open self.old }
         ensures ends { IfOk result (λ b. (f : ListFunction) (yields : List Tree → End → Given Tree) → Means yields f → (ss : List Sub) → Keeps C.rest C.is_open f yields how.now self.old ss
-            → Reaches yields (λ k. ⊤) ss (end_all ss) b outs.old outs.new) }
+            → SubsReach yields (λ k. ⊤) ss (end_all ss) b outs.old outs.new) }
         ensures may { OnOk result (MayCallKept C.rest C.is_open self.new) }
     {
         match how {

@@ -7,8 +7,8 @@ ghost use Rattle.port_core.specs.ListFunction.{ListFunction, Same};
 ghost use Rattle.chain_core.specs.Means.{Means};
 ghost use Rattle.chain_core.specs.Slots.{MayCall};
 ghost use Rattle.stage_sub.specs.Groups.{MayCallAll, EachHolds, Grouped, EndsOne, Within};
-ghost use Rattle.stage_sub.specs.Places.{place};
-ghost use Rattle.stage_sub.specs.Subs.{Reaches, Arranges};
+ghost use Rattle.stage_sub.specs.Places.{place_at};
+ghost use Rattle.stage_sub.specs.Subs.{SubsReach, Arranges};
 
 use crate::blame::Blame;
 use crate::group::{feed_at, open_slot};
@@ -36,7 +36,7 @@ pub fn feed_group<C: Chain>(
     requires within { i < length slots.old.items }
     requires may { MayCallAll C.rest C.is_open slots.old.items }
     ensures feeds { IfOk result (λ b. (f : ListFunction) (yields : List Tree → End → Given Tree) → Means yields f → (ss : List Sub) → EachHolds C.rest C.is_open f slots.old.items ss
-        → Reaches yields (EachHolds C.rest C.is_open f slots.new.items) ss (take_at i e ss) b outs.old outs.new) }
+        → SubsReach yields (EachHolds C.rest C.is_open f slots.new.items) ss (take_at i e ss) b outs.old outs.new) }
     ensures count { OnOk result (length slots.new.items ≡ length slots.old.items) }
     ensures may { OnOk result (MayCallAll C.rest C.is_open slots.new.items) }
 {
@@ -60,12 +60,12 @@ pub fn open_group<C: Chain>(
     outs: &mut Outputs,
     scratch: &mut Elems,
 ) -> Result<Option<Blame>, NoMemory>
-    requires none { place places.old key ≡ None }
-    requires within { Within (place places.old) slots.old.items }
+    requires none { place_at places.old key ≡ None }
+    requires within { Within (place_at places.old) slots.old.items }
     requires may { MayCallAll C.rest C.is_open slots.old.items }
-    ensures opens { IfOk result (λ b. (f : ListFunction) → Same (C.whole chain.now) f → (yields : List Tree → End → Given Tree) → Means yields f → (ss : List Sub) → Grouped C.rest C.is_open f (place places.old) slots.old.items ss
-        → Reaches yields (Grouped C.rest C.is_open f (place places.new) slots.new.items) ss (ss ++ record { key = key; took = e ∷ []; ended = false } ∷ []) b outs.old outs.new) }
-    ensures within { OnOk result (Within (place places.new) slots.new.items) }
+    ensures opens { IfOk result (λ b. (f : ListFunction) → Same (C.whole chain.now) f → (yields : List Tree → End → Given Tree) → Means yields f → (ss : List Sub) → Grouped C.rest C.is_open f (place_at places.old) slots.old.items ss
+        → SubsReach yields (Grouped C.rest C.is_open f (place_at places.new) slots.new.items) ss (ss ++ record { key = key; took = e ∷ []; ended = false } ∷ []) b outs.old outs.new) }
+    ensures within { OnOk result (Within (place_at places.new) slots.new.items) }
     ensures may { OnOk result (MayCallAll C.rest C.is_open slots.new.items) }
 {
     let i = slots.len();
@@ -91,11 +91,11 @@ pub fn take_group<C: Chain>(
     outs: &mut Outputs,
     scratch: &mut Elems,
 ) -> Result<Option<Blame>, NoMemory>
-    requires within { Within (place places.old) slots.old.items }
+    requires within { Within (place_at places.old) slots.old.items }
     requires may { MayCallAll C.rest C.is_open slots.old.items }
-    ensures takes { IfOk result (λ b. (f : ListFunction) → Same (C.whole chain.now) f → (yields : List Tree → End → Given Tree) → Means yields f → (ss : List Sub) → Grouped C.rest C.is_open f (place places.old) slots.old.items ss
-        → Arranges yields (Grouped C.rest C.is_open f (place places.new) slots.new.items) (by_key most by.now) ss e b outs.old outs.new) }
-    ensures within { OnOk result (Within (place places.new) slots.new.items) }
+    ensures takes { IfOk result (λ b. (f : ListFunction) → Same (C.whole chain.now) f → (yields : List Tree → End → Given Tree) → Means yields f → (ss : List Sub) → Grouped C.rest C.is_open f (place_at places.old) slots.old.items ss
+        → Arranges yields (Grouped C.rest C.is_open f (place_at places.new) slots.new.items) (by_key most by.now) ss e b outs.old outs.new) }
+    ensures within { OnOk result (Within (place_at places.new) slots.new.items) }
     ensures may { OnOk result (MayCallAll C.rest C.is_open slots.new.items) }
 {
     let key = match by.apply(alloc, &e) {
@@ -158,7 +158,7 @@ pub fn end_groups<C: Chain>(
 ) -> Result<Option<Blame>, NoMemory>
     requires may { MayCallAll C.rest C.is_open slots.old.items }
     ensures ends { IfOk result (λ b. (f : ListFunction) (yields : List Tree → End → Given Tree) → Means yields f → (ss : List Sub) → EachHolds C.rest C.is_open f slots.old.items ss
-        → Reaches yields (λ now. ⊤) ss (end_all ss) b outs.old outs.new) }
+        → SubsReach yields (λ now. ⊤) ss (end_all ss) b outs.old outs.new) }
     ensures may { OnOk result (MayCallAll C.rest C.is_open slots.new.items) }
     ensures count { OnOk result (length slots.new.items ≡ length slots.old.items) }
 {

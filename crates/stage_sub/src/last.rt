@@ -1,7 +1,7 @@
 ghost use Rattle.std.specs.Prelude.{◌≡◌, IfOk, OnOk, List, Option, None, Some, true, false};
 ghost use Rattle.elem_core.specs.Tree.{Tree};
 ghost use Rattle.port_core.specs.ListFunction.{ListFunction, Same};
-ghost use Rattle.stage_sub.specs.Splits.{MayCallLast, Took, LastEnds, LastOpens, LastFeeds, LastGrows};
+ghost use Rattle.stage_sub.specs.Splits.{MayCallLast, LastTook, LastEnds, LastOpens, LastFeeds, LastGrows};
 
 use crate::outputs::Outputs;
 use crate::scratch::clear;
@@ -66,7 +66,7 @@ impl<C: Chain> LastSubstream<C> {
         scratch: &mut Elems,
     ) -> Result<Option<Why>, NoMemory>
         requires may { MayCallLast C.rest C.is_open self.old }
-        ensures ends { IfOk result (λ why. (f : ListFunction) (took : Option (List Tree)) → Took C.rest C.is_open f self.old took → LastEnds C.rest C.is_open f self.old took why outs.old outs.new self.new) }
+        ensures ends { IfOk result (λ why. (f : ListFunction) (took : Option (List Tree)) → LastTook C.rest C.is_open f self.old took → LastEnds C.rest C.is_open f self.old took why outs.old outs.new self.new) }
         ensures may { OnOk result (MayCallLast C.rest C.is_open self.new) }
     {
         if !self.live {
@@ -126,7 +126,7 @@ impl<C: Chain> LastSubstream<C> {
         scratch: &mut Elems,
     ) -> Result<Option<Why>, NoMemory>
         requires may { MayCallLast C.rest C.is_open self.old }
-        ensures feeds { IfOk result (λ why. (f : ListFunction) (took : List Tree) → Took C.rest C.is_open f self.old (Some took) → LastFeeds C.rest C.is_open f self.old took e why outs.old outs.new self.new) }
+        ensures feeds { IfOk result (λ why. (f : ListFunction) (took : List Tree) → LastTook C.rest C.is_open f self.old (Some took) → LastFeeds C.rest C.is_open f self.old took e why outs.old outs.new self.new) }
         ensures may { OnOk result (MayCallLast C.rest C.is_open self.new) }
     {
         clear(scratch);
@@ -147,7 +147,7 @@ impl<C: Chain> LastSubstream<C> {
         scratch: &mut Elems,
     ) -> Result<Option<Why>, NoMemory>
         requires may { MayCallLast C.rest C.is_open self.old }
-        ensures grows { IfOk result (λ why. (f : ListFunction) → Same (C.whole chain.now) f → (took : Option (List Tree)) → Took C.rest C.is_open f self.old took → LastGrows C.rest C.is_open f self.old took e why outs.old outs.new self.new) }
+        ensures grows { IfOk result (λ why. (f : ListFunction) → Same (C.whole chain.now) f → (took : Option (List Tree)) → LastTook C.rest C.is_open f self.old took → LastGrows C.rest C.is_open f self.old took e why outs.old outs.new self.new) }
         ensures may { OnOk result (MayCallLast C.rest C.is_open self.new) }
     {
         if self.live {

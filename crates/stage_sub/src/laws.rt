@@ -13,9 +13,9 @@ ghost use Rattle.stream_model.specs.Substreams.{Subs, substreams, begin_subs, Me
 ghost use Rattle.stage_law.specs.Held.{owing};
 ghost use Rattle.stage_law.specs.OwnPorts.{OwnRests};
 ghost use Rattle.stage_core.specs.declared.phase.Phase.TheVariants.{New, Open};
-ghost use Rattle.stage_sub.specs.Joined.{items, untag, joined};
+ghost use Rattle.stage_sub.specs.Joined.{items, untag, joined_machine};
 ghost use Rattle.stage_sub.specs.KeptSubs.{opening_of};
-ghost use Rattle.stage_sub.specs.Handling.{SubPortState, Tells, GaveAll};
+ghost use Rattle.stage_sub.specs.Handling.{SubPortState, TellsMachine, GaveAll};
 ghost use Rattle.stage_sub.specs.States.{Logic, port_state, Owes, begun};
 ghost use Rattle.stage_sub.specs.declared.opening.OpenBy.{OpenBy};
 
@@ -24,9 +24,9 @@ use port_core::chain::Chain;
 /// At any moment, what a stage with substreams gave is what the model lets it give of what it took: of substreams joined in the
 /// order in which their outputs arise, and by its moves, where they are merged.
 pub fn substreams_stand<C: Chain>()
-    ensures concat { (f : ListFunction) (yields : List Tree → End → Given Tree) (node : ℕ) (first now : Logic C) (v : View) (took gave : List Item) → (t : Tells C.rest C.is_open f yields (begin_subs yields node) first now v took gave)
+    ensures concat { (f : ListFunction) (yields : List Tree → End → Given Tree) (node : ℕ) (first now : Logic C) (v : View) (took gave : List Item) → (t : TellsMachine C.rest C.is_open f yields (begin_subs yields node) first now v took gave)
         → (g : List Tagged) × ((items g ≡ t.law.out_list) × Stands (substreams yields (opening_of first.how)) (begin_subs yields node) t.law.in_list t.law.in_end g t.law.out_end) }
-    ensures merge { (f : ListFunction) (yields : List Tree → End → Given Tree) (node : ℕ) (first now : Logic C) (v : View) (took gave : List Item) → (t : Tells C.rest C.is_open f yields (begin_subs yields node) first now v took gave)
+    ensures merge { (f : ListFunction) (yields : List Tree → End → Given Tree) (node : ℕ) (first now : Logic C) (v : View) (took gave : List Item) → (t : TellsMachine C.rest C.is_open f yields (begin_subs yields node) first now v took gave)
         → (ms : List ℕ) → now.moves ≡ Some ms → MergedStands yields node (opening_of first.how) ms t.law.in_list t.law.in_end t.law.out_list t.law.out_end }
 {}
 
@@ -39,13 +39,13 @@ pub fn a_new_stage_owes_its_machine<C: Chain>()
 /// input and has given all that it may, or nobody asks it, where it may hold outputs behind the end of its input.
 pub fn a_started_stage_rests<C: Chain>()
     ensures { (f : ListFunction) (yields : List Tree → End → Given Tree) (start : Run Subs Tagged) (first now : Logic C) (v : View) (took gave : List Item) → SubPortState C.rest C.is_open now v
-        → (t : Tells C.rest C.is_open f yields start first now v took gave) → OwnRests (joined yields (opening_of first.how)) (untag start) true (in_at v 0) (out_at v 0) t.law.in_list t.law.out_list }
+        → (t : TellsMachine C.rest C.is_open f yields start first now v took gave) → OwnRests (joined_machine yields (opening_of first.how)) (untag start) true (in_at v 0) (out_at v 0) t.law.in_list t.law.out_list }
 {}
 
 /// A stage that waits for its input is asked, and it gave all that its machine gives for what it took, which goes on.
 pub fn a_waiting_stage_gave_all<C: Chain>()
     ensures { (f : ListFunction) (yields : List Tree → End → Given Tree) (start : Run Subs Tagged) (first now : Logic C) (v : View) (took gave : List Item) → SubPortState C.rest C.is_open now v
-        → (t : Tells C.rest C.is_open f yields start first now v took gave) → in_at v 0 ≡ Pulled → GaveAll (joined yields (opening_of first.how)) (untag start) (out_at v 0) t.law.in_list t.law.out_list }
+        → (t : TellsMachine C.rest C.is_open f yields start first now v took gave) → in_at v 0 ≡ Pulled → GaveAll (joined_machine yields (opening_of first.how)) (untag start) (out_at v 0) t.law.in_list t.law.out_list }
 {}
 
 /// Where the port rules allow a call of a handler and the row holds, a stage that was started is open.

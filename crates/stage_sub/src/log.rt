@@ -2,7 +2,7 @@ ghost use Rattle.std.specs.Prelude.{◌≡◌, ◌≤◌, ◌<◌, OnOk, OnErr, 
 ghost use Rattle.std.specs.Option.{option_map};
 ghost use Rattle.stage_sub.specs.Moves.{noted};
 ghost use Rattle.stage_sub.specs.Logs.{HasRoom, moves_in};
-ghost use Rattle.stage_sub.specs.Handling.{no_moves};
+ghost use Rattle.stage_sub.specs.Handling.{new_log};
 
 use elem_core::why::NoMemory;
 use port_core::pick_log::PickLog;
@@ -11,7 +11,7 @@ use stream_model::kind::Joining;
 
 /// The log of a new stage: a merge of substreams has one. It takes no memory.
 pub fn log_of(alloc: Global, joining: Joining) -> Option<PickLog>
-    ensures { moves_in result ≡ no_moves joining }
+    ensures { moves_in result ≡ new_log joining }
 {
     match joining {
         Joining::Merge => Some(PickLog::new(alloc)),

@@ -3,7 +3,7 @@ ghost use Rattle.std.specs.Option.{option_map};
 ghost use Rattle.elem_core.specs.declared.item.Item.TheVariants as item;
 ghost use Rattle.port_core.specs.Call.{Obeys, Meets, starts, pulls, arrives, cancels};
 ghost use Rattle.stage_core.specs.declared.phase.Phase.TheVariants.{New, Open};
-ghost use Rattle.stage_sub.specs.Handling.{sub_picks, no_moves, IsSub, Begins};
+ghost use Rattle.stage_sub.specs.Handling.{sub_picks, new_log, IsSub, Begins};
 ghost use Rattle.stage_sub.specs.States.{begun, port_state, Turned, Ready};
 
 use crate::log::{log_of, make_room, note};
@@ -75,7 +75,7 @@ impl<C: Chain> SubLogic<C> {
         joining: Joining,
         chain: C,
     ) -> Result<SubLogic<C>, NoMemory>
-        ensures stage { IfOk result (λ l. l ≡ begun node how (no_moves joining) chain) }
+        ensures stage { IfOk result (λ l. l ≡ begun node how (new_log joining) chain) }
         ensures ready { IfOk result (Ready C.rest C.is_open) }
     {
         let state = Box::new(alloc, SubState::new(alloc, node, how, chain))?;

@@ -6,7 +6,7 @@ ghost use Rattle.stream_model.specs.Substreams.{Sub, before, behind, end_all, op
 ghost use Rattle.port_core.specs.ListFunction.{ListFunction, Same};
 ghost use Rattle.chain_core.specs.Means.{Means};
 ghost use Rattle.stage_sub.specs.Splits.{MayCallLast};
-ghost use Rattle.stage_sub.specs.Subs.{grown, Split, Becomes, Takes};
+ghost use Rattle.stage_sub.specs.Subs.{grown, Split, SubsBecome, SubsTake};
 
 use crate::blame::Blame;
 use crate::last::LastSubstream;
@@ -29,7 +29,7 @@ pub fn grow<C: Chain>(
 ) -> Result<Option<Blame>, NoMemory>
     requires may { MayCallLast C.rest C.is_open last.old }
     ensures becomes { IfOk result (λ b. (f : ListFunction) → Same (C.whole chain.now) f → (yields : List Tree → End → Given Tree) → Means yields f → (ss : List Sub) → Split C.rest C.is_open f yields last.old ss
-        → Becomes C.rest C.is_open f yields ss (grown ss e) b outs.old outs.new last.new) }
+        → SubsBecome C.rest C.is_open f yields ss (grown ss e) b outs.old outs.new last.new) }
     ensures may { OnOk result (MayCallLast C.rest C.is_open last.new) }
 {
     match last.grow(alloc, chain, e, outs, scratch)? {
@@ -49,7 +49,7 @@ pub fn end_and_open<C: Chain>(
 ) -> Result<Option<Blame>, NoMemory>
     requires may { MayCallLast C.rest C.is_open last.old }
     ensures becomes { IfOk result (λ b. (f : ListFunction) → Same (C.whole chain.now) f → (yields : List Tree → End → Given Tree) → Means yields f → (ss : List Sub) → Split C.rest C.is_open f yields last.old ss
-        → Becomes C.rest C.is_open f yields ss (opened e e ss) b outs.old outs.new last.new) }
+        → SubsBecome C.rest C.is_open f yields ss (opened e e ss) b outs.old outs.new last.new) }
     ensures may { OnOk result (MayCallLast C.rest C.is_open last.new) }
 {
     if let Some(why) = last.end(alloc, outs, scratch)? {
@@ -72,7 +72,7 @@ pub fn grow_and_end<C: Chain>(
 ) -> Result<Option<Blame>, NoMemory>
     requires may { MayCallLast C.rest C.is_open last.old }
     ensures becomes { IfOk result (λ b. (f : ListFunction) → Same (C.whole chain.now) f → (yields : List Tree → End → Given Tree) → Means yields f → (ss : List Sub) → Split C.rest C.is_open f yields last.old ss
-        → Becomes C.rest C.is_open f yields ss (end_all (grown ss e)) b outs.old outs.new last.new) }
+        → SubsBecome C.rest C.is_open f yields ss (end_all (grown ss e)) b outs.old outs.new last.new) }
     ensures may { OnOk result (MayCallLast C.rest C.is_open last.new) }
 {
     if let Some(why) = last.grow(alloc, chain, e, outs, scratch)? {
@@ -96,7 +96,7 @@ pub fn take_before<C: Chain>(
 ) -> Result<Option<Blame>, NoMemory>
     requires may { MayCallLast C.rest C.is_open last.old }
     ensures takes { IfOk result (λ b. (f : ListFunction) → Same (C.whole chain.now) f → (yields : List Tree → End → Given Tree) → Means yields f → (ss : List Sub) → Split C.rest C.is_open f yields last.old ss
-        → Takes C.rest C.is_open f yields (before test.now) ss e b outs.old outs.new last.new) }
+        → SubsTake C.rest C.is_open f yields (before test.now) ss e b outs.old outs.new last.new) }
     ensures may { OnOk result (MayCallLast C.rest C.is_open last.new) }
 {
     match test.test(&e) {
@@ -118,7 +118,7 @@ pub fn take_behind<C: Chain>(
 ) -> Result<Option<Blame>, NoMemory>
     requires may { MayCallLast C.rest C.is_open last.old }
     ensures takes { IfOk result (λ b. (f : ListFunction) → Same (C.whole chain.now) f → (yields : List Tree → End → Given Tree) → Means yields f → (ss : List Sub) → Split C.rest C.is_open f yields last.old ss
-        → Takes C.rest C.is_open f yields (behind test.now) ss e b outs.old outs.new last.new) }
+        → SubsTake C.rest C.is_open f yields (behind test.now) ss e b outs.old outs.new last.new) }
     ensures may { OnOk result (MayCallLast C.rest C.is_open last.new) }
 {
     match test.test(&e) {
@@ -137,7 +137,7 @@ pub fn end_last<C: Chain>(
 ) -> Result<Option<Blame>, NoMemory>
     requires may { MayCallLast C.rest C.is_open last.old }
     ensures becomes { IfOk result (λ b. (f : ListFunction) (yields : List Tree → End → Given Tree) → Means yields f → (ss : List Sub) → Split C.rest C.is_open f yields last.old ss
-        → Becomes C.rest C.is_open f yields ss (end_all ss) b outs.old outs.new last.new) }
+        → SubsBecome C.rest C.is_open f yields ss (end_all ss) b outs.old outs.new last.new) }
     ensures may { OnOk result (MayCallLast C.rest C.is_open last.new) }
 {
     match last.end(alloc, outs, scratch)? {

@@ -7,10 +7,10 @@ ghost use Rattle.stream_model.specs.Machine.{Given};
 ghost use Rattle.stream_model.specs.Substreams.{Sub, end_all};
 ghost use Rattle.stage_core.specs.declared.phase.Phase.TheVariants.{Open, Closed};
 ghost use Rattle.chain_core.specs.Means.{Means};
-ghost use Rattle.stage_sub.specs.Subs.{Reaches};
+ghost use Rattle.stage_sub.specs.Subs.{SubsReach};
 ghost use Rattle.stage_sub.specs.KeptSubs.{Keeps, TakesBy};
-ghost use Rattle.stage_sub.specs.Moves.{port_in, first_of};
-ghost use Rattle.stage_sub.specs.States.{begun, Ready, cause_by, first_out, first_acts, answered, answer_acts, answer_gave, emptied, emptied_acts, pulled, pulled_acts, sealed, sealed_acts, sealed_gave, finished, finish_acts, finish_gave, cancel_acts};
+ghost use Rattle.stage_sub.specs.Moves.{port_in, first_output};
+ghost use Rattle.stage_sub.specs.States.{begun, Ready, cause_of_blame, first_out, first_acts, answered, answer_acts, answer_gave, emptied, emptied_acts, pulled, pulled_acts, sealed, sealed_acts, sealed_gave, finished, finish_acts, finish_gave, cancel_acts};
 
 use crate::blame::Blame;
 use crate::kept::KeptSubs;
@@ -146,7 +146,7 @@ impl<C: Chain> SubState<C> {
     }
 
     fn cause(&self, taken: u64, blame: Blame) -> Cause
-        ensures { result ≡ cause_by self.now.node taken blame }
+        ensures { result ≡ cause_of_blame self.now.node taken blame }
     {
         match blame {
             Blame::AtElement(why) => Cause {
@@ -167,7 +167,7 @@ impl<C: Chain> SubState<C> {
         requires room { length acts.old.items < acts.old.room }
         ensures stage { self.new ≡ first_out self.old self.old.pending }
         ensures acts { acts.new ≡ record acts.old { items = acts.old.items ++ first_acts self.old.pending } }
-        ensures gave { result ≡ port_in (first_of self.old.pending) }
+        ensures gave { result ≡ port_in (first_output self.old.pending) }
     {
         match self.outs.take() {
             Some(o) => {
@@ -198,7 +198,7 @@ impl<C: Chain> SubState<C> {
     pub fn end_in(&mut self, alloc: Global) -> Result<Option<Blame>, NoMemory>
         requires ready { Ready C.rest C.is_open self.old }
         ensures becomes { IfOk result (λ b. (f : ListFunction) → (yields : List Tree → End → Given Tree) → Means yields f → (ss : List Sub) → Keeps C.rest C.is_open f yields self.old.how self.old.kept ss
-            → Reaches yields (λ k. ⊤) ss (end_all ss) b self.old.pending self.new.pending) }
+            → SubsReach yields (λ k. ⊤) ss (end_all ss) b self.old.pending self.new.pending) }
         ensures ready { OnOk result (Ready C.rest C.is_open self.new) }
         ensures stays { self.new ≡ record self.old { kept = self.new.kept; pending = self.new.pending } }
     {
@@ -251,7 +251,7 @@ impl<C: Chain> SubState<C> {
         requires some { 0 < length self.old.pending }
         ensures stage { self.new ≡ sealed true self.old self.old.pending }
         ensures acts { acts.new ≡ record acts.old { items = acts.old.items ++ sealed_acts true self.old.pending } }
-        ensures gave { result ≡ port_in (first_of self.old.pending) }
+        ensures gave { result ≡ port_in (first_output self.old.pending) }
     {
         self.asked = false;
         match self.outs.take() {
@@ -271,7 +271,7 @@ impl<C: Chain> SubState<C> {
         requires room { 4 ≤ acts.old.room }
         ensures stage { self.new ≡ pulled self.old self.old.pending }
         ensures acts { acts.new ≡ record acts.old { items = pulled_acts self.old.over self.old.pending } }
-        ensures gave { result ≡ port_in (first_of self.old.pending) }
+        ensures gave { result ≡ port_in (first_output self.old.pending) }
     {
         match self.outs.take() {
             Some(o) => {

@@ -24,7 +24,7 @@ use Rattle.stage_law.specs.OwnPorts.{OwnRests}
 use Rattle.stage_law.proofs.OwnRows.{waiting_rests, idle_rests, closed_rests as own_closed}
 use Rattle.kill_core.specs.declared.order.Order.{Order}
 use Rattle.kill_core.specs.Public.{SwitchState, SeatState}
-use Rattle.stage_switch.specs.Valves.{passes, ValveKeeps, RestsAt, ValveRests, GaveAll}
+use Rattle.stage_switch.specs.Valves.{passes, ValveKeeps, RestsAt, ValveRests, PassedAll}
 use Rattle.stage_switch.specs.States.{IsUnused, Valve, Unmoved, valve_port_state, passing_port_state, valve_held_in, new_valve_of, Trip, trip_held_in, trip_stage, new_trip_of}
 use Rattle.stage_switch.specs.Handling.{ValveFresh, ValvePortState, ValveAs, TripFresh, TripPortState, TripAs}
 
@@ -70,15 +70,15 @@ valve_rests first l v took gave r law =
     rests_at first.node l.passed l.phase l.moves (in_at v 0) (out_at v 0) ports.ins ports.out_list ports.out_end r.started (at_ports (passing_port_state l.phase) v.ins v.outs r.row.0) ports.keeps
 
 -- where it waits it is asked, and gave all that came
-waits_at : (node n : ℕ) (p : Phase) (moves : List ℕ) (x : InView) (y : OutView) (ins : List Inflow) (g : List Tree) (e : End) → x ≡ Pulled → passing_port_state p x y → ValveKeeps node (valve_held_in p n moves) ins g e → (y ≡ outlet.Available) × GaveAll ins g
+waits_at : (node n : ℕ) (p : Phase) (moves : List ℕ) (x : InView) (y : OutView) (ins : List Inflow) (g : List Tree) (e : End) → x ≡ Pulled → passing_port_state p x y → ValveKeeps node (valve_held_in p n moves) ins g e → (y ≡ outlet.Available) × PassedAll ins g
 waits_at node n New moves x y ins g e w r k = by_view x y w r
   where
-    by_view : (x : InView) (y : OutView) → x ≡ Pulled → passing_port_state New x y → (y ≡ outlet.Available) × GaveAll ins g
+    by_view : (x : InView) (y : OutView) → x ≡ Pulled → passing_port_state New x y → (y ≡ outlet.Available) × PassedAll ins g
     by_view Pulled y w r = absurd r
     by_view x y w r = cc
 waits_at node n Closed moves x y ins g e w r k = by_view x y w r
   where
-    by_view : (x : InView) (y : OutView) → x ≡ Pulled → BothClosed x y → (y ≡ outlet.Available) × GaveAll ins g
+    by_view : (x : InView) (y : OutView) → x ≡ Pulled → BothClosed x y → (y ≡ outlet.Available) × PassedAll ins g
     by_view Pulled y w r = absurd r
     by_view x y w r = cc
 waits_at node n Open moves x y [] g e w r k = absurd k
@@ -90,7 +90,7 @@ waits_at node n Open moves x y (f ∷ []) g e w r k = (by_view x y w r, k.1.1.0)
     by_view Pulled y w r = absurd r
     by_view x y w r = cc
 
-pub valve_waits : (first now : Valve) (v : View) (took gave : List (List Item)) → ValvePortState now v → (law : ValveAs first now v took gave) → in_at v 0 ≡ Pulled → (out_at v 0 ≡ outlet.Available) × GaveAll law.by.law.ins law.by.law.out_list
+pub valve_waits : (first now : Valve) (v : View) (took gave : List (List Item)) → ValvePortState now v → (law : ValveAs first now v took gave) → in_at v 0 ≡ Pulled → (out_at v 0 ≡ outlet.Available) × PassedAll law.by.law.ins law.by.law.out_list
 valve_waits first l v took gave r law w =
     let ports = law.by.law in
     waits_at first.node l.passed l.phase l.moves (in_at v 0) (out_at v 0) ports.ins ports.out_list ports.out_end w (at_ports (passing_port_state l.phase) v.ins v.outs r.row.0) ports.keeps

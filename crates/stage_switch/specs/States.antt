@@ -4,7 +4,7 @@ use Rattle.elem_core.specs.declared.item.Item.TheVariants as item
 use Rattle.elem_core.specs.declared.why.Decider.{Decider}
 use Rattle.kill_core.specs.declared.order.Order.{Order}
 use Rattle.kill_core.specs.declared.order.Order.TheVariants.{Shutdown, Abort}
-use Rattle.kill_core.specs.Public.{SwitchState, SeatState, IsSeatOf, Answers}
+use Rattle.kill_core.specs.Public.{SwitchState, SeatState, IsSeatOf, AnswersOrder}
 use Rattle.port_core.specs.declared.act.Act.{Act}
 use Rattle.port_core.specs.declared.act.Act.TheVariants.{Complete, FailOut, Cancel}
 use Rattle.port_core.specs.declared.view.InView.{InView}
@@ -65,9 +65,9 @@ abbrev pub valve_port_state : Valve → View → Type 0
 valve_port_state l v = OneOne (passing_port_state l.phase) v × Unmoved l.phase l.moves
 
 -- the number of an order among the moves
-abbrev pub number_of : Order → ℕ
-number_of Shutdown = 1
-number_of Abort = 2
+abbrev pub order_number : Order → ℕ
+order_number Shutdown = 1
+order_number Abort = 2
 
 -- the moves of a valve that did this
 abbrev pub moves_by : Acted → List ℕ
@@ -100,7 +100,7 @@ valve_held l = valve_held_in l.phase l.passed l.moves
 -- it looked, and found this: an order is noted with the number of elements that passed
 abbrev pub watched : Valve → Option Order → Valve
 watched l None = record l { seat = record l.seat { knows = None; looks = l.seat.looks + 1 } }
-watched l (Some o) = record l { moves = number_of o ∷ l.passed ∷ []; seat = record l.seat { knows = Some o; looks = l.seat.looks + 1 } }
+watched l (Some o) = record l { moves = order_number o ∷ l.passed ∷ []; seat = record l.seat { knows = Some o; looks = l.seat.looks + 1 } }
 
 -- how it acts by an order: at its output, and at its input where that is open
 abbrev pub stop_act : ℕ → Order → Act
@@ -174,7 +174,7 @@ brought (cancels j) = 0
 
 -- one more element came: where it is the one at which it gives its order, that order is given, and else its seat does nothing
 pub record SeatStepped (old new : Trip) : Type 0 where
-  pub gives : old.taken + 1 ≡ old.count → (answer : Order) × Answers old.order answer old.seat new.seat
+  pub gives : old.taken + 1 ≡ old.count → (answer : Order) × AnswersOrder old.order answer old.seat new.seat
   pub waits : old.taken + 1 ≢ old.count → new.seat ≡ old.seat
 
 -- what a call does at its seat

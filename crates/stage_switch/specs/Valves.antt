@@ -114,9 +114,9 @@ ValveRest node n (f ∷ []) g = (d : Acted) → NotBefore n d → (r : Inflow) �
 ValveRest node n fs g = ⊥
 
 -- it gave all that came to its one input
-abbrev pub GaveAll : List Inflow → List Tree → Type 0
-GaveAll (f ∷ []) g = g ≡ f.list
-GaveAll fs g = ⊥
+abbrev pub PassedAll : List Inflow → List Tree → Type 0
+PassedAll (f ∷ []) g = g ≡ f.list
+PassedAll fs g = ⊥
 
 -- It has closed both its ports; or it is asked, waits, and gave all that came; or nobody asks it, and it has not asked. This is
 -- its row of a picture that rests, over its own ports.

@@ -21,7 +21,7 @@ ghost use Rattle.stage_core.specs.Handling.{Starts, Handles};
 ghost use Rattle.stage_law.specs.Law.{GaveAs};
 ghost use Rattle.stage_law.specs.OwnPorts.{OwnRests};
 ghost use Rattle.stage_core.specs.declared.phase.Phase.TheVariants.{Open};
-ghost use Rattle.stage_switch.specs.Valves.{ValveHeld, passes, shut, did, GaveUpTo, GaveAll, ValveTurnAt, ValveLaw, ValveStandsOf, ValveResidual, ValveRest, ValveRests};
+ghost use Rattle.stage_switch.specs.Valves.{ValveHeld, passes, shut, did, GaveUpTo, PassedAll, ValveTurnAt, ValveLaw, ValveStandsOf, ValveResidual, ValveRest, ValveRests};
 ghost use Rattle.stage_switch.specs.States.{IsUnused, Valve, IsValve, new_valve_of, valve_port_state, ValveTurned, Trip, new_trip_of, trip_port_state, TripTurned};
 ghost use Rattle.stage_switch.specs.Handling.{ValveFresh, ValvePortState, ValveAs, TripFresh, TripPortState, TripAs, trip_kind};
 
@@ -49,7 +49,7 @@ pub fn a_new_stage_may_start()
 /// and has given all that came, or nobody asks it. A valve that waits is asked, and has given all that came.
 pub fn a_started_stage_rests()
     ensures valve { (first now : Valve) (v : View) (took gave : List (List Item)) → ValvePortState now v → (law : ValveAs first now v took gave) → ValveRests v law.by.law.ins law.by.law.out_list }
-    ensures waits { (first now : Valve) (v : View) (took gave : List (List Item)) → ValvePortState now v → (law : ValveAs first now v took gave) → in_at v 0 ≡ Pulled → (out_at v 0 ≡ Available) × GaveAll law.by.law.ins law.by.law.out_list }
+    ensures waits { (first now : Valve) (v : View) (took gave : List (List Item)) → ValvePortState now v → (law : ValveAs first now v took gave) → in_at v 0 ≡ Pulled → (out_at v 0 ≡ Available) × PassedAll law.by.law.ins law.by.law.out_list }
     ensures trip { (book : Book) (d : Decider) (first now : Trip) (v : View) (took gave : List (List Item)) → TripPortState now v → (law : TripAs first now v took gave)
         → OwnRests (linear book passing) (begin_work first.node d passing) false (in_at v 0) (out_at v 0) (law.law book d).in_list (law.law book d).out_list }
 {}

@@ -3,7 +3,7 @@ ghost use Rattle.elem_core.specs.declared.item.Item.TheVariants as item;
 ghost use Rattle.std.specs.Arc.{arc_value};
 ghost use Rattle.port_core.specs.Call.{Obeys, Meets, starts, pulls, arrives, cancels};
 ghost use Rattle.stage_core.specs.declared.phase.Phase.TheVariants.{New, Open, Closed};
-ghost use Rattle.stage_switch.specs.States.{IsUnused, IsValve, valve_port_state, number_of, new_valve_of, watched, stop_acts, ValveTurned};
+ghost use Rattle.stage_switch.specs.States.{IsUnused, IsValve, valve_port_state, order_number, new_valve_of, watched, stop_acts, ValveTurned};
 
 use elem_core::count::one_more_small;
 use elem_core::elem::Elem;
@@ -234,7 +234,7 @@ impl Valve {
 
 // The number of an order among the moves.
 fn move_of(order: Order) -> u32
-    ensures { result ≡ number_of order }
+    ensures { result ≡ order_number order }
 {
     match order {
         Order::Shutdown => 1,

@@ -10,10 +10,10 @@ use Rattle.run_report.specs.declared.outcome.Status.TheVariants as status
 use Rattle.command_words.specs.Asking.{Asked, asked_of}
 use Rattle.generator.specs.Generated.{Generates, StopsGenerating}
 use Rattle.generator.specs.Texts.{lines_file, blueprint_file}
-use Rattle.stream_top.specs.Outcome.{Blank, EndedBefore, CausesBefore, SinksOf, RoseNowhere, WasRun}
+use Rattle.stream_top.specs.Outcome.{Blank, EndedBefore, CausesBefore, SinksOf, RoseNowhere, RanWithoutFault}
 use Rattle.file_text.specs.Text.{text_limit}
 use Rattle.file_text.proofs.Quiets.{read_none}
-use Rattle.stream_command.specs.Answers.{Answers, AnswersTo, RunsFile, StopsBefore, IsValidFor}
+use Rattle.stream_command.specs.Answers.{AnswersCommand, AnswersTo, RunsFile, StopsBefore, IsValidFor}
 use Rattle.stream_top.specs.Asked.{Plugged}
 
 none_some : (c : Asked) (o : Option Asked) → o ≡ None → o ≡ Some c → ⊥
@@ -45,7 +45,7 @@ stopped status.OutOfTurns n old new h = absurd h
 stopped status.ReadFault n old new h = absurd h
 
 -- where no count rose only want of memory ends it
-calm_stops : (s : Status) (n : ℕ) (old new : FolderState) → RoseNowhere old new → StopsBefore s n old new → WasRun s
+calm_stops : (s : Status) (n : ℕ) (old new : FolderState) → RoseNowhere old new → StopsBefore s n old new → RanWithoutFault s
 calm_stops (status.Missing name) n old new calm (inl h) = absurd (calm.refusals lines_file h.1.rose)
 calm_stops (status.Missing name) n old new calm (inr h) = absurd (calm.refusals blueprint_file h.1.rose)
 calm_stops status.WriteFault n old new calm (inl h) = absurd (calm.wfaults lines_file h.rose)
@@ -81,7 +81,7 @@ told_to plugged None c a old new h t = h.tells t
 told_to plugged (Some n) c a old new (inl h) t = (stopped a.status n old new h.stops).told t
 told_to plugged (Some n) c a old new (inr h) t = h.generates.two.told (h.runs.tells t)
 
-pub told_before : (plugged : Plugged) (o : Option Asked) (a : Answer) (old new : FolderState) → Answers plugged o a old new → IsTrue new.tells → IsTrue old.tells
+pub told_before : (plugged : Plugged) (o : Option Asked) (a : Answer) (old new : FolderState) → AnswersCommand plugged o a old new → IsTrue new.tells → IsTrue old.tells
 told_before plugged None a old new h t = subst (λ (f : FolderState). IsTrue f.tells) h.same t
 told_before plugged (Some c) a old new h t = told_to plugged c.generated c a old new h t
 
@@ -91,19 +91,19 @@ read_to plugged None c a old new h = h.reads
 read_to plugged (Some n) c a old new (inl h) = read_none (old.read c.file) (new.read c.file) text_limit ((stopped a.status n old new h.stops).read c.file)
 read_to plugged (Some n) c a old new (inr h) = subst (λ k. GrewAtMost k text_limit (new.read c.file)) (h.generates.two.read c.file) h.runs.reads
 
-pub reads_little : (plugged : Plugged) (o : Option Asked) (a : Answer) (old new : FolderState) → Answers plugged o a old new → (c : Asked) → o ≡ Some c → GrewAtMost (old.read c.file) text_limit (new.read c.file)
+pub reads_little : (plugged : Plugged) (o : Option Asked) (a : Answer) (old new : FolderState) → AnswersCommand plugged o a old new → (c : Asked) → o ≡ Some c → GrewAtMost (old.read c.file) text_limit (new.read c.file)
 reads_little plugged None a old new h c e = absurd (none_some c None refl e)
 reads_little plugged (Some d) a old new h c e = subst (λ (x : Asked). GrewAtMost (old.read x.file) text_limit (new.read x.file)) (some_same e) (read_to plugged d.generated d a old new h)
 
 -- a valid blueprint and no fault give a run
-complete_to : (plugged : Plugged) (g : Option ℕ) (c : Asked) (a : Answer) (old new : FolderState) → AnswersTo plugged g c a old new → IsValidFor plugged g c.file c.trace old new → RoseNowhere old new → WasRun a.status
+complete_to : (plugged : Plugged) (g : Option ℕ) (c : Asked) (a : Answer) (old new : FolderState) → AnswersTo plugged g c a old new → IsValidFor plugged g c.file c.trace old new → RoseNowhere old new → RanWithoutFault a.status
 complete_to plugged None c a old new h v calm = h.complete v.0 v.1 calm
 complete_to plugged (Some n) c a old new (inl h) v calm = calm_stops a.status n old new calm h.stops
 complete_to plugged (Some n) c a old new (inr h) v calm =
     let tells = h.runs.tells v.0 in
     h.runs.complete tells (v.1 h.between h.generates tells) (calm_behind old h.between new n h.generates calm)
 
-pub completes : (plugged : Plugged) (o : Option Asked) (a : Answer) (old new : FolderState) → Answers plugged o a old new → (c : Asked) → o ≡ Some c → IsValidFor plugged c.generated c.file c.trace old new → RoseNowhere old new → WasRun a.status
+pub completes : (plugged : Plugged) (o : Option Asked) (a : Answer) (old new : FolderState) → AnswersCommand plugged o a old new → (c : Asked) → o ≡ Some c → IsValidFor plugged c.generated c.file c.trace old new → RoseNowhere old new → RanWithoutFault a.status
 completes plugged None a old new h c e v calm = absurd (none_some c None refl e)
 completes plugged (Some d) a old new h c e v calm =
     complete_to plugged d.generated d a old new h (subst (λ (x : Asked). IsValidFor plugged x.generated x.file x.trace old new) (sym (some_same e)) v) calm
@@ -114,7 +114,7 @@ no_usage_to plugged None c a old new h e = h.no_usage e
 no_usage_to plugged (Some n) c a old new (inl h) e = subst (λ s. StopsBefore s n old new) e h.stops
 no_usage_to plugged (Some n) c a old new (inr h) e = h.runs.no_usage e
 
-only_usage : (plugged : Plugged) (o : Option Asked) (a : Answer) (old new : FolderState) → Answers plugged o a old new → a.status ≡ status.Usage → o ≡ None
+only_usage : (plugged : Plugged) (o : Option Asked) (a : Answer) (old new : FolderState) → AnswersCommand plugged o a old new → a.status ≡ status.Usage → o ≡ None
 only_usage plugged None a old new h e = refl
 only_usage plugged (Some c) a old new h e = absurd (no_usage_to plugged c.generated c a old new h e)
 
@@ -122,12 +122,12 @@ told_usage : (s : Status) → (s ≡ status.NoMemory → ⊥) → (s ≡ status.
 told_usage s room (inl e) = e
 told_usage s room (inr e) = absurd (room e)
 
-each_usage : (plugged : Plugged) (o : Option Asked) (a : Answer) (old new : FolderState) → Answers plugged o a old new → (a.status ≡ status.NoMemory → ⊥) → o ≡ None → a.status ≡ status.Usage
+each_usage : (plugged : Plugged) (o : Option Asked) (a : Answer) (old new : FolderState) → AnswersCommand plugged o a old new → (a.status ≡ status.NoMemory → ⊥) → o ≡ None → a.status ≡ status.Usage
 each_usage plugged None a old new h room e = told_usage a.status room h.status
 each_usage plugged (Some c) a old new h room e = absurd (none_some c (Some c) e refl)
 
 -- and of each of them, unless memory was wanting
-pub usage_of : (plugged : Plugged) (o : Option Asked) (a : Answer) (old new : FolderState) → Answers plugged o a old new → a.status ≢ status.NoMemory → (a.status ≡ status.Usage) ↔ (o ≡ None)
+pub usage_of : (plugged : Plugged) (o : Option Asked) (a : Answer) (old new : FolderState) → AnswersCommand plugged o a old new → a.status ≢ status.NoMemory → (a.status ≡ status.Usage) ↔ (o ≡ None)
 usage_of plugged o a old new h room = (only_usage plugged o a old new h, each_usage plugged o a old new h room)
 
 -- ---- memory was wanting as the words were read
@@ -148,7 +148,7 @@ none_runs : (plugged : Plugged) (file : List ℕ) (trace : Option (List ℕ)) (t
 none_runs plugged file trace turns a s e blank = record {
   tells = λ t. t;
   told = λ t. inl (subst (λ x. EndedBefore plugged x a file trace s s) (sym e) (record { files = record { telling = refl; files = λ h n. refl }; blank = blank }));
-  complete = λ t v calm. subst (λ x. WasRun x) (sym e) tt;
+  complete = λ t v calm. subst (λ x. RanWithoutFault x) (sym e) tt;
   causes = inl (subst (λ x. CausesBefore x file s s) (sym e) (quiet_same s.refusals s.refusals (λ m. refl), quiet_same s.rfaults s.rfaults (λ m. refl), quiet_same s.wfaults s.wfaults (λ m. refl)));
   sinks = subst (λ x. SinksOf x a trace) (sym e) blank;
   no_usage = no_memory_usage a.status e;
@@ -159,13 +159,13 @@ none_to : (plugged : Plugged) (g : Option ℕ) (c : Asked) (a : Answer) (s : Fol
 none_to plugged None c a s e blank = none_runs plugged c.file c.trace c.turns a s e blank
 none_to plugged (Some n) c a s e blank = inl (record { blank = blank; stops = subst (λ x. StopsBefore x n s s) (sym e) (none_stops n s) })
 
-pub gave_up : (plugged : Plugged) (o : Option Asked) (a : Answer) (s : FolderState) → a.status ≡ status.NoMemory → Blank a → Answers plugged o a s s
+pub gave_up : (plugged : Plugged) (o : Option Asked) (a : Answer) (s : FolderState) → a.status ≡ status.NoMemory → Blank a → AnswersCommand plugged o a s s
 gave_up plugged None a s e blank = record { status = inr e; blank = blank; same = refl }
 gave_up plugged (Some c) a s e blank = none_to plugged c.generated c a s e blank
 
 -- ---- steps of the call
 
-pub refused : (plugged : Plugged) (o : Option Asked) (a : Answer) (s : FolderState) → o ≡ None → a.status ≡ status.Usage → Blank a → Answers plugged o a s s
+pub refused : (plugged : Plugged) (o : Option Asked) (a : Answer) (s : FolderState) → o ≡ None → a.status ≡ status.Usage → Blank a → AnswersCommand plugged o a s s
 refused plugged None a s none e blank = record { status = inl e; blank = blank; same = refl }
 refused plugged (Some c) a s none e blank = absurd (none_some c (Some c) none refl)
 
@@ -182,13 +182,13 @@ pub runs_as : (plugged : Plugged) (file : List ℕ) (lent trace : Option (List �
 runs_as plugged file lent trace turns a old new e h = subst (λ (t : Option (List ℕ)). RunsFile plugged file t turns a old new) e h
 
 -- one with a file to run
-pub file_was_run : (plugged : Plugged) (c : Asked) (a : Answer) (old new : FolderState) → c.generated ≡ None → RunsFile plugged c.file c.trace c.turns a old new → Answers plugged (Some c) a old new
+pub file_was_run : (plugged : Plugged) (c : Asked) (a : Answer) (old new : FolderState) → c.generated ≡ None → RunsFile plugged c.file c.trace c.turns a old new → AnswersCommand plugged (Some c) a old new
 file_was_run plugged c a old new g r = subst (λ (o : Option ℕ). AnswersTo plugged o c a old new) (sym g) r
 
 -- one with lines to generate
-pub was_generated : (plugged : Plugged) (n : ℕ) (c : Asked) (a : Answer) (old new : FolderState) → c.generated ≡ Some n → AnswersTo plugged (Some n) c a old new → Answers plugged (Some c) a old new
+pub was_generated : (plugged : Plugged) (n : ℕ) (c : Asked) (a : Answer) (old new : FolderState) → c.generated ≡ Some n → AnswersTo plugged (Some n) c a old new → AnswersCommand plugged (Some c) a old new
 was_generated plugged n c a old new g r = subst (λ (o : Option ℕ). AnswersTo plugged o c a old new) (sym g) r
 
 -- what the words ask for, by what was read of them
-pub as_asked : (plugged : Plugged) (words : List (List ℕ)) (c : Asked) (a : Answer) (old new : FolderState) → asked_of words ≡ Some c → Answers plugged (Some c) a old new → Answers plugged (asked_of words) a old new
-as_asked plugged words c a old new e h = subst (λ (o : Option Asked). Answers plugged o a old new) (sym e) h
+pub as_asked : (plugged : Plugged) (words : List (List ℕ)) (c : Asked) (a : Answer) (old new : FolderState) → asked_of words ≡ Some c → AnswersCommand plugged (Some c) a old new → AnswersCommand plugged (asked_of words) a old new
+as_asked plugged words c a old new e h = subst (λ (o : Option Asked). AnswersCommand plugged o a old new) (sym e) h

@@ -6,8 +6,8 @@ use Rattle.run_report.specs.Answer.{Answer}
 use Rattle.run_report.specs.declared.outcome.Status.{Status}
 use Rattle.run_report.specs.declared.outcome.Status.TheVariants as status
 use Rattle.command_words.specs.Asking.{Asked}
-use Rattle.generator.specs.Generated.{Generates, MissesFile, FailsAtFile, StopsGenerating}
-use Rattle.stream_top.specs.Outcome.{Blank, Told, Causes, SinksOf, IsValid, RoseNowhere, WasRun}
+use Rattle.generator.specs.Generated.{Generates, MissesInputFile, FailsAtFile, StopsGenerating}
+use Rattle.stream_top.specs.Outcome.{Blank, Told, Causes, SinksOf, IsValid, RoseNowhere, RanWithoutFault}
 use Rattle.file_text.specs.Text.{text_limit}
 use Rattle.stream_top.specs.Asked.{Plugged}
 
@@ -21,7 +21,7 @@ pub record IsNoCommand (a : Answer) (old new : FolderState) : Type 0 where
 pub record RunsFile (p : Plugged) (file : List ℕ) (trace : Option (List ℕ)) (turns : ℕ) (a : Answer) (old new : FolderState) : Type 0 where
   pub tells : IsTrue new.tells → IsTrue old.tells
   pub told : IsTrue old.tells → Told p a (record { file = file; trace = trace; turns = turns }) old new
-  pub complete : IsTrue old.tells → IsValid p file trace old → RoseNowhere old new → WasRun a.status
+  pub complete : IsTrue old.tells → IsValid p file trace old → RoseNowhere old new → RanWithoutFault a.status
   pub causes : Causes p a.status a file trace old new
   pub sinks : SinksOf a.status a trace
   pub no_usage : a.status ≡ status.Usage → ⊥
@@ -29,7 +29,7 @@ pub record RunsFile (p : Plugged) (file : List ℕ) (trace : Option (List ℕ)) 
 
 -- why the generator ended the call, and what it left
 abbrev pub StopsBefore : Status → ℕ → FolderState → FolderState → Type 0
-StopsBefore (status.Missing name) n old new = MissesFile old new n name
+StopsBefore (status.Missing name) n old new = MissesInputFile old new n name
 StopsBefore status.WriteFault n old new = FailsAtFile old new n
 StopsBefore status.NoMemory n old new = StopsGenerating old new n
 StopsBefore _ n old new = ⊥
@@ -52,9 +52,9 @@ AnswersTo p None c a old new = RunsFile p c.file c.trace c.turns a old new
 AnswersTo p (Some n) c a old new = EndsGenerating n a old new ⊎ GeneratesAndRuns p n c.file c.trace c.turns a old new
 
 -- what is answered and left
-abbrev pub Answers : Plugged → Option Asked → Answer → FolderState → FolderState → Type 0
-Answers p None a old new = IsNoCommand a old new
-Answers p (Some c) a old new = AnswersTo p c.generated c a old new
+abbrev pub AnswersCommand : Plugged → Option Asked → Answer → FolderState → FolderState → Type 0
+AnswersCommand p None a old new = IsNoCommand a old new
+AnswersCommand p (Some c) a old new = AnswersTo p c.generated c a old new
 
 -- The command's blueprint is valid: that of its file, in a folder that tells its files before the call; or, where lines are generated,
 -- that of its file in whatever folder the generator leaves, and the folder tells its files after the call.

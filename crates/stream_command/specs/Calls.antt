@@ -8,8 +8,8 @@ use Rattle.stream_top.specs.Outcome as outcome
 use Rattle.stream_top.specs.declared.top.RunEnd.{RunEnd}
 
 -- the heads of the plugs that are handed in, and their book
-abbrev pub Plugged : Type 0
-Plugged = asked.Plugged
+abbrev pub HandedPlugs : Type 0
+HandedPlugs = asked.Plugged
 
 -- what a call answered
 abbrev pub answer_of : RunEnd → Answer
@@ -21,4 +21,4 @@ RoseNowhere old new = outcome.RoseNowhere old new
 
 -- a blueprint was run
 abbrev pub WasRun : Status → Type 0
-WasRun s = outcome.WasRun s
+WasRun s = outcome.RanWithoutFault s

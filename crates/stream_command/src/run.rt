@@ -6,11 +6,11 @@ ghost use Rattle.stream_io.specs.Counts.{GrewAtMost};
 ghost use Rattle.command_words.specs.Asking.{Asked, asked_of};
 ghost use Rattle.command_words.specs.Commands.{asked};
 ghost use Rattle.stream_top.specs.Calls.{answer_of};
-ghost use Rattle.stream_top.specs.Outcome.{RoseNowhere, WasRun};
+ghost use Rattle.stream_top.specs.Outcome.{RoseNowhere, RanWithoutFault};
 ghost use Rattle.file_text.specs.Text.{text_limit};
 ghost use Rattle.run_report.specs.Report.{report_of, code_of};
 ghost use Rattle.stream_io.specs.Putting.{Puts, PutsPart};
-ghost use Rattle.stream_command.specs.Answers.{Answers, AnswersTo, RunsFile, IsValidFor};
+ghost use Rattle.stream_command.specs.Answers.{AnswersCommand, AnswersTo, RunsFile, IsValidFor};
 ghost use Rattle.stream_command.specs.Receipts.{ReceiptsOf, ReceiptsFor, IslandsOf, IslandsFor};
 ghost use Rattle.stream_top.specs.Receipts.{Receipts, RanFile};
 ghost use Rattle.plug_logic.specs.Gives.{listed};
@@ -45,10 +45,10 @@ pub fn run_streams<R: Threads + Wait + Sync, F: Folder, C: Drain, B: PlugBook + 
     ensures usage { result.status ≢ Status.NoMemory → (result.status ≡ Status.Usage ↔ asked_of words.now ≡ None) }
 
     // What is answered and left, by what the words ask for.
-    ensures answers { Answers (plugged_by B.lists plugs.items) (asked_of words.now) (answer_of result) (F.state folder.old) (F.state folder.new) }
+    ensures answers { AnswersCommand (plugged_by B.lists plugs.items) (asked_of words.now) (answer_of result) (F.state folder.old) (F.state folder.new) }
 
     // A valid blueprint and no fault give a run, or memory was wanting.
-    ensures complete { (c : Asked) → asked_of words.now ≡ Some c → IsValidFor (plugged_by B.lists plugs.items) c.generated c.file c.trace (F.state folder.old) (F.state folder.new) → RoseNowhere (F.state folder.old) (F.state folder.new) → WasRun result.status }
+    ensures complete { (c : Asked) → asked_of words.now ≡ Some c → IsValidFor (plugged_by B.lists plugs.items) c.generated c.file c.trace (F.state folder.old) (F.state folder.new) → RoseNowhere (F.state folder.old) (F.state folder.new) → RanWithoutFault result.status }
 
     // After a run, and only there, there is a receipt, of the command's workers and as many islands as the file's blueprint has.
     ensures ran { ReceiptsOf (asked_of words.now) (answer_of result) result.ran }
@@ -85,10 +85,10 @@ fn run_words<R: Threads + Wait + Sync, F: Folder, C: Drain, L: Logic + Send, B: 
     ensures usage { result.status ≢ Status.NoMemory → (result.status ≡ Status.Usage ↔ asked_of words.now ≡ None) }
 
     // What is answered and left, by what the words ask for.
-    ensures answers { Answers (plugged_by B.lists plugs.items) (asked_of words.now) (answer_of result) (F.state folder.old) (F.state folder.new) }
+    ensures answers { AnswersCommand (plugged_by B.lists plugs.items) (asked_of words.now) (answer_of result) (F.state folder.old) (F.state folder.new) }
 
     // A valid blueprint and no fault give a run, or memory was wanting.
-    ensures complete { (c : Asked) → asked_of words.now ≡ Some c → IsValidFor (plugged_by B.lists plugs.items) c.generated c.file c.trace (F.state folder.old) (F.state folder.new) → RoseNowhere (F.state folder.old) (F.state folder.new) → WasRun result.status }
+    ensures complete { (c : Asked) → asked_of words.now ≡ Some c → IsValidFor (plugged_by B.lists plugs.items) c.generated c.file c.trace (F.state folder.old) (F.state folder.new) → RoseNowhere (F.state folder.old) (F.state folder.new) → RanWithoutFault result.status }
 
     // After a run, and only there, there is a receipt, of the command's workers and as many islands as the file's blueprint has.
     ensures ran { ReceiptsOf (asked_of words.now) (answer_of result) result.ran }
@@ -127,7 +127,7 @@ fn run_command<R: Threads + Wait + Sync, F: Folder, C: Drain, L: Logic + Send, B
     requires listed { All (GivesAsListed L.gives B.lists) plugs.items }
     requires workers { (0 < command.now.workers) × (command.now.workers ≤ 64) }
     requires turns { command.now.turns ≤ MOST_COUNT }
-    ensures answers { Answers (plugged_by B.lists plugs.items) (Some (asked command.now)) (answer_of result) (F.state folder.old) (F.state folder.new) }
+    ensures answers { AnswersCommand (plugged_by B.lists plugs.items) (Some (asked command.now)) (answer_of result) (F.state folder.old) (F.state folder.new) }
     ensures ran { ReceiptsOf (Some (asked command.now)) (answer_of result) result.ran }
     ensures islands { IslandsOf (plugged_by B.lists plugs.items) (Some (asked command.now)) result.ran (F.state folder.old) (F.state folder.new) }
     ensures handles { F.handles folder.new ≡ F.handles folder.old }

@@ -6,7 +6,7 @@ use Rattle.std.proofs.lemmas.Bool.{cases_lt}
 use Rattle.memchr.specs.Find.{Nowhere, Passes, is_byte}
 use Rattle.std.proofs.lemmas.Slice.{between_from_start}
 use Rattle.std.proofs.Math.Seq.{take-add}
-use Rattle.stream_io.specs.State.{HandsOut}
+use Rattle.stream_io.specs.State.{StartsWithPiece}
 use Rattle.stream_io.specs.Reading.{NoEnd, ReadsOn}
 
 -- no LF stands from one place up to another
@@ -27,7 +27,7 @@ pub NoEnd-front : (bytes : List ℕ) (from mid to : ℕ) → from ≤ mid → mi
 NoEnd-front bytes from mid to low high fits none k d l is = none (from + k) (omega arith) (grind (arith, places)) (grind (arith, places))
 
 -- a piece that was handed out stands behind the kept bytes
-pub ReadsOn-behind : (told : Option (List ℕ)) (from n at : ℕ) (old was new kept : List ℕ) → take at was ≡ old → take at new ≡ take at was → at + n ≤ length new → kept ≡ take (at + n) new → IfSome told (λ whole. HandsOut whole from (slice_range new at (at + n))) → IfSome told (λ whole. ReadsOn whole from n old kept)
+pub ReadsOn-behind : (told : Option (List ℕ)) (from n at : ℕ) (old was new kept : List ℕ) → take at was ≡ old → take at new ≡ take at was → at + n ≤ length new → kept ≡ take (at + n) new → IfSome told (λ whole. StartsWithPiece whole from (slice_range new at (at + n))) → IfSome told (λ whole. ReadsOn whole from n old kept)
 ReadsOn-behind None from n at old was new kept begins front fits ends piece = tt
 ReadsOn-behind (Some whole) from n at old was new kept begins front fits ends piece =
     let l : length (slice_range new at (at + n)) ≡ n = length-between new at (at + n) fits ∙ omega arith in

@@ -6,7 +6,7 @@ use Rattle.std.proofs.lemmas.List.Elements.{All-head, All-tail}
 use Rattle.elem_core.specs.Line.{has_no_lf}
 use Rattle.elem_core.specs.Text.{lines, add_byte}
 use Rattle.stream_io.specs.State.{SourceState}
-use Rattle.stream_io.specs.Reading.{NoEnd, rest, EndsAt, AtEnd, TooLong, FirstTooLong}
+use Rattle.stream_io.specs.Reading.{NoEnd, rest, LineEndsAt, AtEnd, TooLong, FirstTooLong}
 
 abbrev not_lf : ℕ → Type 0
 not_lf b = b ≢ 10
@@ -82,14 +82,14 @@ FirstTooLong-none ls later line is short long =
     omega arith
 
 -- the kept bytes up to an LF are drawn
-pub rest-ended : (s : SourceState) (kept : List ℕ) (at : ℕ) → EndsAt kept at → rest s kept ≡ take at kept ++ 10 ∷ rest s (drop (at + 1) kept)
+pub rest-ended : (s : SourceState) (kept : List ℕ) (at : ℕ) → LineEndsAt kept at → rest s kept ≡ take at kept ++ 10 ∷ rest s (drop (at + 1) kept)
 rest-ended s kept at ends =
     let more : drop at kept ≡ 10 ∷ drop (at + 1) kept = drop_more kept at 0 ends.within ∙ ap (λ (b : ℕ). b ∷ drop (at + 1) kept) ends.found in
     let whole : kept ≡ take at kept ++ 10 ∷ drop (at + 1) kept = sym (take-append-drop at kept) ∙ ap (λ (r : List ℕ). take at kept ++ r) more in
     ap (λ (k : List ℕ). rest s k) whole ∙ append_assoc (take at kept) (10 ∷ drop (at + 1) kept) _
 
 -- a line that ended was drawn
-pub drawn-ended : (o f n : SourceState) (k fk nk line : List ℕ) (at : ℕ) → rest f fk ≡ rest o k → n ≡ f → EndsAt fk at → line ≡ take at fk → nk ≡ drop (at + 1) fk → rest o k ≡ line ++ 10 ∷ rest n nk
+pub drawn-ended : (o f n : SourceState) (k fk nk line : List ℕ) (at : ℕ) → rest f fk ≡ rest o k → n ≡ f → LineEndsAt fk at → line ≡ take at fk → nk ≡ drop (at + 1) fk → rest o k ≡ line ++ 10 ∷ rest n nk
 drawn-ended o f n k fk nk line at left same ends is past = sym left ∙ rest-ended f fk at ends ∙ sym (rw (same, is, past) refl)
 
 -- and it is the first of the lines

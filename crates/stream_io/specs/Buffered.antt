@@ -2,7 +2,7 @@
 use Rattle.std.specs.Prelude.{◌≢◌, ℕ, ◌+◌, ◌<◌, ◌≤◌, List, length, slice_index}
 
 -- the kept bytes stand in the buffer from `start` to `end`; no LF stands before `scanned`, and no more than one piece behind it
-pub record Buffered (bytes : List ℕ) (start scanned end : ℕ) : Type 0 where
+pub record IsBuffered (bytes : List ℕ) (start scanned end : ℕ) : Type 0 where
   pub begins : start ≤ scanned
   pub within : scanned ≤ end
   pub fits : end ≤ length bytes

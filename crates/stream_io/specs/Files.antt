@@ -2,14 +2,14 @@
 use Rattle.std.specs.Prelude.{ℕ, Bool, List, [], ◌∷◌, Option, Some, None, if◌then◌else◌, Vec}
 use Rattle.std.specs.declared.alloc.Global.{Global}
 use Rattle.stream_io.specs.State.{FolderState}
-use Rattle.stream_io.specs.Tally.{same_name, counts_of}
+use Rattle.stream_io.specs.Tally.{same_name, folder_of_counts}
 use Rattle.stream_io.specs.declared.named_file.NamedFile.{NamedFile}
 use Rattle.stream_io.specs.declared.tally.Counts.{Counts}
 
 -- the bytes of the first file of a name
-abbrev pub file_of : List NamedFile → List ℕ → Option (List ℕ)
-file_of [] n = None
-file_of (f ∷ fs) n = if same_name f.name n then Some f.bytes.items else file_of fs n
+abbrev pub bytes_of_file : List NamedFile → List ℕ → Option (List ℕ)
+bytes_of_file [] n = None
+bytes_of_file (f ∷ fs) n = if same_name f.name n then Some f.bytes.items else bytes_of_file fs n
 
 -- the files, where the first of a name has these bytes
 abbrev pub with_file : List NamedFile → List ℕ → Vec ℕ Global → List NamedFile
@@ -19,7 +19,7 @@ with_file (f ∷ fs) n bytes =
 
 -- what a folder tells of files in memory and of counts by name
 abbrev pub folder_of : Bool → List NamedFile → List Counts → FolderState
-folder_of tells files counts = record (counts_of counts) { tells = tells; file = file_of files }
+folder_of tells files counts = record (folder_of_counts counts) { tells = tells; file = bytes_of_file files }
 
 -- what such a folder tells whose calls never fail
 abbrev pub sure_folder_of : Bool → List NamedFile → List Counts → FolderState

@@ -4,7 +4,7 @@ use Rattle.std.specs.List.{All, Contains}
 use Rattle.stream_io.specs.State.{SourceState}
 
 -- a reader: its source, and the bytes that it read and did not give out
-pub record Reading (S : Type 0) : Type 0 where
+pub record ReaderState (S : Type 0) : Type 0 where
   pub source : S
   pub kept : List ℕ
 
@@ -33,7 +33,7 @@ pub record Fetched (old : SourceState) (kept : List ℕ) (new : SourceState) (ke
   pub left : IsSome old.whole → rest new kept' ≡ rest old kept
 
 -- the first line ends at this place
-pub record EndsAt (kept : List ℕ) (at : ℕ) : Type 0 where
+pub record LineEndsAt (kept : List ℕ) (at : ℕ) : Type 0 where
   pub within : at < length kept
   pub short : at ≤ 65536
   pub before : NoEnd (take at kept)
@@ -60,7 +60,7 @@ FirstTooLong [] = ⊥
 FirstTooLong (line ∷ later) = 65536 < length line
 
 -- nothing was left to draw
-pub record Ended (old : SourceState) (kept : List ℕ) (new : SourceState) (kept' : List ℕ) : Type 0 where
+pub record ReadToEnd (old : SourceState) (kept : List ℕ) (new : SourceState) (kept' : List ℕ) : Type 0 where
   pub nothing_kept : kept ≡ []
   pub nothing_keeps : kept' ≡ []
   pub nothing_left : IsSome old.whole → rest old kept ≡ []

@@ -25,7 +25,7 @@ pub record FolderState : Type 0 where
   pub read : List ℕ → ℕ
 
 -- the bytes of the whole from a place on begin with this piece
-pub record HandsOut (whole : List ℕ) (from : ℕ) (piece : List ℕ) : Type 0 where
+pub record StartsWithPiece (whole : List ℕ) (from : ℕ) (piece : List ℕ) : Type 0 where
   pub within : from + length piece ≤ length whole
   pub bytes : take (length piece) (drop from whole) ≡ piece
 
@@ -50,8 +50,8 @@ pub record RefusesName (old new : FolderState) (name : List ℕ) : Type 0 where
   pub others : (n : List ℕ) → n ≢ name → new.refusals n ≡ old.refusals n
 
 -- the folder tells its files, and has none of this name
-abbrev pub Lacks : FolderState → List ℕ → Type 0
-Lacks folder name = IsTrue folder.tells × (folder.file name ≡ None)
+abbrev pub LacksFile : FolderState → List ℕ → Type 0
+LacksFile folder name = IsTrue folder.tells × (folder.file name ≡ None)
 
 -- a source of that name's file was opened: nothing is handed out, and no read has failed
 pub record OpensSource (folder : FolderState) (name : List ℕ) (h : SourceState) : Type 0 where

@@ -3,8 +3,8 @@ ghost use Rattle.std.specs.Prelude.{◌≡◌, ◌+◌, ◌<◌, ◌≤◌, ◌-
 ghost use Rattle.elem_core.specs.Line.{has_no_lf};
 ghost use Rattle.elem_core.specs.Text.{lines};
 ghost use Rattle.stream_io.specs.Counts.{Rose};
-ghost use Rattle.stream_io.specs.State.{HandsOut};
-ghost use Rattle.stream_io.specs.Reading.{NoEnd, HoldsEnd, rest, ReadsOn, Fetched, EndsAt, AtEnd, TooLong, Ended, Draws, FirstTooLong};
+ghost use Rattle.stream_io.specs.State.{StartsWithPiece};
+ghost use Rattle.stream_io.specs.Reading.{NoEnd, HoldsEnd, rest, ReadsOn, Fetched, LineEndsAt, AtEnd, TooLong, ReadToEnd, Draws, FirstTooLong};
 ghost use Rattle.stream_io.specs.LineFault.{CountsFault};
 
 use crate::outside::{Failed, Source};
@@ -65,14 +65,14 @@ pub struct LineReader<S: Source> {
 
 impl<S: Source> Model for LineReader<S> {
     ghost use Rattle.std.specs.Prelude.{slice_range};
-    ghost use Rattle.stream_io.specs.Reading.{Reading};
-    ghost use Rattle.stream_io.specs.Buffered.{Buffered};
+    ghost use Rattle.stream_io.specs.Reading.{ReaderState};
+    ghost use Rattle.stream_io.specs.Buffered.{IsBuffered};
 
-    ghost Value = { Reading S };
+    ghost Value = { ReaderState S };
 
     ghost view = { λ r. record { source = r.source; kept = slice_range r.bytes.items r.start r.end } };
 
-    ghost invariant = { λ r. Buffered r.bytes.items r.start r.scanned r.end };
+    ghost invariant = { λ r. IsBuffered r.bytes.items r.start r.scanned r.end };
 }
 
 impl<S: Source> LineReader<S> {
@@ -103,7 +103,7 @@ impl<S: Source> LineReader<S> {
         ensures line { IfOk result (λ next. IfSome next (λ line. IsSome (S.state self.old.source).whole → lines (rest (S.state self.old.source) self.old.kept) ≡ line ∷ lines (rest (S.state self.new.source) self.new.kept))) }
         ensures short { IfOk result (λ next. IfSome next (λ line. length line ≤ 65536)) }
         ensures no_lf { IfOk result (λ next. IfSome next (λ line. IsTrue (has_no_lf line))) }
-        ensures end { result ≡ Ok None → Ended (S.state self.old.source) self.old.kept (S.state self.new.source) self.new.kept }
+        ensures end { result ≡ Ok None → ReadToEnd (S.state self.old.source) self.old.kept (S.state self.new.source) self.new.kept }
         ensures too_long { result ≡ Err LineEnd.LineTooLong → IsSome (S.state self.old.source).whole → FirstTooLong (lines (rest (S.state self.old.source) self.old.kept)) }
         ensures too_long_comes { IsSome (S.state self.old.source).whole → FirstTooLong (lines (rest (S.state self.old.source) self.old.kept)) → OnOk result ⊥ }
         ensures fault { IfErr result (λ e. CountsFault e (S.state self.old.source).faults (S.state self.new.source).faults) }
@@ -200,7 +200,7 @@ impl<S: Source> LineReader<S> {
         ensures fault { IfErr result (λ e. CountsFault e (S.state self.old.source).faults (S.state self.new.source).faults) }
         ensures never_falls { (S.state self.old.source).faults ≤ (S.state self.new.source).faults }
         ensures bound { length self.new.kept ≤ 69632 }
-        ensures found { IfOk result (λ found. IfSome found (EndsAt self.new.kept)) }
+        ensures found { IfOk result (λ found. IfSome found (LineEndsAt self.new.kept)) }
         ensures end { result ≡ Ok None → AtEnd (S.state self.new.source) self.new.kept }
         ensures too_long { result ≡ Err LineEnd.LineTooLong → TooLong self.new.kept }
         ensures read_fault { result ≡ Err LineEnd.ReadFault → NoEnd self.new.kept }
@@ -266,7 +266,7 @@ fn read_at<S: Source>(source: &mut S, bytes: &mut [u8], at: usize) -> Result<usi
     requires { at + 4096 ≤ length bytes.old }
     ensures front { take at bytes.new ≡ take at bytes.old }
     ensures piece { IfOk result (λ n. n ≤ 4096) }
-    ensures bytes { IfOk result (λ n. IfSome (S.state source.old).whole (λ whole. HandsOut whole (S.state source.old).given (slice_range bytes.new at (at + n)))) }
+    ensures bytes { IfOk result (λ n. IfSome (S.state source.old).whole (λ whole. StartsWithPiece whole (S.state source.old).given (slice_range bytes.new at (at + n)))) }
     ensures given { IfOk result (λ n. (S.state source.new).given ≡ (S.state source.old).given + n) }
     ensures end { result ≡ Ok 0 → IfSome (S.state source.old).whole (λ whole. length whole ≤ (S.state source.old).given) }
     ensures no_fault { OnOk result ((S.state source.new).faults ≡ (S.state source.old).faults) }

@@ -1,6 +1,6 @@
 // A folder in memory, with calls that fail on purpose.
 ghost use Rattle.std.specs.Prelude.{◌≡◌, ◌<◌, ◌≤◌, [], Some, true, vec_len};
-ghost use Rattle.stream_io.specs.Files.{file_of, folder_of};
+ghost use Rattle.stream_io.specs.Files.{bytes_of_file, folder_of};
 ghost use Rattle.stream_io.specs.Counts.{Rose};
 ghost use Rattle.stream_io.specs.State.{RefusesName, SameFaults, SameFiles};
 
@@ -94,7 +94,7 @@ impl MemFolder {
 
     /// The files that it holds. It takes no memory.
     pub fn files(&self) -> &[NamedFile]
-        ensures { (⟦<MemFolder as Folder>⟧.state self.now).file ≡ file_of result.now }
+        ensures { (⟦<MemFolder as Folder>⟧.state self.now).file ≡ bytes_of_file result.now }
     {
         &self.files
     }

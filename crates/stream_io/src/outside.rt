@@ -2,7 +2,7 @@
 ghost use Rattle.std.specs.Prelude.{ℕ, ◌≡◌, ◌+◌, ◌-◌, ◌<◌, ◌≤◌, ◌++◌, ◌⊎◌, length, take, IfOk, OnOk, OnErr, IfSome};
 ghost use Rattle.std.specs.Option.{option_map};
 ghost use Rattle.stream_io.specs.Counts.{Rose};
-ghost use Rattle.stream_io.specs.State.{SourceState, DrainState, FolderState, HandsOut, SameFiles, SameFaults, SameRefusals, RefusesName, Lacks, OpensSource, OpensDrain, ClosesSource, ClosesDrain};
+ghost use Rattle.stream_io.specs.State.{SourceState, DrainState, FolderState, StartsWithPiece, SameFiles, SameFaults, SameRefusals, RefusesName, LacksFile, OpensSource, OpensDrain, ClosesSource, ClosesDrain};
 
 use elem_core::line::Line;
 use std::alloc::{AllocError, Global};
@@ -40,7 +40,7 @@ pub trait Source: Drop {
         requires { 0 < length buf.old }
         ensures fits { IfOk result (λ n. n ≤ length buf.new) }
         ensures given { IfOk result (λ n. (state self.new).given ≡ (state self.old).given + n) }
-        ensures bytes { IfOk result (λ n. IfSome (state self.old).whole (λ whole. HandsOut whole (state self.old).given (take n buf.new))) }
+        ensures bytes { IfOk result (λ n. IfSome (state self.old).whole (λ whole. StartsWithPiece whole (state self.old).given (take n buf.new))) }
         ensures end { result ≡ Ok 0 → IfSome (state self.old).whole (λ whole. length whole ≤ (state self.old).given) }
         ensures no_fault { OnOk result ((state self.new).faults ≡ (state self.old).faults) }
         ensures fault { OnErr result (Rose (state self.old).faults (state self.new).faults) }
@@ -83,7 +83,7 @@ pub trait Folder {
     /// Opens the file of that name to read it from its start. It changes no file, and never ends the telling. Where it opens one there is one open handle more.
     fn open_in(&mut self, alloc: Global, name: &Line) -> Result<Self::Inp, OpenFault>
         ensures opened { IfOk result (λ h. OpensSource (state self.old) name.now (Self.Inp.state h)) }
-        ensures missing { result ≡ Err OpenFault.Missing → Lacks (state self.old) name.now ⊎ Rose ((state self.old).refusals name.now) ((state self.new).refusals name.now) }
+        ensures missing { result ≡ Err OpenFault.Missing → LacksFile (state self.old) name.now ⊎ Rose ((state self.old).refusals name.now) ((state self.new).refusals name.now) }
         ensures files { SameFiles (state self.old) (state self.new) }
         ensures faults { SameFaults (state self.old) (state self.new) }
         ensures no_refusal { OnOk result (SameRefusals (state self.old) (state self.new)) }

@@ -1,6 +1,6 @@
 // The real folder and standard output, which tell no contents.
 ghost use Rattle.std.specs.Prelude.{◌≡◌, [], None};
-ghost use Rattle.stream_io.specs.Tally.{counts_of};
+ghost use Rattle.stream_io.specs.Tally.{folder_of_counts};
 
 use crate::handles::one_more;
 use crate::outside::{Drain, Failed, Folder, OpenFault, Source};
@@ -92,7 +92,7 @@ where
 {
     /// The current folder of this runtime. It takes no memory.
     pub fn new(alloc: Global, rt: R) -> DirFolder<R>
-        ensures counts { ⟦<DirFolder<R> as Folder>⟧.state result ≡ counts_of [] }
+        ensures counts { ⟦<DirFolder<R> as Folder>⟧.state result ≡ folder_of_counts [] }
         ensures no_handles { ⟦<DirFolder<R> as Folder>⟧.handles result ≡ 0 }
     {
         DirFolder {
@@ -168,7 +168,7 @@ where
 
     type Out = DirSink<R::File>;
 
-    ghost state = { λ f. counts_of f.tally };
+    ghost state = { λ f. folder_of_counts f.tally };
 
     ghost handles = { λ f. f.handles };
 

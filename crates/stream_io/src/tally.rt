@@ -2,7 +2,7 @@
 ghost use Rattle.std.specs.Prelude.{◌≡◌, [], ◌∷◌, None};
 ghost use Rattle.stream_io.specs.Counts.{Rose};
 ghost use Rattle.stream_io.specs.State.{RefusesName, SameFaults, ClosesSource, ClosesDrain};
-ghost use Rattle.stream_io.specs.Tally.{counts_grown, tallied, counts_of};
+ghost use Rattle.stream_io.specs.Tally.{counts_grown, tallied, folder_of_counts};
 
 use elem_core::line::Line;
 use std::alloc::{AllocError, Global};
@@ -77,9 +77,9 @@ impl Tally {
 
     // Counts a refused opening of a name.
     pub fn refuse(&mut self, name: Line, spare: Box<Tally>)
-        ensures rose { Rose ((counts_of self.old).refusals name) ((counts_of self.new).refusals name) }
-        ensures refusal { RefusesName (counts_of self.old) (counts_of self.new) name }
-        ensures faults { SameFaults (counts_of self.old) (counts_of self.new) }
+        ensures rose { Rose ((folder_of_counts self.old).refusals name) ((folder_of_counts self.new).refusals name) }
+        ensures refusal { RefusesName (folder_of_counts self.old) (folder_of_counts self.new) name }
+        ensures faults { SameFaults (folder_of_counts self.old) (folder_of_counts self.new) }
     {
         let more = Counts {
             name,
@@ -93,7 +93,7 @@ impl Tally {
 
     // Counts what a closed source of a name tells.
     pub fn close_in(&mut self, name: Line, spare: Box<Tally>, given: u64, faults: u64)
-        ensures { ClosesSource (counts_of self.old) (counts_of self.new) (record { name = name; whole = None; given = given; faults = faults }) }
+        ensures { ClosesSource (folder_of_counts self.old) (folder_of_counts self.new) (record { name = name; whole = None; given = given; faults = faults }) }
     {
         let more = Counts {
             name,
@@ -107,7 +107,7 @@ impl Tally {
 
     // Counts what a closed drain of a name tells.
     pub fn close_out(&mut self, name: Line, spare: Box<Tally>, faults: u64)
-        ensures { ClosesDrain (counts_of self.old) (counts_of self.new) (record { name = name; holds = None; faults = faults }) }
+        ensures { ClosesDrain (folder_of_counts self.old) (folder_of_counts self.new) (record { name = name; holds = None; faults = faults }) }
     {
         let more = Counts {
             name,

@@ -11,7 +11,7 @@ use Rattle.elem_core.specs.Values.{as_number, sum_step}
 use Rattle.elem_core.specs.declared.why.Why.{Why}
 use Rattle.plug_core.specs.declared.head.PlugHead.{PlugHead}
 use Rattle.plug_logic.specs.Gives.{Gives}
-use Rattle.plug_logic.specs.Shipped.{last_behind, unrepeated, dedup_after, waiting, summed, paired, odd, sums_after, silent, shipped_book}
+use Rattle.plug_logic.specs.Shipped.{last_behind, unrepeated, dedup_after, waiting, summed, pair_reply, odd, sums_after, silent, shipped_book}
 use Rattle.run_type_laws.specs.Plugs.{KeepsPlugTypes}
 use Rattle.run_type_laws.specs.Types.{HasType, AllTyped}
 use Rattle.stream_shipped.specs.Heads.{shipped_heads}
@@ -47,7 +47,7 @@ summed_typed : (r : Result Tree Why) → ((y : Tree) → r ≡ Ok y → HasType 
 summed_typed (Ok s) h = (h s refl, tt)
 summed_typed (Err w) h = tt
 
-paired_typed : (first : Option Tree) (x : Tree) → AllTyped num_type (paired first x).gave
+paired_typed : (first : Option Tree) (x : Tree) → AllTyped num_type (pair_reply first x).gave
 paired_typed None x = tt
 paired_typed (Some a) x = summed_typed (sum_step a x) (sum_typed a x)
 

@@ -11,7 +11,7 @@ ghost use Rattle.command_words.specs.Asking.{Asked, asked_of};
 ghost use Rattle.file_text.specs.Text.{text_limit};
 ghost use Rattle.run_report.specs.Report.{report_of, code_of};
 ghost use Rattle.stream_io.specs.Putting.{Puts, PutsPart};
-ghost use Rattle.stream_command.specs.Answers.{Answers, IsValidFor};
+ghost use Rattle.stream_command.specs.Answers.{AnswersCommand, IsValidFor};
 ghost use Rattle.stream_command.specs.Calls.{answer_of, RoseNowhere, WasRun};
 ghost use Rattle.stream_command.specs.Receipts.{ReceiptsOf, IslandsOf};
 ghost use Rattle.stream_shipped.specs.Heads.{shipped_heads, shipped_plugs};
@@ -104,7 +104,7 @@ pub fn run_shipped<R: Threads + Wait + Sync, F: Folder, C: Drain>(
     ensures usage { result.status ≢ Status.NoMemory → (result.status ≡ Status.Usage ↔ asked_of words.now ≡ None) }
 
     // What is answered and left, by what the words ask for.
-    ensures answers { Answers shipped_plugs (asked_of words.now) (answer_of result) (F.state folder.old) (F.state folder.new) }
+    ensures answers { AnswersCommand shipped_plugs (asked_of words.now) (answer_of result) (F.state folder.old) (F.state folder.new) }
 
     // A valid blueprint and no fault give a run, or memory was wanting.
     ensures complete { (c : Asked) → asked_of words.now ≡ Some c → IsValidFor shipped_plugs c.generated c.file c.trace (F.state folder.old) (F.state folder.new) → RoseNowhere (F.state folder.old) (F.state folder.new) → WasRun result.status }

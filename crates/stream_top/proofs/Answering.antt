@@ -25,21 +25,21 @@ use Rattle.blue_core.specs.declared.blueprint.Blueprint.{Blueprint}
 use Rattle.blue_core.specs.declared.blueprint.Node.{Node}
 use Rattle.blue_lang.specs.Blueprints as language
 use Rattle.blue_lang.specs.Plain.{plain}
-use Rattle.blue_check.specs.Fitness.{IsFit, IsFirstFault, name_in}
+use Rattle.blue_check.specs.Fitness.{IsFit, IsFirstFault, node_name}
 use Rattle.blue_check.specs.declared.fault.CheckFault.{CheckFault}
 use Rattle.blue_check.specs.Wires.{blueprint_wires}
 use Rattle.blue_walks.specs.Forest.{wiring}
-use Rattle.materializer.specs.Graphs.{graph_of, node_of}
-use Rattle.materializer.specs.Files.{input_of, output_of, is_sink, sinks_of_nodes, inputs_of_nodes, outputs_of_nodes}
+use Rattle.materializer.specs.Graphs.{graph_of, graph_node}
+use Rattle.materializer.specs.Files.{source_file, output_of, is_sink, sinks_of_nodes, inputs_of_nodes, outputs_of_nodes}
 use Rattle.run_files.specs.Quiet.{Quiet, QuietBut}
 use Rattle.run_files.specs.Opening.{MissesInput, RefusesOutput, Empties}
 use Rattle.interpreter.specs.Picks.{Pick, pick_of}
-use Rattle.run_blueprint.specs.Carrying.{Carries}
+use Rattle.run_blueprint.specs.Carrying.{WiresCarry}
 use Rattle.run_blueprint.specs.Choosing.{pick_places, picked}
 use Rattle.run_blueprint.specs.Drawing.{Drawn, IsSource, WasRead, IsWorldOf}
 use Rattle.run_blueprint.specs.Stands.{SinkStand, sink_places, is_write_fault, is_unended, is_failed}
 use Rattle.run_blueprint.specs.Units.{Pays}
-use Rattle.run_blueprint.specs.Running.{SinkLeaves, LeavesFiles, WritesOf, Runs, BreaksFiles, Wants}
+use Rattle.run_blueprint.specs.Running.{SinkLeaves, LeavesFiles, FailedWritesOf, Runs, BreaksFiles, Wants}
 use Rattle.run_blueprint.specs.Tracing.{written_files, IsApart, Traces}
 use Rattle.run_blueprint.specs.declared.run.RunResult.{RunResult}
 use Rattle.run_files.proofs.Counts.{grew_same, quiet_two}
@@ -51,8 +51,8 @@ use Rattle.run_report.specs.Answer.{Answer}
 use Rattle.run_report.specs.declared.outcome.SinkEnd.{SinkEnd}
 use Rattle.run_report.specs.declared.outcome.Status.{Status}
 use Rattle.run_report.specs.declared.outcome.Status.TheVariants as status
-use Rattle.stream_top.specs.AfterRun.{AfterRun, ends_of, told_end, told_ends, is_ended, all_ended, some_failed, some_unended, some_fault, is_stalled, is_over}
-use Rattle.stream_top.specs.Asked.{Plugged, Asked}
+use Rattle.stream_top.specs.AfterRun.{AfterRun, sink_ends, told_end, told_ends, is_ended, all_ended, some_failed, some_unended, some_fault, is_stalled, no_event_left}
+use Rattle.stream_top.specs.Asked.{Plugged, AskedRun}
 use Rattle.file_text.specs.Text.{text_limit, text_of_file, ReadsFile}
 use Rattle.stream_top.specs.Outcome.{taken_files, SaysFile, SaysFit, Blank, RanNothing, RanTo, FallsShort, SinksWrote, SomeCountRose, SomeWriteFailed, GaveUp, LacksInput, LacksOutput, IsAbsent, EndedRun, EndedBefore, Told, Causes, CausesBefore, QuietButAll, QuietAmong, RunCauses, SinksOf, MissesFile}
 use Rattle.stream_top.specs.Texts.{NotFit, EndedParsed, NotSaid, EndedText, AllQuiet, CausesQuiet, CausesText}
@@ -66,23 +66,23 @@ at_name (x ∷ xs) back n = at_name xs back n
 
 -- the names of the sinks and their stands tell of the same as the stands alone
 ends_by : (b : Bool) (all : List Node) (k : ℕ) (n : Node) (ns : List Node) (stands : List SinkStand) → slice_get all k ≡ Some n
-    → ((later : List SinkStand) → map (λ (s : SinkStand). s.0) later ≡ sink_places (k + 1) ns → ends_of (map (λ (m : Node). m.name) (filter is_sink ns)) later ≡ told_ends all later)
+    → ((later : List SinkStand) → map (λ (s : SinkStand). s.0) later ≡ sink_places (k + 1) ns → sink_ends (map (λ (m : Node). m.name) (filter is_sink ns)) later ≡ told_ends all later)
     → map (λ (s : SinkStand). s.0) stands ≡ (if b then k ∷ sink_places (k + 1) ns else sink_places (k + 1) ns)
-    → ends_of (map (λ (m : Node). m.name) (if b then n ∷ filter is_sink ns else filter is_sink ns)) stands ≡ told_ends all stands
+    → sink_ends (map (λ (m : Node). m.name) (if b then n ∷ filter is_sink ns else filter is_sink ns)) stands ≡ told_ends all stands
 ends_by false all k n ns stands at later e = later stands e
 ends_by true all k n ns [] at later e = absurd cc
 ends_by true all k n ns (s ∷ ss) at later e =
     let place : s.0 ≡ k = cc in
     let rest : map (λ (x : SinkStand). x.0) ss ≡ sink_places (k + 1) ns = cc in
-    let name : name_in (slice_get all s.0) ≡ n.name = ap (λ (i : ℕ). name_in (slice_get all i)) place ∙ ap name_in at in
-    ap (λ (x : List ℕ). record { name = x; count = s.1; end = s.2 } ∷ ends_of (map (λ (m : Node). m.name) (filter is_sink ns)) ss) (sym name)
+    let name : node_name (slice_get all s.0) ≡ n.name = ap (λ (i : ℕ). node_name (slice_get all i)) place ∙ ap node_name at in
+    ap (λ (x : List ℕ). record { name = x; count = s.1; end = s.2 } ∷ sink_ends (map (λ (m : Node). m.name) (filter is_sink ns)) ss) (sym name)
     ∙ ap (λ (l : List SinkEnd). told_end all s ∷ l) (later ss rest)
 
 length_push_back : (xs : List Node) (x : Node) → length xs + 1 ≡ length (xs ++ x ∷ [])
 length_push_back [] x = refl
 length_push_back (y ∷ ys) x = let h : length ys + 1 ≡ length (ys ++ x ∷ []) = length_push_back ys x in omega (arith, h)
 
-ends_along : (all front back : List Node) (stands : List SinkStand) → all ≡ front ++ back → map (λ (s : SinkStand). s.0) stands ≡ sink_places (length front) back → ends_of (map (λ (m : Node). m.name) (filter is_sink back)) stands ≡ told_ends all stands
+ends_along : (all front back : List Node) (stands : List SinkStand) → all ≡ front ++ back → map (λ (s : SinkStand). s.0) stands ≡ sink_places (length front) back → sink_ends (map (λ (m : Node). m.name) (filter is_sink back)) stands ≡ told_ends all stands
 ends_along all front [] [] is e = refl
 ends_along all front [] (s ∷ ss) is e = absurd cc
 ends_along all front (n ∷ ns) stands is e =
@@ -90,7 +90,7 @@ ends_along all front (n ∷ ns) stands is e =
     (λ later le. ends_along all (front ++ n ∷ []) ns later (is ∙ sym (append_assoc front (n ∷ []) ns)) (le ∙ ap (λ (i : ℕ). sink_places i ns) (length_push_back front n)))
     e
 
-pub ends_told : (nodes : List Node) (stands : List SinkStand) → map (λ (s : SinkStand). s.0) stands ≡ sink_places 0 nodes → ends_of (sinks_of_nodes nodes) stands ≡ told_ends nodes stands
+pub ends_told : (nodes : List Node) (stands : List SinkStand) → map (λ (s : SinkStand). s.0) stands ≡ sink_places 0 nodes → sink_ends (sinks_of_nodes nodes) stands ≡ told_ends nodes stands
 ends_told nodes stands e = ends_along nodes [] nodes stands refl e
 
 -- there are as many of them
@@ -188,7 +188,7 @@ no_entry : (o : Outlook) (l : List Tree) (c : Cause) → o.fails ≡ [] → Agre
 no_entry o l c none h = subst (λ (es : List Entry). Allows es c (length l)) none h.1
 
 -- a sink that goes on no more, may not fail and has no failed write has ended
-must_end : (e : EndState) (o : Outlook) (held : List ℕ) (old new : ℕ) → is_unended e ≡ false → SinkTells o e held → o.fails ≡ [] → WritesOf e old new → (Rose old new → ⊥) → e ≡ state.Ended
+must_end : (e : EndState) (o : Outlook) (held : List ℕ) (old new : ℕ) → is_unended e ≡ false → SinkTells o e held → o.fails ≡ [] → FailedWritesOf e old new → (Rose old new → ⊥) → e ≡ state.Ended
 must_end state.Ended o held old new goes tells none writes calm = refl
 must_end (state.Failed c) o held old new goes tells none writes calm = absurd (no_entry o tells.list c none tells.agrees)
 must_end state.Unended o held old new goes tells none writes calm = absurd cc
@@ -317,7 +317,7 @@ module _ (plugged : Plugged) (b : Blueprint) (trace : Option (List ℕ)) (ran : 
   spent h = after.used ∙ runs.spent h
 
   -- no event was left where the answer tells so
-  over_rests : IsTrue (is_over a turns) → IsTrue ran.at_rest
+  over_rests : IsTrue (no_event_left a turns) → IsTrue ran.at_rest
   over_rests h = elim (or_either (is_stalled a.status) (nat_lt a.used turns) h) [
     | inl e ↦ (stalled_rests fault (list_any (λ (s : SinkStand). is_unended s.2) stands) (list_any (λ (s : SinkStand). is_failed s.2) stands) ran.at_rest (ap is_stalled (sym after.status) ∙ e))
     | inr e ↦ (less_rests ran.at_rest a.used turns (ltb-true a.used turns e) spent)
@@ -326,7 +326,7 @@ module _ (plugged : Plugged) (b : Blueprint) (trace : Option (List ℕ)) (ran : 
   pays : Pays b a.wires a.used
   pays = subst (λ (u : ℕ). Pays b a.wires u) (sym after.used) (subst (λ (w : List WireCount). Pays b w ran.used) (sym after.wires) runs.pays)
 
-  carries : Carries plugged.book b a.wires a.picks
+  carries : WiresCarry plugged.book b a.wires a.picks
   carries = rw (after.wires, after.picks) runs.carries
 
   picks_are : picked a.picks ≡ pick_places 0 b.nodes.items
@@ -356,7 +356,7 @@ module _ (plugged : Plugged) (b : Blueprint) (trace : Option (List ℕ)) (ran : 
 
     tree_enough : IsPolytree (wiring (blueprint_wires b)) → (w : World) → IsWorldOf plugged.book b.nodes.items leaves_at.drawn w → need (graph_of b) (composed (graph_of b) w) ≤ turns
         → (i : ℕ) (s : SinkStand) (n : Node) (file : List ℕ) → slice_get stands i ≡ Some s → slice_get b.nodes.items s.0 ≡ Some n → output_of n.kind ≡ Some file
-        → (sink_outlook (graph_of b) w s.0 (node_of n)).fails ≡ [] → (Rose (old.wfaults file) (new.wfaults file) → ⊥) → s.2 ≡ state.Ended
+        → (sink_outlook (graph_of b) w s.0 (graph_node n)).fails ≡ [] → (Rose (old.wfaults file) (new.wfaults file) → ⊥) → s.2 ≡ state.Ended
     tree_enough tree w is suffices i s n file at here shape fails calm =
         let within : i < length stands = place_within stands i s at in
         let some : 1 ≤ length stands = omega (arith, within) in
@@ -364,7 +364,7 @@ module _ (plugged : Plugged) (b : Blueprint) (trace : Option (List ℕ)) (ran : 
         let fewer : a.used < turns = omega (arith, used, suffices) in
         let rest : ran.at_rest ≡ true = less_rests ran.at_rest a.used turns fewer spent in
         let l = leaves_at.sink i s n file at here shape in
-        must_end s.2 (sink_outlook (graph_of b) w s.0 (node_of n)) l.held (old.wfaults file) (new.wfaults file) (no_unended_at stands i s (leaves_at.ending tree rest) at) (l.tells w is) fails (runs.writes i s n file at here shape) calm
+        must_end s.2 (sink_outlook (graph_of b) w s.0 (graph_node n)) l.held (old.wfaults file) (new.wfaults file) (no_unended_at stands i s (leaves_at.ending tree rest) at) (l.tells w is) fails (runs.writes i s n file at here shape) calm
 
     abbrev ran_to : RanTo plugged old new b trace turns a
     ran_to = record {
@@ -372,7 +372,7 @@ module _ (plugged : Plugged) (b : Blueprint) (trace : Option (List ℕ)) (ran : 
       stands_are = runs.sinks_are;
       sinks = told;
       picks_are = picks_are;
-      leaves = leaves_less plugged old new b trace stands a.picks a.wires (is_over a turns) ran.at_rest over_rests leaves_at;
+      leaves = leaves_less plugged old new b trace stands a.picks a.wires (no_event_left a turns) ran.at_rest over_rests leaves_at;
       writes = runs.writes;
       within = subst (λ n. n ≤ turns) (sym after.used) runs.within;
       pays = pays;
@@ -496,7 +496,7 @@ long_text t true later e = absurd cc
 long_text t false later e = refl
 
 -- a text that says a blueprint is the whole file
-says_whole : (whole t : List ℕ) → t ≡ text_of_file whole → language.fault_of t ≡ None → t ≡ whole
+says_whole : (whole t : List ℕ) → t ≡ text_of_file whole → language.text_fault t ≡ None → t ≡ whole
 says_whole whole t e none =
     let short : length t ≤ 1048576 = ltb-false 1048576 (length t) (long_text t (nat_lt 1048576 (length t)) (language.first_fault [] (lines t)) none) in
     let l : length t ≡ length (text_of_file whole) = ap length e in
@@ -504,13 +504,13 @@ says_whole whole t e none =
     short_whole whole t e small
 
 -- a text that is too long has that fault
-long_fault : (t : List ℕ) → 1048576 < length t → language.fault_of t ≡ Some (record { kind = TooLong; line = 0 })
+long_fault : (t : List ℕ) → 1048576 < length t → language.text_fault t ≡ Some (record { kind = TooLong; line = 0 })
 long_fault t h = rw (lt-ltb 1048576 (length t) h) refl
 
 -- the first fault of the bytes that were read is that of the file
-fault_whole : (whole t : List ℕ) → t ≡ text_of_file whole → language.fault_of t ≡ language.fault_of whole
+fault_whole : (whole t : List ℕ) → t ≡ text_of_file whole → language.text_fault t ≡ language.text_fault whole
 fault_whole whole t e = elim (leb_tells (length whole) 1048576) [
-  | inl h ↦ ap language.fault_of (short_whole whole t e h.1)
+  | inl h ↦ ap language.text_fault (short_whole whole t e h.1)
   | inr h ↦ (
       let more : 1048576 < length whole = h.1 in
       let l : length t ≡ length (text_of_file whole) = ap length e in
@@ -529,7 +529,7 @@ says_read old mid file t b tells r s =
       says = subst (λ x. language.Says x (plain b)) (says_whole w.0 t w.1.1 s.faultless) s;
     }
 
-refused_read : (old mid : FolderState) (file t : List ℕ) (f : BlueFault) → IsTrue old.tells → ReadsFile old mid file t → language.fault_of t ≡ Some f → (whole : List ℕ) × ((old.file file ≡ Some whole) × (language.fault_of whole ≡ Some f))
+refused_read : (old mid : FolderState) (file t : List ℕ) (f : BlueFault) → IsTrue old.tells → ReadsFile old mid file t → language.text_fault t ≡ Some f → (whole : List ℕ) × ((old.file file ≡ Some whole) × (language.text_fault whole ≡ Some f))
 refused_read old mid file t f tells r e =
     let w = whole_of (old.file file) t (r.text_is tells) in
     (w.0, (w.1.0, sym (fault_whole w.0 t w.1.1) ∙ e))
@@ -553,7 +553,7 @@ absent_later old mid new n same quiet (inr h) = inr (rose_later (old.refusals n)
 grew_from : (a b c n : ℕ) → b ≡ a → Grew b n c → Grew a n c
 grew_from a b c n e g = subst (λ x. Grew x n c) e g
 
-writes_later : (e : EndState) (a b c : ℕ) → Grew a 0 b → WritesOf e b c → WritesOf e a c
+writes_later : (e : EndState) (a b c : ℕ) → Grew a 0 b → FailedWritesOf e b c → FailedWritesOf e a c
 writes_later state.Ended a b c p q = grew_behind a b c 0 p q
 writes_later (state.Failed x) a b c p q = grew_behind a b c 0 p q
 writes_later state.Unended a b c p q = grew_behind a b c 0 p q
@@ -581,7 +581,7 @@ module _ (plugged : Plugged) (old mid new : FolderState) (file t : List ℕ) (r 
     read_apart : (k : ℕ) (n : List ℕ) → IsSource b.nodes.items k n → mid.read n ≡ old.read n
     read_apart k n is =
         r.read n (λ same.
-        let at = filtered_at (λ (m : Node). input_of m.kind) b.nodes.items k is.node n is.at (ap input_of is.kind_is) in
+        let at = filtered_at (λ (m : Node). source_file m.kind) b.nodes.items k is.node n is.at (ap source_file is.kind_is) in
         inputs_untaken b plugged.heads (taken_files file trace) fit n (contains_at (inputs_of_nodes b.nodes.items) at.0 n at.1) (0, omega arith, sym same))
 
     read_later : (n bytes : List ℕ) (given : ℕ) (faulted : Bool) → mid.read n ≡ old.read n → WasRead mid new n bytes given faulted → WasRead old new n bytes given faulted
@@ -620,7 +620,7 @@ module _ (plugged : Plugged) (old mid new : FolderState) (file t : List ℕ) (r 
       stands_are = ran.stands_are;
       sinks = ran.sinks;
       picks_are = ran.picks_are;
-      leaves = leaves_later ran.stands a.picks a.wires (is_over a turns) ran.leaves;
+      leaves = leaves_later ran.stands a.picks a.wires (no_event_left a turns) ran.leaves;
       writes = λ i s n f at here shape. writes_later s.2 (old.wfaults f) (mid.wfaults f) (new.wfaults f) (r.wfaults f) (ran.writes i s n f at here shape);
       within = ran.within;
       pays = ran.pays;
@@ -731,7 +731,7 @@ module _ (plugged : Plugged) (old mid new : FolderState) (file t : List ℕ) (r 
 nothing_since : (old mid new : FolderState) (file t : List ℕ) (r : ReadsFile old mid file t) (a : Answer) → RanNothing mid new a → RanNothing old new a
 nothing_since old mid new file t r a h = record { files = files_two old mid new r.files h.files; blank = h.blank }
 
-module _ (plugged : Plugged) (a : Answer) (c : Asked) (old mid new : FolderState) (t : List ℕ) (r : ReadsFile old mid c.file t) (tells : IsTrue old.tells) where
+module _ (plugged : Plugged) (a : Answer) (c : AskedRun) (old mid new : FolderState) (t : List ℕ) (r : ReadsFile old mid c.file t) (tells : IsTrue old.tells) where
   not_said : (s : Status) → NotSaid s a t mid new → EndedBefore plugged s a c.file c.trace old new
   not_said (status.Refused f) h = (nothing_since old mid new c.file t r a h.0, refused_read old mid c.file t f tells r h.1)
   not_said status.NoMemory h = nothing_since old mid new c.file t r a h

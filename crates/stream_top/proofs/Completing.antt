@@ -15,8 +15,8 @@ use Rattle.run_blueprint.proofs.Places.{all_at}
 use Rattle.run_report.specs.Answer.{Answer}
 use Rattle.run_report.specs.declared.outcome.Status.{Status}
 use Rattle.run_report.specs.declared.outcome.Status.TheVariants as status
-use Rattle.stream_top.specs.Asked.{Plugged, Asked}
-use Rattle.stream_top.specs.Outcome.{taken_files, IsAbsent, LacksInput, LacksOutput, EndedBefore, EndedRun, SaysFile, SaysFit, Told, IsValid, RoseNowhere, WasRun}
+use Rattle.stream_top.specs.Asked.{Plugged, AskedRun}
+use Rattle.stream_top.specs.Outcome.{taken_files, IsAbsent, LacksInput, LacksOutput, EndedBefore, EndedRun, SaysFile, SaysFit, Told, IsValid, RoseNowhere, RanWithoutFault}
 
 some_same : {A : Type 0} {a b : A} → Some a ≡ Some b → a ≡ b
 some_same e = cc
@@ -57,7 +57,7 @@ fit_never : (plugged : Plugged) (b : Blueprint) (taken : List (List ℕ)) (f : C
 fit_never plugged b taken f fit (inl h) = none_some _ f fit.early h
 fit_never plugged b taken f fit (inr h) = closed_never (blueprint_wires b) f fit.open_walks h.1
 
-module _ (plugged : Plugged) (c : Asked) (old new : FolderState) (v : IsValid plugged c.file c.trace old) (calm : RoseNowhere old new) (a : Answer) where
+module _ (plugged : Plugged) (c : AskedRun) (old new : FolderState) (v : IsValid plugged c.file c.trace old) (calm : RoseNowhere old new) (a : Answer) where
   absent_never : (b : Blueprint) (n : List ℕ) → SaysFile old c.file b → LacksInput old new b n a ⊎ LacksOutput old new b c.trace n a → ⊥
   absent_never b n says (inl h) =
       let at = at_middle h.before h.after n in
@@ -65,7 +65,7 @@ module _ (plugged : Plugged) (c : Asked) (old new : FolderState) (v : IsValid pl
       there_absent old new n (all_at (λ m. IsSome (old.file m)) (inputs_of_nodes b.nodes.items) at.0 n (v.inputs b says) among) calm h.absent
   absent_never b n says (inr h) = calm.refusals n h.refused
 
-  completes : (s : Status) → EndedBefore plugged s a c.file c.trace old new ⊎ ((b : Blueprint) × (SaysFit plugged old c.file c.trace b × EndedRun plugged s a b c.trace c.turns old new)) → WasRun s
+  completes : (s : Status) → EndedBefore plugged s a c.file c.trace old new ⊎ ((b : Blueprint) × (SaysFit plugged old c.file c.trace b × EndedRun plugged s a b c.trace c.turns old new)) → RanWithoutFault s
   completes status.Done t = tt
   completes status.StreamFailed t = tt
   completes status.Stalled t = tt
@@ -79,7 +79,7 @@ module _ (plugged : Plugged) (c : Asked) (old new : FolderState) (v : IsValid pl
   completes status.WriteFault (inr h) = absurd (calm.wfaults h.1.1.2.file h.1.1.2.rose)
   completes (status.Refused f) (inl h) =
       let same : h.1.0 ≡ v.says.whole = some_same (sym h.1.1.0 ∙ v.says.there) in
-      absurd (none_some _ f v.says.says.faultless (subst (λ x. language.fault_of x ≡ Some f) same h.1.1.1))
+      absurd (none_some _ f v.says.says.faultless (subst (λ x. language.text_fault x ≡ Some f) same h.1.1.1))
   completes (status.Refused f) (inr h) = absurd h.1.1
   completes (status.Unfit f) (inl h) = absurd (fit_never plugged h.1.0 (taken_files c.file c.trace) f (v.fit h.1.0 h.1.1.0) h.1.1.1)
   completes (status.Unfit f) (inr h) = absurd h.1.1
@@ -87,5 +87,5 @@ module _ (plugged : Plugged) (c : Asked) (old new : FolderState) (v : IsValid pl
   completes (status.Missing n) (inr h) = absurd (absent_never h.0 n h.1.0.says h.1.1)
 
 -- the answer to a valid call without faults
-pub complete : (plugged : Plugged) (c : Asked) (old new : FolderState) (a : Answer) → (IsTrue old.tells → Told plugged a c old new) → IsTrue old.tells → IsValid plugged c.file c.trace old → RoseNowhere old new → WasRun a.status
+pub complete : (plugged : Plugged) (c : AskedRun) (old new : FolderState) (a : Answer) → (IsTrue old.tells → Told plugged a c old new) → IsTrue old.tells → IsValid plugged c.file c.trace old → RoseNowhere old new → RanWithoutFault a.status
 complete plugged c old new a told tells v calm = completes plugged c old new v calm a a.status (told tells)

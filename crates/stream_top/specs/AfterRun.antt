@@ -12,7 +12,7 @@ use Rattle.run_report.specs.declared.outcome.SinkEnd.{SinkEnd}
 use Rattle.run_report.specs.declared.outcome.Status.{Status}
 use Rattle.run_report.specs.declared.outcome.Status.TheVariants as status
 use Rattle.stream_top.specs.declared.answer.CallEnd.{CallEnd}
-use Rattle.blue_check.specs.Fitness.{name_in}
+use Rattle.blue_check.specs.Fitness.{node_name}
 
 -- the answer that an outcome is
 abbrev pub of_outcome : CallEnd → Answer
@@ -20,7 +20,7 @@ of_outcome o = record { status = o.status; sinks = o.sinks.items; wires = o.pict
 
 -- what is told of a sink that stands so
 abbrev pub told_end : List Node → SinkStand → SinkEnd
-told_end nodes s = record { name = name_in (slice_get nodes s.0); count = s.1; end = s.2 }
+told_end nodes s = record { name = node_name (slice_get nodes s.0); count = s.1; end = s.2 }
 
 abbrev pub told_ends : List Node → List SinkStand → List SinkEnd
 told_ends nodes stands = map (told_end nodes) stands
@@ -44,9 +44,9 @@ abbrev pub some_fault : List SinkEnd → Bool
 some_fault sinks = list_any (λ s. is_write_fault s.end) sinks
 
 -- the ends of sinks of these names that stand so
-abbrev pub ends_of : List (List ℕ) → List SinkStand → List SinkEnd
-ends_of (n ∷ ns) (s ∷ ss) = record { name = n; count = s.1; end = s.2 } ∷ ends_of ns ss
-ends_of _ _ = []
+abbrev pub sink_ends : List (List ℕ) → List SinkStand → List SinkEnd
+sink_ends (n ∷ ns) (s ∷ ss) = record { name = n; count = s.1; end = s.2 } ∷ sink_ends ns ss
+sink_ends _ _ = []
 
 -- the status, by how the sinks stand, whether a write to the trace's file failed and whether no event was left: a failed write comes
 -- first, then a sink that goes on, then one that failed
@@ -62,13 +62,13 @@ is_stalled status.Stalled = true
 is_stalled _ = false
 
 -- no event was left, as the answer tells it: the run stalled, or it used fewer units than it might
-abbrev pub is_over : Answer → ℕ → Bool
-is_over a turns = is_stalled a.status || nat_lt a.used turns
+abbrev pub no_event_left : Answer → ℕ → Bool
+no_event_left a turns = is_stalled a.status || nat_lt a.used turns
 
 -- what is told of the run
 pub record AfterRun (names : List (List ℕ)) (ran : RunResult) (a : Answer) : Type 0 where
   pub status : a.status ≡ status_after ran.sinks.items ran.trace_failed ran.at_rest
-  pub sinks : a.sinks ≡ ends_of names ran.sinks.items
+  pub sinks : a.sinks ≡ sink_ends names ran.sinks.items
   pub wires : a.wires ≡ ran.wires.items
   pub picks : a.picks ≡ map pick_of ran.picks.items
   pub used : a.used ≡ ran.used

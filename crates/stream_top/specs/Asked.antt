@@ -5,7 +5,7 @@ use Rattle.plug_core.specs.declared.head.PlugHead.{PlugHead}
 use Rattle.plug_logic.specs.declared.plug.Plug.{Plug}
 
 -- the run of a file's blueprint, by so many units at most, and perhaps a file for the trace
-pub record Asked : Type 0 where
+pub record AskedRun : Type 0 where
   pub file : List ℕ
   pub trace : Option (List ℕ)
   pub turns : ℕ

@@ -7,7 +7,7 @@ use Rattle.stream_model.specs.Node.{World}
 use Rattle.stream_model.specs.Composed.{composed, sink_outlook}
 use Rattle.stream_picture.specs.Shape.{IsPolytree, need, count_needed}
 use Rattle.stream_io.specs.Counts.{Rose, Grew}
-use Rattle.stream_io.specs.State.{FolderState, SameFiles, Lacks}
+use Rattle.stream_io.specs.State.{FolderState, SameFiles, LacksFile}
 use Rattle.blue_core.specs.declared.blueprint.Blueprint.{Blueprint}
 use Rattle.blue_core.specs.declared.blueprint.Node.{Node}
 use Rattle.blue_lang.specs.Blueprints as language
@@ -16,21 +16,21 @@ use Rattle.blue_check.specs.Fitness.{IsFit, IsFirstFault}
 use Rattle.blue_check.specs.Wires.{blueprint_wires}
 use Rattle.blue_walks.specs.Forest.{wiring}
 use Rattle.materializer.specs.Files.{output_of, inputs_of_nodes, outputs_of_nodes}
-use Rattle.materializer.specs.Graphs.{graph_of, node_of}
+use Rattle.materializer.specs.Graphs.{graph_of, graph_node}
 use Rattle.run_files.specs.Quiet.{Quiet, QuietBut}
 use Rattle.run_files.specs.Opening.{Empties}
-use Rattle.run_blueprint.specs.Carrying.{Carries}
+use Rattle.run_blueprint.specs.Carrying.{WiresCarry}
 use Rattle.run_blueprint.specs.Choosing.{pick_places, picked}
 use Rattle.run_blueprint.specs.Drawing.{Drawn, IsWorldOf}
 use Rattle.run_blueprint.specs.Stands.{SinkStand, sink_places}
 use Rattle.run_blueprint.specs.Tracing.{Traces, written_files}
 use Rattle.run_blueprint.specs.Units.{Pays}
-use Rattle.run_blueprint.specs.Running.{LeavesFiles, WritesOf, BreaksFiles}
+use Rattle.run_blueprint.specs.Running.{LeavesFiles, FailedWritesOf, BreaksFiles}
 use Rattle.run_report.specs.Answer.{Answer}
 use Rattle.run_report.specs.declared.outcome.Status.{Status}
 use Rattle.run_report.specs.declared.outcome.Status.TheVariants as status
-use Rattle.stream_top.specs.Asked.{Asked, Plugged}
-use Rattle.stream_top.specs.AfterRun.{told_ends, all_ended, some_failed, some_unended, some_fault, is_over}
+use Rattle.stream_top.specs.Asked.{AskedRun, Plugged}
+use Rattle.stream_top.specs.AfterRun.{told_ends, all_ended, some_failed, some_unended, some_fault, no_event_left}
 
 -- the command's file says this blueprint
 pub record SaysFile (folder : FolderState) (file : List ℕ) (b : Blueprint) : Type 0 where
@@ -70,15 +70,15 @@ pub record RanTo (p : Plugged) (old new : FolderState) (b : Blueprint) (trace : 
   pub stands_are : map (λ (s : SinkStand). s.0) stands ≡ sink_places 0 b.nodes.items
   pub sinks : a.sinks ≡ told_ends b.nodes.items stands
   pub picks_are : picked a.picks ≡ pick_places 0 b.nodes.items
-  pub leaves : LeavesFiles p.book old new b trace stands a.picks a.wires (is_over a turns)
-  pub writes : (i : ℕ) (s : SinkStand) (n : Node) (file : List ℕ) → slice_get stands i ≡ Some s → slice_get b.nodes.items s.0 ≡ Some n → output_of n.kind ≡ Some file → WritesOf s.2 (old.wfaults file) (new.wfaults file)
+  pub leaves : LeavesFiles p.book old new b trace stands a.picks a.wires (no_event_left a turns)
+  pub writes : (i : ℕ) (s : SinkStand) (n : Node) (file : List ℕ) → slice_get stands i ≡ Some s → slice_get b.nodes.items s.0 ≡ Some n → output_of n.kind ≡ Some file → FailedWritesOf s.2 (old.wfaults file) (new.wfaults file)
   pub within : a.used ≤ turns
   pub pays : Pays b a.wires a.used
-  pub carries : Carries p.book b a.wires a.picks
+  pub carries : WiresCarry p.book b a.wires a.picks
   pub ending : IsPolytree (wiring (blueprint_wires b)) → some_unended a.sinks ≡ true → a.used ≡ turns
   pub enough : IsPolytree (wiring (blueprint_wires b)) → (w : World) → IsWorldOf p.book b.nodes.items leaves.drawn w → need (graph_of b) (composed (graph_of b) w) ≤ turns
       → (i : ℕ) (s : SinkStand) (n : Node) (file : List ℕ) → slice_get stands i ≡ Some s → slice_get b.nodes.items s.0 ≡ Some n → output_of n.kind ≡ Some file
-      → (sink_outlook (graph_of b) w s.0 (node_of n)).fails ≡ [] → (Rose (old.wfaults file) (new.wfaults file) → ⊥) → s.2 ≡ state.Ended
+      → (sink_outlook (graph_of b) w s.0 (graph_node n)).fails ≡ [] → (Rose (old.wfaults file) (new.wfaults file) → ⊥) → s.2 ≡ state.Ended
 
 -- The units were used up. They were fewer than the count over what was sent, and so fewer than the need over all that may pass.
 pub record FallsShort (p : Plugged) (b : Blueprint) (turns : ℕ) (a : Answer) (d : Drawn) : Type 0 where
@@ -88,13 +88,13 @@ pub record FallsShort (p : Plugged) (b : Blueprint) (turns : ℕ) (a : Answer) (
 
 -- the folder has no file of that name, or its opening was refused
 abbrev pub IsAbsent : FolderState → FolderState → List ℕ → Type 0
-IsAbsent old new n = Lacks old n ⊎ Rose (old.refusals n) (new.refusals n)
+IsAbsent old new n = LacksFile old n ⊎ Rose (old.refusals n) (new.refusals n)
 
 -- what a call that ended before its blueprint's files were opened answers, where the folder told its files before it
 abbrev pub EndedBefore : Plugged → Status → Answer → List ℕ → Option (List ℕ) → FolderState → FolderState → Type 0
 EndedBefore p (status.Missing n) a file trace old new = RanNothing old new a × (n ≡ file) × IsAbsent old new file
 EndedBefore p status.ReadFault a file trace old new = RanNothing old new a × Rose (old.rfaults file) (new.rfaults file)
-EndedBefore p (status.Refused f) a file trace old new = RanNothing old new a × ((whole : List ℕ) × ((old.file file ≡ Some whole) × (language.fault_of whole ≡ Some f)))
+EndedBefore p (status.Refused f) a file trace old new = RanNothing old new a × ((whole : List ℕ) × ((old.file file ≡ Some whole) × (language.text_fault whole ≡ Some f)))
 EndedBefore p (status.Unfit f) a file trace old new = RanNothing old new a × ((b : Blueprint) × (SaysFile old file b × IsFirstFault b p.heads (taken_files file trace) f))
 EndedBefore p status.NoMemory a file trace old new = RanNothing old new a
 EndedBefore p _ a file trace old new = ⊥
@@ -156,7 +156,7 @@ EndedRun p status.NoMemory a b trace turns old new = Blank a × GaveUp p old new
 EndedRun p _ a b trace turns old new = ⊥
 
 -- what a call with that file answers: it ended before a run, or it ran the blueprint that the file says
-abbrev pub Told : Plugged → Answer → Asked → FolderState → FolderState → Type 0
+abbrev pub Told : Plugged → Answer → AskedRun → FolderState → FolderState → Type 0
 Told p a c old new = EndedBefore p a.status a c.file c.trace old new ⊎ ((b : Blueprint) × (SaysFit p old c.file c.trace b × EndedRun p a.status a b c.trace c.turns old new))
 
 -- only counts of these names rose
@@ -179,8 +179,8 @@ pub record SinksWrote (p : Plugged) (old new : FolderState) (b : Blueprint) (a :
   pub stands_are : map (λ (s : SinkStand). s.0) stands ≡ sink_places 0 b.nodes.items
   pub sinks : a.sinks ≡ told_ends b.nodes.items stands
   pub picks_are : picked a.picks ≡ pick_places 0 b.nodes.items
-  pub writes : (i : ℕ) (s : SinkStand) (n : Node) (file : List ℕ) → slice_get stands i ≡ Some s → slice_get b.nodes.items s.0 ≡ Some n → output_of n.kind ≡ Some file → WritesOf s.2 (old.wfaults file) (new.wfaults file)
-  pub carries : Carries p.book b a.wires a.picks
+  pub writes : (i : ℕ) (s : SinkStand) (n : Node) (file : List ℕ) → slice_get stands i ≡ Some s → slice_get b.nodes.items s.0 ≡ Some n → output_of n.kind ≡ Some file → FailedWritesOf s.2 (old.wfaults file) (new.wfaults file)
+  pub carries : WiresCarry p.book b a.wires a.picks
 
 -- which counts a run raised: of failed reads at most those of its inputs, and of failed writes those of its outputs, each exactly
 -- where its sink stands at a failed write, and that of the trace's file
@@ -232,10 +232,10 @@ pub record RoseNowhere (old new : FolderState) : Type 0 where
   pub wfaults : (n : List ℕ) → Rose (old.wfaults n) (new.wfaults n) → ⊥
 
 -- the blueprint was run and no write failed, or memory was wanting
-abbrev pub WasRun : Status → Type 0
-WasRun status.Done = ⊤
-WasRun status.StreamFailed = ⊤
-WasRun status.Stalled = ⊤
-WasRun status.OutOfTurns = ⊤
-WasRun status.NoMemory = ⊤
-WasRun _ = ⊥
+abbrev pub RanWithoutFault : Status → Type 0
+RanWithoutFault status.Done = ⊤
+RanWithoutFault status.StreamFailed = ⊤
+RanWithoutFault status.Stalled = ⊤
+RanWithoutFault status.OutOfTurns = ⊤
+RanWithoutFault status.NoMemory = ⊤
+RanWithoutFault _ = ⊥

@@ -24,7 +24,7 @@ EndedParsed p s a b taken trace turns old new = NotFit p s a b taken old new ⊎
 
 -- a text that says no blueprint, or memory was wanting
 abbrev pub NotSaid : Status → Answer → List ℕ → FolderState → FolderState → Type 0
-NotSaid (status.Refused f) a text old new = RanNothing old new a × (language.fault_of text ≡ Some f)
+NotSaid (status.Refused f) a text old new = RanNothing old new a × (language.text_fault text ≡ Some f)
 NotSaid status.NoMemory a text old new = RanNothing old new a
 NotSaid _ a text old new = ⊥
 

@@ -1,6 +1,6 @@
 // The answer of a call, from the blueprint's file to the status and what is told of a run.
 ghost use Rattle.std.specs.Prelude.{ℕ, List, ◌≡◌, ◌<◌, ◌≤◌, ◌||◌, [], ◌⊎◌, Option, map, length, IfOk, IfSome, IsTrue, Some, None, vec_len, vec_capacity};
-ghost use Rattle.blue_check.specs.Checked.{blueprint_of};
+ghost use Rattle.blue_check.specs.Checked.{checked_blueprint};
 ghost use Rattle.blue_check.specs.Fitness.{IsFit};
 ghost use Rattle.run_blueprint.specs.Stands.{is_unended, is_write_fault, is_failed};
 ghost use Rattle.run_blueprint.specs.Tracing.{IsApart};
@@ -10,7 +10,7 @@ ghost use Rattle.std.specs.Option.{option_copied};
 ghost use Rattle.elem_core.specs.declared.count.TheConstants.{MOST_COUNT};
 ghost use Rattle.materializer.specs.Fit.{CanRun};
 ghost use Rattle.materializer.specs.Files.{inputs_of_nodes, sinks_of_nodes};
-ghost use Rattle.stream_top.specs.AfterRun.{AfterRun, of_outcome, status_after, ends_of};
+ghost use Rattle.stream_top.specs.AfterRun.{AfterRun, of_outcome, status_after, sink_ends};
 ghost use Rattle.stream_io.specs.Counts.{GrewAtMost};
 ghost use Rattle.stream_top.specs.Outcome.{taken_files, Blank, EndedRun, Told, RunCauses, Causes, SinksOf, QuietButAll, QuietAmong};
 ghost use Rattle.file_text.specs.Text.{text_limit};
@@ -116,7 +116,7 @@ fn told_ends(names: Vec<Line>, stands: &[SinkStand], room: Vec<SinkEnd>) -> Vec<
     requires empty { room.items ≡ [] }
     requires room { vec_len names ≤ vec_capacity room }
     requires as_many { vec_len names ≡ length stands.now }
-    ensures { result.items ≡ ends_of names.items stands.now }
+    ensures { result.items ≡ sink_ends names.items stands.now }
 {
     let mut ends = room;
     for name in names {
@@ -261,18 +261,18 @@ fn run_checked<R: Threads + Wait + Sync, F: Folder, L: Logic + Send, B: PlugBook
     plugs: Vec<Plug<L>>,
 ) -> CallEnd
     requires listed { All (GivesAsListed L.gives B.lists) plugs.items }
-    requires fit { (taken : List (List ℕ)) × IsFit (blueprint_of checked) (map (λ p. p.head) plugs.items) taken }
-    requires apart { IsApart (blueprint_of checked) trace }
+    requires fit { (taken : List (List ℕ)) × IsFit (checked_blueprint checked) (map (λ p. p.head) plugs.items) taken }
+    requires apart { IsApart (checked_blueprint checked) trace }
     requires workers { (0 < workers) × (workers ≤ 64) }
     requires turns { turns ≤ MOST_COUNT }
-    ensures told { IsTrue (F.state folder.old).tells → EndedRun (plugged_by B.lists plugs.items) result.status (of_outcome result) (blueprint_of checked) trace turns (F.state folder.old) (F.state folder.new) }
+    ensures told { IsTrue (F.state folder.old).tells → EndedRun (plugged_by B.lists plugs.items) result.status (of_outcome result) (checked_blueprint checked) trace turns (F.state folder.old) (F.state folder.new) }
     ensures tells { IsTrue (F.state folder.new).tells → IsTrue (F.state folder.old).tells }
-    ensures causes { RunCauses (plugged_by B.lists plugs.items) result.status (of_outcome result) (blueprint_of checked) trace (F.state folder.old) (F.state folder.new) }
+    ensures causes { RunCauses (plugged_by B.lists plugs.items) result.status (of_outcome result) (checked_blueprint checked) trace (F.state folder.old) (F.state folder.new) }
     ensures sinks { SinksOf result.status (of_outcome result) trace }
     ensures detail { result.detail.items ≡ detail_of result.status }
-    ensures reads { QuietButAll (inputs_of_nodes (blueprint_of checked).nodes.items) (F.state folder.old).read (F.state folder.new).read }
+    ensures reads { QuietButAll (inputs_of_nodes (checked_blueprint checked).nodes.items) (F.state folder.old).read (F.state folder.new).read }
     ensures ran { Receipts result.status workers result.used result.ran }
-    ensures islands { (taken : List (List ℕ)) → IsFit (blueprint_of checked) (map (λ p. p.head) plugs.items) taken → IfSome result.ran (λ r. RanIslands (plugged_by B.lists plugs.items) (blueprint_of checked) taken r) }
+    ensures islands { (taken : List (List ℕ)) → IsFit (checked_blueprint checked) (map (λ p. p.head) plugs.items) taken → IfSome result.ran (λ r. RanIslands (plugged_by B.lists plugs.items) (checked_blueprint checked) taken r) }
     ensures handles { F.handles folder.new ≡ F.handles folder.old }
 {
     run_fit::<R, F, L, B>(

@@ -4,7 +4,7 @@ ghost use Rattle.std.specs.List.{All};
 ghost use Rattle.std.specs.Option.{option_copied};
 ghost use Rattle.elem_core.specs.declared.count.TheConstants.{MOST_COUNT};
 ghost use Rattle.stream_top.specs.Calls.{answer_of};
-ghost use Rattle.stream_top.specs.Outcome.{IsValid, Told, WasRun};
+ghost use Rattle.stream_top.specs.Outcome.{IsValid, Told, RanWithoutFault};
 ghost use Rattle.plug_board.specs.Handed.{GivesAsListed};
 ghost use Rattle.stream_top.specs.Asked.{plugged_by};
 
@@ -35,7 +35,7 @@ pub fn run_surely<R: Threads + Wait + Sync, C: Drain, L: Logic + Send, B: PlugBo
     requires workers { (0 < workers) × (workers ≤ 64) }
     requires turns { turns ≤ MOST_COUNT }
     ensures told { IsTrue (⟦<SureFolder as Folder>⟧.state folder.old).tells → Told (plugged_by B.lists plugs.items) (answer_of result) (record { file = file.now; trace = option_copied trace.entry; turns = turns }) (⟦<SureFolder as Folder>⟧.state folder.old) (⟦<SureFolder as Folder>⟧.state folder.new) }
-    ensures runs { IsTrue (⟦<SureFolder as Folder>⟧.state folder.old).tells → IsValid (plugged_by B.lists plugs.items) file.now (option_copied trace.entry) (⟦<SureFolder as Folder>⟧.state folder.old) → WasRun result.status }
+    ensures runs { IsTrue (⟦<SureFolder as Folder>⟧.state folder.old).tells → IsValid (plugged_by B.lists plugs.items) file.now (option_copied trace.entry) (⟦<SureFolder as Folder>⟧.state folder.old) → RanWithoutFault result.status }
 {
     run_file::<R, SureFolder, C, L, B>(
         rt, alloc, file, trace, workers, turns, folder, console, plugs,

@@ -12,8 +12,8 @@ use Rattle.kill_core.specs.declared.end.SwitchEnd.{SwitchEnd}
 use Rattle.kill_core.specs.Public.{SwitchState, SeatState, IsNewSeat}
 use Rattle.stream_model.specs.declared.kind.Kind.{Kind}
 use Rattle.switch_board.specs.declared.board.Board.{Board}
-use Rattle.switch_board.specs.Board.{switch_of, place_by, place_of, places_in, sits, count_at, IsBoard, switch_at, held, switch_behind, IsSeatAt, AreAtSwitches, IsHandedAt, AreHanded, seat_of_end}
-use Rattle.switch_board.specs.Dealing.{IsEnd, IsHanded, IsDealt, IsMade, owns, nothing}
+use Rattle.switch_board.specs.Board.{switch_of, place_by, switch_place, places_in, sits, count_at, IsBoard, switch_at, switch_held, switch_behind, IsSeatAt, AreAtSwitches, IsHandedAt, AreHanded, seat_of_end}
+use Rattle.switch_board.specs.Dealing.{IsEndOfSwitch, IsHandedSeat, IsDealt, IsSwitchMade, owns, nothing}
 use Rattle.switch_board.proofs.Places.{unmapped_at, mapped_at, is_within, has_place, place_names}
 use Rattle.switch_board.proofs.Sitting.{sits_own, some_sit, differs, count_first, tally_is}
 
@@ -58,7 +58,7 @@ module _ (j : ℕ) (s : SwitchState) (places : List (Option ℕ)) (old : List (O
   -- the nodes before node n
   pub record DealtTo (n : ℕ) (now : List (Option SwitchEnd)) : Type 0 where
     pub many : length now ≡ length old
-    pub dealt : (k : ℕ) (p : Option ℕ) → k < n → slice_get places k ≡ Some p → sits j p ≡ true → IsEnd s (slice_get now k)
+    pub dealt : (k : ℕ) (p : Option ℕ) → k < n → slice_get places k ≡ Some p → sits j p ≡ true → IsEndOfSwitch s (slice_get now k)
     pub kept : (k : ℕ) (p : Option ℕ) → slice_get places k ≡ Some p → sits j p ≡ false → slice_get now k ≡ slice_get old k
 
   pub dealt_start : DealtTo 0 old
@@ -69,7 +69,7 @@ module _ (j : ℕ) (s : SwitchState) (places : List (Option ℕ)) (old : List (O
     many = ap length is ∙ length-set was n (Some e) ∙ d.many;
     dealt = λ k q before at' sit'. ⊎_elim
         (λ (same : k ≡ n). record { end = e; is = ap (λ l. slice_get l k) is ∙ ap (slice_get (set was n (Some e))) same ∙ written was n (Some e) less; switch = switch; seat = seat })
-        (λ other. subst (IsEnd s) (sym (ap (λ l. slice_get l k) is ∙ unwritten was n k (Some e) other)) (d.dealt k q (apart n k before other) at' sit'))
+        (λ other. subst (IsEndOfSwitch s) (sym (ap (λ l. slice_get l k) is ∙ unwritten was n k (Some e) other)) (d.dealt k q (apart n k before other) at' sit'))
         (is_same k n);
     kept = λ k q at' sit'. ap (λ l. slice_get l k) is ∙ unwritten was n k (Some e) (not_here n p k q at sit at' sit') ∙ d.kept k q at' sit';
   }
@@ -113,7 +113,7 @@ module _ (j : ℕ) (s : SwitchState) (places : List (Option ℕ)) (old : List (O
   after (suc n) p (q ∷ ps) at = let e : suc (n + 1) ≡ suc n + 1 = omega arith in after n p ps at ∙ ap (λ m. p ∷ drop m (q ∷ ps)) e
 
   pub deal_own : (n : ℕ) (p : Option ℕ) (was now : List (Option SwitchEnd)) (seats left : Vec SeatState Global) → slice_get places n ≡ Some p → sits j p ≡ true → length old ≡ length places
-      → vec_len seats ≡ count_at j (drop n places) → All (IsNewSeat s) seats.items → DealtTo n was → IsHanded s n seats.items left.items was now
+      → vec_len seats ≡ count_at j (drop n places) → All (IsNewSeat s) seats.items → DealtTo n was → IsHandedSeat s n seats.items left.items was now
       → (vec_len left ≡ count_at j (drop (n + 1) places)) × All (IsNewSeat s) left.items × DealtTo (n + 1) now
   deal_own n p was now seats left at sit each many new d h =
       let new_ones = All-pop (IsNewSeat s) seats.items left.items (Some h.end.seat) h.seat new in
@@ -150,7 +150,7 @@ module _ (places : List (Option ℕ)) where
     pub lists_many : length lists ≡ n
     pub ends_many : length ends ≡ length places
     pub switch_is : (j : ℕ) (s : Arc SwitchState Global) → slice_get switches j ≡ Some (Some s) → ((arc_value s).seats ≡ count_at j places) × (0 < count_at j places)
-    pub given : (k j : ℕ) → slice_get places k ≡ Some (Some j) → j < n → (s : Arc SwitchState Global) × ((slice_get switches j ≡ Some (Some s)) × IsEnd (arc_value s) (slice_get ends k))
+    pub given : (k j : ℕ) → slice_get places k ≡ Some (Some j) → j < n → (s : Arc SwitchState Global) × ((slice_get switches j ≡ Some (Some s)) × IsEndOfSwitch (arc_value s) (slice_get ends k))
     pub none : (k : ℕ) → slice_get places k ≡ Some None → slice_get ends k ≡ Some None
     pub empty : (j : ℕ) (list : Vec SeatState Global) → slice_get lists j ≡ Some list → list.items ≡ []
     pub room : (j : ℕ) (list : Vec SeatState Global) → slice_get lists j ≡ Some list → count_at j places ≤ vec_capacity list
@@ -171,12 +171,12 @@ module _ (places : List (Option ℕ)) where
   record Adds (n : ℕ) (old new : List (Option SwitchEnd)) (x : Option (Arc SwitchState Global)) (list : Vec SeatState Global) : Type 0 where
     many : length new ≡ length old
     switch : (s : Arc SwitchState Global) → x ≡ Some s → ((arc_value s).seats ≡ count_at n places) × (0 < count_at n places)
-    given : (k : ℕ) → slice_get places k ≡ Some (Some n) → (s : Arc SwitchState Global) × ((x ≡ Some s) × IsEnd (arc_value s) (slice_get new k))
+    given : (k : ℕ) → slice_get places k ≡ Some (Some n) → (s : Arc SwitchState Global) × ((x ≡ Some s) × IsEndOfSwitch (arc_value s) (slice_get new k))
     kept : (k : ℕ) (p : Option ℕ) → slice_get places k ≡ Some p → sits n p ≡ false → slice_get new k ≡ slice_get old k
     empty : list.items ≡ []
     room : count_at n places ≤ vec_capacity list
 
-  adds : (n : ℕ) (old new : List (Option SwitchEnd)) (x : Option (Arc SwitchState Global)) (list : Vec SeatState Global) → IsMade n places old new x list → Adds n old new x list
+  adds : (n : ℕ) (old new : List (Option SwitchEnd)) (x : Option (Arc SwitchState Global)) (list : Vec SeatState Global) → IsSwitchMade n places old new x list → Adds n old new x list
   adds n old new x list (owns s some is size none room dealt) = record {
     many = dealt.many;
     switch = λ t e. let same : s ≡ t = (let f : Some s ≡ Some t = sym is ∙ e in cc) in (ap (λ (y : Arc SwitchState Global). (arc_value y).seats) (sym same) ∙ size, some);
@@ -195,7 +195,7 @@ module _ (places : List (Option ℕ)) where
   }
 
   pub made_next : (n : ℕ) (was now : List (Option (Arc SwitchState Global))) (lists more : List (Vec SeatState Global)) (old new : List (Option SwitchEnd)) (x : Option (Arc SwitchState Global)) (list : Vec SeatState Global)
-      → MadeTo n was lists old → IsMade n places old new x list → now ≡ was ++ x ∷ [] → more ≡ lists ++ list ∷ [] → MadeTo (n + 1) now more new
+      → MadeTo n was lists old → IsSwitchMade n places old new x list → now ≡ was ++ x ∷ [] → more ≡ lists ++ list ∷ [] → MadeTo (n + 1) now more new
   made_next n was now lists more old new x list m made s_is l_is =
       let a = adds n old new x list made in
       record {
@@ -213,7 +213,7 @@ module _ (places : List (Option ℕ)) where
             (λ other.
             let g = m.given k j at (apart j less other) in
             let there : slice_get now j ≡ Some (Some g.0) = ap (λ l. slice_get l j) s_is ∙ pushed_old was (x ∷ []) j (Some g.0) g.1.0 in
-            (g.0, (there, subst (IsEnd (arc_value g.0)) (sym (a.kept k (Some j) at (differs n j other))) g.1.1)))
+            (g.0, (there, subst (IsEndOfSwitch (arc_value g.0)) (sym (a.kept k (Some j) at (differs n j other))) g.1.1)))
             (is_same j n);
         none = λ k at. a.kept k None at refl ∙ m.none k at;
         empty = λ j l at. ⊎_elim (λ e. m.empty j l e) (λ e. ap (λ (y : Vec SeatState Global). y.items) (sym e.1) ∙ a.empty) (pushed_cases lists list j l (ap (λ y. slice_get y j) (sym l_is) ∙ at));
@@ -229,14 +229,14 @@ module _ (places : List (Option ℕ)) where
 
 module _ (kinds : List Kind) (board : Board) (ends : List (Option SwitchEnd)) (made : MadeTo board.places.items (length board.places.items) board.switches.items board.seats.items ends) (places_are : board.places.items ≡ places_in kinds) where
   many : length board.places.items ≡ length kinds
-  many = ap length places_are ∙ length-map kinds (place_of kinds)
+  many = ap length places_are ∙ length-map kinds (switch_place kinds)
 
   pub place_is : (k : ℕ) (p : Option ℕ) → slice_get board.places.items k ≡ Some p → slice_get (places_in kinds) k ≡ Some p
   place_is k p at = ap (λ l. slice_get l k) (sym places_are) ∙ at
 
   below : (k j : ℕ) → slice_get board.places.items k ≡ Some (Some j) → j < length board.places.items
   below k j at =
-      let u = unmapped_at (place_of kinds) kinds k (Some j) (place_is k (Some j) at) in
+      let u = unmapped_at (switch_place kinds) kinds k (Some j) (place_is k (Some j) at) in
       let f = place_names kinds (switch_of u.0) j (sym u.1.1) in
       let less = is_within kinds j f.kind f.at in
       omega (arith, less, many)
@@ -253,8 +253,8 @@ module _ (kinds : List Kind) (board : Board) (ends : List (Option SwitchEnd)) (m
   }
 
   -- what node k has
-  place_here : (k : ℕ) (kind : Kind) → slice_get kinds k ≡ Some kind → slice_get board.places.items k ≡ Some (place_of kinds kind)
-  place_here k kind at = ap (λ l. slice_get l k) places_are ∙ mapped_at (place_of kinds) kinds k kind at
+  place_here : (k : ℕ) (kind : Kind) → slice_get kinds k ≡ Some kind → slice_get board.places.items k ≡ Some (switch_place kinds kind)
+  place_here k kind at = ap (λ l. slice_get l k) places_are ∙ mapped_at (switch_place kinds) kinds k kind at
 
   record IsGiven (k : ℕ) (e : Option SwitchEnd) : Type 0 where
     end : SwitchEnd
@@ -274,7 +274,7 @@ module _ (kinds : List Kind) (board : Board) (ends : List (Option SwitchEnd)) (m
         end = g.1.1.end;
         is = (let s : e ≡ Some g.1.1.end = cc in s);
         switch = arc_value g.0;
-        at = ap (switch_behind board) here ∙ ap held g.1.0;
+        at = ap (switch_behind board) here ∙ ap switch_held g.1.0;
         handle = g.1.1.switch;
         new = g.1.1.seat;
       }

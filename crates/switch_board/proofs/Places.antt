@@ -6,7 +6,7 @@ use Rattle.elem_core.specs.Values.{same_text}
 use Rattle.stream_model.specs.declared.kind.Kind.{Kind}
 use Rattle.stream_model.specs.declared.kind.Kind.TheVariants.{Valve, TripShutdown, TripAbort}
 use Rattle.run_switch_laws.specs.Settling.{IsAt}
-use Rattle.switch_board.specs.Board.{switch_of, is_name, first_from, place_by, place_of, places_in}
+use Rattle.switch_board.specs.Board.{switch_of, is_at_switch, least_at_switch, place_by, switch_place, places_in}
 use Rattle.switch_board.specs.Dealing.{AreRooted}
 
 -- ---- lists
@@ -39,11 +39,11 @@ same_name s name e = (bytes_eq-Decides s name).1 e
 pub name_same : (s name : List ℕ) → same_text s name ≡ true → s ≡ name
 name_same s name h = (bytes_eq-Decides s name).0 h
 
-pub names_it : (name : List ℕ) (o : Option (List ℕ)) → is_name name o ≡ true → o ≡ Some name
+pub names_it : (name : List ℕ) (o : Option (List ℕ)) → is_at_switch name o ≡ true → o ≡ Some name
 names_it name None h = cc
 names_it name (Some s) h = ap (λ t. Some t) (name_same s name h)
 
-pub is_named : (name : List ℕ) (o : Option (List ℕ)) → o ≡ Some name → is_name name o ≡ true
+pub is_named : (name : List ℕ) (o : Option (List ℕ)) → o ≡ Some name → is_at_switch name o ≡ true
 is_named name None e = cc
 is_named name (Some s) e = let f : s ≡ name = cc in same_name s name f
 
@@ -70,24 +70,24 @@ record IsFound (k : ℕ) (name : List ℕ) (kinds : List Kind) (i : ℕ) : Type 
   at : slice_get kinds past ≡ Some kind
   names : switch_of kind ≡ Some name
 
-found_at : (k : ℕ) (name : List ℕ) (kind : Kind) (kinds : List Kind) (i : ℕ) (b : Bool) → is_name name (switch_of kind) ≡ b → (first_from (k + 1) name kinds ≡ Some i → IsFound (k + 1) name kinds i)
-    → (if b then Some k else first_from (k + 1) name kinds) ≡ Some i → IsFound k name (kind ∷ kinds) i
+found_at : (k : ℕ) (name : List ℕ) (kind : Kind) (kinds : List Kind) (i : ℕ) (b : Bool) → is_at_switch name (switch_of kind) ≡ b → (least_at_switch (k + 1) name kinds ≡ Some i → IsFound (k + 1) name kinds i)
+    → (if b then Some k else least_at_switch (k + 1) name kinds) ≡ Some i → IsFound k name (kind ∷ kinds) i
 found_at k name kind kinds i true t later h = let same : k ≡ i = cc in record { past = 0; is = omega (arith, same); kind = kind; at = refl; names = names_it name (switch_of kind) t }
 found_at k name kind kinds i false t later h = let f = later h in let is = f.is in record { past = suc f.past; is = omega (arith, is); kind = f.kind; at = f.at; names = f.names }
 
-found : (k : ℕ) (name : List ℕ) (kinds : List Kind) (i : ℕ) → first_from k name kinds ≡ Some i → IsFound k name kinds i
+found : (k : ℕ) (name : List ℕ) (kinds : List Kind) (i : ℕ) → least_at_switch k name kinds ≡ Some i → IsFound k name kinds i
 found k name [] i e = cc
-found k name (kind ∷ kinds) i e = found_at k name kind kinds i (is_name name (switch_of kind)) refl (λ h. found (k + 1) name kinds i h) e
+found k name (kind ∷ kinds) i e = found_at k name kind kinds i (is_at_switch name (switch_of kind)) refl (λ h. found (k + 1) name kinds i h) e
 
-finds_at : (k : ℕ) (name : List ℕ) (x : Kind) (xs : List Kind) (kind : Kind) (b : Bool) → is_name name (switch_of x) ≡ b → switch_of kind ≡ Some name → (d : ℕ) → slice_get (x ∷ xs) d ≡ Some kind
-    → ((d : ℕ) → slice_get xs d ≡ Some kind → (i : ℕ) × (first_from (k + 1) name xs ≡ Some i)) → (i : ℕ) × ((if b then Some k else first_from (k + 1) name xs) ≡ Some i)
+finds_at : (k : ℕ) (name : List ℕ) (x : Kind) (xs : List Kind) (kind : Kind) (b : Bool) → is_at_switch name (switch_of x) ≡ b → switch_of kind ≡ Some name → (d : ℕ) → slice_get (x ∷ xs) d ≡ Some kind
+    → ((d : ℕ) → slice_get xs d ≡ Some kind → (i : ℕ) × (least_at_switch (k + 1) name xs ≡ Some i)) → (i : ℕ) × ((if b then Some k else least_at_switch (k + 1) name xs) ≡ Some i)
 finds_at k name x xs kind true t names d at later = (k, refl)
 finds_at k name x xs kind false t names zero at later = let same : x ≡ kind = cc in let yes = is_named name (switch_of x) (ap switch_of same ∙ names) in cc
 finds_at k name x xs kind false t names (suc d) at later = later d at
 
-finds : (k : ℕ) (name : List ℕ) (kinds : List Kind) (d : ℕ) (kind : Kind) → slice_get kinds d ≡ Some kind → switch_of kind ≡ Some name → (i : ℕ) × (first_from k name kinds ≡ Some i)
+finds : (k : ℕ) (name : List ℕ) (kinds : List Kind) (d : ℕ) (kind : Kind) → slice_get kinds d ≡ Some kind → switch_of kind ≡ Some name → (i : ℕ) × (least_at_switch k name kinds ≡ Some i)
 finds k name [] d kind at names = cc
-finds k name (x ∷ xs) d kind at names = finds_at k name x xs kind (is_name name (switch_of x)) refl names d at (λ d at. finds (k + 1) name xs d kind at names)
+finds k name (x ∷ xs) d kind at names = finds_at k name x xs kind (is_at_switch name (switch_of x)) refl names d at (λ d at. finds (k + 1) name xs d kind at names)
 
 -- the switch of a place, which a node there names, as its least node does
 pub record Places (kinds : List Kind) (o : Option (List ℕ)) (j : ℕ) : Type 0 where
@@ -114,20 +114,20 @@ module _ (kinds : List Kind) where
       x.names ∙ sym x.least ∙ ap switch_of same ∙ y.least ∙ sym y.names
 
   -- a node that names a switch has a place
-  pub has_place : (k : ℕ) (kind : Kind) (name : List ℕ) → slice_get kinds k ≡ Some kind → switch_of kind ≡ Some name → (j : ℕ) × (place_of kinds kind ≡ Some j)
+  pub has_place : (k : ℕ) (kind : Kind) (name : List ℕ) → slice_get kinds k ≡ Some kind → switch_of kind ≡ Some name → (j : ℕ) × (switch_place kinds kind ≡ Some j)
   has_place k kind name at names = let f = finds 0 name kinds k kind at names in (f.0, ap (place_by kinds) names ∙ f.1)
 
   -- what the place of a node is
-  pub place_at : (k : ℕ) (kind : Kind) (p : Option ℕ) → slice_get kinds k ≡ Some kind → slice_get (places_in kinds) k ≡ Some p → p ≡ place_of kinds kind
-  place_at k kind p at is = let e : Some p ≡ Some (place_of kinds kind) = sym is ∙ mapped_at (place_of kinds) kinds k kind at in cc
+  pub place_at : (k : ℕ) (kind : Kind) (p : Option ℕ) → slice_get kinds k ≡ Some kind → slice_get (places_in kinds) k ≡ Some p → p ≡ switch_place kinds kind
+  place_at k kind p at is = let e : Some p ≡ Some (switch_place kinds kind) = sym is ∙ mapped_at (switch_place kinds) kinds k kind at in cc
 
-  pub kind_there : (k : ℕ) (p : Option ℕ) → slice_get (places_in kinds) k ≡ Some p → (kind : Kind) × ((slice_get kinds k ≡ Some kind) × (p ≡ place_of kinds kind))
-  kind_there k p is = unmapped_at (place_of kinds) kinds k p is
+  pub kind_there : (k : ℕ) (p : Option ℕ) → slice_get (places_in kinds) k ≡ Some p → (kind : Kind) × ((slice_get kinds k ≡ Some kind) × (p ≡ switch_place kinds kind))
+  kind_there k p is = unmapped_at (switch_place kinds) kinds k p is
 
   -- the least node at a switch has the place that all its nodes have
   pub rooted : AreRooted (places_in kinds)
   rooted = λ k j e.
       let u = kind_there k (Some j) e in
       let p = place_names (switch_of u.0) j (sym u.1.1) in
-      let own : place_of kinds p.kind ≡ Some j = ap (place_by kinds) (p.least ∙ sym p.names) ∙ sym u.1.1 in
-      mapped_at (place_of kinds) kinds j p.kind p.at ∙ ap (λ q. Some q) own
+      let own : switch_place kinds p.kind ≡ Some j = ap (place_by kinds) (p.least ∙ sym p.names) ∙ sym u.1.1 in
+      mapped_at (switch_place kinds) kinds j p.kind p.at ∙ ap (λ q. Some q) own

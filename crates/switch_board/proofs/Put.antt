@@ -8,7 +8,7 @@ use Rattle.std.specs.declared.sync.Arc.{Arc}
 use Rattle.std.specs.declared.vec.Vec.{Vec}
 use Rattle.kill_core.specs.Public.{SwitchState, SeatState}
 use Rattle.switch_board.specs.Board.{sits}
-use Rattle.switch_board.specs.Dealing.{own_seat, sits_in, seats_at, HasRoom, IsPut, HaveLists, AreEmpty, HaveRoom, HaveSeats, AreWhole, AllWhole, IsSettledAt, ListsSettled}
+use Rattle.switch_board.specs.Dealing.{own_seat, sits_in, seats_at, HasRoom, IsSeatPut, HaveLists, AreEmpty, HaveRoom, HaveSeats, HasAllSeats, AllWhole, IsSettledAt, ListsSettled}
 use Rattle.switch_board.proofs.Places.{there_is, is_within}
 use Rattle.switch_board.proofs.Sitting.{sits_own, differs, seats_less}
 use Rattle.switch_board.proofs.Dealt.{pushed_old, pushed_new, written, unwritten, is_same}
@@ -52,7 +52,7 @@ has_room places first entries old left lists x p e have room = λ j place.
     let had : vec_len now.0 ≡ length (seats_at j places p.done) = now.0.ok.0 ∙ ap length each.1 in
     (now.0, (now.1, omega (arith, had, more, less, size, enough, each.0)))
 
-pub put_next : (places : List (Option ℕ)) (first : List (Vec SeatState Global)) (entries old left : List (ℕ × SeatState)) (was now : List (Vec SeatState Global)) (x : ℕ × SeatState) → PutFrom places first entries old was → old ≡ left ++ x ∷ [] → IsPut (slice_get places x.0) x.1 was now
+pub put_next : (places : List (Option ℕ)) (first : List (Vec SeatState Global)) (entries old left : List (ℕ × SeatState)) (was now : List (Vec SeatState Global)) (x : ℕ × SeatState) → PutFrom places first entries old was → old ≡ left ++ x ∷ [] → IsSeatPut (slice_get places x.0) x.1 was now
     → PutFrom places first entries left now
 put_next places first entries old left was now x p e put = record {
   done = x ∷ p.done;
@@ -74,7 +74,7 @@ put_end places first entries left lists p none = λ j list at.
     (p.each j was.0 list was.1 at).1 ∙ ap (seats_at j places) (sym all)
 
 -- the seat of a node with a place goes into its list alone
-pub put_in : (o : Option (Option ℕ)) (j : ℕ) (s : SeatState) (lists : List (Vec SeatState Global)) (old v : Vec SeatState Global) → o ≡ Some (Some j) → slice_get lists j ≡ Some old → vec_capacity v ≡ vec_capacity old → v.items ≡ old.items ++ s ∷ [] → IsPut o s lists (set lists j v)
+pub put_in : (o : Option (Option ℕ)) (j : ℕ) (s : SeatState) (lists : List (Vec SeatState Global)) (old v : Vec SeatState Global) → o ≡ Some (Some j) → slice_get lists j ≡ Some old → vec_capacity v ≡ vec_capacity old → v.items ≡ old.items ++ s ∷ [] → IsSeatPut o s lists (set lists j v)
 put_in o j s lists old v place at room items = record {
   many = length-set lists j v;
   each = λ i was now before after. ⊎_elim
@@ -93,7 +93,7 @@ put_in o j s lists old v place at room items = record {
       (is_same i j);
 }
 
-pub put_nowhere : (o : Option (Option ℕ)) (s : SeatState) (lists : List (Vec SeatState Global)) → o ≡ Some None → IsPut o s lists lists
+pub put_nowhere : (o : Option (Option ℕ)) (s : SeatState) (lists : List (Vec SeatState Global)) → o ≡ Some None → IsSeatPut o s lists lists
 put_nowhere o s lists place = record {
   many = refl;
   each = λ i was now before after.
@@ -110,7 +110,7 @@ none_of (Some x) h = absurd (h x refl)
 
 -- ---- settling
 
-pub whole_at : (switches : List (Option (Arc SwitchState Global))) (lists : List (Vec SeatState Global)) (k : ℕ) (o : Option (Arc SwitchState Global)) (x : Vec SeatState Global) → AllWhole switches lists → slice_get switches k ≡ Some o → slice_get lists k ≡ Some x → IfSome o (λ s. AreWhole (arc_value s) x)
+pub whole_at : (switches : List (Option (Arc SwitchState Global))) (lists : List (Vec SeatState Global)) (k : ℕ) (o : Option (Arc SwitchState Global)) (x : Vec SeatState Global) → AllWhole switches lists → slice_get switches k ≡ Some o → slice_get lists k ≡ Some x → IfSome o (λ s. HasAllSeats (arc_value s) x)
 whole_at switches lists k None x all at is = tt
 whole_at switches lists k (Some s) x all at is = all k s x at is
 

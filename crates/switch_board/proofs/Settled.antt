@@ -12,7 +12,7 @@ use Rattle.kill_core.specs.Public.{SwitchState, SeatState, IsSeatOf}
 use Rattle.stream_model.specs.declared.kind.Kind.{Kind}
 use Rattle.run_switch_laws.specs.Settling.{SeatsAre, AllSettled}
 use Rattle.switch_board.specs.declared.board.Board.{Board}
-use Rattle.switch_board.specs.Board.{switch_of, place_by, place_of, sits, count_at, IsBoard, switch_at, held, switch_behind, IsSeatAt, AreAtSwitches, numbered_from, seat_there, seat_in}
+use Rattle.switch_board.specs.Board.{switch_of, place_by, switch_place, sits, count_at, IsBoard, switch_at, switch_held, switch_behind, IsSeatAt, AreAtSwitches, numbered_from, seat_there, seat_in}
 use Rattle.switch_board.specs.Dealing.{seats_at, HaveLists, HaveRoom, HaveSeats, AllWhole, ListsSettled}
 use Rattle.switch_board.proofs.Places.{mapped_at, there_is, is_within, at_named, named_at, one_name, has_place, kind_there, place_names}
 use Rattle.switch_board.proofs.Sitting.{sits_there, sits_own, seats_count, seats_in, seats_only, IsSeatThere}
@@ -32,19 +32,19 @@ module _ (kinds : List Kind) (board : Board) (all : List (Option SeatState)) (is
   all_rest i = let e : 0 + i ≡ i = omega arith in ap (slice_get places) e
 
   many : length places ≡ length kinds
-  many = ap length is.places_are ∙ length-map kinds (place_of kinds)
+  many = ap length is.places_are ∙ length-map kinds (switch_place kinds)
 
   seats_many : length all ≡ length places
   seats_many = at.many ∙ sym many
 
-  place_here : (k : ℕ) (kind : Kind) → slice_get kinds k ≡ Some kind → slice_get places k ≡ Some (place_of kinds kind)
-  place_here k kind there = ap (λ l. slice_get l k) is.places_are ∙ mapped_at (place_of kinds) kinds k kind there
+  place_here : (k : ℕ) (kind : Kind) → slice_get kinds k ≡ Some kind → slice_get places k ≡ Some (switch_place kinds kind)
+  place_here k kind there = ap (λ l. slice_get l k) is.places_are ∙ mapped_at (switch_place kinds) kinds k kind there
 
   -- a node with a place, its kind, its switch and its seat
   record Sits (j k : ℕ) (s : Option SeatState) : Type 0 where
     kind : Kind
     kind_at : slice_get kinds k ≡ Some kind
-    place : place_of kinds kind ≡ Some j
+    place : switch_place kinds kind ≡ Some j
     seat : SeatState
     seat_is : s ≡ Some seat
     switch : switch_at board k ≡ Some seat.switch
@@ -52,7 +52,7 @@ module _ (kinds : List Kind) (board : Board) (all : List (Option SeatState)) (is
   sitting : (j k : ℕ) (p : Option ℕ) (s : Option SeatState) → slice_get places k ≡ Some p → slice_get all k ≡ Some s → sits j p ≡ true → Sits j k s
   sitting j k p s here seat sit =
       let u = kind_there kinds k p (ap (λ l. slice_get l k) (sym is.places_are) ∙ here) in
-      let e : place_of kinds u.0 ≡ Some j = sym u.1.1 ∙ sits_there j p sit in
+      let e : switch_place kinds u.0 ≡ Some j = sym u.1.1 ∙ sits_there j p sit in
       let n = place_names kinds (switch_of u.0) j e in
       let t : IsSeatAt (Some n.name) (switch_at board k) s = subst (λ o. IsSeatAt o (switch_at board k) s) n.names (at.each k u.0 s u.1.0 seat) in
       record { kind = u.0; kind_at = u.1.0; place = e; seat = t.0; seat_is = t.1.0; switch = t.1.1 }
@@ -82,7 +82,7 @@ module _ (kinds : List Kind) (board : Board) (all : List (Option SeatState)) (is
           let o = only j t c in
           let x = sitting j o.node o.place (Some t) o.at o.is o.sit in
           let place : slice_get places o.node ≡ Some (Some j) = o.at ∙ ap (λ p. Some p) (sits_there j o.place o.sit) in
-          let switch : switch_at board o.node ≡ Some (arc_value s) = ap (switch_behind board) place ∙ ap held here in
+          let switch : switch_at board o.node ≡ Some (arc_value s) = ap (switch_behind board) place ∙ ap switch_held here in
           let e : Some x.seat.switch ≡ Some (arc_value s) = sym x.switch ∙ switch in
           let f : t ≡ x.seat = (let g : Some t ≡ Some x.seat = x.seat_is in cc) in
           ap (λ (y : SeatState). y.switch) f ∙ (let g : x.seat.switch ≡ arc_value s = cc in g)
@@ -110,11 +110,11 @@ module _ (kinds : List Kind) (board : Board) (all : List (Option SeatState)) (is
           let settle = settled j s.0 list.0 s.1 list.1 in
           (list.0.items, (settle.0, (subst (λ (l : List SeatState). SeatsAre kinds name (seat_in all) l) (sym items) (seats_are node kind name j here names p.1), settle.1)))
         where
-          seats_are : (node : ℕ) (kind : Kind) (name : List ℕ) (j : ℕ) → slice_get kinds node ≡ Some kind → switch_of kind ≡ Some name → place_of kinds kind ≡ Some j → SeatsAre kinds name (seat_in all) (seats_at j places (numbered_from 0 all))
+          seats_are : (node : ℕ) (kind : Kind) (name : List ℕ) (j : ℕ) → slice_get kinds node ≡ Some kind → switch_of kind ≡ Some name → switch_place kinds kind ≡ Some j → SeatsAre kinds name (seat_in all) (seats_at j places (numbered_from 0 all))
           seats_are node kind name j here names p = record {
             all = λ k other there at_it.
                 let their = at_named name other at_it in
-                let place : place_of kinds other ≡ Some j = ap (place_by kinds) (their ∙ sym names) ∙ p in
+                let place : switch_place kinds other ≡ Some j = ap (place_by kinds) (their ∙ sym names) ∙ p in
                 let here : slice_get places k ≡ Some (Some j) = place_here k other there ∙ ap (λ x. Some x) place in
                 let less = is_within kinds k other there in
                 let seat = there_is all k (omega (arith, less, at.many)) in

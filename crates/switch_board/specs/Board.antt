@@ -23,25 +23,25 @@ switch_of kind = None
 -- ---- places
 
 -- whether a node of this kind is at the switch of that name
-abbrev pub is_name : List ℕ → Option (List ℕ) → Bool
-is_name name None = false
-is_name name (Some s) = same_text s name
+abbrev pub is_at_switch : List ℕ → Option (List ℕ) → Bool
+is_at_switch name None = false
+is_at_switch name (Some s) = same_text s name
 
 -- the least node at the switch of that name, where the first of these is node k
-abbrev pub first_from : ℕ → List ℕ → List Kind → Option ℕ
-first_from k name [] = None
-first_from k name (kind ∷ kinds) = if is_name name (switch_of kind) then Some k else first_from (k + 1) name kinds
+abbrev pub least_at_switch : ℕ → List ℕ → List Kind → Option ℕ
+least_at_switch k name [] = None
+least_at_switch k name (kind ∷ kinds) = if is_at_switch name (switch_of kind) then Some k else least_at_switch (k + 1) name kinds
 
 -- the place of a valve or a trip: the least node at its switch
 abbrev pub place_by : List Kind → Option (List ℕ) → Option ℕ
 place_by kinds None = None
-place_by kinds (Some name) = first_from 0 name kinds
+place_by kinds (Some name) = least_at_switch 0 name kinds
 
-abbrev pub place_of : List Kind → Kind → Option ℕ
-place_of kinds kind = place_by kinds (switch_of kind)
+abbrev pub switch_place : List Kind → Kind → Option ℕ
+switch_place kinds kind = place_by kinds (switch_of kind)
 
 abbrev pub places_in : List Kind → List (Option ℕ)
-places_in kinds = map (place_of kinds) kinds
+places_in kinds = map (switch_place kinds) kinds
 
 -- whether a node sits at place j, and how many do
 abbrev pub sits : ℕ → Option ℕ → Bool
@@ -67,15 +67,15 @@ pub record IsBoard (kinds : List Kind) (board : Board) : Type 0 where
 -- ---- the seats of nodes at a board
 
 -- the switch of node k
-abbrev pub held : Option (Option (Arc SwitchState Global)) → Option SwitchState
-held None = None
-held (Some None) = None
-held (Some (Some s)) = Some (arc_value s)
+abbrev pub switch_held : Option (Option (Arc SwitchState Global)) → Option SwitchState
+switch_held None = None
+switch_held (Some None) = None
+switch_held (Some (Some s)) = Some (arc_value s)
 
 abbrev pub switch_behind : Board → Option (Option ℕ) → Option SwitchState
 switch_behind board None = None
 switch_behind board (Some None) = None
-switch_behind board (Some (Some j)) = held (slice_get board.switches.items j)
+switch_behind board (Some (Some j)) = switch_held (slice_get board.switches.items j)
 
 abbrev pub switch_at : Board → ℕ → Option SwitchState
 switch_at board k = switch_behind board (slice_get board.places.items k)

@@ -18,14 +18,14 @@ abbrev pub AreRooted : List (Option ℕ) → Type 0
 AreRooted places = (k j : ℕ) → slice_get places k ≡ Some (Some j) → slice_get places j ≡ Some (Some j)
 
 -- an end of this switch, with a new seat
-pub record IsEnd (s : SwitchState) (x : Option (Option SwitchEnd)) : Type 0 where
+pub record IsEndOfSwitch (s : SwitchState) (x : Option (Option SwitchEnd)) : Type 0 where
   pub end : SwitchEnd
   pub is : x ≡ Some (Some end)
   pub switch : arc_value end.switch ≡ s
   pub seat : IsNewSeat s end.seat
 
 -- node k is handed an end of this switch, with the last of these seats
-pub record IsHanded (s : SwitchState) (k : ℕ) (seats left : List SeatState) (old new : List (Option SwitchEnd)) : Type 0 where
+pub record IsHandedSeat (s : SwitchState) (k : ℕ) (seats left : List SeatState) (old new : List (Option SwitchEnd)) : Type 0 where
   pub end : SwitchEnd
   pub is : new ≡ set old k (Some end)
   pub switch : arc_value end.switch ≡ s
@@ -34,14 +34,14 @@ pub record IsHanded (s : SwitchState) (k : ℕ) (seats left : List SeatState) (o
 -- the nodes of these places that sit at place j are each handed an end of this switch, and the others keep what they have
 pub record IsDealt (j : ℕ) (s : SwitchState) (places : List (Option ℕ)) (old new : List (Option SwitchEnd)) : Type 0 where
   pub many : length new ≡ length old
-  pub dealt : (k : ℕ) (p : Option ℕ) → slice_get places k ≡ Some p → sits j p ≡ true → IsEnd s (slice_get new k)
+  pub dealt : (k : ℕ) (p : Option ℕ) → slice_get places k ≡ Some p → sits j p ≡ true → IsEndOfSwitch s (slice_get new k)
   pub kept : (k : ℕ) (p : Option ℕ) → slice_get places k ≡ Some p → sits j p ≡ false → slice_get new k ≡ slice_get old k
 
 -- Where nodes sit at place j, its switch, and an empty list with room for its seats, which were handed out; else nothing.
-pub data IsMade (j : ℕ) (places : List (Option ℕ)) (old new : List (Option SwitchEnd)) (switch : Option (Arc SwitchState Global)) (list : Vec SeatState Global) : Type 0 where
+pub data IsSwitchMade (j : ℕ) (places : List (Option ℕ)) (old new : List (Option SwitchEnd)) (switch : Option (Arc SwitchState Global)) (list : Vec SeatState Global) : Type 0 where
   owns : (s : Arc SwitchState Global) → 0 < count_at j places → switch ≡ Some s → (arc_value s).seats ≡ count_at j places → list.items ≡ [] → count_at j places ≤ vec_capacity list
-      → IsDealt j (arc_value s) places old new → IsMade j places old new switch list
-  nothing : count_at j places ≡ 0 → switch ≡ None → list.items ≡ [] → new ≡ old → IsMade j places old new switch list
+      → IsDealt j (arc_value s) places old new → IsSwitchMade j places old new switch list
+  nothing : count_at j places ≡ 0 → switch ≡ None → list.items ≡ [] → new ≡ old → IsSwitchMade j places old new switch list
 
 -- ---- putting together
 
@@ -63,7 +63,7 @@ abbrev pub HasRoom : Option (Option ℕ) → List (Vec SeatState Global) → Typ
 HasRoom p lists = (j : ℕ) → p ≡ Some (Some j) → (list : Vec SeatState Global) × ((slice_get lists j ≡ Some list) × (vec_len list < vec_capacity list))
 
 -- the seat of a node with this place is put into the list of its place
-pub record IsPut (p : Option (Option ℕ)) (s : SeatState) (old new : List (Vec SeatState Global)) : Type 0 where
+pub record IsSeatPut (p : Option (Option ℕ)) (s : SeatState) (old new : List (Vec SeatState Global)) : Type 0 where
   pub many : length new ≡ length old
   pub each : (j : ℕ) (was now : Vec SeatState Global) → slice_get old j ≡ Some was → slice_get new j ≡ Some now → (vec_capacity now ≡ vec_capacity was) × (now.items ≡ was.items ++ own_seat (sits_in j p) s)
 
@@ -83,13 +83,13 @@ abbrev pub HaveSeats : List (Option ℕ) → List (ℕ × SeatState) → List (V
 HaveSeats places entries lists = (j : ℕ) (list : Vec SeatState Global) → slice_get lists j ≡ Some list → list.items ≡ seats_at j places entries
 
 -- all seats of a switch are in this list
-pub record AreWhole (s : SwitchState) (list : Vec SeatState Global) : Type 0 where
+pub record HasAllSeats (s : SwitchState) (list : Vec SeatState Global) : Type 0 where
   pub all : vec_len list ≡ s.seats
   pub some : 0 < s.seats
   pub seats : All (IsSeatOf s) list.items
 
 abbrev pub AllWhole : List (Option (Arc SwitchState Global)) → List (Vec SeatState Global) → Type 0
-AllWhole switches lists = (j : ℕ) (s : Arc SwitchState Global) (list : Vec SeatState Global) → slice_get switches j ≡ Some (Some s) → slice_get lists j ≡ Some list → AreWhole (arc_value s) list
+AllWhole switches lists = (j : ℕ) (s : Arc SwitchState Global) (list : Vec SeatState Global) → slice_get switches j ≡ Some (Some s) → slice_get lists j ≡ Some list → HasAllSeats (arc_value s) list
 
 -- they were settled
 abbrev pub IsSettledAt : Vec SeatState Global → Type 0

@@ -5,8 +5,8 @@ ghost use Rattle.std.specs.Arc.{arc_value};
 ghost use Rattle.kill_core.specs.Public.{SeatState, IsNewSeat};
 ghost use Rattle.stream_model.specs.declared.kind.Kind.{Kind};
 ghost use Rattle.run_switch_laws.specs.Settling.{AllSettled};
-ghost use Rattle.switch_board.specs.Board.{switch_of, is_name, first_from, place_of, places_in, sits, count_at, IsBoard, AreAtSwitches, AreHanded, seat_of_end, numbered_from, seat_in};
-ghost use Rattle.switch_board.specs.Dealing.{AreRooted, IsHanded, IsDealt, IsMade, IsPut, HasRoom, HaveLists, AreEmpty, HaveRoom, HaveSeats, AreWhole, AllWhole, IsSettledAt, ListsSettled};
+ghost use Rattle.switch_board.specs.Board.{switch_of, is_at_switch, least_at_switch, switch_place, places_in, sits, count_at, IsBoard, AreAtSwitches, AreHanded, seat_of_end, numbered_from, seat_in};
+ghost use Rattle.switch_board.specs.Dealing.{AreRooted, IsHandedSeat, IsDealt, IsSwitchMade, IsSeatPut, HasRoom, HaveLists, AreEmpty, HaveRoom, HaveSeats, HasAllSeats, AllWhole, IsSettledAt, ListsSettled};
 
 use crate::names::switch_of;
 use blue_core::blueprint::Node;
@@ -32,7 +32,7 @@ pub struct Board {
 
 /// Whether a node of this kind is at the switch of that name.
 fn is_at(kind: &Kind, name: &Line) -> bool
-    ensures { result ≡ is_name name.now (switch_of kind.now) }
+    ensures { result ≡ is_at_switch name.now (switch_of kind.now) }
 {
     match switch_of(kind) {
         Some(other) => *other == *name,
@@ -42,7 +42,7 @@ fn is_at(kind: &Kind, name: &Line) -> bool
 
 /// The least node at the switch of that name.
 fn first_at(nodes: &[Node], name: &Line) -> Option<usize>
-    ensures { result ≡ first_from 0 name.now (map (λ n. n.kind) nodes.now) }
+    ensures { result ≡ least_at_switch 0 name.now (map (λ n. n.kind) nodes.now) }
 {
     for (k, node) in nodes.iter().enumerate() {
         if is_at(&node.kind, name) {
@@ -53,8 +53,8 @@ fn first_at(nodes: &[Node], name: &Line) -> Option<usize>
 }
 
 /// The place of a node of this kind.
-fn place_of(nodes: &[Node], kind: &Kind) -> Option<usize>
-    ensures { result ≡ place_of (map (λ n. n.kind) nodes.now) kind.now }
+fn switch_place(nodes: &[Node], kind: &Kind) -> Option<usize>
+    ensures { result ≡ switch_place (map (λ n. n.kind) nodes.now) kind.now }
 {
     match switch_of(kind) {
         Some(name) => first_at(nodes, name),
@@ -68,7 +68,7 @@ fn places_in(alloc: Global, nodes: &[Node]) -> Result<Vec<Option<usize>>, NoMemo
 {
     let mut places = Vec::new(alloc);
     for node in nodes {
-        places.push(place_of(nodes, &node.kind))?;
+        places.push(switch_place(nodes, &node.kind))?;
     }
     Ok(places)
 }
@@ -130,7 +130,7 @@ fn hand(
 ) -> Result<(), NoMemory>
     requires some { 0 < vec_len seats.old }
     requires within { k < length ends.old.items }
-    ensures { OnOk result (IsHanded (arc_value switch.now) k seats.old.items seats.new.items ends.old.items ends.new.items) }
+    ensures { OnOk result (IsHandedSeat (arc_value switch.now) k seats.old.items seats.new.items ends.old.items ends.new.items) }
 {
     let own = Arc::try_clone(switch)?;
     let seat = last(seats);
@@ -169,7 +169,7 @@ fn make(
     requires within { j < length places.now }
     requires rooted { AreRooted places.now }
     requires ends { length ends.old.items ≡ length places.now }
-    ensures { IfOk result (λ r. IsMade j places.now ends.old.items ends.new.items r.0 r.1) }
+    ensures { IfOk result (λ r. IsSwitchMade j places.now ends.old.items ends.new.items r.0 r.1) }
 {
     // So a place where nobody sits costs no count of the nodes.
     if !sits(&places[j], j) {
@@ -186,7 +186,7 @@ fn make(
 fn put(places: &[Option<usize>], lists: &mut Vec<Vec<SwitchSeat>>, node: usize, seat: SwitchSeat)
     requires within { node < length places.now }
     requires room { HasRoom (slice_get places.now node) lists.old.items }
-    ensures { IsPut (slice_get places.now node) seat lists.old.items lists.new.items }
+    ensures { IsSeatPut (slice_get places.now node) seat lists.old.items lists.new.items }
 {
     if let Some(j) = places[node] {
         lists[j].push_reserved(seat);
@@ -217,7 +217,7 @@ fn put_all(
 
 /// Puts together the seats of a place, where it has a switch.
 fn settle_at(switch: &Option<Arc<Switch>>, seats: Vec<SwitchSeat>)
-    requires { IfSome switch.now (λ s. AreWhole (arc_value s) seats) }
+    requires { IfSome switch.now (λ s. HasAllSeats (arc_value s) seats) }
     ensures { IfSome switch.now (λ s. IsSettledAt seats) }
 {
     if let Some(switch) = switch {

@@ -9,13 +9,13 @@ use Rattle.blue_names.specs.declared.links.NumberedWire.{NumberedWire}
 use Rattle.blue_names.specs.Links.{AreInRange, wire_of_link, wires_of_links}
 use Rattle.blue_names.proofs.OutRows.{slice_get-push_old, slice_get-push_new, slice_get-push_cases}
 use Rattle.blue_walks.specs.Forest.{wiring, Linked}
-use Rattle.blue_walks.specs.Classes.{IsRelabeled, AreJoined}
+use Rattle.blue_walks.specs.Classes.{IsRelabeled, AreMerged}
 use Rattle.blue_walks.proofs.VisitSteps.{wire_in_range}
 use Rattle.traversal.specs.Labels.{AreLabels}
 
 -- a label that was made one with itself
-pub AreJoined-same : (old : List ℕ) (a b : ℕ) → a ≡ b → AreJoined old old a b
-AreJoined-same old a b e = record { either = inl (record { at = λ i lt. stays (slice_index old i) }) }
+pub AreMerged-same : (old : List ℕ) (a b : ℕ) → a ≡ b → AreMerged old old a b
+AreMerged-same old a b e = record { either = inl (record { at = λ i lt. stays (slice_index old i) }) }
   where
     stays : (x : ℕ) → x ≡ cond (x == a) b x
     stays x = ⊎_elim (λ t. eqb-true x a t ∙ e ∙ sym (ap (λ c. cond c b x) t)) (λ f. sym (ap (λ c. cond c b x) f)) (cases_Bool (x == a))
@@ -115,7 +115,7 @@ module _ (ws : List Edge) (w : Edge) where
         alike = λ i v h. ⊎_elim (alike_old i v) (λ e. subst (λ (u : Edge). slice_index new u.from ≡ slice_index new u.to) (sym e.1) alike_new) (slice_get-push_cases ws w v i h);
       }
 
-    pub AreLabels-push : (f t : ℕ) → w.from < count → w.to < count → f ≡ slice_index old w.from → t ≡ slice_index old w.to → AreJoined old new f t → AreLabels (ws ++ w ∷ []) count new
+    pub AreLabels-push : (f t : ℕ) → w.from < count → w.to < count → f ≡ slice_index old w.from → t ≡ slice_index old w.to → AreMerged old new f t → AreLabels (ws ++ w ∷ []) count new
     AreLabels-push f t lf lt is_f is_t joined =
         ⊎_elim
         (λ (r : IsRelabeled old new f t). AreLabels-relabeled w.from w.to f t lf lt is_f is_t forth back (λ e. e) r)
@@ -140,7 +140,7 @@ in_range_front count ls n r = λ k d lt.
 
 -- the same for the next link of a list, as code reads it
 pub AreLabels-more : (ls : List NumberedWire) (i : ℕ) (d : NumberedWire) (count : ℕ) (old new first second : List ℕ) (from to : ℕ) → i < length ls → AreInRange count ls → first ≡ old → second ≡ old
-    → from ≡ slice_index first (get_or ls i d).from → to ≡ slice_index second (get_or ls i d).to → length new ≡ length old → AreLabels (wires_of_links (take i ls)) count old → AreJoined old new from to
+    → from ≡ slice_index first (get_or ls i d).from → to ≡ slice_index second (get_or ls i d).to → length new ≡ length old → AreLabels (wires_of_links (take i ls)) count old → AreMerged old new from to
     → AreLabels (wires_of_links (take (i + 1) ls)) count new
 AreLabels-more ls i d count old new first second from to lt range one two is_from is_to long is joined =
     let l = get_or ls i d in

@@ -5,7 +5,7 @@ use Rattle.std.proofs.lemmas.Bool.{cases_eq}
 use Rattle.std.proofs.lemmas.List.{length_push, length-set, get_or_push, get_or_append_left}
 use Rattle.std.proofs.lemmas.Option.{slice_get_within}
 use Rattle.traversal.proofs.Filling.{get_set_other}
-use Rattle.traversal.specs.Homes.{AreNumbered, IsOld, IsNew, IsNumbered}
+use Rattle.traversal.specs.Homes.{AreNumbered, IsOld, IsNewNumber, IsNumbered}
 
 -- the numbers of the labels of the nodes so far, as tables have them
 pub record Numbering (labels homes firsts : List ℕ) (table : List (Option ℕ)) : Type 0 where
@@ -131,7 +131,7 @@ Numbering-more labels homes firsts firsts' table table' label node number n long
     ⊎_elim
     (λ (o : IsOld table table' firsts firsts' label number).
     subst (λ t. Numbering labels (homes ++ number ∷ []) firsts' t) (sym o.kept) (subst (λ f. Numbering labels (homes ++ number ∷ []) f table) (sym o.same) (more_old labels homes firsts table n label at number o.had)))
-    (λ (w : IsNew table table' firsts firsts' label node number).
+    (λ (w : IsNewNumber table table' firsts firsts' label node number).
     let start = more_new labels homes firsts table n label at w.had in
     let named : Numbering labels (homes ++ number ∷ []) (firsts ++ length homes ∷ []) (set table label (Some number)) = subst (λ k. Numbering labels (homes ++ k ∷ []) (firsts ++ length homes ∷ []) (set table label (Some k))) (sym w.next) start in
     let placed : Numbering labels (homes ++ number ∷ []) (firsts ++ node ∷ []) (set table label (Some number)) = subst (λ m. Numbering labels (homes ++ number ∷ []) (firsts ++ m ∷ []) (set table label (Some number))) (sym long) named in
@@ -141,7 +141,7 @@ Numbering-more labels homes firsts firsts' table table' label node number n long
 -- and the table is as long as it was
 pub same_table : (firsts firsts' : List ℕ) (table table' : List (Option ℕ)) (label node number : ℕ) → IsNumbered table table' firsts firsts' label node number → length table' ≡ length table
 same_table firsts firsts' table table' label node number done =
-    ⊎_elim (λ (o : IsOld table table' firsts firsts' label number). ap length o.kept) (λ (w : IsNew table table' firsts firsts' label node number). ap length w.set ∙ length-set table label (Some number)) done.either
+    ⊎_elim (λ (o : IsOld table table' firsts firsts' label number). ap length o.kept) (λ (w : IsNewNumber table table' firsts firsts' label node number). ap length w.set ∙ length-set table label (Some number)) done.either
 
 -- of all nodes
 pub numbered : (labels homes firsts : List ℕ) (table : List (Option ℕ)) → Numbering labels homes firsts table → AreNumbered labels homes firsts

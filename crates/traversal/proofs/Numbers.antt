@@ -6,7 +6,7 @@ use Rattle.stream_model.specs.Graph.{Edge}
 use Rattle.blue_names.specs.declared.links.NumberedWire.{NumberedWire}
 use Rattle.blue_names.specs.Links.{wire_of_link, wires_of_links}
 use Rattle.traversal.specs.declared.plan.LanePlan.{LanePlan}
-use Rattle.traversal.specs.Plan.{numbers_from, island_nodes, is_wire_of, island_wires, lane_of, lanes_from}
+use Rattle.traversal.specs.Plan.{numbers_from, island_nodes, is_wire_of, island_wires, lane_plan_of, lanes_from}
 
 cond_push : (b : Bool) (n : ℕ) (ns ms : List ℕ) → cond b (n ∷ (ns ++ ms)) (ns ++ ms) ≡ cond b (n ∷ ns) ns ++ ms
 cond_push true n ns ms = refl
@@ -45,18 +45,18 @@ first_number p (x ∷ xs) n (suc f) lt h before =
     let at : n + 1 + f ≡ n + suc f = omega arith in
     (omega (arith, r.0, ap (length {A = ℕ}) e), ap (λ ns. slice_index ns 0) e ∙ r.1 ∙ at)
 
-pub lanes_from-push : (homes : List ℕ) (n : ℕ) (ws : List Edge) (w : Edge) → lanes_from homes n (ws ++ w ∷ []) ≡ lanes_from homes n ws ++ lane_of homes (n + length ws) w
-lanes_from-push homes n [] w = let e : n ≡ n + 0 = omega arith in append-nil (lane_of homes n w) ∙ ap (λ k. lane_of homes k w) e
+pub lanes_from-push : (homes : List ℕ) (n : ℕ) (ws : List Edge) (w : Edge) → lanes_from homes n (ws ++ w ∷ []) ≡ lanes_from homes n ws ++ lane_plan_of homes (n + length ws) w
+lanes_from-push homes n [] w = let e : n ≡ n + 0 = omega arith in append-nil (lane_plan_of homes n w) ∙ ap (λ k. lane_plan_of homes k w) e
 lanes_from-push homes n (v ∷ ws) w =
     let e : n + 1 + length ws ≡ n + suc (length ws) = omega arith in
-    let rest = lanes_from-push homes (n + 1) ws w ∙ ap (λ k. lanes_from homes (n + 1) ws ++ lane_of homes k w) e in
-    ap (λ ls. lane_of homes n v ++ ls) rest ∙ sym (append_assoc (lane_of homes n v) (lanes_from homes (n + 1) ws) (lane_of homes (n + suc (length ws)) w))
+    let rest = lanes_from-push homes (n + 1) ws w ∙ ap (λ k. lanes_from homes (n + 1) ws ++ lane_plan_of homes k w) e in
+    ap (λ ls. lane_plan_of homes n v ++ ls) rest ∙ sym (append_assoc (lane_plan_of homes n v) (lanes_from homes (n + 1) ws) (lane_plan_of homes (n + suc (length ws)) w))
 
 pub lanes_from-more : {L : Type 0} (g : L → Edge) (homes : List ℕ) (ls : List L) (i : ℕ) (d : L) → i < length ls
-    → lanes_from homes 0 (map g (take (i + 1) ls)) ≡ lanes_from homes 0 (map g (take i ls)) ++ lane_of homes i (g (get_or ls i d))
+    → lanes_from homes 0 (map g (take (i + 1) ls)) ≡ lanes_from homes 0 (map g (take i ls)) ++ lane_plan_of homes i (g (get_or ls i d))
 lanes_from-more g homes ls i d lt =
     let e : 0 + length (map g (take i ls)) ≡ i = omega (arith, length-map (take i ls) g, length-take-le i ls (omega arith)) in
-    ap (lanes_from homes 0) (map_more g ls i d lt) ∙ lanes_from-push homes 0 (map g (take i ls)) (g (get_or ls i d)) ∙ ap (λ k. lanes_from homes 0 (map g (take i ls)) ++ lane_of homes k (g (get_or ls i d))) e
+    ap (lanes_from homes 0) (map_more g ls i d lt) ∙ lanes_from-push homes 0 (map g (take i ls)) (g (get_or ls i d)) ∙ ap (λ k. lanes_from homes 0 (map g (take i ls)) ++ lane_plan_of homes k (g (get_or ls i d))) e
 
 -- the same as code fills its lists
 pub nodes_more : (homes : List ℕ) (i d k : ℕ) (old new : List ℕ) → i < length homes → old ≡ island_nodes (take i homes) k → new ≡ old ++ cond (get_or homes i d == k) (i ∷ []) [] → new ≡ island_nodes (take (i + 1) homes) k
@@ -67,6 +67,6 @@ pub wires_more : (homes : List ℕ) (ls : List NumberedWire) (i : ℕ) (d : Numb
 wires_more homes ls i d k old new lt was is =
     is ∙ ap (λ ns. ns ++ cond (is_wire_of homes k (wire_of_link (get_or ls i d))) (i ∷ []) []) was ∙ sym (numbers_from-map_more wire_of_link (is_wire_of homes k) ls i d lt)
 
-pub all_lanes_more : (homes : List ℕ) (ls : List NumberedWire) (i : ℕ) (d : NumberedWire) (old new : List LanePlan) → i < length ls → old ≡ lanes_from homes 0 (wires_of_links (take i ls)) → new ≡ old ++ lane_of homes i (wire_of_link (get_or ls i d))
+pub all_lanes_more : (homes : List ℕ) (ls : List NumberedWire) (i : ℕ) (d : NumberedWire) (old new : List LanePlan) → i < length ls → old ≡ lanes_from homes 0 (wires_of_links (take i ls)) → new ≡ old ++ lane_plan_of homes i (wire_of_link (get_or ls i d))
     → new ≡ lanes_from homes 0 (wires_of_links (take (i + 1) ls))
-all_lanes_more homes ls i d old new lt was is = is ∙ ap (λ lanes. lanes ++ lane_of homes i (wire_of_link (get_or ls i d))) was ∙ sym (lanes_from-more wire_of_link homes ls i d lt)
+all_lanes_more homes ls i d old new lt was is = is ∙ ap (λ lanes. lanes ++ lane_plan_of homes i (wire_of_link (get_or ls i d))) was ∙ sym (lanes_from-more wire_of_link homes ls i d lt)

@@ -9,7 +9,7 @@ use Rattle.stream_model.specs.Graph.{Edge}
 use Rattle.blue_core.specs.declared.blueprint.Blueprint.{Blueprint}
 use Rattle.blue_core.specs.declared.blueprint.Node.{Node}
 use Rattle.blue_core.specs.declared.blueprint.WireDecl.{WireDecl}
-use Rattle.blue_rules.specs.Links.{number_from, number_of, wire_of, wires_of}
+use Rattle.blue_rules.specs.Links.{number_from, node_number, wire_of, wires_of}
 use Rattle.blue_rules.specs.Paths.{HasNoClosedWalk, stay}
 use Rattle.blue_check.specs.Wires.{blueprint_wires}
 use Rattle.blue_names.specs.declared.links.NumberedWire.{NumberedWire}
@@ -28,7 +28,7 @@ number_below name (x ∷ names) n lt =
     omega (arith, e, rest, same))
     (cases_Bool (same_text name x))
 
-number_of_below : (name : List ℕ) (n : Node) (ns : List Node) → number_of name (n ∷ ns) < length (n ∷ ns)
+number_of_below : (name : List ℕ) (n : Node) (ns : List Node) → node_number name (n ∷ ns) < length (n ∷ ns)
 number_of_below name n ns =
     let long : length (map (λ (m : Node). m.name) (n ∷ ns)) ≡ length (n ∷ ns) = length-map (n ∷ ns) (λ (m : Node). m.name) in
     omega (arith, long, number_below name (map (λ (m : Node). m.name) (n ∷ ns)) 0 (omega (arith, long)))

@@ -11,7 +11,7 @@ pub record AreNumbered (labels homes firsts : List ℕ) : Type 0 where
   pub apart : (j k : ℕ) → j < length firsts → k < length firsts → slice_index labels (slice_index firsts j) ≡ slice_index labels (slice_index firsts k) → j ≡ k
 
 -- a label that had no number gets the next one, and a node as its first
-pub record IsNew (old new : List (Option ℕ)) (firsts firsts' : List ℕ) (label node number : ℕ) : Type 0 where
+pub record IsNewNumber (old new : List (Option ℕ)) (firsts firsts' : List ℕ) (label node number : ℕ) : Type 0 where
   pub had : slice_get old label ≡ Some None
   pub next : number ≡ length firsts
   pub set : new ≡ slice_set old label (Some number)
@@ -24,4 +24,4 @@ pub record IsOld (old new : List (Option ℕ)) (firsts firsts' : List ℕ) (labe
   pub same : firsts' ≡ firsts
 
 pub record IsNumbered (old new : List (Option ℕ)) (firsts firsts' : List ℕ) (label node number : ℕ) : Type 0 where
-  pub either : IsOld old new firsts firsts' label number ⊎ IsNew old new firsts firsts' label node number
+  pub either : IsOld old new firsts firsts' label number ⊎ IsNewNumber old new firsts firsts' label node number

@@ -40,13 +40,13 @@ abbrev pub lane_sized : List ℕ → ℕ → Edge → Option ℕ → List LanePl
 lane_sized homes n w None = []
 lane_sized homes n w (Some s) = record { wire = n; size = s; from = slice_index homes w.from; to = slice_index homes w.to } ∷ []
 
-abbrev pub lane_of : List ℕ → ℕ → Edge → List LanePlan
-lane_of homes n w = lane_sized homes n w w.lane
+abbrev pub lane_plan_of : List ℕ → ℕ → Edge → List LanePlan
+lane_plan_of homes n w = lane_sized homes n w w.lane
 
 -- all lanes, in order, where the first wire is number n
 abbrev pub lanes_from : List ℕ → ℕ → List Edge → List LanePlan
 lanes_from homes n [] = []
-lanes_from homes n (w ∷ ws) = lane_of homes n w ++ lanes_from homes (n + 1) ws
+lanes_from homes n (w ∷ ws) = lane_plan_of homes n w ++ lanes_from homes (n + 1) ws
 
 -- what a plan lists as the nodes and as the wires of island k; nothing where there is no such island
 abbrev pub nodes_in : Option IslandPlan → List ℕ

@@ -2,7 +2,7 @@
 ghost use Rattle.std.specs.Prelude.{◌≡◌, ◌<◌, IfOk, OnOk, is_none, vec_len};
 ghost use Rattle.std.specs.List.{filter};
 ghost use Rattle.blue_names.specs.Links.{AreInRange, wires_of_links};
-ghost use Rattle.blue_walks.specs.Classes.{AreListed, AreJoined};
+ghost use Rattle.blue_walks.specs.Classes.{AreListed, AreMerged};
 ghost use Rattle.traversal.specs.Labels.{AreLabels};
 
 use blue_names::links::NumberedWire;
@@ -35,7 +35,7 @@ fn merge(
     requires listed { AreListed labels.old.items members.old.items }
     requires one { one < vec_len members.old }
     requires other { other < vec_len members.old }
-    ensures joined { OnOk result (AreJoined labels.old.items labels.new.items one other) }
+    ensures joined { OnOk result (AreMerged labels.old.items labels.new.items one other) }
     ensures listed { OnOk result (AreListed labels.new.items members.new.items) }
     ensures length { OnOk result (vec_len labels.new ≡ vec_len labels.old) }
 {

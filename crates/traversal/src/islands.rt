@@ -1,7 +1,7 @@
 // The islands and the lanes of a checked blueprint.
 ghost use Rattle.std.specs.Prelude.{IfOk, length};
 ghost use Rattle.blue_names.specs.Links.{AreInRange, wires_of_links};
-ghost use Rattle.blue_check.specs.Checked.{blueprint_of};
+ghost use Rattle.blue_check.specs.Checked.{checked_blueprint};
 ghost use Rattle.blue_check.specs.Wires.{blueprint_wires};
 ghost use Rattle.traversal.specs.Plan.{IsPlan};
 
@@ -32,7 +32,7 @@ fn plan_of(alloc: Global, count: usize, links: &[NumberedWire]) -> Result<Plan, 
 /// The islands of a checked blueprint, numbered by their least node, and its lanes. It takes time n log n for n nodes and wires.
 /// A number that is out of 32 bits is want of memory.
 pub fn islands(alloc: Global, c: &Checked) -> Result<Plan, NoMemory>
-    ensures { let b = blueprint_of c.now in IfOk result (IsPlan (length b.nodes.items) (blueprint_wires b)) }
+    ensures { let b = checked_blueprint c.now in IfOk result (IsPlan (length b.nodes.items) (blueprint_wires b)) }
 {
     let blueprint = c.blueprint();
     let links = links_of(alloc, &blueprint.nodes, &blueprint.wires)?;

@@ -1,7 +1,7 @@
 // The lanes of a blueprint.
 ghost use Rattle.std.specs.Prelude.{◌≡◌, ℕ, IfOk, OnOk, [], ◌∷◌, ◌++◌};
 ghost use Rattle.blue_names.specs.Links.{wire_of_link, wires_of_links};
-ghost use Rattle.traversal.specs.Plan.{lanes_from, lane_of};
+ghost use Rattle.traversal.specs.Plan.{lanes_from, lane_plan_of};
 
 use crate::plan::LanePlan;
 use blue_names::links::NumberedWire;
@@ -17,7 +17,7 @@ fn put_lane(
     link: &NumberedWire,
     wire: usize,
 ) -> Result<(), NoMemory>
-    ensures { OnOk result (lanes.new.items ≡ lanes.old.items ++ lane_of homes.now wire (wire_of_link link.now)) }
+    ensures { OnOk result (lanes.new.items ≡ lanes.old.items ++ lane_plan_of homes.now wire (wire_of_link link.now)) }
 {
     match link.lane {
         None => Ok(()),

@@ -8,7 +8,7 @@ use native.Mathlib.Decide.{ℕ_discrete}
 use lib.ListN.{get_elem?}
 use Rattle.atomic_table.specs.Table.{opening, Final, Seen}
 use Rattle.turn_table.specs.Sums.{total, times, latest}
-use Rattle.turn_table.specs.Table.{hold, Fits, Orderly}
+use Rattle.turn_table.specs.Table.{hold, OriginFits, Orderly}
 use Rattle.turn_table.specs.Public.{first_held, first_found, first_began, first_woke}
 use Rattle.turn_table.specs.declared.hold.Hold.{Hold}
 use Rattle.turn_table.proofs.Totals.{terms_le, total-zero}
@@ -106,9 +106,9 @@ none_held : (seats id : ℕ) (v : Hold) (k : ℕ) → get_elem? (hold seats [] 0
 none_held seats id v k e h = let gone = ap (times k) (held_none seats id v e) in omega arith
 
 pub opens : {T O : Type 0} (o : T → O) (vs : List T) (seats : ℕ) (words : List ℕ) (slots : List (Option T)) → words ≡ replicate (length vs) 0 → slots ≡ map Some vs
-    → Orderly (Fits o vs) (length vs) seats (opening words slots (hold seats [] 0 [] [] []))
-opens {T} o vs seats words slots we se = subst (λ (ws : List ℕ). Orderly (Fits o vs) (length vs) seats (opening ws slots (hold seats [] 0 [] [] []))) (sym we)
-    (subst (λ (xs : List (Option T)). Orderly (Fits o vs) (length vs) seats (opening (replicate (length vs) 0) xs (hold seats [] 0 [] [] []))) (sym se)
+    → Orderly (OriginFits o vs) (length vs) seats (opening words slots (hold seats [] 0 [] [] []))
+opens {T} o vs seats words slots we se = subst (λ (ws : List ℕ). Orderly (OriginFits o vs) (length vs) seats (opening ws slots (hold seats [] 0 [] [] []))) (sym we)
+    (subst (λ (xs : List (Option T)). Orderly (OriginFits o vs) (length vs) seats (opening (replicate (length vs) 0) xs (hold seats [] 0 [] [] []))) (sym se)
     (let n = length vs in let zero_at : (k : ℕ) → k < n → get_or (replicate n 0) k 0 ≡ 0 = λ k h. get_or-replicate n k 0 0 h in
     record {
       wide = length-replicate n 0;

@@ -8,7 +8,7 @@ use prog.Atomic.{either}
 use Rattle.atomic_table.specs.Table.{State, step, Act, keeps, takes, gives, Valid, carried_after, stepped, Allows, Splits, Joins}
 use Rattle.atomic_table.proofs.Lists.{at_set, set_here, set_else, at_snoc, exchanged}
 use Rattle.turn_table.specs.Sums.{total, times, latest, without}
-use Rattle.turn_table.specs.Table.{hold, turns_begun, Orderly, Sat, woken, begun, left, fetched, ended}
+use Rattle.turn_table.specs.Table.{hold, turns_begun, Orderly, Sat, woken, turn_begun, turn_left, fetched, turn_ended}
 use Rattle.turn_table.specs.declared.hold.Hold.{Hold}
 use Rattle.turn_table.proofs.Totals.{total-append, total-set, term_le, terms_le, times_here, times_else, times-append, latest_here, latest_else, without_here, without_else}
 
@@ -198,9 +198,9 @@ module _ {T : Type 0} (fits : ℕ → T → Type 0) (n seats : ℕ) where
       )
 
   pub begins : (told : ℕ → T → Type 0) (slots id : ℕ) (m : Sat T) (i : ℕ) → i < n → m.0.out ≡ 0 → 0 < m.0.parts → ((x : T) → fits i x → told i x)
-      → Allows O slots id m i (λ y. either (eqb y 1) 2 y) (begun told (step slots i 1 2 none) m)
+      → Allows O slots id m i (λ y. either (eqb y 1) 2 y) (turn_begun told (step slots i 1 2 none) m)
   begins told slots id m i near out part tell s o wide me small =
-      let G : ℕ → Type 0 = λ k. (w : Hold) × (a : Act (Option T)) × Valid s.homes m.1 a × O (stepped s i k id m.1 w a) × begun told (step slots i 1 2 none) m (get_or s.words i 0) (w, carried_after m.1 a) in
+      let G : ℕ → Type 0 = λ k. (w : Hold) × (a : Act (Option T)) × Valid s.homes m.1 a × O (stepped s i k id m.1 w a) × turn_begun told (step slots i 1 2 none) m (get_or s.words i 0) (w, carried_after m.1 a) in
       exchanged (get_or s.words i 0) 1 2 G
       (λ hit. let t = o.home i near (omega (arith, hit)) in let was = o.once i near in let w : Hold = hold m.0.parts (i ∷ m.0.held) (suc i) ((i, get_or s.words i 0) ∷ m.0.found) (i ∷ m.0.began) m.0.woke in let here = times_here i m.0.held in let one = times_here i m.0.began in
       let sum = turns_after i s id m.0 w me in let past = o.past id m.0 i me near in (
@@ -222,7 +222,7 @@ module _ {T : Type 0} (fits : ℕ → T → Type 0) (n seats : ℕ) where
       (λ miss. (hold m.0.parts m.0.held m.0.out ((i, get_or s.words i 0) ∷ m.0.found) m.0.began m.0.woke, keeps, tt, unmoved s o i id m.0 ((i, get_or s.words i 0) ∷ m.0.found) near me out, ((λ hit. absurd (miss hit)), λ _. refl)))
 
   pub leaves : (slots id : ℕ) (v : Hold) (i : ℕ) (more : List (ℕ × Option T)) → i < n → v.out ≡ suc i → 0 < times i v.held
-      → Allows O slots id (v, (i, None) ∷ more) i (λ y. y) (left (step slots i 0 0 none) (v, (i, None) ∷ more))
+      → Allows O slots id (v, (i, None) ∷ more) i (λ y. y) (turn_left (step slots i 0 0 none) (v, (i, None) ∷ more))
   leaves slots id v i more near out some_turn s o wide me small = let long = o.slots in (
     hold v.parts v.held 0 v.found v.began v.woke,
     gives,
@@ -243,7 +243,7 @@ module _ {T : Type 0} (fits : ℕ → T → Type 0) (n seats : ℕ) where
   )
 
   pub ends : (slots id : ℕ) (v : Hold) (i : ℕ) (x : T) (more : List (ℕ × Option T)) → i < n → v.out ≡ suc i → 0 < times i v.held → fits i x
-      → Allows O slots id (v, (i, Some x) ∷ more) i (λ y. bit_and y 18446744073709551613) (ended (step slots i 18446744073709551613 0 none) (v, (i, Some x) ∷ more))
+      → Allows O slots id (v, (i, Some x) ∷ more) i (λ y. bit_and y 18446744073709551613) (turn_ended (step slots i 18446744073709551613 0 none) (v, (i, Some x) ∷ more))
   ends slots id v i x more near out some_turn fit s o wide me small =
       let long = o.slots in let y : ℕ = get_or s.words i 0 in let bits = and_bits y (o.low i near) in let w : Hold = hold v.parts (without i v.held) 0 ((i, y) ∷ v.found) v.began v.woke in
       let fewer = without_here i v.held some_turn in let was = o.once i near in let low = o.low i near in let mine = term_le (λ (z : Hold). times i z.held) s.views id v me in
@@ -330,10 +330,10 @@ module _ {T : Type 0} (fits : ℕ → T → Type 0) (n seats : ℕ) where
       }
 
   pub leaves_at : (slots id : ℕ) (m : Sat T) (v : Hold) (i : ℕ) (more : List (ℕ × Option T)) → m ≡ (v, (i, None) ∷ more) → i < n → v.out ≡ suc i → 0 < times i v.held
-      → Allows O slots id m i (λ y. y) (left (step slots i 0 0 none) m)
-  leaves_at slots id m v i more e near out some_turn = subst (λ (z : Sat T). Allows O slots id z i (λ y. y) (left (step slots i 0 0 none) z)) (sym e) (leaves slots id v i more near out some_turn)
+      → Allows O slots id m i (λ y. y) (turn_left (step slots i 0 0 none) m)
+  leaves_at slots id m v i more e near out some_turn = subst (λ (z : Sat T). Allows O slots id z i (λ y. y) (turn_left (step slots i 0 0 none) z)) (sym e) (leaves slots id v i more near out some_turn)
 
   pub ends_at : (slots id : ℕ) (m : Sat T) (v : Hold) (i : ℕ) (x : T) (more : List (ℕ × Option T)) → m ≡ (v, (i, Some x) ∷ more) → i < n → v.out ≡ suc i → 0 < times i v.held → fits i x
-      → Allows O slots id m i (λ y. bit_and y 18446744073709551613) (ended (step slots i 18446744073709551613 0 none) m)
+      → Allows O slots id m i (λ y. bit_and y 18446744073709551613) (turn_ended (step slots i 18446744073709551613 0 none) m)
   ends_at slots id m v i x more e near out some_turn fit =
-      subst (λ (z : Sat T). Allows O slots id z i (λ y. bit_and y 18446744073709551613) (ended (step slots i 18446744073709551613 0 none) z)) (sym e) (ends slots id v i x more near out some_turn fit)
+      subst (λ (z : Sat T). Allows O slots id z i (λ y. bit_and y 18446744073709551613) (turn_ended (step slots i 18446744073709551613 0 none) z)) (sym e) (ends slots id v i x more near out some_turn fit)

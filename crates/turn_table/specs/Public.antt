@@ -11,8 +11,8 @@ first_held [] = []
 first_held (v ∷ vs) = v.held
 
 -- the places whose turn the seat holds
-abbrev pub turns_of : TurnSeat → List ℕ
-turns_of seat = first_held seat.badge.views
+abbrev pub held_turns : TurnSeat → List ℕ
+held_turns seat = first_held seat.badge.views
 
 abbrev pub first_found : List Hold → List (ℕ × ℕ)
 first_found [] = []
@@ -47,8 +47,8 @@ abbrev pub Woke : ℕ → TurnSeat → TurnSeat → Type 0
 Woke place old new = (turns : ℕ) × ((woke_by new ≡ (place, turns) ∷ woke_by old) × (began_by new ≡ began_by old))
 
 -- a call made one step at the place, and P holds of the word that it found
-abbrev pub Finds : ℕ → (ℕ → Type 0) → TurnSeat → TurnSeat → Type 0
-Finds place P old new = (w : ℕ) × (found_by new ≡ (place, w) ∷ found_by old) × P w
+abbrev pub FindsWord : ℕ → (ℕ → Type 0) → TurnSeat → TurnSeat → Type 0
+FindsWord place P old new = (w : ℕ) × (found_by new ≡ (place, w) ∷ found_by old) × P w
 
 module _ {T O : Type 0} where
   -- the values as they were handed in
@@ -56,13 +56,13 @@ module _ {T O : Type 0} where
   handed_in turns = turns.table.shared.key.values.value.items
 
   -- the number of seats that were made
-  abbrev pub seats_of : Turns T O → ℕ
-  seats_of turns = turns.table.shared.key.seats
+  abbrev pub seat_count : Turns T O → ℕ
+  seat_count turns = turns.table.shared.key.seats
 
   -- a seat of the table; between calls no slot is with it
   abbrev pub IsSeatOf : Turns T O → TurnSeat → Type 0
-  IsSeatOf turns seat = (seat.badge.table_id ≡ turns.table.shared.table_id) × (seat.badge.views ≡ hold 1 (turns_of seat) 0 (found_by seat) (began_by seat) (woke_by seat) ∷ [])
+  IsSeatOf turns seat = (seat.badge.table_id ≡ turns.table.shared.table_id) × (seat.badge.views ≡ hold 1 (held_turns seat) 0 (found_by seat) (began_by seat) (woke_by seat) ∷ [])
 
   -- a seat of the table that holds no turn
   abbrev pub IsFree : Turns T O → TurnSeat → Type 0
-  IsFree turns seat = IsSeatOf turns seat × (turns_of seat ≡ [])
+  IsFree turns seat = IsSeatOf turns seat × (held_turns seat ≡ [])

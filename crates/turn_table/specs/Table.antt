@@ -14,8 +14,8 @@ abbrev pub turns_begun : ℕ → List Hold → ℕ
 turns_begun k views = total (λ (v : Hold). times k v.began) views
 
 -- the origin of x is that of the value which was handed in for the place k
-abbrev pub Fits : {T O : Type 0} → (T → O) → List T → ℕ → T → Type 0
-Fits origin values k x = slice_get (map origin values) k ≡ Some (origin x)
+abbrev pub OriginFits : {T O : Type 0} → (T → O) → List T → ℕ → T → Type 0
+OriginFits origin values k x = slice_get (map origin values) k ≡ Some (origin x)
 
 module _ {T : Type 0} (fits : ℕ → T → Type 0) (n seats : ℕ) where
   -- RUNNING is set exactly where one seat has the place's turn. Where it is clear the value is in its slot, and fits
@@ -43,19 +43,19 @@ module _ {T : Type 0} where
   woken st m r n = (turns : ℕ) × (n ≡ (hold m.0.parts m.0.held m.0.out ((st.word, r) ∷ m.0.found) m.0.began ((st.word, turns) ∷ m.0.woke), m.1))
 
   -- the exchange of READY to RUNNING takes the value out of its slot
-  abbrev pub begun : (ℕ → T → Type 0) → Step (Option T) → Sat T → ℕ → Sat T → Type 0
-  begun fits st m r n =
+  abbrev pub turn_begun : (ℕ → T → Type 0) → Step (Option T) → Sat T → ℕ → Sat T → Type 0
+  turn_begun fits st m r n =
       (r ≡ st.first → (x : T) × (n ≡ (hold m.0.parts (st.word ∷ m.0.held) (suc st.word) ((st.word, r) ∷ m.0.found) (st.word ∷ m.0.began) m.0.woke, (st.word, Some x) ∷ m.1)) × fits st.word x)
       × (r ≢ st.first → n ≡ (hold m.0.parts m.0.held m.0.out ((st.word, r) ∷ m.0.found) m.0.began m.0.woke, m.1))
 
   -- the empty slot is given back
-  abbrev pub left : Step (Option T) → Sat T → ℕ → Sat T → Type 0
-  left st m r n = n ≡ (hold m.0.parts m.0.held 0 m.0.found m.0.began m.0.woke, rest m.1)
+  abbrev pub turn_left : Step (Option T) → Sat T → ℕ → Sat T → Type 0
+  turn_left st m r n = n ≡ (hold m.0.parts m.0.held 0 m.0.found m.0.began m.0.woke, rest m.1)
 
   -- the empty slot is taken again
   abbrev pub fetched : Step (Option T) → Sat T → ℕ → Sat T → Type 0
   fetched st m r n = n ≡ (hold m.0.parts m.0.held (suc st.word) m.0.found m.0.began m.0.woke, (st.word, None) ∷ m.1)
 
   -- the value is back in its slot, and the word no longer has RUNNING
-  abbrev pub ended : Step (Option T) → Sat T → ℕ → Sat T → Type 0
-  ended st m r n = n ≡ (hold m.0.parts (without st.word m.0.held) 0 ((st.word, r) ∷ m.0.found) m.0.began m.0.woke, rest m.1)
+  abbrev pub turn_ended : Step (Option T) → Sat T → ℕ → Sat T → Type 0
+  turn_ended st m r n = n ≡ (hold m.0.parts (without st.word m.0.held) 0 ((st.word, r) ∷ m.0.found) m.0.began m.0.woke, rest m.1)

@@ -1,6 +1,6 @@
 // The rule of a turn table, and the names of its steps. No value of these types is made, but of `TurnPlan`.
 ghost use Rattle.std.specs.Prelude.{ℕ, List, [], ◌++◌, ◌+◌, ◌-◌, length};
-ghost use Rattle.turn_table.specs.Table.{hold, Fits, Orderly, woken, begun, left, fetched, ended};
+ghost use Rattle.turn_table.specs.Table.{hold, OriginFits, Orderly, woken, turn_begun, turn_left, fetched, turn_ended};
 
 use crate::hold::Hold;
 use atomic_table::{Join, Play, Split, TableRule};
@@ -32,7 +32,7 @@ pub struct TurnOrder<T> {
 }
 
 impl<T: Kept> TableRule<Option<T>, Hold, TurnPlan<T>> for TurnOrder<T> {
-    ghost holds = { λ plan. Orderly (Fits T.origin plan.values.value.items) (length plan.values.value.items) plan.seats };
+    ghost holds = { λ plan. Orderly (OriginFits T.origin plan.values.value.items) (length plan.values.value.items) plan.seats };
 
     ghost first = { λ plan. hold plan.seats [] 0 [] [] [] };
 }
@@ -60,14 +60,14 @@ pub struct Begin<T, J> {
 }
 
 impl<T: Kept, J: Told<T>> Play<Option<T>, Hold> for Begin<T, J> {
-    ghost then = { begun (Fits T.origin J.values) };
+    ghost then = { turn_begun (OriginFits T.origin J.values) };
 }
 
 /// The load that gives the empty slot back.
 pub struct Leave;
 
 impl<T> Play<Option<T>, Hold> for Leave {
-    ghost then = { left };
+    ghost then = { turn_left };
 }
 
 /// The load that takes the empty slot again.
@@ -81,19 +81,19 @@ impl<T> Play<Option<T>, Hold> for Fetch {
 pub struct End;
 
 impl<T> Play<Option<T>, Hold> for End {
-    ghost then = { ended };
+    ghost then = { turn_ended };
 }
 
 /// A seat is split off, and put back.
-pub struct Deal;
+pub struct TurnDeal;
 
-impl Split<Hold> for Deal {
+impl Split<Hold> for TurnDeal {
     ghost left = { λ v. hold (v.parts - 1) v.held v.out v.found v.began v.woke };
 
     ghost right = { λ v. hold 1 [] 0 [] [] [] };
 }
 
-impl Join<Hold> for Deal {
+impl Join<Hold> for TurnDeal {
     ghost both = { λ v w. hold (v.parts + w.parts) v.held v.out v.found (v.began ++ w.began) v.woke };
 
     ghost spent = { hold 0 [] 0 [] [] [] };

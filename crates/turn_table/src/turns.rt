@@ -5,10 +5,10 @@ ghost use mathlib.Core.Option.{some};
 ghost use lib.ListN.{get_elem?};
 ghost use Rattle.std.specs.List.{All};
 ghost use Rattle.turn_table.specs.Sums.{times, without};
-ghost use Rattle.turn_table.specs.Table.{hold, Fits};
+ghost use Rattle.turn_table.specs.Table.{hold, OriginFits};
 
 use crate::hold::Hold;
-use crate::rule::{Begin, Deal, End, Fetch, Kept, Leave, Told, TurnOrder, TurnPlan, Wake};
+use crate::rule::{Begin, TurnDeal, End, Fetch, Kept, Leave, Told, TurnOrder, TurnPlan, Wake};
 use atomic_table::{Badge, Closed, Refused, Seat, Table};
 use std::alloc::{AllocError, Global};
 use std::marker::Brand;
@@ -54,7 +54,7 @@ impl<T> Turn<T> {
 }
 
 impl<T: Kept> Turns<T> {
-    ghost use Rattle.turn_table.specs.Public.{turns_of, found_by, began_by, woke_by, NoneBegan, Woke, Finds, handed_in, seats_of, IsSeatOf, IsFree};
+    ghost use Rattle.turn_table.specs.Public.{held_turns, found_by, began_by, woke_by, NoneBegan, Woke, FindsWord, handed_in, seat_count, IsSeatOf, IsFree};
 
     /// A table of these values, at places from 0, each in its slot and not wanted, and so many seats, on which no turn has begun.
     /// Where memory was wanting the values come back, in order.
@@ -67,7 +67,7 @@ impl<T: Kept> Turns<T> {
         requires few { vec_len values < 2 ^ 32 }
         requires seats { 0 < seats }
         ensures values { IfOk result (λ r. handed_in r.0 ≡ values.items) }
-        ensures seats { IfOk result (λ r. (seats_of r.0 ≡ seats) × (vec_len r.1 ≡ seats) × All (IsFree r.0) r.1.items) }
+        ensures seats { IfOk result (λ r. (seat_count r.0 ≡ seats) × (vec_len r.1 ≡ seats) × All (IsFree r.0) r.1.items) }
         ensures refused { IfErr result (λ back. back.items ≡ values.items) }
     {
         let Ok(room) = TableRoom::of(alloc, values.len(), seats) else {
@@ -107,7 +107,7 @@ impl<T: Kept> Turns<T> {
         ensures { (vec_len result ≡ count) × All (IsFree self.now) result.items }
     {
         for _ in 1..count {
-            let other = self.table.shared.split_seat::<Deal>(&mut first);
+            let other = self.table.shared.split_seat::<TurnDeal>(&mut first);
             seats.push_reserved(TurnSeat {
                 badge: other.into_badge(),
             });
@@ -121,7 +121,7 @@ impl<T: Kept> Turns<T> {
     /// The values in order, each with the origin that was handed in for its place, in the room that is handed in: it takes no
     /// memory. It wants all seats of the table, and that each turn has ended.
     pub fn close(self, seats: Vec<TurnSeat>, room: Vec<T>) -> Vec<T>
-        requires all { vec_len seats ≡ seats_of self }
+        requires all { vec_len seats ≡ seat_count self }
         requires free { All (IsFree self) seats.items }
         requires some { (0 < vec_len seats) × (0 < length (handed_in self)) }
         requires room { (room.items ≡ []) × (length (handed_in self) ≤ vec_capacity room) }
@@ -143,7 +143,7 @@ impl<T: Kept> Turns<T> {
         while let Some(TurnSeat { badge }) = seats.pop() {
             self.table
                 .shared
-                .join_seat::<Deal>(&mut all, badge.into_seat());
+                .join_seat::<TurnDeal>(&mut all, badge.into_seat());
         }
         all
     }
@@ -153,8 +153,8 @@ impl<T: Kept> Turns<T> {
     pub fn wake(&self, seat: &mut TurnSeat, id: u32) -> bool
         requires seat { IsSeatOf self.now seat.old }
         requires inside { id < length (handed_in self.now) }
-        ensures seat { IsSeatOf self.now seat.new × (turns_of seat.new ≡ turns_of seat.old) }
-        ensures found { Finds id (λ w. result ≡ (w == 0)) seat.old seat.new }
+        ensures seat { IsSeatOf self.now seat.new × (held_turns seat.new ≡ held_turns seat.old) }
+        ensures found { FindsWord id (λ w. result ≡ (w == 0)) seat.old seat.new }
         ensures woke { Woke id seat.old seat.new }
     {
         let mut mine = replace(&mut seat.badge, Badge::blank()).into_seat();
@@ -172,8 +172,8 @@ impl<T: Kept> Turns<T> {
         requires seat { IsSeatOf self.now seat.old }
         requires inside { id < length (handed_in self.now) }
         ensures seat { IsSeatOf self.now seat.new }
-        ensures turn { IfOk result (λ t. (t.id ≡ id) × Fits T.origin (handed_in self.now) id t.value × (turns_of seat.new ≡ id ∷ turns_of seat.old) × (found_by seat.new ≡ (id, 1) ∷ found_by seat.old) × (began_by seat.new ≡ id ∷ began_by seat.old) × (woke_by seat.new ≡ woke_by seat.old)) }
-        ensures none { IfErr result (λ w. (w ≢ 1) × (turns_of seat.new ≡ turns_of seat.old) × (found_by seat.new ≡ (id, w) ∷ found_by seat.old) × NoneBegan seat.old seat.new) }
+        ensures turn { IfOk result (λ t. (t.id ≡ id) × OriginFits T.origin (handed_in self.now) id t.value × (held_turns seat.new ≡ id ∷ held_turns seat.old) × (found_by seat.new ≡ (id, 1) ∷ found_by seat.old) × (began_by seat.new ≡ id ∷ began_by seat.old) × (woke_by seat.new ≡ woke_by seat.old)) }
+        ensures none { IfErr result (λ w. (w ≢ 1) × (held_turns seat.new ≡ held_turns seat.old) × (found_by seat.new ≡ (id, w) ∷ found_by seat.old) × NoneBegan seat.old seat.new) }
     {
         let mut mine = replace(&mut seat.badge, Badge::blank()).into_seat();
         let taken = self.take_out::<Brand>(&mut mine, id);
@@ -188,7 +188,7 @@ impl<T: Kept> Turns<T> {
         requires seat { (mine.old.table_id ≡ self.now.table.shared.table_id) × (mine.old.me ≡ (hold 1 mine.old.me.0.held 0 mine.old.me.0.found mine.old.me.0.began mine.old.me.0.woke, [])) }
         requires inside { id < length (handed_in self.now) }
         ensures seat { (mine.new.table_id ≡ mine.old.table_id) × (mine.new.id ≡ mine.old.id) }
-        ensures taken { IfOk result (λ x. Fits T.origin (handed_in self.now) id x × (mine.new.me ≡ (hold 1 (id ∷ mine.old.me.0.held) 0 ((id, 1) ∷ mine.old.me.0.found) (id ∷ mine.old.me.0.began) mine.old.me.0.woke, []))) }
+        ensures taken { IfOk result (λ x. OriginFits T.origin (handed_in self.now) id x × (mine.new.me ≡ (hold 1 (id ∷ mine.old.me.0.held) 0 ((id, 1) ∷ mine.old.me.0.found) (id ∷ mine.old.me.0.began) mine.old.me.0.woke, []))) }
         ensures none { IfErr result (λ w. (w ≢ 1) × (mine.new.me ≡ (hold 1 mine.old.me.0.held 0 ((id, w) ∷ mine.old.me.0.found) mine.old.me.0.began mine.old.me.0.woke, []))) }
     {
         let shared = &self.table.shared;
@@ -206,11 +206,11 @@ impl<T: Kept> Turns<T> {
     /// had READY, so that the caller puts the place on its list. It waits for nobody.
     pub fn end(&self, seat: &mut TurnSeat, turn: Turn<T>) -> bool
         requires seat { IsSeatOf self.now seat.old }
-        requires begun { 0 < times turn.id (turns_of seat.old) }
+        requires begun { 0 < times turn.id (held_turns seat.old) }
         requires inside { turn.id < length (handed_in self.now) }
-        requires origin { Fits T.origin (handed_in self.now) turn.id turn.value }
-        ensures seat { IsSeatOf self.now seat.new × (turns_of seat.new ≡ without turn.id (turns_of seat.old)) }
-        ensures found { Finds turn.id (λ w. result ≡ (w % 2 == 1)) seat.old seat.new }
+        requires origin { OriginFits T.origin (handed_in self.now) turn.id turn.value }
+        ensures seat { IsSeatOf self.now seat.new × (held_turns seat.new ≡ without turn.id (held_turns seat.old)) }
+        ensures found { FindsWord turn.id (λ w. result ≡ (w % 2 == 1)) seat.old seat.new }
         ensures none { NoneBegan seat.old seat.new }
     {
         let Turn { id, value } = turn;

@@ -7,7 +7,7 @@ use Rattle.atomic_table.specs.Table.{State, step, keeps, opening, Allows, Splits
 use Rattle.atomic_table.proofs.Lists.{at_set, at_snoc}
 use Rattle.turn_table.specs.Sums.{total}
 use Rattle.turn_table.proofs.Totals.{total-append, total-set, term_le}
-use Rattle.unit_budget.specs.Rule.{share, granted_of, Fair, Sat, claimed, settled, looked}
+use Rattle.unit_budget.specs.Rule.{share, granted_of, Fair, Sat, claimed, given_back, looked}
 use Rattle.unit_budget.specs.declared.share.Share.{Share}
 
 -- a sum whose terms are at most so many times those of another
@@ -61,7 +61,7 @@ module _ (limit seats : ℕ) where
       )
 
   pub settles : (slots id used : ℕ) (m : Sat) → m.0.claim ≡ 1000 → used ≤ m.0.granted → used ≤ 1000 → 0 < m.0.parts
-      → Allows O slots id m 0 (λ n. (n + (2 ^ 64 - (1000 - used))) % 2 ^ 64) (settled (step slots 0 (1000 - used) 0 none) m)
+      → Allows O slots id m 0 (λ n. (n + (2 ^ 64 - (1000 - used))) % 2 ^ 64) (given_back (step slots 0 (1000 - used) 0 none) m)
   settles slots id used m claimed within least part s o wide me small =
       let x : ℕ = get_or s.words 0 0 in let mine = o.each id m.0 me in let word = o.word in let all = o.within in let claim = term_le (λ (u : Share). u.claim) s.views id m.0 me in
       let w : Share = share m.0.parts (m.0.used + (m.0.claim - (1000 - used))) 0 0 m.0.limit in let is : m.0.claim - (1000 - used) ≡ used = omega arith in (

@@ -1,6 +1,6 @@
 // The rule of a budget's word, and the names of its steps. No value of these types is made, but of `Purse`.
 ghost use Rattle.std.specs.Prelude.{◌+◌, ◌-◌};
-ghost use Rattle.unit_budget.specs.Rule.{share, Fair, claimed, settled, looked};
+ghost use Rattle.unit_budget.specs.Rule.{share, Fair, claimed, given_back, looked};
 
 use crate::share::Share;
 use atomic_table::{Join, Play, Split, TableRule};
@@ -34,26 +34,26 @@ impl Play<(), Share> for Claim {
 pub struct Settle;
 
 impl Play<(), Share> for Settle {
-    ghost then = { settled };
+    ghost then = { given_back };
 }
 
 /// The load.
-pub struct Look;
+pub struct UnitLook;
 
-impl Play<(), Share> for Look {
+impl Play<(), Share> for UnitLook {
     ghost then = { looked };
 }
 
 /// A seat is split off, and put back.
-pub struct Deal;
+pub struct UnitDeal;
 
-impl Split<Share> for Deal {
+impl Split<Share> for UnitDeal {
     ghost left = { λ v. share (v.parts - 1) v.used v.claim v.granted v.limit };
 
     ghost right = { λ v. share 1 0 0 0 v.limit };
 }
 
-impl Join<Share> for Deal {
+impl Join<Share> for UnitDeal {
     ghost both = { λ v w. share (v.parts + w.parts) (v.used + w.used) 0 0 v.limit };
 
     ghost spent = { share 0 0 0 0 0 };

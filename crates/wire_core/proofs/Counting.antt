@@ -7,7 +7,7 @@ use Rattle.elem_core.specs.declared.item.Item.{Item}
 use Rattle.elem_core.specs.declared.item.Item.TheVariants as item
 use Rattle.port_core.specs.Connection.{ConnStep, quiet, pulled, ready, pushed}
 use Rattle.port_core.specs.View.{IsInOpen, IsOutOpen}
-use Rattle.port_core.specs.Wire.{JointPorts, pull_of, push_of, close_of, cancel_of, end_of, delivery_of, after_delivery, again, Delivery, nothing, pull, cancel, arrived}
+use Rattle.port_core.specs.Wire.{JointPorts, pull_of, push_of, close_of, cancel_of, end_item, delivery_of, after_delivery, again, Delivery, nothing, pull, cancel, arrived}
 use Rattle.port_core.specs.Decoding.{can_pull}
 use Rattle.port_core.specs.declared.act.Act.TheVariants.{Pull, Push}
 use Rattle.port_core.specs.Joint.{Joint, idle, asking, asked, moving, ending, closing, leaving, finished, parted, refused, wire_of, Queues, IsSound}
@@ -16,7 +16,7 @@ use Rattle.port_core.specs.declared.view.InView.TheVariants.{Idle, Pulled, Finis
 use Rattle.port_core.specs.declared.view.OutView.{OutView}
 use Rattle.port_core.specs.declared.view.OutView.TheVariants as outlet
 use Rattle.wire_core.specs.Cell.{WireState, moved_by}
-use Rattle.wire_core.specs.Counts.{ready_bit, free_bit, extra, spent, asked_bit, asks, standing, heard}
+use Rattle.wire_core.specs.Counts.{ready_bit, free_bit, extra, spent, asked_bit, asks, standing, events_heard}
 use Rattle.wire_core.specs.Marks.{IsMarked}
 
 -- one element more, and an end
@@ -38,7 +38,7 @@ elements_failed (item.Elem t ∷ s) d = ap suc (elements_failed s d)
 elements_failed (item.Ended ∷ s) d = elements_failed s d
 elements_failed (item.Failed c ∷ s) d = elements_failed s d
 
-pub elements_end : (s : List Item) (c : Option Cause) → elements (s ++ end_of c ∷ []) ≡ elements s
+pub elements_end : (s : List Item) (c : Option Cause) → elements (s ++ end_item c ∷ []) ≡ elements s
 elements_end s None = elements_ended s
 elements_end s (Some c) = elements_failed s c
 
@@ -201,10 +201,10 @@ pull_stands c i true e = rw e (omega arith)
 pull_stands c i false e = rw e (omega arith)
 
 -- No action raises the events that were heard, and an event raises them by one at most.
-pub pull_heard : (i : ℕ) (c : WireState) → heard (moved_by (Pull i) c) ≤ heard c
+pub pull_heard : (i : ℕ) (c : WireState) → events_heard (moved_by (Pull i) c) ≤ events_heard c
 pull_heard i c = omega (arith, pull_stands c i (can_pull c.wire.conn) refl)
 
-pub push_heard : (j : ℕ) (e : Tree) (c : WireState) → IsMarked c → c.wire.out ≡ outlet.Available → heard (moved_by (Push j e) c) ≤ heard c
+pub push_heard : (j : ℕ) (e : Tree) (c : WireState) → IsMarked c → c.wire.out ≡ outlet.Available → events_heard (moved_by (Push j e) c) ≤ events_heard c
 push_heard j e c m is =
     let stood : standing c ≡ 1 = rw (m.known is) (ap ready_bit (m.came is)) in
     omega (arith, elements_elem c.wire.sent e, stood)
@@ -213,13 +213,13 @@ close_stands : (d : Option Cause) (w : JointPorts) (b : Bool) → (if b then rea
 close_stands None w b = refl
 close_stands (Some c) w b = refl
 
-pub close_heard : (d : Option Cause) (c : WireState) → heard (record c { wire = close_of d c.wire }) ≤ heard c
+pub close_heard : (d : Option Cause) (c : WireState) → events_heard (record c { wire = close_of d c.wire }) ≤ events_heard c
 close_heard d c = omega (arith, elements_end c.wire.sent d, close_stands d c.wire c.asked)
 
-pub cancel_heard : (c : WireState) → heard (record c { wire = cancel_of c.wire }) ≤ heard c
+pub cancel_heard : (c : WireState) → events_heard (record c { wire = cancel_of c.wire }) ≤ events_heard c
 cancel_heard c = omega arith
 
-pub deliver_heard : (d : Delivery) (c : WireState) → heard (record c { wire = after_delivery d c.wire }) ≤ heard c + 1
+pub deliver_heard : (d : Delivery) (c : WireState) → events_heard (record c { wire = after_delivery d c.wire }) ≤ events_heard c + 1
 deliver_heard nothing c = omega arith
 deliver_heard pull c = omega (arith, standing_le c.asked ready)
 deliver_heard cancel c = omega arith

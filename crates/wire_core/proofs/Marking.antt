@@ -8,7 +8,7 @@ use Rattle.elem_core.specs.declared.item.Item.{Item}
 use Rattle.elem_core.specs.declared.item.Item.TheVariants as item
 use Rattle.port_core.specs.Connection.{quiet, pulled, ready, pushed, Connection}
 use Rattle.port_core.specs.Decoding.{is_open, can_pull, can_push}
-use Rattle.port_core.specs.Wire.{JointPorts, pull_of, push_of, close_of, cancel_of, end_of, Delivery, nothing, pull, cancel, arrived, delivery_of, after_delivery}
+use Rattle.port_core.specs.Wire.{JointPorts, pull_of, push_of, close_of, cancel_of, end_item, Delivery, nothing, pull, cancel, arrived, delivery_of, after_delivery}
 use Rattle.port_core.specs.Joint.{Joint, idle, asking, asked, moving, ending, closing, leaving, finished, parted, refused, wire_of, Queues, IsSound}
 use Rattle.port_core.specs.declared.view.OutView.TheVariants.{Available}
 use Rattle.wire_core.specs.Cell.{WireState, new_cell}
@@ -140,7 +140,7 @@ wanted_same : (n m : ℕ) (b : Bool) → n ≡ m → (if b then n + 1 else n) �
 wanted_same n m b e = ap (λ (k : ℕ). if b then k + 1 else k) e
 
 pub close_wanted : (c : Option Cause) (w : JointPorts) (b : Bool) → wanted (cell (close_of c w) b) ≡ wanted (cell w b)
-close_wanted c w b = wanted_same (elements (w.sent ++ end_of c ∷ [])) (elements w.sent) b (elements_end w.sent c)
+close_wanted c w b = wanted_same (elements (w.sent ++ end_item c ∷ [])) (elements w.sent) b (elements_end w.sent c)
 
 pub close_grown : (c : Option Cause) (w : JointPorts) (b : Bool) → Grown (cell w b) (cell (close_of c w) b)
 close_grown None w b = record { sent = prefix_append w.sent _; got = prefix_refl w.got; wanted = let same = close_wanted None w b in omega (arith, same); in_closed = λ o. o; out_closed = λ o. refl }

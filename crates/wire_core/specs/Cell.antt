@@ -6,7 +6,7 @@ use Rattle.port_core.specs.Connection.{Connection}
 use Rattle.port_core.specs.PortRules as rule
 use Rattle.port_core.specs.PortRules.{next}
 use Rattle.port_core.specs.Decoding.{can_pull, can_push, is_at_rest}
-use Rattle.port_core.specs.Wire.{JointPorts, new_wire, pull_of, push_of, close_of, cancel_of, Delivery, nothing, pull, cancel, arrived, end_of, delivery_of, after_delivery}
+use Rattle.port_core.specs.Wire.{JointPorts, new_wire, pull_of, push_of, close_of, cancel_of, Delivery, nothing, pull, cancel, arrived, end_item, delivery_of, after_delivery}
 use Rattle.port_core.specs.declared.conn.Event.{Event}
 use Rattle.port_core.specs.declared.conn.Event.TheVariants as event
 use Rattle.port_core.specs.declared.view.InView.TheVariants.{Idle}
@@ -67,6 +67,6 @@ Tells event.Push old new = Brings false old new
 Tells event.PushThenClose old new = Brings true old new
 Tells event.Pull old new = Brought pull old new
 Tells event.Cancel old new = Brought cancel old new
-Tells event.Finish old new = Brought (arrived (end_of new.wire.conn.cause) false) old new
-Tells event.Fail old new = Brought (arrived (end_of new.wire.conn.cause) false) old new
+Tells event.Finish old new = Brought (arrived (end_item new.wire.conn.cause) false) old new
+Tells event.Fail old new = Brought (arrived (end_item new.wire.conn.cause) false) old new
 Tells event.Nothing old new = Brought nothing old new

@@ -58,5 +58,5 @@ cancelled_bit outlet.Closed = 0
 cancelled_bit outlet.Cancelled = 1
 
 -- the events that the ends of a wire have heard: the pulls and the cancel that came to the output, and the items that came to the input
-abbrev pub heard : WireState → ℕ
-heard c = elements c.wire.sent + standing c + length c.wire.got + cancelled_bit c.wire.out
+abbrev pub events_heard : WireState → ℕ
+events_heard c = elements c.wire.sent + standing c + length c.wire.got + cancelled_bit c.wire.out

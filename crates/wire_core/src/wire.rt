@@ -1,6 +1,6 @@
 ghost use Rattle.std.specs.Prelude.{◌≡◌, ◌↔◌, ◌+◌, ◌<◌, ◌^◌, not, false, true, IsTrue, IsSome, Some};
 ghost use Rattle.port_core.specs.Decoding.{can_pull, can_push, is_at_rest, is_open};
-ghost use Rattle.port_core.specs.Wire.{end_of};
+ghost use Rattle.port_core.specs.Wire.{end_item};
 ghost use Rattle.port_core.specs.declared.act.Act.TheVariants as act;
 ghost use Rattle.wire_core.specs.Cell.{new_cell, moved_by, brought_in, Tells};
 ghost use Rattle.port_core.specs.View.{output_closed, input_closed};
@@ -250,7 +250,7 @@ impl Wire {
 
     /// How its output ended, where it closed: it failed with a cause, or completed.
     pub fn end(&self) -> Item
-        ensures { result ≡ end_of self.now.wire.conn.cause }
+        ensures { result ≡ end_item self.now.wire.conn.cause }
     {
         match self.conn.cause() {
             None => Item::Ended,

@@ -2,7 +2,7 @@
 use Rattle.std.proofs.Common.{◌≡◌, ◌⊎◌, inl, inr, ℕ, List, [], sym, subst}
 use Rattle.blue_core.specs.declared.blueprint.Blueprint.{Blueprint}
 use Rattle.workbench_faults.specs.Judging.{IsFitText}
-use Rattle.workbench_draw.specs.Drawing.{Draws}
+use Rattle.workbench_draw.specs.Drawing.{IsDrawingOf}
 use Rattle.workbench_turns.specs.Turns.{Suffices}
 use Rattle.workbench_answers.specs.Answer.{Checks, Counts, DrawsFit}
 use Rattle.workbench_answers.specs.declared.answer.Answer.{Answer}
@@ -13,8 +13,8 @@ pub passes : (text file : List ℕ) (b : Blueprint) (a : Answer) → IsFitText t
 passes text file b a fit done said told = inl (record { ending = done; blueprint = b; fit = fit; said = said; told = told })
 
 -- a drawing is said
-pub draws_fit : (text file drawing : List ℕ) (b : Blueprint) (a : Answer) → IsFitText text file b → a.ending ≡ ending.Done → a.said.items ≡ drawing → Draws b drawing → DrawsFit text file a
-draws_fit text file drawing b a fit done said draws = record { ending = done; blueprint = b; fit = fit; said = subst (λ t. Draws b t) (sym said) draws }
+pub draws_fit : (text file drawing : List ℕ) (b : Blueprint) (a : Answer) → IsFitText text file b → a.ending ≡ ending.Done → a.said.items ≡ drawing → IsDrawingOf b drawing → DrawsFit text file a
+draws_fit text file drawing b a fit done said draws = record { ending = done; blueprint = b; fit = fit; said = subst (λ t. IsDrawingOf b t) (sym said) draws }
 
 -- the units are said
 pub says_units : (text file counts units : List ℕ) (b : Blueprint) (a : Answer) → IsFitText text file b → a.ending ≡ ending.Done → a.said.items ≡ units → Suffices b counts units → Counts text file counts a

@@ -2,7 +2,7 @@
 use Rattle.std.specs.Prelude.{◌≡◌, ℕ, ◌⊎◌, List, [], Some}
 use Rattle.blue_core.specs.declared.blueprint.Blueprint.{Blueprint}
 use Rattle.blue_words.specs.declared.fault.BlueFault.{BlueFault}
-use Rattle.blue_lang.specs.Blueprints.{Says, fault_of}
+use Rattle.blue_lang.specs.Blueprints.{Says, text_fault}
 use Rattle.blue_lang.specs.Canonical.{canonical}
 use Rattle.blue_lang.specs.Plain.{PlainBlueprint, plain}
 use Rattle.workbench_words.specs.declared.task.TaskKind.{TaskKind}
@@ -10,8 +10,8 @@ use Rattle.workbench_words.specs.declared.task.TaskKind.TheVariants.{Check, Form
 use Rattle.workbench_faults.specs.declared.judge.Unready.{Unready}
 use Rattle.workbench_faults.specs.declared.judge.Unready.TheVariants as unready
 use Rattle.workbench_faults.specs.Judging.{IsFitText, IsUnready}
-use Rattle.workbench_faults.specs.Message.{Tells}
-use Rattle.workbench_draw.specs.Drawing.{Draws}
+use Rattle.workbench_faults.specs.Message.{BeginsWithReport}
+use Rattle.workbench_draw.specs.Drawing.{IsDrawingOf}
 use Rattle.workbench_turns.specs.Turns.{Suffices}
 use Rattle.workbench_answers.specs.declared.answer.Answer.{Answer}
 use Rattle.workbench_answers.specs.declared.answer.Ending.{Ending}
@@ -30,7 +30,7 @@ code_of ending.NoMemory = 9
 pub record TellsFault (why : Unready) (a : Answer) : Type 0 where
   pub ending : a.ending ≡ ending.Faulty
   pub said : a.said.items ≡ []
-  pub told : Tells why a.told.items
+  pub told : BeginsWithReport why a.told.items
 
 -- the fault is told, or memory was wanting
 abbrev pub IsBlame : Unready → Answer → Type 0
@@ -44,7 +44,7 @@ pub record Blames (text file : List ℕ) (a : Answer) : Type 0 where
   pub blame : IsBlame why a
 
 -- the text says a blueprint that breaks no rule, and nothing is said or told
-pub record Passes (text file : List ℕ) (a : Answer) : Type 0 where
+pub record PassesAnswer (text file : List ℕ) (a : Answer) : Type 0 where
   pub ending : a.ending ≡ ending.Done
   pub blueprint : Blueprint
   pub fit : IsFitText text file blueprint
@@ -53,7 +53,7 @@ pub record Passes (text file : List ℕ) (a : Answer) : Type 0 where
 
 -- `check`
 abbrev pub Checks : List ℕ → List ℕ → Answer → Type 0
-Checks text file a = Passes text file a ⊎ Blames text file a
+Checks text file a = PassesAnswer text file a ⊎ Blames text file a
 
 -- the canonical text of the blueprint that the text says is said
 pub record SaysCanonical (text : List ℕ) (a : Answer) : Type 0 where
@@ -63,35 +63,35 @@ pub record SaysCanonical (text : List ℕ) (a : Answer) : Type 0 where
   pub said : a.said.items ≡ canonical blueprint
 
 -- the first fault of the text is told
-pub record Refuses (text : List ℕ) (a : Answer) : Type 0 where
+pub record RefusesText (text : List ℕ) (a : Answer) : Type 0 where
   pub fault : BlueFault
-  pub is : fault_of text ≡ Some fault
+  pub is : text_fault text ≡ Some fault
   pub told : TellsFault (unready.Refused fault) a
 
 -- `fmt`
 abbrev pub Formats : List ℕ → Answer → Type 0
-Formats text a = SaysCanonical text a ⊎ (Refuses text a ⊎ (a.ending ≡ ending.NoMemory))
+Formats text a = SaysCanonical text a ⊎ (RefusesText text a ⊎ (a.ending ≡ ending.NoMemory))
 
 -- a drawing of the blueprint that the text says is said, which breaks no rule
 pub record DrawsFit (text file : List ℕ) (a : Answer) : Type 0 where
   pub ending : a.ending ≡ ending.Done
   pub blueprint : Blueprint
   pub fit : IsFitText text file blueprint
-  pub said : Draws blueprint a.said.items
+  pub said : IsDrawingOf blueprint a.said.items
 
 -- a drawing of the blueprint that the text says is said, and the rule is told that it breaks
 pub record DrawsUnfit (text file : List ℕ) (a : Answer) : Type 0 where
   pub ending : a.ending ≡ ending.Faulty
   pub blueprint : Blueprint
   pub says : Says text (plain blueprint)
-  pub said : Draws blueprint a.said.items
+  pub said : IsDrawingOf blueprint a.said.items
   pub why : Unready
   pub is : IsUnready text file why
-  pub told : Tells why a.told.items
+  pub told : BeginsWithReport why a.told.items
 
 -- `draw`
-abbrev pub Drawn : List ℕ → List ℕ → Answer → Type 0
-Drawn text file a = DrawsFit text file a ⊎ (DrawsUnfit text file a ⊎ Blames text file a)
+abbrev pub DrawsAnswer : List ℕ → List ℕ → Answer → Type 0
+DrawsAnswer text file a = DrawsFit text file a ⊎ (DrawsUnfit text file a ⊎ Blames text file a)
 
 -- the units are said that suffice for the blueprint that the text says, where the sources give so many elements
 pub record SaysUnits (text file counts : List ℕ) (a : Answer) : Type 0 where
@@ -115,6 +115,6 @@ Counts text file counts a = SaysUnits text file counts a ⊎ (MissesCounts text 
 abbrev pub AnswersText : TaskKind → List ℕ → List ℕ → List ℕ → Answer → Type 0
 AnswersText Check text file counts a = Checks text file a
 AnswersText Format text file counts a = Formats text a
-AnswersText Draw text file counts a = Drawn text file a
+AnswersText Draw text file counts a = DrawsAnswer text file a
 AnswersText Explain text file counts a = Unit {0}
 AnswersText Turns text file counts a = Counts text file counts a

@@ -1,11 +1,11 @@
 // What is answered to a work on the text of a blueprint's file.
 ghost use Rattle.std.specs.Prelude.{◌≡◌, ◌⊎◌, [], IfOk, IfSome};
-ghost use Rattle.blue_check.specs.Checked.{blueprint_of};
+ghost use Rattle.blue_check.specs.Checked.{checked_blueprint};
 ghost use Rattle.workbench_faults.specs.Judging.{IsFitText, IsUnready};
 ghost use Rattle.blue_lang.specs.Blueprints.{Says};
 ghost use Rattle.blue_lang.specs.Plain.{plain};
-ghost use Rattle.workbench_faults.specs.Message.{Tells};
-ghost use Rattle.workbench_answers.specs.Answer.{IsBlame, Blames, Checks, SaysCanonical, Formats, DrawsFit, DrawsUnfit, Drawn, Counts};
+ghost use Rattle.workbench_faults.specs.Message.{BeginsWithReport};
+ghost use Rattle.workbench_answers.specs.Answer.{IsBlame, Blames, Checks, SaysCanonical, Formats, DrawsFit, DrawsUnfit, DrawsAnswer, Counts};
 
 use crate::answer::{Answer, Ending};
 use blue_check::checked::Checked;
@@ -115,7 +115,7 @@ fn first_line(message: &[u8]) -> &[u8] {
 
 /// The answer that says the drawing of a checked blueprint.
 fn drawn_fit(alloc: Global, text: &[u8], file: &Line, c: &Checked) -> Result<Answer, NoMemory>
-    requires { IsFitText text.now file.now (blueprint_of c.now) }
+    requires { IsFitText text.now file.now (checked_blueprint c.now) }
     ensures { IfOk result (DrawsFit text.now file.now) }
 {
     let said = draw(alloc, c)?;
@@ -133,7 +133,7 @@ fn drawn_unfit(
 ) -> Result<Answer, NoMemory>
     requires says { Says text.now (plain b.now) }
     requires is { IsUnready text.now file.now (Unready.Unfit fault.now) }
-    requires told { Tells (Unready.Unfit fault.now) told.items }
+    requires told { BeginsWithReport (Unready.Unfit fault.now) told.items }
     ensures { IfOk result (DrawsUnfit text.now file.now) }
 {
     let said = draw_unfit(alloc, b, file, fault, first_line(&told))?;
@@ -167,7 +167,7 @@ fn drawn_again(
 /// The answer to `draw`: the graph; where the blueprint breaks a rule the graph, in red at its place, and the rule; or the first fault
 /// of the text.
 pub fn draw_text(alloc: Global, text: &[u8], file: &Line) -> Answer
-    ensures { Drawn text.now file.now result }
+    ensures { DrawsAnswer text.now file.now result }
 {
     match judge_text(alloc, text, file) {
         Ok(c) => match drawn_fit(alloc, text, file, &c) {
@@ -225,7 +225,7 @@ fn uncounted(alloc: Global, end: &TurnsEnd) -> Answer
 
 /// The answer to `turns` of a checked blueprint.
 fn counted(alloc: Global, text: &[u8], file: &Line, counts: &[u64], c: &Checked) -> Answer
-    requires { IsFitText text.now file.now (blueprint_of c.now) }
+    requires { IsFitText text.now file.now (checked_blueprint c.now) }
     ensures { Counts text.now file.now counts.now result }
 {
     match count_units(alloc, c, counts) {

@@ -17,7 +17,7 @@ drawing_text d =
     ++ lines_text d.others.items ++ lines_text d.wires.items ++ codes "}\n"
 
 -- the text is a drawing with a line for each node and a line for each wire
-pub record Draws (b : Blueprint) (text : List ℕ) : Type 0 where
+pub record IsDrawingOf (b : Blueprint) (text : List ℕ) : Type 0 where
   pub drawing : Drawing
   pub nodes : vec_len drawing.nodes ≡ length b.nodes.items
   pub wires : vec_len drawing.wires ≡ length b.wires.items

@@ -1,8 +1,8 @@
 // The drawing of a blueprint.
 ghost use Rattle.std.specs.Prelude.{◌≡◌, ◌++◌, IfOk, OnOk, length, vec_len};
 ghost use Rattle.std.specs.List.{flat_map};
-ghost use Rattle.blue_check.specs.Checked.{blueprint_of};
-ghost use Rattle.workbench_draw.specs.Drawing.{Draws, drawing_text};
+ghost use Rattle.blue_check.specs.Checked.{checked_blueprint};
+ghost use Rattle.workbench_draw.specs.Drawing.{IsDrawingOf, drawing_text};
 
 use crate::lines::{Blamed, island_lines, node_lines, other_lines, wire_lines};
 use crate::types::types_of;
@@ -52,7 +52,7 @@ fn text_of(alloc: Global, drawing: &Drawing) -> Result<Vec<u8>, NoMemory>
 fn drawn(alloc: Global, b: &Blueprint, drawing: &Drawing) -> Result<Vec<u8>, NoMemory>
     requires nodes { vec_len drawing.now.nodes ≡ length b.now.nodes.items }
     requires wires { vec_len drawing.now.wires ≡ length b.now.wires.items }
-    ensures { IfOk result (λ text. Draws b.now text.items) }
+    ensures { IfOk result (λ text. IsDrawingOf b.now text.items) }
 {
     text_of(alloc, drawing)
 }
@@ -60,7 +60,7 @@ fn drawn(alloc: Global, b: &Blueprint, drawing: &Drawing) -> Result<Vec<u8>, NoM
 /// The graph of a checked blueprint in the DOT language: a box round each island, a line for each node with its kind, and one for
 /// each wire with its type; a lane is dashed and has its size.
 pub fn draw(alloc: Global, c: &Checked) -> Result<Vec<u8>, NoMemory>
-    ensures { IfOk result (λ text. Draws (blueprint_of c.now) text.items) }
+    ensures { IfOk result (λ text. IsDrawingOf (checked_blueprint c.now) text.items) }
 {
     let b = c.blueprint();
     let plan = islands(alloc, c)?;
@@ -83,7 +83,7 @@ pub fn draw_unfit(
     fault: &CheckFault,
     told: &[u8],
 ) -> Result<Vec<u8>, NoMemory>
-    ensures { IfOk result (λ text. Draws b.now text.items) }
+    ensures { IfOk result (λ text. IsDrawingOf b.now text.items) }
 {
     let blamed = match place_of(b, own, fault) {
         Some(place) => Some(Blamed { place, fault: told }),

@@ -3,7 +3,7 @@ use Rattle.std.specs.Prelude.{◌≡◌, ℕ, List, [], ◌∷◌, Some}
 use Rattle.blue_core.specs.declared.blueprint.Blueprint.{Blueprint}
 use Rattle.blue_check.specs.Fitness.{IsFit, IsFirstFault}
 use Rattle.blue_check.specs.declared.fault.CheckFault.{CheckFault}
-use Rattle.blue_lang.specs.Blueprints.{Says, fault_of}
+use Rattle.blue_lang.specs.Blueprints.{Says, text_fault}
 use Rattle.blue_lang.specs.Plain.{plain}
 use Rattle.workbench_faults.specs.declared.judge.Unready.{Unready}
 use Rattle.workbench_faults.specs.declared.judge.Unready.TheVariants.{Refused, Unfit, NoMemory}
@@ -21,6 +21,6 @@ pub record IsUnfitText (text file : List ℕ) (f : CheckFault) : Type 0 where
 
 -- why the text says no blueprint that can be run; memory may be wanting at any text
 abbrev pub IsUnready : List ℕ → List ℕ → Unready → Type 0
-IsUnready text file (Refused f) = fault_of text ≡ Some f
+IsUnready text file (Refused f) = text_fault text ≡ Some f
 IsUnready text file (Unfit f) = IsUnfitText text file f
 IsUnready text file NoMemory = Unit {0}

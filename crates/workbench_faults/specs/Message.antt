@@ -18,5 +18,5 @@ abbrev pub report_line : Unready → List ℕ
 report_line u = status_text (status_of u) 0 ++ codes "\n"
 
 -- the message begins with the line that a report has
-abbrev pub Tells : Unready → List ℕ → Type 0
-Tells u message = IsPrefix (report_line u) message
+abbrev pub BeginsWithReport : Unready → List ℕ → Type 0
+BeginsWithReport u message = IsPrefix (report_line u) message

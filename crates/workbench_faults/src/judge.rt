@@ -1,6 +1,6 @@
 // Whether a text says a blueprint that can be run.
 ghost use Rattle.std.specs.Prelude.{◌≡◌, ◌∷◌, [], IfOk, IfErr};
-ghost use Rattle.blue_check.specs.Checked.{blueprint_of};
+ghost use Rattle.blue_check.specs.Checked.{checked_blueprint};
 ghost use Rattle.blue_lang.specs.Plain.{plain};
 ghost use Rattle.blue_lang.specs.Blueprints.{Says};
 ghost use Rattle.workbench_faults.specs.Judging.{IsFitText, IsUnready};
@@ -45,7 +45,7 @@ fn check_said(
 ) -> Result<Checked, Unready>
     requires says { Says text.now (plain b) }
     requires taken { taken.now ≡ file.now ∷ [] }
-    ensures fit { IfOk result (λ c. IsFitText text.now file.now (blueprint_of c)) }
+    ensures fit { IfOk result (λ c. IsFitText text.now file.now (checked_blueprint c)) }
     ensures unready { IfErr result (IsUnready text.now file.now) }
 {
     match check(alloc, b, &[], taken) {
@@ -58,7 +58,7 @@ fn check_said(
 /// The checked blueprint of the text of that name's file, which no plug is handed in for, or why there is none: the first fault of
 /// the text, or the first rule that the blueprint breaks. Want of memory may come in the place of each.
 pub fn judge_text(alloc: Global, text: &[u8], file: &Line) -> Result<Checked, Unready>
-    ensures fit { IfOk result (λ c. IsFitText text.now file.now (blueprint_of c)) }
+    ensures fit { IfOk result (λ c. IsFitText text.now file.now (checked_blueprint c)) }
     ensures unready { IfErr result (IsUnready text.now file.now) }
 {
     let Ok(taken) = taken_of(alloc, file) else {

@@ -2,7 +2,7 @@
 ghost use Rattle.std.specs.Prelude.{◌≡◌, ◌++◌, IfOk, OnOk, codes};
 ghost use Rattle.std.specs.Fmt.{decimal};
 ghost use Rattle.elem_core.specs.Prefix.{IsPrefix};
-ghost use Rattle.workbench_faults.specs.Message.{report_line, Tells};
+ghost use Rattle.workbench_faults.specs.Message.{report_line, BeginsWithReport};
 
 use crate::judge::Unready;
 use crate::place::place_of;
@@ -141,7 +141,7 @@ pub fn message_of(
     file: &Line,
     why: &Unready,
 ) -> Result<Vec<u8>, NoMemory>
-    ensures { IfOk result (λ message. Tells why.now message.items) }
+    ensures { IfOk result (λ message. BeginsWithReport why.now message.items) }
 {
     match why {
         Unready::Refused(fault) => {

@@ -40,8 +40,8 @@ abbrev pub AnswersWords : List (List ℕ) → FolderState → FolderState → An
 AnswersWords words old new a = AnswersNothing words a ⊎ ((a.ending ≡ ending.NoMemory) ⊎ AnswersAsked words old new a)
 
 -- the answer is put: what is said on the console, and what is told where faults are told; or a write failed, which is code 8
-abbrev pub IsPut : Answer → DrainState → DrainState → DrainState → DrainState → ℕ → Type 0
-IsPut a said_old said_new told_old told_new code =
+abbrev pub IsAnswerPut : Answer → DrainState → DrainState → DrainState → DrainState → ℕ → Type 0
+IsAnswerPut a said_old said_new told_old told_new code =
     (Puts said_old said_new a.said.items × (Puts told_old told_new a.told.items × (code ≡ code_of a.ending))) ⊎ (code ≡ 8)
 
 -- no file is changed, and the answer is put
@@ -49,4 +49,4 @@ pub record Works (words : List (List ℕ)) (old new : FolderState) (said_old sai
   pub answer : Answer
   pub answers : AnswersWords words old new answer
   pub files : SameFiles old new
-  pub put : IsPut answer said_old said_new told_old told_new code
+  pub put : IsAnswerPut answer said_old said_new told_old told_new code

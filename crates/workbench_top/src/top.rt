@@ -1,9 +1,9 @@
 // A call of the workbench.
 ghost use Rattle.std.specs.Prelude.{◌≡◌, ◌⊎◌};
 ghost use Rattle.stream_io.specs.State.{SameFiles};
-ghost use Rattle.workbench_words.specs.Task.{Asks, Ends};
+ghost use Rattle.workbench_words.specs.Task.{Asks, TaskEnds};
 ghost use Rattle.workbench_answers.specs.Answer.{AnswersText};
-ghost use Rattle.workbench_top.specs.Call.{AnswersTask, AnswersNothing, AnswersWords, IsPut, Works};
+ghost use Rattle.workbench_top.specs.Call.{AnswersTask, AnswersNothing, AnswersWords, IsAnswerPut, Works};
 
 use crate::report::{ReportEnd, read_report};
 use elem_core::line::Line;
@@ -79,7 +79,7 @@ fn answer_task<S: Source, F: Folder>(
 
 /// The answer to words that ask for nothing.
 fn answer_end(alloc: Global, words: &[Line], end: TaskEnd) -> Answer
-    requires { Ends words.now end }
+    requires { TaskEnds words.now end }
     ensures { AnswersNothing words.now result ⊎ (result.ending ≡ Ending.NoMemory) }
 {
     match end {
@@ -107,7 +107,7 @@ fn answer_words<S: Source, F: Folder>(
 
 /// Puts an answer, and gives the exit code: 8 where a write failed.
 fn put_answer<C: Drain, D: Drain>(answer: &Answer, console: &mut C, faults: &mut D) -> u8
-    ensures { IsPut answer.now (C.state console.old) (C.state console.new) (D.state faults.old) (D.state faults.new) result }
+    ensures { IsAnswerPut answer.now (C.state console.old) (C.state console.new) (D.state faults.old) (D.state faults.new) result }
 {
     if put_all(console, &answer.said).is_err() || put_all(faults, &answer.told).is_err() {
         return 8;

@@ -4,7 +4,7 @@ use Rattle.std.specs.Fmt.{decimal}
 use Rattle.stream_picture.specs.Shape.{need_from}
 use Rattle.blue_core.specs.declared.blueprint.Blueprint.{Blueprint}
 use Rattle.blue_check.specs.Wires.{blueprint_wires}
-use Rattle.workbench_turns.specs.Carried.{number_at, own, passed_all}
+use Rattle.workbench_turns.specs.Carried.{number_at, own_elements, passed_all}
 
 -- the last line tells this number of all wires
 pub record TellsAll (text : List ℕ) (n : ℕ) : Type 0 where
@@ -15,5 +15,5 @@ pub record TellsAll (text : List ℕ) (n : ℕ) : Type 0 where
 -- the units for all wires, by the formula that bounds the units of a run.
 pub record Suffices (b : Blueprint) (counts text : List ℕ) : Type 0 where
   pub carried : List ℕ
-  pub passes : carried ≡ passed_all (own b.nodes.items counts) (blueprint_wires b) (number_at carried)
+  pub passes : carried ≡ passed_all (own_elements b.nodes.items counts) (blueprint_wires b) (number_at carried)
   pub all : TellsAll text (need_from 0 (blueprint_wires b) (number_at carried))

@@ -1,7 +1,7 @@
 // How many elements each wire carries, where every stage passes all on.
 ghost use Rattle.std.specs.Prelude.{◌≡◌, ◌+◌, ◌==◌, ℕ, true, map, IfOk, IfSome, OnOk, if◌then◌else◌};
 ghost use Rattle.blue_names.specs.Links.{wires_of_links};
-ghost use Rattle.workbench_turns.specs.Carried.{number_at, own, passed, passed_all, sources_in};
+ghost use Rattle.workbench_turns.specs.Carried.{number_at, own_elements, passed_on, passed_all, source_count};
 
 use blue_core::blueprint::Node;
 use blue_names::links::NumberedWire;
@@ -20,8 +20,8 @@ pub(crate) fn number_at(numbers: &[u64], i: usize) -> u64
 }
 
 /// How many sources there are.
-pub(crate) fn sources_in(nodes: &[Node]) -> usize
-    ensures { result ≡ sources_in nodes.now }
+pub(crate) fn source_count(nodes: &[Node]) -> usize
+    ensures { result ≡ source_count nodes.now }
 {
     let mut count = 0;
     for node in nodes {
@@ -34,7 +34,7 @@ pub(crate) fn sources_in(nodes: &[Node]) -> usize
 
 /// What each node gives of its own: a source as many as is said of it, in the order of sources, and any other node none.
 pub(crate) fn own_of(alloc: Global, nodes: &[Node], counts: &[u64]) -> Result<Vec<u64>, NoMemory>
-    ensures { IfOk result (λ numbers. numbers.items ≡ own nodes.now counts.now) }
+    ensures { IfOk result (λ numbers. numbers.items ≡ own_elements nodes.now counts.now) }
 {
     let mut numbers = Vec::new(alloc);
     let mut rest = counts;
@@ -69,7 +69,7 @@ fn add(sums: &mut Vec<u64>, place: usize, n: u64) -> bool
 
 /// Adds to what each node gives of its own what comes to it, and says whether all of it fits.
 fn add_all(sums: &mut Vec<u64>, links: &[NumberedWire], carried: &[u64]) -> bool
-    ensures { result ≡ true → (a : ℕ) → number_at sums.new.items a ≡ passed sums.old.items (wires_of_links links.now) (number_at carried.now) a }
+    ensures { result ≡ true → (a : ℕ) → number_at sums.new.items a ≡ passed_on sums.old.items (wires_of_links links.now) (number_at carried.now) a }
 {
     for i in 0..links.len() {
         if !add(sums, links[i].to, number_at(carried, i)) {

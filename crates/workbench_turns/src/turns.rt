@@ -3,11 +3,11 @@ ghost use Rattle.std.specs.Prelude.{◌≡◌, ◌++◌, ℕ, IfOk, IfSome, OnOk
 ghost use Rattle.std.specs.Fmt.{decimal};
 ghost use Rattle.stream_picture.specs.Shape.{need_from};
 ghost use Rattle.blue_names.specs.Links.{wires_of_links};
-ghost use Rattle.blue_check.specs.Checked.{blueprint_of};
-ghost use Rattle.workbench_turns.specs.Carried.{number_at, own, passed_all};
+ghost use Rattle.blue_check.specs.Checked.{checked_blueprint};
+ghost use Rattle.workbench_turns.specs.Carried.{number_at, own_elements, passed_all};
 ghost use Rattle.workbench_turns.specs.Turns.{Suffices, TellsAll};
 
-use crate::carried::{carried_by, own_of, sources_in};
+use crate::carried::{carried_by, own_of, source_count};
 use crate::units::{all_units, some_units};
 use blue_check::checked::Checked;
 use blue_names::links::{NumberedWire, links_of};
@@ -130,10 +130,10 @@ fn carried_in(
     links: &[NumberedWire],
     counts: &[u64],
 ) -> Result<Vec<u64>, TurnsEnd>
-    ensures { IfOk result (λ carried. carried.items ≡ passed_all (own (blueprint_of c.now).nodes.items counts.now) (wires_of_links links.now) (number_at carried.items)) }
+    ensures { IfOk result (λ carried. carried.items ≡ passed_all (own_elements (checked_blueprint c.now).nodes.items counts.now) (wires_of_links links.now) (number_at carried.items)) }
 {
     let b = c.blueprint();
-    let sources = sources_in(&b.nodes);
+    let sources = source_count(&b.nodes);
     if sources != counts.len() {
         return Err(TurnsEnd::Sources(sources));
     }
@@ -148,7 +148,7 @@ fn carried_in(
 /// How many units suffice for the run of a checked blueprint whose sources give so many elements, in the order of sources, and of
 /// which every stage passes all on: a line for each island, one for the lanes where there are some, and one for all wires.
 pub fn count_units(alloc: Global, c: &Checked, counts: &[u64]) -> Result<Vec<u8>, TurnsEnd>
-    ensures { IfOk result (λ text. Suffices (blueprint_of c.now) counts.now text.items) }
+    ensures { IfOk result (λ text. Suffices (checked_blueprint c.now) counts.now text.items) }
 {
     let b = c.blueprint();
     let links = links_of(alloc, &b.nodes, &b.wires)?;

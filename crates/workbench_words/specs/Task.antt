@@ -4,7 +4,7 @@ use Rattle.std.specs.List.{list_all}
 use Rattle.std.specs.Str.{bytes_eq}
 use Rattle.blue_words.specs.declared.fault.BlueKind.{BlueKind}
 use Rattle.blue_words.specs.Names.{is_file_name}
-use Rattle.blue_words.specs.Numbers.{count_of}
+use Rattle.blue_words.specs.Numbers.{read_count}
 use Rattle.workbench_words.specs.declared.task.Task.{Task}
 use Rattle.workbench_words.specs.declared.task.TaskEnd.{TaskEnd}
 use Rattle.workbench_words.specs.declared.task.TaskEnd.TheVariants.{NoMemory}
@@ -12,8 +12,8 @@ use Rattle.workbench_words.specs.declared.task.TaskKind.{TaskKind}
 use Rattle.workbench_words.specs.declared.task.TaskKind.TheVariants.{Check, Format, Draw, Explain, Turns}
 
 -- the work of that name
-abbrev pub work_of : List ℕ → Option TaskKind
-work_of word =
+abbrev pub task_named : List ℕ → Option TaskKind
+task_named word =
     if bytes_eq word (codes "check") then Some Check
     else (if bytes_eq word (codes "fmt") then Some Format
     else (if bytes_eq word (codes "draw") then Some Draw
@@ -27,7 +27,7 @@ is_read (Err k) = false
 
 -- each word is a number of 64 bits
 abbrev pub are_numbers : List (List ℕ) → Bool
-are_numbers ws = list_all (λ w. is_read (count_of 64 w)) ws
+are_numbers ws = list_all (λ w. is_read (read_count 64 w)) ws
 
 -- no word
 abbrev pub is_nothing : List (List ℕ) → Bool
@@ -49,17 +49,17 @@ is_rest_of (Some work) file rest = is_rest work file rest
 
 -- the words are in the grammar: a work, a file, and what the work wants
 abbrev pub is_task : List (List ℕ) → Bool
-is_task (name ∷ file ∷ rest) = is_rest_of (work_of name) file rest
+is_task (name ∷ file ∷ rest) = is_rest_of (task_named name) file rest
 is_task _ = false
 
 -- the words ask for this task, where these are the words behind the work's name
 abbrev pub task_words : List (List ℕ) → Task → Type 0
-task_words (file ∷ rest) t = (t.file ≡ file) × (map (λ n. Ok n) t.counts.items ≡ map (count_of 64) rest)
+task_words (file ∷ rest) t = (t.file ≡ file) × (map (λ n. Ok n) t.counts.items ≡ map (read_count 64) rest)
 task_words _ t = ⊥
 
 abbrev pub asks_for : List (List ℕ) → Task → Type 0
 asks_for [] t = ⊥
-asks_for (name ∷ ws) t = (work_of name ≡ Some t.work) × task_words ws t
+asks_for (name ∷ ws) t = (task_named name ≡ Some t.work) × task_words ws t
 
 -- the words are in the grammar, and ask for this task
 pub record Asks (words : List (List ℕ)) (t : Task) : Type 0 where
@@ -67,6 +67,6 @@ pub record Asks (words : List (List ℕ)) (t : Task) : Type 0 where
   pub task : asks_for words t
 
 -- the words ask for nothing; memory may be wanting at any words
-abbrev pub Ends : List (List ℕ) → TaskEnd → Type 0
-Ends words NoMemory = Unit {0}
-Ends words _ = is_task words ≡ false
+abbrev pub TaskEnds : List (List ℕ) → TaskEnd → Type 0
+TaskEnds words NoMemory = Unit {0}
+TaskEnds words _ = is_task words ≡ false

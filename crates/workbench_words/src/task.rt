@@ -1,7 +1,7 @@
 // What the words of the workbench ask for.
 ghost use Rattle.std.specs.Prelude.{◌≡◌, false, true, map, IfOk, IfErr, IfSome, Ok, None};
-ghost use Rattle.blue_words.specs.Numbers.{count_of};
-ghost use Rattle.workbench_words.specs.Task.{Asks, Ends, work_of, are_numbers, allows, is_rest, is_task};
+ghost use Rattle.blue_words.specs.Numbers.{read_count};
+ghost use Rattle.workbench_words.specs.Task.{Asks, TaskEnds, task_named, are_numbers, allows, is_rest, is_task};
 
 use crate::texts::no_task;
 use blue_words::names::is_file_name;
@@ -59,8 +59,8 @@ impl From<AllocError> for TaskEnd {
 }
 
 /// The work of that name.
-fn work_of(word: &[u8]) -> Option<TaskKind>
-    ensures { result ≡ work_of word.now }
+fn task_named(word: &[u8]) -> Option<TaskKind>
+    ensures { result ≡ task_named word.now }
 {
     if is_word(word, b"check") {
         Some(TaskKind::Check)
@@ -79,7 +79,7 @@ fn work_of(word: &[u8]) -> Option<TaskKind>
 
 /// The numbers of words, where each is one.
 fn counts_of(alloc: Global, words: &[Line]) -> Result<Option<Vec<u64>>, AllocError>
-    ensures numbers { IfOk result (λ counts. IfSome counts (λ counts. map (λ n. Ok n) counts.items ≡ map (count_of 64) words.now)) }
+    ensures numbers { IfOk result (λ counts. IfSome counts (λ counts. map (λ n. Ok n) counts.items ≡ map (read_count 64) words.now)) }
     ensures all { IfOk result (λ counts. IfSome counts (λ _. are_numbers words.now ≡ true)) }
     ensures other { result ≡ Ok None → are_numbers words.now ≡ false }
 {
@@ -110,7 +110,7 @@ fn task_of(
     file: &Line,
     rest: &[Line],
 ) -> Result<Option<Task>, AllocError>
-    ensures task { IfOk result (λ task. IfSome task (λ t. (t.work ≡ work) × (t.file ≡ file.now) × (map (λ n. Ok n) t.counts.items ≡ map (count_of 64) rest.now))) }
+    ensures task { IfOk result (λ task. IfSome task (λ t. (t.work ≡ work) × (t.file ≡ file.now) × (map (λ n. Ok n) t.counts.items ≡ map (read_count 64) rest.now))) }
     ensures fits { IfOk result (λ task. IfSome task (λ _. is_rest work file.now rest.now ≡ true)) }
     ensures other { result ≡ Ok None → is_rest work file.now rest.now ≡ false }
 {
@@ -132,7 +132,7 @@ fn task_in(alloc: Global, words: &[Line]) -> Result<Option<Task>, AllocError>
     ensures other { result ≡ Ok None → is_task words.now ≡ false }
 {
     match words {
-        [name, file, rest @ ..] => match work_of(name.bytes()) {
+        [name, file, rest @ ..] => match task_named(name.bytes()) {
             Some(work) => task_of(alloc, work, file, rest),
             None => Ok(None),
         },
@@ -144,7 +144,7 @@ fn task_in(alloc: Global, words: &[Line]) -> Result<Option<Task>, AllocError>
 /// file and each N a number of 64 bits. For all other words the parser of commands says what is wrong, or helps.
 pub fn read_words(alloc: Global, words: &[Line]) -> Result<Task, TaskEnd>
     ensures task { IfOk result (Asks words.now) }
-    ensures end { IfErr result (Ends words.now) }
+    ensures end { IfErr result (TaskEnds words.now) }
 {
     match task_in(alloc, words)? {
         Some(task) => Ok(task),

@@ -6,7 +6,7 @@ use Rattle.blue_names.specs.Links.{wires_of_links}
 use Rattle.blue_types.specs.Net.{type_at}
 use Rattle.blue_types.specs.News.{AreReached, news_at}
 use Rattle.blue_types.specs.Would.{would}
-use Rattle.blue_types.proofs.RoundSteps.{Rests-next, attempt_at-same}
+use Rattle.blue_types.proofs.RoundSteps.{RestsOn-next, attempt_at-same}
 use Rattle.blue_types.proofs.news.types_round.Goals as goal
 
 pub returns-clause-rests : goal.returns-clause-rests
@@ -16,7 +16,7 @@ returns-clause-rests c =
     let t = type_at c.args.types.now in
     let u = type_at c.fix_all.new.types in
     let ws = wires_of_links n.links.now in
-    Rests-next n.nodes.now ws (would l n) t u c.in_ok-news.news.items c.args.front.now c.in_ok-next.next.items
+    RestsOn-next n.nodes.now ws (would l n) t u c.in_ok-news.news.items c.args.front.now c.in_ok-next.next.items
     (λ i same. ap fixes (attempt_at-same n.nodes.now ws u t i same l.plugs.now l.chains.now (slice_get n.nodes.now i)))
     c.in_ok-news.ensures.news c.requires.rests
     (subst (λ xs. (i : ℕ) → u i ≡ option_or (t i) (news_at xs i)) c.deref.ensures.value c.in_ok-next.ensures.types)

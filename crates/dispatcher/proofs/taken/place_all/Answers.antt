@@ -3,7 +3,7 @@ use Rattle.std.proofs.Common.{rules, ◌≡◌, ◌++◌, ◌∷◌, [], arith, 
 use Rattle.std.proofs.lemmas.List.Elements.{All-push, All-same}
 use Rattle.std.specs.Vec.Iter.{into_iter_items}
 use Rattle.unit_budget.specs.Public.{budget_id}
-use Rattle.dispatcher.specs.Places.{Belongs, start_of}
+use Rattle.dispatcher.specs.Places.{Belongs, body_start}
 use Rattle.dispatcher.proofs.Lists.{next_of, map_snoc, app_next, passed_all}
 use Rattle.dispatcher.proofs.taken.place_all.Goals as goal
 
@@ -34,7 +34,7 @@ loop-body-preserved g c =
       used = split.seat.3 ∙ inv.used;
       len = omega (arith, len, was, one);
       room = c.push_reserved.ensures.capacity ∙ inv.room;
-      starts = ap (map start_of) items ∙ map_snoc start_of c.loop-body.places.items place ∙ (λ i. inv.starts i ++ is.0 i ∷ []);
+      starts = ap (map body_start) items ∙ map_snoc body_start c.loop-body.places.items place ∙ (λ i. inv.starts i ++ is.0 i ∷ []);
       belong = All-same (Belongs (budget_id b) b.limit) _ _ items (All-push (Belongs (budget_id b) b.limit) _ _ inv.belong belongs);
     }
 

@@ -2,9 +2,9 @@
 use Rattle.std.proofs.Common.{◌≡◌, ◌≤◌, ◌<◌, ◌+◌, ◌++◌, false, map, length, vec_len, vec_capacity}
 use Rattle.std.specs.List.{sum_by}
 use Rattle.std.specs.Vec.Iter.{into_iter_items, into_iter_len}
-use Rattle.unit_budget.specs.Public.{budget_id, seat_id, used_by, parts_of, limit_of, IsIdle}
+use Rattle.unit_budget.specs.Public.{budget_id, seat_id, used_by, budget_parts, limit_of, HasNoClaim}
 use Rattle.rounds.specs.Bodies.{EachOf}
-use Rattle.dispatcher.specs.Places.{WentOn, WentOrBroke, start_of}
+use Rattle.dispatcher.specs.Places.{BodyWentOn, WentOrBroke, body_start}
 use Rattle.dispatcher.proofs.taken.take_apart.Given as goal
 
 abbrev pub invariant-loop-place : goal.invariant-loop-place
@@ -14,13 +14,13 @@ invariant-loop-place g l = record {
   long : into_iter_len l.place-iterator ≡ length (into_iter_items l.place-iterator);
   all : l.fn.places.items ≡ l.yielded ++ into_iter_items l.place-iterator;
   seat : seat_id l.first ≡ budget_id l.fn.purse;
-  idle : IsIdle l.first;
-  parts : 0 < parts_of l.first;
+  idle : HasNoClaim l.first;
+  parts : 0 < budget_parts l.first;
   limit : limit_of l.first ≡ l.fn.purse.limit;
   used : used_by l.first ≡ l.total;
   within : l.total ≤ l.fn.purse.limit;
   room : vec_len l.bodies + length (into_iter_items l.place-iterator) ≤ vec_capacity l.bodies;
-  each : EachOf (WentOrBroke g.B.Turning.keeps g.B.Turning.goes g.B.Turning.breaks) (map start_of l.yielded) l.bodies.items;
-  whole : l.lack ≡ false → EachOf (WentOn g.B.Turning.keeps g.B.Turning.goes) (map start_of l.yielded) l.bodies.items;
+  each : EachOf (WentOrBroke g.B.Turning.keeps g.B.Turning.goes g.B.Turning.breaks) (map body_start l.yielded) l.bodies.items;
+  whole : l.lack ≡ false → EachOf (BodyWentOn g.B.Turning.keeps g.B.Turning.goes) (map body_start l.yielded) l.bodies.items;
   spent : l.lack ≡ false → l.total ≡ sum_by g.B.Turning.spent l.bodies.items;
 }

@@ -1,6 +1,6 @@
 use Rattle.std.proofs.Common.{◌≤◌, ◌∙◌, ◌+◌, subst, arith}
 use Rattle.stream_io.specs.Putting.{Puts, PutsPart}
-use Rattle.generator.specs.Texts.{line_of, lines_text}
+use Rattle.generator.specs.Texts.{line_of, numbered_lines}
 use Rattle.generator.proofs.Ranges.{leaves_lines, stops_lines}
 use Rattle.generator.proofs.put.put_lines.Goals as goal
 
@@ -9,7 +9,7 @@ returns-in-Err-clause-failed g c =
     let state = g.D.Drain.state in
     let within : c.loop-done.done + c.min-count.result ≤ c.args.n = omega (arith, c.loop-done-test.true, c.min-count.ensures) in
     λ _. stops_lines (line_of c.args.n) c.args.n c.loop-done.done c.min-count.result
-    (state c.args.drain.now) (state c.loop-done.drain) (state c.put_all.new.drain) (lines_text c.args.n) within c.loop-done.invariant.leaves
+    (state c.args.drain.now) (state c.loop-done.drain) (state c.put_all.new.drain) (numbered_lines c.args.n) within c.loop-done.invariant.leaves
     (subst (PutsPart (state c.loop-done.drain) (state c.put_all.new.drain)) (c.deref.ensures.value ∙ c.in_ok-fill.ensures) c.in-Err.ensures.err)
 
 pub loop-done-preserved : goal.loop-done-preserved
@@ -19,6 +19,6 @@ loop-done-preserved g c =
     record {
       within = within;
       leaves = leaves_lines (line_of c.args.n) c.args.n c.loop-done.done c.min-count.result
-          (state c.args.drain.now) (state c.loop-done.drain) (state c.put_all.new.drain) (lines_text c.args.n) within c.loop-done.invariant.leaves
+          (state c.args.drain.now) (state c.loop-done.drain) (state c.put_all.new.drain) (numbered_lines c.args.n) within c.loop-done.invariant.leaves
           (subst (Puts (state c.loop-done.drain) (state c.put_all.new.drain)) (c.deref.ensures.value ∙ c.in_ok-fill.ensures) c.in_default.ensures.ok);
     }

@@ -1,7 +1,7 @@
 use Rattle.std.proofs.Common.{◌-◌, ◌+◌, ◌≤◌}
 use Rattle.std.specs.List.{flat_map, range_with_len}
-use Rattle.run_report.specs.Writing.{Leaves}
-use Rattle.generator.specs.Texts.{line_of, lines_text}
+use Rattle.run_report.specs.Writing.{LeavesRest}
+use Rattle.generator.specs.Texts.{line_of, numbered_lines}
 use Rattle.generator.proofs.put.put_lines.Given as goal
 
 abbrev pub invariant-loop-done : goal.invariant-loop-done
@@ -9,7 +9,7 @@ invariant-loop-done g l =
     let state = g.D.Drain.state in
     record {
       within : l.done ≤ l.n;
-      leaves : Leaves (state l.initial.drain) (state l.drain) (lines_text l.n) (flat_map (line_of l.n) (range_with_len (l.done + 1) (l.n - l.done)));
+      leaves : LeavesRest (state l.initial.drain) (state l.drain) (numbered_lines l.n) (flat_map (line_of l.n) (range_with_len (l.done + 1) (l.n - l.done)));
     }
 
 abbrev pub decreases-loop-done : goal.decreases-loop-done

@@ -4,15 +4,15 @@ use Rattle.std.proofs.lemmas.List.{length-map}
 use Rattle.fused_net.specs.Laws.{AllKept}
 use Rattle.fused_net.proofs.Keeping.{kept_same}
 use Rattle.nodes.specs.Nodes.{KeepsNode}
-use Rattle.interpreter.specs.Parts.{place_of}
+use Rattle.interpreter.specs.Parts.{seat_place}
 use Rattle.interpreter.proofs.Handing.{hands_back}
 use Rattle.interpreter.proofs.island.hand_back.Goals as goal
 
 pub leave-requires-clause-places : goal.leave-requires-clause-places
 leave-requires-clause-places g c =
-    let places : length (map place_of c.args.parts.nodes.items) ≡ length c.args.parts.nodes.items = length-map c.args.parts.nodes.items place_of in
-    let nodes : length c.assemble-engine.result.nodes ≡ length (map place_of c.args.parts.nodes.items) = c.assemble-engine.ensures.count ∙ c.args.parts.nodes.ok.0 ∙ sym places in
-    ap length c.deref-2.ensures.value ∙ ap length c.requires.room.places_are ∙ length-map (map place_of c.args.parts.nodes.items) _ ∙ sym nodes
+    let places : length (map seat_place c.args.parts.nodes.items) ≡ length c.args.parts.nodes.items = length-map c.args.parts.nodes.items seat_place in
+    let nodes : length c.assemble-engine.result.nodes ≡ length (map seat_place c.args.parts.nodes.items) = c.assemble-engine.ensures.count ∙ c.args.parts.nodes.ok.0 ∙ sym places in
+    ap length c.deref-2.ensures.value ∙ ap length c.requires.room.places_are ∙ length-map (map seat_place c.args.parts.nodes.items) _ ∙ sym nodes
 
 pub returns : goal.returns
 returns g c =

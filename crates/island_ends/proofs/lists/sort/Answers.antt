@@ -1,6 +1,6 @@
 use Rattle.std.proofs.Common.{◌≡◌, ◌+◌, length, ap, subst, arith}
 use Rattle.std.specs.Vec.Iter.{into_iter_items}
-use Rattle.island_ends.specs.Room.{HasMore}
+use Rattle.island_ends.specs.Room.{HasRoomForMore}
 use Rattle.island_ends.proofs.Listing.{SortedSoFar, sorted_next}
 use Rattle.island_ends.proofs.lists.sort.Goals as goal
 
@@ -17,5 +17,5 @@ loop-end-preserved g c =
       is_finite = tt;
       count = omega (arith, less, was, one);
       sorted = sorted_next _ _ _ c.in-Some.end _ (subst (SortedSoFar c.args.ends.items c.loop-end.lists) h.0 i.sorted) c.put.ensures;
-      room = c.put.ensures.room (length (into_iter_items c.next.new.self)) (subst (λ m. HasMore m c.loop-end.lists) one i.room);
+      room = c.put.ensures.room (length (into_iter_items c.next.new.self)) (subst (λ m. HasRoomForMore m c.loop-end.lists) one i.room);
     }

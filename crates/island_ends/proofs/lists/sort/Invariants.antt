@@ -1,7 +1,7 @@
 -- The loop of `lists::sort`.
 use Rattle.std.proofs.Common.{◌≡◌, length}
 use Rattle.std.specs.Vec.Iter.{into_iter_items, into_iter_len}
-use Rattle.island_ends.specs.Room.{HasMore}
+use Rattle.island_ends.specs.Room.{HasRoomForMore}
 use Rattle.island_ends.proofs.Listing.{SortedSoFar}
 use Rattle.island_ends.proofs.lists.sort.Given as goal
 
@@ -11,5 +11,5 @@ invariant-loop-end g l = record {
   is_finite : (goal.iterator-loop-end g).is_finite l.end-iterator;
   count : into_iter_len l.end-iterator ≡ length (into_iter_items l.end-iterator);
   sorted : SortedSoFar l.fn.ends.items l.lists (into_iter_items l.end-iterator);
-  room : HasMore (length (into_iter_items l.end-iterator)) l.lists;
+  room : HasRoomForMore (length (into_iter_items l.end-iterator)) l.lists;
 }

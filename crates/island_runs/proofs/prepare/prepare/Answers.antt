@@ -5,7 +5,7 @@ use Rattle.std.proofs.lemmas.List.{length-map}
 use Rattle.blue_check.specs.Wires.{blueprint_wires}
 use Rattle.lane_ends.specs.Ends.{CanAllBeMade, AreRising, AreAllEnds}
 use Rattle.island_plans.specs.Ends.{wire_home}
-use Rattle.island_bodies.specs.Making.{IsRoomFor}
+use Rattle.island_bodies.specs.Making.{IsRoomForBodies}
 use Rattle.island_runs.proofs.prepare.prepare.Goals as goal
 
 pub ends_of-requires-clause-can : goal.ends_of-requires-clause-can
@@ -35,7 +35,7 @@ returns-clause-prepared g c =
       room_to_start = omega (arith, c.in_ok-with_capacity.ensures.capacity);
       none_unmade = c.in_ok-with_capacity-2.ensures.items;
       room_to_unmake = omega (arith, c.in_ok-with_capacity-2.ensures.capacity);
-      bodies_room = subst (λ homes. IsRoomFor homes p.lanes.items p.count c.in_ok-bodies.bodies) c.deref-2.ensures.value (subst (λ lanes. IsRoomFor c.deref-2.result.now lanes p.count c.in_ok-bodies.bodies) c.deref-3.ensures.value c.in_ok-bodies.ensures);
+      bodies_room = subst (λ homes. IsRoomForBodies homes p.lanes.items p.count c.in_ok-bodies.bodies) c.deref-2.ensures.value (subst (λ lanes. IsRoomForBodies c.deref-2.result.now lanes p.count c.in_ok-bodies.bodies) c.deref-3.ensures.value c.in_ok-bodies.ensures);
       ends_room = c.in_ok-room.ensures;
       none_asked = c.in_ok-asked.ensures.items;
       room_to_ask = omega (arith, c.in_ok-asked.ensures.capacity, c.len.ensures, p.lanes.ok.0);

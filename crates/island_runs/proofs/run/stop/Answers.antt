@@ -5,13 +5,13 @@ use Rattle.std.specs.Vec.{with_items}
 use Rattle.blue_check.specs.Wires.{blueprint_wires}
 use Rattle.blue_core.specs.declared.blueprint.Node as blue
 use Rattle.stream_model.specs.declared.outcome.WireCount.{WireCount}
-use Rattle.run_account.specs.Pictures.{counts_of}
+use Rattle.run_account.specs.Pictures.{picture_counts}
 use Rattle.materializer.specs.Graphs.{graph_of}
 use Rattle.traversal.specs.Plan.{lanes_from}
 use Rattle.lane_ends.specs.Ends.{AreRising}
 use Rattle.nodes.specs.Nodes.{node_seat}
 use Rattle.island_bodies.specs.Asked.{LieThere, AreAsked, AreNoted, AreWithin}
-use Rattle.bodies_run.specs.Counts.{asked_by, told_from}
+use Rattle.bodies_run.specs.Counts.{lane_demand, told_from}
 use Rattle.bodies_run.specs.Leaving.{account_in}
 use Rattle.bodies_leave.specs.Whole.{whole_of}
 use Rattle.island_runs.proofs.Preparing.{told_many}
@@ -35,7 +35,7 @@ join_ends-end-requires-clause-ends g c =
     let m = r.began in
     let now = c.args.bodies.items in
     let crossings = c.args.crossings.now in
-    let all = asked_by c.args.remains.lanes.items c.asked_of-all.result.items in
+    let all = lane_demand c.args.remains.lanes.items c.asked_of-all.result.items in
     let back = c.bodies_leave_a_run.ensures.back b m.homes m.count m.nodes crossings begun now m.bodies_are r.went r.keep in
     let law = c.bodies_leave_what_their_nodes_do.ensures in (
       whole_of m.homes (blueprint_wires b) m.nodes (account_in m.homes (blueprint_wires b) now all).near back.0 back.1.0,
@@ -51,7 +51,7 @@ counts_of-wires-requires-clause-room g c =
     let m = r.began in
     let now = c.args.bodies.items in
     let crossings = c.args.crossings.now in
-    let all = asked_by c.args.remains.lanes.items c.asked_of-all.result.items in
+    let all = lane_demand c.args.remains.lanes.items c.asked_of-all.result.items in
     let near = (account_in m.homes (blueprint_wires b) now all).near in
     let back = c.bodies_leave_a_run.ensures.back b m.homes m.count m.nodes crossings begun now m.bodies_are r.went r.keep in
     let law = c.bodies_leave_what_their_nodes_do.ensures in
@@ -69,7 +69,7 @@ note_asked-requires-clause-within g c =
     let m = r.began in
     let now = c.args.bodies.items in
     let crossings = c.args.crossings.now in
-    let all = asked_by c.args.remains.lanes.items c.asked_of-all.result.items in
+    let all = lane_demand c.args.remains.lanes.items c.asked_of-all.result.items in
     let near = (account_in m.homes (blueprint_wires b) now all).near in
     let back = c.bodies_leave_a_run.ensures.back b m.homes m.count m.nodes crossings begun now m.bodies_are r.went r.keep in
     let law = c.bodies_leave_what_their_nodes_do.ensures in
@@ -91,7 +91,7 @@ returns-clause-leaves g c = λ b ss ds begun budget r.
     let crossings = c.args.crossings.now in
     let lanes = c.args.remains.lanes.items in
     let asks = c.asked_of-all.result.items in
-    let all = asked_by lanes asks in
+    let all = lane_demand lanes asks in
     let account = account_in m.homes ws now all in
     let run = c.bodies_leave_a_run.ensures in
     let back = run.back b m.homes m.count m.nodes crossings begun now m.bodies_are r.went r.keep in
@@ -108,9 +108,9 @@ returns-clause-leaves g c = λ b ss ds begun budget r.
     let noted-1 = subst (λ (xs : List ℕ). AreNoted xs c.deref-4.result.now c.deref_mut.result.now c.note_asked.new.counts) c.deref-3.ensures.value c.note_asked.ensures in
     let noted-2 = subst (λ ls. AreNoted asks ls c.deref_mut.result.now c.note_asked.new.counts) c.deref-4.ensures.value noted-1 in
     let noted-3 = subst (λ cs. AreNoted asks lanes cs c.note_asked.new.counts) (c.deref_mut.ensures.value ∙ wires) noted-2 in
-    let noted = subst (λ ls. AreNoted asks ls (map (λ (wire : ℕ × WireCount). wire.1) (told_from (account_in m.homes ws now (asked_by ls asks)).near 0 ws)) c.note_asked.new.counts) m.lanes_are noted-3 in
+    let noted = subst (λ ls. AreNoted asks ls (map (λ (wire : ℕ × WireCount). wire.1) (told_from (account_in m.homes ws now (lane_demand ls asks)).near 0 ws)) c.note_asked.new.counts) m.lanes_are noted-3 in
     let many : length asks ≡ length (lanes_from m.homes 0 ws) = asked.many ∙ m.many ∙ ap length m.lanes_are in
-    let counts = subst (λ ls. c.note_asked.new.counts ≡ counts_of (account_in m.homes ws now (asked_by ls asks)) (graph_of b)) (sym m.lanes_are) (c.noted_counts_are_the_picture.ensures b m.homes now asks c.note_asked.new.counts many noted) in
+    let counts = subst (λ ls. c.note_asked.new.counts ≡ picture_counts (account_in m.homes ws now (lane_demand ls asks)) (graph_of b)) (sym m.lanes_are) (c.noted_counts_are_the_picture.ensures b m.homes now asks c.note_asked.new.counts many noted) in
     let size = sym c.counts_of-wires.result.ok.0 in
     let whole_list = came_back c.counts_of-wires.result.len c.note_asked.new.counts c.counts_of-wires.result.items (c.note_asked.ensures.many ∙ ap length c.deref_mut.ensures.value ∙ size) size in
     let is_run = run.run b m.homes m.count m.nodes crossings begun now all m.plugs m.taken ss ds m.fit m.seats m.unread m.bodies_are r.went r.keep are r.joined in
@@ -134,7 +134,7 @@ settle-requires g c =
     let crossings = c.args.crossings.now in
     let lanes = c.args.remains.lanes.items in
     let asks = c.asked_of-all.result.items in
-    let all = asked_by lanes asks in
+    let all = lane_demand lanes asks in
     let account = account_in m.homes ws now all in
     let run = c.bodies_leave_a_run.ensures in
     let back = run.back b m.homes m.count m.nodes crossings begun now m.bodies_are r.went r.keep in

@@ -1,7 +1,7 @@
 -- The goals of `start::finish_all` that the search leaves.
 use Rattle.std.proofs.Common.{◌≡◌, ◌∙◌, length, ap, sym, refl, arith, rules}
 use Rattle.std.specs.Vec.Iter.{into_iter_items, into_iter_len}
-use Rattle.island_starts.specs.Starts.{Leaves}
+use Rattle.island_starts.specs.Starts.{IslandLeaves}
 use Rattle.island_starts.proofs.Starting.{fewer, none_left, going_first, going_next, going_last}
 use Rattle.island_starts.proofs.start.finish_all.Goals as goal
 
@@ -16,7 +16,7 @@ loop-island-init g c =
       left,
       omega (arith, left, size, c.args.islands.ok.0),
       refl,
-      going_first Leaves c.args.islands.items c.args.ends.now.items _ _ all refl,
+      going_first IslandLeaves c.args.islands.items c.args.ends.now.items _ _ all refl,
     )
 
 pub loop-island-preserved : goal.loop-island-preserved
@@ -28,10 +28,10 @@ loop-island-preserved g c =
       fewer _ _ _ _ _ next.0 (sym next.1) kept.2,
       omega (arith, kept.3, next.1, c.push_reserved.ensures.len),
       c.push_reserved.ensures.capacity ∙ kept.4,
-      going_next Leaves c.args.islands.items c.args.ends.now.items _ _ _ _ _ _ kept.5 next.0 c.push_reserved.ensures.items c.finish.ensures,
+      going_next IslandLeaves c.args.islands.items c.args.ends.now.items _ _ _ _ _ _ kept.5 next.0 c.push_reserved.ensures.items c.finish.ensures,
     )
 
 pub returns-clause-adds : goal.returns-clause-adds
 returns-clause-adds g c =
     let kept = c.loop-island.invariant in
-    going_last Leaves c.args.islands.items c.args.ends.now.items _ _ kept.5 (none_left _ _ c.in-None.ensures.steps.0 kept.2)
+    going_last IslandLeaves c.args.islands.items c.args.ends.now.items _ _ kept.5 (none_left _ _ c.in-None.ensures.steps.0 kept.2)

@@ -1,7 +1,7 @@
 -- The loop of `start::finish_all`.
 use Rattle.std.proofs.Common.{◌≡◌, ◌+◌, length, vec_len, vec_capacity}
 use Rattle.std.specs.Vec.Iter.{into_iter_items, into_iter_len}
-use Rattle.island_starts.specs.Starts.{Leaves}
+use Rattle.island_starts.specs.Starts.{IslandLeaves}
 use Rattle.island_starts.proofs.Starting.{Going}
 use Rattle.island_starts.proofs.start.finish_all.Given as goal
 
@@ -13,4 +13,4 @@ invariant-loop-island g l =
     × (into_iter_len l.island-iterator ≡ length (into_iter_items l.island-iterator))
     × (vec_len l.ends + into_iter_len l.island-iterator ≡ vec_len l.initial.ends + vec_len l.fn.islands)
     × (vec_capacity l.ends ≡ vec_capacity l.initial.ends)
-    × Going Leaves l.fn.islands.items l.initial.ends.items (into_iter_items l.island-iterator) l.ends.items
+    × Going IslandLeaves l.fn.islands.items l.initial.ends.items (into_iter_items l.island-iterator) l.ends.items

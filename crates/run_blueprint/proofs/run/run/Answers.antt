@@ -5,7 +5,7 @@ use Rattle.dispatcher.specs.declared.ran.Ran.{Ran}
 use Rattle.run_files.specs.Opening.{OpensAll, GivesUp, MissesInput, RefusesOutput}
 use Rattle.run_files.proofs.Stoppings.{gives_up_first}
 use Rattle.materializer.specs.Files.{inputs_of_nodes, outputs_of_nodes}
-use Rattle.island_runs.specs.Leaving.{Leaves, LeavesBrokenAs}
+use Rattle.island_runs.specs.Leaving.{RunLeaves, LeavesBrokenAs}
 use Rattle.island_runs.specs.Receipt.{IsReceipt}
 use Rattle.run_blueprint.specs.Tracing.{written_files}
 use Rattle.run_blueprint.proofs.Breaking.{unmade, closes_unmade, none_open}
@@ -72,7 +72,7 @@ returns-in-Ok-run-clause-ran g c =
     let ds = c.take_last-drain.new.drains.items in
     let drain = c.take_last-drain.result in
     let both = opened_apart g.F.Out.Drain.state old mid c.args.b c.args.trace (map g.F.Inp.Source.state ss) all ds drain _ _ _ c.in-Ok.ensures.inputs c.in-Ok.ensures.outputs c.in-Ok-open_all.ensures.opened c.take_last-drain.ensures.all c.take_last-drain.ensures.wanted c.is_some-wanted.ensures in
-    let leaves = subst (λ p. Leaves g.row.L.Denot g.row.B.Denot g.F.Inp.Source.state g.F.Out.Drain.state g.B.PlugBook.lists p ss ds c.args.budget c.in-Ok-run.stopped) c.in-Ok-prepare.ensures.blueprint c.in-Ok-run.ensures.leaves in
+    let leaves = subst (λ p. RunLeaves g.row.L.Denot g.row.B.Denot g.F.Inp.Source.state g.F.Out.Drain.state g.B.PlugBook.lists p ss ds c.args.budget c.in-Ok-run.stopped) c.in-Ok-prepare.ensures.blueprint c.in-Ok-run.ensures.leaves in
     c.close.ensures.runs old c.args.b c.args.trace c.args.budget ss ds c.requires.runs c.requires.apart (c.deref.ensures.value ∙ c.in-Ok.ensures.choosers) both.0 both.1 leaves
 
 pub returns-in-Ok-run-clause-handles : goal.returns-in-Ok-run-clause-handles
@@ -84,7 +84,7 @@ returns-in-Ok-run-clause-handles g c =
     let ds = c.take_last-drain.new.drains.items in
     let drain = c.take_last-drain.result in
     let both = opened_apart g.F.Out.Drain.state old mid c.args.b c.args.trace (map g.F.Inp.Source.state ss) all ds drain _ _ _ c.in-Ok.ensures.inputs c.in-Ok.ensures.outputs c.in-Ok-open_all.ensures.opened c.take_last-drain.ensures.all c.take_last-drain.ensures.wanted c.is_some-wanted.ensures in
-    let leaves = subst (λ p. Leaves g.row.L.Denot g.row.B.Denot g.F.Inp.Source.state g.F.Out.Drain.state g.B.PlugBook.lists p ss ds c.args.budget c.in-Ok-run.stopped) c.in-Ok-prepare.ensures.blueprint c.in-Ok-run.ensures.leaves in
+    let leaves = subst (λ p. RunLeaves g.row.L.Denot g.row.B.Denot g.F.Inp.Source.state g.F.Out.Drain.state g.B.PlugBook.lists p ss ds c.args.budget c.in-Ok-run.stopped) c.in-Ok-prepare.ensures.blueprint c.in-Ok-run.ensures.leaves in
     none_open ss all ds drain _ _ _ _ c.in-Ok-open_all.ensures.handles c.take_last-drain.ensures.all (c.close.ensures.all old c.args.b c.args.trace c.args.budget ss ds c.requires.runs c.requires.apart both.0 both.1 leaves) c.close.ensures.handles
 
 pub returns-in-Err-Unmade-clause-no_memory : goal.returns-in-Err-Unmade-clause-no_memory

@@ -1,5 +1,5 @@
 use Rattle.std.proofs.Common.{refl, sym, ◌∙◌, subst}
-use Rattle.chain_core.specs.Slots.{MayCall, Holds}
+use Rattle.chain_core.specs.Slots.{MayCall, SlotHolds}
 use Rattle.stage_sub.proofs.Groups.{may_at, got, is_there}
 use Rattle.stage_sub.proofs.group.feed_at.Goals as goal
 
@@ -10,4 +10,4 @@ feed_slot-requires-after_bounds g c =
 
 pub returns-clause-fed : goal.returns-clause-fed
 returns-clause-fed g c =
-    (c.feed_slot.new.slot, (refl, λ f took d e h. c.in_ok-why.ensures.fed f took (subst (λ k. Holds g.C.Chain.rest g.C.Chain.is_open f k took) (sym (c.index_mut.ensures.value ∙ got c.args.slots.now.items c.args.i c.index_mut.result.now d e)) h)))
+    (c.feed_slot.new.slot, (refl, λ f took d e h. c.in_ok-why.ensures.fed f took (subst (λ k. SlotHolds g.C.Chain.rest g.C.Chain.is_open f k took) (sym (c.index_mut.ensures.value ∙ got c.args.slots.now.items c.args.i c.index_mut.result.now d e)) h)))

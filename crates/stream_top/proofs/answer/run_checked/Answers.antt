@@ -1,6 +1,6 @@
 -- The goals of `answer::run_checked` that the search leaves.
 use Rattle.std.proofs.Common.{sym, subst}
-use Rattle.blue_check.specs.Checked.{blueprint_of}
+use Rattle.blue_check.specs.Checked.{checked_blueprint}
 use Rattle.materializer.specs.Fit.{CanRun}
 use Rattle.materializer.proofs.Fitting.{can_run}
 use Rattle.plug_board.specs.Handed.{HasPlugs}
@@ -12,11 +12,11 @@ use Rattle.stream_top.proofs.Plugs.{has_plugs}
 use Rattle.stream_top.proofs.answer.run_checked.Goals as goal
 
 pub run_fit-requires-clause-runs : goal.run_fit-requires-clause-runs
-run_fit-requires-clause-runs g c = λ κs lives. subst CanRun (sym c.into_blueprint.ensures) (can_run (blueprint_of c.args.checked) _ c.requires.fit.0 c.requires.fit.1)
+run_fit-requires-clause-runs g c = λ κs lives. subst CanRun (sym c.into_blueprint.ensures) (can_run (checked_blueprint c.args.checked) _ c.requires.fit.0 c.requires.fit.1)
 
 pub run_fit-requires-clause-has : goal.run_fit-requires-clause-has
 run_fit-requires-clause-has g c =
-    λ κs lives. subst (λ b. HasPlugs (plugged_by g.B.PlugBook.lists c.args.plugs.items).heads b.nodes.items) (sym c.into_blueprint.ensures) (has_plugs (blueprint_of c.args.checked) _ c.requires.fit.0 c.requires.fit.1)
+    λ κs lives. subst (λ b. HasPlugs (plugged_by g.B.PlugBook.lists c.args.plugs.items).heads b.nodes.items) (sym c.into_blueprint.ensures) (has_plugs (checked_blueprint c.args.checked) _ c.requires.fit.0 c.requires.fit.1)
 
 pub returns-clause-told : goal.returns-clause-told
 returns-clause-told g c =

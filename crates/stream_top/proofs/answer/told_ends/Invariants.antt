@@ -1,7 +1,7 @@
 -- The loop of `answer::told_ends`.
 use Rattle.std.proofs.Common.{◌≡◌, ◌+◌, ◌≤◌, ◌++◌, drop, length, vec_len, vec_capacity}
 use Rattle.std.specs.Vec.Iter.{into_iter_items, into_iter_len}
-use Rattle.stream_top.specs.AfterRun.{ends_of}
+use Rattle.stream_top.specs.AfterRun.{sink_ends}
 use Rattle.stream_top.proofs.answer.told_ends.Given as goal
 
 -- the ends that were told, and those of the names that are left, are all; there is room for the rest
@@ -12,4 +12,4 @@ invariant-loop-name l =
     × (into_iter_len l.name-iterator ≡ length (into_iter_items l.name-iterator))
     × (vec_len l.ends + into_iter_len l.name-iterator ≤ vec_capacity l.ends)
     × (vec_len l.ends + into_iter_len l.name-iterator ≡ length l.fn.stands)
-    × (ends_of l.fn.names.items l.fn.stands ≡ l.ends.items ++ ends_of (into_iter_items l.name-iterator) (drop (vec_len l.ends) l.fn.stands))
+    × (sink_ends l.fn.names.items l.fn.stands ≡ l.ends.items ++ sink_ends (into_iter_items l.name-iterator) (drop (vec_len l.ends) l.fn.stands))

@@ -1,6 +1,6 @@
 -- The goals of `engine::Engine::deliver` that the search leaves.
 use Rattle.std.proofs.Common.{inl, inr, true, false, refl, sym, subst}
-use Rattle.port_core.specs.Wire.{nothing, cancel, arrived, end_of}
+use Rattle.port_core.specs.Wire.{nothing, cancel, arrived, end_item}
 use Rattle.port_core.specs.declared.conn.Event.{Event}
 use Rattle.wire_core.specs.Cell.{Tells}
 use Rattle.fused_net.specs.Net.{wire_at}
@@ -33,6 +33,6 @@ returns-in-Finish-clause-some g c = elim c.in-Finish.is [
 
 pub returns-in-Finish-clause-after : goal.returns-in-Finish-clause-after
 returns-in-Finish-clause-after g c = elim c.in-Finish.is [
-  | inl e ↦ told_brought c.args.since.value c.args.self.now c.args.w (arrived (end_of (wire_at c.args.self.now c.args.w).wire.conn.cause) false) (subst (λ (e : Event). Tells e (wire_at c.args.since.value c.args.w) (wire_at c.args.self.now c.args.w)) e c.requires.tells) c.requires.after refl
-  | inr e ↦ told_brought c.args.since.value c.args.self.now c.args.w (arrived (end_of (wire_at c.args.self.now c.args.w).wire.conn.cause) false) (subst (λ (e : Event). Tells e (wire_at c.args.since.value c.args.w) (wire_at c.args.self.now c.args.w)) e c.requires.tells) c.requires.after refl
+  | inl e ↦ told_brought c.args.since.value c.args.self.now c.args.w (arrived (end_item (wire_at c.args.self.now c.args.w).wire.conn.cause) false) (subst (λ (e : Event). Tells e (wire_at c.args.since.value c.args.w) (wire_at c.args.self.now c.args.w)) e c.requires.tells) c.requires.after refl
+  | inr e ↦ told_brought c.args.since.value c.args.self.now c.args.w (arrived (end_item (wire_at c.args.self.now c.args.w).wire.conn.cause) false) (subst (λ (e : Event). Tells e (wire_at c.args.since.value c.args.w) (wire_at c.args.self.now c.args.w)) e c.requires.tells) c.requires.after refl
 ]

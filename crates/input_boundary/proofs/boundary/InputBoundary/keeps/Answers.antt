@@ -1,6 +1,6 @@
 use Rattle.std.proofs.Common.{◌≤◌, ◌<◌, ◌+◌, ◌/◌, max, sym, subst}
 use Rattle.elem_core.specs.Items.{elements}
-use Rattle.lane_core.specs.Ends.{asked, asks, in_size}
+use Rattle.lane_core.specs.Ends.{asked_in_all, ask_calls, in_size}
 use Rattle.input_boundary.specs.Flow.{AsksByHalves}
 use Rattle.input_boundary.proofs.Keeps.{carried, given_count, most, more, least, few_calls}
 use Rattle.input_boundary.proofs.boundary.InputBoundary.keeps.Goals as goal
@@ -22,9 +22,9 @@ returns c =
       closed = k.closed;
       cancelled = b.flow.cancelled_is;
       since = b.passed;
-      by_halves = subst (λ m. AsksByHalves (in_size b.lane) (max 1 (in_size b.lane / 2)) (asked b.lane) (asks b.lane) m b.passed) (sym n) (subst (λ h. AsksByHalves (in_size b.lane) h (asked b.lane) (asks b.lane) (elements b.gave.items) b.passed) b.halves b.asking);
-      asked_for = subst (λ m. asked b.lane ≤ m + in_size b.lane) (sym n) (most _ _ _ _ _ _ b.asking);
-      more = subst (λ m. m < asked b.lane) (sym n) (more _ _ _ _ _ _ b.asking b.halves b.lane.sized.0);
+      by_halves = subst (λ m. AsksByHalves (in_size b.lane) (max 1 (in_size b.lane / 2)) (asked_in_all b.lane) (ask_calls b.lane) m b.passed) (sym n) (subst (λ h. AsksByHalves (in_size b.lane) h (asked_in_all b.lane) (ask_calls b.lane) (elements b.gave.items) b.passed) b.halves b.asking);
+      asked_for = subst (λ m. asked_in_all b.lane ≤ m + in_size b.lane) (sym n) (most _ _ _ _ _ _ b.asking);
+      more = subst (λ m. m < asked_in_all b.lane) (sym n) (more _ _ _ _ _ _ b.asking b.halves b.lane.sized.0);
       least = least _ _ _ _ _ _ b.asking;
-      calls = subst (λ m. asks b.lane ≤ m + 1) (sym n) (few_calls _ _ _ _ _ _ b.asking);
+      calls = subst (λ m. ask_calls b.lane ≤ m + 1) (sym n) (few_calls _ _ _ _ _ _ b.asking);
     }

@@ -1,8 +1,8 @@
 -- The goals of `island::Island::start` that the search leaves.
 use Rattle.std.proofs.Common.{◌≡◌, ◌∙◌, ap, length, map, sym, arith}
 use Rattle.std.proofs.lemmas.List.{length-map}
-use Rattle.interpreter.specs.Parts.{number_of, place_of}
-use Rattle.interpreter.specs.Ways.{Leads}
+use Rattle.interpreter.specs.Parts.{wire_number, seat_place}
+use Rattle.interpreter.specs.Ways.{MarksLaneEnds}
 use Rattle.interpreter.proofs.Islands.{keeps_new, room_as, numbers_same}
 use Rattle.interpreter.proofs.Handing.{hands_back, holds_handles}
 use Rattle.interpreter.proofs.Bounding.{enters_new, leaves_new, begins_in_new, begins_out_new}
@@ -10,10 +10,10 @@ use Rattle.interpreter.proofs.island.Island.start.Goals as goal
 
 pub invariant_of-result : goal.invariant_of-result
 invariant_of-result g c =
-    let places : length (map place_of c.args.parts.nodes.items) ≡ length c.args.parts.nodes.items = length-map c.args.parts.nodes.items place_of in
-    let nodes : length c.start.new.self.nodes ≡ length (map place_of c.args.parts.nodes.items) = c.start.ensures.count ∙ c.assemble-engine.ensures.count ∙ c.args.parts.nodes.ok.0 ∙ sym places in (
-      room_as _ _ _ _ _ c.requires.room.end nodes (ap length c.requires.room.numbers ∙ length-map c.args.parts.links.items number_of),
-      ap length c.requires.room.places_are ∙ length-map (map place_of c.args.parts.nodes.items) _ ∙ sym nodes,
+    let places : length (map seat_place c.args.parts.nodes.items) ≡ length c.args.parts.nodes.items = length-map c.args.parts.nodes.items seat_place in
+    let nodes : length c.start.new.self.nodes ≡ length (map seat_place c.args.parts.nodes.items) = c.start.ensures.count ∙ c.assemble-engine.ensures.count ∙ c.args.parts.nodes.ok.0 ∙ sym places in (
+      room_as _ _ _ _ _ c.requires.room.end nodes (ap length c.requires.room.numbers ∙ length-map c.args.parts.links.items wire_number),
+      ap length c.requires.room.places_are ∙ length-map (map seat_place c.args.parts.nodes.items) _ ∙ sym nodes,
       λ _. (
         keeps_new _ _ _ c.assemble-engine.result c.start.new.self c.in-Ok.ensures.laws c.in-Ok.ensures.asks c.assemble-engine.ensures.asks,
         ap (λ a. a.items) c.in-Ok.ensures.acts ∙ c.requires.room.no_acts,
@@ -32,7 +32,7 @@ returns-in-Ok-clause-enters g c =
     let places = c.args.parts.nodes.items in
     let links = c.args.parts.links.items in
     let keeps = keeps_new _ _ _ c.assemble-engine.result c.start.new.self c.in-Ok.ensures.laws c.in-Ok.ensures.asks c.assemble-engine.ensures.asks in
-    let leads : Leads places links (length links) c.mark_all.new.self.ins.items c.mark_all.new.self.outs.items = rw (c.deref.ensures.value, c.deref-2.ensures.value) at c.mark_all.ensures in
+    let leads : MarksLaneEnds places links (length links) c.mark_all.new.self.ins.items c.mark_all.new.self.outs.items = rw (c.deref.ensures.value, c.deref-2.ensures.value) at c.mark_all.ensures in
     enters_new g.S.Source.state g.D.Drain.state _ _ places links keeps (rw c.in-Ok.ensures.on.firsts c.assemble-engine.ensures.firsts) (c.in-Ok.ensures.on.ends ∙ c.assemble-engine.ensures.ends) leads
 
 pub returns-in-Ok-clause-leaves : goal.returns-in-Ok-clause-leaves
@@ -40,20 +40,20 @@ returns-in-Ok-clause-leaves g c =
     let places = c.args.parts.nodes.items in
     let links = c.args.parts.links.items in
     let keeps = keeps_new _ _ _ c.assemble-engine.result c.start.new.self c.in-Ok.ensures.laws c.in-Ok.ensures.asks c.assemble-engine.ensures.asks in
-    let leads : Leads places links (length links) c.mark_all.new.self.ins.items c.mark_all.new.self.outs.items = rw (c.deref.ensures.value, c.deref-2.ensures.value) at c.mark_all.ensures in
+    let leads : MarksLaneEnds places links (length links) c.mark_all.new.self.ins.items c.mark_all.new.self.outs.items = rw (c.deref.ensures.value, c.deref-2.ensures.value) at c.mark_all.ensures in
     leaves_new g.S.Source.state g.D.Drain.state _ _ places links keeps (rw c.in-Ok.ensures.on.firsts c.assemble-engine.ensures.firsts) (c.in-Ok.ensures.on.ends ∙ c.assemble-engine.ensures.ends) leads
 
 pub leave-requires-clause-room : goal.leave-requires-clause-room
 leave-requires-clause-room g c =
-    let places : length (map place_of c.args.parts.nodes.items) ≡ length c.args.parts.nodes.items = length-map c.args.parts.nodes.items place_of in
-    let nodes : length c.start.new.self.nodes ≡ length (map place_of c.args.parts.nodes.items) = c.start.ensures.count ∙ c.assemble-engine.ensures.count ∙ c.args.parts.nodes.ok.0 ∙ sym places in
-    room_as _ _ _ _ _ c.requires.room.end nodes (ap length c.deref-in-Err.ensures.value ∙ ap length c.requires.room.numbers ∙ length-map c.args.parts.links.items number_of)
+    let places : length (map seat_place c.args.parts.nodes.items) ≡ length c.args.parts.nodes.items = length-map c.args.parts.nodes.items seat_place in
+    let nodes : length c.start.new.self.nodes ≡ length (map seat_place c.args.parts.nodes.items) = c.start.ensures.count ∙ c.assemble-engine.ensures.count ∙ c.args.parts.nodes.ok.0 ∙ sym places in
+    room_as _ _ _ _ _ c.requires.room.end nodes (ap length c.deref-in-Err.ensures.value ∙ ap length c.requires.room.numbers ∙ length-map c.args.parts.links.items wire_number)
 
 pub leave-requires-clause-places : goal.leave-requires-clause-places
 leave-requires-clause-places g c =
-    let places : length (map place_of c.args.parts.nodes.items) ≡ length c.args.parts.nodes.items = length-map c.args.parts.nodes.items place_of in
-    let nodes : length c.start.new.self.nodes ≡ length (map place_of c.args.parts.nodes.items) = c.start.ensures.count ∙ c.assemble-engine.ensures.count ∙ c.args.parts.nodes.ok.0 ∙ sym places in
-    ap length c.deref-in-Err-2.ensures.value ∙ ap length c.requires.room.places_are ∙ length-map (map place_of c.args.parts.nodes.items) _ ∙ sym nodes
+    let places : length (map seat_place c.args.parts.nodes.items) ≡ length c.args.parts.nodes.items = length-map c.args.parts.nodes.items seat_place in
+    let nodes : length c.start.new.self.nodes ≡ length (map seat_place c.args.parts.nodes.items) = c.start.ensures.count ∙ c.assemble-engine.ensures.count ∙ c.args.parts.nodes.ok.0 ∙ sym places in
+    ap length c.deref-in-Err-2.ensures.value ∙ ap length c.requires.room.places_are ∙ length-map (map seat_place c.args.parts.nodes.items) _ ∙ sym nodes
 
 pub returns-in-Ok-clause-handles : goal.returns-in-Ok-clause-handles
 returns-in-Ok-clause-handles g c = holds_handles g.S.Source.state g.D.Drain.state _ _ _ c.assemble-engine.ensures.firsts c.start.ensures.kept

@@ -1,6 +1,6 @@
 -- The loop of `body::Body::run`.
 use Rattle.std.proofs.Common.{◌≡◌, ◌≤◌, ◌+◌, ◌-◌}
-use Rattle.fused_net.specs.Costs.{total}
+use Rattle.fused_net.specs.Costs.{total_cost}
 use Rattle.island_body.specs.Ends.{all_taken, all_finds, AllDone}
 use Rattle.island_body.specs.Keeping.{BodyStands, BodyGoes}
 use Rattle.island_body.specs.Telling.{WakesOn}
@@ -16,7 +16,7 @@ invariant-loop-heard g l = record {
   looks : KeepsLooks l.fn.self l.self;
   more : l.fn.used ≤ l.count;
   less : l.count ≤ l.limit;
-  uses : total l.fn.self.island.net + l.count ≤ total l.self.island.net + l.fn.used;
+  uses : total_cost l.fn.self.island.net + l.count ≤ total_cost l.self.island.net + l.fn.used;
   used : l.self.island.used + l.fn.used ≡ l.fn.self.island.used + l.count;
   costs : (all_taken l.self.ins.items ≡ all_taken l.fn.self.ins.items) × (all_finds l.self.outs.items ≡ all_finds l.fn.self.outs.items) × (l.self.spent ≡ l.fn.self.spent);
   same : l.count ≡ l.fn.used → l.self ≡ l.fn.self;

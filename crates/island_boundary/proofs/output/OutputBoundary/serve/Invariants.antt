@@ -1,7 +1,7 @@
 -- The loop of `boundary::OutputBoundary::serve`.
 use Rattle.std.proofs.Common.{◌≡◌, ◌≤◌, ◌<◌, true, false, length}
 use Rattle.fused_net.specs.Costs.{Uses}
-use Rattle.lane_core.specs.Ends.{sent, seen, finds, IsSameOut}
+use Rattle.lane_core.specs.Ends.{sent, seen_count, finds, IsSameOut}
 use Rattle.interpreter.specs.Boundary.{Leaves, way_out, cell_out}
 use Rattle.island_boundary.specs.Beside.{Beside, out_node, waiting}
 use Rattle.island_boundary.specs.Sending.{Sends}
@@ -12,7 +12,7 @@ invariant-loop-sent g l =
     Sends l.self.lane l.island l.self.wire
     × (l.self.wire ≡ l.initial.self.wire)
     × IsSameOut l.initial.self.lane l.self.lane
-    × (seen l.self.lane ≡ seen l.initial.self.lane)
+    × (seen_count l.self.lane ≡ seen_count l.initial.self.lane)
     × (finds l.self.lane ≡ finds l.initial.self.lane)
     × Leaves l.island l.self.wire
     × (l.island.broken ≡ false)

@@ -1,5 +1,5 @@
 use Rattle.std.proofs.Common.{[], refl, subst}
-use Rattle.port_core.specs.ListFunction.{Finished}
+use Rattle.port_core.specs.ListFunction.{FunctionFinished}
 use Rattle.stream_model.specs.Outlook.{ended}
 use Rattle.line_chain.specs.Line.{Line, line_rest}
 use Rattle.line_chain.specs.Steps.{end_of}
@@ -14,4 +14,4 @@ returns-clause-gives c =
     let now = c.run_all.new.out in
     let d = end_of c.in_ok-ending.ending in
     let r = ran_as olds news c.clear.new.self [] before now ended d d c.clear.ensures refl c.in_ok-ending.ensures in
-    subst (λ (x : Line). Finished (line_rest x) c.last_answer.result before now) c.self.view_is (end_answers olds news before now d c.last_answer.result r c.last_answer.ensures)
+    subst (λ (x : Line). FunctionFinished (line_rest x) c.last_answer.result before now) c.self.view_is (end_answers olds news before now d c.last_answer.result r c.last_answer.ensures)

@@ -1,6 +1,6 @@
 -- The goals of `board::Board::of` that the search leaves.
 use Rattle.std.proofs.Common.{◌≡◌, ◌∙◌, ℕ, List, length, sym, subst, Option, rules, arith}
-use Rattle.switch_board.specs.Dealing.{AreRooted, IsMade}
+use Rattle.switch_board.specs.Dealing.{AreRooted, IsSwitchMade}
 use Rattle.switch_board.proofs.Places.{rooted}
 use Rattle.switch_board.proofs.Dealt.{MadeTo, made_next, is_board, at_switches, are_handed}
 use Rattle.switch_board.proofs.board.Board.of.Goals as goal
@@ -11,7 +11,7 @@ make-requires-clause-rooted c = subst (λ (l : List (Option ℕ)). AreRooted l) 
 pub loop-j-preserved : goal.loop-j-preserved
 loop-j-preserved c =
     made_next c.in_ok-places.places.items c.loop-j.j _ _ _ _ c.loop-j.ends.items c.make.new.ends.items c.in_ok-switch.switch c.in_ok-switch.list c.loop-j.invariant
-    (subst (λ (l : List (Option ℕ)). IsMade c.loop-j.j l c.loop-j.ends.items c.make.new.ends.items c.in_ok-switch.switch c.in_ok-switch.list) c.deref.ensures.value c.in_ok-switch.ensures) c.in_ok-push.ensures.items c.in_ok-push-2.ensures.items
+    (subst (λ (l : List (Option ℕ)). IsSwitchMade c.loop-j.j l c.loop-j.ends.items c.make.new.ends.items c.in_ok-switch.switch c.in_ok-switch.list) c.deref.ensures.value c.in_ok-switch.ensures) c.in_ok-push.ensures.items c.in_ok-push-2.ensures.items
 
 pub returns-clause-board : goal.returns-clause-board
 returns-clause-board c =

@@ -1,7 +1,7 @@
 -- The goals of `turns::Turns::deal` that the search leaves.
 use Rattle.std.proofs.Common.{rules, arith, ap, ◌≡◌, ◌∙◌, ◌∷◌, [], length}
 use Rattle.std.proofs.lemmas.List.Elements.{All-push, All-same}
-use Rattle.turn_table.specs.Table.{hold, Fits}
+use Rattle.turn_table.specs.Table.{hold, OriginFits}
 use Rattle.turn_table.specs.Public.{IsFree, first_held}
 use Rattle.turn_table.proofs.Keeps.{deals}
 use Rattle.turn_table.proofs.Closing.{seat_is, own_views}
@@ -9,7 +9,7 @@ use Rattle.turn_table.proofs.turns.Turns.deal.Goals as goal
 
 pub split_seat-other-requires : goal.split_seat-other-requires
 split_seat-other-requires g c = let key = c.args.self.now.table.shared.key in let sum = c.loop.invariant.2 in let less = c.loop-test.true in
-    (search rules, search rules, deals (Fits g.T.Kept.origin key.values.value.items) (length key.values.value.items) key.seats _ c.loop.first.me.0 (omega arith))
+    (search rules, search rules, deals (OriginFits g.T.Kept.origin key.values.value.items) (length key.values.value.items) key.seats _ c.loop.first.me.0 (omega arith))
 
 pub loop-preserved : goal.loop-preserved
 loop-preserved g c =

@@ -1,21 +1,22 @@
 -- The queue of the wires that have an event, as one is taken out.
 use Rattle.std.proofs.Common.{◌≡◌, ◌⊎◌, inl, inr, ℕ, ◌<◌, false, Option, None, Some, List, [], ◌∷◌, ◌++◌, refl, sym, ap, ◌∙◌, subst, append-nil}
+use Rattle.std.specs.Option.{option_to_list}
 use Rattle.std.specs.Prelude.{length, IfNone, IfSome}
 use Rattle.port_core.specs.Ring.{is_waiting}
 use Rattle.fused_net.specs.Net.{Net, Takes}
-use Rattle.fused_net.specs.Queue.{Queue, chased_wires, waiting, chase_queued, Chases, Dequeues}
+use Rattle.fused_net.specs.Queue.{Queue, waiting, chase_queued, Chases, Dequeues}
 
 settled_waits : (q : Queue) → waiting (chase_queued q) ≡ waiting q
 settled_waits q = append-nil (waiting q)
 
 -- a queue in which no wire is chased
 none_waits : (q : Queue) → q.chased ≡ None → waiting q ≡ q.ring
-none_waits q e = ap (λ (c : Option ℕ). q.ring ++ chased_wires c) e ∙ append-nil q.ring
+none_waits q e = ap (λ (c : Option ℕ). q.ring ++ option_to_list c) e ∙ append-nil q.ring
 
 -- which end of the list the next wire stood at
 chases_last : (old new : Queue) (w : ℕ) → Chases old w new → waiting old ≡ waiting new ++ w ∷ []
 chases_last old new w c =
-    ap (λ (x : Option ℕ). old.ring ++ chased_wires x) c.was
+    ap (λ (x : Option ℕ). old.ring ++ option_to_list x) c.was
     ∙ ap (λ (xs : List ℕ). xs ++ w ∷ []) (sym (append-nil old.ring) ∙ sym (ap waiting c.is))
 
 dequeues_first : (old new : Queue) (w : ℕ) → Dequeues old w new → waiting old ≡ w ∷ waiting new

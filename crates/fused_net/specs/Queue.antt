@@ -1,6 +1,7 @@
 -- The wires that have an event, as the code keeps them: the ring, and behind it the wire at which a handler just pushed or pulled,
 -- which may come first.
 use Rattle.std.specs.Prelude.{◌≡◌, ℕ, ◌+◌, ◌<◌, ◌≤◌, Bool, false, if◌then◌else◌, Option, None, Some, List, [], ◌∷◌, ◌++◌, max, ⊤}
+use Rattle.std.specs.Option.{option_to_list}
 use Rattle.port_core.specs.Ring.{is_waiting}
 use Rattle.fused_net.specs.declared.queue.TheConstants.{MOST_CHASES}
 
@@ -15,13 +16,9 @@ pub record Queue : Type 0 where
   pub chases : ℕ
   pub longest : ℕ
 
-abbrev pub chased_wires : Option ℕ → List ℕ
-chased_wires None = []
-chased_wires (Some w) = w ∷ []
-
 -- the wires that have an event: the chased one stands last
 abbrev pub waiting : Queue → List ℕ
-waiting q = q.ring ++ chased_wires q.chased
+waiting q = q.ring ++ option_to_list q.chased
 
 -- the chased wire was put in the ring
 abbrev pub chase_queued : Queue → Queue

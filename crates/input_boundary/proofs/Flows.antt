@@ -1,5 +1,6 @@
 -- How the flow of an input boundary goes on.
 use Rattle.std.proofs.Common.{◌≡◌, ◌≢◌, ◌+◌, ◌*◌, ◌<◌, ◌≤◌, ◌^◌, ℕ, Bool, true, false, cond, List, [], ◌∷◌, ◌++◌, length, refl, sym, ap, subst, ◌∙◌, arith, append_assoc, append-nil, length-append}
+use Rattle.std.specs.Option.{option_to_list}
 use Rattle.std.specs.Prelude.{Option, Some, None}
 use Rattle.elem_core.specs.Tree.{Tree}
 use Rattle.elem_core.specs.Items.{elements}
@@ -8,7 +9,7 @@ use Rattle.elem_core.specs.declared.item.Item.TheVariants as item
 use Rattle.elem_core.specs.declared.count.TheConstants.{MOST_COUNT}
 use Rattle.lane_core.specs.Lane.{ends}
 use Rattle.stream_model.specs.Outlook.{unended}
-use Rattle.stage_law.specs.Held.{told, items_of}
+use Rattle.stage_law.specs.Held.{told}
 use Rattle.stage_law.proofs.Told.{told-append}
 use Rattle.input_boundary.specs.declared.state.State.{State}
 use Rattle.input_boundary.specs.declared.state.State.TheVariants.{Flowing, Closed, Cancelled}
@@ -140,7 +141,7 @@ module _ (s : ℕ) (T G L : List Item) (W : List Tree) (E : List Item) (P : Opti
 
   -- an end came: a failure finds nothing waiting, since it drops what waits
   pub took_end : (x : Item) (T' L' E' : List Item) (W' : List Tree) (P' : Option Item) → ends x ≡ true → over ≡ false → T' ≡ T ++ x ∷ [] → E' ≡ E ++ x ∷ []
-      → (is_failure (x ∷ []) ≡ false → (L' ≡ L) × (W' ≡ W)) → (is_failure (x ∷ []) ≡ true → (L' ≡ L ++ told W unended) × (W' ≡ [])) → items_of P' ≡ pending_by S E' → Flow s T' G L' W' E' P' true S c
+      → (is_failure (x ∷ []) ≡ false → (L' ≡ L) × (W' ≡ W)) → (is_failure (x ∷ []) ≡ true → (L' ≡ L ++ told W unended) × (W' ≡ [])) → option_to_list P' ≡ pending_by S E' → Flow s T' G L' W' E' P' true S c
   took_end x T' L' E' W' P' h o t en keeps drops p =
       let nothing : E ≡ [] = no_end o in
       let now : E' ≡ x ∷ [] = en ∙ ap (λ (l : List Item). l ++ x ∷ []) nothing in
@@ -179,13 +180,13 @@ module _ (s : ℕ) (T G L : List Item) (W : List Tree) (E : List Item) (P : Opti
       by_few old true e = let l = ap length (drops e).0 in let w = ap length (drops e).1 in let a = length-append L (told W unended) in let b = length_told W in omega (arith, l, w, a, b, old)
 
   -- where it is open, the end that came waits; and where it is not, nothing does
-  pub pending_some : (x : Item) (E' : List Item) → over ≡ false → S ≡ Flowing → E' ≡ E ++ x ∷ [] → items_of (Some x) ≡ pending_by S E'
+  pub pending_some : (x : Item) (E' : List Item) → over ≡ false → S ≡ Flowing → E' ≡ E ++ x ∷ [] → option_to_list (Some x) ≡ pending_by S E'
   pending_some x E' o fl en = sym (ap (λ (z : State). pending_by z E') fl ∙ (en ∙ ap (λ (l : List Item). l ++ x ∷ []) (no_end o)))
 
-  pub pending_none : (E' : List Item) → S ≢ Flowing → items_of P ≡ pending_by S E'
+  pub pending_none : (E' : List Item) → S ≢ Flowing → option_to_list P ≡ pending_by S E'
   pending_none E' n = by S refl
     where
-      by : (z : State) → S ≡ z → items_of P ≡ pending_by S E'
+      by : (z : State) → S ≡ z → option_to_list P ≡ pending_by S E'
       by Flowing e = absurd (n e)
       by Closed e = f.pending_is ∙ (ap (λ (z : State). pending_by z E) e ∙ sym (ap (λ (z : State). pending_by z E') e))
       by Cancelled e = f.pending_is ∙ (ap (λ (z : State). pending_by z E) e ∙ sym (ap (λ (z : State). pending_by z E') e))
@@ -235,7 +236,7 @@ module _ (s : ℕ) (T G L : List Item) (W : List Tree) (E : List Item) (P : Opti
 
   -- the end that waits is the one that was taken, and it is open
   pub end_is : (x : Item) → P ≡ Some x → (S ≡ Flowing) × (E ≡ x ∷ [])
-  end_is x p = by S refl (sym (ap items_of p) ∙ f.pending_is)
+  end_is x p = by S refl (sym (ap option_to_list p) ∙ f.pending_is)
     where
       by : (z : State) → S ≡ z → x ∷ [] ≡ pending_by S E → (S ≡ Flowing) × (E ≡ x ∷ [])
       by Flowing is e = (is, sym (e ∙ ap (λ (y : State). pending_by y E) is))
@@ -252,7 +253,7 @@ module _ (s : ℕ) (T G L : List Item) (W : List Tree) (E : List Item) (P : Opti
         lost_elements = f.lost_elements;
         one_end = f.one_end;
         no_element = f.no_element;
-        pending_is = ap items_of q;
+        pending_is = ap option_to_list q;
         cancelled_is = f.cancelled_is ∙ ap (λ (z : State). cancelled_by z) at.0;
         closed = λ e. one_over over (sym (ap length at.1) ∙ f.one_end);
         none_waits = λ n. w;
@@ -269,7 +270,7 @@ module _ (s : ℕ) (T G L : List Item) (W : List Tree) (E : List Item) (P : Opti
     lost_elements = subst (λ (x : List Item). elements x ≡ length x) (sym l) (both L (told W unended) f.lost_elements (elements_told W ∙ sym (length_told W)));
     one_end = f.one_end;
     no_element = f.no_element;
-    pending_is = ap items_of p;
+    pending_is = ap option_to_list p;
     cancelled_is = one;
     closed = λ e. cc;
     none_waits = λ n. w;

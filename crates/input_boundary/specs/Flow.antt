@@ -1,11 +1,12 @@
 -- What passed an input boundary: what was taken off its lane, what was handed on, and what waits between.
 use Rattle.std.specs.Prelude.{◌≡◌, ◌≢◌, ◌+◌, ◌*◌, ◌<◌, ◌≤◌, ℕ, Bool, true, false, cond, List, [], ◌∷◌, ◌++◌, length, Option}
+use Rattle.std.specs.Option.{option_to_list}
 use Rattle.elem_core.specs.Tree.{Tree}
 use Rattle.elem_core.specs.Items.{elements}
 use Rattle.elem_core.specs.declared.item.Item.{Item}
 use Rattle.elem_core.specs.declared.item.Item.TheVariants as item
 use Rattle.stream_model.specs.Outlook.{unended}
-use Rattle.stage_law.specs.Held.{told, items_of}
+use Rattle.stage_law.specs.Held.{told}
 use Rattle.input_boundary.specs.declared.state.State.{State}
 use Rattle.input_boundary.specs.declared.state.State.TheVariants.{Flowing, Closed, Cancelled}
 
@@ -42,7 +43,7 @@ pub record Flow (s : ℕ) (taken gave lost : List Item) (waits : List Tree) (end
   pub lost_elements : elements lost ≡ length lost
   pub one_end : length end ≡ cond over 1 0
   pub no_element : elements end ≡ 0
-  pub pending_is : items_of pending ≡ pending_by state end
+  pub pending_is : option_to_list pending ≡ pending_by state end
   pub cancelled_is : cancelled ≡ cancelled_by state
   pub closed : state ≡ Closed → over ≡ true
   pub none_waits : state ≢ Flowing → waits ≡ []

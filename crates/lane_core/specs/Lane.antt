@@ -1,5 +1,6 @@
 -- The rule of a lane's table, and what each step tells.
 use Rattle.std.specs.Prelude.{◌≡◌, ◌⊎◌, ℕ, zero, suc, ◌+◌, ◌*◌, ◌/◌, ◌%◌, ◌<◌, ◌≤◌, List, [], ◌∷◌, ◌++◌, length, replicate, Bool, true, false, cond, ◌&&◌, ◌==◌, Option, Some, None, slice_get}
+use Rattle.std.specs.Option.{option_to_list}
 use mathlib.Core.Option.{some}
 use mathlib.Core.Option as maybe
 use lib.ListN.{get_elem?}
@@ -121,15 +122,10 @@ abbrev pub empty_hand : ℕ → ℕ → List (ℕ × Option Item)
 empty_hand zero k = []
 empty_hand (suc n) k = (k, None) ∷ []
 
--- the item that a place holds, if it holds one
-abbrev pub items_of : Option Item → List Item
-items_of None = []
-items_of (Some x) = x ∷ []
-
 -- the item in the place that the seat has in hand
 abbrev pub in_hand : List (ℕ × Option Item) → List Item
 in_hand [] = []
-in_hand (p ∷ ps) = items_of p.1
+in_hand (p ∷ ps) = option_to_list p.1
 
 -- What each step makes of a seat m, with the word r that it found: the output end sits down on place 0.
 abbrev pub sat : TableStep → SeatView → ℕ → SeatView → Type 0

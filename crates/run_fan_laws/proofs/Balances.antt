@@ -1,5 +1,6 @@
 -- What a balance keeps in a run, and its rows in a picture, by its moves and by the moment of its last ask.
 use Rattle.std.specs.Prelude.{replicate, slice_get, slice_index_or, None, Option}
+use Rattle.std.specs.Option.{option_to_list}
 use Rattle.std.proofs.Common.{◌≡◌, ℕ, zero, suc, ◌+◌, ◌≤◌, ◌<◌, ◌⊎◌, inl, inr, Bool, true, false, List, [], ◌∷◌, map, length, drop, Some, refl, sym, ap, subst, ◌∙◌, arith}
 use Rattle.std.proofs.lemmas.List.{length-map, length-replicate}
 use Rattle.std.proofs.lemmas.Option.{slice_get_within}
@@ -30,7 +31,7 @@ use Rattle.stage_law.specs.Held.{told}
 use Rattle.stage_fans.specs.Outs.{OneInClosed}
 use Rattle.stage_balance.specs.Outs.{SomeAsked, own_ins, own_outs}
 use Rattle.stage_balance.specs.Balances.{Handed, BalanceKeeps}
-use Rattle.stage_balance.specs.Balancings.{Balancing, Core, input_of, Holding, port_state_by, port_state, waited_by, held_by, held, Begins, BalancesAs}
+use Rattle.stage_balance.specs.Balancings.{Balancing, Core, input_of, Holding, port_state_by, port_state, held_by, held, Begins, BalancesAs}
 use Rattle.stage_balance.proofs.Balances.{drop_length}
 use Rattle.stage_balance.proofs.BalanceNodes as node
 use Rattle.stage_out.specs.OutLogics.{BeginsBalance}
@@ -111,7 +112,7 @@ took_all first old v took gave r w law = by old.core.live refl r
         let none : old.core.waiting ≡ None = waits_none old.core old.core.waiting r.1.holds pulled in
         let keeps : BalanceKeeps (held_by true old.log.moves old.core) law.law.flow law.law.lists law.law.ends = subst (λ b. BalanceKeeps (held_by b old.log.moves old.core) law.law.flow law.law.lists law.law.ends) is law.law.keeps in
         let h = keeps.1.0 in
-        let left = h.left ∙ ap (λ x. waited_by x) none in
+        let left = h.left ∙ ap (λ x. option_to_list x) none in
         let none_left : length (drop (length old.log.moves) law.law.flow.list) ≡ 0 = ap length left in
         let all = drop_length old.log.moves law.law.flow.list h.within in
         let gave_is = gave_all first old v took gave law in

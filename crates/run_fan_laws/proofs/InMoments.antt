@@ -1,5 +1,6 @@
 -- How a stage with several inputs stood when it asked: by its row and its law at that moment.
 use Rattle.std.specs.Prelude.{slice_index_or, ◌==◌}
+use Rattle.std.specs.Option.{option_to_list}
 use Rattle.std.proofs.Common.{◌≡◌, ◌≢◌, ℕ, zero, suc, ◌+◌, ◌<◌, ◌⊎◌, inl, inr, Bool, true, false, List, [], ◌∷◌, map, length, Option, Some, None, refl, sym, ap, subst, ◌∙◌, arith}
 use Rattle.std.proofs.lemmas.List.{length-map}
 use Rattle.elem_core.specs.Prefix.{IsPrefix}
@@ -24,7 +25,7 @@ use Rattle.stage_in.specs.declared.logic.InLogic.TheVariants as logic
 use Rattle.stage_in.specs.Kinds.{taking_by, sorting}
 use Rattle.stage_fans.specs.PortsLaws.{InPortsLaw}
 use Rattle.stage_in.specs.Logics.{InPortState, InLaw}
-use Rattle.stage_in.specs.Pairings.{Pairing, inlet_view, inlet_flow, waiting_element, pair_view, port_state_by}
+use Rattle.stage_in.specs.Pairings.{Pairing, inlet_view, inlet_flow, pair_view, port_state_by}
 use Rattle.stage_fans.specs.Seats.{wish, InsClosed}
 use Rattle.stage_in.specs.Seats.{seat, seats, none_of}
 use Rattle.stage_in.specs.Sortings as sorted
@@ -125,7 +126,7 @@ turn_of first (logic.Merging l) v had given p r law waits = absurd law.same
 -- ---- a merge_sorted or a zip
 
 -- an input that waits holds nothing
-inlet_empty : (h : Option Tree) (o : Bool) → inlet_view (record { held = h; over = o }) ≡ Pulled → waiting_element h ≡ []
+inlet_empty : (h : Option Tree) (o : Bool) → inlet_view (record { held = h; over = o }) ≡ Pulled → option_to_list h ≡ []
 inlet_empty None o e = refl
 inlet_empty (Some t) true e = cc
 inlet_empty (Some t) false e = cc
@@ -133,12 +134,12 @@ inlet_empty (Some t) false e = cc
 -- it was open, and nothing of input p waits
 pub record Waits (l : Pairing) (p : ℕ) : Type 0 where
   pub is_open : l.phase ≡ Open
-  pub empty : ((p ≡ 0) × (waiting_element l.left.held ≡ [])) ⊎ ((p ≡ 1) × (waiting_element l.right.held ≡ []))
+  pub empty : ((p ≡ 0) × (option_to_list l.left.held ≡ [])) ⊎ ((p ≡ 1) × (option_to_list l.right.held ≡ []))
 
 pub pair_waits : (Sound : Pairing → Type 0) (l : Pairing) (v : port.View) (p : ℕ) → (l.phase ≡ New → ⊥) → port_state_by Sound l.phase l v → in_at v p ≡ Pulled → Waits l p
 pair_waits Sound l v p started r waits = by l.phase refl r
   where
-    at : (q : ℕ) → in_at (pair_view l) q ≡ Pulled → ((q ≡ 0) × (waiting_element l.left.held ≡ [])) ⊎ ((q ≡ 1) × (waiting_element l.right.held ≡ []))
+    at : (q : ℕ) → in_at (pair_view l) q ≡ Pulled → ((q ≡ 0) × (option_to_list l.left.held ≡ [])) ⊎ ((q ≡ 1) × (option_to_list l.right.held ≡ []))
     at zero e = inl (refl, inlet_empty l.left.held l.left.over e)
     at (suc zero) e = inr (refl, inlet_empty l.right.held l.right.over e)
     at (suc (suc q)) e = cc
@@ -196,7 +197,7 @@ module _ (first l : Pairing) (v : port.View) (had given : List (List Item)) (p :
       at_port : (q : ℕ) (x : List Item) → p ≡ q → slice_index_or (h ∷ k ∷ []) q [] ≡ x → elements (slice_index_or had p []) ≡ elements x
       at_port q x e y = ap elements (ap (λ (hs : List (List Item)). slice_index_or hs p []) had_is ∙ (ap (λ n. slice_index_or (h ∷ k ∷ []) n []) e ∙ y))
 
-      all_used : (g : List Tagged) → UsesInputs 0 g (inlet_flow l.left ∷ inlet_flow l.right ∷ []) (a ∷ b ∷ []) → ((p ≡ 0) × (waiting_element l.left.held ≡ [])) ⊎ ((p ≡ 1) × (waiting_element l.right.held ≡ [])) → elements (slice_index_or had p []) ≡ used p g
+      all_used : (g : List Tagged) → UsesInputs 0 g (inlet_flow l.left ∷ inlet_flow l.right ∷ []) (a ∷ b ∷ []) → ((p ≡ 0) × (option_to_list l.left.held ≡ [])) ⊎ ((p ≡ 1) × (option_to_list l.right.held ≡ [])) → elements (slice_index_or had p []) ≡ used p g
       all_used g u (inl e) =
           let here = at_port 0 h e.0 refl in
           let count = flow_count a ha in

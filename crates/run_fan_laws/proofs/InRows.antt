@@ -1,5 +1,6 @@
 -- What a stage with several inputs gives of its law for a picture: its rows of a lawful picture, and of one that rests.
 use Rattle.std.specs.Prelude.{slice_get, slice_index_or}
+use Rattle.std.specs.Option.{option_to_list}
 use Rattle.std.proofs.Common.{◌≡◌, ◌≢◌, ℕ, zero, suc, ◌+◌, ◌<◌, ◌≤◌, ◌⊎◌, inl, inr, true, List, [], ◌∷◌, map, length, take, Some, None, refl, sym, ap, subst, ◌∙◌, arith, length-append}
 use Rattle.std.proofs.lemmas.List.{length-map}
 use Rattle.elem_core.specs.Prefix.{IsPrefix}
@@ -27,7 +28,7 @@ use Rattle.stage_in.specs.declared.logic.InLogic.TheVariants as logic
 use Rattle.stage_in.specs.Kinds.{taking_by, sorting}
 use Rattle.stage_in.specs.Logics.{InPortState, InLaw}
 use Rattle.stage_in.specs.Moves.{in_moves}
-use Rattle.stage_in.specs.Pairings.{Pairing, inlet_flow, waiting_element, port_state_by}
+use Rattle.stage_in.specs.Pairings.{Pairing, inlet_flow, port_state_by}
 use Rattle.stage_in.specs.Sortings as sorted
 use Rattle.stage_in.specs.Takings as taking
 use Rattle.stage_in.specs.Takings.{Taking, InOrder}
@@ -302,18 +303,18 @@ module _ (first now : Pairing) (o : OutPort) where
       gave : length g ≡ length paired.lefts
       gave = ap length paired.gave_is ∙ length-pairs paired.lefts paired.rights paired.even
 
-      by : ((p ≡ 0) × (waiting_element l.left.held ≡ [])) ⊎ ((p ≡ 1) × (waiting_element l.right.held ≡ [])) → elements (slice_index_or (h ∷ m ∷ hs) p []) ≡ length g
+      by : ((p ≡ 0) × (option_to_list l.left.held ≡ [])) ⊎ ((p ≡ 1) × (option_to_list l.right.held ≡ [])) → elements (slice_index_or (h ∷ m ∷ hs) p []) ≡ length g
       by (inl e) =
           let here : elements (slice_index_or (h ∷ m ∷ hs) p []) ≡ elements h = ap (λ n. elements (slice_index_or (h ∷ m ∷ hs) n [])) e.0 in
           let count = flow_count a fl.0.0 in
-          let whole = ap length paired.left_is ∙ length-append paired.lefts (waiting_element l.left.held) in
+          let whole = ap length paired.left_is ∙ length-append paired.lefts (option_to_list l.left.held) in
           let none = ap length e.1 in
           let gives = gave in
           omega (arith, here, count, whole, none, gives)
       by (inr e) =
           let here : elements (slice_index_or (h ∷ m ∷ hs) p []) ≡ elements m = ap (λ n. elements (slice_index_or (h ∷ m ∷ hs) n [])) e.0 in
           let count = flow_count b fl.1.0.0 in
-          let whole = ap length paired.right_is ∙ length-append paired.rights (waiting_element l.right.held) in
+          let whole = ap length paired.right_is ∙ length-append paired.rights (option_to_list l.right.held) in
           let none = ap length e.1 in
           let gives = gave in
           let even = paired.even in

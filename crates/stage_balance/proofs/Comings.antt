@@ -1,5 +1,6 @@
 -- What a balance does with what comes to it, and where an output is cancelled, keeps its row, and is a turn of its law.
 use Rattle.std.specs.Prelude.{◌==◌, if◌then◌else◌, slice_get, slice_set, slice_index_or}
+use Rattle.std.specs.Option.{option_to_list}
 use Rattle.std.proofs.Common.{◌≡◌, ◌≢◌, ℕ, zero, suc, ◌≤◌, ◌<◌, ◌⊎◌, inl, inr, Bool, true, false, List, [], ◌∷◌, ◌++◌, length, map, refl, sym, ap, ◌∙◌, subst, arith, append-nil, Option, Some, None}
 use Rattle.std.proofs.lemmas.List.{length-set}
 use Rattle.std.proofs.lemmas.Option.{slice_get_within}
@@ -26,7 +27,7 @@ use Rattle.stage_fans.specs.declared.outs.OutputState.TheVariants.{Quiet, Asks, 
 use Rattle.stage_fans.specs.Outs.{want_view, open_count, at_open, OutsClosed, AllClosed}
 use Rattle.stage_balance.specs.Outs.{SomeAsked}
 use Rattle.stage_balance.specs.Balances.{waits, BalanceTurn, BalanceClose, BalanceTurnBy}
-use Rattle.stage_balance.specs.Balancings.{Balancing, input_of, view_of, Queued, Holding, Sound, port_state, waited_by, waited, held, Does, closed, served, filled, others, without, Took, alone, again, stays, Ended, end_waits, end_passes, Lost, final, others_open, FirstServed}
+use Rattle.stage_balance.specs.Balancings.{Balancing, input_of, view_of, Queued, Holding, Sound, port_state, waited, held, Does, closed, served, filled, others, without, Took, alone, again, stays, Ended, end_waits, end_passes, Lost, final, others_open, FirstServed}
 use Rattle.stage_balance.proofs.Queues.{open_served, open_lost, queue_without, never_longer}
 use Rattle.stage_fans.proofs.OutViews.{want_set, is_open, shut_views, gone_views}
 use Rattle.stage_balance.proofs.Wants.{view_at}
@@ -90,7 +91,7 @@ module _ (old : Balancing) (t : Tree) (log : Picks) (h : old.core.live ≡ true)
     went : (acts : List Act) → ((k : ℕ) → given_on k acts ≡ (if j == k then item.Elem t ∷ [] else []) ++ []) → BalanceTurnBy (flow_of (item.Elem t)) (waits old.log.moves (waited old.core)) (λ k. given_on k acts) (held to)
     went acts gives =
         turn_open old.log.moves (waited old.core) (flow_of (item.Elem t)) (λ k. given_on k acts) to h
-        (one_turn old.log.moves log.moves (joined (waited old.core) (flow_of (item.Elem t))) (waited to.core) j t (λ k. given_on k acts) (ap (λ (f : Inflow). f.list) came_is) (ap waited_by none_waits)
+        (one_turn old.log.moves log.moves (joined (waited old.core) (flow_of (item.Elem t))) (waited to.core) j t (λ k. given_on k acts) (ap (λ (f : Inflow). f.list) came_is) (ap option_to_list none_waits)
         (ap end_by off ∙ sym (ap (λ (f : Inflow). f.end) came_is)) grown (λ k. gives k ∙ push_told (j == k) t unended [] refl))
 
     pushed_outs : slice_set (map want_view old.core.outs) j outlet.Unpulled ≡ map want_view (slice_set old.core.outs j Quiet)
@@ -190,8 +191,8 @@ module _ (old : Balancing) (h : old.core.live ≡ true) (sound : Sound old.core)
   over_view = record { ins = Finished ∷ []; outs = map want_view old.core.outs }
 
   -- what waits, and the end that comes behind it
-  ends_as : (e : End) → joined (waited old.core) (record { list = []; end = e }) ≡ record { list = waited_by old.core.waiting; end = e }
-  ends_as e = rw off (ap (λ (l : List Tree). record { list = l; end = e }) (append-nil (waited_by old.core.waiting)))
+  ends_as : (e : End) → joined (waited old.core) (record { list = []; end = e }) ≡ record { list = option_to_list old.core.waiting; end = e }
+  ends_as e = rw off (ap (λ (l : List Tree). record { list = l; end = e }) (append-nil (option_to_list old.core.waiting)))
 
   end_later : (t : Tree) → old.core.waiting ≡ Some t → Handled (arrives 0 item.Ended) old [] (record old { core = record old.core { over = true } })
   end_later t w =
@@ -221,7 +222,7 @@ module _ (old : Balancing) (h : old.core.live ≡ true) (sound : Sound old.core)
         left = [];
         now_is = sym (append-nil old.log.moves);
         out_is = λ k. end_told ended item.Ended (given_on k ends) refl (completions k old.core.outs);
-        handed = none_handed (joined (waited old.core) (flow_of item.Ended)).list [] (ap (λ (f : Inflow). f.list) (ends_as ended) ∙ ap waited_by none);
+        handed = none_handed (joined (waited old.core) (flow_of item.Ended)).list [] (ap (λ (f : Inflow). f.list) (ends_as ended) ∙ ap option_to_list none);
         completes = λ k e. (ap (λ (f : Inflow). f.end) (ends_as ended), refl);
         fails = λ k c e. absurd (completed item.Ended (given_on k ends) c (completions k old.core.outs) e);
       } in
@@ -237,7 +238,7 @@ module _ (old : Balancing) (h : old.core.live ≡ true) (sound : Sound old.core)
         named = refl;
       })
 
-  short : (w : Option Tree) → length (waited_by w) ≤ 1
+  short : (w : Option Tree) → length (option_to_list w) ≤ 1
   short None = omega arith
   short (Some t) = omega arith
 
@@ -249,10 +250,10 @@ module _ (old : Balancing) (h : old.core.live ≡ true) (sound : Sound old.core)
         more = [];
         given = λ k. [];
         ends = λ k. end_of (failed c) (item.Failed c) (given_on k ends) (failures c k old.core.outs);
-        left = waited_by old.core.waiting;
+        left = option_to_list old.core.waiting;
         now_is = sym (append-nil old.log.moves);
         out_is = λ k. end_told (failed c) (item.Failed c) (given_on k ends) refl (failures c k old.core.outs);
-        handed = none_handed (joined (waited old.core) (flow_of (item.Failed c))).list (waited_by old.core.waiting) (ap (λ (f : Inflow). f.list) (ends_as (failed c)));
+        handed = none_handed (joined (waited old.core) (flow_of (item.Failed c))).list (option_to_list old.core.waiting) (ap (λ (f : Inflow). f.list) (ends_as (failed c)));
         completes = λ k e. absurd (broke (item.Failed c) (given_on k ends) c (failures c k old.core.outs) e);
         fails = λ k d e. (ap (λ (f : Inflow). f.end) (ends_as (failed c)) ∙ broke_by (item.Failed c) (given_on k ends) c d (failures c k old.core.outs) e, short old.core.waiting);
       } in
@@ -334,10 +335,10 @@ module _ (old : Balancing) (j : ℕ) (h : old.core.live ≡ true) (sound : Sound
         more = [];
         given = λ k. [];
         ends = λ k. unended;
-        left = waited_by old.core.waiting;
+        left = option_to_list old.core.waiting;
         now_is = sym (append-nil old.log.moves);
         out_is = λ k. none_given old.core.over k;
-        handed = none_handed (joined (waited old.core) nothing_came).list (waited_by old.core.waiting) (ap (λ (f : Inflow). f.list) (joined-nothing_came (waited old.core)));
+        handed = none_handed (joined (waited old.core) nothing_came).list (option_to_list old.core.waiting) (ap (λ (f : Inflow). f.list) (joined-nothing_came (waited old.core)));
         completes = λ k e. cc;
         fails = λ k d e. cc;
       } in

@@ -1,5 +1,6 @@
 -- What the handlers of a balance do keeps its row, and is a turn of its law by its moves.
 use Rattle.std.specs.Prelude.{◌==◌, if◌then◌else◌, slice_get, slice_set}
+use Rattle.std.specs.Option.{option_to_list}
 use Rattle.std.proofs.Common.{◌≡◌, ◌≢◌, ℕ, zero, suc, ◌≤◌, ◌<◌, Bool, true, false, List, [], ◌∷◌, ◌++◌, length, map, drop, refl, sym, ap, ◌∙◌, subst, arith, append-nil, Some, None}
 use Rattle.std.proofs.lemmas.List.{length-set}
 use Rattle.std.proofs.lemmas.Option.{slice_get_within}
@@ -31,7 +32,7 @@ use Rattle.stage_fans.specs.declared.outs.OutputState.TheVariants.{Quiet, Asks}
 use Rattle.stage_fans.specs.Outs.{want_view, at_open, OneInClosed, AllClosed}
 use Rattle.stage_balance.specs.Outs.{SomeAsked}
 use Rattle.stage_balance.specs.Balances.{waits, Handed, BalanceTurn, BalanceClose, BalanceTurnBy}
-use Rattle.stage_balance.specs.Balancings.{Balancing, input_of, view_of, Holding, Sound, port_state_by, port_state, waited_by, waited, held_by, held, Turned, Does, closed, emptied, lined, served, Answered, given, last, queues, Took, alone, again, LastInLine}
+use Rattle.stage_balance.specs.Balancings.{Balancing, input_of, view_of, Holding, Sound, port_state_by, port_state, waited, held_by, held, Turned, Does, closed, emptied, lined, served, Answered, given, last, queues, Took, alone, again, LastInLine}
 use Rattle.stage_balance.proofs.Queues.{open_asked, set_self, queue_more, queue_fits}
 use Rattle.stage_fans.proofs.OutViews.{want_set, is_quiet, after_one, shut_views}
 use Rattle.stage_balance.proofs.Wants.{view_twice, view_at, asked_at, Acted, acts_from, GivenAt, nothing_here, one_here, given_each}
@@ -217,7 +218,7 @@ module _ (old : Balancing) (j : ℕ) (h : old.core.live ≡ true) (q : slice_get
   pushed_back = view_twice (map want_view old.core.outs) j Available Unpulled ∙ want_set old.core.outs j Quiet ∙ ap (λ (ws : List OutputState). map want_view ws) (set_self old.core.outs j Quiet q)
 
   waits_one : (t : Tree) → old.core.waiting ≡ Some t → (joined (waited old.core) nothing_came).list ≡ t ∷ []
-  waits_one t w = ap (λ (f : Inflow). f.list) (joined-nothing_came (waited old.core)) ∙ ap waited_by w
+  waits_one t w = ap (λ (f : Inflow). f.list) (joined-nothing_came (waited old.core)) ∙ ap option_to_list w
 
   none_queued : (t : Tree) → old.core.waiting ≡ Some t → old.core.queue ≡ []
   none_queued t w = let s : Holding (Some t) old.core = subst (λ x. Holding x old.core) w sound.holds in s.0

@@ -1,5 +1,6 @@
 -- The state of a balance, its row, and what its handlers owe.
 use Rattle.std.specs.Prelude.{◌≡◌, ◌≢◌, ◌⊎◌, ℕ, ◌-◌, ◌==◌, ◌≤◌, replicate, if◌then◌else◌, not, filter, Bool, true, false, List, [], ◌∷◌, ◌++◌, length, map, slice_get, slice_set, slice_index_or, Option, None, Some}
+use Rattle.std.specs.Option.{option_to_list}
 use Rattle.elem_core.specs.Tree.{Tree}
 use Rattle.elem_core.specs.declared.item.Item.{Item}
 use Rattle.port_core.specs.Picks.{Picks}
@@ -74,13 +75,8 @@ port_state_by false l v = AllClosed v
 abbrev pub port_state : Balancing → View → Type 0
 port_state l v = port_state_by l.core.live l.core v
 
--- what waits
-abbrev pub waited_by : Option Tree → List Tree
-waited_by None = []
-waited_by (Some t) = t ∷ []
-
 abbrev pub waited : Core → Inflow
-waited l = record { list = waited_by l.waiting; end = end_by l.over }
+waited l = record { list = option_to_list l.waiting; end = end_by l.over }
 
 -- what it still owes, by its moves
 abbrev pub held_by : Bool → List ℕ → Core → BalanceHeld

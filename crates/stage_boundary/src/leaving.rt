@@ -1,5 +1,6 @@
 // The boundary stage at the output end of a lane.
 ghost use Rattle.std.specs.Prelude.{◌≡◌, ◌≤◌, ◌++◌, true, [], ◌∷◌, IsOk, IfSome, IfNone, length, ⊤};
+ghost use Rattle.std.specs.Option.{option_to_list};
 ghost use Rattle.elem_core.specs.declared.item.Item.TheVariants as item;
 ghost use Rattle.port_core.specs.declared.view.InView.TheVariants.{Idle};
 ghost use Rattle.stage_boundary.specs.Ports.{input_only};
@@ -30,14 +31,13 @@ impl Model for Leaving {
     ghost use Rattle.std.specs.Prelude.{◌≡◌, ◌++◌, None};
     ghost use Rattle.std.specs.Coded.{codes};
     ghost use Rattle.elem_core.specs.TreeCode.{tree_coded};
-    ghost use Rattle.stage_law.specs.Held.{items_of};
     ghost use Rattle.stage_boundary.specs.Leaving.{Leaving};
 
     ghost Value = { Leaving };
 
     ghost coded = { Prim.hlevel (codes, tree_coded) };
 
-    ghost view = { λ s. record { wire = s.wire; waits = items_of s.first ++ items_of s.second; gone = s.gone.items } };
+    ghost view = { λ s. record { wire = s.wire; waits = option_to_list s.first ++ option_to_list s.second; gone = s.gone.items } };
 
     ghost invariant = { λ s. s.first ≡ None → s.second ≡ None };
 }

@@ -1,5 +1,6 @@
 -- A stage with several inputs that was started has nothing to do over its own ports.
 use Rattle.std.specs.Prelude.{◌==◌, slice_get}
+use Rattle.std.specs.Option.{option_to_list}
 use Rattle.std.proofs.Common.{◌≡◌, ℕ, zero, suc, ◌+◌, ◌<◌, inl, inr, Bool, true, false, List, [], ◌∷◌, length, refl, sym, ap, ◌∙◌, subst, arith, length-append, Option, Some, None}
 use Rattle.elem_core.specs.Tree.{Tree}
 use Rattle.port_core.specs.View as port
@@ -12,7 +13,7 @@ use Rattle.stage_law.specs.OwnPorts.{own_input}
 use Rattle.stage_core.specs.declared.phase.Phase.TheVariants.{Open}
 use Rattle.stage_fans.specs.Seats.{wish}
 use Rattle.stage_in.specs.Seats.{seat, seats}
-use Rattle.stage_in.specs.Pairings.{Pairing, inlet_view, waiting_element, pair_view, port_state_by}
+use Rattle.stage_in.specs.Pairings.{Pairing, inlet_view, pair_view, port_state_by}
 use Rattle.stage_in.specs.Sortings as sorting
 use Rattle.stage_in.specs.Zippings as zipping
 use Rattle.stage_in.specs.Takings as taking
@@ -120,7 +121,7 @@ one_idles t false l = inl (inr (refl, refl))
 one_idles t true l = inr refl
 
 module _ (a b : Inflow) (g : List Tree) where
-  zip_parts : (h k : Option Tree) (o p q : Bool) → zipping.Sound (open_at h k o p q) → length a.list ≡ length g + length (waiting_element h) → length b.list ≡ length g + length (waiting_element k)
+  zip_parts : (h k : Option Tree) (o p q : Bool) → zipping.Sound (open_at h k o p q) → length a.list ≡ length g + length (option_to_list h) → length b.list ≡ length g + length (option_to_list k)
       → FanRests ZipRests (pair_view (open_at h k o p q)) (a ∷ b ∷ []) g
   zip_parts None None true p q s l r = absurd s.0
   zip_parts None None false true q s l r = absurd s.1.0
@@ -150,7 +151,7 @@ zipping_rests l v a b g f h r k =
     let keeps = subst (λ x. ZipKeeps (zipping.held_by x l) (a ∷ b ∷ []) g f) h k in
     let p = keeps.1.0 in
     let gave : length g ≡ length p.lefts = ap length p.gave_is ∙ length-pairs p.lefts p.rights p.even in
-    let left : length a.list ≡ length g + length (waiting_element l.left.held) = ap length p.left_is ∙ length-append p.lefts (waiting_element l.left.held) ∙ ap (λ n. n + length (waiting_element l.left.held)) (sym gave) in
-    let right : length b.list ≡ length g + length (waiting_element l.right.held) = ap length p.right_is ∙ length-append p.rights (waiting_element l.right.held) ∙ ap (λ n. n + length (waiting_element l.right.held)) (sym p.even ∙ sym gave) in
+    let left : length a.list ≡ length g + length (option_to_list l.left.held) = ap length p.left_is ∙ length-append p.lefts (option_to_list l.left.held) ∙ ap (λ n. n + length (option_to_list l.left.held)) (sym gave) in
+    let right : length b.list ≡ length g + length (option_to_list l.right.held) = ap length p.right_is ∙ length-append p.rights (option_to_list l.right.held) ∙ ap (λ n. n + length (option_to_list l.right.held)) (sym p.even ∙ sym gave) in
     subst (λ w. FanRests ZipRests w (a ∷ b ∷ []) g) (sym s.0)
     (subst (λ x. zipping.Sound x → FanRests ZipRests (pair_view x) (a ∷ b ∷ []) g) (sym (opened l h)) (λ t. zip_parts a b g l.left.held l.right.held l.left.over l.right.over l.asked t left right) s.1)

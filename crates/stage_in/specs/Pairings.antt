@@ -1,5 +1,6 @@
 -- The state of a stage with two inputs that asks both, as a zip and a merge_sorted do.
 use Rattle.std.specs.Prelude.{◌≡◌, ℕ, zero, suc, Bool, true, false, List, [], ◌∷◌, Option, Some, None}
+use Rattle.std.specs.Option.{option_to_list}
 use Rattle.elem_core.specs.Tree.{Tree}
 use Rattle.port_core.specs.declared.act.Act.{Act}
 use Rattle.port_core.specs.declared.view.InView.{InView}
@@ -28,13 +29,8 @@ inlet_view_by false (Some t) = Idle
 abbrev pub inlet_view : Inlet → InView
 inlet_view i = inlet_view_by i.over i.held
 
--- what waits of an input
-abbrev pub waiting_element : Option Tree → List Tree
-waiting_element None = []
-waiting_element (Some t) = t ∷ []
-
 abbrev pub inlet_flow : Inlet → Inflow
-inlet_flow i = record { list = waiting_element i.held; end = end_by i.over }
+inlet_flow i = record { list = option_to_list i.held; end = end_by i.over }
 
 abbrev pub pair_view : Pairing → View
 pair_view l = record { ins = inlet_view l.left ∷ inlet_view l.right ∷ []; outs = wish l.asked ∷ [] }

@@ -23,11 +23,6 @@ told (t ∷ l) e = item.Elem t ∷ told l e
 abbrev pub told_of : Given Tree → List Item
 told_of g = told g.list g.end
 
--- what came in with an event, if anything did
-abbrev pub items_of : Option Item → List Item
-items_of None = []
-items_of (Some i) = i ∷ []
-
 -- An output between two calls: it still owes these elements, and then what its state says; or it is closed and owes nothing.
 -- A normal end that came leaves the state `done`, a failure that is kept leaves it `broken`.
 pub data Held (S : Type 0) : Type 0 where

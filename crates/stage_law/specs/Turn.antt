@@ -1,5 +1,6 @@
 -- What a handler did at an output, as one step of the machine, and the residual law, for stages with one input.
 use Rattle.std.specs.Prelude.{◌≡◌, ℕ, ◌==◌, MatchBool, ◌+◌, ◌≤◌, IsTrue, ◌⊎◌, false, List, [], ◌∷◌, ◌++◌, length, ⊤, Option, None, Some}
+use Rattle.std.specs.Option.{option_to_list}
 use Rattle.elem_core.specs.Tree.{Tree}
 use Rattle.elem_core.specs.declared.why.Cause.{Cause}
 use Rattle.stream_model.specs.Outlook.{unended}
@@ -7,7 +8,7 @@ use Rattle.stream_model.specs.Machine.{State, going, Run, refuses, Machine, is_g
 use Rattle.elem_core.specs.declared.item.Item.{Item}
 use Rattle.elem_core.specs.declared.item.Item.TheVariants as item
 use Rattle.port_core.specs.Call.{Call, starts, pulls, arrives, cancels}
-use Rattle.stage_law.specs.Held.{told, told_of, items_of, Held, owing, shut, after, gives}
+use Rattle.stage_law.specs.Held.{told, told_of, Held, owing, shut, after, gives}
 
 module _ {S : Type 0} (m : Machine S Tree) where
   -- what y owes: the first of its outputs went out, and the others are held; or all of them went out, and its end
@@ -62,7 +63,7 @@ module _ {S : Type 0} (m : Machine S Tree) where
   pub record Residual (x : Run S Tree) (brought : Option Item) (out : List Item) (new : Held S) : Type 0 where
     pub lost : List Tree
     pub may : MayLose x brought lost
-    pub same : (rest : List Item) → gives m (owing x) (items_of brought ++ rest) ≡ told lost unended ++ (out ++ gives m new rest)
+    pub same : (rest : List Item) → gives m (owing x) (option_to_list brought ++ rest) ≡ told lost unended ++ (out ++ gives m new rest)
 
   -- What a handler owes to the law, at output j, by its call: a cancel of the output ends it; whatever else comes is one step
   -- of the machine; an output that is closed gives nothing more.

@@ -1,4 +1,4 @@
-use Rattle.std.proofs.Common.{◌≡◌, take, drop, min}
+use Rattle.std.proofs.Common.{◌≡◌, ◌-◌, ◌^◌, take, drop, min}
 use Rattle.std.specs.Char.{is_ascii_digit}
 use Rattle.std.specs.List.{list_all}
 use Rattle.std.specs.Str.Parse.{digits_value}
@@ -8,5 +8,5 @@ abbrev pub invariant-loop-digit : goal.invariant-loop-digit
 invariant-loop-digit l =
     record {
       digits : list_all is_ascii_digit l.digits ≡ list_all is_ascii_digit (drop l.digit-index l.digits);
-      so_far : l.value ≡ min (digits_value 10 (take l.digit-index l.digits)) 100000000000000000000;
+      so_far : l.value ≡ min (digits_value 10 (take l.digit-index l.digits)) (2 ^ 128 - 1);
     }

@@ -17,7 +17,9 @@ pub(crate) fn numeral(digits: &[u8]) -> Option<u128>
         if !digit.is_ascii_digit() {
             return None;
         }
-        value = value.saturating_mul(10).saturating_add(u128::from(*digit - b'0'));
+        value = value
+            .saturating_mul(10)
+            .saturating_add(u128::from(*digit - b'0'));
     }
     Some(value)
 }

@@ -9,7 +9,7 @@ use blue_names::links::NumberedWire;
 use blue_walks::ranks::rank_of;
 use elem_core::why::NoMemory;
 use island_ends::room::EndHomes;
-use materializer::names::{source_file, is_sink, output_of};
+use materializer::names::{is_sink, output_of, source_file};
 use std::alloc::Global;
 use switch_board::names::switch_of;
 

@@ -7,7 +7,7 @@ ghost use Rattle.kill_core.specs.Public.{IsSeatOf, IsNewSeat, AnswersOrder, Gave
 
 use crate::known::Known;
 use crate::order::Order;
-use crate::rule::{OrderDeal, Give, OrderLook, OnceOrdered};
+use crate::rule::{Give, OnceOrdered, OrderDeal, OrderLook};
 use crate::seat::SwitchSeat;
 use atomic_table::{Seat, Table};
 use std::alloc::{AllocError, Global};

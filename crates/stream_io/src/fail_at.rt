@@ -28,7 +28,7 @@ impl FailAt {
     }
 }
 
-// Counts one call, and says whether it is one that fails. What is still to come is counted on from 1.
+/// Counts one call, and says whether it is one that fails. What is still to come is counted on from 1.
 pub fn fires(fails: &mut [FailAt], op: Op, name: &Line) -> bool
     ensures { fails.old ≡ [] → result ≡ false }
 {
@@ -43,7 +43,7 @@ pub fn fires(fails: &mut [FailAt], op: Op, name: &Line) -> bool
     fires
 }
 
-// Counts calls that a handle made.
+/// Counts calls that a handle made.
 pub fn spend(fails: &mut [FailAt], op: Op, name: &Line, calls: u32) {
     for i in 0..fails.len() {
         let fail = &mut fails[i];
@@ -53,7 +53,7 @@ pub fn spend(fails: &mut [FailAt], op: Op, name: &Line, calls: u32) {
     }
 }
 
-// The numbers of the calls that fail and are still to come.
+/// The numbers of the calls that fail and are still to come.
 pub fn to_come(alloc: Global, fails: &[FailAt], op: Op, name: &Line) -> Result<Vec<u32>, NoMemory> {
     let mut numbers = Vec::new(alloc);
     for fail in fails {

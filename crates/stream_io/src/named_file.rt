@@ -12,7 +12,7 @@ pub struct NamedFile {
     pub bytes: Vec<u8>,
 }
 
-// The bytes of the first file of that name.
+/// The bytes of the first file of that name.
 pub fn bytes_of<'a>(files: &'a [NamedFile], name: &Line) -> Option<&'a [u8]>
     ensures { option_map (λ b. b.now) result ≡ bytes_of_file files.now name.now }
 {
@@ -24,7 +24,7 @@ pub fn bytes_of<'a>(files: &'a [NamedFile], name: &Line) -> Option<&'a [u8]>
     None
 }
 
-// Gives the first file of that name these bytes, and says whether there is one.
+/// Gives the first file of that name these bytes, and says whether there is one.
 pub fn replace(files: &mut Vec<NamedFile>, name: &Line, bytes: Vec<u8>) -> bool
     ensures files { files.new.items ≡ with_file files.old.items name.now bytes }
     ensures found { result ≡ is_some (bytes_of_file files.old.items name.now) }
@@ -39,7 +39,7 @@ pub fn replace(files: &mut Vec<NamedFile>, name: &Line, bytes: Vec<u8>) -> bool
     false
 }
 
-// Puts a file in the place of the first of its name, or behind all others.
+/// Puts a file in the place of the first of its name, or behind all others.
 pub fn put_file(files: &mut Vec<NamedFile>, file: NamedFile) -> Result<(), NoMemory>
     ensures this { OnOk result (bytes_of_file files.new.items file.name ≡ Some file.bytes.items) }
     ensures others { OnOk result ((n : List ℕ) → n ≢ file.name → bytes_of_file files.new.items n ≡ bytes_of_file files.old.items n) }

@@ -8,7 +8,7 @@ use elem_core::line::Line;
 use std::alloc::{AllocError, Global};
 use std::marker::Model;
 
-// What a folder counts of one name.
+/// What a folder counts of one name.
 #[derive(Drop)]
 pub struct Counts {
     pub name: Line,
@@ -29,7 +29,7 @@ impl Counts {
     }
 }
 
-// The counts of a folder. They stand in links, so that an entry can be added without memory, in a link that was made before.
+/// The counts of a folder. They stand in links, so that an entry can be added without memory, in a link that was made before.
 #[cycle(tally)]
 #[derive(Drop)]
 pub struct Tally {
@@ -61,7 +61,7 @@ impl Model for Tally {
 }
 
 impl Tally {
-    // No counts.
+    /// No counts.
     pub fn new() -> Tally
         ensures { result ≡ [] }
     {
@@ -70,12 +70,12 @@ impl Tally {
         }
     }
 
-    // A link for one more entry.
+    /// A link for one more entry.
     pub fn spare(alloc: Global) -> Result<Box<Tally>, AllocError> {
         Ok(Box::new(alloc, Tally::new())?)
     }
 
-    // Counts a refused opening of a name.
+    /// Counts a refused opening of a name.
     pub fn refuse(&mut self, name: Line, spare: Box<Tally>)
         ensures rose { Rose ((folder_of_counts self.old).refusals name) ((folder_of_counts self.new).refusals name) }
         ensures refusal { RefusesName (folder_of_counts self.old) (folder_of_counts self.new) name }
@@ -91,7 +91,7 @@ impl Tally {
         self.add(more, spare);
     }
 
-    // Counts what a closed source of a name tells.
+    /// Counts what a closed source of a name tells.
     pub fn close_in(&mut self, name: Line, spare: Box<Tally>, given: u64, faults: u64)
         ensures { ClosesSource (folder_of_counts self.old) (folder_of_counts self.new) (record { name = name; whole = None; given = given; faults = faults }) }
     {
@@ -105,7 +105,7 @@ impl Tally {
         self.add(more, spare);
     }
 
-    // Counts what a closed drain of a name tells.
+    /// Counts what a closed drain of a name tells.
     pub fn close_out(&mut self, name: Line, spare: Box<Tally>, faults: u64)
         ensures { ClosesDrain (folder_of_counts self.old) (folder_of_counts self.new) (record { name = name; holds = None; faults = faults }) }
     {
@@ -119,7 +119,7 @@ impl Tally {
         self.add(more, spare);
     }
 
-    // Adds counts to those of their name, and takes the link where there are none. It takes no memory.
+    /// Adds counts to those of their name, and takes the link where there are none. It takes no memory.
     pub fn add(&mut self, more: Counts, mut spare: Box<Tally>)
         ensures { self.new ≡ tallied self.old more }
     {

@@ -8,7 +8,7 @@ ghost use Rattle.turn_table.specs.Sums.{times, without};
 ghost use Rattle.turn_table.specs.Table.{hold, OriginFits};
 
 use crate::hold::Hold;
-use crate::rule::{Begin, TurnDeal, End, Fetch, Kept, Leave, Told, TurnOrder, TurnPlan, Wake};
+use crate::rule::{Begin, End, Fetch, Kept, Leave, Told, TurnDeal, TurnOrder, TurnPlan, Wake};
 use atomic_table::{Badge, Closed, Refused, Seat, Table};
 use std::alloc::{AllocError, Global};
 use std::marker::Brand;

@@ -3,7 +3,7 @@ ghost use Rattle.std.specs.Prelude.{◌≡◌, ◌+◌, ◌*◌, ◌^◌, ◌<�
 ghost use Rattle.std.specs.List.{All};
 ghost use Rattle.unit_budget.specs.Rule.{share};
 
-use crate::rule::{Claim, UnitDeal, Fairly, UnitLook, Purse, Settle};
+use crate::rule::{Claim, Fairly, Purse, Settle, UnitDeal, UnitLook};
 use crate::share::Share;
 use atomic_table::{Seat, Table};
 use std::alloc::{AllocError, Global};
@@ -64,7 +64,9 @@ impl Budget {
         ensures { (seat_id seat.new ≡ budget_id self.now) × HasNoClaim seat.new × (budget_parts seat.new ≡ budget_parts seat.old + budget_parts other) × (used_by seat.new ≡ used_by seat.old + used_by other) × (limit_of seat.new ≡ limit_of seat.old) }
     {
         let BudgetSeat { seat: other } = other;
-        self.table.shared.join_seat::<UnitDeal>(&mut seat.seat, other);
+        self.table
+            .shared
+            .join_seat::<UnitDeal>(&mut seat.seat, other);
     }
 
     /// Claims 1000 units, and answers how many of them may be used: never more than is left of the budget. One step; it waits for

@@ -1,18 +1,21 @@
 -- The goals of `engine::Engine::perform_all` that the search leaves.
-use Rattle.std.proofs.Common.{◌∙◌, ap, refl, sym}
+use Rattle.std.proofs.Common.{◌∙◌, ap, subst, sym}
 use Rattle.port_core.specs.ActList.{ActList}
-use Rattle.fused_net.specs.Laws.{AnyRow, AnyLaw}
+use Rattle.fused_net.specs.Net.{acted_all}
+use Rattle.fused_net.specs.Laws.{AnyRow, AnyLaw, Busy}
 use Rattle.fused_net.proofs.Acting.{turned, next_busy, next_same, next_able, turned_back}
 use Rattle.fused_net.proofs.Going.{few_next}
 use Rattle.fused_net.proofs.engine.Engine.perform_all.Goals as goal
 
 pub loop-act-init : goal.loop-act-init
-loop-act-init g c = (
-  rw (turned_back _ _ (ap (λ (a : ActList). a.items) c.reverse.ensures)) c.requires.busy,
-  rw (turned_back _ _ (ap (λ (a : ActList). a.items) c.reverse.ensures)) refl,
-  ap (λ (a : ActList). a.room) c.reverse.ensures,
-  c.requires.few,
-)
+loop-act-init g c =
+    let back = turned_back _ _ (ap (λ (a : ActList). a.items) c.reverse.ensures) in
+    (
+      subst (λ l. Busy AnyRow AnyLaw c.args.self.now c.args.n l) (sym back) c.requires.busy,
+      ap (λ l. acted_all c.args.self.now c.args.n l) back,
+      ap (λ (a : ActList). a.room) c.reverse.ensures,
+      c.requires.few,
+    )
 
 pub act-requires : goal.act-requires
 act-requires g c = next_able AnyRow AnyLaw _ _ _ _ _ (turned _ _ _ (ap (λ (a : ActList). a.items) c.in-Some.ensures.last)) c.loop-act.invariant.0 c.loop-act.invariant.3

@@ -9,14 +9,12 @@ use Rattle.island_boundary.specs.declared.input.IslandInput.{IslandInput}
 use Rattle.rounds.specs.declared.crossing.Crossing.{Crossing}
 use Rattle.traversal.specs.declared.plan.LanePlan.{LanePlan}
 use Rattle.lane_ends.specs.Ends.{AreRising}
+use Rattle.lane_ends.proofs.Making.{no_lane}
 use Rattle.island_body.specs.declared.body.Body.{Body}
 use Rattle.island_bodies.specs.Asked.{AreAsked, AreNoted, with_demand}
 use Rattle.island_bodies.proofs.Making.{EachIs, same_item, each_next, one_more}
 
 -- what is read where nothing stands
-abbrev pub no_lane : LanePlan
-no_lane = record { wire = 0; size = 0; from = 0; to = 0 }
-
 abbrev pub no_crossing : Crossing
 no_crossing = record { from = 0; out = 0; to = 0; inp = 0 }
 

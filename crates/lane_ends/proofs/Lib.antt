@@ -1,2 +1,2 @@
 mod Lying
-mod Making
+pub mod Making

@@ -38,13 +38,12 @@ use Rattle.stage_out.specs.OutLogics.{BeginsBalance}
 use Rattle.run_account.specs.Account.{Earlier}
 use Rattle.run_account.specs.Items.{MayPass, AllMayPass, AgreesWith}
 use Rattle.run_account.specs.KindLaws.{IsHistoryOf, HearsAll, Moments, PictureLaws, RunLaws}
-use Rattle.run_account.specs.Ports.{InPort, OutPort, EachPort, InStands, OutStands, InRests, OutRests}
+use Rattle.run_account.specs.Ports.{InPort, OutPort, EachPort, InStands, OutStands, InRests, OutRests, sents_of}
 use Rattle.run_account.proofs.Coming.{elements_told}
 use Rattle.run_account.proofs.Histories.{list_of_told}
 use Rattle.run_fan_laws.specs.Unmoved.{no_moves, never_ends}
 use Rattle.run_fan_laws.proofs.Choices.{counts, all_counted, sent_count, elements_all, given_counts, outputs_sent, grown, more_wanted}
 use Rattle.run_fan_laws.proofs.InRuns.{at_index, one_given}
-use Rattle.run_fan_laws.proofs.OutLists.{Sents}
 use Rattle.run_fan_laws.proofs.OutPictures.{OutView_of, each_shut, one_list, some_or_none}
 use Rattle.run_fan_laws.proofs.OutRows.{OutWires, OutWants, Shuts}
 use Rattle.run_fan_laws.proofs.OutRuns.{one_input}
@@ -54,10 +53,10 @@ abbrev pub BalanceAsking : Balancing → View → Type 0
 BalanceAsking l v = SomeAsked v
 
 abbrev Now : Balancing → Balancing → InPort → List OutPort → Type 0
-Now first now i os = BalancesAs first now (OutView_of i os) (i.got ∷ []) (Sents os)
+Now first now i os = BalancesAs first now (OutView_of i os) (i.got ∷ []) (sents_of os)
 
 abbrev Then : Balancing → Balancing → InPort → List OutPort → Type 0
-Then first now i os = Earlier port_state BalancesAs BalanceAsking no_moves 0 first now (i.got ∷ []) (Sents os) (i.want ∷ []) (OutWants os) (Shuts os)
+Then first now i os = Earlier port_state BalancesAs BalanceAsking no_moves 0 first now (i.got ∷ []) (sents_of os) (i.want ∷ []) (OutWants os) (Shuts os)
 
 -- ---- its moves
 
@@ -125,7 +124,7 @@ took_all first old v took gave r w law = by old.core.live refl r
 module _ (first now : Balancing) (i : InPort) (os : List OutPort) (law : Now first now i os) (si : InStands i) (so : EachPort OutStands os) where
   pub lawful : ((p : ℕ) → 1 ≤ slice_index_or (i.want ∷ []) p 0 → Moments port_state BalancesAs BalanceAsking no_moves first now (i ∷ []) os p) → BalanceLawful now.log.moves i.wire (OutWires os)
   lawful moments = (
-    outputs_sent now.log.moves law.law.lists law.law.ends (each_count first now (OutView_of i os) (i.got ∷ []) (Sents os) law) 0 os (gave_at first now (OutView_of i os) (i.got ∷ []) (Sents os) law) so,
+    outputs_sent now.log.moves law.law.lists law.law.ends (each_count first now (OutView_of i os) (i.got ∷ []) (sents_of os) law) 0 os (gave_at first now (OutView_of i os) (i.got ∷ []) (sents_of os) law) so,
     one_more (some_or_none (demand i.wire)),
     in_all (some_or_none (demand i.wire)),
   )
@@ -141,8 +140,8 @@ module _ (first now : Balancing) (i : InPort) (os : List OutPort) (law : Now fir
       one_more (inr some) =
           let e = then some in
           let most = few e in
-          let more = grown e.given (Sents os) e.gave_on in
-          let all = gave_all first now (OutView_of i os) (i.got ∷ []) (Sents os) law in
+          let more = grown e.given (sents_of os) e.gave_on in
+          let all = gave_all first now (OutView_of i os) (i.got ∷ []) (sents_of os) law in
           omega (arith, most, more, all)
 
       in_all : (demand i.wire ≡ 0) ⊎ (1 ≤ demand i.wire) → demand i.wire ≤ total wanted (OutWires os)
@@ -155,7 +154,7 @@ module _ (first now : Balancing) (i : InPort) (os : List OutPort) (law : Now fir
 
 -- ---- where no event is left
 
-outs_same : (q : ℕ) (os : List OutPort) (lists : ℕ → List Tree) (ends : ℕ → End) → ((j : ℕ) → j < length os → slice_index_or (Sents os) j [] ≡ told (lists (q + j)) (ends (q + j))) → own_outs q (map (λ (o : OutPort). o.view) os) lists ≡ map own_out os
+outs_same : (q : ℕ) (os : List OutPort) (lists : ℕ → List Tree) (ends : ℕ → End) → ((j : ℕ) → j < length os → slice_index_or (sents_of os) j [] ≡ told (lists (q + j)) (ends (q + j))) → own_outs q (map (λ (o : OutPort). o.view) os) lists ≡ map own_out os
 outs_same q [] lists ends t = refl
 outs_same q (o ∷ os) lists ends t =
     let z : q + 0 ≡ q = omega arith in
@@ -169,10 +168,10 @@ in_same i l e h = rw (h, elements_told l e, list_of_told l e) refl
 module _ (first now : Balancing) (i : InPort) (os : List OutPort) (law : Now first now i os) (si : InStands i) (so : EachPort OutStands os) (ri : InRests i) (ro : EachPort OutRests os) where
   pub stays : port_state now (OutView_of i os) → (EachWire IsShut (i.wire ∷ []) × EachWire IsShut (OutWires os)) ⊎ BalanceRests i.wire (OutWires os)
   stays r =
-      let s = node.logic_rests first now (OutView_of i os) (i.got ∷ []) (Sents os) r law in
+      let s = node.logic_rests first now (OutView_of i os) (i.got ∷ []) (sents_of os) r law in
       let ins = in_same i law.law.flow.list law.law.flow.end (one_list i.got law.taken law.took_is ∙ law.law.took_is) in
       let long = length-map os (λ (o : OutPort). o.sent) in
-      let outs = outs_same 0 os law.law.lists law.law.ends (λ j l. gave_at first now (OutView_of i os) (i.got ∷ []) (Sents os) law j (omega (arith, l, long))) in
+      let outs = outs_same 0 os law.law.lists law.law.ends (λ j l. gave_at first now (OutView_of i os) (i.got ∷ []) (sents_of os) law j (omega (arith, l, long))) in
       elim s [
         | inl h ↦ inl (
           (shuts i ri (subst (λ (vs : List picture.SeenWire). EachWire IsShut vs) ins h.0).0, tt),
@@ -197,7 +196,7 @@ no_sink kd l b = absurd b
 
 module _ (g : Graph) (w : World) (k : ℕ) (n : graph.Node) where
   pub balance_picture : (first now : Balancing) (is : List InPort) (os : List OutPort) → BeginsBalance n.kind first → w.moves k ≡ now.log.moves → port_state now (record { ins = map (λ (i : InPort). i.view) is; outs = map (λ (o : OutPort). o.view) os })
-      → BalancesAs first now (record { ins = map (λ (i : InPort). i.view) is; outs = map (λ (o : OutPort). o.view) os }) (map (λ (i : InPort). i.got) is) (Sents os) → PictureLaws port_state BalancesAs BalanceAsking no_moves never_ends g w k n first now is os
+      → BalancesAs first now (record { ins = map (λ (i : InPort). i.view) is; outs = map (λ (o : OutPort). o.view) os }) (map (λ (i : InPort). i.got) is) (sents_of os) → PictureLaws port_state BalancesAs BalanceAsking no_moves never_ends g w k n first now is os
   balance_picture first now [] os b told r law = let none = law.took_is in absurd cc
   balance_picture first now (i ∷ j ∷ is) os b told r law = let more = law.took_is in absurd cc
   balance_picture first now (i ∷ []) os b told r law = record {

@@ -14,9 +14,8 @@ use Rattle.stream_picture.specs.View.{wanted, total}
 use Rattle.stream_picture.specs.Lawful.{BalanceOutputs}
 use Rattle.stage_law.specs.Held.{told}
 use Rattle.run_account.specs.Account.{AllBegin}
-use Rattle.run_account.specs.Ports.{OutPort, EachPort, OutStands}
+use Rattle.run_account.specs.Ports.{OutPort, EachPort, OutStands, sents_of}
 use Rattle.run_account.proofs.Coming.{elements_told, elements_prefix}
-use Rattle.run_fan_laws.proofs.OutLists.{Sents}
 use Rattle.run_fan_laws.proofs.OutRows.{OutWires, OutWants}
 
 -- ---- moves
@@ -102,9 +101,9 @@ module _ (moves : List ℕ) (lists : ℕ → List Tree) (ends : ℕ → End) (ea
       omega (arith, here, rest)
 
   -- the wires were sent what the moves say
-  pub outputs_sent : (q : ℕ) (os : List OutPort) → ((j : ℕ) → j < length (Sents os) → slice_index_or (Sents os) j [] ≡ told (lists (q + j)) (ends (q + j))) → EachPort OutStands os → BalanceOutputs moves q (OutWires os)
+  pub outputs_sent : (q : ℕ) (os : List OutPort) → ((j : ℕ) → j < length (sents_of os) → slice_index_or (sents_of os) j [] ≡ told (lists (q + j)) (ends (q + j))) → EachPort OutStands os → BalanceOutputs moves q (OutWires os)
   outputs_sent q [] t s = tt
-  outputs_sent q (o ∷ os) t s = (s.0.count ∙ count_at q o.sent (t 0 (omega arith)), outputs_sent (q + 1) os (behind q (Sents os) o.sent t) s.1)
+  outputs_sent q (o ∷ os) t s = (s.0.count ∙ count_at q o.sent (t 0 (omega arith)), outputs_sent (q + 1) os (behind q (sents_of os) o.sent t) s.1)
 
 -- what was given has only grown
 pub grown : (hs xs : List (List Item)) → AllBegin hs xs → elements_all hs ≤ elements_all xs
@@ -119,7 +118,7 @@ least_wanted o h true e s l = let count = s.count in omega (arith, count, l)
 least_wanted o h false e s l = let count = s.count in omega (arith, count, l)
 
 -- all that was given is wanted
-all_wanted : (hs : List (List Item)) (os : List OutPort) → AllBegin hs (Sents os) → EachPort OutStands os → elements_all hs ≤ total wanted (OutWires os)
+all_wanted : (hs : List (List Item)) (os : List OutPort) → AllBegin hs (sents_of os) → EachPort OutStands os → elements_all hs ≤ total wanted (OutWires os)
 all_wanted [] [] b s = omega arith
 all_wanted [] (o ∷ os) b s = absurd b
 all_wanted (h ∷ hs) [] b s = absurd b
@@ -129,7 +128,7 @@ all_wanted (h ∷ hs) (o ∷ os) b s =
     omega (arith, here, rest)
 
 -- and one element more, where one more is wanted of some output
-pub more_wanted : (j : ℕ) (hs : List (List Item)) (os : List OutPort) → AllBegin hs (Sents os) → EachPort OutStands os → elements (slice_index_or hs j []) + 1 ≤ slice_index_or (OutWants os) j 0 → elements_all hs + 1 ≤ total wanted (OutWires os)
+pub more_wanted : (j : ℕ) (hs : List (List Item)) (os : List OutPort) → AllBegin hs (sents_of os) → EachPort OutStands os → elements (slice_index_or hs j []) + 1 ≤ slice_index_or (OutWants os) j 0 → elements_all hs + 1 ≤ total wanted (OutWires os)
 more_wanted j hs [] b s w = absurd (omega (arith, w))
 more_wanted j [] (o ∷ os) b s w = absurd b
 more_wanted zero (h ∷ hs) (o ∷ os) b s w =

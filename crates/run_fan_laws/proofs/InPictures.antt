@@ -39,19 +39,19 @@ use Rattle.stage_in.specs.Takings as taking
 use Rattle.stage_in.specs.Zippings as zipping
 use Rattle.stage_in.proofs.Nodes.{logic_rests}
 use Rattle.run_account.specs.KindLaws.{PictureLaws}
-use Rattle.run_account.specs.Ports.{InPort, OutPort, EachPort, InStands, OutStands, InRests, OutRests}
+use Rattle.run_account.specs.Ports.{InPort, OutPort, EachPort, InStands, OutStands, InRests, OutRests, gots_of}
 use Rattle.run_account.proofs.Coming.{elements_told}
 use Rattle.run_account.proofs.Histories.{list_of_told}
 use Rattle.run_fan_laws.specs.Unmoved.{NoAsking, never_ends}
 use Rattle.run_fan_laws.proofs.Flows.{Flows, law_flows}
-use Rattle.run_fan_laws.proofs.Orders.{Views, Gots, Wires}
+use Rattle.run_fan_laws.proofs.Orders.{Views, Wires}
 use Rattle.run_fan_laws.proofs.InRows.{InView_of, InMoments, one_list, concat_lawful, interleave_lawful, sorted_lawful, zip_lawful}
 use Rattle.run_fan_laws.proofs.Transport.{own_in, own_out, each, shuts, out_shuts, merge_rests, concat_rests, interleave_rests, sorted_rests, zip_rests}
 use Rattle.run_fan_laws.proofs.MergeRows.{merge_lawful}
 
 -- ---- what the stage shows of its ports
 
-ins_same : (is : List InPort) (fs : List Inflow) → Flows (Views is) (Gots is) fs → own_inputs (Views is) fs ≡ map own_in is
+ins_same : (is : List InPort) (fs : List Inflow) → Flows (Views is) (gots_of is) fs → own_inputs (Views is) fs ≡ map own_in is
 ins_same [] [] w = refl
 ins_same [] (f ∷ fs) w = absurd w
 ins_same (i ∷ is) [] w = absurd w
@@ -61,7 +61,7 @@ pub out_same : (o : OutPort) (g : List Tree) (e : End) → o.sent ≡ told g e �
 out_same o g e h = rw (h, elements_told g e, list_of_told g e) refl
 
 module _ (P : List picture.SeenWire → picture.SeenWire → Type 0) (is : List InPort) (o : OutPort) (ri : EachPort InRests is) (ro : OutRests o) where
-  fan_moved : (fs : List Inflow) (g : List Tree) (e : End) → Flows (Views is) (Gots is) fs → o.sent ≡ told g e → (P (map own_in is) (own_out o) → P (Wires is) o.wire) → FanRests P (InView_of is o) fs g
+  fan_moved : (fs : List Inflow) (g : List Tree) (e : End) → Flows (Views is) (gots_of is) fs → o.sent ≡ told g e → (P (map own_in is) (own_out o) → P (Wires is) o.wire) → FanRests P (InView_of is o) fs g
       → (EachWire IsShut (Wires is) × EachWire IsShut (o.wire ∷ [])) ⊎ P (Wires is) o.wire
   fan_moved fs g e w t move (inl h) =
       inl (each IsShut IsShut shuts is ri (subst (λ (vs : List picture.SeenWire). EachWire IsShut vs) (ins_same is fs w) h.0), (out_shuts o ro (subst IsShut (out_same o g e t) h.1.0), tt))
@@ -95,7 +95,7 @@ module _ (g : Graph) (w : World) (k : ℕ) (d : Decider) (is : List InPort) (o :
   Row now = InPortState now (InView_of is o)
 
   abbrev Law : InLogic → InLogic → Type 0
-  Law first now = InLaw first now (InView_of is o) (Gots is) (o.sent ∷ [])
+  Law first now = InLaw first now (InView_of is o) (gots_of is) (o.sent ∷ [])
 
   lawful_by : (kd : Kind) (first now : InLogic) → TakesAs kd first → TellsMoves w k now → Law first now → EachPort InStands is → OutStands o → InMoments first now is o → RowLawful g w k kd d (Wires is) (o.wire ∷ [])
   lawful_by (Concat n) (logic.Taking f) (logic.Taking l) t tells law s so m = concat_lawful f l is o law s so t.0 t.1 m
@@ -119,25 +119,25 @@ module _ (g : Graph) (w : World) (k : ℕ) (d : Decider) (is : List InPort) (o :
     zip_stays f l New e r at law s so = absurd (r.started e)
     zip_stays f l Closed e r at law s so = inl (all_closed is ri at.0, (ro.shut at.1, tt))
     zip_stays f l Open e r at law s so =
-        fan_moved ZipRests is o ri ro law.by.law.ins law.by.law.out_list law.by.law.out_end (law_flows (ZipKeeps (zipping.held l)) (InView_of is o) (Gots is) (o.sent ∷ []) law.by) (one_list o.sent law.by.given law.by.gave_is ∙ law.by.law.gave_is)
-        (zip_rests is o ri ro so (none_left is l (ap (λ (v : port.View). v.ins) at.0)) s) (logic_rests (logic.Zipping f) (logic.Zipping l) (InView_of is o) (Gots is) (o.sent ∷ []) r.started r.row law)
+        fan_moved ZipRests is o ri ro law.by.law.ins law.by.law.out_list law.by.law.out_end (law_flows (ZipKeeps (zipping.held l)) (InView_of is o) (gots_of is) (o.sent ∷ []) law.by) (one_list o.sent law.by.given law.by.gave_is ∙ law.by.law.gave_is)
+        (zip_rests is o ri ro so (none_left is l (ap (λ (v : port.View). v.ins) at.0)) s) (logic_rests (logic.Zipping f) (logic.Zipping l) (InView_of is o) (gots_of is) (o.sent ∷ []) r.started r.row law)
 
     taking_stays : (f l : taking.Taking) (P : List picture.SeenWire → picture.SeenWire → Type 0) → TakingRests l.segment ≡ P → Row (logic.Taking l) → Law (logic.Taking f) (logic.Taking l) → (P (map own_in is) (own_out o) → P (Wires is) o.wire)
         → (EachWire IsShut (Wires is) × EachWire IsShut (o.wire ∷ [])) ⊎ P (Wires is) o.wire
     taking_stays f l P by r law move =
-        fan_moved P is o ri ro law.by.law.ins law.by.law.out_list law.by.law.out_end (law_flows (FanKeeps (taking_by f.segment) (taking.place_of f) (taking.held l)) (InView_of is o) (Gots is) (o.sent ∷ []) law.by) (one_list o.sent law.by.given law.by.gave_is ∙ law.by.law.gave_is)
-        move (subst (λ (Q : List picture.SeenWire → picture.SeenWire → Type 0). FanRests Q (InView_of is o) law.by.law.ins law.by.law.out_list) by (logic_rests (logic.Taking f) (logic.Taking l) (InView_of is o) (Gots is) (o.sent ∷ []) r.started r.row law))
+        fan_moved P is o ri ro law.by.law.ins law.by.law.out_list law.by.law.out_end (law_flows (FanKeeps (taking_by f.segment) (taking.place_of f) (taking.held l)) (InView_of is o) (gots_of is) (o.sent ∷ []) law.by) (one_list o.sent law.by.given law.by.gave_is ∙ law.by.law.gave_is)
+        move (subst (λ (Q : List picture.SeenWire → picture.SeenWire → Type 0). FanRests Q (InView_of is o) law.by.law.ins law.by.law.out_list) by (logic_rests (logic.Taking f) (logic.Taking l) (InView_of is o) (gots_of is) (o.sent ∷ []) r.started r.row law))
 
     stays_by : (kd : Kind) (first now : InLogic) → TakesAs kd first → Row now → Law first now → EachPort InStands is → OutStands o → Stays kd
     stays_by (Concat n) (logic.Taking f) (logic.Taking l) t r law s so = taking_stays f l ConcatRests (ap TakingRests (law.same ∙ t.0)) r law (concat_rests is o ri ro)
     stays_by (Interleave n c) (logic.Taking f) (logic.Taking l) t r law s so = taking_stays f l InterleaveRests (ap TakingRests (law.same ∙ t.0)) r law (interleave_rests is o ri ro)
     stays_by MergeSorted (logic.Sorting f) (logic.Sorting l) t r law s so =
-        fan_moved SortedRests is o ri ro law.by.law.ins law.by.law.out_list law.by.law.out_end (law_flows (FanKeeps sorting sorted.nowhere (sorted.held l)) (InView_of is o) (Gots is) (o.sent ∷ []) law.by) (one_list o.sent law.by.given law.by.gave_is ∙ law.by.law.gave_is)
-        (sorted_rests is o ri ro) (logic_rests (logic.Sorting f) (logic.Sorting l) (InView_of is o) (Gots is) (o.sent ∷ []) r.started r.row law)
+        fan_moved SortedRests is o ri ro law.by.law.ins law.by.law.out_list law.by.law.out_end (law_flows (FanKeeps sorting sorted.nowhere (sorted.held l)) (InView_of is o) (gots_of is) (o.sent ∷ []) law.by) (one_list o.sent law.by.given law.by.gave_is ∙ law.by.law.gave_is)
+        (sorted_rests is o ri ro) (logic_rests (logic.Sorting f) (logic.Sorting l) (InView_of is o) (gots_of is) (o.sent ∷ []) r.started r.row law)
     stays_by Zip (logic.Zipping f) (logic.Zipping l) t r law s so = zip_stays f l l.phase refl r r.row law s so
     stays_by (Merge n) (logic.Merging f) (logic.Merging l) t r law s so =
-        fan_moved MergeRests is o ri ro law.by.law.ins law.by.law.out_list law.by.law.out_end (law_flows (MergeKeeps (merging.held l)) (InView_of is o) (Gots is) (o.sent ∷ []) law.by) (one_list o.sent law.by.given law.by.gave_is ∙ law.by.law.gave_is)
-        (merge_rests is o ri ro) (logic_rests (logic.Merging f) (logic.Merging l) (InView_of is o) (Gots is) (o.sent ∷ []) r.started r.row law)
+        fan_moved MergeRests is o ri ro law.by.law.ins law.by.law.out_list law.by.law.out_end (law_flows (MergeKeeps (merging.held l)) (InView_of is o) (gots_of is) (o.sent ∷ []) law.by) (one_list o.sent law.by.given law.by.gave_is ∙ law.by.law.gave_is)
+        (merge_rests is o ri ro) (logic_rests (logic.Merging f) (logic.Merging l) (InView_of is o) (gots_of is) (o.sent ∷ []) r.started r.row law)
     stays_by (Concat n) (logic.Taking f) now t r law s so = absurd law.same
     stays_by (Interleave n c) (logic.Taking f) now t r law s so = absurd law.same
     stays_by MergeSorted (logic.Sorting f) now t r law s so = absurd law.same
@@ -155,7 +155,7 @@ no_sink kd first t = absurd t
 
 module _ (g : Graph) (w : World) (k : ℕ) (n : graph.Node) where
   pub in_picture : (first now : InLogic) (is : List InPort) (os : List OutPort) → Begins k n.kind n.decider first → TellsMoves w k now → InPortState now (record { ins = Views is; outs = map (λ (o : OutPort). o.view) os })
-      → InLaw first now (record { ins = Views is; outs = map (λ (o : OutPort). o.view) os }) (Gots is) (map (λ (o : OutPort). o.sent) os) → PictureLaws InPortState InLaw NoAsking in_moves never_ends g w k n first now is os
+      → InLaw first now (record { ins = Views is; outs = map (λ (o : OutPort). o.view) os }) (gots_of is) (map (λ (o : OutPort). o.sent) os) → PictureLaws InPortState InLaw NoAsking in_moves never_ends g w k n first now is os
   in_picture first now is [] b tells r law = let none = law.by.gave_is in absurd cc
   in_picture first now is (o ∷ p ∷ os) b tells r law = let more = law.by.gave_is in absurd cc
   in_picture first now is (o ∷ []) b tells r law = record {

@@ -35,12 +35,12 @@ use Rattle.stage_in.specs.Takings.{Taking, InOrder}
 use Rattle.stage_in.specs.Zippings as zipping
 use Rattle.run_account.specs.Account.{AllBegin, Earlier}
 use Rattle.run_account.specs.KindLaws.{Moments}
-use Rattle.run_account.specs.Ports.{InPort, OutPort, EachPort, InStands, OutStands}
+use Rattle.run_account.specs.Ports.{InPort, OutPort, EachPort, InStands, OutStands, gots_of}
 use Rattle.run_account.proofs.Coming.{elements_told, elements_prefix}
 use Rattle.run_fan_laws.specs.Unmoved.{NoAsking}
 use Rattle.run_fan_laws.proofs.Flows.{Flows, law_flows, flow_count, total_length, came_sent}
 use Rattle.run_fan_laws.proofs.Counting.{stands_few, concat_few, turns_few, sorted_few, pairs_few, used_few, used_prefix}
-use Rattle.run_fan_laws.proofs.Orders.{Views, Gots, Wants, Wires, used_up, FirstShut, concat_inputs, concat_asked, wants_some, waiting_count, one_waits, turn_ports, never_asked, asked_or_not}
+use Rattle.run_fan_laws.proofs.Orders.{Views, Wants, Wires, used_up, FirstShut, concat_inputs, concat_asked, wants_some, waiting_count, one_waits, turn_ports, never_asked, asked_or_not}
 use Rattle.run_fan_laws.proofs.InMoments.{turn_of, seats_left, Waits, pair_waits, Merge, merged, length-pairs, given_count}
 
 abbrev pub InView_of : List InPort → OutPort → port.View
@@ -53,7 +53,7 @@ pub one_list : (x y : List Item) → x ∷ [] ≡ y ∷ [] → x ≡ y
 one_list x y e = cc
 
 -- no more was given than came
-given_sent : (h : ℕ) (taken : List Outlook → List Tagged) (is : List InPort) (fs : List Inflow) (o : OutPort) (g : List Tree) (f : End) → Flows (Views is) (Gots is) fs → EachPort InStands is → OutStands o → o.sent ≡ told g f → FanStands h taken fs g f
+given_sent : (h : ℕ) (taken : List Outlook → List Tagged) (is : List InPort) (fs : List Inflow) (o : OutPort) (g : List Tree) (f : End) → Flows (Views is) (gots_of is) fs → EachPort InStands is → OutStands o → o.sent ≡ told g f → FanStands h taken fs g f
     → length (taken (map flow fs)) ≤ total_length (map flow fs) → o.wire.sent ≤ sent_in (Wires is)
 given_sent h taken is fs o g f w s so told_is stands few =
     let a = stands_few h taken fs g f stands in
@@ -64,9 +64,9 @@ given_sent h taken is fs o g f w s so told_is stands few =
 
 -- ---- a concat or an interleave
 
-module _ (first now : Taking) (is : List InPort) (o : OutPort) (law : InLaw (logic.Taking first) (logic.Taking now) (InView_of is o) (Gots is) (o.sent ∷ [])) (stands : EachPort InStands is) (so : OutStands o) where
-  taking_flows : Flows (Views is) (Gots is) law.by.law.ins
-  taking_flows = law_flows (FanKeeps (taking_by first.segment) (taking.place_of first) (taking.held now)) (InView_of is o) (Gots is) (o.sent ∷ []) law.by
+module _ (first now : Taking) (is : List InPort) (o : OutPort) (law : InLaw (logic.Taking first) (logic.Taking now) (InView_of is o) (gots_of is) (o.sent ∷ [])) (stands : EachPort InStands is) (so : OutStands o) where
+  taking_flows : Flows (Views is) (gots_of is) law.by.law.ins
+  taking_flows = law_flows (FanKeeps (taking_by first.segment) (taking.place_of first) (taking.held now)) (InView_of is o) (gots_of is) (o.sent ∷ []) law.by
 
   taking_given : (taken : List Outlook → List Tagged) → (taking_by first.segment).from (taking.place_of first) ≡ taken → ((os : List Outlook) → length (taken os) ≤ total_length os) → o.wire.sent ≤ sent_in (Wires is)
   taking_given taken by few =
@@ -80,7 +80,7 @@ module _ (first now : Taking) (is : List InPort) (o : OutPort) (law : InLaw (log
     concat_inputs (Unit {0}) tt 0 (wanted o.wire) (Wires is) (λ p v at some. asked p v at (moments p (wants_some is p v stands at some)).0),
   )
     where
-      asked : (p : ℕ) (v : picture.SeenWire) → slice_get (Wires is) p ≡ Some v → Earlier InPortState InLaw NoAsking in_moves p (logic.Taking first) (logic.Taking now) (Gots is) (o.sent ∷ []) (Wants is) (o.want ∷ []) (o.wire.shut ∷ []) → FirstShut p (Wires is) × (demand v + (0 + sent_in (take p (Wires is))) ≤ wanted o.wire)
+      asked : (p : ℕ) (v : picture.SeenWire) → slice_get (Wires is) p ≡ Some v → Earlier InPortState InLaw NoAsking in_moves p (logic.Taking first) (logic.Taking now) (gots_of is) (o.sent ∷ []) (Wants is) (o.want ∷ []) (o.wire.shut ∷ []) → FirstShut p (Wires is) × (demand v + (0 + sent_in (take p (Wires is))) ≤ wanted o.wire)
       asked p v at e =
           let t = turn_of first e.old e.knew e.had e.given p e.row_held e.law_held e.waited in
           let count = t.count in
@@ -163,12 +163,12 @@ asked_few p all want most d reach ask = elim (some_or_none want) [
 
 module _ (first now : Pairing) (o : OutPort) where
   abbrev SortedNow : List InPort → Type 0
-  SortedNow is = InLaw (logic.Sorting first) (logic.Sorting now) (InView_of is o) (Gots is) (o.sent ∷ [])
+  SortedNow is = InLaw (logic.Sorting first) (logic.Sorting now) (InView_of is o) (gots_of is) (o.sent ∷ [])
 
   abbrev SortedEarlier : List InPort → ℕ → Type 0
-  SortedEarlier is p = Earlier InPortState InLaw NoAsking in_moves p (logic.Sorting first) (logic.Sorting now) (Gots is) (o.sent ∷ []) (Wants is) (o.want ∷ []) (o.wire.shut ∷ [])
+  SortedEarlier is p = Earlier InPortState InLaw NoAsking in_moves p (logic.Sorting first) (logic.Sorting now) (gots_of is) (o.sent ∷ []) (Wants is) (o.want ∷ []) (o.wire.shut ∷ [])
 
-  sorted_ask : (i j : InPort) (c d : Inflow) (p : ℕ) → Flows (Views (i ∷ j ∷ [])) (Gots (i ∷ j ∷ [])) (c ∷ d ∷ []) → SortedEarlier (i ∷ j ∷ []) p → SortedAsk p (sorting.from sorted.nowhere (map flow (c ∷ d ∷ []))) (slice_index_or (Wants (i ∷ j ∷ [])) p 0) (elements o.sent)
+  sorted_ask : (i j : InPort) (c d : Inflow) (p : ℕ) → Flows (Views (i ∷ j ∷ [])) (gots_of (i ∷ j ∷ [])) (c ∷ d ∷ []) → SortedEarlier (i ∷ j ∷ []) p → SortedAsk p (sorting.from sorted.nowhere (map flow (c ∷ d ∷ []))) (slice_index_or (Wants (i ∷ j ∷ [])) p 0) (elements o.sent)
   sorted_ask i j c d p w e = by e.old e.row_held e.law_held
     where
       from : Merge p (sorting.from sorted.nowhere (map flow (c ∷ d ∷ []))) e.had e.given → SortedAsk p (sorting.from sorted.nowhere (map flow (c ∷ d ∷ []))) (slice_index_or (Wants (i ∷ j ∷ [])) p 0) (elements o.sent)
@@ -189,7 +189,7 @@ module _ (first now : Pairing) (o : OutPort) where
           let flows = law_flows (FanKeeps sorting sorted.nowhere (sorted.held l)) e.knew e.had e.given law.by in
           two law.by.law.ins refl e.had refl flows e.took_on
         where
-          two : (fs : List Inflow) → law.by.law.ins ≡ fs → (hs : List (List Item)) → e.had ≡ hs → Flows e.knew.ins hs fs → AllBegin hs (Gots (i ∷ j ∷ [])) → Merge p (sorting.from sorted.nowhere (map flow (c ∷ d ∷ []))) e.had e.given
+          two : (fs : List Inflow) → law.by.law.ins ≡ fs → (hs : List (List Item)) → e.had ≡ hs → Flows e.knew.ins hs fs → AllBegin hs (gots_of (i ∷ j ∷ [])) → Merge p (sorting.from sorted.nowhere (map flow (c ∷ d ∷ []))) e.had e.given
           two fs fe [] he f b = absurd b
           two fs fe (h ∷ []) he f b = absurd b.1
           two fs fe (h ∷ k ∷ l ∷ hs) he f b = absurd b.1.1
@@ -212,7 +212,7 @@ module _ (first now : Pairing) (o : OutPort) where
       by (logic.Merging l) r law = absurd law.same
       by (logic.Zipping l) r law = absurd law.same
 
-  sorted_pair : (i j : InPort) (c d : Inflow) → Flows (Views (i ∷ j ∷ [])) (Gots (i ∷ j ∷ [])) (c ∷ d ∷ []) → EachPort InStands (i ∷ j ∷ []) → OutStands o → InMoments (logic.Sorting first) (logic.Sorting now) (i ∷ j ∷ []) o → total demand (Wires (i ∷ j ∷ [])) ≤ o.wire.sent + 2
+  sorted_pair : (i j : InPort) (c d : Inflow) → Flows (Views (i ∷ j ∷ [])) (gots_of (i ∷ j ∷ [])) (c ∷ d ∷ []) → EachPort InStands (i ∷ j ∷ []) → OutStands o → InMoments (logic.Sorting first) (logic.Sorting now) (i ∷ j ∷ []) o → total demand (Wires (i ∷ j ∷ [])) ≤ o.wire.sent + 2
   sorted_pair i j c d w s so moments =
       let all = sorting.from sorted.nowhere (map flow (c ∷ d ∷ [])) in
       let a = asked_few 0 all i.want (elements o.sent) (demand i.wire) s.0.reach (λ some. sorted_ask i j c d 0 w (moments 0 some).0) in
@@ -232,20 +232,20 @@ module _ (first now : Pairing) (o : OutPort) where
           let row = subst (λ f. port_state_by sorted.Sound f l e.knew) waits.is_open r.row in
           let ins = ap (λ (v : port.View). length v.ins) row.0 in
           let ports = law.by.ports in
-          let had = begun_length e.had (Gots is) e.took_on in
+          let had = begun_length e.had (gots_of is) e.took_on in
           let many = length-map is (λ (i : InPort). i.got) in
           omega (arith, ins, ports, had, many)
       by (logic.Taking l) r law = absurd law.same
       by (logic.Merging l) r law = absurd law.same
       by (logic.Zipping l) r law = absurd law.same
 
-  sorted_demand : (is : List InPort) (now_flows : List Inflow) → Flows (Views is) (Gots is) now_flows → EachPort InStands is → OutStands o → InMoments (logic.Sorting first) (logic.Sorting now) is o → total demand (Wires is) ≤ o.wire.sent + 2
+  sorted_demand : (is : List InPort) (now_flows : List Inflow) → Flows (Views is) (gots_of is) now_flows → EachPort InStands is → OutStands o → InMoments (logic.Sorting first) (logic.Sorting now) is o → total demand (Wires is) ≤ o.wire.sent + 2
   sorted_demand is fs w s so moments = elim (asked_or_not (Wants is)) [
     | inl some ↦ two is fs (sorted_two is some.0 (moments some.0 some.1).0) w s moments
     | inr never ↦ let none = never_demand is s never in omega (arith, none)
   ]
     where
-      two : (is : List InPort) (fs : List Inflow) → length is ≡ 2 → Flows (Views is) (Gots is) fs → EachPort InStands is → InMoments (logic.Sorting first) (logic.Sorting now) is o → total demand (Wires is) ≤ o.wire.sent + 2
+      two : (is : List InPort) (fs : List Inflow) → length is ≡ 2 → Flows (Views is) (gots_of is) fs → EachPort InStands is → InMoments (logic.Sorting first) (logic.Sorting now) is o → total demand (Wires is) ≤ o.wire.sent + 2
       two [] fs l w s m = absurd (omega (arith, l))
       two (i ∷ []) fs l w s m = absurd (omega (arith, l))
       two (i ∷ j ∷ k ∷ is) fs l w s m = absurd (omega (arith, l))
@@ -256,7 +256,7 @@ module _ (first now : Pairing) (o : OutPort) where
 
   pub sorted_lawful : (is : List InPort) → SortedNow is → EachPort InStands is → OutStands o → InMoments (logic.Sorting first) (logic.Sorting now) is o → SortedLawful (Wires is) o.wire
   sorted_lawful is law s so moments =
-      let flows = law_flows (FanKeeps sorting sorted.nowhere (sorted.held now)) (InView_of is o) (Gots is) (o.sent ∷ []) law.by in (
+      let flows = law_flows (FanKeeps sorting sorted.nowhere (sorted.held now)) (InView_of is o) (gots_of is) (o.sent ∷ []) law.by in (
         given_sent 1 sorted_taken is law.by.law.ins o law.by.law.out_list law.by.law.out_end flows s so (one_list o.sent law.by.given law.by.gave_is ∙ law.by.law.gave_is)
             (fan_stands sorting sorted.nowhere (sorted.held now) law.by.law.ins law.by.law.out_list law.by.law.out_end law.by.law.keeps) (sorted_all (map flow law.by.law.ins)),
         sorted_demand is law.by.law.ins flows s so moments,
@@ -279,10 +279,10 @@ zip_few c d g f st =
 
 module _ (first now : Pairing) (o : OutPort) where
   abbrev ZipNow : List InPort → Type 0
-  ZipNow is = InLaw (logic.Zipping first) (logic.Zipping now) (InView_of is o) (Gots is) (o.sent ∷ [])
+  ZipNow is = InLaw (logic.Zipping first) (logic.Zipping now) (InView_of is o) (gots_of is) (o.sent ∷ [])
 
   abbrev ZipEarlier : List InPort → ℕ → Type 0
-  ZipEarlier is p = Earlier InPortState InLaw NoAsking in_moves p (logic.Zipping first) (logic.Zipping now) (Gots is) (o.sent ∷ []) (Wants is) (o.want ∷ []) (o.wire.shut ∷ [])
+  ZipEarlier is p = Earlier InPortState InLaw NoAsking in_moves p (logic.Zipping first) (logic.Zipping now) (gots_of is) (o.sent ∷ []) (Wants is) (o.want ∷ []) (o.wire.shut ∷ [])
 
   -- what it had given when it asked there is all that had come there
   zip_gave : (l : Pairing) (p : ℕ) (xs : List InView) (hs : List (List Item)) (fs : List Inflow) (g : List Tree) (f : End) → Waits l p → ZipKeeps (zip.waits (inlet_flow l.left) (inlet_flow l.right)) fs g f → Flows xs hs fs → elements (slice_index_or hs p []) ≡ length g
@@ -351,12 +351,12 @@ module _ (first now : Pairing) (o : OutPort) where
       (omega (arith, came, count, sent, few), elim (some_or_none i.want) [ inl none ↦ omega (arith, none, reach) | inr some ↦ let a = ask some in omega (arith, a, reach, all) ])
 
   pub zip_lawful : (is : List InPort) → ZipNow is → EachPort InStands is → OutStands o → InMoments (logic.Zipping first) (logic.Zipping now) is o → ZipLawful (Wires is) o.wire
-  zip_lawful is law s so moments = two is law.by.law.ins (law_flows (ZipKeeps (zipping.held now)) (InView_of is o) (Gots is) (o.sent ∷ []) law.by) (zip_history_stands (zipping.held now) (InView_of is o) (λ i. slice_index_or (Gots is) i []) law.by.given law.by.law) s moments
+  zip_lawful is law s so moments = two is law.by.law.ins (law_flows (ZipKeeps (zipping.held now)) (InView_of is o) (gots_of is) (o.sent ∷ []) law.by) (zip_history_stands (zipping.held now) (InView_of is o) (λ i. slice_index_or (gots_of is) i []) law.by.given law.by.law) s moments
     where
       sent : o.wire.sent ≡ length law.by.law.out_list
       sent = so.count ∙ ap elements (one_list o.sent law.by.given law.by.gave_is ∙ law.by.law.gave_is) ∙ elements_told law.by.law.out_list law.by.law.out_end
 
-      two : (is : List InPort) (fs : List Inflow) → Flows (Views is) (Gots is) fs → ZipStandsOf fs law.by.law.out_list law.by.law.out_end → EachPort InStands is → InMoments (logic.Zipping first) (logic.Zipping now) is o → ZipLawful (Wires is) o.wire
+      two : (is : List InPort) (fs : List Inflow) → Flows (Views is) (gots_of is) fs → ZipStandsOf fs law.by.law.out_list law.by.law.out_end → EachPort InStands is → InMoments (logic.Zipping first) (logic.Zipping now) is o → ZipLawful (Wires is) o.wire
       two is [] w st s m = absurd st
       two is (c ∷ []) w st s m = absurd st
       two is (c ∷ d ∷ e ∷ fs) w st s m = absurd st

@@ -30,11 +30,11 @@ use Rattle.stage_in.specs.declared.logic.InLogic.TheVariants as logic
 use Rattle.stage_in.specs.Logics.{InPortState, InLaw}
 use Rattle.stage_in.specs.Moves.{in_moves}
 use Rattle.run_account.specs.Account.{Earlier}
-use Rattle.run_account.specs.Ports.{InPort, OutPort, EachPort, InStands, OutStands}
+use Rattle.run_account.specs.Ports.{InPort, OutPort, EachPort, InStands, OutStands, gots_of}
 use Rattle.run_account.proofs.Coming.{elements_told}
 use Rattle.run_fan_laws.specs.Unmoved.{NoAsking}
 use Rattle.run_fan_laws.proofs.Flows.{Flows, law_flows, flow_count}
-use Rattle.run_fan_laws.proofs.Orders.{Views, Gots, Wants, Wires}
+use Rattle.run_fan_laws.proofs.Orders.{Views, Wants, Wires}
 use Rattle.run_fan_laws.proofs.InMoments.{closed_wait}
 use Rattle.run_fan_laws.proofs.InRows.{InView_of, InMoments, one_list, some_or_none}
 
@@ -113,7 +113,7 @@ merge_whole first l v had given p started r law waits = by l.core.phase refl r
 -- ---- its row
 
 -- of each input no more went out than came, and one more may be wanted
-inputs_lawful : (moves : List ℕ) (n : ℕ) (is : List InPort) (fs : List Inflow) → Flows (Views is) (Gots is) fs → EachPort InStands is → ((p : ℕ) → count_of (n + p) moves ≤ length (get_or (lists_of fs) p []))
+inputs_lawful : (moves : List ℕ) (n : ℕ) (is : List InPort) (fs : List Inflow) → Flows (Views is) (gots_of is) fs → EachPort InStands is → ((p : ℕ) → count_of (n + p) moves ≤ length (get_or (lists_of fs) p []))
     → ((p : ℕ) → slice_index_or (Wants is) p 0 ≤ count_of (n + p) moves + 1) → MergeInputs moves n (Wires is)
 inputs_lawful moves n [] fs w s few ask = tt
 inputs_lawful moves n (i ∷ is) [] w s few ask = absurd w
@@ -131,13 +131,13 @@ inputs_lawful moves n (i ∷ is) (f ∷ fs) w s few ask =
           (λ p. let q : slice_index_or (Wants is) p 0 ≤ count_of (n + suc p) moves + 1 = ask (suc p) in let d : n + suc p ≡ n + 1 + p = omega arith in rw d at q),
     )
 
-module _ (first now : Merging) (is : List InPort) (o : OutPort) (law : InLaw (logic.Merging first) (logic.Merging now) (InView_of is o) (Gots is) (o.sent ∷ [])) (stands : EachPort InStands is) (so : OutStands o) where
+module _ (first now : Merging) (is : List InPort) (o : OutPort) (law : InLaw (logic.Merging first) (logic.Merging now) (InView_of is o) (gots_of is) (o.sent ∷ [])) (stands : EachPort InStands is) (so : OutStands o) where
   gave : MergeStands now.log.moves law.by.law.ins law.by.law.out_list law.by.law.out_end
   gave =
       subst (λ ms. MergeStands ms law.by.law.ins law.by.law.out_list law.by.law.out_end) (moves_held now)
-      (merge_history_stands (merging.held now) (InView_of is o) (λ i. slice_index_or (Gots is) i []) law.by.given law.by.law)
+      (merge_history_stands (merging.held now) (InView_of is o) (λ i. slice_index_or (gots_of is) i []) law.by.given law.by.law)
 
-  asked : (p : ℕ) → Earlier InPortState InLaw NoAsking in_moves p (logic.Merging first) (logic.Merging now) (Gots is) (o.sent ∷ []) (Wants is) (o.want ∷ []) (o.wire.shut ∷ []) → slice_index_or (Wants is) p 0 ≤ count_of p now.log.moves + 1
+  asked : (p : ℕ) → Earlier InPortState InLaw NoAsking in_moves p (logic.Merging first) (logic.Merging now) (gots_of is) (o.sent ∷ []) (Wants is) (o.want ∷ []) (o.wire.shut ∷ []) → slice_index_or (Wants is) p 0 ≤ count_of p now.log.moves + 1
   asked p e = by e.old e.row_held e.law_held e.moves_on
     where
       by : (old : InLogic) → InPortState old e.knew → InLaw (logic.Merging first) old e.knew e.had e.given → IsPrefix (in_moves old) now.log.moves → slice_index_or (Wants is) p 0 ≤ count_of p now.log.moves + 1
@@ -160,6 +160,6 @@ module _ (first now : Merging) (is : List InPort) (o : OutPort) (law : InLaw (lo
   merge_lawful moments = (
     so.count ∙ ap elements (one_list o.sent law.by.given law.by.gave_is ∙ law.by.law.gave_is) ∙ elements_told law.by.law.out_list law.by.law.out_end ∙ ap length gave.gave
         ∙ length-map (merge_of now.log.moves (lists_of law.by.law.ins)) (λ (x : Tagged). x.item) ∙ length-merge_of now.log.moves (lists_of law.by.law.ins) gave.finds,
-    inputs_lawful now.log.moves 0 is law.by.law.ins (law_flows (MergeKeeps (merging.held now)) (InView_of is o) (Gots is) (o.sent ∷ []) law.by) stands
+    inputs_lawful now.log.moves 0 is law.by.law.ins (law_flows (MergeKeeps (merging.held now)) (InView_of is o) (gots_of is) (o.sent ∷ []) law.by) stands
         (λ p. let e : 0 + p ≡ p = omega arith in rw e (count_le now.log.moves (lists_of law.by.law.ins) p gave.finds)) (λ p. let e : 0 + p ≡ p = omega arith in rw e (wanted_few moments p)),
   )

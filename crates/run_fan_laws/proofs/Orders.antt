@@ -23,15 +23,12 @@ use Rattle.stage_fans.proofs.Flags.{other}
 use Rattle.stage_in.proofs.Seats.{marked_before}
 use Rattle.fused_net.proofs.Reading.{same_or_not}
 use Rattle.run_account.specs.Account.{AllBegin, WantedAt}
-use Rattle.run_account.specs.Ports.{InPort, EachPort, InStands}
+use Rattle.run_account.specs.Ports.{InPort, EachPort, InStands, gots_of}
 use Rattle.run_fan_laws.proofs.Flows.{Flows, all_elements, some_elements, flow_count, ended_over, over_ended, done_same}
 use Rattle.run_fan_laws.proofs.Counting.{used_all, used_few}
 
 abbrev pub Views : List InPort → List InView
 Views is = map (λ (i : InPort). i.view) is
-
-abbrev pub Gots : List InPort → List (List Item)
-Gots is = map (λ (i : InPort). i.got) is
 
 abbrev pub Wants : List InPort → List ℕ
 Wants is = map (λ (i : InPort). i.want) is
@@ -98,7 +95,7 @@ port_at (i ∷ is) zero v s e = let same : i.wire ≡ v = cc in record { port = 
 port_at (i ∷ is) (suc p) v s e = let r = port_at is p v s.1 e in record { port = r.port; wire = r.wire; stands = r.stands; want = r.want }
 
 -- the inputs that had ended are shut, and all that was sent to them had come
-ended_before : (p n : ℕ) (g : List Tagged) (over : List Bool) (is : List InPort) (now : List Inflow) (xs : List InView) (hs : List (List Item)) (fs : List Inflow) → EachPort InStands is → Flows (Views is) (Gots is) now → AllBegin hs (Gots is)
+ended_before : (p n : ℕ) (g : List Tagged) (over : List Bool) (is : List InPort) (now : List Inflow) (xs : List InView) (hs : List (List Item)) (fs : List Inflow) → EachPort InStands is → Flows (Views is) (gots_of is) now → AllBegin hs (gots_of is)
     → Flows xs hs fs → UsesInputs n g (none_of over) fs → ((k : ℕ) → k < p → slice_get over k ≡ Some true) → FirstShut p (Wires is) × (sent_in (take p (Wires is)) ≤ all_elements (take p hs))
 ended_before zero n g over is now xs hs fs s w b f u o = (tt, omega arith)
 ended_before (suc p) n g over [] now xs hs fs s w b f u o = (tt, omega arith)
@@ -122,9 +119,9 @@ ended_before (suc p) n g over (i ∷ is) (y ∷ now) [] (h ∷ hs) fs s w b f u 
 ended_before (suc p) n g over (i ∷ is) (y ∷ now) (x ∷ xs) (h ∷ hs) [] s w b f u o = absurd f
 ended_before (suc p) n g [] (i ∷ is) (y ∷ now) (x ∷ xs) (h ∷ hs) (k ∷ fs) s w b f u o = absurd u
 
-module _ (is : List InPort) (now : List Inflow) (stands : EachPort InStands is) (came : Flows (Views is) (Gots is) now) where
+module _ (is : List InPort) (now : List Inflow) (stands : EachPort InStands is) (came : Flows (Views is) (gots_of is) now) where
   -- as input p asked, which was the only one that was asked, and all before it had ended
-  pub concat_asked : (p : ℕ) (g : List Tagged) (over : List Bool) (xs : List InView) (hs : List (List Item)) (fs : List Inflow) (most : ℕ) → AllBegin hs (Gots is) → Flows xs hs fs → UsesInputs 0 g (none_of over) fs → OverBetween over 0 p
+  pub concat_asked : (p : ℕ) (g : List Tagged) (over : List Bool) (xs : List InView) (hs : List (List Item)) (fs : List Inflow) (most : ℕ) → AllBegin hs (gots_of is) → Flows xs hs fs → UsesInputs 0 g (none_of over) fs → OverBetween over 0 p
       → slice_index_or (Wants is) p 0 ≡ elements (slice_index_or hs p []) + 1 → length g + 1 ≤ most → (v : picture.SeenWire) → slice_get (Wires is) p ≡ Some v → FirstShut p (Wires is) × (demand v + (0 + sent_in (take p (Wires is))) ≤ most)
   concat_asked p g over xs hs fs most begins f u o one enough v at =
       let i = port_at is p v stands at in
@@ -209,7 +206,7 @@ turn_port i Finished h f y xs s w b k l st =
     omega (arith, few, same, count, cut)
 
 -- all of them
-pub turn_ports : (is : List InPort) (now : List Inflow) (xs : List InView) (hs : List (List Item)) (fs : List Inflow) → EachPort InStands is → Flows (Views is) (Gots is) now → AllBegin hs (Gots is) → Flows xs hs fs → ((n : ℕ) → n < length xs → slice_index_or xs n Cancelled ≢ Cancelled)
+pub turn_ports : (is : List InPort) (now : List Inflow) (xs : List InView) (hs : List (List Item)) (fs : List Inflow) → EachPort InStands is → Flows (Views is) (gots_of is) now → AllBegin hs (gots_of is) → Flows xs hs fs → ((n : ℕ) → n < length xs → slice_index_or xs n Cancelled ≢ Cancelled)
     → ((n : ℕ) → WantedAt (slice_index_or xs n Cancelled) (slice_index_or (Wants is) n 0) (elements (slice_index_or hs n []))) → total taken_or_wanted (Wires is) ≤ all_elements hs + waiting_count xs
 turn_ports [] now xs hs fs s w b f l st = omega arith
 turn_ports (i ∷ is) (y ∷ now) (x ∷ xs) (h ∷ hs) (k ∷ fs) s w b f l st =

@@ -22,13 +22,10 @@ use Rattle.stage_out.specs.Copies.{copying, nothing_owed}
 use Rattle.stage_out.specs.Machines.{no_stage, copiers, number_starts}
 use Rattle.stage_out.proofs.Agreeing.{copies_run}
 use Rattle.stage_out.proofs.Rests.{told_lists}
-use Rattle.run_account.specs.Ports.{OutPort, EachPort, OutStands}
+use Rattle.run_account.specs.Ports.{OutPort, EachPort, OutStands, sents_of}
 use Rattle.run_account.proofs.Bounds.{gives_most}
 use Rattle.run_account.proofs.Coming.{elements_told}
 use Rattle.run_fan_laws.proofs.Numberings.{machine, start, no_more}
-
-abbrev pub Sents : List OutPort → List (List Item)
-Sents os = map (λ (o : OutPort). o.sent) os
 
 -- the law of each output from number n on, over what each gave
 abbrev pub OutsList : ℕ → List (Outlet Stage) → View → List Item → List (List Item) → Type 0
@@ -72,7 +69,7 @@ abbrev pub AllSent : ℕ → List OutPort → (ℕ → ℕ) → Type 0
 AllSent n [] b = ⊤
 AllSent n (o ∷ os) b = (o.wire.sent ≤ b n) × AllSent (n + 1) os b
 
-pub all_sent : (os : List (Outlet Stage)) (ports : List OutPort) (n : ℕ) (v : View) (took : List Item) (l k : List Tree) (e : End) (b : ℕ → ℕ) → AllMost n os k b → OutsList n os v took (Sents ports) → took ≡ told l e → IsPrefix l k → EachPort OutStands ports → AllSent n ports b
+pub all_sent : (os : List (Outlet Stage)) (ports : List OutPort) (n : ℕ) (v : View) (took : List Item) (l k : List Tree) (e : End) (b : ℕ → ℕ) → AllMost n os k b → OutsList n os v took (sents_of ports) → took ≡ told l e → IsPrefix l k → EachPort OutStands ports → AllSent n ports b
 all_sent [] [] n v took l k e b m law is part s = tt
 all_sent [] (p ∷ ports) n v took l k e b m law is part s = absurd law
 all_sent (o ∷ os) [] n v took l k e b m law is part s = absurd law

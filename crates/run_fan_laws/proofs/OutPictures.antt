@@ -50,12 +50,12 @@ use Rattle.stage_out.proofs.Rests.{outlists}
 use Rattle.run_account.specs.Account.{AllBegin, Earlier}
 use Rattle.run_account.specs.Items.{list_of}
 use Rattle.run_account.specs.KindLaws.{Moments, PictureLaws}
-use Rattle.run_account.specs.Ports.{InPort, OutPort, EachPort, InStands, OutStands, InRests, OutRests}
+use Rattle.run_account.specs.Ports.{InPort, OutPort, EachPort, InStands, OutStands, InRests, OutRests, sents_of}
 use Rattle.run_account.proofs.Coming.{elements_told}
 use Rattle.run_account.proofs.Histories.{list_of_told, begun}
 use Rattle.run_fan_laws.specs.Unmoved.{NoAsking, no_moves, never_ends}
 use Rattle.run_fan_laws.proofs.Numberings.{count_all, all_counted}
-use Rattle.run_fan_laws.proofs.OutLists.{Sents, OutsList, outs_list, Came, came_in, AllSent, all_sent, copiers_most, numbers_most, number_count}
+use Rattle.run_fan_laws.proofs.OutLists.{OutsList, outs_list, Came, came_in, AllSent, all_sent, copiers_most, numbers_most, number_count}
 use Rattle.run_fan_laws.proofs.OutRows.{OutWires, OutWants, Shuts, WantedOn, ShutOn, EvenList, even_list, copies_asked, copies_most, none_asked, AllDealt, all_dealt, DealtBefore, dealt_before, all_open, dealt_total, some_goes}
 use Rattle.run_fan_laws.proofs.Transport.{own_in, own_out, each_out, shuts, out_shuts, broadcast_rests, partition_rests}
 
@@ -63,10 +63,10 @@ abbrev pub OutView_of : InPort → List OutPort → port.View
 OutView_of i os = record { ins = i.view ∷ []; outs = map (λ (o : OutPort). o.view) os }
 
 abbrev pub Now : OutMachines → OutMachines → InPort → List OutPort → Type 0
-Now first now i os = MachinesLaw first now (OutView_of i os) (i.got ∷ []) (Sents os)
+Now first now i os = MachinesLaw first now (OutView_of i os) (i.got ∷ []) (sents_of os)
 
 abbrev pub Then : OutMachines → OutMachines → InPort → List OutPort → Type 0
-Then first now i os = Earlier port_state MachinesLaw NoAsking no_moves 0 first now (i.got ∷ []) (Sents os) (i.want ∷ []) (OutWants os) (Shuts os)
+Then first now i os = Earlier port_state MachinesLaw NoAsking no_moves 0 first now (i.got ∷ []) (sents_of os) (i.want ∷ []) (OutWants os) (Shuts os)
 
 -- an input of one that has closed its ports does not wait
 closed_wait : (xs : List InView) → OneInClosed xs → slice_index_or xs 0 Cancelled ≡ Pulled → ⊥
@@ -133,7 +133,7 @@ waits_quiet (suc q) e = cc
 
 module _ (book : Book) (first now : OutMachines) (i : InPort) (os : List OutPort) (e : Then first now i os) where
   given_ports : length e.given ≡ length os
-  given_ports = began_length e.given (Sents os) e.gave_on ∙ length-map os (λ (o : OutPort). o.sent)
+  given_ports = began_length e.given (sents_of os) e.gave_on ∙ length-map os (λ (o : OutPort). o.sent)
 
   copy_ask : (l : CopyLogic) → copy.port_state l e.knew → MachinesLaw first (Copies l) e.knew e.had e.given → CopyAsk first now i os e
   copy_ask l r law = by l.live refl r
@@ -176,20 +176,20 @@ sent_each (o ∷ os) q m k l a = let h = a.0 in (omega (arith, h, l), sent_each 
 pub one_list : (x y : List Item) → x ∷ [] ≡ y ∷ [] → x ≡ y
 one_list x y e = cc
 
-no_ports : (n : ℕ) (os : List OutPort) → length (Sents os) ≡ n → n ≡ 0 → os ≡ []
+no_ports : (n : ℕ) (os : List OutPort) → length (sents_of os) ≡ n → n ≡ 0 → os ≡ []
 no_ports n [] e z = refl
 no_ports n (o ∷ os) e z = absurd (omega (arith, e, z))
 
 -- the input of a stage with some output
 module _ (book : Book) (first now : OutMachines) (i : InPort) (os : List OutPort) (law : Now first now i os) (some : 1 ≤ length (owed now)) where
   pub came_now : Came (OutView_of i os) law.taken
-  came_now = let n = length-outlets book now in came_in (outlets book now) 0 (OutView_of i os) law.taken (λ j. slice_index_or (Sents os) j []) (omega (arith, n, some)) (law.law book)
+  came_now = let n = length-outlets book now in came_in (outlets book now) 0 (OutView_of i os) law.taken (λ j. slice_index_or (sents_of os) j []) (omega (arith, n, some)) (law.law book)
 
   got_told : i.got ≡ told came_now.list came_now.end
   got_told = one_list i.got law.taken law.took_is ∙ came_now.is
 
-  lists_now : OutsList 0 (outlets book now) (OutView_of i os) law.taken (Sents os)
-  lists_now = outs_list (outlets book now) (OutView_of i os) law.taken (Sents os) (law.ports ∙ sym (length-outlets book now)) (law.law book)
+  lists_now : OutsList 0 (outlets book now) (OutView_of i os) law.taken (sents_of os)
+  lists_now = outs_list (outlets book now) (OutView_of i os) law.taken (sents_of os) (law.ports ∙ sym (length-outlets book now)) (law.law book)
 
 module _ (book : Book) (f l : CopyLogic) (i : InPort) (os : List OutPort) (law : Now (Copies f) (Copies l) i os) (si : InStands i) (so : EachPort OutStands os) where
   copies_sent : EachWire (λ o. o.sent ≤ i.wire.sent) (OutWires os)
@@ -330,7 +330,7 @@ module _ (book : Book) (node n : ℕ) (f : MapFn) where
 
         sent : AllSent 0 os (number_count book node n f (take i.wire.sent i.wire.list))
         sent = all_sent (owe (number_starts book node n f 0 n) (owed (Deals l))) os 0 (OutView_of i os) law.taken c.list (take i.wire.sent i.wire.list) c.end (number_count book node n f (take i.wire.sent i.wire.list))
-            (numbers_most book node n f 0 n (owed (Deals l)) (take i.wire.sent i.wire.list)) (lists_of (Deals g) (Deals l) (OutView_of i os) (i.got ∷ []) (Sents os) started law) c.is (sent_part i si c.list c.end got) so
+            (numbers_most book node n f 0 n (owed (Deals l)) (take i.wire.sent i.wire.list)) (lists_of (Deals g) (Deals l) (OutView_of i os) (i.got ∷ []) (sents_of os) started law) c.is (sent_part i si c.list c.end got) so
 
         then : 1 ≤ demand i.wire → Then (Deals g) (Deals l) i os
         then some = let reach = si.reach in (moments 0 (omega (arith, some, reach))).0
@@ -364,7 +364,7 @@ module _ (book : Book) (node n : ℕ) (f : MapFn) where
 
 -- ---- where no event is left
 
-outs_same : (os : List OutPort) (gs : List (List Tree)) → length gs ≡ length os → ((j : ℕ) (g : List Tree) → slice_get gs j ≡ Some g → (e : End) × (slice_index_or (Sents os) j [] ≡ told g e)) → own_outs (map (λ (o : OutPort). o.view) os) gs ≡ map own_out os
+outs_same : (os : List OutPort) (gs : List (List Tree)) → length gs ≡ length os → ((j : ℕ) (g : List Tree) → slice_get gs j ≡ Some g → (e : End) × (slice_index_or (sents_of os) j [] ≡ told g e)) → own_outs (map (λ (o : OutPort). o.view) os) gs ≡ map own_out os
 outs_same [] [] l t = refl
 outs_same [] (g ∷ gs) l t = absurd (omega (arith, l))
 outs_same (o ∷ os) [] l t = absurd (omega (arith, l))
@@ -384,7 +384,7 @@ module _ (i : InPort) (os : List OutPort) (si : InStands i) (so : EachPort OutSt
   out_stays : (book : Book) (first now : OutMachines) (law : Now first now i os) → 1 ≤ length (owed now) → port_state now (OutView_of i os) → (EachWire IsShut (i.wire ∷ []) × EachWire IsShut (OutWires os)) ⊎ rests_as first (i.wire ∷ []) (OutWires os)
   out_stays book first now law some r =
       let c = came_now book first now i os law some in
-      let s = stage_rests book now (OutView_of i os) law.taken (λ j. slice_index_or (Sents os) j []) c.list c.end r c.is (law.law book) in
+      let s = stage_rests book now (OutView_of i os) law.taken (λ j. slice_index_or (sents_of os) j []) c.list c.end r c.is (law.law book) in
       let ins = in_same i c.list c.end (got_told book first now i os law some) in
       let outs = outs_same os s.0.lists (s.0.ports ∙ (length-outlets book now ∙ (sym law.ports ∙ length-map os (λ (o : OutPort). o.sent)))) s.0.told_at in
       elim s.1 [
@@ -435,7 +435,7 @@ no_sink kd ok = absurd ok
 
 module _ (g : Graph) (w : World) (k : ℕ) (n : graph.Node) where
   pub machines_picture : (first now : OutMachines) (is : List InPort) (os : List OutPort) → IsMachines n.kind → Begins k n.kind first → port_state now (record { ins = map (λ (i : InPort). i.view) is; outs = map (λ (o : OutPort). o.view) os })
-      → MachinesLaw first now (record { ins = map (λ (i : InPort). i.view) is; outs = map (λ (o : OutPort). o.view) os }) (map (λ (i : InPort). i.got) is) (Sents os) → PictureLaws port_state MachinesLaw NoAsking no_moves never_ends g w k n first now is os
+      → MachinesLaw first now (record { ins = map (λ (i : InPort). i.view) is; outs = map (λ (o : OutPort). o.view) os }) (map (λ (i : InPort). i.got) is) (sents_of os) → PictureLaws port_state MachinesLaw NoAsking no_moves never_ends g w k n first now is os
   machines_picture first now [] os ok b r law = let none = law.took_is in absurd cc
   machines_picture first now (i ∷ j ∷ is) os ok b r law = let more = law.took_is in absurd cc
   machines_picture first now (i ∷ []) os ok b r law = record {

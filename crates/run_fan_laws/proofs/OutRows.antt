@@ -31,10 +31,10 @@ use Rattle.stage_out.specs.OwnRows.{Even}
 use Rattle.stage_out.specs.PartitionStates.{PartitionLogic, stage_of, state_of, held_of, dues, held_for}
 use Rattle.stage_out.proofs.Rests.{told_lists}
 use Rattle.run_account.specs.Account.{AllBegin}
-use Rattle.run_account.specs.Ports.{OutPort, EachPort, OutStands}
+use Rattle.run_account.specs.Ports.{OutPort, EachPort, OutStands, sents_of}
 use Rattle.run_account.proofs.Coming.{elements_told, elements_prefix}
 use Rattle.run_fan_laws.proofs.Numberings.{machine, start, count_all}
-use Rattle.run_fan_laws.proofs.OutLists.{Sents, OutsList}
+use Rattle.run_fan_laws.proofs.OutLists.{OutsList}
 
 abbrev pub OutWires : List OutPort → List picture.SeenWire
 OutWires os = map (λ (o : OutPort). o.wire) os
@@ -167,7 +167,7 @@ module _ (book : Book) (node n : ℕ) (f : MapFn) where
       let count = s.count in
       omega (arith, e, less, more, count)
 
-  pub dealt_before : (l k : List Tree) (q : ℕ) (ws : List OutputState) (hs : List (List Item)) (os : List OutPort) → AllDealt l q ws hs → AllBegin hs (Sents os) → ShutOn ws os → IsPrefix k l → EachPort OutStands os → DealtBefore q os k
+  pub dealt_before : (l k : List Tree) (q : ℕ) (ws : List OutputState) (hs : List (List Item)) (os : List OutPort) → AllDealt l q ws hs → AllBegin hs (sents_of os) → ShutOn ws os → IsPrefix k l → EachPort OutStands os → DealtBefore q os k
   dealt_before l k q ws hs [] d b shut part s = tt
   dealt_before l k q ws [] (o ∷ os) d b shut part s = absurd b
   dealt_before l k q [] (h ∷ hs) (o ∷ os) d b shut part s = absurd d
@@ -183,7 +183,7 @@ module _ (book : Book) (node n : ℕ) (f : MapFn) where
   shut_not a c = cc
 
   -- all are open
-  pub all_open : (ws : List OutputState) (hs : List (List Item)) (os : List OutPort) → AllBegin hs (Sents os) → length hs ≡ length ws → ShutOn ws os → NoneShut os → open_count ws ≡ length ws
+  pub all_open : (ws : List OutputState) (hs : List (List Item)) (os : List OutPort) → AllBegin hs (sents_of os) → length hs ≡ length ws → ShutOn ws os → NoneShut os → open_count ws ≡ length ws
   all_open [] hs os b l shut none = refl
   all_open (w ∷ ws) [] os b l shut none = absurd (omega (arith, l))
   all_open (w ∷ ws) (h ∷ hs) [] b l shut none = absurd b
@@ -196,7 +196,7 @@ module _ (book : Book) (node n : ℕ) (f : MapFn) where
   wanted_sent false k = omega arith
 
   -- all that was given, and one element for each output that had asked, is wanted
-  pub dealt_total : (l : List Tree) (q : ℕ) (ws : List OutputState) (hs : List (List Item)) (os : List OutPort) → AllDealt l q ws hs → AllBegin hs (Sents os) → WantedOn ws hs os → ShutOn ws os → NoneShut os → EachPort OutStands os
+  pub dealt_total : (l : List Tree) (q : ℕ) (ws : List OutputState) (hs : List (List Item)) (os : List OutPort) → AllDealt l q ws hs → AllBegin hs (sents_of os) → WantedOn ws hs os → ShutOn ws os → NoneShut os → EachPort OutStands os
       → count_all book node n f 0 q (length ws) l + asks_count ws ≤ total wanted (OutWires os)
   dealt_total l q [] hs os d b wants shut none s = omega arith
   dealt_total l q (Quiet ∷ ws) [] os d b wants shut none s = absurd d

@@ -19,7 +19,7 @@ use Rattle.stage_out.specs.Machines.{IsMachines}
 use Rattle.stage_out.specs.Moves.{TellsMoves}
 use Rattle.stage_out.specs.OutLogics.{port_state, BeginsBalance, OutAsking, OutLaw, Begins}
 use Rattle.run_account.specs.KindLaws.{HearsAll, PictureLaws, RunLaws}
-use Rattle.run_account.specs.Ports.{InPort, OutPort}
+use Rattle.run_account.specs.Ports.{InPort, OutPort, views_of}
 use Rattle.run_fan_laws.specs.Unmoved.{NoAsking, no_moves, never_ends}
 use Rattle.run_fan_laws.proofs.Balances.{BalanceAsking, balance_picture, balance_laws, balance_hears}
 use Rattle.run_fan_laws.proofs.OutPictures.{machines_picture}
@@ -47,11 +47,8 @@ balance_stand first (Machines l) v took gave r law = absurd law
 -- ---- a picture
 
 module _ (g : Graph) (w : World) (k : ℕ) (n : graph.Node) where
-  abbrev Views : List InPort → List OutPort → View
-  Views is os = record { ins = map (λ (i : InPort). i.view) is; outs = map (λ (o : OutPort). o.view) os }
-
-  pub out_picture : (first now : OutLogic) (is : List InPort) (os : List OutPort) → Begins k n.kind first → TellsMoves w k now → port_state now (Views is os)
-      → OutLaw first now (Views is os) (map (λ (i : InPort). i.got) is) (map (λ (o : OutPort). o.sent) os) → PictureLaws port_state OutLaw OutAsking no_moves never_ends g w k n first now is os
+  pub out_picture : (first now : OutLogic) (is : List InPort) (os : List OutPort) → Begins k n.kind first → TellsMoves w k now → port_state now (views_of is os)
+      → OutLaw first now (views_of is os) (map (λ (i : InPort). i.got) is) (map (λ (o : OutPort). o.sent) os) → PictureLaws port_state OutLaw OutAsking no_moves never_ends g w k n first now is os
   out_picture (Machines f) (Machines l) is os b told r law =
       let p = machines_picture g w k n f l is os b.as_kind.0 b.as_kind.1 r law in
       record {

@@ -14,7 +14,7 @@ use Rattle.nodes.specs.Nodes.{node_port_state, node_law, node_asking, node_moves
 use Rattle.nodes.specs.Sink.{sink_port_state_in}
 use Rattle.nodes.specs.Ignoring.{ignore_port_state_in}
 use Rattle.run_account.specs.KindLaws.{PictureLaws}
-use Rattle.run_account.specs.Ports.{InPort, OutPort}
+use Rattle.run_account.specs.Ports.{InPort, OutPort, views_of}
 use Rattle.run_outlook_laws.specs.Made.{FirstOf}
 use Rattle.run_outlook_laws.specs.Telling.{TellsMoves}
 use Rattle.run_picture_laws.specs.Picture.{sink_ended}
@@ -27,13 +27,9 @@ use Rattle.run_picture_laws.proofs.StateRows.{state_picture}
 use Rattle.run_picture_laws.proofs.SubRows.{sub_picture}
 use Rattle.run_picture_laws.proofs.Stages.{sink_ports, ignore_ports}
 
--- what a node knows of these ports
-abbrev Views : List InPort → List OutPort → View
-Views is os = record { ins = map (λ (i : InPort). i.view) is; outs = map (λ (o : OutPort). o.view) os }
-
 module _ {S D L B : Type 0} (sources : S → SourceState) (drains : D → DrainState) (g : Graph) (w : World) (k : ℕ) (n : graph.Node) where
-  pub node_picture : (first x : IslandNode S D L B) (is : List InPort) (os : List OutPort) → FirstOf sources g.chains k n first → TellsMoves w k x → node_port_state x (Views is os)
-      → node_law sources drains w.book first x (Views is os) (map (λ (i : InPort). i.got) is) (map (λ (o : OutPort). o.sent) os)
+  pub node_picture : (first x : IslandNode S D L B) (is : List InPort) (os : List OutPort) → FirstOf sources g.chains k n first → TellsMoves w k x → node_port_state x (views_of is os)
+      → node_law sources drains w.book first x (views_of is os) (map (λ (i : InPort). i.got) is) (map (λ (o : OutPort). o.sent) os)
       → PictureLaws node_port_state (node_law sources drains w.book) node_asking node_moves sink_ended g w k n first x is os
   node_picture (Reading first) (Reading x) is os f t r law = source_picture L B sources drains g w k n (Reading first) (Reading x) x.phase is os (subst (λ (kd : Kind). SourceRows g w kd) (sym f.kind_is) (lines_rows g w f.name)) r
   node_picture (Making first) (Making x) is os f t r law = source_picture L B sources drains g w k n (Making first) (Making x) x.phase is os (maker_rows g w n.kind f.is_maker) r

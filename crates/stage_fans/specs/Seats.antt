@@ -1,5 +1,5 @@
 -- What the stages with several inputs and one output share of what they know of their ports, and how they close them.
-use Rattle.std.specs.Prelude.{ℕ, ◌+◌, ◌*◌, Bool, true, false, List, [], ◌∷◌, ⊤}
+use Rattle.std.specs.Prelude.{◌≡◌, ℕ, ◌+◌, ◌*◌, ◌<◌, Bool, true, false, List, [], ◌∷◌, length, slice_get, Some, ⊤}
 use Rattle.port_core.specs.declared.act.Act.{Act}
 use Rattle.port_core.specs.declared.act.Act.TheVariants.{Cancel}
 use Rattle.port_core.specs.declared.view.InView.{InView}
@@ -13,6 +13,10 @@ use Rattle.stream_model.specs.Outlook.{End, unended, ended}
 abbrev pub wish : Bool → OutView
 wish true = Available
 wish false = Unpulled
+
+-- every input has ended
+abbrev pub AllOver : List Bool → Type 0
+AllOver over = (i : ℕ) → i < length over → slice_get over i ≡ Some true
 
 -- a cancel of each input from number n on that has not ended
 abbrev pub open_cancels : ℕ → List Bool → List Act

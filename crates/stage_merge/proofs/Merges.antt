@@ -16,7 +16,7 @@ use Rattle.stage_law.specs.Inflows.{joined_all, coming}
 use Rattle.stage_law.specs.Merges.{SameEnds, Merged, lists_of}
 use Rattle.stage_law.proofs.Inflows.{joined-nothing_came}
 use Rattle.stage_merge.specs.declared.merging.Queued.{Queued}
-use Rattle.stage_fans.specs.Seats.{end_by, InsClosed}
+use Rattle.stage_fans.specs.Seats.{end_by, InsClosed, AllOver}
 use Rattle.stage_merge.specs.Mergings.{of_port, waiting, input_view, places, open_count, PortsThere}
 use Rattle.stage_fans.proofs.Flags.{same, other}
 use Rattle.stage_fans.proofs.Arrivals.{not_here}
@@ -156,9 +156,6 @@ out_merged i t over q h =
 
 pub none_merged : (over : List Bool) (q : List Queued) → Merged [] (waiting 0 over q) [] (waiting 0 over q)
 none_merged over q = record { finds = tt; gave = refl; left = refl; ends = same_ends 0 over q q }
-
-abbrev pub AllOver : List Bool → Type 0
-AllOver over = (i : ℕ) → i < length over → slice_get over i ≡ Some true
 
 pub used_none : (n : ℕ) (over : List Bool) → AllOver over → IsTrue (used_up [] n (map flow (waiting n over [])))
 used_none n [] h = refl

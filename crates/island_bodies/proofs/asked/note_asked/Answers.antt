@@ -1,7 +1,8 @@
 -- The goals of `asked::note_asked` that the search leaves.
 use Rattle.std.proofs.Common.{◌≡◌, ◌<◌, length, sym, subst, rules}
 use Rattle.std.specs.Prelude.{get_or}
-use Rattle.island_bodies.proofs.Noting.{at_place, no_lane, no_count, noted_next, noted_last, set_many}
+use Rattle.lane_ends.proofs.Making.{no_lane}
+use Rattle.island_bodies.proofs.Noting.{at_place, no_count, noted_next, noted_last, set_many}
 use Rattle.island_bodies.proofs.asked.note_asked.Goals as goal
 
 pub loop-n-preserved : goal.loop-n-preserved

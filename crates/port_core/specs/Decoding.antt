@@ -96,7 +96,7 @@ after Nothing p = p
 abbrev pub delivered : Connection → Connection
 delivered p = after (event_of p) p
 
--- The events in the order in which they are decoded, each with the row of the table that it is.
+-- The events in the order in which they are decoded, each with the line of the table that it is.
 abbrev pub Decodes : Event → Connection → Connection → Type 0
 Decodes Push p q = IsOpen p × ((e : Tree) × Rule (on_push e) p q)
 Decodes Pull p q = Rule on_pull p q

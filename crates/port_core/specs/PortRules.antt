@@ -60,6 +60,6 @@ next on_cancel p = record p { out_closed = true }
 next on_finish p = record p { in_closed = true }
 next (on_fail c) p = record p { in_closed = true }
 
--- a row of the table: p allows the move, and is q then
+-- a line of the table: p allows the move, and is q then
 abbrev pub Rule : Move → Connection → Connection → Type 0
 Rule m p q = Allowed m p × (q ≡ next m p)

@@ -49,7 +49,7 @@ const OUT_CLOSED: u8 = 32;
 // The output failed before either side was closed.
 const IN_FAILED: u8 = 64;
 
-/// One output joined to one input. Its calls are the rows of the table of port rules, and none takes memory. Rule: Akka
+/// One output joined to one input. Its calls are the lines of the table of port rules, and none takes memory. Rule: Akka
 /// Streams 2.6 reference, chapter on custom stream processing; the flag word is own.
 #[derive(Drop)]
 pub struct Conn {

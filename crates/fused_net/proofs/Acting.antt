@@ -212,7 +212,7 @@ module _ {N : Type 0} (row : N → View → Type 0) (law : N → N → View → 
       → Settled row law asking moves (acted_all net n acts)
   acts_settled asking moves net n acts busy asked moments = settled asking moves (acted_all net n acts) n (acts_busy acts net n busy) asked moments
 
--- where node n may act, what holds of it and of another node goes on by any row and law
+-- where node n may act, what holds of it and of another node goes on by any port state and law
 module _ {N : Type 0} (row : N → View → Type 0) (law : N → N → View → List (List Item) → List (List Item) → Type 0) where
   pub busy_any : (net : Net N) (n : ℕ) (acts : List Act) → Busy row law net n acts → Busy AnyRow AnyLaw net n acts
   busy_any net n acts busy = record {

@@ -1,4 +1,4 @@
--- What a fused graph keeps: its wiring, a joint state of each wire, and of each node its row and its law over its histories.
+-- What a fused graph keeps: its wiring, a joint state of each wire, and of each node its port state and its law over its histories.
 use Rattle.std.specs.Prelude.{◌≡◌, ◌≢◌, ℕ, ◌<◌, ◌≤◌, ◌⊎◌, true, Some, List, [], ◌∷◌, length, replicate, slice_get, ⊤}
 use Rattle.elem_core.specs.Prefix.{IsPrefix}
 use Rattle.elem_core.specs.declared.item.Item.{Item}
@@ -68,12 +68,12 @@ AllKept keeps [] [] = ⊤
 AllKept keeps (x ∷ xs) (y ∷ ys) = ((y ≡ x) ⊎ keeps x y) × AllKept keeps xs ys
 AllKept keeps _ _ = ⊥
 
-module _ {N : Type 0} (row : N → View → Type 0) (law : N → N → View → List (List Item) → List (List Item) → Type 0) where
+module _ {N : Type 0} (port_state : N → View → Type 0) (law : N → N → View → List (List Item) → List (List Item) → Type 0) where
   -- a node, by what it knows and by its histories, which has these actions still to do: they are allowed, and once they are
-  -- done its row and its law hold
+  -- done its port state and its law hold
   pub record Minds (x first : N) (v : View) (took gave : List (List Item)) (acts : List Act) : Type 0 where
     pub allowed : ActsAllowed v acts
-    pub row_holds : row x (acted_all v acts)
+    pub row_holds : port_state x (acted_all v acts)
     pub law_holds : law first x (acted_all v acts) took (given_all acts gave)
 
   -- node n of the graph
@@ -91,9 +91,9 @@ module _ {N : Type 0} (row : N → View → Type 0) (law : N → N → View → 
     pub here : IsMinded net n acts
     pub others : (k : ℕ) → k < length net.nodes → k ≢ n → IsMinded net k []
 
-module _ {N : Type 0} (row : N → View → Type 0) (law : N → N → View → List (List Item) → List (List Item) → Type 0) (asking : N → View → Type 0) (moves : N → List ℕ) where
+module _ {N : Type 0} (port_state : N → View → Type 0) (law : N → N → View → List (List Item) → List (List Item) → Type 0) (asking : N → View → Type 0) (moves : N → List ℕ) where
   -- The last ask of wire w that took effect: an earlier moment from which the graph went on, and at which the node at the
-  -- wire's input had pulled. It waited there, its row and its law held, and so did what it tells whenever it has just pulled.
+  -- wire's input had pulled. It waited there, its port state and its law held, and so did what it tells whenever it has just pulled.
   pub record LastAsk (net : Net N) (w : ℕ) : Type 0 where
     pub old : Net N
     pub on : NetGoesOn old net
@@ -105,7 +105,7 @@ module _ {N : Type 0} (row : N → View → Type 0) (law : N → N → View → 
     pub asked : (wire_at old w).asked ≡ true
     pub same : wanted (wire_at net w) ≡ wanted (wire_at old w)
     pub stays : NodeStays old net w
-    pub minded : IsMinded row law old (end_at old.ends w).to []
+    pub minded : IsMinded port_state law old (end_at old.ends w).to []
     pub asking_then : IsAsking asking old (end_at old.ends w).to
 
   -- each wire whose input has pulled has a last ask
@@ -113,7 +113,7 @@ module _ {N : Type 0} (row : N → View → Type 0) (law : N → N → View → 
   AllAsked net = (w : ℕ) → w < length net.wires → 1 ≤ wanted (wire_at net w) → LastAsk net w
 
   -- The last ask of node n at any of its inputs: an earlier moment from which the graph went on, and at which the node had just
-  -- pulled at one of them. It waits there, and its row and its law held. None of its inputs was pulled since, and at that
+  -- pulled at one of them. It waits there, and its port state and its law held. None of its inputs was pulled since, and at that
   -- moment each wire had a last ask of its own.
   pub record NodeAsked (net : Net N) (n : ℕ) : Type 0 where
     pub old : Net N
@@ -122,7 +122,7 @@ module _ {N : Type 0} (row : N → View → Type 0) (law : N → N → View → 
     pub moves_on : MovesGrow moves old net
     pub sound : (u : ℕ) → u < length old.wires → IsSound (wire_at old u).wire (is_waiting old.queue u)
     pub marked : (u : ℕ) → u < length old.wires → IsMarked (wire_at old u)
-    pub minded : IsMinded row law old n []
+    pub minded : IsMinded port_state law old n []
     pub asking_then : IsAsking asking old n
     pub before : AllAsked old
     pub port : ℕ
@@ -139,7 +139,7 @@ module _ {N : Type 0} (row : N → View → Type 0) (law : N → N → View → 
     pub each_first : length net.firsts ≡ length net.nodes
     pub sound : (w : ℕ) → w < length net.wires → IsSound (wire_at net w).wire (is_waiting net.queue w)
     pub marked : (w : ℕ) → w < length net.wires → IsMarked (wire_at net w)
-    pub minded : (n : ℕ) → n < length net.nodes → IsMinded row law net n []
+    pub minded : (n : ℕ) → n < length net.nodes → IsMinded port_state law net n []
     pub asked : AllAsked net
     pub moments : AllMoments net
 
@@ -157,7 +157,7 @@ module _ {N : Type 0} (row : N → View → Type 0) (law : N → N → View → 
     pub each_first : length net.firsts ≡ length net.nodes
     pub sound : (w : ℕ) → w < length net.wires → IsSound (wire_at net w).wire (is_waiting net.queue w)
     pub marked : (w : ℕ) → w < length net.wires → IsMarked (wire_at net w)
-    pub below : (k : ℕ) → k < n → k < length net.nodes → IsMinded row law net k []
+    pub below : (k : ℕ) → k < n → k < length net.nodes → IsMinded port_state law net k []
     pub asked : AllAsked net
     pub moments : AllMoments net
     pub above : (k : ℕ) → n ≤ k → k < length net.nodes → (x first : N) → slice_get net.nodes k ≡ Some x → slice_get net.firsts k ≡ Some first

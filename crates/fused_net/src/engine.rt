@@ -648,7 +648,7 @@ impl<S: Stage> Engine<S> {
     }
 
     /// Node n acts outside of its handlers, as the stage does where a lane comes in or goes out. The port rules allow the
-    /// action, and the node's row and its law hold once it is done. It takes no memory and costs no unit.
+    /// action, and the node's port state and its law hold once it is done. It takes no memory and costs no unit.
     pub fn poke(&mut self, n: u32, act: Act)
         requires laws { Settled S.port_state S.law S.asking S.moves self.old }
         requires within { n < length self.old.nodes }

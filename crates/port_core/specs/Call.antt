@@ -73,12 +73,12 @@ abbrev pub given_on : ℕ → List Act → List Item
 given_on j [] = []
 given_on j (a ∷ acts) = given_by j a ++ given_on j acts
 
--- What a handler owes to the port rules: wherever its call may come and its stage's row holds, the actions are allowed in
--- their order, and the row holds of what the stage knows once they are done.
-pub record Obeys (call : Call) (RowOld RowNew : View → Type 0) (acts : List Act) : Type 0 where
-  pub allowed : (v : View) → CallAllowed call v → RowOld v → ActsAllowed (seen call v) acts
-  pub row : (v : View) → CallAllowed call v → RowOld v → RowNew (acted_all (seen call v) acts)
+-- What a handler owes to the port rules: wherever its call may come and its stage's port state holds, the actions are allowed in
+-- their order, and the port state holds of what the stage knows once they are done.
+pub record Obeys (call : Call) (OldPortState NewPortState : View → Type 0) (acts : List Act) : Type 0 where
+  pub allowed : (v : View) → CallAllowed call v → OldPortState v → ActsAllowed (seen call v) acts
+  pub row : (v : View) → CallAllowed call v → OldPortState v → NewPortState (acted_all (seen call v) acts)
 
 -- there is what the stage may know as the call comes
 abbrev pub Meets : Call → (View → Type 0) → Type 0
-Meets call Row = (v : View) × (CallAllowed call v × Row v)
+Meets call PortState = (v : View) × (CallAllowed call v × PortState v)

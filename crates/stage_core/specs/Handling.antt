@@ -1,5 +1,5 @@
 -- What a stage owes at each call of a handler, whatever its kind is. Three things are told of a kind: what a stage that was
--- not started may know of its ports (`fresh`); what one that was started may know of them between two calls (`row`, in the trait `rests`); and
+-- not started may know of its ports (`fresh`); what one that was started may know of them between two calls (`port_state`); and
 -- what holds of the histories of its ports, by the stage as it was handed in and as it is now (`law`). Two more are told of
 -- the moments at which it pulls: what it knows of its ports whenever it has just pulled (`asking`), and the moves that it has
 -- recorded, which only grow (`moves`). One is told of whether it acts by itself at all (`passive`). And one is told of want of memory: what a stage keeps of itself through a call that
@@ -31,17 +31,17 @@ abbrev pub StaysPassive : Bool → Bool → List Act → Type 0
 StaysPassive false now acts = now ≡ false
 StaysPassive true now acts = (now ≡ true) × (acts ≡ [])
 
-module _ {N : Type 0} (row : N → View → Type 0) (law : N → N → View → List (List Item) → List (List Item) → Type 0) where
-  -- The stage was started: its actions obey the port rules, none of them cancels an input that an earlier one pulled, and once they are done its row and its law hold.
+module _ {N : Type 0} (port_state : N → View → Type 0) (law : N → N → View → List (List Item) → List (List Item) → Type 0) where
+  -- The stage was started: its actions obey the port rules, none of them cancels an input that an earlier one pulled, and once they are done its port state and its law hold.
   pub record Starts (fresh : N → View → Type 0) (old new : N) (acts : List Act) : Type 0 where
-    pub obeys : Obeys starts (fresh old) (row new) acts
+    pub obeys : Obeys starts (fresh old) (port_state new) acts
     pub stands : PullsStand acts
     pub begins : (v : View) (took gave : List (List Item)) → CallAllowed starts v → fresh old v → AllEmpty took → AllEmpty gave → length took ≡ length v.ins → length gave ≡ length v.outs
         → law old new (acted_all v acts) took (given_all acts gave)
 
-  -- The call was handled: its actions obey the port rules, none of them cancels an input that an earlier one pulled, and once they are done its row and its law hold again.
+  -- The call was handled: its actions obey the port rules, none of them cancels an input that an earlier one pulled, and once they are done its port state and its law hold again.
   pub record Handles (call : Call) (old new : N) (acts : List Act) : Type 0 where
-    pub obeys : Obeys call (row old) (row new) acts
+    pub obeys : Obeys call (port_state old) (port_state new) acts
     pub stands : PullsStand acts
-    pub keeps : (first : N) (v : View) (took gave : List (List Item)) → CallAllowed call v → row old v → law first old v took gave
+    pub keeps : (first : N) (v : View) (took gave : List (List Item)) → CallAllowed call v → port_state old v → law first old v took gave
         → law first new (acted_all (seen call v) acts) (brought_by call took) (given_all acts gave)

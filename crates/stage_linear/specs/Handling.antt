@@ -10,12 +10,12 @@ use Rattle.stage_law.specs.Law.{Law}
 use Rattle.stage_core.specs.declared.phase.Phase.TheVariants.{New}
 use Rattle.stage_linear.specs.States.{Logic, held, port_state}
 
--- it was not started, and its row holds
+-- it was not started, and its port state holds
 pub record LinearFresh (l : Logic) (v : View) : Type 0 where
   pub phase : l.phase ≡ New
   pub row : port_state l v
 
--- it was started, and its row holds
+-- it was started, and its port state holds
 pub record LinearPortState (l : Logic) (v : View) : Type 0 where
   pub started : l.phase ≢ New
   pub row : port_state l v

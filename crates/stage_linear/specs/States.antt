@@ -1,4 +1,4 @@
--- The state of a linear stage, what it still owes, and its row: what it knows of its ports.
+-- The state of a linear stage, what it still owes, and its port state: what it knows of its ports.
 use Rattle.std.specs.Prelude.{◌≡◌, ◌≢◌, ◌⊎◌, ◌<◌, ⊤, ℕ, zero, Bool, true, List, [], ◌∷◌, length, Some}
 use Rattle.elem_core.specs.Tree.{Tree}
 use Rattle.elem_core.specs.declared.why.Why.{Why}
@@ -66,7 +66,7 @@ MayTake w r = HasMore w × (r ≡ true)
 abbrev pub HoldsSomething : Work → List Tree → Type 0
 HoldsSomething w p = (0 < length p) × Spreads w
 
--- Its row: before its start nobody asked; then it asks where its output is asked and nothing is held; where it is done, or its
+-- Its port state: before its start nobody asked; then it asks where its output is asked and nothing is held; where it is done, or its
 -- input has ended, it holds something; or all is closed.
 abbrev pub port_state_in : Phase → Course → List Tree → Work → Bool → InView → OutView → Type 0
 port_state_in New c p w r Idle Unpulled = r ≡ true

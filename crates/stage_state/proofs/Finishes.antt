@@ -1,4 +1,4 @@
--- The end of the input of a stage that keeps: its actions are allowed, and its row holds then.
+-- The end of the input of a stage that keeps: its actions are allowed, and its port state holds then.
 use Rattle.std.specs.Prelude.{is_some, option_to_list}
 use Rattle.std.proofs.Common.{◌≡◌, ℕ, Bool, true, false, List, [], ◌∷◌, refl, sym, ap, ◌∙◌, subst, Option, Some, None, Result, Ok, Err}
 use Rattle.elem_core.specs.Tree.{Tree}

@@ -129,12 +129,12 @@ handled call old new acts o t = absurd t
 
 -- ---- a call of a handler is of its one input or output
 
-plain_row : (l : StateLogic) (v : View) → StatePortState l v → port_state l v
-plain_row (Machine l) v r = r.row
-plain_row (Dropping l) v r = r.row
-plain_row (Recovering l) v r = r.row
-plain_row (Obeying l) v r = r.row
-plain_row (Tripping l) v r = r.row
+plain_port_state : (l : StateLogic) (v : View) → StatePortState l v → port_state l v
+plain_port_state (Machine l) v r = r.row
+plain_port_state (Dropping l) v r = r.row
+plain_port_state (Recovering l) v r = r.row
+plain_port_state (Obeying l) v r = r.row
+plain_port_state (Tripping l) v r = r.row
 
 first_call : (call : Call) (l : StateLogic) (v : View) → CallAllowed call v → StatePortState l v → at_first call ≡ call
 first_call call (Machine l) v h r = first_port (machine.port_state_by l.size l.phase l.ending l.asked l.pending l.stage.work) call v h r.row
@@ -144,7 +144,7 @@ first_call call (Obeying l) v h r = first_port (switch.passing_port_state l.phas
 first_call call (Tripping l) v h r = first_port (switch.passing_port_state l.phase) call v h r.row
 
 pub met_first : (call : Call) (l : StateLogic) → Meets call (StatePortState l) → Meets (at_first call) (port_state l)
-met_first call l m = subst (λ c. Meets c (port_state l)) (sym (first_call call l m.0 m.1.0 m.1.1)) (m.0, (m.1.0, plain_row l m.0 m.1.1))
+met_first call l m = subst (λ c. Meets c (port_state l)) (sym (first_call call l m.0 m.1.0 m.1.1)) (m.0, (m.1.0, plain_port_state l m.0 m.1.1))
 
 pub handles : {T E : Type 0} (call : Call) (old new : StateLogic) (acts : List Act) (r : Result T E) → Meets call (StatePortState old) → OnOk r (Obeys (at_first call) (port_state old) (port_state new) acts) → OnOk r (Turned (at_first call) old acts new)
     → OnOk r (Handles StatePortState StateLaw call old new acts)

@@ -12,7 +12,7 @@ use Rattle.stage_state.specs.declared.logic.StateLogic.{StateLogic}
 use Rattle.stage_state.specs.declared.logic.StateLogic.TheVariants.{Machine, Dropping, Recovering, Obeying, Tripping}
 use Rattle.stage_state.specs.Logics.{BeginsAs}
 
--- it was not started, and its row holds
+-- it was not started, and its port state holds
 abbrev pub StateFresh : StateLogic → View → Type 0
 StateFresh (Machine l) v = MachineFresh l v
 StateFresh (Dropping l) v = DropFresh l v
@@ -20,7 +20,7 @@ StateFresh (Recovering l) v = RecoverFresh l v
 StateFresh (Obeying l) v = ValveFresh l v
 StateFresh (Tripping l) v = TripFresh l v
 
--- it was started, and its row holds
+-- it was started, and its port state holds
 abbrev pub StatePortState : StateLogic → View → Type 0
 StatePortState (Machine l) v = MachinePortState l v
 StatePortState (Dropping l) v = DropPortState l v

@@ -1,4 +1,4 @@
--- The state of a stage that keeps elements, what it still owes, and its row: what it knows of its ports.
+-- The state of a stage that keeps elements, what it still owes, and its port state: what it knows of its ports.
 use Rattle.std.specs.Prelude.{◌≡◌, ◌≢◌, ◌⊎◌, ◌<◌, ⊤, ℕ, Bool, true, false, List, [], length, Option, Some, None}
 use Rattle.elem_core.specs.Tree.{Tree}
 use Rattle.elem_core.specs.declared.why.Decider.{Decider}
@@ -53,7 +53,7 @@ held_in Closed e p s = shut
 abbrev pub held : Logic → Held Stage
 held l = held_in l.phase l.ending l.pending l.stage
 
--- ---- rows
+-- ---- port states
 
 -- a scan
 abbrev pub IsScan : Work → Type 0

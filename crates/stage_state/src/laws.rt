@@ -18,7 +18,7 @@ ghost use Rattle.stage_state.specs.Handling.{StatePortState};
 ghost use Rattle.stage_state.specs.Logics.{phase_of};
 ghost use Rattle.stage_state.specs.declared.logic.StateLogic.{StateLogic};
 
-/// Where its row and its law hold, a stage that was started has closed all its ports, or has nothing to do: it waits for its
+/// Where its port state and its law hold, a stage that was started has closed all its ports, or has nothing to do: it waits for its
 /// input and has given all that it may, or nobody asks it; a buffer waits while it has room.
 pub fn a_started_stage_rests()
     ensures keeps { (m : Machine Stage Tree) (start : Run Stage Tree) (took gave : List Item) (l : Logic) (v : View) → l.size ≡ None → l.phase ≢ New → port_state l v
@@ -27,7 +27,7 @@ pub fn a_started_stage_rests()
         → (law : Law (buffer n) (begin_buffer s) (held l) (in_at v 0) (out_at v 0) took gave) → BufferOwnRests n (in_at v 0) (out_at v 0) law.in_list law.out_list }
 {}
 
-/// Where the port rules allow a call of a handler and its row holds, a stage that was started is open.
+/// Where the port rules allow a call of a handler and its port state holds, a stage that was started is open.
 pub fn a_called_stage_is_open()
     ensures { (l : StateLogic) (call : Call) (v : View) → call ≢ starts → CallAllowed call v → StatePortState l v → phase_of l ≡ Open }
 {}

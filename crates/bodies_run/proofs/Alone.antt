@@ -43,7 +43,7 @@ module _ {S D L B : Type 0} (sources : S → SourceState) (drains : D → DrainS
             now = h.now;
             first_at = sym (left.first_at k (within k n at)) ∙ h.first_at;
             now_at = sym (left.node_at k (subst (λ (j : ℕ). k < j) (sym left.as_many) (within k n at))) ∙ h.now_at;
-            row_holds = h.row_holds;
+            port_state_holds = h.port_state_holds;
             law_holds = h.law_holds;
             asks = h.asks;
             last = h.last;

@@ -84,7 +84,7 @@ wanted_push outlet.Cancelled false e = cc
 module _ {S D L B : Type 0} (sources : S → SourceState) (drains : D → DrainState) (book : Book) (v : View) (t g : List (List Item)) (a : Act) where
   entering_does : (x first : IslandNode S D L B) → IsEntering first → ((e f : Entering) → EnteringPortState e v → EnteringLaw f e v t g → MayDo EnteringPortState EnteringLaw e f v t g a)
       → Minds node_port_state (node_law sources drains book) x first v t g [] → Minds node_port_state (node_law sources drains book) x first v t g (a ∷ [])
-  entering_does (node.Entering x) (node.Entering f) h d m = let y = d x f m.row_holds m.law_holds in record { allowed = (y.allowed, tt); row_holds = y.row_holds; law_holds = y.law_holds }
+  entering_does (node.Entering x) (node.Entering f) h d m = let y = d x f m.port_state_holds m.law_holds in record { allowed = (y.allowed, tt); port_state_holds = y.port_state_holds; law_holds = y.law_holds }
   entering_does (node.Reading x) (node.Entering f) h d m = absurd m.law_holds
   entering_does (node.Making x) (node.Entering f) h d m = absurd m.law_holds
   entering_does (node.Linear x) (node.Entering f) h d m = absurd m.law_holds
@@ -108,7 +108,7 @@ module _ {S D L B : Type 0} (sources : S → SourceState) (drains : D → DrainS
 
   leaving_does : (x first : IslandNode S D L B) → IsLeaving first → ((e f : Leaving) → x ≡ node.Leaving e → LeavingPortState e v → LeavingLaw f e v t g → MayDo LeavingPortState LeavingLaw e f v t g a)
       → Minds node_port_state (node_law sources drains book) x first v t g [] → Minds node_port_state (node_law sources drains book) x first v t g (a ∷ [])
-  leaving_does (node.Leaving x) (node.Leaving f) h d m = let y = d x f refl m.row_holds m.law_holds in record { allowed = (y.allowed, tt); row_holds = y.row_holds; law_holds = y.law_holds }
+  leaving_does (node.Leaving x) (node.Leaving f) h d m = let y = d x f refl m.port_state_holds m.law_holds in record { allowed = (y.allowed, tt); port_state_holds = y.port_state_holds; law_holds = y.law_holds }
   leaving_does (node.Reading x) (node.Leaving f) h d m = absurd m.law_holds
   leaving_does (node.Making x) (node.Leaving f) h d m = absurd m.law_holds
   leaving_does (node.Linear x) (node.Leaving f) h d m = absurd m.law_holds

@@ -107,46 +107,46 @@ module _ {N : Type 0} where
 abbrev pub queued : {N : Type 0} → Net N → ℕ → Act → Bool
 queued net n a = queues_by a (wire_at net (wire_for a (ports_at net n))).wire.conn
 
-module _ {N : Type 0} (row : N → View → Type 0) (law : N → N → View → List (List Item) → List (List Item) → Type 0) where
+module _ {N : Type 0} (port_state : N → View → Type 0) (law : N → N → View → List (List Item) → List (List Item) → Type 0) where
   -- the first action of a node that is busy
-  pub act_allowed : (net : Net N) (n : ℕ) (a : Act) (acts : List Act) (x first : N) → Busy row law net n (a ∷ acts) → slice_get net.nodes n ≡ Some x → slice_get net.firsts n ≡ Some first → ActAllowed (view_of net n) a
+  pub act_allowed : (net : Net N) (n : ℕ) (a : Act) (acts : List Act) (x first : N) → Busy port_state law net n (a ∷ acts) → slice_get net.nodes n ≡ Some x → slice_get net.firsts n ≡ Some first → ActAllowed (view_of net n) a
   act_allowed net n a acts x first busy xi fi = (busy.here x first xi fi).allowed.0
 
   -- an action is done
-  minds_next : (x first : N) (v : View) (t g : List (List Item)) (a : Act) (acts : List Act) → Minds row law x first v t g (a ∷ acts) → Minds row law x first (view.acted v a) t (given_by a g) acts
-  minds_next x first v t g a acts m = record { allowed = m.allowed.1; row_holds = m.row_holds; law_holds = m.law_holds }
+  minds_next : (x first : N) (v : View) (t g : List (List Item)) (a : Act) (acts : List Act) → Minds port_state law x first v t g (a ∷ acts) → Minds port_state law x first (view.acted v a) t (given_by a g) acts
+  minds_next x first v t g a acts m = record { allowed = m.allowed.1; port_state_holds = m.port_state_holds; law_holds = m.law_holds }
 
   -- node n by itself
   here_acted : (net : Net N) (n : ℕ) (a : Act) (acts : List Act) (x first : N) → Wired net.ends net.ports (length net.nodes) (length net.wires) → n < length net.nodes
       → PortAt a (ports_at net n) (wire_for a (ports_at net n)) → wire_for a (ports_at net n) < length net.wires
-      → Minds row law x first (view_of net n) (took net n) (gave net n) (a ∷ acts)
-      → Minds row law x first (view_of (acted net n a) n) (took (acted net n a) n) (gave (acted net n a) n) acts
+      → Minds port_state law x first (view_of net n) (took net n) (gave net n) (a ∷ acts)
+      → Minds port_state law x first (view_of (acted net n a) n) (took (acted net n a) n) (gave (acted net n a) n) acts
   here_acted net n (Pull i) acts x first wired hn at hw m =
-      here_in row law net x first n i _ _ (queued net n (Pull i)) acts wired hn at hw refl refl
+      here_in port_state law net x first n i _ _ (queued net n (Pull i)) acts wired hn at hw refl refl
       (rw (keep_at got_of net.wires (ports_at net n).ins i _ [] at) (minds_next x first _ _ _ (Pull i) acts m))
   here_acted net n (Push j e) acts x first wired hn at hw m =
-      here_out row law net x first n j _ _ (queued net n (Push j e)) acts wired hn at hw refl refl
+      here_out port_state law net x first n j _ _ (queued net n (Push j e)) acts wired hn at hw refl refl
       (rw (read_at sent_of net.wires (ports_at net n).outs j _ [] at) at (minds_next x first _ _ _ (Push j e) acts m))
   here_acted net n (Complete j) acts x first wired hn at hw m =
-      here_out row law net x first n j _ _ (queued net n (Complete j)) acts wired hn at hw refl refl
+      here_out port_state law net x first n j _ _ (queued net n (Complete j)) acts wired hn at hw refl refl
       (rw (read_at sent_of net.wires (ports_at net n).outs j _ [] at) at (minds_next x first _ _ _ (Complete j) acts m))
   here_acted net n (FailOut j c) acts x first wired hn at hw m =
-      here_out row law net x first n j _ _ (queued net n (FailOut j c)) acts wired hn at hw refl refl
+      here_out port_state law net x first n j _ _ (queued net n (FailOut j c)) acts wired hn at hw refl refl
       (rw (read_at sent_of net.wires (ports_at net n).outs j _ [] at) at (minds_next x first _ _ _ (FailOut j c) acts m))
   here_acted net n (Cancel i) acts x first wired hn at hw m =
-      here_in row law net x first n i _ _ (queued net n (Cancel i)) acts wired hn at hw refl refl
+      here_in port_state law net x first n i _ _ (queued net n (Cancel i)) acts wired hn at hw refl refl
       (rw (keep_at got_of net.wires (ports_at net n).ins i _ [] at) (minds_next x first _ _ _ (Cancel i) acts m))
 
   others_acted : (net : Net N) (n : ℕ) (a : Act) → Wired net.ends net.ports (length net.nodes) (length net.wires) → n < length net.nodes
       → PortAt a (ports_at net n) (wire_for a (ports_at net n)) → wire_for a (ports_at net n) < length net.wires
-      → (k : ℕ) → k < length net.nodes → k ≢ n → IsMinded row law net k [] → IsMinded row law (acted net n a) k []
-  others_acted net n (Pull i) wired hn at hw = others_in row law net n i _ _ (queued net n (Pull i)) wired hn at hw refl refl
-  others_acted net n (Push j e) wired hn at hw = others_out row law net n j _ _ (queued net n (Push j e)) wired hn at hw refl refl
-  others_acted net n (Complete j) wired hn at hw = others_out row law net n j _ _ (queued net n (Complete j)) wired hn at hw refl refl
-  others_acted net n (FailOut j c) wired hn at hw = others_out row law net n j _ _ (queued net n (FailOut j c)) wired hn at hw refl refl
-  others_acted net n (Cancel i) wired hn at hw = others_in row law net n i _ _ (queued net n (Cancel i)) wired hn at hw refl refl
+      → (k : ℕ) → k < length net.nodes → k ≢ n → IsMinded port_state law net k [] → IsMinded port_state law (acted net n a) k []
+  others_acted net n (Pull i) wired hn at hw = others_in port_state law net n i _ _ (queued net n (Pull i)) wired hn at hw refl refl
+  others_acted net n (Push j e) wired hn at hw = others_out port_state law net n j _ _ (queued net n (Push j e)) wired hn at hw refl refl
+  others_acted net n (Complete j) wired hn at hw = others_out port_state law net n j _ _ (queued net n (Complete j)) wired hn at hw refl refl
+  others_acted net n (FailOut j c) wired hn at hw = others_out port_state law net n j _ _ (queued net n (FailOut j c)) wired hn at hw refl refl
+  others_acted net n (Cancel i) wired hn at hw = others_in port_state law net n i _ _ (queued net n (Cancel i)) wired hn at hw refl refl
 
-  pub acted_busy : (net : Net N) (n : ℕ) (a : Act) (acts : List Act) → Busy row law net n (a ∷ acts) → Busy row law (acted net n a) n acts
+  pub acted_busy : (net : Net N) (n : ℕ) (a : Act) (acts : List Act) → Busy port_state law net n (a ∷ acts) → Busy port_state law (acted net n a) n acts
   acted_busy net n a acts busy =
       let x = get_there net.nodes n busy.within in
       let first = get_there net.firsts n (rw busy.each_first busy.within) in
@@ -163,7 +163,7 @@ module _ {N : Type 0} (row : N → View → Type 0) (law : N → N → View → 
         others = λ k hk ne. others_acted net n a busy.wired busy.within f.0 within k hk ne (busy.others k hk ne);
       }
 
-  pub able : (net : Net N) (n : ℕ) (a : Act) (acts : List Act) → Busy row law net n (a ∷ acts) → all_asks net ≤ MOST_COUNT → Able net n a
+  pub able : (net : Net N) (n : ℕ) (a : Act) (acts : List Act) → Busy port_state law net n (a ∷ acts) → all_asks net ≤ MOST_COUNT → Able net n a
   able net n a acts busy few =
       let x = get_there net.nodes n busy.within in
       let first = get_there net.firsts n (rw busy.each_first busy.within) in
@@ -179,7 +179,7 @@ module _ {N : Type 0} (row : N → View → Type 0) (law : N → N → View → 
       }
 
   -- nothing is left to do
-  pub settled : (asking : N → View → Type 0) (moves : N → List ℕ) (net : Net N) (n : ℕ) → Busy row law net n [] → AllAsked row law asking moves net → AllMoments row law asking moves net → Settled row law asking moves net
+  pub settled : (asking : N → View → Type 0) (moves : N → List ℕ) (net : Net N) (n : ℕ) → Busy port_state law net n [] → AllAsked port_state law asking moves net → AllMoments port_state law asking moves net → Settled port_state law asking moves net
   settled asking moves net n busy asked moments = record {
     wired = busy.wired;
     each_first = busy.each_first;
@@ -191,30 +191,30 @@ module _ {N : Type 0} (row : N → View → Type 0) (law : N → N → View → 
   }
 
   -- in a loop over the actions
-  pub next_busy : (net on : Net N) (n : ℕ) (a : Act) (old new : List Act) → old ≡ a ∷ new → on ≡ acted net n a → Busy row law net n old → Busy row law on n new
-  next_busy net on n a old new e is busy = let at : Busy row law net n (a ∷ new) = rw e at busy in rw is (acted_busy net n a new at)
+  pub next_busy : (net on : Net N) (n : ℕ) (a : Act) (old new : List Act) → old ≡ a ∷ new → on ≡ acted net n a → Busy port_state law net n old → Busy port_state law on n new
+  next_busy net on n a old new e is busy = let at : Busy port_state law net n (a ∷ new) = rw e at busy in rw is (acted_busy net n a new at)
 
   pub next_same : (net on to : Net N) (n : ℕ) (a : Act) (old new : List Act) → old ≡ a ∷ new → on ≡ acted net n a → acted_all net n old ≡ to → acted_all on n new ≡ to
   next_same net on to n a old new e is same = rw is (rw e at same)
 
-  pub next_able : (net : Net N) (n : ℕ) (a : Act) (old new : List Act) → old ≡ a ∷ new → Busy row law net n old → all_asks net ≤ MOST_COUNT → Able net n a
-  next_able net n a old new e busy few = let at : Busy row law net n (a ∷ new) = rw e at busy in able net n a new at few
+  pub next_able : (net : Net N) (n : ℕ) (a : Act) (old new : List Act) → old ≡ a ∷ new → Busy port_state law net n old → all_asks net ≤ MOST_COUNT → Able net n a
+  next_able net n a old new e busy few = let at : Busy port_state law net n (a ∷ new) = rw e at busy in able net n a new at few
 
   pub one_done : (net new : Net N) (n : ℕ) (a : Act) (acts : List Act) → acts ≡ a ∷ [] → new ≡ acted net n a → new ≡ acted_all net n acts
   one_done net new n a acts e is = rw e is
 
   -- all actions of a node are done
-  pub acts_busy : (acts : List Act) (net : Net N) (n : ℕ) → Busy row law net n acts → Busy row law (acted_all net n acts) n []
+  pub acts_busy : (acts : List Act) (net : Net N) (n : ℕ) → Busy port_state law net n acts → Busy port_state law (acted_all net n acts) n []
   acts_busy [] net n busy = busy
   acts_busy (a ∷ acts) net n busy = acts_busy acts (acted net n a) n (acted_busy net n a acts busy)
 
-  pub acts_settled : (asking : N → View → Type 0) (moves : N → List ℕ) (net : Net N) (n : ℕ) (acts : List Act) → Busy row law net n acts → AllAsked row law asking moves (acted_all net n acts) → AllMoments row law asking moves (acted_all net n acts)
-      → Settled row law asking moves (acted_all net n acts)
+  pub acts_settled : (asking : N → View → Type 0) (moves : N → List ℕ) (net : Net N) (n : ℕ) (acts : List Act) → Busy port_state law net n acts → AllAsked port_state law asking moves (acted_all net n acts) → AllMoments port_state law asking moves (acted_all net n acts)
+      → Settled port_state law asking moves (acted_all net n acts)
   acts_settled asking moves net n acts busy asked moments = settled asking moves (acted_all net n acts) n (acts_busy acts net n busy) asked moments
 
 -- where node n may act, what holds of it and of another node goes on by any port state and law
-module _ {N : Type 0} (row : N → View → Type 0) (law : N → N → View → List (List Item) → List (List Item) → Type 0) where
-  pub busy_any : (net : Net N) (n : ℕ) (acts : List Act) → Busy row law net n acts → Busy AnyRow AnyLaw net n acts
+module _ {N : Type 0} (port_state : N → View → Type 0) (law : N → N → View → List (List Item) → List (List Item) → Type 0) where
+  pub busy_any : (net : Net N) (n : ℕ) (acts : List Act) → Busy port_state law net n acts → Busy AnyRow AnyLaw net n acts
   busy_any net n acts busy = record {
     wired = busy.wired;
     each_first = busy.each_first;
@@ -222,24 +222,24 @@ module _ {N : Type 0} (row : N → View → Type 0) (law : N → N → View → 
     marked = busy.marked;
     within = busy.within;
     stands = busy.stands;
-    here = λ x first xi fi. record { allowed = (busy.here x first xi fi).allowed; row_holds = tt; law_holds = tt };
-    others = λ k hk ne x first xi fi. record { allowed = tt; row_holds = tt; law_holds = tt };
+    here = λ x first xi fi. record { allowed = (busy.here x first xi fi).allowed; port_state_holds = tt; law_holds = tt };
+    others = λ k hk ne x first xi fi. record { allowed = tt; port_state_holds = tt; law_holds = tt };
   }
 
-  pub acts_here : (acts : List Act) (net : Net N) (n : ℕ) → Busy AnyRow AnyLaw net n acts → IsMinded row law net n acts → IsMinded row law (acted_all net n acts) n []
+  pub acts_here : (acts : List Act) (net : Net N) (n : ℕ) → Busy AnyRow AnyLaw net n acts → IsMinded port_state law net n acts → IsMinded port_state law (acted_all net n acts) n []
   acts_here [] net n busy m = m
   acts_here (a ∷ acts) net n busy m =
       let x = get_there net.nodes n busy.within in
       let first = get_there net.firsts n (rw busy.each_first busy.within) in
       let f = fits net n a (act_allowed AnyRow AnyLaw net n a acts x.0 first.0 busy x.1 first.1) in
       let within : wire_for a (ports_at net n) < length net.wires = port_within net n a _ busy.wired busy.within f.0 in
-      acts_here acts (acted net n a) n (acted_busy AnyRow AnyLaw net n a acts busy) (λ y fy yi fi. here_acted row law net n a acts y fy busy.wired busy.within f.0 within (m y fy yi fi))
+      acts_here acts (acted net n a) n (acted_busy AnyRow AnyLaw net n a acts busy) (λ y fy yi fi. here_acted port_state law net n a acts y fy busy.wired busy.within f.0 within (m y fy yi fi))
 
-  pub acts_others : (acts : List Act) (net : Net N) (n k : ℕ) → Busy AnyRow AnyLaw net n acts → k < length net.nodes → k ≢ n → IsMinded row law net k [] → IsMinded row law (acted_all net n acts) k []
+  pub acts_others : (acts : List Act) (net : Net N) (n k : ℕ) → Busy AnyRow AnyLaw net n acts → k < length net.nodes → k ≢ n → IsMinded port_state law net k [] → IsMinded port_state law (acted_all net n acts) k []
   acts_others [] net n k busy hk ne m = m
   acts_others (a ∷ acts) net n k busy hk ne m =
       let x = get_there net.nodes n busy.within in
       let first = get_there net.firsts n (rw busy.each_first busy.within) in
       let f = fits net n a (act_allowed AnyRow AnyLaw net n a acts x.0 first.0 busy x.1 first.1) in
       let within : wire_for a (ports_at net n) < length net.wires = port_within net n a _ busy.wired busy.within f.0 in
-      acts_others acts (acted net n a) n k (acted_busy AnyRow AnyLaw net n a acts busy) hk ne (others_acted row law net n a busy.wired busy.within f.0 within k hk ne m)
+      acts_others acts (acted net n a) n k (acted_busy AnyRow AnyLaw net n a acts busy) hk ne (others_acted port_state law net n a busy.wired busy.within f.0 within k hk ne m)

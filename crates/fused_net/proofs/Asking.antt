@@ -211,18 +211,18 @@ module _ {N : Type 0} where
   pub asking_kept : (tells : N → View → Type 0) (net : Net N) (n : ℕ) (acts : List Act) → Busy AnyRow AnyLaw net n acts → ((x : N) → slice_get net.nodes n ≡ Some x → tells x (view.acted_all (view_of net n) acts)) → IsAsking tells (acted_all net n acts) n
   asking_kept tells net n acts busy known x at =
       let ends = acts_busy AnyRow AnyLaw acts net n busy in
-      let held : IsMinded tells AnyLaw net n acts = λ y first yi fi. record { allowed = (busy.here y first yi fi).allowed; row_holds = known y yi; law_holds = tt } in
+      let held : IsMinded tells AnyLaw net n acts = λ y first yi fi. record { allowed = (busy.here y first yi fi).allowed; port_state_holds = known y yi; law_holds = tt } in
       let done = acts_here tells AnyLaw acts net n busy held in
       let first = get_there (acted_all net n acts).firsts n (rw ends.each_first ends.within) in
-      (done x first.0 at first.1).row_holds
+      (done x first.0 at first.1).port_state_holds
 
   -- another node stands in the place of node n
   node_elsewhere : (net : Net N) (n k : ℕ) (y : N) → (k ≡ n → ⊥) → slice_get (with_node net n y).nodes k ≡ slice_get net.nodes k
   node_elsewhere net n k y ne = get_set_other net.nodes n k y ne
 
-module _ {N : Type 0} (row : N → View → Type 0) (law : N → N → View → List (List Item) → List (List Item) → Type 0) (asking : N → View → Type 0) (moves : N → List ℕ) where
+module _ {N : Type 0} (port_state : N → View → Type 0) (law : N → N → View → List (List Item) → List (List Item) → Type 0) (asking : N → View → Type 0) (moves : N → List ℕ) where
   -- the last ask stays the last one where the graph goes on and the wire is not pulled again
-  pub later : (net new : Net N) (w : ℕ) → w < length net.wires → NetGoesOn net new → ((u : ℕ) → Grown (wire_at net u) (wire_at new u)) → MovesGrow moves net new → NodeStays net new w → wanted (wire_at new w) ≡ wanted (wire_at net w) → LastAsk row law asking moves net w → LastAsk row law asking moves new w
+  pub later : (net new : Net N) (w : ℕ) → w < length net.wires → NetGoesOn net new → ((u : ℕ) → Grown (wire_at net u) (wire_at new u)) → MovesGrow moves net new → NodeStays net new w → wanted (wire_at new w) ≡ wanted (wire_at net w) → LastAsk port_state law asking moves net w → LastAsk port_state law asking moves new w
   later net new w h on grown moved stays same a = record {
     old = a.old;
     on = goes_trans a.old net new a.on on;
@@ -240,7 +240,7 @@ module _ {N : Type 0} (row : N → View → Type 0) (law : N → N → View → 
 
   -- each wire whose input has pulled has a last ask, or it was pulled by the actions of node n so far
   abbrev AskedOr : Net N → ℕ → List Act → Type 0 → Type 0
-  AskedOr net n acts P = (w : ℕ) → w < length net.wires → 1 ≤ wanted (wire_at net w) → LastAsk row law asking moves net w ⊎ AsksAt (ports_at net n) acts w (wire_at net w) P
+  AskedOr net n acts P = (w : ℕ) → w < length net.wires → 1 ≤ wanted (wire_at net w) → LastAsk port_state law asking moves net w ⊎ AsksAt (ports_at net n) acts w (wire_at net w) P
 
   acted_asked : (net : Net N) (n : ℕ) (a : Act) (acts : List Act) → Busy AnyRow AnyLaw net n (a ∷ acts) → (P : Type 0) → (Pulls (a ∷ acts) → P) → AskedOr net n (a ∷ acts) P → AskedOr (acted net n a) n acts P
   acted_asked net n a acts busy P tells before w h some =
@@ -260,7 +260,7 @@ module _ {N : Type 0} (row : N → View → Type 0) (law : N → N → View → 
             let some' : 1 ≤ wanted (moved_by a (wire_at net w)) = rw moved at some in
             let r = acted_here a acts (ports_at net n) w (wire_at net w) _ port may (busy.sound w within) (busy.marked w within) busy.stands
             (λ i k e d. sym (busy.wired.input_to n i w busy.within e).1.1 ∙ (busy.wired.input_to n k w busy.within d).1.1)
-            (LastAsk row law asking moves net w) P tells (before w within) some' in
+            (LastAsk port_state law asking moves net w) P tells (before w within) some' in
             elim r [
               | inl l ↦ inl (later net (acted net n a) w within on grown (moves_same moves net (acted net n a) refl) (λ k _ _ _. refl) (ap (λ (c : WireState). wanted c) moved ∙ l.0) l.1)
               | inr k ↦ inr (rw moved k)
@@ -280,7 +280,7 @@ module _ {N : Type 0} (row : N → View → Type 0) (law : N → N → View → 
       acts_asked acts (acted net n a) n (acted_busy AnyRow AnyLaw net n a acts busy) P (λ h. tells (still_pulls a acts h)) (acted_asked net n a acts busy P tells before)
 
   -- once its actions are done, a pull that the node made is the last one of its wire
-  done_asked : (net : Net N) (n : ℕ) → Busy AnyRow AnyLaw net n [] → IsMinded row law net n [] → AskedOr net n [] (IsAsking asking net n) → AllAsked row law asking moves net
+  done_asked : (net : Net N) (n : ℕ) → Busy AnyRow AnyLaw net n [] → IsMinded port_state law net n [] → AskedOr net n [] (IsAsking asking net n) → AllAsked port_state law asking moves net
   done_asked net n busy minded before w h some = elim (before w h some) [
     | inl l ↦ l
     | inr k ↦
@@ -302,20 +302,20 @@ module _ {N : Type 0} (row : N → View → Type 0) (law : N → N → View → 
         }
   ]
 
-  pub after_acts : (net : Net N) (n : ℕ) (acts : List Act) → Busy AnyRow AnyLaw net n acts → IsMinded row law net n acts → (Pulls acts → IsAsking asking (acted_all net n acts) n) → AllAsked row law asking moves net → AllAsked row law asking moves (acted_all net n acts)
+  pub after_acts : (net : Net N) (n : ℕ) (acts : List Act) → Busy AnyRow AnyLaw net n acts → IsMinded port_state law net n acts → (Pulls acts → IsAsking asking (acted_all net n acts) n) → AllAsked port_state law asking moves net → AllAsked port_state law asking moves (acted_all net n acts)
   after_acts net n acts busy minded tells all =
-      done_asked (acted_all net n acts) n (acts_busy AnyRow AnyLaw acts net n busy) (acts_here row law acts net n busy minded) (acts_asked acts net n busy (IsAsking asking (acted_all net n acts) n) tells (λ w h some. inl (all w h some)))
+      done_asked (acted_all net n acts) n (acts_busy AnyRow AnyLaw acts net n busy) (acts_here port_state law acts net n busy minded) (acts_asked acts net n busy (IsAsking asking (acted_all net n acts) n) tells (λ w h some. inl (all w h some)))
 
   -- ---- an event, and another node in a node's place
 
-  pub told_asked : (net : Net N) (w : ℕ) (d : Delivery) → w < length net.wires → AllAsked row law asking moves (before net w) → AllAsked row law asking moves (delivered_on net w d)
+  pub told_asked : (net : Net N) (w : ℕ) (d : Delivery) → w < length net.wires → AllAsked port_state law asking moves (before net w) → AllAsked port_state law asking moves (delivered_on net w d)
   told_asked net w d h all u hu some =
       let within : u < length net.wires = rw length-set at hu in
       later (before net w) (delivered_on net w d) u within (goes_told net w d) (told_grown net w d h) (moves_same moves (before net w) (delivered_on net w d) refl) (λ k _ _ _. refl) (told_wanted net w d h u) (all u within (subst (λ (n : ℕ). 1 ≤ n) (told_wanted net w d h u) some))
 
   -- the event of wire w was delivered, and another node stands in the place of the one that heard it
   pub event_asked : (net : Net N) (w n : ℕ) (d : Delivery) (y : N) → d ≢ nothing → n ≡ target d (end_at net.ends w) → Wired net.ends net.ports (length net.nodes) (length net.wires) → w < length net.wires
-      → MovesGrow moves (before net w) (with_node (delivered_on net w d) n y) → AllAsked row law asking moves (before net w) → AllAsked row law asking moves (with_node (delivered_on net w d) n y)
+      → MovesGrow moves (before net w) (with_node (delivered_on net w d) n y) → AllAsked port_state law asking moves (before net w) → AllAsked port_state law asking moves (with_node (delivered_on net w d) n y)
   event_asked net w n d y ne to wired h moved all u hu some =
       let within : u < length net.wires = rw length-set at hu in
       later (before net w) (with_node (delivered_on net w d) n y) u within (goes_trans (before net w) (delivered_on net w d) (with_node (delivered_on net w d) n y) (goes_told net w d) (goes_node (delivered_on net w d) n y)) (told_grown net w d h) moved
@@ -323,6 +323,6 @@ module _ {N : Type 0} (row : N → View → Type 0) (law : N → N → View → 
       (told_wanted net w d h u) (all u within (subst (λ (m : ℕ). 1 ≤ m) (told_wanted net w d h u) some))
 
   -- another node stands in the place of one that has not pulled
-  pub node_asked : (net : Net N) (n : ℕ) (y : N) → ((u : ℕ) → u < length net.wires → (ports_at net n).ins ≡ u ∷ [] → 1 ≤ wanted (wire_at net u) → ⊥) → MovesGrow moves net (with_node net n y) → AllAsked row law asking moves net → AllAsked row law asking moves (with_node net n y)
+  pub node_asked : (net : Net N) (n : ℕ) (y : N) → ((u : ℕ) → u < length net.wires → (ports_at net n).ins ≡ u ∷ [] → 1 ≤ wanted (wire_at net u) → ⊥) → MovesGrow moves net (with_node net n y) → AllAsked port_state law asking moves net → AllAsked port_state law asking moves (with_node net n y)
   node_asked net n y none moved all w h some = later net (with_node net n y) w h (goes_node net n y) (λ u. grown_same (wire_at net u)) moved
       (λ k ins outs same. node_elsewhere net n k y (λ e. none w h (rw e at ins) some)) refl (all w h some)

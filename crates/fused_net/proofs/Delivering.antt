@@ -76,52 +76,52 @@ module _ {N : Type 0} where
   may_at cancel net w n wired h m = subst IsOutOpen (sym (read_at out_of net.wires (ports_at net (end_at net.ends w).from).outs (end_at net.ends w).output w Closed (wired.from_output w h))) m
   may_at (arrived x more) net w n wired h m = subst (MayCome x) (sym (read_at inp_of net.wires (ports_at net (end_at net.ends w).to).ins (end_at net.ends w).input w Cancelled (wired.to_input w h))) m
 
-module _ {N : Type 0} (row : N → View → Type 0) (law : N → N → View → List (List Item) → List (List Item) → Type 0) where
+module _ {N : Type 0} (port_state : N → View → Type 0) (law : N → N → View → List (List Item) → List (List Item) → Type 0) where
   -- an event was handled
-  pub minds_event : (call : Call) (x y first : N) (v : View) (t g : List (List Item)) (acts : List Act) → Handles row law call x y acts → CallAllowed call v
-      → Minds row law x first v t g [] → Minds row law y first (seen call v) (brought_by call t) g acts
+  pub minds_event : (call : Call) (x y first : N) (v : View) (t g : List (List Item)) (acts : List Act) → Handles port_state law call x y acts → CallAllowed call v
+      → Minds port_state law x first v t g [] → Minds port_state law y first (seen call v) (brought_by call t) g acts
   minds_event call x y first v t g acts d may m = record {
-    allowed = d.obeys.allowed v may m.row_holds;
-    row_holds = d.obeys.row v may m.row_holds;
-    law_holds = d.keeps first v t g may m.row_holds m.law_holds;
+    allowed = d.obeys.allowed v may m.port_state_holds;
+    port_state_holds = d.obeys.ports v may m.port_state_holds;
+    law_holds = d.keeps first v t g may m.port_state_holds m.law_holds;
   }
 
   -- what the node that heard it knows
   here_told : (d : Delivery) (net : Net N) (w : ℕ) (y first : N) (acts : List Act) → d ≢ nothing → Wired net.ends net.ports (length net.nodes) (length net.wires) → w < length net.wires
-      → Minds row law y first (seen (call_of d (end_at net.ends w)) (view_of net (target d (end_at net.ends w)))) (brought_by (call_of d (end_at net.ends w)) (took net (target d (end_at net.ends w)))) (gave net (target d (end_at net.ends w))) acts
-      → Minds row law y first (view_of (delivered_on net w d) (target d (end_at net.ends w))) (took (delivered_on net w d) (target d (end_at net.ends w))) (gave (delivered_on net w d) (target d (end_at net.ends w))) acts
+      → Minds port_state law y first (seen (call_of d (end_at net.ends w)) (view_of net (target d (end_at net.ends w)))) (brought_by (call_of d (end_at net.ends w)) (took net (target d (end_at net.ends w)))) (gave net (target d (end_at net.ends w))) acts
+      → Minds port_state law y first (view_of (delivered_on net w d) (target d (end_at net.ends w))) (took (delivered_on net w d) (target d (end_at net.ends w))) (gave (delivered_on net w d) (target d (end_at net.ends w))) acts
   here_told nothing net w y first acts n wired h m = absurd (n refl)
   here_told pull net w y first acts n wired h m =
-      here_out row law net y first (end_at net.ends w).from (end_at net.ends w).output w _ false acts wired (wired.from_within w h) (wired.from_output w h) h refl refl
+      here_out port_state law net y first (end_at net.ends w).from (end_at net.ends w).output w _ false acts wired (wired.from_within w h) (wired.from_output w h) h refl refl
       (rw (keep_at sent_of net.wires (ports_at net (end_at net.ends w).from).outs (end_at net.ends w).output w [] (wired.from_output w h)) m)
   here_told cancel net w y first acts n wired h m =
-      here_out row law net y first (end_at net.ends w).from (end_at net.ends w).output w _ false acts wired (wired.from_within w h) (wired.from_output w h) h refl refl
+      here_out port_state law net y first (end_at net.ends w).from (end_at net.ends w).output w _ false acts wired (wired.from_within w h) (wired.from_output w h) h refl refl
       (rw (keep_at sent_of net.wires (ports_at net (end_at net.ends w).from).outs (end_at net.ends w).output w [] (wired.from_output w h)) m)
   here_told (arrived (item.Elem x) more) net w y first acts n wired h m =
-      here_in row law net y first (end_at net.ends w).to (end_at net.ends w).input w _ more acts wired (wired.to_within w h) (wired.to_input w h) h refl refl
+      here_in port_state law net y first (end_at net.ends w).to (end_at net.ends w).input w _ more acts wired (wired.to_within w h) (wired.to_input w h) h refl refl
       (rw (read_at got_of net.wires (ports_at net (end_at net.ends w).to).ins (end_at net.ends w).input w [] (wired.to_input w h)) at m)
   here_told (arrived item.Ended more) net w y first acts n wired h m =
-      here_in row law net y first (end_at net.ends w).to (end_at net.ends w).input w _ more acts wired (wired.to_within w h) (wired.to_input w h) h refl refl
+      here_in port_state law net y first (end_at net.ends w).to (end_at net.ends w).input w _ more acts wired (wired.to_within w h) (wired.to_input w h) h refl refl
       (rw (read_at got_of net.wires (ports_at net (end_at net.ends w).to).ins (end_at net.ends w).input w [] (wired.to_input w h)) at m)
   here_told (arrived (item.Failed c) more) net w y first acts n wired h m =
-      here_in row law net y first (end_at net.ends w).to (end_at net.ends w).input w _ more acts wired (wired.to_within w h) (wired.to_input w h) h refl refl
+      here_in port_state law net y first (end_at net.ends w).to (end_at net.ends w).input w _ more acts wired (wired.to_within w h) (wired.to_input w h) h refl refl
       (rw (read_at got_of net.wires (ports_at net (end_at net.ends w).to).ins (end_at net.ends w).input w [] (wired.to_input w h)) at m)
 
   others_told : (d : Delivery) (net : Net N) (w : ℕ) → d ≢ nothing → Wired net.ends net.ports (length net.nodes) (length net.wires) → w < length net.wires
-      → (k : ℕ) → k < length net.nodes → k ≢ target d (end_at net.ends w) → IsMinded row law net k [] → IsMinded row law (delivered_on net w d) k []
+      → (k : ℕ) → k < length net.nodes → k ≢ target d (end_at net.ends w) → IsMinded port_state law net k [] → IsMinded port_state law (delivered_on net w d) k []
   others_told nothing net w n wired h = absurd (n refl)
-  others_told pull net w n wired h = others_out row law net (end_at net.ends w).from (end_at net.ends w).output w _ false wired (wired.from_within w h) (wired.from_output w h) h refl refl
-  others_told cancel net w n wired h = others_out row law net (end_at net.ends w).from (end_at net.ends w).output w _ false wired (wired.from_within w h) (wired.from_output w h) h refl refl
-  others_told (arrived (item.Elem x) more) net w n wired h = others_in row law net (end_at net.ends w).to (end_at net.ends w).input w _ more wired (wired.to_within w h) (wired.to_input w h) h refl refl
-  others_told (arrived item.Ended more) net w n wired h = others_in row law net (end_at net.ends w).to (end_at net.ends w).input w _ more wired (wired.to_within w h) (wired.to_input w h) h refl refl
-  others_told (arrived (item.Failed c) more) net w n wired h = others_in row law net (end_at net.ends w).to (end_at net.ends w).input w _ more wired (wired.to_within w h) (wired.to_input w h) h refl refl
+  others_told pull net w n wired h = others_out port_state law net (end_at net.ends w).from (end_at net.ends w).output w _ false wired (wired.from_within w h) (wired.from_output w h) h refl refl
+  others_told cancel net w n wired h = others_out port_state law net (end_at net.ends w).from (end_at net.ends w).output w _ false wired (wired.from_within w h) (wired.from_output w h) h refl refl
+  others_told (arrived (item.Elem x) more) net w n wired h = others_in port_state law net (end_at net.ends w).to (end_at net.ends w).input w _ more wired (wired.to_within w h) (wired.to_input w h) h refl refl
+  others_told (arrived item.Ended more) net w n wired h = others_in port_state law net (end_at net.ends w).to (end_at net.ends w).input w _ more wired (wired.to_within w h) (wired.to_input w h) h refl refl
+  others_told (arrived (item.Failed c) more) net w n wired h = others_in port_state law net (end_at net.ends w).to (end_at net.ends w).input w _ more wired (wired.to_within w h) (wired.to_input w h) h refl refl
 
   -- a node is replaced by one that minds what it knows
   pub with_node_busy : (net : Net N) (n : ℕ) (y : N) (acts : List Act) → Wired net.ends net.ports (length net.nodes) (length net.wires) → length net.firsts ≡ length net.nodes
       → ((u : ℕ) → u < length net.wires → IsSound (wire_at net u).wire (is_waiting net.queue u)) → ((u : ℕ) → u < length net.wires → IsMarked (wire_at net u)) → n < length net.nodes → PullsStand acts
-      → ((first : N) → slice_get net.firsts n ≡ Some first → Minds row law y first (view_of net n) (took net n) (gave net n) acts)
-      → ((k : ℕ) → k < length net.nodes → k ≢ n → IsMinded row law net k [])
-      → Busy row law (with_node net n y) n acts
+      → ((first : N) → slice_get net.firsts n ≡ Some first → Minds port_state law y first (view_of net n) (took net n) (gave net n) acts)
+      → ((k : ℕ) → k < length net.nodes → k ≢ n → IsMinded port_state law net k [])
+      → Busy port_state law (with_node net n y) n acts
   with_node_busy net n y acts wired each sound marked h stands m others = record {
     wired = rw length-set wired;
     each_first = rw length-set each;
@@ -129,41 +129,41 @@ module _ {N : Type 0} (row : N → View → Type 0) (law : N → N → View → 
     marked = marked;
     within = rw length-set h;
     stands = stands;
-    here = λ x first xi fi. let same : y ≡ x = some_same y x (sym (get_set_same net.nodes n y h) ∙ xi) in subst (λ (z : N). Minds row law z first (view_of net n) (took net n) (gave net n) acts) same (m first fi);
+    here = λ x first xi fi. let same : y ≡ x = some_same y x (sym (get_set_same net.nodes n y h) ∙ xi) in subst (λ (z : N). Minds port_state law z first (view_of net n) (took net n) (gave net n) acts) same (m first fi);
     others = λ k hk ne x first xi fi. let within : k < length net.nodes = rw length-set at hk in
         others k within ne x first (sym (get_set_other net.nodes n k y ne) ∙ xi) fi;
   }
 
-module _ {N : Type 0} (row : N → View → Type 0) (law : N → N → View → List (List Item) → List (List Item) → Type 0) where
+module _ {N : Type 0} (port_state : N → View → Type 0) (law : N → N → View → List (List Item) → List (List Item) → Type 0) where
   -- whatever the handler of node n does for this call, the laws stand with its actions still to do
   abbrev pub Awaits : Call → Net N → ℕ → Type 0
-  Awaits call net n = (x y : N) (acts : List Act) → slice_get net.nodes n ≡ Some x → Handles row law call x y acts → Busy row law (with_node net n y) n acts
+  Awaits call net n = (x y : N) (acts : List Act) → slice_get net.nodes n ≡ Some x → Handles port_state law call x y acts → Busy port_state law (with_node net n y) n acts
 
   -- and what it tells as it pulls is told of the graph
   abbrev pub TellsAsking : (N → View → Type 0) → Call → Net N → ℕ → Type 0
-  TellsAsking asking call net n = (x y : N) (acts : List Act) → slice_get net.nodes n ≡ Some x → Handles row law call x y acts → PullsAs call (row x) (asking y) acts → Pulls acts → asking y (view.acted_all (view_of net n) acts)
+  TellsAsking asking call net n = (x y : N) (acts : List Act) → slice_get net.nodes n ≡ Some x → Handles port_state law call x y acts → PullsAs call (port_state x) (asking y) acts → Pulls acts → asking y (view.acted_all (view_of net n) acts)
 
-module _ {N : Type 0} (row : N → View → Type 0) (law : N → N → View → List (List Item) → List (List Item) → Type 0) (asking : N → View → Type 0) (moves : N → List ℕ) where
-  pub sound_here : (net : Net N) (w : ℕ) → Settled row law asking moves (before net w) → w < length net.wires → IsSound (wire_at net w).wire true
+module _ {N : Type 0} (port_state : N → View → Type 0) (law : N → N → View → List (List Item) → List (List Item) → Type 0) (asking : N → View → Type 0) (moves : N → List ℕ) where
+  pub sound_here : (net : Net N) (w : ℕ) → Settled port_state law asking moves (before net w) → w < length net.wires → IsSound (wire_at net w).wire true
   sound_here net w s h = subst (IsSound (wire_at net w).wire) (queued_here net.queue w) (s.sound w h)
 
-  sound_there : (net : Net N) (w : ℕ) → Settled row law asking moves (before net w) → (u : ℕ) → u < length net.wires → u ≢ w → IsSound (wire_at net u).wire (is_waiting net.queue u)
+  sound_there : (net : Net N) (w : ℕ) → Settled port_state law asking moves (before net w) → (u : ℕ) → u < length net.wires → u ≢ w → IsSound (wire_at net u).wire (is_waiting net.queue u)
   sound_there net w s u h n = subst (IsSound (wire_at net u).wire) (queued_there net.queue w u n) (s.sound u h)
 
-  sound_told : (net : Net N) (w : ℕ) (d : Delivery) → Settled row law asking moves (before net w) → w < length net.wires → is_waiting net.queue w ≡ false → IsSound (after_delivery d (wire_at net w).wire) (again d)
+  sound_told : (net : Net N) (w : ℕ) (d : Delivery) → Settled port_state law asking moves (before net w) → w < length net.wires → is_waiting net.queue w ≡ false → IsSound (after_delivery d (wire_at net w).wire) (again d)
       → (u : ℕ) → u < length (delivered_on net w d).wires → IsSound (wire_at (delivered_on net w d) u).wire (is_waiting (delivered_on net w d).queue u)
   sound_told net w d s h absent sound = sound_put net w _ _ h (sound_there net w s) (rw absent sound)
 
-  marked_told : (net : Net N) (w : ℕ) (d : Delivery) → Settled row law asking moves (before net w) → w < length net.wires → IsMarked (told_by d (wire_at net w))
+  marked_told : (net : Net N) (w : ℕ) (d : Delivery) → Settled port_state law asking moves (before net w) → w < length net.wires → IsMarked (told_by d (wire_at net w))
       → (u : ℕ) → u < length (delivered_on net w d).wires → IsMarked (wire_at (delivered_on net w d) u)
   marked_told net w d s h m = marked_put net w (told_by d (wire_at net w)) (again d) h (λ u hu n. s.marked u hu) m
 
   -- the wire of the event stays marked as it was pulled
-  pub marked_here : (net : Net N) (w : ℕ) → Settled row law asking moves (before net w) → w < length net.wires → IsMarked (told_by (delivery_of (wire_at net w).wire) (wire_at net w))
+  pub marked_here : (net : Net N) (w : ℕ) → Settled port_state law asking moves (before net w) → w < length net.wires → IsMarked (told_by (delivery_of (wire_at net w).wire) (wire_at net w))
   marked_here net w s h = deliver_marked (wire_at net w).wire (wire_at net w).asked (sound_here net w s h) (s.marked w h)
 
   -- an event that comes to nothing
-  pub nothing_settled : (net : Net N) (w : ℕ) → Settled row law asking moves (before net w) → w < length net.wires → is_waiting net.queue w ≡ false → delivery_of (wire_at net w).wire ≡ nothing → Settled row law asking moves (event_told net w)
+  pub nothing_settled : (net : Net N) (w : ℕ) → Settled port_state law asking moves (before net w) → w < length net.wires → is_waiting net.queue w ≡ false → delivery_of (wire_at net w).wire ≡ nothing → Settled port_state law asking moves (event_told net w)
   nothing_settled net w s h absent e =
       let marked : IsMarked (told_by nothing (wire_at net w)) = rw e at (marked_here net w s h) in
       let sound : IsSound (wire_at net w).wire false = rw e at (deliver_kept (wire_at net w).wire (sound_here net w s h)) in
@@ -172,43 +172,43 @@ module _ {N : Type 0} (row : N → View → Type 0) (law : N → N → View → 
         each_first = s.each_first;
         sound = sound_told net w nothing s h absent sound;
         marked = marked_told net w nothing s h marked;
-        minded = λ n hn x first xi fi. minds_along row law x first _ _ _ _ _ _ []
+        minded = λ n hn x first xi fi. minds_along port_state law x first _ _ _ _ _ _ []
             (read_same inp_of net.wires w (told_by nothing (wire_at net w)) (ports_at net n).ins h refl)
             (read_same out_of net.wires w (told_by nothing (wire_at net w)) (ports_at net n).outs h refl)
             (read_same got_of net.wires w (told_by nothing (wire_at net w)) (ports_at net n).ins h refl)
             (read_same sent_of net.wires w (told_by nothing (wire_at net w)) (ports_at net n).outs h refl)
             (s.minded n hn x first xi fi);
-        asked = told_asked row law asking moves net w nothing h s.asked;
-        moments = told_moments row law asking moves net w nothing h s.moments;
+        asked = told_asked port_state law asking moves net w nothing h s.asked;
+        moments = told_moments port_state law asking moves net w nothing h s.moments;
       })
 
-  pub handled_busy : (net : Net N) (w : ℕ) (d : Delivery) (x y : N) (acts : List Act) → Settled row law asking moves (before net w) → w < length net.wires → is_waiting net.queue w ≡ false
-      → d ≡ delivery_of (wire_at net w).wire → d ≢ nothing → slice_get net.nodes (target d (end_at net.ends w)) ≡ Some x → Handles row law (call_of d (end_at net.ends w)) x y acts
-      → Busy row law (with_node (delivered_on net w d) (target d (end_at net.ends w)) y) (target d (end_at net.ends w)) acts
+  pub handled_busy : (net : Net N) (w : ℕ) (d : Delivery) (x y : N) (acts : List Act) → Settled port_state law asking moves (before net w) → w < length net.wires → is_waiting net.queue w ≡ false
+      → d ≡ delivery_of (wire_at net w).wire → d ≢ nothing → slice_get net.nodes (target d (end_at net.ends w)) ≡ Some x → Handles port_state law (call_of d (end_at net.ends w)) x y acts
+      → Busy port_state law (with_node (delivered_on net w d) (target d (end_at net.ends w)) y) (target d (end_at net.ends w)) acts
   handled_busy net w d x y acts s h absent e n xi handles =
       let heard : Heard d (wire_at net w).wire = rw e (deliver_heard (wire_at net w).wire (sound_here net w s h)) in
       let marked : IsMarked (told_by d (wire_at net w)) = rw e (marked_here net w s h) in
       let sound : IsSound (after_delivery d (wire_at net w).wire) (again d) = rw e (deliver_kept (wire_at net w).wire (sound_here net w s h)) in
       let hn : target d (end_at net.ends w) < length net.nodes = target_within d net w s.wired h in
       let may : CallAllowed (call_of d (end_at net.ends w)) (view_of net (target d (end_at net.ends w))) = may_at d net w n s.wired h heard in
-      with_node_busy row law (delivered_on net w d) (target d (end_at net.ends w)) y acts
+      with_node_busy port_state law (delivered_on net w d) (target d (end_at net.ends w)) y acts
       (rw length-set s.wired)
       s.each_first
       (sound_told net w d s h absent sound)
       (marked_told net w d s h marked)
       hn
       handles.stands
-      (λ first fi. here_told row law d net w y first acts n s.wired h (minds_event row law (call_of d (end_at net.ends w)) x y first _ _ _ acts handles may (s.minded (target d (end_at net.ends w)) hn x first xi fi)))
-      (λ k hk ne. others_told row law d net w n s.wired h k hk ne (s.minded k hk))
+      (λ first fi. here_told port_state law d net w y first acts n s.wired h (minds_event port_state law (call_of d (end_at net.ends w)) x y first _ _ _ acts handles may (s.minded (target d (end_at net.ends w)) hn x first xi fi)))
+      (λ k hk ne. others_told port_state law d net w n s.wired h k hk ne (s.minded k hk))
 
   -- what a handler's call needs, once the wire's event was delivered
   pub record Called (call : Call) (v : Net N) (n : ℕ) : Type 0 where
     pub within : n < length v.nodes
-    pub meets : (x : N) → slice_get v.nodes n ≡ Some x → Meets call (row x)
-    pub awaits : Awaits row law call v n
-    pub tells : TellsAsking row law asking call v n
+    pub meets : (x : N) → slice_get v.nodes n ≡ Some x → Meets call (port_state x)
+    pub awaits : Awaits port_state law call v n
+    pub tells : TellsAsking port_state law asking call v n
 
-  called : (net : Net N) (w : ℕ) (d : Delivery) → Settled row law asking moves (before net w) → w < length net.wires → is_waiting net.queue w ≡ false
+  called : (net : Net N) (w : ℕ) (d : Delivery) → Settled port_state law asking moves (before net w) → w < length net.wires → is_waiting net.queue w ≡ false
       → d ≡ delivery_of (wire_at net w).wire → d ≢ nothing → Called (call_of d (end_at net.ends w)) (event_told net w) (target d (end_at net.ends w))
   called net w d s h absent e n =
       let heard : Heard d (wire_at net w).wire = rw e (deliver_heard (wire_at net w).wire (sound_here net w s h)) in
@@ -218,18 +218,18 @@ module _ {N : Type 0} (row : N → View → Type 0) (law : N → N → View → 
       let first = get_there net.firsts (target d (end_at net.ends w)) (rw s.each_first hn) in
       record {
         within = hn;
-        meets = λ x xi. (view_of net (target d (end_at net.ends w)), (may, (s.minded (target d (end_at net.ends w)) hn x first.0 xi first.1).row_holds));
-        awaits = λ x y acts xi handles. subst (λ (a : Net N). Busy row law (with_node a (target d (end_at net.ends w)) y) (target d (end_at net.ends w)) acts) same (handled_busy net w d x y acts s h absent e n xi handles);
+        meets = λ x xi. (view_of net (target d (end_at net.ends w)), (may, (s.minded (target d (end_at net.ends w)) hn x first.0 xi first.1).port_state_holds));
+        awaits = λ x y acts xi handles. subst (λ (a : Net N). Busy port_state law (with_node a (target d (end_at net.ends w)) y) (target d (end_at net.ends w)) acts) same (handled_busy net w d x y acts s h absent e n xi handles);
         tells = λ x y acts xi handles asks pulls.
-            let held = (s.minded (target d (end_at net.ends w)) hn x first.0 xi first.1).row_holds in
+            let held = (s.minded (target d (end_at net.ends w)) hn x first.0 xi first.1).port_state_holds in
             let at = here_told asking AnyLaw d net w y first.0 acts n s.wired h (record {
               allowed = handles.obeys.allowed (view_of net (target d (end_at net.ends w))) may held;
-              row_holds = asks (view_of net (target d (end_at net.ends w))) may held pulls;
+              port_state_holds = asks (view_of net (target d (end_at net.ends w))) may held pulls;
               law_holds = tt;
             }) in
-            subst (λ (a : Net N). asking y (view.acted_all (view_of a (target d (end_at net.ends w))) acts)) same at.row_holds;
+            subst (λ (a : Net N). asking y (view.acted_all (view_of a (target d (end_at net.ends w))) acts)) same at.port_state_holds;
       }
 
-  pub call_at : (net v : Net N) (w n : ℕ) (d : Delivery) (ends : WireEnds) → Settled row law asking moves (before net w) → w < length net.wires → is_waiting net.queue w ≡ false
+  pub call_at : (net v : Net N) (w n : ℕ) (d : Delivery) (ends : WireEnds) → Settled port_state law asking moves (before net w) → w < length net.wires → is_waiting net.queue w ≡ false
       → d ≡ delivery_of (wire_at net w).wire → d ≢ nothing → v ≡ event_told net w → ends ≡ end_at net.ends w → n ≡ target d ends → Called (call_of d ends) v n
   call_at net v w n d ends s h absent e ne is same at = rw (at, same, is) (called net w d s h absent e ne)

@@ -103,24 +103,24 @@ module _ {N : Type 0} where
       let at : Busy AnyRow AnyLaw net n (a ∷ new) = rw e at busy in
       rw is (let one = acted_uses net n a new at in omega (arith, one.most, few))
 
-module _ {N : Type 0} (row : N → View → Type 0) (law : N → N → View → List (List Item) → List (List Item) → Type 0) (asking : N → View → Type 0) (moves : N → List ℕ) where
+module _ {N : Type 0} (port_state : N → View → Type 0) (law : N → N → View → List (List Item) → List (List Item) → Type 0) (asking : N → View → Type 0) (moves : N → List ℕ) where
   -- the handler of node n was called, and its actions were done
   pub record Responds (old new : Net N) (n : ℕ) : Type 0 where
     pub node : N
     pub acts : List Act
-    pub busy : Busy row law (with_node old n node) n acts
+    pub busy : Busy port_state law (with_node old n node) n acts
     pub asks : Pulls acts → asking node (view.acted_all (view_of old n) acts)
     pub grows : (x : N) → slice_get old.nodes n ≡ Some x → IsPrefix (moves x) (moves node)
     pub is : new ≡ acted_all (with_node old n node) n acts
 
-module _ {N : Type 0} (row : N → View → Type 0) (law : N → N → View → List (List Item) → List (List Item) → Type 0) (asking : N → View → Type 0) (moves : N → List ℕ) where
+module _ {N : Type 0} (port_state : N → View → Type 0) (law : N → N → View → List (List Item) → List (List Item) → Type 0) (asking : N → View → Type 0) (moves : N → List ℕ) where
   -- an event is delivered
-  pub event_uses : (net : Net N) (w : ℕ) → Settled row law asking moves (before net w) → w < length net.wires → is_waiting net.queue w ≡ false → Uses (before net w) (event_told net w) 1
+  pub event_uses : (net : Net N) (w : ℕ) → Settled port_state law asking moves (before net w) → w < length net.wires → is_waiting net.queue w ≡ false → Uses (before net w) (event_told net w) 1
   event_uses net w s h absent =
       let d : Delivery = delivery_of (wire_at net w).wire in
       let queue : is_waiting (event_told net w).queue w ≡ again (delivery_of (wire_at net w).wire) = holds_put_same net.queue w (again (delivery_of (wire_at net w).wire)) ∙ ap (λ (q : Bool). q || again (delivery_of (wire_at net w).wire)) absent in
       let up : spent (wire_at net w).wire (is_waiting (w ∷ net.queue) w) + 1 ≤ spent (after_delivery (delivery_of (wire_at net w).wire) (wire_at net w).wire) (is_waiting (event_told net w).queue w) =
-      rw (queued_here net.queue w, queue) (deliver_spent (wire_at net w).wire (sound_here row law asking moves net w s h)) in
+      rw (queued_here net.queue w, queue) (deliver_spent (wire_at net w).wire (sound_here port_state law asking moves net w s h)) in
       let cost : total_cost (before net w) + 1 ≤ total_cost (event_told net w) = rw length-set (sum_up _ _ (length net.wires) w h
       (λ k l. by_place (λ z. spent (wire_at (before net w) z).wire (is_waiting (w ∷ net.queue) z)) (λ z. spent (wire_at (event_told net w) z).wire (is_waiting (event_told net w).queue z)) w k
       (rw (get_or-set_same net.wires w _ no_wire h) (omega (arith, up)))
@@ -135,35 +135,35 @@ module _ {N : Type 0} (row : N → View → Type 0) (law : N → N → View → 
       record { least = cost; most = asked; each = delivered_on }
 
   -- a node responded
-  pub response_goes : (old new : Net N) (n : ℕ) → Responds row law asking moves old new n → NetGoesOn old new
+  pub response_goes : (old new : Net N) (n : ℕ) → Responds port_state law asking moves old new n → NetGoesOn old new
   response_goes old new n r = rw r.is (goes_trans old (with_node old n r.node) _ (goes_node old n r.node) (goes_acts r.acts (with_node old n r.node) n))
 
   -- what the node tells as it pulls holds once its actions are done
-  asked_after : (old new : Net N) (n : ℕ) → (r : Responds row law asking moves old new n) → Pulls r.acts → IsAsking asking (acted_all (with_node old n r.node) n r.acts) n
-  asked_after old new n r pulls = asking_kept asking (with_node old n r.node) n r.acts (busy_any row law _ n r.acts r.busy)
+  asked_after : (old new : Net N) (n : ℕ) → (r : Responds port_state law asking moves old new n) → Pulls r.acts → IsAsking asking (acted_all (with_node old n r.node) n r.acts) n
+  asked_after old new n r pulls = asking_kept asking (with_node old n r.node) n r.acts (busy_any port_state law _ n r.acts r.busy)
       (λ x xi. let within : n < length old.nodes = rw length-set at r.busy.within in let same : r.node ≡ x = some_same r.node x (sym (get_set_same old.nodes n r.node within) ∙ xi) in rw same at (r.asks pulls))
 
-  pub response_settled : (old new : Net N) (n : ℕ) → (r : Responds row law asking moves old new n) → AllAsked row law asking moves (with_node old n r.node) → AllMoments row law asking moves (with_node old n r.node) → Settled row law asking moves new
+  pub response_settled : (old new : Net N) (n : ℕ) → (r : Responds port_state law asking moves old new n) → AllAsked port_state law asking moves (with_node old n r.node) → AllMoments port_state law asking moves (with_node old n r.node) → Settled port_state law asking moves new
   response_settled old new n r asked moments =
-      let any = busy_any row law (with_node old n r.node) n r.acts r.busy in
-      let later : AllAsked row law asking moves (acted_all (with_node old n r.node) n r.acts) = after_acts row law asking moves (with_node old n r.node) n r.acts any r.busy.here (asked_after old new n r) asked in
-      let last : AllMoments row law asking moves (acted_all (with_node old n r.node) n r.acts) =
-      acts_moments row law asking moves (with_node old n r.node) n r.acts any (allowed_of row law (with_node old n r.node) n r.acts r.busy) r.busy.here (asked_after old new n r) later moments in
-      rw r.is (acts_settled row law asking moves (with_node old n r.node) n r.acts r.busy later last)
+      let any = busy_any port_state law (with_node old n r.node) n r.acts r.busy in
+      let later : AllAsked port_state law asking moves (acted_all (with_node old n r.node) n r.acts) = after_acts port_state law asking moves (with_node old n r.node) n r.acts any r.busy.here (asked_after old new n r) asked in
+      let last : AllMoments port_state law asking moves (acted_all (with_node old n r.node) n r.acts) =
+      acts_moments port_state law asking moves (with_node old n r.node) n r.acts any (allowed_of port_state law (with_node old n r.node) n r.acts r.busy) r.busy.here (asked_after old new n r) later moments in
+      rw r.is (acts_settled port_state law asking moves (with_node old n r.node) n r.acts r.busy later last)
 
-  response_uses : (old new : Net N) (n : ℕ) → Responds row law asking moves old new n → Uses old new 0
+  response_uses : (old new : Net N) (n : ℕ) → Responds port_state law asking moves old new n → Uses old new 0
   response_uses old new n r =
-      let u = acts_uses r.acts (with_node old n r.node) n (busy_any row law _ n r.acts r.busy) in
+      let u = acts_uses r.acts (with_node old n r.node) n (busy_any port_state law _ n r.acts r.busy) in
       rw r.is (record { least = u.least; most = u.most; each = u.each })
 
   -- what is left once an event was handled
   pub record Handled (net new : Net N) (w : ℕ) : Type 0 where
-    pub laws : Settled row law asking moves new
+    pub laws : Settled port_state law asking moves new
     pub on : NetGoesOn net new
     pub uses : Uses (before net w) new 1
 
-  pub handled : (net v new : Net N) (w n : ℕ) (d : Delivery) (ends : WireEnds) → Settled row law asking moves (before net w) → w < length net.wires → is_waiting net.queue w ≡ false
-      → d ≡ delivery_of (wire_at net w).wire → d ≢ nothing → v ≡ event_told net w → ends ≡ end_at net.ends w → n ≡ target d ends → Responds row law asking moves v new n → Handled net new w
+  pub handled : (net v new : Net N) (w n : ℕ) (d : Delivery) (ends : WireEnds) → Settled port_state law asking moves (before net w) → w < length net.wires → is_waiting net.queue w ≡ false
+      → d ≡ delivery_of (wire_at net w).wire → d ≢ nothing → v ≡ event_told net w → ends ≡ end_at net.ends w → n ≡ target d ends → Responds port_state law asking moves v new n → Handled net new w
   handled net v new w n d ends s h absent e ne is same at r =
       let event : Uses (before net w) v 1 = rw is (event_uses net w s h absent) in
       let on : NetGoesOn net v = rw is (goes_put net w _ _) in
@@ -172,10 +172,10 @@ module _ {N : Type 0} (row : N → View → Type 0) (law : N → N → View → 
       let to : n ≡ target d (end_at net.ends w) = at ∙ ap (λ (x : WireEnds). target d x) same in
       let moved : MovesGrow moves v (with_node v n r.node) = moves_node moves v n r.node within r.grows in
       let moved_on : MovesGrow moves (before net w) (with_node (delivered_on net w d) n r.node) = rw (sym told_is) at (moves_from moves (before net w) v n r.node (rw is refl) moved) in
-      let asked : AllAsked row law asking moves (with_node v n r.node) =
-      subst (λ (a : Net N). AllAsked row law asking moves (with_node a n r.node)) told_is (event_asked row law asking moves net w n d r.node ne to s.wired h moved_on s.asked) in
-      let moments : AllMoments row law asking moves (with_node v n r.node) =
-      node_moments row law asking moves v n r.node moved (subst (λ (a : Net N). AllMoments row law asking moves a) told_is (told_moments row law asking moves net w d h s.moments)) in
+      let asked : AllAsked port_state law asking moves (with_node v n r.node) =
+      subst (λ (a : Net N). AllAsked port_state law asking moves (with_node a n r.node)) told_is (event_asked port_state law asking moves net w n d r.node ne to s.wired h moved_on s.asked) in
+      let moments : AllMoments port_state law asking moves (with_node v n r.node) =
+      node_moments port_state law asking moves v n r.node moved (subst (λ (a : Net N). AllMoments port_state law asking moves a) told_is (told_moments port_state law asking moves net w d h s.moments)) in
       let done = response_uses v new n r in
       record {
         laws = response_settled v new n r asked moments;
@@ -183,9 +183,9 @@ module _ {N : Type 0} (row : N → View → Type 0) (law : N → N → View → 
         uses = record { least = omega (arith, event.least, done.least); most = omega (arith, event.most, done.most); each = omega (arith, event.each, done.each) };
       }
 
-  pub handled_nothing : (net new : Net N) (w : ℕ) → Settled row law asking moves (before net w) → w < length net.wires → is_waiting net.queue w ≡ false → delivery_of (wire_at net w).wire ≡ nothing → new ≡ event_told net w → Handled net new w
+  pub handled_nothing : (net new : Net N) (w : ℕ) → Settled port_state law asking moves (before net w) → w < length net.wires → is_waiting net.queue w ≡ false → delivery_of (wire_at net w).wire ≡ nothing → new ≡ event_told net w → Handled net new w
   handled_nothing net new w s h absent e is = rw is (record {
-    laws = nothing_settled row law asking moves net w s h absent e;
+    laws = nothing_settled port_state law asking moves net w s h absent e;
     on = goes_put net w _ _;
     uses = event_uses net w s h absent;
   })

@@ -32,10 +32,10 @@ use Rattle.fused_net.proofs.Still.{still_told, still_trans, still_acts, heard_ac
 told_ends : {N : Type 0} (net told u : Net N) (w : ℕ) (x : WireEnds) → length net.ends ≡ length net.wires → w < length net.wires → told ≡ put net w (wire_at told w) false → u ≡ told → x ≡ get_or u.ends w x → x ≡ end_at net.ends w
 told_ends net told u w x each h tells is at = the_ends (put net w (wire_at told w) false) u w x (is ∙ tells) (rw length-set each) (rw length-set h) at
 
-module _ {N : Type 0} (row : N → View → Type 0) (law : N → N → View → List (List Item) → List (List Item) → Type 0) (asking : N → View → Type 0) (moves : N → List ℕ) where
+module _ {N : Type 0} (port_state : N → View → Type 0) (law : N → N → View → List (List Item) → List (List Item) → Type 0) (asking : N → View → Type 0) (moves : N → List ℕ) where
   -- what is known where a handler is called: `net` is the graph before the event of wire w, `heard` the same with the event told, and `v` that as the code reads it
   pub record Calling (net heard v : Net N) (w n : ℕ) (call : Call) (ends : WireEnds) (x : N) : Type 0 where
-    pub laws : Settled row law asking moves (before net w)
+    pub laws : Settled port_state law asking moves (before net w)
     pub within : w < length net.wires
     pub absent : is_waiting net.queue w ≡ false
     pub some : delivery_of (wire_at net w).wire ≢ nothing
@@ -46,23 +46,23 @@ module _ {N : Type 0} (row : N → View → Type 0) (law : N → N → View → 
     pub same : v ≡ heard
     pub read : x ≡ get_or v.nodes n x
 
-  called_at : (net heard v : Net N) (w n : ℕ) (call : Call) (ends : WireEnds) (x : N) → Calling net heard v w n call ends x → Called row law asking moves call heard n
-  called_at net heard v w n call ends x c = rw c.call_is (call_at row law asking moves net heard w n (delivery_of (wire_at net w).wire) ends c.laws c.within c.absent refl c.some c.after c.ends_are c.node)
+  called_at : (net heard v : Net N) (w n : ℕ) (call : Call) (ends : WireEnds) (x : N) → Calling net heard v w n call ends x → Called port_state law asking moves call heard n
+  called_at net heard v w n call ends x c = rw c.call_is (call_at port_state law asking moves net heard w n (delivery_of (wire_at net w).wire) ends c.laws c.within c.absent refl c.some c.after c.ends_are c.node)
 
-  pub call_meets : (net heard v : Net N) (w n : ℕ) (call : Call) (ends : WireEnds) (x : N) → Calling net heard v w n call ends x → Meets call (row x)
+  pub call_meets : (net heard v : Net N) (w n : ℕ) (call : Call) (ends : WireEnds) (x : N) → Calling net heard v w n call ends x → Meets call (port_state x)
   call_meets net heard v w n call ends x c =
       let k = called_at net heard v w n call ends x c in
       k.meets x (node_is heard v n x c.same k.within c.read)
 
-  pub call_busy : (net heard v : Net N) (w n : ℕ) (call : Call) (ends : WireEnds) (x y : N) (acts : List Act) → Calling net heard v w n call ends x → Handles row law call x y acts → Busy AnyRow AnyLaw (with_node v n y) n acts
+  pub call_busy : (net heard v : Net N) (w n : ℕ) (call : Call) (ends : WireEnds) (x y : N) (acts : List Act) → Calling net heard v w n call ends x → Handles port_state law call x y acts → Busy AnyRow AnyLaw (with_node v n y) n acts
   call_busy net heard v w n call ends x y acts c handles =
       let k = called_at net heard v w n call ends x c in
-      awaited row law call heard v n x y acts c.same k.within c.read k.awaits handles
+      awaited port_state law call heard v n x y acts c.same k.within c.read k.awaits handles
 
   pub call_few : (net heard v : Net N) (w n : ℕ) (call : Call) (ends : WireEnds) (x y : N) → Calling net heard v w n call ends x → all_asks net + 1 ≤ MOST_COUNT → all_asks (with_node v n y) ≤ MOST_COUNT
-  call_few net heard v w n call ends x y c few = subst (λ (a : Net N). all_asks a ≤ MOST_COUNT) (sym c.same) (few_told row law asking moves net heard w c.laws c.within c.absent c.after few)
+  call_few net heard v w n call ends x y c few = subst (λ (a : Net N). all_asks a ≤ MOST_COUNT) (sym c.same) (few_told port_state law asking moves net heard w c.laws c.within c.absent c.after few)
 
-  calling : (net heard v : Net N) (w n : ℕ) (d : Delivery) (ends : WireEnds) (x : N) → Settled row law asking moves (before net w) → w < length net.wires → is_waiting net.queue w ≡ false → d ≡ delivery_of (wire_at net w).wire → d ≢ nothing
+  calling : (net heard v : Net N) (w n : ℕ) (d : Delivery) (ends : WireEnds) (x : N) → Settled port_state law asking moves (before net w) → w < length net.wires → is_waiting net.queue w ≡ false → d ≡ delivery_of (wire_at net w).wire → d ≢ nothing
       → heard ≡ event_told net w → ends ≡ end_at net.ends w → n ≡ target d ends → v ≡ heard → x ≡ get_or v.nodes n x → Calling net heard v w n (call_of d ends) ends x
   calling net heard v w n d ends x laws within absent event some after ends_are node same read = record {
     laws = laws;
@@ -78,20 +78,20 @@ module _ {N : Type 0} (row : N → View → Type 0) (law : N → N → View → 
   }
 
   -- an element is told and then taken
-  pub calling_push : (net told heard u v : Net N) (w : ℕ) (e : Tree) (ends : WireEnds) (x : N) → Settled row law asking moves (before net w) → w < length net.wires → is_waiting net.queue w ≡ false → Brings false (wire_at net w) (wire_at told w) → told ≡ put net w (wire_at told w) false
+  pub calling_push : (net told heard u v : Net N) (w : ℕ) (e : Tree) (ends : WireEnds) (x : N) → Settled port_state law asking moves (before net w) → w < length net.wires → is_waiting net.queue w ≡ false → Brings false (wire_at net w) (wire_at told w) → told ≡ put net w (wire_at told w) false
       → (wire_at told w).wire.conn.to_grab ≡ Some e → heard ≡ put told w (brought_in e (wire_at told w)) false → u ≡ net → ends ≡ get_or u.ends w ends → v ≡ heard → x ≡ get_or v.nodes ends.to x → Calling net heard v w ends.to (arrives ends.input (item.Elem e)) ends x
   calling_push net told heard u v w e ends x laws within absent brings tells there on is at same read =
       calling net heard v w ends.to (arrived (item.Elem e) false) ends x laws within absent (brings_elem (wire_at net w) (wire_at told w) e false brings there) (λ none. cc) (told_brings net told heard w e false brings tells there on)
       (the_ends net u w ends is laws.wired.each_wire within at) refl same read
 
   -- a pull is told
-  pub calling_pull : (net heard u v : Net N) (w : ℕ) (ends : WireEnds) (x : N) → Settled row law asking moves (before net w) → w < length net.wires → is_waiting net.queue w ≡ false → Brought pull (wire_at net w) (wire_at heard w) → heard ≡ put net w (wire_at heard w) false
+  pub calling_pull : (net heard u v : Net N) (w : ℕ) (ends : WireEnds) (x : N) → Settled port_state law asking moves (before net w) → w < length net.wires → is_waiting net.queue w ≡ false → Brought pull (wire_at net w) (wire_at heard w) → heard ≡ put net w (wire_at heard w) false
       → u ≡ net → ends ≡ get_or u.ends w ends → v ≡ heard → x ≡ get_or v.nodes ends.from x → Calling net heard v w ends.from (pulls ends.output) ends x
   calling_pull net heard u v w ends x laws within absent brought tells is at same read =
       calling net heard v w ends.from pull ends x laws within absent (sym brought.brings) (λ none. cc) (told_brought net heard w pull brought tells refl) (the_ends net u w ends is laws.wired.each_wire within at) refl same read
 
   -- any other event is told, and what it brings is taken
-  pub calling_closing : (b : Delivered) (net told heard u v : Net N) (w n : ℕ) (ends : WireEnds) (x : N) → Settled row law asking moves (before net w) → w < length net.wires → is_waiting net.queue w ≡ false → told ≡ put net w (wire_at told w) false → u ≡ told → ends ≡ get_or u.ends w ends
+  pub calling_closing : (b : Delivered) (net told heard u v : Net N) (w n : ℕ) (ends : WireEnds) (x : N) → Settled port_state law asking moves (before net w) → w < length net.wires → is_waiting net.queue w ≡ false → told ≡ put net w (wire_at told w) false → u ≡ told → ends ≡ get_or u.ends w ends
       → IsBrought b (delivery_of (wire_at net w).wire) → heard ≡ event_told net w → n ≡ node_for b ends → v ≡ heard → x ≡ get_or v.nodes n x → Calling net heard v w n (call_for b ends) ends x
   calling_closing brings.Cancel net told heard u v w n ends x laws within absent tells is at brought after node same read =
       calling net heard v w n cancel ends x laws within absent (sym brought) (λ none. cc) after (told_ends net told u w ends laws.wired.each_wire within tells is at) node same read
@@ -100,7 +100,7 @@ module _ {N : Type 0} (row : N → View → Type 0) (law : N → N → View → 
 
   -- what is left once the node did what it wants done, and said whether it is passive
   pub record Answered (gone : N → List Item) (passive : N → Bool) (net new : Net N) (w : ℕ) (is_passive : Bool) : Type 0 where
-    pub laws : Settled row law asking moves new
+    pub laws : Settled port_state law asking moves new
     pub on : NetGoesOn net new
     pub uses : Uses (before net w) new 1
     pub gone_is : map gone new.nodes ≡ map gone net.nodes
@@ -111,13 +111,13 @@ module _ {N : Type 0} (row : N → View → Type 0) (law : N → N → View → 
     pub call_still : (net heard v : Net N) (w n : ℕ) (call : Call) (ends : WireEnds) (x y : N) (acts : List Act) → Calling net heard v w n call ends x → StaysPassive (passive x) (passive y) acts → AtNode (with_node v n y) n (λ z. passive z ≡ true → acts ≡ [])
     call_still net heard v w n call ends x y acts c stays = called_still passive heard v n x y acts c.same (called_at net heard v w n call ends x c).within c.read stays
 
-    pub answered : (net heard v new : Net N) (w n : ℕ) (call : Call) (ends : WireEnds) (x y : N) (acts : List Act) (b : Bool) → Calling net heard v w n call ends x → Handles row law call x y acts → PullsAs call (row x) (asking y) acts → IsPrefix (moves x) (moves y)
+    pub answered : (net heard v new : Net N) (w n : ℕ) (call : Call) (ends : WireEnds) (x y : N) (acts : List Act) (b : Bool) → Calling net heard v w n call ends x → Handles port_state law call x y acts → PullsAs call (port_state x) (asking y) acts → IsPrefix (moves x) (moves y)
         → StaysPassive (passive x) (passive y) acts → gone y ≡ gone x → new ≡ acted_all (with_node v n y) n acts → AtNode new n (λ z. b ≡ passive z) → Answered gone passive net new w b
     answered net heard v new w n call ends x y acts b c handles asks grows stays gone_same on known =
         let k = called_at net heard v w n call ends x c in
-        let busy : Busy AnyRow AnyLaw (with_node v n y) n acts = awaited row law call heard v n x y acts c.same k.within c.read k.awaits handles in
-        let done = handled row law asking moves net heard new w n (delivery_of (wire_at net w).wire) ends c.laws c.within c.absent refl c.some c.after c.ends_are c.node
-        (responded row law asking moves call heard v new n x y acts c.same k.within c.read k.awaits k.tells handles asks grows on) in
+        let busy : Busy AnyRow AnyLaw (with_node v n y) n acts = awaited port_state law call heard v n x y acts c.same k.within c.read k.awaits handles in
+        let done = handled port_state law asking moves net heard new w n (delivery_of (wire_at net w).wire) ends c.laws c.within c.absent refl c.some c.after c.ends_are c.node
+        (responded port_state law asking moves call heard v new n x y acts c.same k.within c.read k.awaits k.tells handles asks grows on) in
         let stood : StandsStill passive heard new = still_acts passive heard v new n x y acts c.same k.within c.read busy stays on in
         record {
           laws = done.laws;

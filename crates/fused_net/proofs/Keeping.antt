@@ -59,13 +59,13 @@ module _ {N : Type 0} (keeps : N → N → Type 0) where
   pub step_count : (a b : Net N) (nodes : List N) → NetGoesOn a b → AllKept keeps b.nodes nodes → length nodes ≡ length a.nodes
   step_count a b nodes on k = kept_count b.nodes nodes k ∙ on.nodes
 
-module _ {N : Type 0} (row : N → View → Type 0) (law : N → N → View → List (List Item) → List (List Item) → Type 0) (asking : N → View → Type 0) (moves : N → List ℕ) (fresh : N → View → Type 0) (keeps : N → N → Type 0) where
+module _ {N : Type 0} (port_state : N → View → Type 0) (law : N → N → View → List (List Item) → List (List Item) → Type 0) (asking : N → View → Type 0) (moves : N → List ℕ) (fresh : N → View → Type 0) (keeps : N → N → Type 0) where
   -- no node was started yet
-  pub kept_starting : (net : Net N) → Starting row law asking moves fresh net 0 → AllKept keeps net.firsts net.nodes
+  pub kept_starting : (net : Net N) → Starting port_state law asking moves fresh net 0 → AllKept keeps net.firsts net.nodes
   kept_starting net s = all_first keeps net.firsts net.nodes s.each_first (λ k x first xi fi. (s.above k (omega arith) (slice_get_within net.nodes k x xi) x first xi fi).1.0)
 
   -- node n was started
-  pub kept_called_first : (net v : Net N) (n : ℕ) (x y : N) → Starting row law asking moves fresh net n → v ≡ net → n < length net.nodes → x ≡ get_or v.nodes n x → AllKept keeps net.firsts net.nodes → keeps x y → AllKept keeps net.firsts (slice_set v.nodes n y)
+  pub kept_called_first : (net v : Net N) (n : ℕ) (x y : N) → Starting port_state law asking moves fresh net n → v ≡ net → n < length net.nodes → x ≡ get_or v.nodes n x → AllKept keeps net.firsts net.nodes → keeps x y → AllKept keeps net.firsts (slice_set v.nodes n y)
   kept_called_first net v n x y s e h is all k =
       let first = get_there net.firsts n (rw s.each_first h) in
       let at : slice_get net.nodes n ≡ Some x = node_is net v n x e h is in
@@ -74,7 +74,7 @@ module _ {N : Type 0} (row : N → View → Type 0) (law : N → N → View → 
       rw e (kept_first keeps net.firsts net.nodes n x y all handed at k)
 
   -- and did what it wanted done
-  pub kept_started : (net v new : Net N) (n : ℕ) (x y : N) (acts : List Act) → Starting row law asking moves fresh net n → v ≡ net → n < length net.nodes → x ≡ get_or v.nodes n x → AllKept keeps net.firsts net.nodes → keeps x y
+  pub kept_started : (net v new : Net N) (n : ℕ) (x y : N) (acts : List Act) → Starting port_state law asking moves fresh net n → v ≡ net → n < length net.nodes → x ≡ get_or v.nodes n x → AllKept keeps net.firsts net.nodes → keeps x y
       → new ≡ acted_all (with_node v n y) n acts → AllKept keeps net.firsts new.nodes
   kept_started net v new n x y acts s e h is all k on =
       let nodes : new.nodes ≡ slice_set v.nodes n y = ap (λ (a : Net N). a.nodes) on ∙ nodes-acts acts (with_node v n y) n in

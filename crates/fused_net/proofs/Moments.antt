@@ -133,16 +133,16 @@ module _ {N : Type 0} where
   acts_grown [] net n busy u = grown_same (wire_at net u)
   acts_grown (a ∷ acts) net n busy u = grown_trans (wire_at net u) (wire_at (acted net n a) u) _ (act_grown net n a acts busy u) (acts_grown acts (acted net n a) n (acted_busy AnyRow AnyLaw net n a acts busy) u)
 
-module _ {N : Type 0} (row : N → View → Type 0) (law : N → N → View → List (List Item) → List (List Item) → Type 0) where
-  pub allowed_of : (net : Net N) (n : ℕ) (acts : List Act) → Busy row law net n acts → ActsAllowed (view_of net n) acts
+module _ {N : Type 0} (port_state : N → View → Type 0) (law : N → N → View → List (List Item) → List (List Item) → Type 0) where
+  pub allowed_of : (net : Net N) (n : ℕ) (acts : List Act) → Busy port_state law net n acts → ActsAllowed (view_of net n) acts
   allowed_of net n acts busy =
       let x = get_there net.nodes n busy.within in
       let first = get_there net.firsts n (rw busy.each_first busy.within) in
       (busy.here x.0 first.0 x.1 first.1).allowed
 
-module _ {N : Type 0} (row : N → View → Type 0) (law : N → N → View → List (List Item) → List (List Item) → Type 0) (asking : N → View → Type 0) (moves : N → List ℕ) where
+module _ {N : Type 0} (port_state : N → View → Type 0) (law : N → N → View → List (List Item) → List (List Item) → Type 0) (asking : N → View → Type 0) (moves : N → List ℕ) where
   -- the moment stays the last one where the graph goes on and no input of the node is pulled
-  later : (net new : Net N) (n : ℕ) → NetGoesOn net new → MovesGrow moves net new → ((u : ℕ) → Grown (wire_at net u) (wire_at new u)) → ((u : ℕ) → u < length net.wires → (end_at net.ends u).to ≡ n → wanted (wire_at new u) ≡ wanted (wire_at net u)) → NodeAsked row law asking moves net n → NodeAsked row law asking moves new n
+  later : (net new : Net N) (n : ℕ) → NetGoesOn net new → MovesGrow moves net new → ((u : ℕ) → Grown (wire_at net u) (wire_at new u)) → ((u : ℕ) → u < length net.wires → (end_at net.ends u).to ≡ n → wanted (wire_at new u) ≡ wanted (wire_at net u)) → NodeAsked port_state law asking moves net n → NodeAsked port_state law asking moves new n
   later net new n on moved grown same a = record {
     old = a.old;
     on = goes_trans a.old net new a.on on;
@@ -160,7 +160,7 @@ module _ {N : Type 0} (row : N → View → Type 0) (law : N → N → View → 
 
   -- ---- a node acts
 
-  pub acts_moments : (net : Net N) (n : ℕ) (acts : List Act) → Busy AnyRow AnyLaw net n acts → ActsAllowed (view_of net n) acts → IsMinded row law net n acts → (Pulls acts → IsAsking asking (acted_all net n acts) n) → AllAsked row law asking moves (acted_all net n acts) → AllMoments row law asking moves net → AllMoments row law asking moves (acted_all net n acts)
+  pub acts_moments : (net : Net N) (n : ℕ) (acts : List Act) → Busy AnyRow AnyLaw net n acts → ActsAllowed (view_of net n) acts → IsMinded port_state law net n acts → (Pulls acts → IsAsking asking (acted_all net n acts) n) → AllAsked port_state law asking moves (acted_all net n acts) → AllMoments port_state law asking moves net → AllMoments port_state law asking moves (acted_all net n acts)
   acts_moments net n acts busy allowed minded tells asked all k u hk hu to some = elim (same_or_not k n) [ inl here ↦ own (asks_or_not acts (view_of net n) allowed busy.stands) here | inr there ↦ keep (inr (λ e. there (sym to_old ∙ e))) ]
     where
       new : Net N
@@ -181,7 +181,7 @@ module _ {N : Type 0} (row : N → View → Type 0) (law : N → N → View → 
       busy_end : Busy AnyRow AnyLaw (acted_all net n acts) n []
       busy_end = acts_busy AnyRow AnyLaw acts net n busy
 
-      keep : (Pulls acts → ⊥) ⊎ ((end_at net.ends u).to ≢ n) → NodeAsked row law asking moves (acted_all net n acts) k
+      keep : (Pulls acts → ⊥) ⊎ ((end_at net.ends u).to ≢ n) → NodeAsked port_state law asking moves (acted_all net n acts) k
       keep (inl h) = later net (acted_all net n acts) k on (moves_same moves net (acted_all net n acts) (nodes-acts acts net n)) (acts_grown acts net n busy) (λ w hw t. acts_wanted acts net n w busy (inl h)) (all k u node_within within to_old (subst (λ (m : ℕ). 1 ≤ m) (acts_wanted acts net n u busy (inl h)) some))
       keep (inr h) = later net (acted_all net n acts) k on (moves_same moves net (acted_all net n acts) (nodes-acts acts net n)) (acts_grown acts net n busy) (λ w hw t. acts_wanted acts net n w busy (inr (λ e. h (to_old ∙ (sym t ∙ e)))))
           (all k u node_within within to_old (subst (λ (m : ℕ). 1 ≤ m) (acts_wanted acts net n u busy (inr h)) some))
@@ -191,13 +191,13 @@ module _ {N : Type 0} (row : N → View → Type 0) (law : N → N → View → 
       waits_at i e =
           let x = get_there net.nodes n busy.within in
           let first = get_there net.firsts n (rw busy.each_first busy.within) in
-          let held : IsMinded (λ (y : N) (v : View). in_at v i ≡ Pulled) AnyLaw net n acts = λ y fy yi fi. record { allowed = (busy.here y fy yi fi).allowed; row_holds = e; law_holds = tt } in
+          let held : IsMinded (λ (y : N) (v : View). in_at v i ≡ Pulled) AnyLaw net n acts = λ y fy yi fi. record { allowed = (busy.here y fy yi fi).allowed; port_state_holds = e; law_holds = tt } in
           let done = acts_here (λ (y : N) (v : View). in_at v i ≡ Pulled) AnyLaw acts net n busy held in
           let x_new = get_there (acted_all net n acts).nodes n busy_end.within in
           let first_new = get_there (acted_all net n acts).firsts n (rw busy_end.each_first busy_end.within) in
-          (done x_new.0 first_new.0 x_new.1 first_new.1).row_holds
+          (done x_new.0 first_new.0 x_new.1 first_new.1).port_state_holds
 
-      own : (Pulls acts × ((i : ℕ) × (in_at (view.acted_all (view_of net n) acts) i ≡ Pulled))) ⊎ (Pulls acts → ⊥) → k ≡ n → NodeAsked row law asking moves (acted_all net n acts) k
+      own : (Pulls acts × ((i : ℕ) × (in_at (view.acted_all (view_of net n) acts) i ≡ Pulled))) ⊎ (Pulls acts → ⊥) → k ≡ n → NodeAsked port_state law asking moves (acted_all net n acts) k
       own (inr none) here = keep (inl none)
       own (inl p) here = rw here (record {
         old = acted_all net n acts;
@@ -206,7 +206,7 @@ module _ {N : Type 0} (row : N → View → Type 0) (law : N → N → View → 
         moves_on = moves_same moves (acted_all net n acts) (acted_all net n acts) refl;
         sound = busy_end.sound;
         marked = busy_end.marked;
-        minded = acts_here row law acts net n busy minded;
+        minded = acts_here port_state law acts net n busy minded;
         asking_then = tells p.0;
         before = asked;
         port = p.1.0;
@@ -216,11 +216,11 @@ module _ {N : Type 0} (row : N → View → Type 0) (law : N → N → View → 
 
   -- ---- an event, and another node in a node's place
 
-  pub told_moments : (net : Net N) (w : ℕ) (d : Delivery) → w < length net.wires → AllMoments row law asking moves (before net w) → AllMoments row law asking moves (delivered_on net w d)
+  pub told_moments : (net : Net N) (w : ℕ) (d : Delivery) → w < length net.wires → AllMoments port_state law asking moves (before net w) → AllMoments port_state law asking moves (delivered_on net w d)
   told_moments net w d h all k u hk hu to some =
       later (before net w) (delivered_on net w d) k (goes_told net w d) (moves_same moves (before net w) (delivered_on net w d) refl) (told_grown net w d h) (λ v hv t. told_wanted net w d h v)
       (all k u hk (rw length-set at hu) to (subst (λ (m : ℕ). 1 ≤ m) (told_wanted net w d h u) some))
 
-  pub node_moments : (net : Net N) (n : ℕ) (y : N) → MovesGrow moves net (with_node net n y) → AllMoments row law asking moves net → AllMoments row law asking moves (with_node net n y)
+  pub node_moments : (net : Net N) (n : ℕ) (y : N) → MovesGrow moves net (with_node net n y) → AllMoments port_state law asking moves net → AllMoments port_state law asking moves (with_node net n y)
   node_moments net n y moved all k u hk hu to some =
       later net (with_node net n y) k (goes_node net n y) moved (λ v. grown_same (wire_at net v)) (λ v hv t. refl) (all k u (rw length-set at hk) hu to some)

@@ -65,10 +65,10 @@ module _ {N : Type 0} where
       → (j : ℕ) → slice_get (ports_at net n).outs j ≡ Some w → j ≡ i
   once_out net n i w wired hn at j e = sym (wired.output_from n j w hn e).1.1 ∙ (wired.output_from n i w hn at).1.1
 
-module _ {N : Type 0} (row : N → View → Type 0) (law : N → N → View → List (List Item) → List (List Item) → Type 0) where
+module _ {N : Type 0} (port_state : N → View → Type 0) (law : N → N → View → List (List Item) → List (List Item) → Type 0) where
   -- a node that knows, took and gave the same
   pub minds_along : (x first : N) (v v' : View) (t t' g g' : List (List Item)) (acts : List Act) → v'.ins ≡ v.ins → v'.outs ≡ v.outs → t' ≡ t → g' ≡ g
-      → Minds row law x first v t g acts → Minds row law x first v' t' g' acts
+      → Minds port_state law x first v t g acts → Minds port_state law x first v' t' g' acts
   minds_along x first v v' t t' g g' acts ei eo et eg m =
       let same : v' ≡ v = ap (λ (p : List _ × List _). record { ins = p.0; outs = p.1 }) (cc) in
       rw (same, et, eg) m
@@ -77,7 +77,7 @@ module _ {N : Type 0} (row : N → View → Type 0) (law : N → N → View → 
   pub others_in : (net : Net N) (n i w : ℕ) (new : WireState) (b : Bool) → Wired net.ends net.ports (length net.nodes) (length net.wires)
       → n < length net.nodes → slice_get (ports_at net n).ins i ≡ Some w → w < length net.wires
       → new.wire.out ≡ (wire_at net w).wire.out → new.wire.sent ≡ (wire_at net w).wire.sent
-      → (k : ℕ) → k < length net.nodes → k ≢ n → IsMinded row law net k [] → IsMinded row law (put net w new b) k []
+      → (k : ℕ) → k < length net.nodes → k ≢ n → IsMinded port_state law net k [] → IsMinded port_state law (put net w new b) k []
   others_in net n i w new b wired hn at hw out sent k hk ne m x first xi fi =
       let apart = apart_in net n i w k wired hn at hk ne in
       minds_along x first _ _ _ _ _ _ []
@@ -91,7 +91,7 @@ module _ {N : Type 0} (row : N → View → Type 0) (law : N → N → View → 
   pub others_out : (net : Net N) (n i w : ℕ) (new : WireState) (b : Bool) → Wired net.ends net.ports (length net.nodes) (length net.wires)
       → n < length net.nodes → slice_get (ports_at net n).outs i ≡ Some w → w < length net.wires
       → new.wire.inp ≡ (wire_at net w).wire.inp → new.wire.got ≡ (wire_at net w).wire.got
-      → (k : ℕ) → k < length net.nodes → k ≢ n → IsMinded row law net k [] → IsMinded row law (put net w new b) k []
+      → (k : ℕ) → k < length net.nodes → k ≢ n → IsMinded port_state law net k [] → IsMinded port_state law (put net w new b) k []
   others_out net n i w new b wired hn at hw inp got k hk ne m x first xi fi =
       let apart = apart_out net n i w k wired hn at hk ne in
       minds_along x first _ _ _ _ _ _ []
@@ -105,8 +105,8 @@ module _ {N : Type 0} (row : N → View → Type 0) (law : N → N → View → 
   pub here_in : (net : Net N) (x first : N) (n i w : ℕ) (new : WireState) (b : Bool) (acts : List Act) → Wired net.ends net.ports (length net.nodes) (length net.wires)
       → n < length net.nodes → slice_get (ports_at net n).ins i ≡ Some w → w < length net.wires
       → new.wire.out ≡ (wire_at net w).wire.out → new.wire.sent ≡ (wire_at net w).wire.sent
-      → Minds row law x first (record { ins = set (view_of net n).ins i new.wire.inp; outs = (view_of net n).outs }) (set (took net n) i new.wire.got) (gave net n) acts
-      → Minds row law x first (view_of (put net w new b) n) (took (put net w new b) n) (gave (put net w new b) n) acts
+      → Minds port_state law x first (record { ins = set (view_of net n).ins i new.wire.inp; outs = (view_of net n).outs }) (set (took net n) i new.wire.got) (gave net n) acts
+      → Minds port_state law x first (view_of (put net w new b) n) (took (put net w new b) n) (gave (put net w new b) n) acts
   here_in net x first n i w new b acts wired hn at hw out sent m =
       let once = once_in net n i w wired hn at in
       minds_along x first _ _ _ _ _ _ acts
@@ -119,8 +119,8 @@ module _ {N : Type 0} (row : N → View → Type 0) (law : N → N → View → 
   pub here_out : (net : Net N) (x first : N) (n i w : ℕ) (new : WireState) (b : Bool) (acts : List Act) → Wired net.ends net.ports (length net.nodes) (length net.wires)
       → n < length net.nodes → slice_get (ports_at net n).outs i ≡ Some w → w < length net.wires
       → new.wire.inp ≡ (wire_at net w).wire.inp → new.wire.got ≡ (wire_at net w).wire.got
-      → Minds row law x first (record { ins = (view_of net n).ins; outs = set (view_of net n).outs i new.wire.out }) (took net n) (set (gave net n) i new.wire.sent) acts
-      → Minds row law x first (view_of (put net w new b) n) (took (put net w new b) n) (gave (put net w new b) n) acts
+      → Minds port_state law x first (record { ins = (view_of net n).ins; outs = set (view_of net n).outs i new.wire.out }) (took net n) (set (gave net n) i new.wire.sent) acts
+      → Minds port_state law x first (view_of (put net w new b) n) (took (put net w new b) n) (gave (put net w new b) n) acts
   here_out net x first n i w new b acts wired hn at hw inp got m =
       let once = once_out net n i w wired hn at in
       minds_along x first _ _ _ _ _ _ acts

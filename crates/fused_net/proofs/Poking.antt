@@ -51,26 +51,26 @@ stands_one (Complete j) = tt
 stands_one (FailOut j c) = tt
 stands_one (Cancel i) = tt
 
-module _ {N : Type 0} (row : N → View → Type 0) (law : N → N → View → List (List Item) → List (List Item) → Type 0) (asking : N → View → Type 0) (moves : N → List ℕ) where
-  pub poked_busy : (net : Net N) (n : ℕ) (a : Act) → Settled row law asking moves net → n < length net.nodes → IsMinded row law net n (a ∷ []) → Busy row law net n (a ∷ [])
+module _ {N : Type 0} (port_state : N → View → Type 0) (law : N → N → View → List (List Item) → List (List Item) → Type 0) (asking : N → View → Type 0) (moves : N → List ℕ) where
+  pub poked_busy : (net : Net N) (n : ℕ) (a : Act) → Settled port_state law asking moves net → n < length net.nodes → IsMinded port_state law net n (a ∷ []) → Busy port_state law net n (a ∷ [])
   poked_busy net n a s h m = record { wired = s.wired; each_first = s.each_first; sound = s.sound; marked = s.marked; within = h; stands = stands_one a; here = m; others = λ k l ne. s.minded k l }
 
   pub record Poked (net new : Net N) (n : ℕ) (a : Act) : Type 0 where
     pub any : Busy AnyRow AnyLaw net n (a ∷ [])
-    pub laws : Settled row law asking moves new
+    pub laws : Settled port_state law asking moves new
     pub on : NetGoesOn net new
     pub uses : Uses net new 0
 
-  pub poked : (net new : Net N) (n : ℕ) (a : Act) → new ≡ acted net n a → Settled row law asking moves net → n < length net.nodes → IsMinded row law net n (a ∷ []) → TellsPoked asking net n a → Poked net new n a
+  pub poked : (net new : Net N) (n : ℕ) (a : Act) → new ≡ acted net n a → Settled port_state law asking moves net → n < length net.nodes → IsMinded port_state law net n (a ∷ []) → TellsPoked asking net n a → Poked net new n a
   poked net new n a is s h m tells =
-      let busy : Busy row law net n (a ∷ []) = poked_busy net n a s h m in
-      let any : Busy AnyRow AnyLaw net n (a ∷ []) = busy_any row law net n (a ∷ []) busy in
+      let busy : Busy port_state law net n (a ∷ []) = poked_busy net n a s h m in
+      let any : Busy AnyRow AnyLaw net n (a ∷ []) = busy_any port_state law net n (a ∷ []) busy in
       let told : Pulls (a ∷ []) → IsAsking asking (acted net n a) n = λ p. asking_kept asking net n (a ∷ []) any (λ x at. tells p x at) in
-      let asked : AllAsked row law asking moves (acted net n a) = after_acts row law asking moves net n (a ∷ []) any m told s.asked in
-      let moments : AllMoments row law asking moves (acted net n a) = acts_moments row law asking moves net n (a ∷ []) any (allowed_of row law net n (a ∷ []) busy) m told asked s.moments in
+      let asked : AllAsked port_state law asking moves (acted net n a) = after_acts port_state law asking moves net n (a ∷ []) any m told s.asked in
+      let moments : AllMoments port_state law asking moves (acted net n a) = acts_moments port_state law asking moves net n (a ∷ []) any (allowed_of port_state law net n (a ∷ []) busy) m told asked s.moments in
       rw is (record {
         any = any;
-        laws = acts_settled row law asking moves net n (a ∷ []) busy asked moments;
+        laws = acts_settled port_state law asking moves net n (a ∷ []) busy asked moments;
         on = goes_acts (a ∷ []) net n;
         uses = acts_uses (a ∷ []) net n any;
       })
@@ -81,10 +81,10 @@ module _ {N : Type 0} (row : N → View → Type 0) (law : N → N → View → 
     waiting_at net w k waits ins = rw ins waits
 
     -- the moves of the nodes only grow
-    hands_moved : (net : Net N) (n : ℕ) (x y : N) (given : List Item) → n < length net.nodes → slice_get net.nodes n ≡ Some x → Hands row law moves gone waits x given y → MovesGrow moves net (with_node net n y)
+    hands_moved : (net : Net N) (n : ℕ) (x y : N) (given : List Item) → n < length net.nodes → slice_get net.nodes n ≡ Some x → Hands port_state law moves gone waits x given y → MovesGrow moves net (with_node net n y)
     hands_moved net n x y given h at hands = moves_node moves net n y h (λ z zi. let same : x ≡ z = some_same x z (sym at ∙ zi) in rw same at hands.grows)
 
-    hands_asked : (net : Net N) (n : ℕ) (x y : N) (given : List Item) → Settled row law asking moves net → n < length net.nodes → slice_get net.nodes n ≡ Some x → Hands row law moves gone waits x given y → AllAsked row law asking moves (with_node net n y)
+    hands_asked : (net : Net N) (n : ℕ) (x y : N) (given : List Item) → Settled port_state law asking moves net → n < length net.nodes → slice_get net.nodes n ≡ Some x → Hands port_state law moves gone waits x given y → AllAsked port_state law asking moves (with_node net n y)
     hands_asked net n x y given s h at hands w l some =
         let last = s.asked w l some in
         record {
@@ -102,7 +102,7 @@ module _ {N : Type 0} (row : N → View → Type 0) (law : N → N → View → 
           asking_then = last.asking_then;
         }
       where
-        stays : (last : LastAsk row law asking moves net w) (k : ℕ) → (ports_at last.old k).ins ≡ w ∷ [] → (ports_at last.old k).outs ≡ [] → (wire_at net w).wire.got ≡ (wire_at last.old w).wire.got → slice_get (with_node net n y).nodes k ≡ slice_get last.old.nodes k
+        stays : (last : LastAsk port_state law asking moves net w) (k : ℕ) → (ports_at last.old k).ins ≡ w ∷ [] → (ports_at last.old k).outs ≡ [] → (wire_at net w).wire.got ≡ (wire_at last.old w).wire.got → slice_get (with_node net n y).nodes k ≡ slice_get last.old.nodes k
         stays last k ins outs got = elim (same_or_not k n) [
           | inl e ↦
               let was : slice_get net.nodes k ≡ slice_get last.old.nodes k = last.stays k ins outs got in
@@ -113,16 +113,16 @@ module _ {N : Type 0} (row : N → View → Type 0) (law : N → N → View → 
               let first = get_there last.old.firsts n fewer in
               let wired = s.wired.input_to k 0 w (rw e h) (rw ports (rw ins refl)) in
               let target : (end_at last.old.ends w).to ≡ k = ap (λ (q : List WireEnds). (end_at q w).to) (sym last.on.ends) ∙ wired.1.0 in
-              let m : Minds row law x first.0 (view_of last.old k) (took last.old k) (gave last.old k) [] = (subst (λ (j : ℕ). IsMinded row law last.old j []) target last.minded) x first.0 here (ap (slice_get last.old.firsts) e ∙ first.1) in
-              let same : y ≡ x = hands.still (view_of last.old k) m.row_holds (waiting_at last.old w k last.waits ins) in
+              let m : Minds port_state law x first.0 (view_of last.old k) (took last.old k) (gave last.old k) [] = (subst (λ (j : ℕ). IsMinded port_state law last.old j []) target last.minded) x first.0 here (ap (slice_get last.old.firsts) e ∙ first.1) in
+              let same : y ≡ x = hands.still (view_of last.old k) m.port_state_holds (waiting_at last.old w k last.waits ins) in
               ap (slice_get (set net.nodes n y)) e ∙ get_set_same net.nodes n y h ∙ ap (λ (z : N). Some z) same ∙ sym here
           | inr ne ↦ get_set_other net.nodes n k y ne ∙ last.stays k ins outs got
         ]
 
-    hands_minds : (x y first : N) (given : List Item) (v : View) (t g : List (List Item)) → Hands row law moves gone waits x given y → Minds row law x first v t g [] → Minds row law y first v t g []
-    hands_minds x y first given v t g h m = record { allowed = tt; row_holds = h.row_holds v m.row_holds; law_holds = h.law_holds first v t g m.row_holds m.law_holds }
+    hands_minds : (x y first : N) (given : List Item) (v : View) (t g : List (List Item)) → Hands port_state law moves gone waits x given y → Minds port_state law x first v t g [] → Minds port_state law y first v t g []
+    hands_minds x y first given v t g h m = record { allowed = tt; port_state_holds = h.port_state_holds v m.port_state_holds; law_holds = h.law_holds first v t g m.port_state_holds m.law_holds }
 
-    hands_settled : (net : Net N) (n : ℕ) (x y : N) (given : List Item) → Settled row law asking moves net → n < length net.nodes → slice_get net.nodes n ≡ Some x → Hands row law moves gone waits x given y → Settled row law asking moves (with_node net n y)
+    hands_settled : (net : Net N) (n : ℕ) (x y : N) (given : List Item) → Settled port_state law asking moves net → n < length net.nodes → slice_get net.nodes n ≡ Some x → Hands port_state law moves gone waits x given y → Settled port_state law asking moves (with_node net n y)
     hands_settled net n x y given s h at hands = record {
       wired = rw length-set s.wired;
       each_first = rw length-set s.each_first;
@@ -131,16 +131,16 @@ module _ {N : Type 0} (row : N → View → Type 0) (law : N → N → View → 
       minded = λ k l z first zi fi. elim (same_or_not k n) [
         | inl e ↦
             let same : y ≡ z = some_same y z (sym (get_set_same net.nodes n y h) ∙ ap (slice_get (set net.nodes n y)) (sym e) ∙ zi) in
-            subst (λ (a : N). Minds row law a first (view_of net k) (took net k) (gave net k) []) same
+            subst (λ (a : N). Minds port_state law a first (view_of net k) (took net k) (gave net k) []) same
             (hands_minds x y first given _ _ _ hands (s.minded k (rw e h) x first (ap (slice_get net.nodes) e ∙ at) fi))
         | inr ne ↦ s.minded k (rw length-set at l) z first (sym (get_set_other net.nodes n k y ne) ∙ zi) fi
       ];
       asked = hands_asked net n x y given s h at hands;
-      moments = node_moments row law asking moves net n y (hands_moved net n x y given h at hands) s.moments;
+      moments = node_moments port_state law asking moves net n y (hands_moved net n x y given h at hands) s.moments;
     }
 
     -- what the code leaves once it called the node
-    pub handed : (net v new : Net N) (n : ℕ) (x y : N) (given : List Item) → v ≡ net → n < length net.nodes → x ≡ get_or v.nodes n x → Settled row law asking moves net → Hands row law moves gone waits x given y → new ≡ with_node v n y → (HandsAt gone waits net n given new) × Settled row law asking moves new
+    pub handed : (net v new : Net N) (n : ℕ) (x y : N) (given : List Item) → v ≡ net → n < length net.nodes → x ≡ get_or v.nodes n x → Settled port_state law asking moves net → Hands port_state law moves gone waits x given y → new ≡ with_node v n y → (HandsAt gone waits net n given new) × Settled port_state law asking moves new
     handed net v new n x y given e h is s hands on =
         let at = node_is net v n x e h is in
         let to : new ≡ with_node net n y = on ∙ ap (λ (a : Net N). with_node a n y) e in
@@ -155,11 +155,11 @@ module _ {N : Type 0} (row : N → View → Type 0) (law : N → N → View → 
           λ z zi. ap waits (some_same z x (sym zi ∙ at)) ∙ none.0,
         )
 
-    pub hand_some : (net v new : Net N) (n : ℕ) (x y : N) (r : Option Item) → v ≡ net → n < length net.nodes → x ≡ get_or v.nodes n x → Settled row law asking moves net → new ≡ with_node v n y → IfSome r (λ i. Hands row law moves gone waits x (i ∷ []) y) → IfSome r (λ i. HandsAt gone waits net n (i ∷ []) new)
+    pub hand_some : (net v new : Net N) (n : ℕ) (x y : N) (r : Option Item) → v ≡ net → n < length net.nodes → x ≡ get_or v.nodes n x → Settled port_state law asking moves net → new ≡ with_node v n y → IfSome r (λ i. Hands port_state law moves gone waits x (i ∷ []) y) → IfSome r (λ i. HandsAt gone waits net n (i ∷ []) new)
     hand_some net v new n x y None e h is s on some = tt
     hand_some net v new n x y (Some i) e h is s on some = (handed net v new n x y (i ∷ []) e h is s some on).0
 
-    pub hand_laws : (net v new : Net N) (n : ℕ) (x y : N) (r : Option Item) → v ≡ net → n < length net.nodes → x ≡ get_or v.nodes n x → Settled row law asking moves net → new ≡ with_node v n y → IfNone r ((waits x ≡ []) × (y ≡ x)) → IfSome r (λ i. Hands row law moves gone waits x (i ∷ []) y) → Settled row law asking moves new
+    pub hand_laws : (net v new : Net N) (n : ℕ) (x y : N) (r : Option Item) → v ≡ net → n < length net.nodes → x ≡ get_or v.nodes n x → Settled port_state law asking moves net → new ≡ with_node v n y → IfNone r ((waits x ≡ []) × (y ≡ x)) → IfSome r (λ i. Hands port_state law moves gone waits x (i ∷ []) y) → Settled port_state law asking moves new
     hand_laws net v new n x y None e h is s on none some = rw (hand_none net v new n x y None e h is on none).0 s
     hand_laws net v new n x y (Some i) e h is s on none some = (handed net v new n x y (i ∷ []) e h is s some on).1
 

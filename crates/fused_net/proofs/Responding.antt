@@ -35,13 +35,13 @@ module _ {N : Type 0} where
       let within : w < length v.ends = rw (e, each) h in
       is ∙ get_or_default v.ends w x no_ends within ∙ ap (λ (a : Net N). end_at a.ends w) e
 
-module _ {N : Type 0} (row : N → View → Type 0) (law : N → N → View → List (List Item) → List (List Item) → Type 0) where
-  pub awaited : (call : Call) (net v : Net N) (n : ℕ) (x y : N) (acts : List Act) → v ≡ net → n < length net.nodes → x ≡ get_or v.nodes n x → Awaits row law call net n → Handles row law call x y acts → Busy AnyRow AnyLaw (with_node v n y) n acts
-  awaited call net v n x y acts e h is awaits handles = rw e (busy_any row law (with_node net n y) n acts (awaits x y acts (node_is net v n x e h is) handles))
+module _ {N : Type 0} (port_state : N → View → Type 0) (law : N → N → View → List (List Item) → List (List Item) → Type 0) where
+  pub awaited : (call : Call) (net v : Net N) (n : ℕ) (x y : N) (acts : List Act) → v ≡ net → n < length net.nodes → x ≡ get_or v.nodes n x → Awaits port_state law call net n → Handles port_state law call x y acts → Busy AnyRow AnyLaw (with_node v n y) n acts
+  awaited call net v n x y acts e h is awaits handles = rw e (busy_any port_state law (with_node net n y) n acts (awaits x y acts (node_is net v n x e h is) handles))
 
-module _ {N : Type 0} (row : N → View → Type 0) (law : N → N → View → List (List Item) → List (List Item) → Type 0) (asking : N → View → Type 0) (moves : N → List ℕ) where
-  pub responded : (call : Call) (net v new : Net N) (n : ℕ) (x y : N) (acts : List Act) → v ≡ net → n < length net.nodes → x ≡ get_or v.nodes n x → Awaits row law call net n → TellsAsking row law asking call net n → Handles row law call x y acts
-      → PullsAs call (row x) (asking y) acts → IsPrefix (moves x) (moves y) → new ≡ acted_all (with_node v n y) n acts → Responds row law asking moves net new n
+module _ {N : Type 0} (port_state : N → View → Type 0) (law : N → N → View → List (List Item) → List (List Item) → Type 0) (asking : N → View → Type 0) (moves : N → List ℕ) where
+  pub responded : (call : Call) (net v new : Net N) (n : ℕ) (x y : N) (acts : List Act) → v ≡ net → n < length net.nodes → x ≡ get_or v.nodes n x → Awaits port_state law call net n → TellsAsking port_state law asking call net n → Handles port_state law call x y acts
+      → PullsAs call (port_state x) (asking y) acts → IsPrefix (moves x) (moves y) → new ≡ acted_all (with_node v n y) n acts → Responds port_state law asking moves net new n
   responded call net v new n x y acts e h is awaits tells handles asks grows on =
       let at : slice_get net.nodes n ≡ Some x = node_is net v n x e h is in
       record {
@@ -54,33 +54,33 @@ module _ {N : Type 0} (row : N → View → Type 0) (law : N → N → View → 
       }
 
   -- an event leaves few asks
-  pub few_told : (net v : Net N) (w : ℕ) → Settled row law asking moves (before net w) → w < length net.wires → is_waiting net.queue w ≡ false → v ≡ event_told net w → all_asks net + 1 ≤ MOST_COUNT → all_asks v ≤ MOST_COUNT
-  few_told net v w s h absent is few = rw is (let u = event_uses row law asking moves net w s h absent in omega (arith, u.most, few))
+  pub few_told : (net v : Net N) (w : ℕ) → Settled port_state law asking moves (before net w) → w < length net.wires → is_waiting net.queue w ≡ false → v ≡ event_told net w → all_asks net + 1 ≤ MOST_COUNT → all_asks v ≤ MOST_COUNT
+  few_told net v w s h absent is few = rw is (let u = event_uses port_state law asking moves net w s h absent in omega (arith, u.most, few))
 
   module _ (fresh : N → View → Type 0) where
-    pub start_meets : (net v : Net N) (n : ℕ) (x : N) → Starting row law asking moves fresh net n → v ≡ net → n < length net.nodes → x ≡ get_or v.nodes n x → Meets starts (fresh x)
+    pub start_meets : (net v : Net N) (n : ℕ) (x : N) → Starting port_state law asking moves fresh net n → v ≡ net → n < length net.nodes → x ≡ get_or v.nodes n x → Meets starts (fresh x)
     start_meets net v n x s e h is =
         let first = get_there net.firsts n (rw s.each_first h) in
         let a = s.above n (omega arith) h x first.0 (node_is net v n x e h is) first.1 in
         (view_of net n, (a.1.1.0, a.0))
 
-    pub start_awaited : (net v : Net N) (n : ℕ) (x y : N) (acts : List Act) → Starting row law asking moves fresh net n → v ≡ net → n < length net.nodes → x ≡ get_or v.nodes n x → Starts row law fresh x y acts → Busy AnyRow AnyLaw (with_node v n y) n acts
-    start_awaited net v n x y acts s e h is st = rw e (start_busy row law asking moves fresh net n x y acts s h (node_is net v n x e h is) st)
+    pub start_awaited : (net v : Net N) (n : ℕ) (x y : N) (acts : List Act) → Starting port_state law asking moves fresh net n → v ≡ net → n < length net.nodes → x ≡ get_or v.nodes n x → Starts port_state law fresh x y acts → Busy AnyRow AnyLaw (with_node v n y) n acts
+    start_awaited net v n x y acts s e h is st = rw e (start_busy port_state law asking moves fresh net n x y acts s h (node_is net v n x e h is) st)
 
     -- what the start of a node leaves
     pub record Started (net new : Net N) (n : ℕ) : Type 0 where
-      pub starting : Starting row law asking moves fresh new (n + 1)
+      pub starting : Starting port_state law asking moves fresh new (n + 1)
       pub on : NetGoesOn net new
       pub asks : all_asks new ≤ all_asks net
 
-    pub started : (net v new : Net N) (n : ℕ) (x y : N) (acts : List Act) → Starting row law asking moves fresh net n → v ≡ net → n < length net.nodes → x ≡ get_or v.nodes n x → Starts row law fresh x y acts
+    pub started : (net v new : Net N) (n : ℕ) (x y : N) (acts : List Act) → Starting port_state law asking moves fresh net n → v ≡ net → n < length net.nodes → x ≡ get_or v.nodes n x → Starts port_state law fresh x y acts
         → PullsAs starts (fresh x) (asking y) acts → IsPrefix (moves x) (moves y) → new ≡ acted_all (with_node v n y) n acts → Started net new n
     started net v new n x y acts s e h is st asks grows on =
         let at : new ≡ acted_all (with_node net n y) n acts = rw e at on in
-        let u : Uses (with_node net n y) (acted_all (with_node net n y) n acts) 0 = acts_uses acts (with_node net n y) n (start_busy row law asking moves fresh net n x y acts s h (node_is net v n x e h is) st) in
+        let u : Uses (with_node net n y) (acted_all (with_node net n y) n acts) 0 = acts_uses acts (with_node net n y) n (start_busy port_state law asking moves fresh net n x y acts s h (node_is net v n x e h is) st) in
         let same : all_asks (with_node net n y) ≡ all_asks net = refl in
         record {
-          starting = start_done row law asking moves fresh net new n x y acts s h (node_is net v n x e h is) st asks grows at;
+          starting = start_done port_state law asking moves fresh net new n x y acts s h (node_is net v n x e h is) st asks grows at;
           on = rw at (goes_trans net (with_node net n y) _ (goes_node net n y) (goes_acts acts (with_node net n y) n));
           asks = rw at (omega (arith, u.most, same));
         }

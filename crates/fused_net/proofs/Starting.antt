@@ -79,10 +79,10 @@ none_wanted : (c : WireState) (q : Bool) → IsSound c.wire q → IsMarked c →
 none_wanted c q h m e none =
     idle_j h.joint c.wire.sent c.wire.got c.asked h.histories (subst (λ (v : JointPorts). IsMarked (cell v c.asked)) h.is m) (sym (ap (λ (v : JointPorts). v.inp) h.is) ∙ e) none
 
-module _ {N : Type 0} (row : N → View → Type 0) (law : N → N → View → List (List Item) → List (List Item) → Type 0) (asking : N → View → Type 0) (moves : N → List ℕ) (fresh : N → View → Type 0) where
+module _ {N : Type 0} (port_state : N → View → Type 0) (law : N → N → View → List (List Item) → List (List Item) → Type 0) (asking : N → View → Type 0) (moves : N → List ℕ) (fresh : N → View → Type 0) where
   pub new_starting : (nodes firsts : List N) (ends : List WireEnds) (ports : List PortLists) (wires : List WireState) (queue : List ℕ) (n : ℕ) → queue ≡ [] → firsts ≡ nodes → Wired ends ports (length nodes) n → wires ≡ replicate n new_cell
       → ((k : ℕ) (x : N) → slice_get nodes k ≡ Some x → fresh x (first_view (port_at ports k)))
-      → Starting row law asking moves fresh (record { nodes = nodes; firsts = firsts; wires = wires; ends = ends; ports = ports; queue = queue }) 0
+      → Starting port_state law asking moves fresh (record { nodes = nodes; firsts = firsts; wires = wires; ends = ends; ports = ports; queue = queue }) 0
   new_starting nodes firsts ends ports wires queue n empty same wired is all_fresh = rw (empty, same, is) (record {
     wired = rw length-replicate wired;
     each_first = refl;
@@ -98,42 +98,42 @@ module _ {N : Type 0} (row : N → View → Type 0) (law : N → N → View → 
         (all_fresh k x xi, (some_same first x (sym fi ∙ xi), ((all_idle _, all_unasked _), ((all_empty _, all_empty _), (same_lengths _ _ _, same_lengths _ _ _)))));
   })
 
-  pub start_busy : (net : Net N) (n : ℕ) (x y : N) (acts : List Act) → Starting row law asking moves fresh net n → n < length net.nodes → slice_get net.nodes n ≡ Some x → Starts row law fresh x y acts → Busy AnyRow AnyLaw (with_node net n y) n acts
+  pub start_busy : (net : Net N) (n : ℕ) (x y : N) (acts : List Act) → Starting port_state law asking moves fresh net n → n < length net.nodes → slice_get net.nodes n ≡ Some x → Starts port_state law fresh x y acts → Busy AnyRow AnyLaw (with_node net n y) n acts
   start_busy net n x y acts s h xi st =
       with_node_busy AnyRow AnyLaw net n y acts s.wired s.each_first s.sound s.marked h st.stands
-      (λ first fi. let a = s.above n (omega arith) h x first xi fi in record { allowed = st.obeys.allowed (view_of net n) a.1.1.0 a.0; row_holds = tt; law_holds = tt })
-      (λ k hk ne x first xi fi. record { allowed = tt; row_holds = tt; law_holds = tt })
+      (λ first fi. let a = s.above n (omega arith) h x first xi fi in record { allowed = st.obeys.allowed (view_of net n) a.1.1.0 a.0; port_state_holds = tt; law_holds = tt })
+      (λ k hk ne x first xi fi. record { allowed = tt; port_state_holds = tt; law_holds = tt })
 
-  pub start_done : (net new : Net N) (n : ℕ) (x y : N) (acts : List Act) → Starting row law asking moves fresh net n → n < length net.nodes → slice_get net.nodes n ≡ Some x → Starts row law fresh x y acts
-      → PullsAs starts (fresh x) (asking y) acts → IsPrefix (moves x) (moves y) → new ≡ acted_all (with_node net n y) n acts → Starting row law asking moves fresh new (n + 1)
+  pub start_done : (net new : Net N) (n : ℕ) (x y : N) (acts : List Act) → Starting port_state law asking moves fresh net n → n < length net.nodes → slice_get net.nodes n ≡ Some x → Starts port_state law fresh x y acts
+      → PullsAs starts (fresh x) (asking y) acts → IsPrefix (moves x) (moves y) → new ≡ acted_all (with_node net n y) n acts → Starting port_state law asking moves fresh new (n + 1)
   start_done net new n x y acts s h xi st asks grows is =
       let b : Busy AnyRow AnyLaw (with_node net n y) n acts = start_busy net n x y acts s h xi st in
       let done : Busy AnyRow AnyLaw (acted_all (with_node net n y) n acts) n [] = acts_busy AnyRow AnyLaw acts (with_node net n y) n b in
       let count : length (acted_all (with_node net n y) n acts).nodes ≡ length net.nodes = ap (λ (l : List N). length l) (nodes-acts acts (with_node net n y) n) ∙ length-set _ _ _ in
-      let here : IsMinded row law (with_node net n y) n acts = λ z first zi fi.
+      let here : IsMinded port_state law (with_node net n y) n acts = λ z first zi fi.
       let a = s.above n (omega arith) h x first xi fi in
       let same : y ≡ z = some_same y z (sym (get_set_same net.nodes n y h) ∙ zi) in
-      let started : Minds row law y x (view_of net n) (took net n) (gave net n) acts = record {
+      let started : Minds port_state law y x (view_of net n) (took net n) (gave net n) acts = record {
         allowed = st.obeys.allowed (view_of net n) a.1.1.0 a.0;
-        row_holds = st.obeys.row (view_of net n) a.1.1.0 a.0;
+        port_state_holds = st.obeys.ports (view_of net n) a.1.1.0 a.0;
         law_holds = st.begins (view_of net n) (took net n) (gave net n) a.1.1.0 a.0 a.1.1.1.0.0 a.1.1.1.0.1 a.1.1.1.1.0 a.1.1.1.1.1;
       } in
-      subst (λ (u : N). Minds row law u first (view_of net n) (took net n) (gave net n) acts) same (subst (λ (u : N). Minds row law y u (view_of net n) (took net n) (gave net n) acts) (sym a.1.0) started) in
+      subst (λ (u : N). Minds port_state law u first (view_of net n) (took net n) (gave net n) acts) same (subst (λ (u : N). Minds port_state law y u (view_of net n) (took net n) (gave net n) acts) (sym a.1.0) started) in
       let moved : MovesGrow moves net (with_node net n y) = moves_node moves net n y h (λ z zi. let same : x ≡ z = some_same x z (sym xi ∙ zi) in rw same at grows) in
       let tells = λ (pulls : Pulls acts). asking_kept asking (with_node net n y) n acts b (λ z zi.
       let first = get_there net.firsts n (rw s.each_first h) in
       let a = s.above n (omega arith) h x first.0 xi first.1 in
       let same : y ≡ z = some_same y z (sym (get_set_same net.nodes n y h) ∙ zi) in
       rw same at (asks (view_of net n) a.1.1.0 a.0 pulls)) in
-      let asked : AllAsked row law asking moves (acted_all (with_node net n y) n acts) = after_acts row law asking moves (with_node net n y) n acts b here tells (node_asked row law asking moves net n y (λ u hu ins some.
+      let asked : AllAsked port_state law asking moves (acted_all (with_node net n y) n acts) = after_acts port_state law asking moves (with_node net n y) n acts b here tells (node_asked port_state law asking moves net n y (λ u hu ins some.
       let first = get_there net.firsts n (rw s.each_first h) in
       let a = s.above n (omega arith) h x first.0 xi first.1 in
       let idles = subst (λ (ws : List ℕ). AllIdle (read_all inp_of net.wires ws)) ins a.1.1.0.0 in
       let empty = subst (λ (ws : List ℕ). AllEmpty (read_all got_of net.wires ws)) ins a.1.1.1.0.0 in
       let none : wanted (wire_at net u) ≡ 0 = none_wanted (wire_at net u) _ (s.sound u hu) (s.marked u hu) idles.0 empty.0 in
       omega (arith, none, some)) moved s.asked) in
-      let moments : AllMoments row law asking moves (acted_all (with_node net n y) n acts) =
-      acts_moments row law asking moves (with_node net n y) n acts b (allowed_of AnyRow AnyLaw (with_node net n y) n acts b) here tells asked (node_moments row law asking moves net n y moved s.moments) in
+      let moments : AllMoments port_state law asking moves (acted_all (with_node net n y) n acts) =
+      acts_moments port_state law asking moves (with_node net n y) n acts b (allowed_of AnyRow AnyLaw (with_node net n y) n acts b) here tells asked (node_moments port_state law asking moves net n y moved s.moments) in
       rw is (record {
         wired = done.wired;
         each_first = done.each_first;
@@ -142,9 +142,9 @@ module _ {N : Type 0} (row : N → View → Type 0) (law : N → N → View → 
         asked = asked;
         moments = moments;
         below = λ k lt hk. elim (same_or_not k n) [
-          | inl e ↦ rw e (acts_here row law acts (with_node net n y) n b here)
+          | inl e ↦ rw e (acts_here port_state law acts (with_node net n y) n b here)
           | inr ne ↦ let within : k < length net.nodes = rw count at hk in
-              acts_others row law acts (with_node net n y) n k b (rw length-set within) ne
+              acts_others port_state law acts (with_node net n y) n k b (rw length-set within) ne
               (λ z first zi fi. s.below k (omega arith) within z first (sym (get_set_other net.nodes n k y ne) ∙ zi) fi)
         ];
         above = λ k le hk z first zi fi.
@@ -152,13 +152,13 @@ module _ {N : Type 0} (row : N → View → Type 0) (law : N → N → View → 
             let ne : k ≢ n = λ e. omega arith in
             let before : IsMinded fresh FreshLaw (with_node net n y) k [] = λ u fu ui fui.
             let a = s.above k (omega arith) within u fu (sym (get_set_other net.nodes n k y ne) ∙ ui) fui in
-            record { allowed = tt; row_holds = a.0; law_holds = a.1 } in
+            record { allowed = tt; port_state_holds = a.0; law_holds = a.1 } in
             let m = acts_others fresh FreshLaw acts (with_node net n y) n k b (rw length-set within) ne before z first zi fi in
-            (m.row_holds, m.law_holds);
+            (m.port_state_holds, m.law_holds);
       })
 
   -- all were started
-  pub all_started : (net : Net N) (n : ℕ) → Starting row law asking moves fresh net n → length net.nodes ≤ n → Settled row law asking moves net
+  pub all_started : (net : Net N) (n : ℕ) → Starting port_state law asking moves fresh net n → length net.nodes ≤ n → Settled port_state law asking moves net
   all_started net n s h = record { wired = s.wired; each_first = s.each_first; sound = s.sound; marked = s.marked; minded = λ k hk. s.below k (omega arith) hk; asked = s.asked; moments = s.moments }
 
 pub new_asks : (wires : List WireState) (n : ℕ) → wires ≡ replicate n new_cell → sum_below (λ w. asks (get_or wires w no_wire).wire) (length wires) ≡ 0

@@ -449,6 +449,6 @@ module _ {N : Type 0} (passive : N → Bool) where
       untouched_handled net v new w n heard wired h is (λ e. some (event_is ∙ e)) target_is by kinds known there
 
 -- memory was wanting behind that moment
-pub breaks_aside : {N : Type 0} (row : N → View → Type 0) (law : N → N → View → List (List Item) → List (List Item) → Type 0) (asking : N → View → Type 0) (moves : N → List ℕ) (gone : N → List Item) (passive : N → Bool) (keeps : N → N → Type 0) (old last : Net N) (nodes : List N)
-    → Settled row law asking moves last → NetGoesOn old last → AllKept keeps last.nodes nodes → map gone last.nodes ≡ map gone old.nodes → StandsStill passive old last → BreaksAside row law asking moves gone passive keeps old nodes
-breaks_aside row law asking moves gone passive keeps old last nodes settled on kept none still = record { breaks = record { last = last; settled = settled; on = on; kept = kept }; none_gone = none; still = still }
+pub breaks_aside : {N : Type 0} (port_state : N → View → Type 0) (law : N → N → View → List (List Item) → List (List Item) → Type 0) (asking : N → View → Type 0) (moves : N → List ℕ) (gone : N → List Item) (passive : N → Bool) (keeps : N → N → Type 0) (old last : Net N) (nodes : List N)
+    → Settled port_state law asking moves last → NetGoesOn old last → AllKept keeps last.nodes nodes → map gone last.nodes ≡ map gone old.nodes → StandsStill passive old last → BreaksAside port_state law asking moves gone passive keeps old nodes
+breaks_aside port_state law asking moves gone passive keeps old last nodes settled on kept none still = record { breaks = record { last = last; settled = settled; on = on; kept = kept }; none_gone = none; still = still }

@@ -45,8 +45,8 @@ module _ {N : Type 0} where
   moved_uses : (net new : Net N) (q r : List ℕ) (units : ℕ) → Same q r → Uses (queued net q) new units → Uses (queued net r) new units
   moved_uses net new q r units same u = let cost = moved_total net q r same in let least = u.least in record { least = omega (arith, cost, least); most = u.most; each = u.each }
 
-module _ {N : Type 0} (row : N → View → Type 0) (law : N → N → View → List (List Item) → List (List Item) → Type 0) (asking : N → View → Type 0) (moves : N → List ℕ) where
-  moved_settled : (net : Net N) (q r : List ℕ) → Same q r → Settled row law asking moves (queued net q) → Settled row law asking moves (queued net r)
+module _ {N : Type 0} (port_state : N → View → Type 0) (law : N → N → View → List (List Item) → List (List Item) → Type 0) (asking : N → View → Type 0) (moves : N → List ℕ) where
+  moved_settled : (net : Net N) (q r : List ℕ) → Same q r → Settled port_state law asking moves (queued net q) → Settled port_state law asking moves (queued net r)
   moved_settled net q r same s = record {
     wired = s.wired;
     each_first = s.each_first;
@@ -114,6 +114,6 @@ module _ {N : Type 0} where
   pub taken_kept : (keeps : N → N → Type 0) (old net : Net N) (w : ℕ) (nodes : List N) → Takes old w net → AllKept keeps net.nodes nodes → AllKept keeps old.nodes nodes
   taken_kept keeps old net w nodes t k = subst (λ (xs : List N). AllKept keeps xs nodes) (taken_nodes old net w t) k
 
-module _ {N : Type 0} (row : N → View → Type 0) (law : N → N → View → List (List Item) → List (List Item) → Type 0) (asking : N → View → Type 0) (moves : N → List ℕ) where
-  pub taken_settled : (old net : Net N) (w : ℕ) → Takes old w net → Settled row law asking moves old → Settled row law asking moves (before net w)
-  taken_settled old net w t s = moved_settled row law asking moves net old.queue (w ∷ net.queue) (same_wires old net w t) (subst (Settled row law asking moves) t.is s)
+module _ {N : Type 0} (port_state : N → View → Type 0) (law : N → N → View → List (List Item) → List (List Item) → Type 0) (asking : N → View → Type 0) (moves : N → List ℕ) where
+  pub taken_settled : (old net : Net N) (w : ℕ) → Takes old w net → Settled port_state law asking moves old → Settled port_state law asking moves (before net w)
+  taken_settled old net w t s = moved_settled port_state law asking moves net old.queue (w ∷ net.queue) (same_wires old net w t) (subst (Settled port_state law asking moves) t.is s)

@@ -73,7 +73,7 @@ module _ {N : Type 0} (port_state : N → View → Type 0) (law : N → N → Vi
   -- done its port state and its law hold
   pub record Minds (x first : N) (v : View) (took gave : List (List Item)) (acts : List Act) : Type 0 where
     pub allowed : ActsAllowed v acts
-    pub row_holds : port_state x (acted_all v acts)
+    pub port_state_holds : port_state x (acted_all v acts)
     pub law_holds : law first x (acted_all v acts) took (given_all acts gave)
 
   -- node n of the graph

@@ -84,7 +84,7 @@ enters_new sources drains book i places links k become ends leads q l at c =
     let way : get_or i.ins l.wire 0 ≡ q = get_or_from_slice_get i.ins l.wire q 0 mark in
     let there : q < length i.net.wires = subst (λ (n : ℕ). q < n) (sym (length-map links ends_of) ∙ (ap length (sym ends) ∙ k.laws.wired.each_wire)) (slice_get_within links q l at) in (
       record {
-        row = slice_get_within i.ins l.wire q mark;
+        within = slice_get_within i.ins l.wire q mark;
         place = rw way there;
         stage = rw way (λ x e. entering_at places i.net.firsts l.from x become (subst (λ (n : ℕ). slice_get i.net.firsts n ≡ Some x) (ap (λ (y : _). y.from) (ap (λ (es : _). end_at es q) ends ∙ end_there links q l at)) e) c);
       },
@@ -98,7 +98,7 @@ leaves_new sources drains book i places links k become ends leads q l at c =
     let way : get_or i.outs l.wire 0 ≡ q = get_or_from_slice_get i.outs l.wire q 0 mark in
     let there : q < length i.net.wires = subst (λ (n : ℕ). q < n) (sym (length-map links ends_of) ∙ (ap length (sym ends) ∙ k.laws.wired.each_wire)) (slice_get_within links q l at) in (
       record {
-        row = slice_get_within i.outs l.wire q mark;
+        within = slice_get_within i.outs l.wire q mark;
         place = rw way there;
         stage = rw way (λ x e. leaving_at places i.net.firsts l.to x become (subst (λ (n : ℕ). slice_get i.net.firsts n ≡ Some x) (ap (λ (y : _). y.to) (ap (λ (es : _). end_at es q) ends ∙ end_there links q l at)) e) c);
       },

@@ -28,12 +28,12 @@ module _ {S D L B : Type 0} where
 
   -- the island has a stage at which the lane that is wire u comes in, and one at which it goes out
   pub record Enters (i : Kept S D L B) (u : ℕ) : Type 0 where
-    pub row : u < length i.ins
+    pub within : u < length i.ins
     pub place : way_in i u < length i.net.wires
     pub stage : EntersAt i.net (way_in i u)
 
   pub record Leaves (i : Kept S D L B) (u : ℕ) : Type 0 where
-    pub row : u < length i.outs
+    pub within : u < length i.outs
     pub place : way_out i u < length i.net.wires
     pub stage : LeavesAt i.net (way_out i u)
 

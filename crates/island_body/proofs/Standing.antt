@@ -218,14 +218,14 @@ module _ {S D L B : Type 0} (sources : S → SourceState) (drains : D → DrainS
     (g : IslandGoes old new) (gone : map node_gone new.net.nodes ≡ map node_gone old.net.nodes) (still : StandsStill node_passive old.net new.net) (s : AllStand old ins outs) where
   enters_goes : (u : ℕ) → Enters old u → Enters new u
   enters_goes u l = record {
-    row = rw g.ins l.row;
+    within = rw g.ins l.within;
     place = rw (g.ins, g.on.wires) l.place;
     stage = rw g.ins (λ x at. l.stage x (rw (g.on.firsts, g.on.ends) at at));
   }
 
   leaves_goes : (u : ℕ) → Leaves old u → Leaves new u
   leaves_goes u l = record {
-    row = rw g.outs l.row;
+    within = rw g.outs l.within;
     place = rw (g.outs, g.on.wires) l.place;
     stage = rw g.outs (λ x at. l.stage x (rw (g.on.firsts, g.on.ends) at at));
   }

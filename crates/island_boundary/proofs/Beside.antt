@@ -75,7 +75,7 @@ module _ {S D L B : Type 0} where
   leaves_beside q n old new u b l =
       let way : way_out new u ≡ way_out old u = ap (λ (l : List ℕ). get_at l) b.outs in
       record {
-        row = rw b.outs l.row;
+        within = rw b.outs l.within;
         place = rw (way, b.on.wires) l.place;
         stage = rw way (λ x at. l.stage x (rw (b.on.firsts, b.on.ends) at at));
       }
@@ -87,7 +87,7 @@ module _ {S D L B : Type 0} where
   enters_beside q n old new u b l =
       let way : way_in new u ≡ way_in old u = ap (λ (l : List ℕ). get_at l) b.ins in
       record {
-        row = rw b.ins l.row;
+        within = rw b.ins l.within;
         place = rw (way, b.on.wires) l.place;
         stage = rw way (λ x at. l.stage x (rw (b.on.firsts, b.on.ends) at at));
       }

@@ -148,13 +148,13 @@ module _ {S D L B : Type 0} where
   work_unused : (chains : List graph.Chain) (k : ℕ) (n : Node) (ss : List S) (ds : List D) (w : Work S D L B) → IsWork chains k n ss ds w → IsUnused w
   work_unused chains k n ss ds (work.Reading r) is = is.kept
   work_unused chains k n ss ds (work.Making shape) is = subst IsMaker (sym is.shape_is) is.is_maker
-  work_unused chains k n ss ds (work.Linear l) is = let b = is.begins in record { phase = b.phase; row = rw b.phase b.ready }
+  work_unused chains k n ss ds (work.Linear l) is = let b = is.begins in record { phase = b.phase; ports = rw b.phase b.ready }
   work_unused chains k n ss ds (work.State l) is = is.begins.fresh
   work_unused chains k n ss ds (work.Sub l) is = is.begins.fresh
   work_unused chains k n ss ds (work.FanIn l inputs) is =
       let b = is.begins in
       let same : fan_in.inputs_of n.kind ≡ inputs = sym (is.inputs_are ∙ (fan_in_ports n.kind is.is_in).0) in
-      record { fresh = b.fresh; row = subst (λ m. fan_in.port_state l (unpulled_ins m)) same b.ready }
+      record { fresh = b.fresh; ports = subst (λ m. fan_in.port_state l (unpulled_ins m)) same b.ready }
   work_unused chains k n ss ds (work.FanOut l outputs) is =
       let b = is.begins in
       let same : fan_out.outputs_of n.kind ≡ outputs = sym (is.outputs_are ∙ (fan_out_ports n.kind is.is_out).1) in

@@ -88,7 +88,7 @@ module _ {S D : Type 0} (L B : Type 0) (sources : S → SourceState) (drains : D
 
   writing_at : (x : Item) (old new : Sink D) (acts : List Act) → Handles sink_port_state (SinkLaw drains) (arrives 0 x) old new acts → CallOf (arrives 0 x) (Writing old) (Writing new) acts
   writing_at x old new acts h = record {
-    obeys = record { allowed = h.obeys.allowed; row = h.obeys.row };
+    obeys = record { allowed = h.obeys.allowed; ports = h.obeys.ports };
     stands = h.stands;
     keeps = λ first v took gave a r law. writing_law first old new v _ took gave _ _ (λ f l. h.keeps f v took gave a r l) law;
   }
@@ -114,7 +114,7 @@ module _ {S D : Type 0} (L B : Type 0) (sources : S → SourceState) (drains : D
 
   reading_at : (call : Call) (old new : Lines S) (acts : List Act) → Handles lines_port_state (LinesLaw sources) call old new acts → CallOf call (Reading old) (Reading new) acts
   reading_at call old new acts h = record {
-    obeys = record { allowed = h.obeys.allowed; row = h.obeys.row };
+    obeys = record { allowed = h.obeys.allowed; ports = h.obeys.ports };
     stands = h.stands;
     keeps = λ first v took gave a r law. reading_law first old new v _ took gave _ _ (λ f l. h.keeps f v took gave a r l) law;
   }
@@ -144,7 +144,7 @@ module _ {S D : Type 0} (L B : Type 0) (sources : S → SourceState) (drains : D
 
   leaving_at : (call : Call) (old new : Leaving) (acts : List Act) → Handles LeavingPortState LeavingLaw call old new acts → CallOf call (node.Leaving old) (node.Leaving new) acts
   leaving_at call old new acts h = record {
-    obeys = record { allowed = h.obeys.allowed; row = h.obeys.row };
+    obeys = record { allowed = h.obeys.allowed; ports = h.obeys.ports };
     stands = h.stands;
     keeps = λ first v took gave a r law. leaving_law first old new v _ took gave _ _ (λ f l. h.keeps f v took gave a r l) law;
   }
@@ -154,7 +154,7 @@ module _ {S D : Type 0} (L B : Type 0) (sources : S → SourceState) (drains : D
   leaving_handles call old new acts r h = on_ok_two r h h (λ a b. leaving_at call old new acts a)
 
   leaving_begins : (old new : Leaving) (acts : List Act) → Starts LeavingPortState LeavingLaw LeavingFresh old new acts → StartOf (node.Leaving old) (node.Leaving new) acts
-  leaving_begins old new acts h = record { obeys = record { allowed = h.obeys.allowed; row = h.obeys.row }; stands = h.stands; begins = h.begins }
+  leaving_begins old new acts h = record { obeys = record { allowed = h.obeys.allowed; ports = h.obeys.ports }; stands = h.stands; begins = h.begins }
 
   pub leaving_starts : {T E : Type 0} (old new : Leaving) (acts : List Act) (r : Result T E) → OnOk r (Starts LeavingPortState LeavingLaw LeavingFresh old new acts)
       → OnOk r (StartOf (node.Leaving old) (node.Leaving new) acts)
@@ -162,7 +162,7 @@ module _ {S D : Type 0} (L B : Type 0) (sources : S → SourceState) (drains : D
 
   -- the stage where a lane comes in
   entering_begins : (old new : Entering) (acts : List Act) → Starts EnteringPortState EnteringLaw EnteringFresh old new acts → StartOf (node.Entering old) (node.Entering new) acts
-  entering_begins old new acts h = record { obeys = record { allowed = h.obeys.allowed; row = h.obeys.row }; stands = h.stands; begins = h.begins }
+  entering_begins old new acts h = record { obeys = record { allowed = h.obeys.allowed; ports = h.obeys.ports }; stands = h.stands; begins = h.begins }
 
   pub entering_starts : {T E : Type 0} (old new : Entering) (acts : List Act) (r : Result T E) → OnOk r (Starts EnteringPortState EnteringLaw EnteringFresh old new acts)
       → OnOk r (StartOf (node.Entering old) (node.Entering new) acts)

@@ -77,7 +77,7 @@ given_on j (a ∷ acts) = given_by j a ++ given_on j acts
 -- their order, and the port state holds of what the stage knows once they are done.
 pub record Obeys (call : Call) (OldPortState NewPortState : View → Type 0) (acts : List Act) : Type 0 where
   pub allowed : (v : View) → CallAllowed call v → OldPortState v → ActsAllowed (seen call v) acts
-  pub row : (v : View) → CallAllowed call v → OldPortState v → NewPortState (acted_all (seen call v) acts)
+  pub ports : (v : View) → CallAllowed call v → OldPortState v → NewPortState (acted_all (seen call v) acts)
 
 -- there is what the stage may know as the call comes
 abbrev pub Meets : Call → (View → Type 0) → Type 0

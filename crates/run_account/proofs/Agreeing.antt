@@ -65,10 +65,10 @@ read_there g f cells k q (suc n) (suc p) j h e =
 list_agrees : (o : Outlook) (h : List Item) → AgreesWith o h → Agrees o (list_of h) (end_of_items h)
 list_agrees o h a = rw (a.is, list_of_told a.list a.end, standing_told a.list a.end) a.agrees
 
-module _ {N : Type 0} (row : N → View → Type 0) (law : N → N → View → List (List Item) → List (List Item) → Type 0) (asking : N → View → Type 0) (moves : N → List ℕ)
+module _ {N : Type 0} (port_state : N → View → Type 0) (law : N → N → View → List (List Item) → List (List Item) → Type 0) (asking : N → View → Type 0) (moves : N → List ℕ)
     (FirstOf : ℕ → graph.Node → N → Type 0) (Tells : World → ℕ → graph.Node → N → N → Type 0) (g : Graph) (w : World)
     (laws : (k : ℕ) (n : graph.Node) (first now : N) (v : View) (took gave : List (List Item)) → FirstOf k n first → Tells w k n first now → length took ≡ inputs_of n.kind → law first now v took gave → RunLaws g w k n took gave)
-    (a : Account N) (joined : IsJoined g) (keeps : KeepsLaws row law asking moves g a) (made : AllMade FirstOf g a) where
+    (a : Account N) (joined : IsJoined g) (keeps : KeepsLaws port_state law asking moves g a) (made : AllMade FirstOf g a) where
   -- what is told of node k
   abbrev pub TellsAt : ℕ → graph.Node → Type 0
   TellsAt k n = (first now : N) → a.firsts k ≡ Some first → a.nodes k ≡ Some now → Tells w k n first now

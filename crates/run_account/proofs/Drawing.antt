@@ -55,14 +55,14 @@ first_came : (is : List InPort) → EachPort InStands is → elements (slice_ind
 first_came [] h = omega arith
 first_came (i ∷ is) h = let came = h.0.came in omega (arith, came)
 
-module _ {N : Type 0} (row : N → View → Type 0) (law : N → N → View → List (List Item) → List (List Item) → Type 0) (asking : N → View → Type 0) (moves : N → List ℕ) (has_ended : N → Bool)
-    (FirstOf : ℕ → graph.Node → N → Type 0) (Tells : ℕ → N → Type 0) (g : Graph) (w : World) (a : Account N) (joined : IsJoined g) (keeps : KeepsLaws row law asking moves g a) (made : AllMade FirstOf g a)
+module _ {N : Type 0} (port_state : N → View → Type 0) (law : N → N → View → List (List Item) → List (List Item) → Type 0) (asking : N → View → Type 0) (moves : N → List ℕ) (has_ended : N → Bool)
+    (FirstOf : ℕ → graph.Node → N → Type 0) (Tells : ℕ → N → Type 0) (g : Graph) (w : World) (a : Account N) (joined : IsJoined g) (keeps : KeepsLaws port_state law asking moves g a) (made : AllMade FirstOf g a)
     (tells : (k : ℕ) (now : N) → a.nodes k ≡ Some now → Tells k now)
     (hears : (k : ℕ) (n : graph.Node) → slice_get g.nodes k ≡ Some n → HearsAll (knows g a k n) (took g a k n))
     (pictures : (k : ℕ) (n : graph.Node) (first now : N) (is : List InPort) (os : List OutPort) → FirstOf k n first → Tells k now
-    → row now (record { ins = map (λ (i : InPort). i.view) is; outs = map (λ (o : OutPort). o.view) os })
+    → port_state now (record { ins = map (λ (i : InPort). i.view) is; outs = map (λ (o : OutPort). o.view) os })
     → law first now (record { ins = map (λ (i : InPort). i.view) is; outs = map (λ (o : OutPort). o.view) os }) (map (λ (i : InPort). i.got) is) (map (λ (o : OutPort). o.sent) os)
-    → PictureLaws row law asking moves has_ended g w k n first now is os)
+    → PictureLaws port_state law asking moves has_ended g w k n first now is os)
     (outlook : ℕ → Outlook) where
   abbrev pub counts : List WireCount
   counts = picture_counts a g
@@ -144,12 +144,12 @@ module _ {N : Type 0} (row : N → View → Type 0) (law : N → N → View → 
     outs_same : outs g counts outlook k n.kind ≡ map (λ (o : OutPort). o.wire) (Out k n)
     outs_same = outs_are a g outlook k (count_from 0 (outputs_of n.kind)) (all_out k n e)
 
-    kept : NodeKeeps row law asking moves g a k n
+    kept : NodeKeeps port_state law asking moves g a k n
     kept = keeps.each_node k n e
 
     -- what its kind tells
-    kind : PictureLaws row law asking moves has_ended g w k n kept.first kept.now (In k n) (Out k n)
-    kind = pictures k n kept.first kept.now (In k n) (Out k n) (made k n kept.first e kept.first_at) (tells k kept.now kept.now_at) (subst (λ (v : View). row kept.now v) views kept.row_holds) (rw (views, tooks, gaves) at kept.law_holds)
+    kind : PictureLaws port_state law asking moves has_ended g w k n kept.first kept.now (In k n) (Out k n)
+    kind = pictures k n kept.first kept.now (In k n) (Out k n) (made k n kept.first e kept.first_at) (tells k kept.now kept.now_at) (subst (λ (v : View). port_state kept.now v) views kept.port_state_holds) (rw (views, tooks, gaves) at kept.law_holds)
 
   module _ (passes : AllPass a g outlook) where
     port_in : (u : ℕ) (v : Edge) → slice_get g.wires u ≡ Some v → InStands (in_port a g outlook u v)
@@ -176,7 +176,7 @@ module _ {N : Type 0} (row : N → View → Type 0) (law : N → N → View → 
         within : (p : ℕ) → 1 ≤ slice_index_or (ins_wanted g a k n) p 0 → p < inputs_of n.kind
         within p some = let l = some_within (ins_wanted g a k n) p some in let c = length_ins g wanted a.far k 0 (inputs_of n.kind) in omega (arith, l, c)
 
-        moments : (p : ℕ) → 1 ≤ slice_index_or (map (λ (i : InPort). i.want) (In k n)) p 0 → Moments row law asking moves (kept k n e).first (kept k n e).now (In k n) (Out k n) p
+        moments : (p : ℕ) → 1 ≤ slice_index_or (map (λ (i : InPort). i.want) (In k n)) p 0 → Moments port_state law asking moves (kept k n e).first (kept k n e).now (In k n) (Out k n) p
         moments p some =
             let here : 1 ≤ slice_index_or (ins_wanted g a k n) p 0 = rw (in_wants k n e) some in (
               rw (tooks k n e, gaves k n e, in_wants k n e, out_wants k n e, out_shuts k n e) at ((kept k n e).asks p (within p here) here),

@@ -111,7 +111,7 @@ out_asked_there f wires [] j e = absurd cc
 out_asked_there f wires (w ∷ ws) zero e = (w, refl)
 out_asked_there f wires (w ∷ ws) (suc j) e = out_asked_there f wires ws j e
 
-module _ {N : Type 0} (row : N → View → Type 0) (law : N → N → View → List (List Item) → List (List Item) → Type 0) (asking : N → View → Type 0) (moves : N → List ℕ) where
+module _ {N : Type 0} (port_state : N → View → Type 0) (law : N → N → View → List (List Item) → List (List Item) → Type 0) (asking : N → View → Type 0) (moves : N → List ℕ) where
   -- what node j of a net is wanted of
   abbrev pub want_in : Net N → ℕ → List ℕ
   want_in a j = read_all wanted a.wires (ports_at a j).ins
@@ -181,7 +181,7 @@ module _ {N : Type 0} (row : N → View → Type 0) (law : N → N → View → 
     no_wires (w ∷ ws) none = absurd (omega (arith, none))
 
     -- the last ask of one of its inputs
-    pub earlier : (now : N) → slice_get new.nodes j ≡ Some now → (p q : ℕ) → slice_get (ports_at new j).ins p ≡ Some q → LastAsk row law asking moves new q → Earlier row law asking moves p first now (net.took new j) (net.gave new j) (want_in new j) (want_out new j) (shut_out new j)
+    pub earlier : (now : N) → slice_get new.nodes j ≡ Some now → (p q : ℕ) → slice_get (ports_at new j).ins p ≡ Some q → LastAsk port_state law asking moves new q → Earlier port_state law asking moves p first now (net.took new j) (net.gave new j) (want_in new j) (want_out new j) (shut_out new j)
     earlier now now_at p q slot a =
         let within = ins_within p q slot in
         let wires = a.on.wires in
@@ -197,7 +197,7 @@ module _ {N : Type 0} (row : N → View → Type 0) (law : N → N → View → 
           knew = view_of a.old j;
           had = net.took a.old j;
           given = net.gave a.old j;
-          row_held = minds.row_holds;
+          port_state_held = minds.port_state_holds;
           law_held = minds.law_holds;
           asking_held = (rw to at a.asking_then) x.0 x.1;
           waited = read_at inp_of a.old.wires (ports_at a.old j).ins p q Cancelled slot_old ∙ a.waits;
@@ -235,7 +235,7 @@ module _ {N : Type 0} (row : N → View → Type 0) (law : N → N → View → 
   want_grown old new more (w ∷ ws) within zero = more w (within 0 w refl)
   want_grown old new more (w ∷ ws) within (suc i) = want_grown old new more ws (λ k q e. within (suc k) q e) i
 
-  module _ (new : Net N) (wired : Wired new.ends new.ports (length new.nodes) (length new.wires)) (j : ℕ) (hj : j < length new.nodes) (first : N) (first_at : slice_get new.firsts j ≡ Some first) (now : N) (now_at : slice_get new.nodes j ≡ Some now) (a : NodeAsked row law asking moves new j) where
+  module _ (new : Net N) (wired : Wired new.ends new.ports (length new.nodes) (length new.wires)) (j : ℕ) (hj : j < length new.nodes) (first : N) (first_at : slice_get new.firsts j ≡ Some first) (now : N) (now_at : slice_get new.nodes j ≡ Some now) (a : NodeAsked port_state law asking moves new j) where
     ports_then : ports_at a.old j ≡ ports_at new j
     ports_then = rw (sym a.on.ports) refl
 
@@ -262,7 +262,7 @@ module _ {N : Type 0} (row : N → View → Type 0) (law : N → N → View → 
     within_old : j < length a.old.nodes
     within_old = let n = a.on.nodes in omega (arith, n, hj)
 
-    before_at : (x : N) → slice_get a.old.nodes j ≡ Some x → (i : ℕ) → i < length (want_in new j) → 1 ≤ slice_index_or (want_in new j) i 0 → Earlier row law asking moves i first x (net.took a.old j) (net.gave a.old j) (want_in new j) (want_out new j) (shut_out new j)
+    before_at : (x : N) → slice_get a.old.nodes j ≡ Some x → (i : ℕ) → i < length (want_in new j) → 1 ≤ slice_index_or (want_in new j) i 0 → Earlier port_state law asking moves i first x (net.took a.old j) (net.gave a.old j) (want_in new j) (want_out new j) (shut_out new j)
     before_at x x_at i h some =
         let at = some_there wanted new.wires (ports_at new j).ins i h in
         let q = at.0 in
@@ -276,7 +276,7 @@ module _ {N : Type 0} (row : N → View → Type 0) (law : N → N → View → 
           knew = e.knew;
           had = e.had;
           given = e.given;
-          row_held = e.row_held;
+          port_state_held = e.port_state_held;
           law_held = e.law_held;
           asking_held = e.asking_held;
           waited = e.waited;
@@ -295,7 +295,7 @@ module _ {N : Type 0} (row : N → View → Type 0) (law : N → N → View → 
         outs_still : (k : ℕ) → slice_index_or (shut_out a.old j) k true ≡ true → slice_index_or (shut_out new j) k true ≡ true
         outs_still k h = shut_grown a.old.wires new.wires (λ q l. a.grown q (let w = a.on.wires in omega (arith, w, l))) (ports_at new j).outs (λ m q e. (wired.output_from j m q hj e).0) k (rw ports_then at h)
 
-    pub last : LastAsked row law asking moves first now (net.took new j) (net.gave new j) (want_in new j) (want_out new j) (shut_out new j)
+    pub last : LastAsked port_state law asking moves first now (net.took new j) (net.gave new j) (want_in new j) (want_out new j) (shut_out new j)
     last =
         let x = get_there a.old.nodes j within_old in
         let minds = a.minded x.0 first x.1 first_old in
@@ -304,7 +304,7 @@ module _ {N : Type 0} (row : N → View → Type 0) (law : N → N → View → 
           knew = view_of a.old j;
           had = net.took a.old j;
           given = net.gave a.old j;
-          row_held = minds.row_holds;
+          port_state_held = minds.port_state_holds;
           law_held = minds.law_holds;
           asking_held = a.asking_then x.0 x.1;
           port = a.port;

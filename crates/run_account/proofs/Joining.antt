@@ -1,4 +1,4 @@
--- The nets of several islands tell of the blueprint what one net would: each node keeps its row and
+-- The nets of several islands tell of the blueprint what one net would: each node keeps its port_state and
 -- its law over its wires, each wire brings what it may, and each ask has its moment.
 use Rattle.std.specs.Prelude.{slice_get, slice_index_or}
 use Rattle.std.proofs.Common.{◌≡◌, ℕ, ◌<◌, ◌≤◌, List, [], length, Option, None, Some, refl, ap, subst, ◌∙◌}
@@ -34,9 +34,9 @@ module _ {N : Type 0} (g : Graph) (nets : ℕ → Net N) (s : Seats) (covers : C
   pub far_there : (u : ℕ) → u < length g.wires → (s.far u).at < length (nets (s.far u).island).wires
   far_there u h = let v = get_there g.wires u h in covers.far_within u v.0 v.1
 
-module _ {N : Type 0} (row : N → View → Type 0) (law : N → N → View → List (List Item) → List (List Item) → Type 0) (asking : N → View → Type 0) (moves : N → List ℕ)
+module _ {N : Type 0} (port_state : N → View → Type 0) (law : N → N → View → List (List Item) → List (List Item) → Type 0) (asking : N → View → Type 0) (moves : N → List ℕ)
     (g : Graph) (nets : ℕ → Net N) (s : Seats) (is_joined : IsJoined g) (covers : Covers g nets s)
-    (asked : ℕ → ℕ) (settled : (b : ℕ) → Settled row law asking moves (nets b)) (lanes : LanesKeep g nets s asked) where
+    (asked : ℕ → ℕ) (settled : (b : ℕ) → Settled port_state law asking moves (nets b)) (lanes : LanesKeep g nets s asked) where
   abbrev all : Account N
   all = joined_account nets s asked
 
@@ -56,20 +56,20 @@ module _ {N : Type 0} (row : N → View → Type 0) (law : N → N → View → 
   took_same : (k : ℕ) (n : graph.Node) → slice_get g.nodes k ≡ Some n → net.took (nets (home k)) (seat k) ≡ took g all k n
   took_same k n e = read_in g nets s is_joined covers (λ b. (settled b).wired) got_of (λ b. (nets b).wires) k n e
 
-  ins_same : (k : ℕ) (n : graph.Node) → slice_get g.nodes k ≡ Some n → want_in row law asking moves (nets (home k)) (seat k) ≡ ins_wanted g all k n
+  ins_same : (k : ℕ) (n : graph.Node) → slice_get g.nodes k ≡ Some n → want_in port_state law asking moves (nets (home k)) (seat k) ≡ ins_wanted g all k n
   ins_same k n e = read_in g nets s is_joined covers (λ b. (settled b).wired) wanted (λ b. (nets b).wires) k n e
 
-  outs_same : (k : ℕ) (n : graph.Node) → slice_get g.nodes k ≡ Some n → want_out row law asking moves (nets (home k)) (seat k) ≡ outs_wanted g all k n
+  outs_same : (k : ℕ) (n : graph.Node) → slice_get g.nodes k ≡ Some n → want_out port_state law asking moves (nets (home k)) (seat k) ≡ outs_wanted g all k n
   outs_same k n e = read_out g nets s is_joined covers (λ b. (settled b).wired) wanted (λ b. (nets b).wires) k n e
 
-  shut_same : (k : ℕ) (n : graph.Node) → slice_get g.nodes k ≡ Some n → shut_out row law asking moves (nets (home k)) (seat k) ≡ outs_shut g all k n
+  shut_same : (k : ℕ) (n : graph.Node) → slice_get g.nodes k ≡ Some n → shut_out port_state law asking moves (nets (home k)) (seat k) ≡ outs_shut g all k n
   shut_same k n e = read_out g nets s is_joined covers (λ b. (settled b).wired) shut_of (λ b. (nets b).wires) k n e
 
   gave_same : (k : ℕ) (n : graph.Node) → slice_get g.nodes k ≡ Some n → net.gave (nets (home k)) (seat k) ≡ gave g all k n
   gave_same k n e = read_out g nets s is_joined covers (λ b. (settled b).wired) sent_of (λ b. (nets b).wires) k n e
 
-  -- a node keeps its row and its law over the blueprint's wires, and its moments
-  node_keeps : (k : ℕ) (n : graph.Node) → slice_get g.nodes k ≡ Some n → NodeKeeps row law asking moves g all k n
+  -- a node keeps its port_state and its law over the blueprint's wires, and its moments
+  node_keeps : (k : ℕ) (n : graph.Node) → slice_get g.nodes k ≡ Some n → NodeKeeps port_state law asking moves g all k n
   node_keeps k n e =
       let h = covers.node_within k n e in
       let x = get_there (nets (home k)).nodes (seat k) h in
@@ -80,21 +80,21 @@ module _ {N : Type 0} (row : N → View → Type 0) (law : N → N → View → 
         now = x.0;
         first_at = first.1;
         now_at = x.1;
-        row_holds = subst (λ (v : View). row x.0 v) (knows_same k n e) m.row_holds;
+        port_state_holds = subst (λ (v : View). port_state x.0 v) (knows_same k n e) m.port_state_holds;
         law_holds = rw (knows_same k n e, took_same k n e, gave_same k n e) at m.law_holds;
         asks = λ p hp some.
             let u = is_joined.each_input k n p e hp in
             let there = far_slot g nets s is_joined covers (λ c. (settled c).wired) k n p u.0 e u.1 in
-            let some_here : 1 ≤ slice_index_or (want_in row law asking moves (nets (home k)) (seat k)) p 0 = rw (ins_same k n e) some in
+            let some_here : 1 ≤ slice_index_or (want_in port_state law asking moves (nets (home k)) (seat k)) p 0 = rw (ins_same k n e) some in
             let l = (settled (home k)).asked (s.far u.0).at there.1.0 (rw (read_at wanted (nets (home k)).wires (ports_at (nets (home k)) (seat k)).ins p (s.far u.0).at 0 there.1.1) at some_here) in
-            rw (took_same k n e, gave_same k n e, ins_same k n e, outs_same k n e, shut_same k n e) at (earlier row law asking moves (nets (home k)) (settled (home k)).wired (seat k) h first.0 first.1 x.0 x.1 p (s.far u.0).at there.1.1 l);
+            rw (took_same k n e, gave_same k n e, ins_same k n e, outs_same k n e, shut_same k n e) at (earlier port_state law asking moves (nets (home k)) (settled (home k)).wired (seat k) h first.0 first.1 x.0 x.1 p (s.far u.0).at there.1.1 l);
         last = λ p hp some.
             let u = is_joined.each_input k n p e hp in
             let there = far_slot g nets s is_joined covers (λ c. (settled c).wired) k n p u.0 e u.1 in
-            let some_here : 1 ≤ slice_index_or (want_in row law asking moves (nets (home k)) (seat k)) p 0 = rw (ins_same k n e) some in
+            let some_here : 1 ≤ slice_index_or (want_in port_state law asking moves (nets (home k)) (seat k)) p 0 = rw (ins_same k n e) some in
             let to = ((settled (home k)).wired.input_to (seat k) p (s.far u.0).at h there.1.1).1.0 in
             let a = (settled (home k)).moments (seat k) (s.far u.0).at h there.1.0 to (rw (read_at wanted (nets (home k)).wires (ports_at (nets (home k)) (seat k)).ins p (s.far u.0).at 0 there.1.1) at some_here) in
-            rw (took_same k n e, gave_same k n e, ins_same k n e, outs_same k n e, shut_same k n e) at (last row law asking moves (nets (home k)) (settled (home k)).wired (seat k) h first.0 first.1 x.0 x.1 a);
+            rw (took_same k n e, gave_same k n e, ins_same k n e, outs_same k n e, shut_same k n e) at (last port_state law asking moves (nets (home k)) (settled (home k)).wired (seat k) h first.0 first.1 x.0 x.1 a);
       }
 
   -- each wire keeps what it does
@@ -106,7 +106,7 @@ module _ {N : Type 0} (row : N → View → Type 0) (law : N → N → View → 
       by (Some size) is = lanes u v size e is
 
   -- together they keep what one net would
-  pub all_keep : KeepsLaws row law asking moves g all
+  pub all_keep : KeepsLaws port_state law asking moves g all
   all_keep = record {
     each_node = node_keeps;
     near_sound = λ u h. (is_waiting (nets (s.near u).island).queue (s.near u).at, (settled (s.near u).island).sound (s.near u).at (near_there g nets s covers u h));
@@ -116,8 +116,8 @@ module _ {N : Type 0} (row : N → View → Type 0) (law : N → N → View → 
     wires = wires_keep;
   }
 
-module _ {N : Type 0} (row : N → View → Type 0) (law : N → N → View → List (List Item) → List (List Item) → Type 0) (asking : N → View → Type 0) (moves : N → List ℕ)
-    (g : Graph) (nets : ℕ → Net N) (s : Seats) (covers : Covers g nets s) (asked : ℕ → ℕ) (settled : (b : ℕ) → Settled row law asking moves (nets b)) where
+module _ {N : Type 0} (port_state : N → View → Type 0) (law : N → N → View → List (List Item) → List (List Item) → Type 0) (asking : N → View → Type 0) (moves : N → List ℕ)
+    (g : Graph) (nets : ℕ → Net N) (s : Seats) (covers : Covers g nets s) (asked : ℕ → ℕ) (settled : (b : ℕ) → Settled port_state law asking moves (nets b)) where
   -- where no event is left in any of them and each lane rests, none is left on any wire
   pub all_still : ((b : ℕ) → (nets b).queue ≡ []) → LanesRest g nets s asked → IsStill g (joined_account nets s asked)
   all_still empty rest = record {

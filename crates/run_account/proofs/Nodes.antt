@@ -12,19 +12,19 @@ use Rattle.stream_picture.specs.Joined.{IsJoined}
 use Rattle.fused_net.proofs.Reading.{some_same}
 use Rattle.run_account.specs.Account.{Account, read_ins, knows, took, gave, ins_wanted, outs_wanted, outs_shut, AllBegin, Earlier, KeepsLaws}
 
-module _ {N : Type 0} (row : N → View → Type 0) (law : N → N → View → List (List Item) → List (List Item) → Type 0) (asking : N → View → Type 0) (moves : N → List ℕ) (g : Graph) (a : Account N) where
+module _ {N : Type 0} (port_state : N → View → Type 0) (law : N → N → View → List (List Item) → List (List Item) → Type 0) (asking : N → View → Type 0) (moves : N → List ℕ) (g : Graph) (a : Account N) where
   -- what node k keeps, which was handed in as one and is the other now
   pub record KeptAs (k : ℕ) (n : graph.Node) (first now : N) : Type 0 where
-    pub row_holds : row now (knows g a k n)
+    pub port_state_holds : port_state now (knows g a k n)
     pub law_holds : law first now (knows g a k n) (took g a k n) (gave g a k n)
-    pub asks : (p : ℕ) → p < inputs_of n.kind → 1 ≤ slice_index_or (ins_wanted g a k n) p 0 → Earlier row law asking moves p first now (took g a k n) (gave g a k n) (ins_wanted g a k n) (outs_wanted g a k n) (outs_shut g a k n)
+    pub asks : (p : ℕ) → p < inputs_of n.kind → 1 ≤ slice_index_or (ins_wanted g a k n) p 0 → Earlier port_state law asking moves p first now (took g a k n) (gave g a k n) (ins_wanted g a k n) (outs_wanted g a k n) (outs_shut g a k n)
 
-  pub kept_as : KeepsLaws row law asking moves g a → (k : ℕ) (n : graph.Node) (first now : N) → slice_get g.nodes k ≡ Some n → a.firsts k ≡ Some first → a.nodes k ≡ Some now → KeptAs k n first now
+  pub kept_as : KeepsLaws port_state law asking moves g a → (k : ℕ) (n : graph.Node) (first now : N) → slice_get g.nodes k ≡ Some n → a.firsts k ≡ Some first → a.nodes k ≡ Some now → KeptAs k n first now
   kept_as keeps k n first now e f x =
       let m = keeps.each_node k n e in
       let one : m.first ≡ first = some_same m.first first (sym m.first_at ∙ f) in
       let two : m.now ≡ now = some_same m.now now (sym m.now_at ∙ x) in
-      subst (λ (y : N). KeptAs k n y now) one (subst (λ (y : N). KeptAs k n m.first y) two (record { row_holds = m.row_holds; law_holds = m.law_holds; asks = m.asks }))
+      subst (λ (y : N). KeptAs k n y now) one (subst (λ (y : N). KeptAs k n m.first y) two (record { port_state_holds = m.port_state_holds; law_holds = m.law_holds; asks = m.asks }))
 
 below_one : (p n : ℕ) → p < n → n ≡ 1 → p ≡ 0
 below_one p n h e = omega (arith, h, e)

@@ -173,8 +173,8 @@ need_sum (v ∷ vs) i f =
     let rest = need_sum vs (i + 1) f in
     omega (arith, first, later, here, rest)
 
-module _ {N : Type 0} (row : N → View → Type 0) (law : N → N → View → List (List Item) → List (List Item) → Type 0) (asking : N → View → Type 0) (moves : N → List ℕ)
-    (g : Graph) (nets : ℕ → Net N) (s : Seats) (asked cost : ℕ → ℕ) (islands : ℕ) (covers : Covers g nets s) (settled : (b : ℕ) → Settled row law asking moves (nets b)) (owned : Owned g nets s islands)
+module _ {N : Type 0} (port_state : N → View → Type 0) (law : N → N → View → List (List Item) → List (List Item) → Type 0) (asking : N → View → Type 0) (moves : N → List ℕ)
+    (g : Graph) (nets : ℕ → Net N) (s : Seats) (asked cost : ℕ → ℕ) (islands : ℕ) (covers : Covers g nets s) (settled : (b : ℕ) → Settled port_state law asking moves (nets b)) (owned : Owned g nets s islands)
     (lanes : LanesCost g nets s asked cost) where
   abbrev all : Account N
   all = joined_account nets s asked

@@ -92,16 +92,16 @@ abbrev pub WireQuiet : Option ℕ → WireState → WireState → ℕ → Type 0
 WireQuiet None near far asked = ⊤
 WireQuiet (Some size) near far asked = (keeps : LaneKeeps size near far asked) × LaneQuiet size near far asked keeps
 
-module _ {N : Type 0} (row : N → View → Type 0) (law : N → N → View → List (List Item) → List (List Item) → Type 0) (asking : N → View → Type 0) (moves : N → List ℕ) where
+module _ {N : Type 0} (port_state : N → View → Type 0) (law : N → N → View → List (List Item) → List (List Item) → Type 0) (asking : N → View → Type 0) (moves : N → List ℕ) where
   -- The moment at which a node last asked at its p-th input, by what it took and gave and by what is wanted of its inputs and
-  -- outputs: its row and its law held, and what it tells whenever it has just asked; it waited there, one element more than it
+  -- outputs: its port_state and its law held, and what it tells whenever it has just asked; it waited there, one element more than it
   -- had taken is wanted, and all has only grown; an output that was closed is shut.
   pub record Earlier (p : ℕ) (first now : N) (took gave : List (List Item)) (ins_want outs_want : List ℕ) (outs_closed : List Bool) : Type 0 where
     pub old : N
     pub knew : View
     pub had : List (List Item)
     pub given : List (List Item)
-    pub row_held : row old knew
+    pub port_state_held : port_state old knew
     pub law_held : law first old knew had given
     pub asking_held : asking old knew
     pub waited : in_at knew p ≡ Pulled
@@ -120,7 +120,7 @@ module _ {N : Type 0} (row : N → View → Type 0) (law : N → N → View → 
     pub knew : View
     pub had : List (List Item)
     pub given : List (List Item)
-    pub row_held : row old knew
+    pub port_state_held : port_state old knew
     pub law_held : law first old knew had given
     pub asking_held : asking old knew
     pub port : ℕ
@@ -134,13 +134,13 @@ module _ {N : Type 0} (row : N → View → Type 0) (law : N → N → View → 
     pub shut_on : (j : ℕ) → OutClosed (out_at knew j) → slice_index_or outs_closed j true ≡ true
 
   module _ (g : Graph) (a : Account N) where
-    -- node k of the blueprint: its row and its law, from what it was handed in as, and the moments of its asks
+    -- node k of the blueprint: its port_state and its law, from what it was handed in as, and the moments of its asks
     pub record NodeKeeps (k : ℕ) (n : graph.Node) : Type 0 where
       pub first : N
       pub now : N
       pub first_at : a.firsts k ≡ Some first
       pub now_at : a.nodes k ≡ Some now
-      pub row_holds : row now (knows g a k n)
+      pub port_state_holds : port_state now (knows g a k n)
       pub law_holds : law first now (knows g a k n) (took g a k n) (gave g a k n)
       pub asks : (p : ℕ) → p < inputs_of n.kind → 1 ≤ slice_index_or (ins_wanted g a k n) p 0 → Earlier p first now (took g a k n) (gave g a k n) (ins_wanted g a k n) (outs_wanted g a k n) (outs_shut g a k n)
       pub last : (p : ℕ) → p < inputs_of n.kind → 1 ≤ slice_index_or (ins_wanted g a k n) p 0 → LastAsked first now (took g a k n) (gave g a k n) (ins_wanted g a k n) (outs_wanted g a k n) (outs_shut g a k n)

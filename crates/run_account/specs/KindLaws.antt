@@ -50,16 +50,16 @@ pub record RunLaws (g : Graph) (w : World) (k : ℕ) (n : graph.Node) (took gave
 
 -- the moments of a node's asks, by its ports: the last one at input p, and the last one at any
 abbrev pub Moments : {N : Type 0} → (N → View → Type 0) → (N → N → View → List (List Item) → List (List Item) → Type 0) → (N → View → Type 0) → (N → List ℕ) → N → N → List InPort → List OutPort → ℕ → Type 0
-Moments row law asking moves first now is os p =
-    Earlier row law asking moves p first now (map (λ (i : InPort). i.got) is) (map (λ (o : OutPort). o.sent) os) (map (λ (i : InPort). i.want) is) (map (λ (o : OutPort). o.want) os) (map (λ (o : OutPort). o.wire.shut) os)
-    × LastAsked row law asking moves first now (map (λ (i : InPort). i.got) is) (map (λ (o : OutPort). o.sent) os) (map (λ (i : InPort). i.want) is) (map (λ (o : OutPort). o.want) os) (map (λ (o : OutPort). o.wire.shut) os)
+Moments port_state law asking moves first now is os p =
+    Earlier port_state law asking moves p first now (map (λ (i : InPort). i.got) is) (map (λ (o : OutPort). o.sent) os) (map (λ (i : InPort). i.want) is) (map (λ (o : OutPort). o.want) os) (map (λ (o : OutPort). o.wire.shut) os)
+    × LastAsked port_state law asking moves first now (map (λ (i : InPort). i.got) is) (map (λ (o : OutPort). o.sent) os) (map (λ (i : InPort). i.want) is) (map (λ (o : OutPort). o.want) os) (map (λ (o : OutPort). o.wire.shut) os)
 
--- In a picture, by the ports and by the moments of the node's asks: its row of a lawful one, its row of one that rests, and that
+-- In a picture, by the ports and by the moments of the node's asks: its port_state of a lawful one, its port_state of one that rests, and that
 -- the input of a sink is shut exactly where it has ended.
-pub record PictureLaws {N : Type 0} (row : N → View → Type 0) (law : N → N → View → List (List Item) → List (List Item) → Type 0) (asking : N → View → Type 0) (moves : N → List ℕ) (ended : N → Bool)
+pub record PictureLaws {N : Type 0} (port_state : N → View → Type 0) (law : N → N → View → List (List Item) → List (List Item) → Type 0) (asking : N → View → Type 0) (moves : N → List ℕ) (ended : N → Bool)
     (g : Graph) (w : World) (k : ℕ) (n : graph.Node) (first now : N) (is : List InPort) (os : List OutPort) : Type 0 where
   pub lawful : EachPort InStands is → EachPort OutStands os
-      → ((p : ℕ) → 1 ≤ slice_index_or (map (λ (i : InPort). i.want) is) p 0 → Moments row law asking moves first now is os p)
+      → ((p : ℕ) → 1 ≤ slice_index_or (map (λ (i : InPort). i.want) is) p 0 → Moments port_state law asking moves first now is os p)
       → RowLawful g w k n.kind n.decider (map (λ (i : InPort). i.wire) is) (map (λ (o : OutPort). o.wire) os)
   pub rests : EachPort InStands is → EachPort OutStands os → EachPort InRests is → EachPort OutRests os
       → (EachWire IsShut (map (λ (i : InPort). i.wire) is) × EachWire IsShut (map (λ (o : OutPort). o.wire) os)) ⊎ RowRests g w k n.kind n.decider (map (λ (i : InPort). i.wire) is) (map (λ (o : OutPort). o.wire) os)

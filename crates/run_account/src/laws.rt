@@ -28,7 +28,7 @@ ghost use Rattle.run_account.specs.Seats.{Seats, Covers, LanesKeep, LanesRest, j
 use stage_core::stage::Stage;
 
 /// Nets of nodes of any type that is a stage, between two events, in which the nodes and the wires of a blueprint have their
-/// places, keep its laws: each node its row, its law and the moments of its asks, and each wire what it does.
+/// places, keep its laws: each node its port state, its law and the moments of its asks, and each wire what it does.
 pub fn nets_keep<S: Stage>()
     ensures { (g : Graph) (nets : ℕ → Net S) (s : Seats) (asked : ℕ → ℕ) → IsJoined g → Covers g nets s → ((b : ℕ) → Settled S.port_state S.law S.asking S.moves (nets b)) → LanesKeep g nets s asked
         → KeepsLaws S.port_state S.law S.asking S.moves g (joined_account nets s asked) }

@@ -178,7 +178,7 @@ module _ {S D L B : Type 0} (sources : S → SourceState) (drains : D → DrainS
         let within = slice_get-below g.wires u v at in
         let kept = kept_as node_port_state (node_law sources drains book) node_asking node_moves g a run.keeps k n (node.Writing first) (node.Writing now) ni there.at_first there.at_last in
         let ins : (knows g a k n).ins ≡ (a.far u).wire.inp ∷ [] = read_one g inp_of a.far k (inputs_of n.kind) u one found in
-        let row : OneInOf (sink_port_state_in now.started now.end) ((a.far u).wire.inp ∷ []) (knows g a k n).outs = subst (λ (l : List InView). OneInOf (sink_port_state_in now.started now.end) l (knows g a k n).outs) ins kept.row_holds in
+        let row : OneInOf (sink_port_state_in now.started now.end) ((a.far u).wire.inp ∷ []) (knows g a k n).outs = subst (λ (l : List InView). OneInOf (sink_port_state_in now.started now.end) l (knows g a k n).outs) ins kept.port_state_holds in
         let waits : (a.far u).wire.inp ≡ Pulled = sink_waits_as now.started now.end (a.far u).wire.inp (knows g a k n).outs goes row in
         let rests = in_rests u (a.near u) (a.far u) (a.asked u) [] (still.near u within) (still.far u within) (run.keeps.near_marked u within) (run.keeps.far_marked u within) v.lane keeps (still.quiet u v at) in
         (rests.waits waits).1 ∙ sym (resting_same (a.far u).wire false (still.far u within) refl waits)

@@ -133,7 +133,7 @@ module _ (first now : Balancing) (i : InPort) (os : List OutPort) (law : Now fir
       then some = let reach = si.reach in (moments 0 (omega (arith, some, reach))).0
 
       few : (e : Then first now i os) → demand i.wire ≤ elements_all e.given + 1
-      few e = let reach = si.reach in let one = e.one_more in let had = took_all first e.old e.knew e.had e.given e.row_held e.waited e.law_held in omega (arith, reach, one, had)
+      few e = let reach = si.reach in let one = e.one_more in let had = took_all first e.old e.knew e.had e.given e.port_state_held e.waited e.law_held in omega (arith, reach, one, had)
 
       one_more : (demand i.wire ≡ 0) ⊎ (1 ≤ demand i.wire) → demand i.wire ≤ length now.log.moves + 1
       one_more (inl none) = omega (arith, none)

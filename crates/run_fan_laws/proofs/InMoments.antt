@@ -118,7 +118,7 @@ taking_turn first l v had given p r law waits = by l.live refl r
         }
 
 pub turn_of : (first : Taking) (old : InLogic) (v : port.View) (had given : List (List Item)) (p : ℕ) → InPortState old v → InLaw (logic.Taking first) old v had given → in_at v p ≡ Pulled → Turn first.segment p v had given
-turn_of first (logic.Taking l) v had given p r law waits = taking_turn first l v had given p r.row law waits
+turn_of first (logic.Taking l) v had given p r law waits = taking_turn first l v had given p r.ports law waits
 turn_of first (logic.Sorting l) v had given p r law waits = absurd law.same
 turn_of first (logic.Zipping l) v had given p r law waits = absurd law.same
 turn_of first (logic.Merging l) v had given p r law waits = absurd law.same

@@ -120,24 +120,24 @@ module _ (g : Graph) (w : World) (k : ℕ) (d : Decider) (is : List InPort) (o :
     zip_stays f l Closed e r at law s so = inl (all_closed is ri at.0, (ro.shut at.1, tt))
     zip_stays f l Open e r at law s so =
         fan_moved ZipRests is o ri ro law.by.law.ins law.by.law.out_list law.by.law.out_end (law_flows (ZipKeeps (zipping.held l)) (InView_of is o) (gots_of is) (o.sent ∷ []) law.by) (one_list o.sent law.by.given law.by.gave_is ∙ law.by.law.gave_is)
-        (zip_rests is o ri ro so (none_left is l (ap (λ (v : port.View). v.ins) at.0)) s) (logic_rests (logic.Zipping f) (logic.Zipping l) (InView_of is o) (gots_of is) (o.sent ∷ []) r.started r.row law)
+        (zip_rests is o ri ro so (none_left is l (ap (λ (v : port.View). v.ins) at.0)) s) (logic_rests (logic.Zipping f) (logic.Zipping l) (InView_of is o) (gots_of is) (o.sent ∷ []) r.started r.ports law)
 
     taking_stays : (f l : taking.Taking) (P : List picture.SeenWire → picture.SeenWire → Type 0) → TakingRests l.segment ≡ P → Row (logic.Taking l) → Law (logic.Taking f) (logic.Taking l) → (P (map own_in is) (own_out o) → P (Wires is) o.wire)
         → (EachWire IsShut (Wires is) × EachWire IsShut (o.wire ∷ [])) ⊎ P (Wires is) o.wire
     taking_stays f l P by r law move =
         fan_moved P is o ri ro law.by.law.ins law.by.law.out_list law.by.law.out_end (law_flows (FanKeeps (taking_by f.segment) (taking.place_of f) (taking.held l)) (InView_of is o) (gots_of is) (o.sent ∷ []) law.by) (one_list o.sent law.by.given law.by.gave_is ∙ law.by.law.gave_is)
-        move (subst (λ (Q : List picture.SeenWire → picture.SeenWire → Type 0). FanRests Q (InView_of is o) law.by.law.ins law.by.law.out_list) by (logic_rests (logic.Taking f) (logic.Taking l) (InView_of is o) (gots_of is) (o.sent ∷ []) r.started r.row law))
+        move (subst (λ (Q : List picture.SeenWire → picture.SeenWire → Type 0). FanRests Q (InView_of is o) law.by.law.ins law.by.law.out_list) by (logic_rests (logic.Taking f) (logic.Taking l) (InView_of is o) (gots_of is) (o.sent ∷ []) r.started r.ports law))
 
     stays_by : (kd : Kind) (first now : InLogic) → TakesAs kd first → Row now → Law first now → EachPort InStands is → OutStands o → Stays kd
     stays_by (Concat n) (logic.Taking f) (logic.Taking l) t r law s so = taking_stays f l ConcatRests (ap TakingRests (law.same ∙ t.0)) r law (concat_rests is o ri ro)
     stays_by (Interleave n c) (logic.Taking f) (logic.Taking l) t r law s so = taking_stays f l InterleaveRests (ap TakingRests (law.same ∙ t.0)) r law (interleave_rests is o ri ro)
     stays_by MergeSorted (logic.Sorting f) (logic.Sorting l) t r law s so =
         fan_moved SortedRests is o ri ro law.by.law.ins law.by.law.out_list law.by.law.out_end (law_flows (FanKeeps sorting sorted.nowhere (sorted.held l)) (InView_of is o) (gots_of is) (o.sent ∷ []) law.by) (one_list o.sent law.by.given law.by.gave_is ∙ law.by.law.gave_is)
-        (sorted_rests is o ri ro) (logic_rests (logic.Sorting f) (logic.Sorting l) (InView_of is o) (gots_of is) (o.sent ∷ []) r.started r.row law)
-    stays_by Zip (logic.Zipping f) (logic.Zipping l) t r law s so = zip_stays f l l.phase refl r r.row law s so
+        (sorted_rests is o ri ro) (logic_rests (logic.Sorting f) (logic.Sorting l) (InView_of is o) (gots_of is) (o.sent ∷ []) r.started r.ports law)
+    stays_by Zip (logic.Zipping f) (logic.Zipping l) t r law s so = zip_stays f l l.phase refl r r.ports law s so
     stays_by (Merge n) (logic.Merging f) (logic.Merging l) t r law s so =
         fan_moved MergeRests is o ri ro law.by.law.ins law.by.law.out_list law.by.law.out_end (law_flows (MergeKeeps (merging.held l)) (InView_of is o) (gots_of is) (o.sent ∷ []) law.by) (one_list o.sent law.by.given law.by.gave_is ∙ law.by.law.gave_is)
-        (merge_rests is o ri ro) (logic_rests (logic.Merging f) (logic.Merging l) (InView_of is o) (gots_of is) (o.sent ∷ []) r.started r.row law)
+        (merge_rests is o ri ro) (logic_rests (logic.Merging f) (logic.Merging l) (InView_of is o) (gots_of is) (o.sent ∷ []) r.started r.ports law)
     stays_by (Concat n) (logic.Taking f) now t r law s so = absurd law.same
     stays_by (Interleave n c) (logic.Taking f) now t r law s so = absurd law.same
     stays_by MergeSorted (logic.Sorting f) now t r law s so = absurd law.same

@@ -82,7 +82,7 @@ module _ (first now : Taking) (is : List InPort) (o : OutPort) (law : InLaw (log
     where
       asked : (p : ℕ) (v : picture.SeenWire) → slice_get (Wires is) p ≡ Some v → Earlier InPortState InLaw NoAsking in_moves p (logic.Taking first) (logic.Taking now) (gots_of is) (o.sent ∷ []) (Wants is) (o.want ∷ []) (o.wire.shut ∷ []) → FirstShut p (Wires is) × (demand v + (0 + sent_in (take p (Wires is))) ≤ wanted o.wire)
       asked p v at e =
-          let t = turn_of first e.old e.knew e.had e.given p e.row_held e.law_held e.waited in
+          let t = turn_of first e.old e.knew e.had e.given p e.port_state_held e.law_held e.waited in
           let count = t.count in
           let want = e.wants 0 t.asked in
           let wants = so.wants in
@@ -95,7 +95,7 @@ module _ (first now : Taking) (is : List InPort) (o : OutPort) (law : InLaw (log
       bound (inr never) = let none = never_asked is stands never in omega (arith, none)
       bound (inl some) =
           let l = (moments some.0 some.1).1 in
-          let t = turn_of first l.old l.knew l.had l.given l.port l.row_held l.law_held l.waited in
+          let t = turn_of first l.old l.knew l.had l.given l.port l.port_state_held l.law_held l.waited in
           let open_ports : (n : ℕ) → n < length l.knew.ins → slice_index_or l.knew.ins n Cancelled ≢ Cancelled =
           subst (λ (xs : List InView). (n : ℕ) → n < length xs → slice_index_or xs n Cancelled ≢ Cancelled) (sym t.ins) (λ n h. seats_left 0 l.port n t.over true h) in
           let most = turn_ports is law.by.law.ins l.knew.ins l.had t.flows stands taking_flows l.took_on t.came open_ports l.stood in
@@ -169,7 +169,7 @@ module _ (first now : Pairing) (o : OutPort) where
   SortedEarlier is p = Earlier InPortState InLaw NoAsking in_moves p (logic.Sorting first) (logic.Sorting now) (gots_of is) (o.sent ∷ []) (Wants is) (o.want ∷ []) (o.wire.shut ∷ [])
 
   sorted_ask : (i j : InPort) (c d : Inflow) (p : ℕ) → Flows (Views (i ∷ j ∷ [])) (gots_of (i ∷ j ∷ [])) (c ∷ d ∷ []) → SortedEarlier (i ∷ j ∷ []) p → SortedAsk p (sorting.from sorted.nowhere (map flow (c ∷ d ∷ []))) (slice_index_or (Wants (i ∷ j ∷ [])) p 0) (elements o.sent)
-  sorted_ask i j c d p w e = by e.old e.row_held e.law_held
+  sorted_ask i j c d p w e = by e.old e.port_state_held e.law_held
     where
       from : Merge p (sorting.from sorted.nowhere (map flow (c ∷ d ∷ []))) e.had e.given → SortedAsk p (sorting.from sorted.nowhere (map flow (c ∷ d ∷ []))) (slice_index_or (Wants (i ∷ j ∷ [])) p 0) (elements o.sent)
       from m =
@@ -202,7 +202,7 @@ module _ (first now : Pairing) (o : OutPort) where
               ports (x ∷ y ∷ xs) [] ge f = absurd f
               ports (x ∷ y ∷ xs) (a ∷ []) ge f = absurd f.1
               ports (x ∷ y ∷ []) (a ∷ m ∷ []) ge f =
-                  merged first l e.knew e.had e.given p (pair_waits sorted.Sound l e.knew p r.started r.row e.waited) law a m c d h k i.got j.got ge he f.0.0 f.1.0.0 w.0.0 w.1.0.0 b.0 b.1.0
+                  merged first l e.knew e.had e.given p (pair_waits sorted.Sound l e.knew p r.started r.ports e.waited) law a m c d h k i.got j.got ge he f.0.0 f.1.0.0 w.0.0 w.1.0.0 b.0 b.1.0
               ports (x ∷ y ∷ []) (a ∷ m ∷ g ∷ gs) ge f = absurd f.1.1
               ports (x ∷ y ∷ z ∷ xs) (a ∷ m ∷ gs) ge f = absurd f.1.1
 
@@ -224,12 +224,12 @@ module _ (first now : Pairing) (o : OutPort) where
 
   -- one that has asked has two inputs
   sorted_two : (is : List InPort) (p : ℕ) → SortedEarlier is p → length is ≡ 2
-  sorted_two is p e = by e.old e.row_held e.law_held
+  sorted_two is p e = by e.old e.port_state_held e.law_held
     where
       by : (old : InLogic) → InPortState old e.knew → InLaw (logic.Sorting first) old e.knew e.had e.given → length is ≡ 2
       by (logic.Sorting l) r law =
-          let waits = pair_waits sorted.Sound l e.knew p r.started r.row e.waited in
-          let row = subst (λ f. port_state_by sorted.Sound f l e.knew) waits.is_open r.row in
+          let waits = pair_waits sorted.Sound l e.knew p r.started r.ports e.waited in
+          let row = subst (λ f. port_state_by sorted.Sound f l e.knew) waits.is_open r.ports in
           let ins = ap (λ (v : port.View). length v.ins) row.0 in
           let ports = law.by.ports in
           let had = begun_length e.had (gots_of is) e.took_on in
@@ -321,7 +321,7 @@ module _ (first now : Pairing) (o : OutPort) where
           omega (arith, here, count, whole, none, gives, even)
 
   zip_ask : (is : List InPort) (p : ℕ) → ZipEarlier is p → slice_index_or (Wants is) p 0 ≤ elements o.sent + 1
-  zip_ask is p e = by e.old e.row_held e.law_held
+  zip_ask is p e = by e.old e.port_state_held e.law_held
     where
       given_on : (hs : List (List Item)) → AllBegin hs (o.sent ∷ []) → elements (slice_index_or hs 0 []) ≤ elements o.sent
       given_on [] b = absurd b
@@ -330,7 +330,7 @@ module _ (first now : Pairing) (o : OutPort) where
 
       by : (old : InLogic) → InPortState old e.knew → InLaw (logic.Zipping first) old e.knew e.had e.given → slice_index_or (Wants is) p 0 ≤ elements o.sent + 1
       by (logic.Zipping l) r law =
-          let waits = pair_waits zipping.Sound l e.knew p r.started r.row e.waited in
+          let waits = pair_waits zipping.Sound l e.knew p r.started r.ports e.waited in
           let keeps = subst (λ f. ZipKeeps (zipping.held_by f l) law.by.law.ins law.by.law.out_list law.by.law.out_end) waits.is_open law.by.law.keeps in
           let flows = law_flows (ZipKeeps (zipping.held l)) e.knew e.had e.given law.by in
           let all = zip_gave l p e.knew.ins e.had law.by.law.ins law.by.law.out_list law.by.law.out_end waits keeps flows in

@@ -138,14 +138,14 @@ module _ (first now : Merging) (is : List InPort) (o : OutPort) (law : InLaw (lo
       (merge_history_stands (merging.held now) (InView_of is o) (λ i. slice_index_or (gots_of is) i []) law.by.given law.by.law)
 
   asked : (p : ℕ) → Earlier InPortState InLaw NoAsking in_moves p (logic.Merging first) (logic.Merging now) (gots_of is) (o.sent ∷ []) (Wants is) (o.want ∷ []) (o.wire.shut ∷ []) → slice_index_or (Wants is) p 0 ≤ count_of p now.log.moves + 1
-  asked p e = by e.old e.row_held e.law_held e.moves_on
+  asked p e = by e.old e.port_state_held e.law_held e.moves_on
     where
       by : (old : InLogic) → InPortState old e.knew → InLaw (logic.Merging first) old e.knew e.had e.given → IsPrefix (in_moves old) now.log.moves → slice_index_or (Wants is) p 0 ≤ count_of p now.log.moves + 1
       by (logic.Taking l) r law on = absurd law.same
       by (logic.Sorting l) r law on = absurd law.same
       by (logic.Zipping l) r law on = absurd law.same
       by (logic.Merging l) r law on =
-          let whole = merge_whole first l e.knew e.had e.given p r.started r.row law e.waited in
+          let whole = merge_whole first l e.knew e.had e.given p r.started r.ports law e.waited in
           let one = e.one_more in
           let grown = count_prefix p l.log.moves now.log.moves on in
           omega (arith, whole, one, grown)

@@ -210,7 +210,7 @@ module _ (book : Book) (f l : CopyLogic) (i : InPort) (os : List OutPort) (law :
       then some = let reach = si.reach in (moments 0 (omega (arith, some, reach))).0
 
       ask : (e : Then (Copies f) (Copies l) i os) → CopyAsk (Copies f) (Copies l) i os e
-      ask e = copy_ask_of book (Copies f) (Copies l) i os e f refl e.old e.row_held e.law_held
+      ask e = copy_ask_of book (Copies f) (Copies l) i os e f refl e.old e.port_state_held e.law_held
 
       few : (e : Then (Copies f) (Copies l) i os) (a : CopyAsk (Copies f) (Copies l) i os e) → demand i.wire ≤ a.count + 1
       few e a = let reach = si.reach in let one = e.one_more in let had = a.had in omega (arith, reach, one, had)
@@ -336,7 +336,7 @@ module _ (book : Book) (node n : ℕ) (f : MapFn) where
         then some = let reach = si.reach in (moments 0 (omega (arith, some, reach))).0
 
         ask : (e : Then (Deals g) (Deals l) i os) → DealAsk (Deals g) (Deals l) i os e
-        ask e = deal_ask_of (Deals g) (Deals l) i os si started lasts c.list c.end got e g refl e.old e.row_held e.law_held
+        ask e = deal_ask_of (Deals g) (Deals l) i os si started lasts c.list c.end got e g refl e.old e.port_state_held e.law_held
 
         few : (e : Then (Deals g) (Deals l) i os) (a : DealAsk (Deals g) (Deals l) i os e) → demand i.wire ≤ length a.list + 1
         few e a = let reach = si.reach in let one = e.one_more in let had = a.had in omega (arith, reach, one, had)

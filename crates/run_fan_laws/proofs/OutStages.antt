@@ -36,12 +36,12 @@ balance_same a b e = cc
 
 machines_stand : (first : OutMachines) (old : OutLogic) (v : View) (took gave : List (List Item)) → port_state old v → OutLaw (Machines first) old v took gave
     → Stands port_state OutLaw OutAsking no_moves no_moves machines.port_state MachinesLaw NoAsking Machines machines_same first old v took gave
-machines_stand first (Machines l) v took gave r law = record { stage = l; is = refl; row_holds = r; law_holds = law; asking_holds = λ a. tt; moves_on = λ now on. on }
+machines_stand first (Machines l) v took gave r law = record { stage = l; is = refl; port_state_holds = r; law_holds = law; asking_holds = λ a. tt; moves_on = λ now on. on }
 machines_stand first (Balances l) v took gave r law = absurd law
 
 balance_stand : (first : Balancing) (old : OutLogic) (v : View) (took gave : List (List Item)) → port_state old v → OutLaw (Balances first) old v took gave
     → Stands port_state OutLaw OutAsking no_moves no_moves balance.port_state BalancesAs BalanceAsking Balances balance_same first old v took gave
-balance_stand first (Balances l) v took gave r law = record { stage = l; is = refl; row_holds = r; law_holds = law; asking_holds = λ a. a; moves_on = λ now on. on }
+balance_stand first (Balances l) v took gave r law = record { stage = l; is = refl; port_state_holds = r; law_holds = law; asking_holds = λ a. a; moves_on = λ now on. on }
 balance_stand first (Machines l) v took gave r law = absurd law
 
 -- ---- a picture

@@ -189,7 +189,7 @@ module _ {S D L B : Type 0} (sources : S → SourceState) (drains : D → DrainS
     each = sink_each drains first now (knows g a k n) (took g a k n) (gave g a k n) law nothing (writes_each k n name first now ni is at)
 
     row_here : OneInOf (sink_port_state_in now.started now.end) ((a.far u).wire.inp ∷ []) (knows g a k n).outs
-    row_here = subst (λ (l : List InView). OneInOf (sink_port_state_in now.started now.end) l (knows g a k n).outs) wire.ins (sink_at k n first now ni at).row_holds
+    row_here = subst (λ (l : List InView). OneInOf (sink_port_state_in now.started now.end) l (knows g a k n).outs) wire.ins (sink_at k n first now ni at).port_state_holds
 
     seen : TookAs (a.far u).wire.inp law.in_end
     seen = subst (λ (x : InView). TookAs x law.in_end) (ap (λ (l : List InView). get_or l 0 Cancelled) wire.ins) law.took_as
@@ -285,7 +285,7 @@ module _ {S D L B : Type 0} (sources : S → SourceState) (drains : D → DrainS
         let law : IgnoreLaw first now (knows g a k n) (took g a k n) (gave g a k n) = m.law_holds in
         let its : FirstIgnoring k n.kind first = run.made k n (Ignoring first) ni at.at_first in
         let wire = one_wire k n u v ni (ap inputs_of its.kind_is) ui to in
-        let here : OneInOf (ignore_port_state_in now.started now.end) ((a.far u).wire.inp ∷ []) (knows g a k n).outs = subst (λ (l : List InView). OneInOf (ignore_port_state_in now.started now.end) l (knows g a k n).outs) wire.ins m.row_holds in
+        let here : OneInOf (ignore_port_state_in now.started now.end) ((a.far u).wire.inp ∷ []) (knows g a k n).outs = subst (λ (l : List InView). OneInOf (ignore_port_state_in now.started now.end) l (knows g a k n).outs) wire.ins m.port_state_holds in
         let seen : TookAs (a.far u).wire.inp law.in_end = subst (λ (x : InView). TookAs x law.in_end) (ap (λ (l : List InView). get_or l 0 Cancelled) wire.ins) law.took_as in
         let got : (a.far u).wire.got ≡ told law.elems law.in_end = heads_same (a.far u).wire.got (told law.elems law.in_end) (sym wire.came ∙ law.took_is) in
         let came : Agrees (comes_in k) law.elems law.in_end = input_agrees k n law.elems law.in_end ni (ap inputs_of its.kind_is) law.took_is in

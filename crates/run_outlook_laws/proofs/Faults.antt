@@ -52,7 +52,7 @@ module _ {S D L B : Type 0} (sources : S → SourceState) (drains : D → DrainS
   -- when it asked last it stood otherwise, since it waited
   stood_otherwise : e.had ≡ got ∷ [] → ⊥
   stood_otherwise same =
-      let row : sink_port_state now e.knew = subst (λ (x : IslandNode S D L B). node_port_state x e.knew) (sym (e.stays refl refl same)) e.row_held in
+      let row : sink_port_state now e.knew = subst (λ (x : IslandNode S D L B). node_port_state x e.knew) (sym (e.stays refl refl same)) e.port_state_held in
       let here : OneInOf (sink_port_state_in now.started WriteFault) e.knew.ins e.knew.outs = rw fault at row in
       no_wait now.started e.knew.ins e.knew.outs here e.waited
 

@@ -115,4 +115,4 @@ module _ (first now : Dropping) (i : InPort) (o : OutPort) (law : DropsAs first 
 
   pub drops_rest : InStands i → InRests i → OutRests o → DropPortState now Ports
       → (EachWire IsShut (i.wire ∷ []) × EachWire IsShut (o.wire ∷ [])) ⊎ DroppingRests (nothing_held (buffered first.policy first.size now.moves i.wire.list empty_buffer).held) i.wire o.wire
-  drops_rest si ri ro r = drops_stay si ri ro (ports_by now now.phase now.over now.asked i.view o.view refl r.started r.row)
+  drops_rest si ri ro r = drops_stay si ri ro (ports_by now now.phase now.over now.asked i.view o.view refl r.started r.ports)

@@ -119,7 +119,7 @@ module _ {S D : Type 0} (L B : Type 0) (sources : S → SourceState) (drains : D
     | inr some ↦
         let e = (moments 0 some).0 in
         let b = began e.had i.got i.want e.took_on e.one_more in
-        let none : elements b.part ≡ 0 = ap elements (first_moment first e.old e.knew e.had e.given b.part is e.row_held e.law_held e.waited b.is) in
+        let none : elements b.part ≡ 0 = ap elements (first_moment first e.old e.knew e.had e.given b.part is e.port_state_held e.law_held e.waited b.is) in
         let reach = s.reach in
         let one = b.one_more in
         omega (arith, none, reach, one)

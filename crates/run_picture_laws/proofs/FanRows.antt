@@ -33,12 +33,12 @@ module _ {S D L B : Type 0} (sources : S → SourceState) (drains : D → DrainS
 
   in_stands : (first : InLogic) (old : IslandNode S D L B) (v : View) (took gave : List (List Item)) → node_port_state old v → node_law sources drains w.book (FanIn first) old v took gave
       → Stands node_port_state (node_law sources drains w.book) node_asking node_moves in_moves InPortState InLaw NoAsking FanIn in_same first old v took gave
-  in_stands first (FanIn l) v took gave r law = record { stage = l; is = refl; row_holds = r; law_holds = law; asking_holds = λ a. tt; moves_on = λ now on. on }
+  in_stands first (FanIn l) v took gave r law = record { stage = l; is = refl; port_state_holds = r; law_holds = law; asking_holds = λ a. tt; moves_on = λ now on. on }
   in_stands first old v took gave r law = absurd law
 
   out_stands : (first : OutLogic) (old : IslandNode S D L B) (v : View) (took gave : List (List Item)) → node_port_state old v → node_law sources drains w.book (FanOut first) old v took gave
       → Stands node_port_state (node_law sources drains w.book) node_asking node_moves no_moves out.port_state OutLaw OutAsking FanOut out_same first old v took gave
-  out_stands first (FanOut l) v took gave r law = record { stage = l; is = refl; row_holds = r; law_holds = law; asking_holds = λ a. a; moves_on = λ now on. record { rest = []; is = refl } }
+  out_stands first (FanOut l) v took gave r law = record { stage = l; is = refl; port_state_holds = r; law_holds = law; asking_holds = λ a. a; moves_on = λ now on. record { rest = []; is = refl } }
   out_stands first old v took gave r law = absurd law
 
   pub fan_in_picture : (first x : InLogic) (is : List InPort) (os : List OutPort) → PictureLaws InPortState InLaw NoAsking in_moves never_ends g w k n first x is os → Laws (FanIn first) (FanIn x) is os

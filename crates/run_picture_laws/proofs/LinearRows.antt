@@ -67,7 +67,7 @@ record Moment (book : Book) (k : ℕ) (n : graph.Node) (first : Logic) (v : View
 
 moment_of : (book : Book) (k : ℕ) (n : graph.Node) (first l : Logic) (v : View) (took gave : List (List Item)) → FirstLinear k n first → LinearPortState l v → LinearLaw book first l v took gave → in_at v 0 ≡ Pulled → Moment book k n first v took gave
 moment_of book k n first l v took gave f r law waits =
-    let o = one_views (port_state_in l.phase l.course l.pending l.stage.work l.ready) v r.row in
+    let o = one_views (port_state_in l.phase l.course l.pending l.stage.work l.ready) v r.ports in
     let s = waits_busy l o.x o.y (linear_ports l.phase l.course l.pending l.stage.work l.ready o.x o.y r.started o.holds) (sym o.inp ∙ waits) in
     record {
       asked = o.out ∙ s.1.0;
@@ -97,7 +97,7 @@ module _ {S D : Type 0} (L B : Type 0) (sources : S → SourceState) (drains : D
         × (length (run (linear w.book first.stage.work) (begin_work k n.decider first.stage.work) (take (demand i.wire - 1) i.wire.list)).gave < wanted o.wire)
     asked_then si so m some =
         let e = m.0 in
-        let t = moment_by first e.old e.knew e.had e.given f e.row_held e.law_held e.waited in
+        let t = moment_by first e.old e.knew e.had e.given f e.port_state_held e.law_held e.waited in
         let b = began e.had i.got i.want e.took_on e.one_more in
         let q = given_one e.given o.sent o.want e.gave_on (e.wants 0 t.asked) in
         stage_asked (linear w.book first.stage.work) (begin_work k n.decider first.stage.work) i o si so at.in_list at.in_end at.took_is b.part q.0 (t.waited b.part q.0 b.is q.1.0) b.begins b.one_more q.1.1.1 some
@@ -120,14 +120,14 @@ module _ {S D : Type 0} (L B : Type 0) (sources : S → SourceState) (drains : D
         stage_given (linear w.book first.stage.work) (begin_work k n.decider first.stage.work) (held w.book x) i o at si.0 so.0,
         λ some. asked_then si.0 so.0 (m 0 (reached i si.0 some)) some,
       );
-      rests = λ si so ri ro. still si.0 so.0 ri.0 ro.0 (linear_ports x.phase x.course x.pending x.stage.work x.ready i.view o.view r.started r.row);
+      rests = λ si so ri ro. still si.0 so.0 ri.0 ro.0 (linear_ports x.phase x.course x.pending x.stage.work x.ready i.view o.view r.started r.ports);
       matches = λ sink ri. absurd (not_both machine.no_sink sink);
     }
 
   pub linear_picture : (first x : Logic) (is : List InPort) (os : List OutPort) → FirstLinear k n first → LinearPortState x (record { ins = map (λ (i : InPort). i.view) is; outs = map (λ (o : OutPort). o.view) os })
       → LinearLaw w.book first x (record { ins = map (λ (i : InPort). i.view) is; outs = map (λ (o : OutPort). o.view) os }) (map (λ (i : InPort). i.got) is) (map (λ (o : OutPort). o.sent) os) → Laws (Linear first) (Linear x) is os
   linear_picture first x (i ∷ []) (o ∷ []) f r law = one_picture first x i o f r law
-  linear_picture first x [] os f r law = absurd r.row
-  linear_picture first x (i ∷ []) [] f r law = absurd r.row
-  linear_picture first x (i ∷ []) (o ∷ p ∷ os) f r law = absurd r.row
-  linear_picture first x (i ∷ j ∷ is) os f r law = absurd r.row
+  linear_picture first x [] os f r law = absurd r.ports
+  linear_picture first x (i ∷ []) [] f r law = absurd r.ports
+  linear_picture first x (i ∷ []) (o ∷ p ∷ os) f r law = absurd r.ports
+  linear_picture first x (i ∷ j ∷ is) os f r law = absurd r.ports

@@ -198,4 +198,4 @@ module _ (first now : Recover) (i : InPort) (o : OutPort) (law : RecoversAs firs
   recover_stays si so ri ro (gone xi yo) = inl ((ri.shut xi, tt), (ro.shut yo, tt))
 
   pub recover_rests : InStands i → OutStands o → InRests i → OutRests o → RecoverPortState now Ports → Still
-  recover_rests si so ri ro r = recover_stays si so ri ro (recover_ports now i.view o.view r.started r.row)
+  recover_rests si so ri ro r = recover_stays si so ri ro (recover_ports now i.view o.view r.started r.ports)

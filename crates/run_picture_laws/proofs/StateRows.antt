@@ -209,11 +209,11 @@ module _ {S D : Type 0} (L B : Type 0) (sources : S → SourceState) (drains : D
   -- its kind stays the same
   record StateNow (first : Logic) (v : View) (took gave : List (List Item)) : Type 0 where
     now : Logic
-    row_holds : MachinePortState now v
+    port_state_holds : MachinePortState now v
     law_holds : MachineLaw first now v took gave
 
   state_now : (first : Logic) (x : IslandNode S D L B) (v : View) (took gave : List (List Item)) → node_port_state x v → node_law sources drains w.book (node.State (Machine first)) x v took gave → StateNow first v took gave
-  state_now first (node.State (Machine x)) v took gave r law = record { now = x; row_holds = r; law_holds = law }
+  state_now first (node.State (Machine x)) v took gave r law = record { now = x; port_state_holds = r; law_holds = law }
   state_now first x v took gave r law = absurd law
 
   keeps_ports : (l first : Logic) (x : InView) (y : OutView) → l.size ≡ first.size → first.size ≡ None → l.phase ≢ New → port_state_by l.size l.phase l.ending l.asked l.pending l.stage.work x y → KeepPorts l.phase l.ending l.pending x y
@@ -248,9 +248,9 @@ module _ {S D : Type 0} (L B : Type 0) (sources : S → SourceState) (drains : D
           × (length (run (linear w.book first.stage.work) (begin_work k n.decider first.stage.work) (take (demand i.wire - 1) i.wire.list)).gave < wanted o.wire)
       keeps_asked si so m some =
           let e = m.0 in
-          let l = state_now first e.old e.knew e.had e.given e.row_held e.law_held in
-          let p = one_views (port_state_by l.now.size l.now.phase l.now.ending l.now.asked l.now.pending l.now.stage.work) e.knew l.row_holds.row in
-          let ports = keeps_ports l.now first p.x p.y l.law_holds.size c.size l.row_holds.started p.holds in
+          let l = state_now first e.old e.knew e.had e.given e.port_state_held e.law_held in
+          let p = one_views (port_state_by l.now.size l.now.phase l.now.ending l.now.asked l.now.pending l.now.stage.work) e.knew l.port_state_holds.ports in
+          let ports = keeps_ports l.now first p.x p.y l.law_holds.size c.size l.port_state_holds.started p.holds in
           let was = waits_busy l.now p.x p.y ports (sym p.inp ∙ e.waited) in
           let asked : out_at e.knew 0 ≡ Available = p.out ∙ was.1.1.1 in
           let b = began e.had i.got i.want e.took_on e.one_more in
@@ -274,7 +274,7 @@ module _ {S D : Type 0} (L B : Type 0) (sources : S → SourceState) (drains : D
           stage_given (linear w.book first.stage.work) (begin_work k n.decider first.stage.work) (held x) i o kept si.0 so.0,
           λ some. keeps_asked si.0 so.0 (m 0 (reached i si.0 some)) some,
         );
-        rests = λ si so ri ro. keeps_rest si.0 so.0 ri.0 ro.0 (keeps_ports x first i.view o.view law.size c.size r.started r.row);
+        rests = λ si so ri ro. keeps_rest si.0 so.0 ri.0 ro.0 (keeps_ports x first i.view o.view law.size c.size r.started r.ports);
         matches = λ sink ri. absurd (not_both machine.no_sink sink);
       }
 
@@ -287,9 +287,9 @@ module _ {S D : Type 0} (L B : Type 0) (sources : S → SourceState) (drains : D
       buffers_asked : InStands i → OutStands o → LastAsks → demand i.wire ≤ o.wire.sent + c.room
       buffers_asked si so m =
           let e = m.0 in
-          let l = state_now first e.old e.knew e.had e.given e.row_held e.law_held in
-          let p = one_views (port_state_by l.now.size l.now.phase l.now.ending l.now.asked l.now.pending l.now.stage.work) e.knew l.row_holds.row in
-          let ports = buffers_ports c.room l.now first p.x p.y l.law_holds.size c.size l.row_holds.started p.holds in
+          let l = state_now first e.old e.knew e.had e.given e.port_state_held e.law_held in
+          let p = one_views (port_state_by l.now.size l.now.phase l.now.ending l.now.asked l.now.pending l.now.stage.work) e.knew l.port_state_holds.ports in
+          let ports = buffers_ports c.room l.now first p.x p.y l.law_holds.size c.size l.port_state_holds.started p.holds in
           let was = waits_roomy c.room l.now.phase l.now.ending l.now.pending p.x p.y ports (sym p.inp ∙ e.waited) in
           let b = began e.had i.got i.want e.took_on e.one_more in
           let q = begins_one e.given o.sent e.gave_on in
@@ -342,7 +342,7 @@ module _ {S D : Type 0} (L B : Type 0) (sources : S → SourceState) (drains : D
       buffers_picture : Laws (node.State (Machine first)) (node.State (Machine x)) (i ∷ []) (o ∷ [])
       buffers_picture = record {
         lawful = λ si so m. subst (λ (kd : Kind). RowLawful g w k kd n.decider (i.wire ∷ []) (o.wire ∷ [])) (sym c.kind_is) (buffer_given c.room first.stage (held x) i o si.0 so.0 buffered, buffers_demand si.0 so.0 m (demand i.wire) refl);
-        rests = λ si so ri ro. in_row (buffer_rest si.0 so.0 ri.0 ro.0 (buffers_ports c.room x first i.view o.view law.size c.size r.started r.row));
+        rests = λ si so ri ro. in_row (buffer_rest si.0 so.0 ri.0 ro.0 (buffers_ports c.room x first i.view o.view law.size c.size r.started r.ports));
         matches = λ sink ri. let no : is_sink (Buffer c.room Backpressure) ≡ true = rw c.kind_is at sink in cc;
       }
 
@@ -379,11 +379,11 @@ module _ {S D : Type 0} (L B : Type 0) (sources : S → SourceState) (drains : D
 
   record RecoverNow (first : Recover) (v : View) (took gave : List (List Item)) : Type 0 where
     now : Recover
-    row_holds : RecoverPortState now v
+    port_state_holds : RecoverPortState now v
     law_holds : RecoversAs first now v took gave
 
   recover_now : (first : Recover) (x : IslandNode S D L B) (v : View) (took gave : List (List Item)) → node_port_state x v → node_law sources drains w.book (node.State (Recovering first)) x v took gave → RecoverNow first v took gave
-  recover_now first (node.State (Recovering x)) v took gave r law = record { now = x; row_holds = r; law_holds = law }
+  recover_now first (node.State (Recovering x)) v took gave r law = record { now = x; port_state_holds = r; law_holds = law }
   recover_now first x v took gave r law = absurd law
 
   module _ (first x : Recover) (i : InPort) (o : OutPort) (begins : BeginsAs n.kind k n.decider (Recovering first)) (same : w.moves k ≡ x.moves) (r : RecoverPortState x (record { ins = i.view ∷ []; outs = o.view ∷ [] }))
@@ -398,9 +398,9 @@ module _ {S D : Type 0} (L B : Type 0) (sources : S → SourceState) (drains : D
     recover_asked : InStands i → OutStands o → LastAsk → demand i.wire ≤ wanted o.wire
     recover_asked si so m =
         let e = m.0 in
-        let l = recover_now first e.old e.knew e.had e.given e.row_held e.law_held in
-        let p = one_views (recover_at l.now l.now.phase l.now.over l.now.asked) e.knew l.row_holds.row in
-        let ports = recover_ports l.now p.x p.y l.row_holds.started p.holds in
+        let l = recover_now first e.old e.knew e.had e.given e.port_state_held e.law_held in
+        let p = one_views (recover_at l.now l.now.phase l.now.over l.now.asked) e.knew l.port_state_holds.ports in
+        let ports = recover_ports l.now p.x p.y l.port_state_holds.started p.holds in
         let was = waits_asked l.now p.x p.y ports (sym p.inp ∙ e.waited) in
         let asked : out_at e.knew 0 ≡ Available = p.out ∙ was.1.1 in
         let b = began e.had i.got i.want e.took_on e.one_more in
@@ -447,32 +447,32 @@ module _ {S D : Type 0} (L B : Type 0) (sources : S → SourceState) (drains : D
   NotOne x is os = StatePortState x (record { ins = map (λ (i : InPort). i.view) is; outs = map (λ (o : OutPort). o.view) os }) → ⊥
 
   no_input : (x : StateLogic) (os : List OutPort) → NotOne x [] os
-  no_input (Machine x) os r = r.row
-  no_input (Dropping x) os r = r.row
-  no_input (Recovering x) os r = r.row
-  no_input (Obeying x) os r = r.row.0
-  no_input (Tripping x) os r = r.row
+  no_input (Machine x) os r = r.ports
+  no_input (Dropping x) os r = r.ports
+  no_input (Recovering x) os r = r.ports
+  no_input (Obeying x) os r = r.ports.0
+  no_input (Tripping x) os r = r.ports
 
   no_output : (x : StateLogic) (i : InPort) → NotOne x (i ∷ []) []
-  no_output (Machine x) i r = r.row
-  no_output (Dropping x) i r = r.row
-  no_output (Recovering x) i r = r.row
-  no_output (Obeying x) i r = r.row.0
-  no_output (Tripping x) i r = r.row
+  no_output (Machine x) i r = r.ports
+  no_output (Dropping x) i r = r.ports
+  no_output (Recovering x) i r = r.ports
+  no_output (Obeying x) i r = r.ports.0
+  no_output (Tripping x) i r = r.ports
 
   two_outputs : (x : StateLogic) (i : InPort) (o p : OutPort) (os : List OutPort) → NotOne x (i ∷ []) (o ∷ p ∷ os)
-  two_outputs (Machine x) i o p os r = r.row
-  two_outputs (Dropping x) i o p os r = r.row
-  two_outputs (Recovering x) i o p os r = r.row
-  two_outputs (Obeying x) i o p os r = r.row.0
-  two_outputs (Tripping x) i o p os r = r.row
+  two_outputs (Machine x) i o p os r = r.ports
+  two_outputs (Dropping x) i o p os r = r.ports
+  two_outputs (Recovering x) i o p os r = r.ports
+  two_outputs (Obeying x) i o p os r = r.ports.0
+  two_outputs (Tripping x) i o p os r = r.ports
 
   two_inputs : (x : StateLogic) (i j : InPort) (is : List InPort) (os : List OutPort) → NotOne x (i ∷ j ∷ is) os
-  two_inputs (Machine x) i j is os r = r.row
-  two_inputs (Dropping x) i j is os r = r.row
-  two_inputs (Recovering x) i j is os r = r.row
-  two_inputs (Obeying x) i j is os r = r.row.0
-  two_inputs (Tripping x) i j is os r = r.row
+  two_inputs (Machine x) i j is os r = r.ports
+  two_inputs (Dropping x) i j is os r = r.ports
+  two_inputs (Recovering x) i j is os r = r.ports
+  two_inputs (Obeying x) i j is os r = r.ports.0
+  two_inputs (Tripping x) i j is os r = r.ports
 
   pub state_picture : (first x : StateLogic) (is : List InPort) (os : List OutPort) → FirstState k n first → Told w k x → StatePortState x (record { ins = map (λ (i : InPort). i.view) is; outs = map (λ (o : OutPort). o.view) os })
       → StateLaw first x (record { ins = map (λ (i : InPort). i.view) is; outs = map (λ (o : OutPort). o.view) os }) (map (λ (i : InPort). i.got) is) (map (λ (o : OutPort). o.sent) os) → Laws (node.State first) (node.State x) is os

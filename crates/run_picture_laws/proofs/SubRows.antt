@@ -101,11 +101,11 @@ module _ {S D : Type 0} (L B : Type 0) (sources : S → SourceState) (drains : D
   -- its kind stays the same
   record SubNow (first : Logic Line) (v : View) (took gave : List (List Item)) : Type 0 where
     now : Logic Line
-    row_holds : SubPortState line_rest line_is_open now v
+    port_state_holds : SubPortState line_rest line_is_open now v
     law_holds : SubLaw line_rest line_is_open line_whole first now v took gave
 
   sub_now : (first : Logic Line) (x : IslandNode S D L B) (v : View) (took gave : List (List Item)) → node_port_state x v → node_law sources drains w.book (Sub first) x v took gave → SubNow first v took gave
-  sub_now first (Sub x) v took gave r law = record { now = x; row_holds = r; law_holds = law }
+  sub_now first (Sub x) v took gave r law = record { now = x; port_state_holds = r; law_holds = law }
   sub_now first x v took gave r law = absurd law
 
   abbrev Laws : IslandNode S D L B → IslandNode S D L B → List InPort → List OutPort → Type 0
@@ -134,7 +134,7 @@ module _ {S D : Type 0} (L B : Type 0) (sources : S → SourceState) (drains : D
         → (out_at v 0 ≡ Available) × ((t h : List Item) → took ≡ t ∷ [] → gave ≡ h ∷ [] → Waited m start t h)
     waits_at now v took gave r law waits =
         let its = tells_at now v took gave law in
-        let all = waiting_gave line_rest line_is_open (list_function w.book (chain_of k (steps_of (chain_name n.kind) g.chains))) yields m start law.took_list law.gave_list now its.held v r.started its.owes r.row waits its.law in (
+        let all = waiting_gave line_rest line_is_open (list_function w.book (chain_of k (steps_of (chain_name n.kind) g.chains))) yields m start law.took_list law.gave_list now its.held v r.started its.owes r.ports waits its.law in (
           all.asked,
           λ t h ti gi. record {
             in_list = its.law.in_list;
@@ -171,8 +171,8 @@ module _ {S D : Type 0} (L B : Type 0) (sources : S → SourceState) (drains : D
           → (is_going (run m start (take (demand i.wire - 1) i.wire.list)).state ≡ true) × (length (run m start (take (demand i.wire - 1) i.wire.list)).gave < wanted o.wire)
       asked_then si so last some =
           let e = last.0 in
-          let l = sub_now first e.old e.knew e.had e.given e.row_held e.law_held in
-          let s = waits_at l.now e.knew e.had e.given l.row_holds l.law_holds e.waited in
+          let l = sub_now first e.old e.knew e.had e.given e.port_state_held e.law_held in
+          let s = waits_at l.now e.knew e.had e.given l.port_state_holds l.law_holds e.waited in
           let b = began e.had i.got i.want e.took_on e.one_more in
           let q = given_one e.given o.sent o.want e.gave_on (e.wants 0 s.0) in
           stage_asked m start i o si so at.in_list at.in_end at.took_is b.part q.0 (s.1 b.part q.0 b.is q.1.0) b.begins b.one_more q.1.1.1 some
@@ -195,14 +195,14 @@ module _ {S D : Type 0} (L B : Type 0) (sources : S → SourceState) (drains : D
           stage_given m start its.held i o at si.0 so.0,
           λ some. asked_then si.0 so.0 (last 0 (reached i si.0 some)) some,
         ));
-        rests = λ si so ri ro. still si.0 so.0 ri.0 ro.0 (sub_ports x.phase x.over x.asked x.pending i.view o.view r.started r.row);
+        rests = λ si so ri ro. still si.0 so.0 ri.0 ro.0 (sub_ports x.phase x.over x.asked x.pending i.view o.view r.started r.ports);
         matches = λ sink ri. absurd (not_both f.kind.no_sink sink);
       }
 
   pub sub_picture : (first x : Logic Line) (is : List InPort) (os : List OutPort) → FirstSub g.chains k n first → SubPortState line_rest line_is_open x (record { ins = map (λ (i : InPort). i.view) is; outs = map (λ (o : OutPort). o.view) os })
       → SubLaw line_rest line_is_open line_whole first x (record { ins = map (λ (i : InPort). i.view) is; outs = map (λ (o : OutPort). o.view) os }) (map (λ (i : InPort). i.got) is) (map (λ (o : OutPort). o.sent) os) → Laws (Sub first) (Sub x) is os
   sub_picture first x (i ∷ []) (o ∷ []) made r law = one_picture first made x i o r law
-  sub_picture first x [] os made r law = absurd r.row
-  sub_picture first x (i ∷ []) [] made r law = absurd r.row
-  sub_picture first x (i ∷ []) (o ∷ p ∷ os) made r law = absurd r.row
-  sub_picture first x (i ∷ j ∷ is) os made r law = absurd r.row
+  sub_picture first x [] os made r law = absurd r.ports
+  sub_picture first x (i ∷ []) [] made r law = absurd r.ports
+  sub_picture first x (i ∷ []) (o ∷ p ∷ os) made r law = absurd r.ports
+  sub_picture first x (i ∷ j ∷ is) os made r law = absurd r.ports

@@ -129,11 +129,11 @@ module _ {S D : Type 0} (L B : Type 0) (sources : S → SourceState) (drains : D
   -- its kind stays the same
   record ValveNow (first : Valve) (v : View) (took gave : List (List Item)) : Type 0 where
     now : Valve
-    row_holds : ValvePortState now v
+    port_state_holds : ValvePortState now v
     law_holds : ValveAs first now v took gave
 
   valve_now : (first : Valve) (x : IslandNode S D L B) (v : View) (took gave : List (List Item)) → node_port_state x v → node_law sources drains w.book (node.State (Obeying first)) x v took gave → ValveNow first v took gave
-  valve_now first (node.State (Obeying x)) v took gave r law = record { now = x; row_holds = r; law_holds = law }
+  valve_now first (node.State (Obeying x)) v took gave r law = record { now = x; port_state_holds = r; law_holds = law }
   valve_now first x v took gave r law = absurd law
 
   module _ (first x : Valve) (i : InPort) (o : OutPort) (begins : BeginsAs n.kind k n.decider (Obeying first)) (same : w.moves k ≡ x.moves) (r : ValvePortState x (record { ins = i.view ∷ []; outs = o.view ∷ [] }))
@@ -155,11 +155,11 @@ module _ {S D : Type 0} (L B : Type 0) (sources : S → SourceState) (drains : D
     valve_asked : InStands i → OutStands o → LastAsk → demand i.wire ≤ wanted o.wire
     valve_asked si so m =
         let e = m.0 in
-        let l = valve_now first e.old e.knew e.had e.given e.row_held e.law_held in
-        let asked = (valve_waits first l.now e.knew e.had e.given l.row_holds l.law_holds e.waited).0 in
+        let l = valve_now first e.old e.knew e.had e.given e.port_state_held e.law_held in
+        let asked = (valve_waits first l.now e.knew e.had e.given l.port_state_holds l.law_holds e.waited).0 in
         let b = began e.had i.got i.want e.took_on e.one_more in
         let q = given_one e.given o.sent o.want e.gave_on (e.wants 0 asked) in
-        let all = passed_all first l.now e.knew e.had e.given l.law_holds b.part q.0 b.is q.1.0 l.row_holds e.waited in
+        let all = passed_all first l.now e.knew e.had e.given l.law_holds b.part q.0 b.is q.1.0 l.port_state_holds e.waited in
         let one = b.one_more in
         let reach = si.reach in
         let more = q.1.1.1 in
@@ -199,7 +199,7 @@ module _ {S D : Type 0} (L B : Type 0) (sources : S → SourceState) (drains : D
         (valve_given si.0 so.0, λ some. valve_wants si.0 so.0 (m 0 (reached i si.0 some)) some),
         subst (λ (ms : List ℕ). ValveLawful ms i.wire o.wire) (sym same) (valve_moved so.0),
       );
-      rests = λ si so ri ro. valve_still (valve_stays si.0 so.0 ri.0 ro.0 (passing_ports x.phase i.view o.view r.started r.row.0));
+      rests = λ si so ri ro. valve_still (valve_stays si.0 so.0 ri.0 ro.0 (passing_ports x.phase i.view o.view r.started r.ports.0));
       matches = λ sink ri. let no : is_sink (kind.Valve valve_kind.name) ≡ true = rw valve_kind.kind_is at sink in cc;
     }
 
@@ -207,11 +207,11 @@ module _ {S D : Type 0} (L B : Type 0) (sources : S → SourceState) (drains : D
 
   record TripNow (first : Trip) (v : View) (took gave : List (List Item)) : Type 0 where
     now : Trip
-    row_holds : TripPortState now v
+    port_state_holds : TripPortState now v
     law_holds : TripAs first now v took gave
 
   trip_now : (first : Trip) (x : IslandNode S D L B) (v : View) (took gave : List (List Item)) → node_port_state x v → node_law sources drains w.book (node.State (Tripping first)) x v took gave → TripNow first v took gave
-  trip_now first (node.State (Tripping x)) v took gave r law = record { now = x; row_holds = r; law_holds = law }
+  trip_now first (node.State (Tripping x)) v took gave r law = record { now = x; port_state_holds = r; law_holds = law }
   trip_now first x v took gave r law = absurd law
 
   -- its law, over its two ports
@@ -247,9 +247,9 @@ module _ {S D : Type 0} (L B : Type 0) (sources : S → SourceState) (drains : D
         × (length (run (linear w.book passing) (begin_work k n.decider passing) (take (demand i.wire - 1) i.wire.list)).gave < wanted o.wire)
     trip_asked si so m some =
         let e = m.0 in
-        let l = trip_now first e.old e.knew e.had e.given e.row_held e.law_held in
-        let p = one_views (passing_port_state l.now.phase) e.knew l.row_holds.row in
-        let was = waits_open l.now.phase p.x p.y (passing_ports l.now.phase p.x p.y l.row_holds.started p.holds) (sym p.inp ∙ e.waited) in
+        let l = trip_now first e.old e.knew e.had e.given e.port_state_held e.law_held in
+        let p = one_views (passing_port_state l.now.phase) e.knew l.port_state_holds.ports in
+        let was = waits_open l.now.phase p.x p.y (passing_ports l.now.phase p.x p.y l.port_state_holds.started p.holds) (sym p.inp ∙ e.waited) in
         let asked : out_at e.knew 0 ≡ Available = p.out ∙ was.1 in
         let b = began e.had i.got i.want e.took_on e.one_more in
         let q = given_one e.given o.sent o.want e.gave_on (e.wants 0 asked) in
@@ -270,6 +270,6 @@ module _ {S D : Type 0} (L B : Type 0) (sources : S → SourceState) (drains : D
         stage_given (linear w.book passing) (begin_work k n.decider passing) (trip_held n.decider x) i o passed si.0 so.0,
         λ some. trip_asked si.0 so.0 (m 0 (reached i si.0 some)) some,
       );
-      rests = λ si so ri ro. trip_stays si.0 so.0 ri.0 ro.0 (passing_ports x.phase i.view o.view r.started r.row);
+      rests = λ si so ri ro. trip_stays si.0 so.0 ri.0 ro.0 (passing_ports x.phase i.view o.view r.started r.ports);
       matches = λ sink ri. absurd (not_both machine.no_sink sink);
     }

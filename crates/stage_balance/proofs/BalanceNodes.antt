@@ -257,8 +257,8 @@ one_empty (x ∷ y ∷ hs) h l = absurd (omega (arith, l))
 
 fresh_law : (l : Balancing) (v : View) (took gave : List (List Item)) → CallAllowed starts v → BalanceFresh l v → AllEmpty took → AllEmpty gave → length took ≡ length v.ins → length gave ≡ length v.outs → BalancesAs l l v took gave
 fresh_law l v took gave may r a b m k =
-    let p = open_ports l v r.live r.row in
-    let s : Sound l.core = (subst (λ b. port_state_by b l.core v) r.live r.row).1 in
+    let p = open_ports l v r.live r.ports in
+    let s : Sound l.core = (subst (λ b. port_state_by b l.core v) r.live r.ports).1 in
     let open_now : l.core.over ≡ false = (subst (λ w. Holding w l.core) r.empty s.holds).0 in
     let owes : held l ≡ waits [] nothing_came = ap (λ b. held_by b l.log.moves l.core) r.live ∙ rw (r.unmoved, r.empty, open_now) refl in
     let law : BalanceLaw (waits [] nothing_came) v [] (λ j. slice_index_or gave j []) = record {
@@ -283,9 +283,9 @@ fresh_law l v took gave may r a b m k =
 
 pub started : (old new : Balancing) (acts : List Act) → Obeys starts (port_state old) (port_state new) acts → Turned starts old acts new → Starts port_state BalancesAs BalanceFresh old new acts
 started old new acts o t = record {
-  obeys = record { allowed = λ v may r. o.allowed v may r.row; row = λ v may r. o.row v may r.row };
+  obeys = record { allowed = λ v may r. o.allowed v may r.ports; ports = λ v may r. o.ports v may r.ports };
   stands = t.stands;
-  begins = λ v took gave may r a b m k. keeps starts old old new v took gave acts r.live may (o.allowed v may r.row) r.row t (fresh_law old v took gave may r a b m k);
+  begins = λ v took gave may r a b m k. keeps starts old old new v took gave acts r.live may (o.allowed v may r.ports) r.ports t (fresh_law old v took gave may r a b m k);
 }
 
 -- ---- a new one
@@ -313,7 +313,7 @@ new_may_start k l two few b =
       live = ap (λ (c : Core). c.live) b.core;
       unmoved = b.moves;
       empty = ap (λ (c : Core). c.waiting) b.core;
-      row = subst (λ (c : Core). port_state_by c.live c (unpulled_outs k)) (sym b.core) (ap (λ (ys : List OutView). record { ins = Idle ∷ []; outs = ys }) (sym (quiet_views k)), s);
+      ports = subst (λ (c : Core). port_state_by c.live c (unpulled_outs k)) (sym b.core) (ap (λ (ys : List OutView). record { ins = Idle ∷ []; outs = ys }) (sym (quiet_views k)), s);
     }
 
 -- ---- it rests

@@ -76,7 +76,7 @@ pub handle : (call : Call) (old new : Balancing) (acts : List Act) → old.core.
 handle call old new acts h a = record {
   ports = record {
     allowed = λ v may r. let s = standing old v h r in subst (λ w. ActsAllowed (seen call w) acts) (sym s.0) a.allowed;
-    row = λ v may r. let s = standing old v h r in subst (λ w. port_state new (acted_all (seen call w) acts)) (sym s.0) a.row_then;
+    ports = λ v may r. let s = standing old v h r in subst (λ w. port_state new (acted_all (seen call w) acts)) (sym s.0) a.row_then;
   };
   gives = record {
     turn = subst (λ b. BalanceTurnBy (coming call 0) (held_by b old.log.moves old.core) (λ j. given_on j acts) (held new)) (sym h) a.turn;

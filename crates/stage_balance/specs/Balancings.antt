@@ -1,4 +1,4 @@
--- The state of a balance, its row, and what its handlers owe.
+-- The state of a balance, its port state, and what its handlers owe.
 use Rattle.std.specs.Prelude.{◌≡◌, ◌≢◌, ◌⊎◌, ℕ, ◌-◌, ◌==◌, ◌≤◌, replicate, if◌then◌else◌, not, filter, Bool, true, false, List, [], ◌∷◌, ◌++◌, length, map, slice_get, slice_set, slice_index_or, Option, None, Some}
 use Rattle.std.specs.Option.{option_to_list}
 use Rattle.elem_core.specs.Tree.{Tree}
@@ -174,7 +174,7 @@ pub record BalanceFresh (l : Balancing) (v : View) : Type 0 where
   pub live : l.core.live ≡ true
   pub unmoved : l.log.moves ≡ []
   pub empty : l.core.waiting ≡ None
-  pub row : port_state l v
+  pub ports : port_state l v
 
 -- the law of its histories, by the stage as it was at first and as it is now: by its moves, of which it made none before and
 -- each names an output; its outputs are those that it had at first

@@ -35,12 +35,12 @@ pub fn a_new_balance_may_start()
     ensures { (outputs : ℕ) (l : Balancing) → 2 ≤ outputs → outputs ≤ MAX_FAN → Begins outputs l → BalanceFresh l (unpulled_outs outputs) }
 {}
 
-/// Where its row and its law hold, a balance has closed all its ports, or has nothing to do.
+/// Where its port state and its law hold, a balance has closed all its ports, or has nothing to do.
 pub fn a_started_balance_rests()
     ensures { (first now : Balancing) (v : View) (took gave : List (List Item)) → port_state now v → (law : BalancesAs first now v took gave) → BalanceRestsOwn v law.law.flow.list law.law.lists }
 {}
 
-/// Where the port rules allow a call of a handler and the row holds, a balance is open, and the room that the call wants is
+/// Where the port rules allow a call of a handler and the port state holds, a balance is open, and the room that the call wants is
 /// within what every stage is given.
 pub fn a_called_balance_is_open()
     ensures opens { (l : Balancing) (call : Call) (v : View) → CallAllowed call v → port_state l v → l.core.live ≡ true }

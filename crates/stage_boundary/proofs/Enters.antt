@@ -45,7 +45,7 @@ begun x (t ∷ took) gave a b m n = absurd (omega (arith, m))
 
 enters_started : (x : Entering) → Starts EnteringPortState EnteringLaw EnteringFresh x x []
 enters_started x = record {
-  obeys = record { allowed = λ v h r. tt; row = λ v h r. (Unpulled, r) };
+  obeys = record { allowed = λ v h r. tt; ports = λ v h r. (Unpulled, r) };
   stands = tt;
   begins = λ v took gave h f t g i j. subst (λ (w : View). length took ≡ length w.ins → length gave ≡ length w.outs → EnteringLaw x x w took gave) (sym f) (λ m n. begun x took gave t g m n) i j;
 }
@@ -70,15 +70,15 @@ gave_more x first y z took gave i o g law =
     }
 
 push_at : (x first : Entering) (y : OutView) (took gave : List (List Item)) (j : ℕ) (t : Tree) → EnteringLaw first x (output_only y) took gave → out_at (output_only y) j ≡ Available → MayDo EnteringPortState EnteringLaw x first (output_only y) took gave (Push j t)
-push_at x first y took gave zero t law h = record { allowed = h; row_holds = (Unpulled, refl); law_holds = gave_more x first y Unpulled took gave (item.Elem t) (asked_open y h) refl law }
+push_at x first y took gave zero t law h = record { allowed = h; port_state_holds = (Unpulled, refl); law_holds = gave_more x first y Unpulled took gave (item.Elem t) (asked_open y h) refl law }
 push_at x first y took gave (suc j) t law h = absurd cc
 
 complete_at : (x first : Entering) (y : OutView) (took gave : List (List Item)) (j : ℕ) → EnteringLaw first x (output_only y) took gave → IsOutOpen (out_at (output_only y) j) → MayDo EnteringPortState EnteringLaw x first (output_only y) took gave (Complete j)
-complete_at x first y took gave zero law o = record { allowed = o; row_holds = (Closed, refl); law_holds = gave_more x first y Closed took gave item.Ended o tt law }
+complete_at x first y took gave zero law o = record { allowed = o; port_state_holds = (Closed, refl); law_holds = gave_more x first y Closed took gave item.Ended o tt law }
 complete_at x first y took gave (suc j) law o = absurd o
 
 fail_at : (x first : Entering) (y : OutView) (took gave : List (List Item)) (j : ℕ) (c : Cause) → EnteringLaw first x (output_only y) took gave → IsOutOpen (out_at (output_only y) j) → MayDo EnteringPortState EnteringLaw x first (output_only y) took gave (FailOut j c)
-fail_at x first y took gave zero c law o = record { allowed = o; row_holds = (Closed, refl); law_holds = gave_more x first y Closed took gave (item.Failed c) o tt law }
+fail_at x first y took gave zero c law o = record { allowed = o; port_state_holds = (Closed, refl); law_holds = gave_more x first y Closed took gave (item.Failed c) o tt law }
 fail_at x first y took gave (suc j) c law o = absurd o
 
 module _ (first now : Entering) (v : View) (took gave : List (List Item)) (r : EnteringPortState now v) (law : EnteringLaw first now v took gave) where

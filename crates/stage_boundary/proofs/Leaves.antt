@@ -82,7 +82,7 @@ module _ (i : Item) (x : Leaving) where
   got p = record {
     obeys = record {
       allowed = λ v h r. tt;
-      row = λ v h r. subst (λ (w : View). MayCome i (in_at w p) → LeavingPortState more (with_in w p (came i))) (sym r.1.0) (λ m. row_at p r.0 m r.1.1) h;
+      ports = λ v h r. subst (λ (w : View). MayCome i (in_at w p) → LeavingPortState more (with_in w p (came i))) (sym r.1.0) (λ m. row_at p r.0 m r.1.1) h;
     };
     stands = tt;
     keeps = λ first v took gave h r law. subst (λ (w : View). MayCome i (in_at w p) → LeavingLaw first x w took gave → LeavingLaw first more (with_in w p (came i)) (with_item took p i) gave) (sym r.1.0) (λ m l. law_at p first r.0 took gave m l) h law;
@@ -113,7 +113,7 @@ none_waits waits e = rw e (omega arith)
 
 leaves_started : (x : Leaving) → Starts LeavingPortState LeavingLaw LeavingFresh x x []
 leaves_started x = record {
-  obeys = record { allowed = λ v h r. tt; row = λ v h r. (Idle, (r.port, none_waits x.waits r.waits)) };
+  obeys = record { allowed = λ v h r. tt; ports = λ v h r. (Idle, (r.port, none_waits x.waits r.waits)) };
   stands = tt;
   begins = λ v took gave h f t g i j. subst (λ (w : View). length took ≡ length w.ins → length gave ≡ length w.outs → LeavingLaw x x w took gave) (sym f.port) (λ m n. begun x took gave f.waits f.gone t g m n) i j;
 }
@@ -136,11 +136,11 @@ known x first y z took gave o f law = record {
 }
 
 pull_at : (x first : Leaving) (y : InView) (took gave : List (List Item)) (i : ℕ) → x.waits ≡ [] → LeavingLaw first x (input_only y) took gave → in_at (input_only y) i ≡ Idle → MayDo LeavingPortState LeavingLaw x first (input_only y) took gave (Pull i)
-pull_at x first y took gave zero none law h = record { allowed = h; row_holds = (Pulled, (refl, none)); law_holds = known x first y Pulled took gave (idle_open y h) (λ e s. s) law }
+pull_at x first y took gave zero none law h = record { allowed = h; port_state_holds = (Pulled, (refl, none)); law_holds = known x first y Pulled took gave (idle_open y h) (λ e s. s) law }
 pull_at x first y took gave (suc i) none law h = absurd cc
 
 cancel_at : (x first : Leaving) (y : InView) (took gave : List (List Item)) (i : ℕ) → LeavingLaw first x (input_only y) took gave → IsInOpen (in_at (input_only y) i) → MayDo LeavingPortState LeavingLaw x first (input_only y) took gave (Cancel i)
-cancel_at x first y took gave zero law o = record { allowed = o; row_holds = (Cancelled, (refl, tt)); law_holds = known x first y Cancelled took gave o (λ e s. s) law }
+cancel_at x first y took gave zero law o = record { allowed = o; port_state_holds = (Cancelled, (refl, tt)); law_holds = known x first y Cancelled took gave o (λ e s. s) law }
 cancel_at x first y took gave (suc i) law o = absurd o
 
 module _ (first now : Leaving) (v : View) (took gave : List (List Item)) (r : LeavingPortState now v) (law : LeavingLaw first now v took gave) where

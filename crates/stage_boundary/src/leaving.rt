@@ -1,6 +1,5 @@
 // The boundary stage at the output end of a lane.
 ghost use Rattle.std.specs.Prelude.{◌≡◌, ◌≤◌, ◌++◌, true, [], ◌∷◌, IsOk, IfSome, IfNone, length, ⊤};
-ghost use Rattle.std.specs.Option.{option_to_list};
 ghost use Rattle.elem_core.specs.declared.item.Item.TheVariants as item;
 ghost use Rattle.port_core.specs.declared.view.InView.TheVariants.{Idle};
 ghost use Rattle.stage_boundary.specs.Ports.{input_only};
@@ -29,6 +28,7 @@ pub struct Leaving {
 
 impl Model for Leaving {
     ghost use Rattle.std.specs.Prelude.{◌≡◌, ◌++◌, None};
+    ghost use Rattle.std.specs.Option.{option_to_list};
     ghost use Rattle.std.specs.Coded.{codes};
     ghost use Rattle.elem_core.specs.TreeCode.{tree_coded};
     ghost use Rattle.stage_boundary.specs.Leaving.{Leaving};

@@ -88,11 +88,11 @@ law_after c first old new v took gave acts may allowed t law = record {
 pub handled : (c : Call) (old new : Dropping) (acts : List Act) → Obeys c (port_state old) (port_state new) acts → Turned c old acts new → Handles DropPortState DropsAs c old new acts
 handled c old new acts o t = record {
   obeys = record {
-    allowed = λ v may r. o.allowed v may r.row;
-    row = λ v may r. record { started = t.started; row = o.row v may r.row };
+    allowed = λ v may r. o.allowed v may r.ports;
+    ports = λ v may r. record { started = t.started; ports = o.ports v may r.ports };
   };
   stands = t.stands;
-  keeps = λ first v took gave may r law. law_after c first old new v took gave acts may (o.allowed v may r.row) t law;
+  keeps = λ first v took gave may r law. law_after c first old new v took gave acts may (o.allowed v may r.ports) t law;
 }
 
 -- ---- before anything came
@@ -117,10 +117,10 @@ new_lists l (x ∷ u ∷ xs) ys e r = absurd r
 
 fresh_law : (l : Dropping) (v : View) (took gave : List (List Item)) → CallAllowed starts v → DropFresh l v → AllEmpty took → AllEmpty gave → length took ≡ length v.ins → length gave ≡ length v.outs → DropsAs l l v took gave
 fresh_law l v took gave may f a b m n =
-    let new = new_lists l v.ins v.outs f.fresh f.row in
+    let new = new_lists l v.ins v.outs f.fresh f.ports in
     let owes : held_of l ≡ holds 0 [] [] unended =
     ap (λ q. held_in q l.over l.came l.moves l.held) f.fresh ∙ ap (λ c. holds c l.moves l.held unended) f.none_came ∙ ap (λ ms. holds 0 ms l.held unended) f.unmoved ∙ ap (λ h. holds 0 [] h unended) new.none in
-    let one : length v.ins ≡ 1 = one_input (drop_at l l.phase l.over l.asked) v.ins v.outs f.row in
+    let one : length v.ins ≡ 1 = one_input (drop_at l l.phase l.over l.asked) v.ins v.outs f.ports in
     record {
       unmoved = f.unmoved;
       node = refl;
@@ -134,15 +134,15 @@ fresh_law l v took gave may f a b m n =
 pub started : (old new : Dropping) (acts : List Act) → Obeys starts (port_state old) (port_state new) acts → Turned starts old acts new → Starts DropPortState DropsAs DropFresh old new acts
 started old new acts o t = record {
   obeys = record {
-    allowed = λ v may r. o.allowed v may r.row;
-    row = λ v may r. record { started = t.started; row = o.row v may r.row };
+    allowed = λ v may r. o.allowed v may r.ports;
+    ports = λ v may r. record { started = t.started; ports = o.ports v may r.ports };
   };
   stands = t.stands;
-  begins = λ v took gave may r a b m n. law_after starts old old new v took gave acts may (o.allowed v may r.row) t (fresh_law old v took gave may r a b m n);
+  begins = λ v took gave may r a b m n. law_after starts old old new v took gave acts may (o.allowed v may r.ports) t (fresh_law old v took gave may r a b m n);
 }
 
 pub new_may_start : (node n : ℕ) (p : Policy) → p ≢ Backpressure → 0 < n → DropFresh (stage.begun node n p) unpulled_ports
-new_may_start node n p drops some = record { fresh = refl; none_came = refl; unmoved = refl; row = (refl, (drops, some)) }
+new_may_start node n p drops some = record { fresh = refl; none_came = refl; unmoved = refl; ports = (refl, (drops, some)) }
 
 -- ---- outlooks
 

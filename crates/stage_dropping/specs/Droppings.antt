@@ -1,4 +1,4 @@
--- The state of a buffer that drops, and its row.
+-- The state of a buffer that drops, and its port state.
 use Rattle.std.specs.Prelude.{◌≡◌, ◌≢◌, ◌<◌, ◌≤◌, Bool, true, false, ℕ, List, [], ◌∷◌, ◌++◌, length, Some, None}
 use Rattle.elem_core.specs.Tree.{Tree}
 use Rattle.elem_core.specs.declared.item.Item.{Item}
@@ -100,17 +100,17 @@ pub record Turned (call : Call) (old : Dropping) (acts : List Act) (new : Droppi
 
 -- ---- over its histories
 
--- it may be started, nothing came to it, it made no move, and its row holds
+-- it may be started, nothing came to it, it made no move, and its port state holds
 pub record DropFresh (l : Dropping) (v : View) : Type 0 where
   pub fresh : l.phase ≡ New
   pub none_came : l.came ≡ 0
   pub unmoved : l.moves ≡ []
-  pub row : port_state l v
+  pub ports : port_state l v
 
--- it was started, and its row holds
+-- it was started, and its port state holds
 pub record DropPortState (l : Dropping) (v : View) : Type 0 where
   pub started : l.phase ≢ New
-  pub row : port_state l v
+  pub ports : port_state l v
 
 -- the law of its histories, by the stage as it was at first and as it is now: by its moves, of which it made none before
 pub record DropsAs (first now : Dropping) (v : View) (took gave : List (List Item)) : Type 0 where

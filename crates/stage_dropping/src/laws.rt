@@ -23,13 +23,13 @@ pub fn a_new_buffer_may_start()
     ensures { (node n : ℕ) (p : Policy) → p ≢ Backpressure → 0 < n → DropFresh (begun node n p) unpulled_ports }
 {}
 
-/// Where its row and its law hold, a buffer that was started has closed both its ports, or has nothing to do: it waits for
+/// Where its port state and its law hold, a buffer that was started has closed both its ports, or has nothing to do: it waits for
 /// its input, and holds nothing where its output is asked; or its input is over and nobody asks it.
 pub fn a_started_buffer_rests()
     ensures { (first now : Dropping) (v : View) (took gave : List (List Item)) → DropPortState now v → (law : DropsAs first now v took gave) → DropRests first.policy first.size now.moves v law.by.law.ins law.by.law.out_list }
 {}
 
-/// Where the port rules allow a call of a handler and the row holds, a buffer that was started is open.
+/// Where the port rules allow a call of a handler and the port state holds, a buffer that was started is open.
 pub fn a_called_buffer_is_open()
     ensures { (l : Dropping) (call : Call) (v : View) → l.phase ≢ New → CallAllowed call v → port_state l v → l.phase ≡ Open }
 {}

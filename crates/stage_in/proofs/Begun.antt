@@ -171,4 +171,4 @@ module _ (node : ℕ) (kind : Kind) (d : Decider) (new : InLogic) where
   merge_new n l fit is to b =
       let f = subst IsFanIn is fit in
       let start = merge.new_may_start n l f.0 f.1 b in
-      as_kind (Merge n) (logic.Merging l) is to (record { fresh = (start.fresh, start.unmoved); takes = tt; ready = start.row })
+      as_kind (Merge n) (logic.Merging l) is to (record { fresh = (start.fresh, start.unmoved); takes = tt; ready = start.ports })

@@ -76,13 +76,13 @@ output_is (cancels (suc j)) l v h r = absurd (no_other v.outs j (one_output l v 
 
 -- what every stage is given is room enough
 pub fits_new : (l : InLogic) (n : ℕ) → Meets starts (InFresh l) → MOST_ACTS ≤ n → room_of l ≤ n
-fits_new l n m h = let r : room_of l ≤ MOST_ACTS = called_fits l starts m.0 m.1.0 m.1.1.row in omega (arith, r, h)
+fits_new l n m h = let r : room_of l ≤ MOST_ACTS = called_fits l starts m.0 m.1.0 m.1.1.ports in omega (arith, r, h)
 
 pub fits : (call : Call) (l : InLogic) (n : ℕ) → Meets call (InPortState l) → MOST_ACTS ≤ n → room_of l ≤ n
-fits call l n m h = let r : room_of l ≤ MOST_ACTS = called_fits l call m.0 m.1.0 m.1.1.row in omega (arith, r, h)
+fits call l n m h = let r : room_of l ≤ MOST_ACTS = called_fits l call m.0 m.1.0 m.1.1.ports in omega (arith, r, h)
 
 pub met : (call : Call) (l : InLogic) → Meets call (InPortState l) → Meets (at_output call) (port_state l)
-met call l m = subst (λ c. Meets c (port_state l)) (sym (output_is call l m.0 m.1.0 m.1.1.row)) (m.0, (m.1.0, m.1.1.row))
+met call l m = subst (λ c. Meets c (port_state l)) (sym (output_is call l m.0 m.1.0 m.1.1.ports)) (m.0, (m.1.0, m.1.1.ports))
 
 not_starts : (call : Call) → (call ≡ starts → ⊥) → at_output call ≡ starts → ⊥
 not_starts starts n e = n refl
@@ -93,7 +93,7 @@ not_starts (cancels j) n e = cc
 pub handles : {T E : Type 0} (call : Call) (old new : InLogic) (acts : List Act) (r : Result T E) → (call ≡ starts → ⊥) → Meets call (InPortState old) → OnOk r (Obeys (at_output call) (port_state old) (port_state new) acts) → OnOk r (Turned (at_output call) old acts new)
     → OnOk r (Handles InPortState InLaw call old new acts)
 handles call old new acts r n m o t =
-    subst (λ c. OnOk r (Handles InPortState InLaw c old new acts)) (output_is call old m.0 m.1.0 m.1.1.row)
+    subst (λ c. OnOk r (Handles InPortState InLaw c old new acts)) (output_is call old m.0 m.1.0 m.1.1.ports)
     (on_ok_two r o t (λ a b. handled (at_output call) old new acts (not_starts call n) m.1.1.started a b))
 
 pub grows : {T E : Type 0} (call : Call) (old new : InLogic) (acts : List Act) (r : Result T E) → OnOk r (Turned call old acts new) → OnOk r (IsPrefix (in_moves old) (in_moves new))

@@ -124,7 +124,7 @@ logic_rests (logic.Sorting f) (logic.Sorting l) v took gave s r law =
 logic_rests (logic.Zipping f) (logic.Zipping l) v took gave s r law =
     rests_of ZipRests zipping.Sound l v law.by.law.ins law.by.law.out_list l.phase refl s r law.by.law.ports
     (λ a b is e. zipping_rests l v a b law.by.law.out_list law.by.law.out_end e r (subst (λ fs. ZipKeeps (zipping.held l) fs law.by.law.out_list law.by.law.out_end) is law.by.law.keeps))
-logic_rests (logic.Merging f) (logic.Merging l) v took gave s r law = merge.logic_rests f l v took gave (record { started = s; row = r }) (record { unmoved = law.same; by = law.by })
+logic_rests (logic.Merging f) (logic.Merging l) v took gave s r law = merge.logic_rests f l v took gave (record { started = s; ports = r }) (record { unmoved = law.same; by = law.by })
 logic_rests first now v took gave s r law = absurd law.same
 
 -- ---- calls
@@ -178,11 +178,11 @@ turned_grows c old new acts t = absurd t
 pub handled : (c : Call) (old new : InLogic) (acts : List Act) → (c ≡ starts → ⊥) → IsStarted old → Obeys c (port_state old) (port_state new) acts → Turned c old acts new → Handles InPortState InLaw c old new acts
 handled c old new acts n s o t = record {
   obeys = record {
-    allowed = λ v may r. o.allowed v may r.row;
-    row = λ v may r. record { started = turned_started c old new acts t; row = o.row v may r.row };
+    allowed = λ v may r. o.allowed v may r.ports;
+    ports = λ v may r. record { started = turned_started c old new acts t; ports = o.ports v may r.ports };
   };
   stands = turned_stands c old new acts t;
-  keeps = λ first v took gave may r law. turn_keeps c first old new v took gave acts may (o.allowed v may r.row) t law;
+  keeps = λ first v took gave may r law. turn_keeps c first old new v took gave acts may (o.allowed v may r.ports) t law;
 }
 
 -- ---- before anything came
@@ -242,14 +242,14 @@ fresh_law : (l : InLogic) (v : View) (took gave : List (List Item)) → CallAllo
 fresh_law (logic.Taking l) v took gave may new r a b m n = record { same = refl; by = fresh_taking l v took gave may new r a b m n }
 fresh_law (logic.Sorting l) v took gave may new r a b m n = record { same = tt; by = fresh_sorting l v took gave may new r a b m n }
 fresh_law (logic.Zipping l) v took gave may new r a b m n = record { same = tt; by = fresh_zipping l v took gave may new r a b m n }
-fresh_law (logic.Merging l) v took gave may new r a b m n = record { same = new.1; by = merge.fresh_law l v took gave may (record { fresh = new.0; unmoved = new.1; row = r }) a b m n }
+fresh_law (logic.Merging l) v took gave may new r a b m n = record { same = new.1; by = merge.fresh_law l v took gave may (record { fresh = new.0; unmoved = new.1; ports = r }) a b m n }
 
 pub started : (old new : InLogic) (acts : List Act) → IsNew old → Obeys starts (port_state old) (port_state new) acts → Turned starts old acts new → Starts InPortState InLaw InFresh old new acts
 started old new acts n o t = record {
   obeys = record {
-    allowed = λ v may r. o.allowed v may r.row;
-    row = λ v may r. record { started = turned_started starts old new acts t; row = o.row v may r.row };
+    allowed = λ v may r. o.allowed v may r.ports;
+    ports = λ v may r. record { started = turned_started starts old new acts t; ports = o.ports v may r.ports };
   };
   stands = turned_stands starts old new acts t;
-  begins = λ v took gave may r a b m k. turn_keeps starts old old new v took gave acts may (o.allowed v may r.row) t (fresh_law old v took gave may r.fresh r.row a b m k);
+  begins = λ v took gave may r a b m k. turn_keeps starts old old new v took gave acts may (o.allowed v may r.ports) t (fresh_law old v took gave may r.fresh r.ports a b m k);
 }

@@ -109,7 +109,7 @@ obeys call old new acts h at = record {
       let s = standing old v h r in
       let a = at (subst (λ w. CallAllowed call w) s.0 may) s.1 in
       subst (λ w. ActsAllowed (seen call w) acts) (sym s.0) a.allowed;
-  row = λ v may r.
+  ports = λ v may r.
       let s = standing old v h r in
       let a = at (subst (λ w. CallAllowed call w) s.0 may) s.1 in
       subst (λ w. port_state new (acted_all (seen call w) acts)) (sym s.0) a.row_then;

@@ -1,4 +1,4 @@
--- The stages with several inputs, whatever their kind: their rows, what their handlers owe, and their law over histories.
+-- The stages with several inputs, whatever their kind: their port states, what their handlers owe, and their law over histories.
 use Rattle.port_core.specs.View.{unpulled_ins}
 use Rattle.std.specs.Prelude.{◌≡◌, ◌≢◌, ◌≤◌, ℕ, true, List, [], length, slice_index_or, Some, None, ⊤}
 use Rattle.elem_core.specs.Tree.{Tree}
@@ -151,15 +151,15 @@ Keeps (logic.Zipping f) (logic.Zipping l) = ZipKeeps (zipping.held l)
 Keeps (logic.Merging f) (logic.Merging l) = MergeKeeps (merging.held l)
 Keeps _ _ = λ ins g e. ⊥
 
--- it may be started, and its row holds
+-- it may be started, and its port state holds
 pub record InFresh (l : InLogic) (v : port.View) : Type 0 where
   pub fresh : IsNew l
-  pub row : port_state l v
+  pub ports : port_state l v
 
--- it was started, and its row holds
+-- it was started, and its port state holds
 pub record InPortState (l : InLogic) (v : port.View) : Type 0 where
   pub started : IsStarted l
-  pub row : port_state l v
+  pub ports : port_state l v
 
 -- the law of its histories
 pub record InLaw (first now : InLogic) (v : port.View) (took gave : List (List Item)) : Type 0 where

@@ -47,7 +47,7 @@ new_view = record { ins = Idle ∷ Idle ∷ []; outs = Unpulled ∷ [] }
 abbrev pub new_pair : Pairing
 new_pair = record { phase = New; left = record { held = None; over = false }; right = record { held = None; over = false }; asked = false }
 
--- its row, by what an open one keeps
+-- its port state, by what an open one keeps
 abbrev pub port_state_by : (Pairing → Type 0) → Phase → Pairing → View → Type 0
 port_state_by Sound New l v = (v ≡ new_view) × (IsVacant l.left × (IsVacant l.right × (l.asked ≡ false)))
 port_state_by Sound Open l v = (v ≡ pair_view l) × Sound l

@@ -18,17 +18,17 @@ ghost use Rattle.stage_in.specs.Logics.{Begins, IsNew, IsOpen, IsStarted, InFres
 ghost use Rattle.stage_in.specs.Moves.{TellsMoves};
 ghost use Rattle.stage_fans.specs.OwnRows.{FanRests};
 
-/// Where its row and its law hold, a stage that was started has closed all its ports, or has nothing to do.
+/// Where its port state and its law hold, a stage that was started has closed all its ports, or has nothing to do.
 pub fn a_started_stage_rests()
     ensures { (first now : InLogic) (v : View) (took gave : List (List Item)) → IsStarted now → port_state now v → (law : InLaw first now v took gave) → FanRests (KindRests now) v law.by.law.ins law.by.law.out_list }
 {}
 
-/// Where the port rules allow a call of a handler and the row holds, a stage that was started is open.
+/// Where the port rules allow a call of a handler and the port state holds, a stage that was started is open.
 pub fn a_called_stage_is_open()
     ensures { (l : InLogic) (call : Call) (v : View) → IsStarted l → call ≢ starts → CallAllowed call v → port_state l v → IsOpen l }
 {}
 
-/// Where the port rules allow a call of a handler and the row holds, the room that the call wants is within what every stage
+/// Where the port rules allow a call of a handler and the port state holds, the room that the call wants is within what every stage
 /// is given.
 pub fn a_call_wants_little_room()
     ensures { (l : InLogic) (call : Call) (v : View) → CallAllowed call v → port_state l v → room_of l ≤ MOST_ACTS }

@@ -47,20 +47,20 @@ law_after book call first old new v acts took gave r h allowed t law = record {
 pub handled : (book : Book) (call : Call) (old new : Logic) (acts : List Act) → Obeys call (port_state old) (port_state new) acts → Turned book call old acts new → Handles LinearPortState (LinearLaw book) call old new acts
 handled book call old new acts o t = record {
   obeys = record {
-    allowed = λ v h r. o.allowed v h r.row;
-    row = λ v h r. record { started = t.started; row = o.row v h r.row };
+    allowed = λ v h r. o.allowed v h r.ports;
+    ports = λ v h r. record { started = t.started; ports = o.ports v h r.ports };
   };
   stands = t.stands;
-  keeps = λ first v took gave h r law. law_after book call first old new v acts took gave r.row h (o.allowed v h r.row) t law;
+  keeps = λ first v took gave h r law. law_after book call first old new v acts took gave r.ports h (o.allowed v h r.ports) t law;
 }
 
 -- ---- a call of a handler is of its one input or output
 
 first_call : (call : Call) (l : Logic) (v : View) → CallAllowed call v → LinearPortState l v → at_first call ≡ call
-first_call call l v h r = first_port (port_state_in l.phase l.course l.pending l.stage.work l.ready) call v h r.row
+first_call call l v h r = first_port (port_state_in l.phase l.course l.pending l.stage.work l.ready) call v h r.ports
 
 pub met_first : (call : Call) (l : Logic) → Meets call (LinearPortState l) → Meets (at_first call) (port_state l)
-met_first call l m = subst (λ c. Meets c (port_state l)) (sym (first_call call l m.0 m.1.0 m.1.1)) (m.0, (m.1.0, m.1.1.row))
+met_first call l m = subst (λ c. Meets c (port_state l)) (sym (first_call call l m.0 m.1.0 m.1.1)) (m.0, (m.1.0, m.1.1.ports))
 
 pub handles : {T E : Type 0} (book : Book) (call : Call) (old new : Logic) (acts : List Act) (r : Result T E) → Meets call (LinearPortState old) → OnOk r (Obeys (at_first call) (port_state old) (port_state new) acts) → OnOk r (Turned book (at_first call) old acts new)
     → OnOk r (Handles LinearPortState (LinearLaw book) call old new acts)
@@ -93,7 +93,7 @@ at_ports m start h v x y a b law = rw (a, b) law
 
 fresh_law : (book : Book) (l : Logic) (v : View) (took gave : List (List Item)) → LinearFresh l v → histories.AllEmpty took → histories.AllEmpty gave → length took ≡ length v.ins → length gave ≡ length v.outs → LinearLaw book l l v took gave
 fresh_law book l v took gave f a b m n =
-    let p = fresh_ports (port_state_in l.phase l.course l.pending l.stage.work l.ready) v.ins v.outs took gave f.row a b m n in
+    let p = fresh_ports (port_state_in l.phase l.course l.pending l.stage.work l.ready) v.ins v.outs took gave f.ports a b m n in
     let s = new_start book l.phase l.course l.pending l.stage f.phase in
     let ports = new_ports l.phase l.course l.pending l.stage.work l.ready p.x p.y f.phase p.holds in
     record {
@@ -113,9 +113,9 @@ fresh_law book l v took gave f a b m n =
 pub started : (book : Book) (old new : Logic) (acts : List Act) → Obeys starts (port_state old) (port_state new) acts → Turned book starts old acts new → Starts LinearPortState (LinearLaw book) LinearFresh old new acts
 started book old new acts o t = record {
   obeys = record {
-    allowed = λ v h f. o.allowed v h f.row;
-    row = λ v h f. record { started = t.started; row = o.row v h f.row };
+    allowed = λ v h f. o.allowed v h f.ports;
+    ports = λ v h f. record { started = t.started; ports = o.ports v h f.ports };
   };
   stands = t.stands;
-  begins = λ v took gave h f a b m n. law_after book starts old old new v acts took gave f.row h (o.allowed v h f.row) t (fresh_law book old v took gave f a b m n);
+  begins = λ v took gave h f a b m n. law_after book starts old old new v acts took gave f.ports h (o.allowed v h f.ports) t (fresh_law book old v took gave f a b m n);
 }

@@ -98,7 +98,7 @@ module _ (s : Stage) (b c : Bool) (f : Finish Tree) where
 
   pub given_parts : (e : Tree) (r : Course) (p : List Tree) → Stays r p
       → Obeys (pulls 0) (port_state (of_parts s r b (e ∷ p))) (port_state (readied (given_on_from (of_parts s r b p) f) c)) (Push 0 e ∷ last_acts (of_parts s r b p) f)
-  given_parts e r p k = record { allowed = λ v _ h. (given_in e r p v.ins v.outs h k).0; row = λ v _ h. (given_in e r p v.ins v.outs h k).1 }
+  given_parts e r p k = record { allowed = λ v _ h. (given_in e r p v.ins v.outs h k).0; ports = λ v _ h. (given_in e r p v.ins v.outs h k).1 }
 
 -- the first of what is held goes out
 pub given_obeys : (old l : Logic) (e : Tree) (c : Bool) (f : Finish Tree) → l.phase ≡ Open → old ≡ record l { pending = e ∷ l.pending } → StaysReady l (readied (given_on_from l f) c)
@@ -156,7 +156,7 @@ module _ (book : Book) (node n k : ℕ) (old w : Work) (b c : Bool) (t : Tree) (
   pushed_in d o (x ∷ u ∷ xs) ys r s h = absurd h
 
   pub pushed_parts : (d : Decider) (o : LinearReaction) → ReactedBy book old t w o → StaysOn c o → Obeys (arrives 0 (item.Elem t)) (port_state (of_parts (with_decider d) course.Waits b [])) (port_state (answered (then d) k o)) (answer_acts (then d) k o)
-  pushed_parts d o r s = record { allowed = λ v _ h. (pushed_in d o v.ins v.outs r s h).0; row = λ v _ h. (pushed_in d o v.ins v.outs r s h).1 }
+  pushed_parts d o r s = record { allowed = λ v _ h. (pushed_in d o v.ins v.outs r s h).0; ports = λ v _ h. (pushed_in d o v.ins v.outs r s h).1 }
 
 pub pushed_obeys : (book : Book) (l : Logic) (w : Work) (c : Bool) (t : Tree) (k : ℕ) (o : LinearReaction) → l.phase ≡ Open → Waits l → ReactedBy book l.stage.work t w o → StaysOn c o
     → Obeys (arrives 0 (item.Elem t)) (port_state l) (port_state (answered (working l w c) k o)) (answer_acts (working l w c) k o)
@@ -253,7 +253,7 @@ module _ (book : Book) (s : Stage) (b c : Bool) where
   ended_in r (x ∷ w ∷ xs) ys h = absurd h
 
   pub ended_parts : (r : Course) → Obeys (arrives 0 item.Ended) (port_state (of_parts s r b [])) (port_state (readied (ended_by (of_parts s r b []) last) c)) (closed_acts (of_parts s r b []) last)
-  ended_parts r = record { allowed = λ v _ h. (ended_in r v.ins v.outs h).0; row = λ v _ h. (ended_in r v.ins v.outs h).1 }
+  ended_parts r = record { allowed = λ v _ h. (ended_in r v.ins v.outs h).0; ports = λ v _ h. (ended_in r v.ins v.outs h).1 }
 
 pub ended_obeys : (book : Book) (l : Logic) (c : Bool) → l.phase ≡ Open → l.pending ≡ []
     → Obeys (arrives 0 item.Ended) (port_state l) (port_state (readied (ended_by l (finish_of book l.stage l.stage.work)) c)) (closed_acts l (finish_of book l.stage l.stage.work))

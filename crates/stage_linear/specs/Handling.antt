@@ -13,12 +13,12 @@ use Rattle.stage_linear.specs.States.{Logic, held, port_state}
 -- it was not started, and its port state holds
 pub record LinearFresh (l : Logic) (v : View) : Type 0 where
   pub phase : l.phase ≡ New
-  pub row : port_state l v
+  pub ports : port_state l v
 
 -- it was started, and its port state holds
 pub record LinearPortState (l : Logic) (v : View) : Type 0 where
   pub started : l.phase ≢ New
-  pub row : port_state l v
+  pub ports : port_state l v
 
 -- The law of its output by this book of plugs, from what it owed at first to what it owes now. Its machine stays the same.
 pub record LinearLaw (book : Book) (first now : Logic) (v : View) (took gave : List (List Item)) : Type 0 where

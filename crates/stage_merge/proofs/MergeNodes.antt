@@ -57,7 +57,7 @@ called_fits l c v may r = by_phase l.core.phase r
 -- ---- between two calls
 
 pub logic_rests : (first now : Merging) (v : View) (took gave : List (List Item)) → MergePortState now v → (law : MergesAs first now v took gave) → FanRests MergeRests v law.by.law.ins law.by.law.out_list
-logic_rests first now v took gave r law = merge_rests now v law.by.law.ins law.by.law.out_list r.started r.row law.by.law.ports
+logic_rests first now v took gave r law = merge_rests now v law.by.law.ins law.by.law.out_list r.started r.ports law.by.law.ports
 
 -- ---- calls
 
@@ -70,11 +70,11 @@ keeps_ports c old new v took gave acts may allowed turn law =
 pub handled : (c : Call) (old new : Merging) (acts : List Act) → Obeys c (port_state old) (port_state new) acts → Turned c old acts new → Handles MergePortState MergesAs c old new acts
 handled c old new acts o t = record {
   obeys = record {
-    allowed = λ v may r. o.allowed v may r.row;
-    row = λ v may r. record { started = t.started; row = o.row v may r.row };
+    allowed = λ v may r. o.allowed v may r.ports;
+    ports = λ v may r. record { started = t.started; ports = o.ports v may r.ports };
   };
   stands = t.stands;
-  keeps = λ first v took gave may r law. record { unmoved = law.unmoved; by = keeps_ports c old new v took gave acts may (o.allowed v may r.row) t.turn law.by };
+  keeps = λ first v took gave may r law. record { unmoved = law.unmoved; by = keeps_ports c old new v took gave acts may (o.allowed v may r.ports) t.turn law.by };
 }
 
 -- ---- before anything came
@@ -86,7 +86,7 @@ idles_long (b ∷ bs) = ap suc (idles_long bs)
 pub fresh_law : (l : Merging) (v : View) (took gave : List (List Item)) → CallAllowed starts v → MergeFresh l v → AllEmpty took → AllEmpty gave → length took ≡ length v.ins → length gave ≡ length v.outs
     → InPortsLaw (MergeKeeps (held l)) v took gave
 fresh_law l v took gave may r a b m n =
-    let s = subst (λ f. port_state_by f l.core v) r.fresh r.row in
+    let s = subst (λ f. port_state_by f l.core v) r.fresh r.ports in
     let fresh : Fresh l.core = s.1.1 in
     let outs : v.outs ≡ outlet.Unpulled ∷ [] = ap (λ (w : View). w.outs) s.0 in
     let many : length v.ins ≡ length l.core.over = ap (λ (w : View). length w.ins) s.0 ∙ idles_long l.core.over in
@@ -99,11 +99,11 @@ fresh_law l v took gave may r a b m n =
 pub started : (old new : Merging) (acts : List Act) → Obeys starts (port_state old) (port_state new) acts → Turned starts old acts new → Starts MergePortState MergesAs MergeFresh old new acts
 started old new acts o t = record {
   obeys = record {
-    allowed = λ v may r. o.allowed v may r.row;
-    row = λ v may r. record { started = t.started; row = o.row v may r.row };
+    allowed = λ v may r. o.allowed v may r.ports;
+    ports = λ v may r. record { started = t.started; ports = o.ports v may r.ports };
   };
   stands = t.stands;
-  begins = λ v took gave may r a b m n. record { unmoved = r.unmoved; by = keeps_ports starts old new v took gave acts may (o.allowed v may r.row) t.turn (fresh_law old v took gave may r a b m n) };
+  begins = λ v took gave may r a b m n. record { unmoved = r.unmoved; by = keeps_ports starts old new v took gave acts may (o.allowed v may r.ports) t.turn (fresh_law old v took gave may r a b m n) };
 }
 
 idles_are : (k : ℕ) → idles (replicate k false) ≡ replicate k Idle
@@ -114,7 +114,7 @@ pub new_may_start : (inputs : ℕ) (l : Merging) → 2 ≤ inputs → inputs ≤
 new_may_start k l two few b = record {
   fresh = ap (λ (c : Core). c.phase) b.core;
   unmoved = b.moves;
-  row = subst (λ (xs : List InView). port_state l (record { ins = xs; outs = outlet.Unpulled ∷ [] })) (idles_are k) (new_row k l two few b);
+  ports = subst (λ (xs : List InView). port_state l (record { ins = xs; outs = outlet.Unpulled ∷ [] })) (idles_are k) (new_row k l two few b);
 }
 
 -- ---- outlooks

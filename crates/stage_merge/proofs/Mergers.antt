@@ -82,7 +82,7 @@ pub record Handled (call : Call) (old : Merging) (acts : List Act) (new : Mergin
 obeys : (call : Call) (old new : Merging) (acts : List Act) → old.core.phase ≡ Open → ActsAllowed (seen call (view_of old.core)) acts → port_state new (acted_all (seen call (view_of old.core)) acts) → Obeys call (port_state old) (port_state new) acts
 obeys call old new acts h allowed then_row = record {
   allowed = λ v may r. let s = subst (λ f. port_state_by f old.core v) h r in subst (λ w. ActsAllowed (seen call w) acts) (sym s.0) allowed;
-  row = λ v may r. let s = subst (λ f. port_state_by f old.core v) h r in subst (λ w. port_state new (acted_all (seen call w) acts)) (sym s.0) then_row;
+  ports = λ v may r. let s = subst (λ f. port_state_by f old.core v) h r in subst (λ w. port_state new (acted_all (seen call w) acts)) (sym s.0) then_row;
 }
 
 is_open : (l : Core) (v : View) → l.phase ≡ Open → v ≡ view_of l → Sound l → port_state_by l.phase l v
@@ -482,7 +482,7 @@ started old new acts h m does =
     rw (does.to_is, does.acts_are) (record {
       ports = record {
         allowed = λ w may x. let y = subst (λ f. port_state_by f old.core w) h x in subst (λ u. ActsAllowed u (pull_acts 0 old.core.over)) (sym y.0) allowed;
-        row = λ w may x. let y = subst (λ f. port_state_by f old.core w) h x in subst (λ u. port_state to (acted_all u (pull_acts 0 old.core.over))) (sym y.0) (v, s);
+        ports = λ w may x. let y = subst (λ f. port_state_by f old.core w) h x in subst (λ u. port_state to (acted_all u (pull_acts 0 old.core.over))) (sym y.0) (v, s);
       };
       gives = record {
         turn = rw (h, pulls_give 0 old.core.over) (subst (λ w. MergeTurn old.log.moves w [] old.log.moves ws) (sym (joined_all-nothing_came 0 ws)) (quiet old.log.moves old.core.over old.core.queue));

@@ -1,4 +1,4 @@
--- The state of a merge, its row, and what its handlers owe.
+-- The state of a merge, its port state, and what its handlers owe.
 use Rattle.std.specs.Prelude.{◌≡◌, ◌≢◌, ℕ, suc, ◌+◌, ◌-◌, ◌==◌, ◌≤◌, ◌<◌, replicate, if◌then◌else◌, Bool, true, false, List, [], ◌∷◌, ◌++◌, length, slice_get, slice_set, Some, ⊤}
 use Rattle.elem_core.specs.Tree.{Tree}
 use Rattle.elem_core.specs.declared.item.Item.{Item}
@@ -182,16 +182,16 @@ LastIn i e old new = old.core.asked ≡ false → new.core.queue ≡ old.core.qu
 
 -- ---- over its histories
 
--- it may be started, it made no move, and its row holds
+-- it may be started, it made no move, and its port state holds
 pub record MergeFresh (l : Merging) (v : View) : Type 0 where
   pub fresh : l.core.phase ≡ New
   pub unmoved : l.log.moves ≡ []
-  pub row : port_state l v
+  pub ports : port_state l v
 
--- it was started, and its row holds
+-- it was started, and its port state holds
 pub record MergePortState (l : Merging) (v : View) : Type 0 where
   pub started : l.core.phase ≢ New
-  pub row : port_state l v
+  pub ports : port_state l v
 
 -- the law of its histories, by the stage as it was at first and as it is now: by its moves, of which it made none before
 pub record MergesAs (first now : Merging) (v : View) (took gave : List (List Item)) : Type 0 where

@@ -25,12 +25,12 @@ pub fn a_new_merge_may_start()
     ensures { (inputs : ℕ) (l : Merging) → 2 ≤ inputs → inputs ≤ MAX_FAN → Begins inputs l → MergeFresh l (unpulled_ins inputs) }
 {}
 
-/// Where its row and its law hold, a merge that was started has closed all its ports, or has nothing to do.
+/// Where its port state and its law hold, a merge that was started has closed all its ports, or has nothing to do.
 pub fn a_started_merge_rests()
     ensures { (first now : Merging) (v : View) (took gave : List (List Item)) → MergePortState now v → (law : MergesAs first now v took gave) → FanRests MergeRests v law.by.law.ins law.by.law.out_list }
 {}
 
-/// Where the port rules allow a call of a handler and the row holds, a merge that was started is open, and the room that the
+/// Where the port rules allow a call of a handler and the port state holds, a merge that was started is open, and the room that the
 /// call wants is within what every stage is given.
 pub fn a_called_merge_is_open()
     ensures opens { (l : Merging) (call : Call) (v : View) → l.core.phase ≢ New → CallAllowed call v → port_state l v → l.core.phase ≡ Open }

@@ -59,7 +59,7 @@ obeys call old new acts h a = record {
   allowed = λ v may r.
       let s = standing old v h r in
       subst (λ w. ActsAllowed (seen call w) acts) (sym s.0) a.allowed;
-  row = λ v may r.
+  ports = λ v may r.
       let s = standing old v h r in
       subst (λ w. port_state new (acted_all (seen call w) acts)) (sym s.0) a.row_then;
 }

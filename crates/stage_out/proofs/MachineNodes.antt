@@ -182,9 +182,9 @@ fresh_law l v took gave may n r a b m k =
 
 pub started : (old new : OutMachines) (acts : List Act) → Obeys starts (port_state old) (port_state new) acts → Turned starts old acts new → Starts port_state MachinesLaw MachinesFresh old new acts
 started old new acts o t = record {
-  obeys = record { allowed = λ v may r. o.allowed v may r.row; row = λ v may r. o.row v may r.row };
+  obeys = record { allowed = λ v may r. o.allowed v may r.ports; ports = λ v may r. o.ports v may r.ports };
   stands = stands_of starts old new acts t;
-  begins = λ v took gave may r a b m k. keeps starts old old new v took gave acts r.fresh.live may (o.allowed v may r.row) r.row t (fresh_law old v took gave may r.fresh r.row a b m k);
+  begins = λ v took gave may r a b m k. keeps starts old old new v took gave acts r.fresh.live may (o.allowed v may r.ports) r.ports t (fresh_law old v took gave may r.fresh r.ports a b m k);
 }
 
 -- ---- outlooks

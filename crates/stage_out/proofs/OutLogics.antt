@@ -85,8 +85,8 @@ asks_on c (Machines l) (Balances m) acts t = absurd t
 asks_on c (Balances l) (Machines m) acts t = absurd t
 
 fresh_row : (l : OutLogic) (v : View) → OutFresh l v → port_state l v
-fresh_row (Machines l) v f = f.row
-fresh_row (Balances l) v f = f.row
+fresh_row (Machines l) v f = f.ports
+fresh_row (Balances l) v f = f.ports
 
 asks_first : (old new : OutLogic) (acts : List Act) → Turned starts old acts new → PullsAs starts (OutFresh old) (OutAsking new) acts
 asks_first old new acts t = λ v may f p. asks_on starts old new acts t v may (fresh_row old v f) p
@@ -123,9 +123,9 @@ module _ {T E : Type 0} (r : Result T E) (old new : OutLogic) (acts : List Act) 
 -- ---- a new one
 
 pub machines_begin : (node : ℕ) (kind : Kind) (l : OutMachines) → IsMachines kind → machines.Begins node kind l → Begins node kind (Machines l)
-machines_begin node (Broadcast n) l ok b = record { fresh = record { row = b.ready; fresh = b.fresh }; as_kind = (ok, b) }
-machines_begin node (Partition n f) l ok b = record { fresh = record { row = b.ready; fresh = b.fresh }; as_kind = (ok, b) }
-machines_begin node Unzip l ok b = record { fresh = record { row = b.ready; fresh = b.fresh }; as_kind = (ok, b) }
+machines_begin node (Broadcast n) l ok b = record { fresh = record { ports = b.ready; fresh = b.fresh }; as_kind = (ok, b) }
+machines_begin node (Partition n f) l ok b = record { fresh = record { ports = b.ready; fresh = b.fresh }; as_kind = (ok, b) }
+machines_begin node Unzip l ok b = record { fresh = record { ports = b.ready; fresh = b.fresh }; as_kind = (ok, b) }
 machines_begin node kind l ok b = absurd ok
 
 pub balance_begins : (node : ℕ) (kind : Kind) (outputs : ℕ) (l : Balancing) → kind ≡ Balance outputs → IsOut kind → balance.Begins outputs l → Begins node kind (Balances l)

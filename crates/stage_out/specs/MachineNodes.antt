@@ -13,10 +13,10 @@ use Rattle.stage_out.specs.Machines.{IsNew, port_state, outlets, owed, rests_as,
 
 -- what one that was not started knows of its ports
 pub record MachinesFresh (l : OutMachines) (v : View) : Type 0 where
-  pub row : port_state l v
+  pub ports : port_state l v
   pub fresh : IsNew l
 
--- Of a logic as it was handed in and as it is now: its outputs' machines and its row stay; and the law of each output holds
+-- Of a logic as it was handed in and as it is now: its outputs' machines and its port state stay; and the law of each output holds
 -- of what came and what was given there.
 pub record MachinesLaw (first now : OutMachines) (v : View) (took gave : List (List Item)) : Type 0 where
   pub alike : IsAlike first now

@@ -1,4 +1,4 @@
--- The logic of a broadcast, an unzip or a partition: its row, its outputs as machines over its input, what a call owes, and
+-- The logic of a broadcast, an unzip or a partition: its port state, its outputs as machines over its input, what a call owes, and
 -- how a new one begins.
 use Rattle.std.specs.Prelude.{◌≡◌, ℕ, zero, suc, ◌+◌, ◌≤◌, Bool, true, false, List, [], ◌∷◌, length, ⊤}
 use Rattle.elem_core.specs.Tree.{Tree}
@@ -78,7 +78,7 @@ abbrev pub owed : OutMachines → List (Held Stage)
 owed (Copies l) = copies.owed l.live no_stage l.outs
 owed (Deals l) = dues (then_of l.live l) 0 l.outs
 
--- how it rests: its row over its inputs and outputs
+-- how it rests, over its inputs and outputs
 abbrev pub rests_as : OutMachines → List picture.SeenWire → List picture.SeenWire → Type 0
 rests_as (Copies l) = OneToMany BroadcastRests
 rests_as (Deals l) = OneToMany PartitionRests
@@ -93,7 +93,7 @@ pub record IsNew (l : OutMachines) : Type 0 where
   pub live : is_live l ≡ true
   pub starts : (book : Book) → EachStarts (outlets book l)
 
--- a turn at each output: its machine stays, as its row does, and no action cancels an input that an earlier one asked
+-- a turn at each output: its machine stays, as its port state does, and no action cancels an input that an earlier one asked
 pub record TurnsEach (call : Call) (old : OutMachines) (acts : List Act) (new : OutMachines) : Type 0 where
   pub turns : (book : Book) → TurnsAt 0 call (outlets book old) acts (owed new)
   pub same : (book : Book) → owe (outlets book old) (owed new) ≡ outlets book new

@@ -1,4 +1,4 @@
--- The logic of a stage with several outputs, by its kind: its row, what a call owes, the law of its histories, and how a new
+-- The logic of a stage with several outputs, by its kind: its port state, what a call owes, the law of its histories, and how a new
 -- one begins.
 use Rattle.std.specs.Prelude.{ℕ, ◌≤◌, Bool, List, length, ⊤}
 use Rattle.elem_core.specs.declared.item.Item.{Item}

@@ -1,4 +1,4 @@
--- The state of a partition, its row, and what its handlers owe.
+-- The state of a partition, its port state, and what its handlers owe.
 use Rattle.std.specs.Prelude.{◌≡◌, ◌≢◌, ◌⊎◌, ℕ, ◌+◌, ◌≤◌, ◌<◌, ◌-◌, ◌==◌, if◌then◌else◌, Bool, true, false, List, [], ◌∷◌, length, map, slice_get, slice_set, slice_index_or, Option, None, Some, Ok, Err, replicate}
 use Rattle.elem_core.specs.Tree.{Tree}
 use Rattle.elem_core.specs.Values.{map_value, part_of}

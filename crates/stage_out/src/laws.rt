@@ -30,18 +30,18 @@ pub fn a_call_turns_each_output()
     ensures { (call : Call) (old new : OutMachines) (acts : List Act) → machines.is_live old ≡ true → machines.Turned call old acts new → TurnsEach call old acts new }
 {}
 
-/// Where the port rules allow a call of a handler and the row holds, its ports are not all closed: it is live.
+/// Where the port rules allow a call of a handler and the port state holds, its ports are not all closed: it is live.
 pub fn a_called_stage_is_open()
     ensures { (l : OutLogic) (call : Call) (v : View) → CallAllowed call v → port_state l v → is_live l ≡ true }
 {}
 
-/// Where the port rules allow a call of a handler and the row holds, the room that the call wants is within what every stage
+/// Where the port rules allow a call of a handler and the port state holds, the room that the call wants is within what every stage
 /// is given.
 pub fn a_call_wants_little_room()
     ensures { (l : OutLogic) (call : Call) (v : View) → CallAllowed call v → port_state l v → room_of l ≤ MOST_ACTS }
 {}
 
-/// Where its row and the law of its outputs hold, a stage whose outputs are machines has closed its ports or has nothing to do,
+/// Where its port state and the law of its outputs hold, a stage whose outputs are machines has closed its ports or has nothing to do,
 /// for the lists that its outputs were given.
 pub fn a_stage_rests()
     ensures { (book : Book) (l : OutMachines) (v : View) (took : List Item) (gave : ℕ → List Item) (taken : List Tree) (e : End) → machines.port_state l v → took ≡ told taken e → OutsLaw 0 (outlets book l) v took gave

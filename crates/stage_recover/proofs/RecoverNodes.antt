@@ -101,11 +101,11 @@ law_after c first old new v took gave acts may allowed t same after law = record
 pub handled : (c : Call) (old new : Recover) (acts : List Act) → Obeys c (port_state old) (port_state new) acts → stage.Turned c old acts new → Handles RecoverPortState RecoversAs c old new acts
 handled c old new acts o t = record {
   obeys = record {
-    allowed = λ v may r. o.allowed v may r.row;
-    row = λ v may r. record { started = t.started; row = o.row v may r.row };
+    allowed = λ v may r. o.allowed v may r.ports;
+    ports = λ v may r. record { started = t.started; ports = o.ports v may r.ports };
   };
   stands = t.stands;
-  keeps = λ first v took gave may r law. law_after c first old new v took gave acts may (o.allowed v may r.row) t (law.still (called_open old c v r.started may r.row)) (o.row v may r.row) law;
+  keeps = λ first v took gave may r law. law_after c first old new v took gave acts may (o.allowed v may r.ports) t (law.still (called_open old c v r.started may r.ports)) (o.ports v may r.ports) law;
 }
 
 -- ---- before anything came
@@ -134,10 +134,10 @@ own_of None n = absurd (n refl)
 
 fresh_law : (l : Recover) (v : View) (took gave : List (List Item)) → CallAllowed starts v → RecoverFresh l v → AllEmpty took → AllEmpty gave → length took ≡ length v.ins → length gave ≡ length v.outs → RecoversAs l l v took gave
 fresh_law l v took gave may f a b m n =
-    let new = new_lists l v.ins v.outs f.fresh f.row in
+    let new = new_lists l v.ins v.outs f.fresh f.ports in
     let own = own_of l.own new.some in
     let owes : held_of l ≡ passes 0 = ap (λ q. held_in q l.over l.passed l.moves) f.fresh ∙ ap passes f.none_passed in
-    let one : length v.ins ≡ 1 = one_input (recover_at l l.phase l.over l.asked) v.ins v.outs f.row in
+    let one : length v.ins ≡ 1 = one_input (recover_at l l.phase l.over l.asked) v.ins v.outs f.ports in
     record {
       unmoved = f.unmoved;
       element = own.0;
@@ -152,15 +152,15 @@ fresh_law l v took gave may f a b m n =
 pub started : (old new : Recover) (acts : List Act) → Obeys starts (port_state old) (port_state new) acts → stage.Turned starts old acts new → Starts RecoverPortState RecoversAs RecoverFresh old new acts
 started old new acts o t = record {
   obeys = record {
-    allowed = λ v may r. o.allowed v may r.row;
-    row = λ v may r. record { started = t.started; row = o.row v may r.row };
+    allowed = λ v may r. o.allowed v may r.ports;
+    ports = λ v may r. record { started = t.started; ports = o.ports v may r.ports };
   };
   stands = t.stands;
-  begins = λ v took gave may r a b m n. law_after starts old old new v took gave acts may (o.allowed v may r.row) t refl (o.row v may r.row) (fresh_law old v took gave may r a b m n);
+  begins = λ v took gave may r a b m n. law_after starts old old new v took gave acts may (o.allowed v may r.ports) t refl (o.ports v may r.ports) (fresh_law old v took gave may r a b m n);
 }
 
 pub new_may_start : (t : Tree) → RecoverFresh (begun t) unpulled_ports
-new_may_start t = record { fresh = refl; none_passed = refl; unmoved = refl; row = (refl, λ e. cc) }
+new_may_start t = record { fresh = refl; none_passed = refl; unmoved = refl; ports = (refl, λ e. cc) }
 
 -- ---- outlooks
 

@@ -1,4 +1,4 @@
--- The state of a recover, and its row.
+-- The state of a recover, and its port state.
 use Rattle.std.specs.Prelude.{◌≡◌, ◌≢◌, Bool, true, false, ℕ, List, [], ◌∷◌, ◌++◌, Option, Some, None}
 use Rattle.elem_core.specs.Tree.{Tree}
 use Rattle.elem_core.specs.declared.item.Item.{Item}
@@ -62,17 +62,17 @@ pub record Turned (call : Call) (old : Recover) (acts : List Act) (new : Recover
 
 -- ---- over its histories
 
--- it may be started, nothing came to it, it made no move, and its row holds
+-- it may be started, nothing came to it, it made no move, and its port state holds
 pub record RecoverFresh (l : Recover) (v : View) : Type 0 where
   pub fresh : l.phase ≡ New
   pub none_passed : l.passed ≡ 0
   pub unmoved : l.moves ≡ []
-  pub row : port_state l v
+  pub ports : port_state l v
 
--- it was started, and its row holds
+-- it was started, and its port state holds
 pub record RecoverPortState (l : Recover) (v : View) : Type 0 where
   pub started : l.phase ≢ New
-  pub row : port_state l v
+  pub ports : port_state l v
 
 -- the law of its histories, by the stage as it was at first and as it is now: by its own element, which it has until it
 -- closes, and its move, of which it made none before

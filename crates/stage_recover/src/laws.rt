@@ -19,13 +19,13 @@ pub fn a_new_recover_may_start()
     ensures { (t : Tree) → RecoverFresh (begun t) unpulled_ports }
 {}
 
-/// Where its row and its law hold, a recover that was started has closed both its ports, or has nothing to do: it waits for
+/// Where its port state and its law hold, a recover that was started has closed both its ports, or has nothing to do: it waits for
 /// its input and has given all that it took, or nobody asks it.
 pub fn a_started_recover_rests()
     ensures { (first now : Recover) (v : View) (took gave : List (List Item)) → RecoverPortState now v → (law : RecoversAs first now v took gave) → RecoverRests v law.by.law.ins law.by.law.out_list }
 {}
 
-/// Where the port rules allow a call of a handler and the row holds, a recover that was started is open.
+/// Where the port rules allow a call of a handler and the port state holds, a recover that was started is open.
 pub fn a_called_recover_is_open()
     ensures { (l : Recover) (call : Call) (v : View) → l.phase ≢ New → CallAllowed call v → port_state l v → l.phase ≡ Open }
 {}

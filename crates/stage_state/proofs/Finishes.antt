@@ -80,7 +80,7 @@ module _ (s : Stage) (w : Work) (kept : IsKept w) where
   at_lists e a r (x ∷ u ∷ xs) ys h = absurd h
 
   obeys_at : (e : StateEnd) (a : Bool) (r : Result (Option Tree) Why) → Obeys (arrives 0 item.Ended) (port_state (open_keep e a s.work)) (port_state (finished (open_keep e a w) r)) (finish_acts (open_keep e a w) r)
-  obeys_at e a r = record { allowed = λ v may h. (at_lists e a r v.ins v.outs h).allowed; row = λ v may h. (at_lists e a r v.ins v.outs h).row_is }
+  obeys_at e a r = record { allowed = λ v may h. (at_lists e a r v.ins v.outs h).allowed; ports = λ v may h. (at_lists e a r v.ins v.outs h).row_is }
 
 abbrev of_parts : Phase → Stage → List Tree → Bool → StateEnd → Option ℕ → Logic
 of_parts p s k a e n = record { phase = p; stage = s; pending = k; asked = a; ending = e; size = n }

@@ -36,9 +36,9 @@ use Rattle.stage_state.proofs.Rows as rows
 -- ---- where a call may come, a stage that was started is open
 
 pub called_open : (l : StateLogic) (call : Call) (v : View) → call ≢ starts → CallAllowed call v → StatePortState l v → phase_of l ≡ Open
-called_open (Machine l) call v s h r = rows.called_open l call v r.started s h r.row
-called_open (Dropping l) call v s h r = drops.called_open l call v r.started h r.row
-called_open (Recovering l) call v s h r = recovers.called_open l call v r.started h r.row
+called_open (Machine l) call v s h r = rows.called_open l call v r.started s h r.ports
+called_open (Dropping l) call v s h r = drops.called_open l call v r.started h r.ports
+called_open (Recovering l) call v s h r = recovers.called_open l call v r.started h r.ports
 called_open (Obeying l) call v s h r = switch_rows.called_valve l call v s h r
 called_open (Tripping l) call v s h r = switch_rows.called_trip l call v s h r
 
@@ -46,7 +46,7 @@ called_open (Tripping l) call v s h r = switch_rows.called_trip l call v s h r
 
 machine_handles : (call : Call) (old new : machine.Logic) (acts : List Act) → Handles MachinePortState MachineLaw call old new acts → Handles StatePortState StateLaw call (Machine old) (Machine new) acts
 machine_handles call old new acts h = record {
-  obeys = record { allowed = h.obeys.allowed; row = h.obeys.row };
+  obeys = record { allowed = h.obeys.allowed; ports = h.obeys.ports };
   stands = h.stands;
   keeps = λ first v took gave may r law. by_first first v took gave may r law;
 }
@@ -61,7 +61,7 @@ machine_handles call old new acts h = record {
 
 dropping_handles : (call : Call) (old new : dropping.Dropping) (acts : List Act) → Handles DropPortState DropsAs call old new acts → Handles StatePortState StateLaw call (Dropping old) (Dropping new) acts
 dropping_handles call old new acts h = record {
-  obeys = record { allowed = h.obeys.allowed; row = h.obeys.row };
+  obeys = record { allowed = h.obeys.allowed; ports = h.obeys.ports };
   stands = h.stands;
   keeps = λ first v took gave may r law. by_first first v took gave may r law;
 }
@@ -76,7 +76,7 @@ dropping_handles call old new acts h = record {
 
 recover_handles : (call : Call) (old new : recover.Recover) (acts : List Act) → Handles RecoverPortState RecoversAs call old new acts → Handles StatePortState StateLaw call (Recovering old) (Recovering new) acts
 recover_handles call old new acts h = record {
-  obeys = record { allowed = h.obeys.allowed; row = h.obeys.row };
+  obeys = record { allowed = h.obeys.allowed; ports = h.obeys.ports };
   stands = h.stands;
   keeps = λ first v took gave may r law. by_first first v took gave may r law;
 }
@@ -91,7 +91,7 @@ recover_handles call old new acts h = record {
 
 valve_handles : (call : Call) (old new : switch.Valve) (acts : List Act) → Handles ValvePortState ValveAs call old new acts → Handles StatePortState StateLaw call (Obeying old) (Obeying new) acts
 valve_handles call old new acts h = record {
-  obeys = record { allowed = h.obeys.allowed; row = h.obeys.row };
+  obeys = record { allowed = h.obeys.allowed; ports = h.obeys.ports };
   stands = h.stands;
   keeps = λ first v took gave may r law. by_first first v took gave may r law;
 }
@@ -106,7 +106,7 @@ valve_handles call old new acts h = record {
 
 trip_handles : (call : Call) (old new : switch.Trip) (acts : List Act) → Handles TripPortState TripAs call old new acts → Handles StatePortState StateLaw call (Tripping old) (Tripping new) acts
 trip_handles call old new acts h = record {
-  obeys = record { allowed = h.obeys.allowed; row = h.obeys.row };
+  obeys = record { allowed = h.obeys.allowed; ports = h.obeys.ports };
   stands = h.stands;
   keeps = λ first v took gave may r law. by_first first v took gave may r law;
 }
@@ -130,18 +130,18 @@ handled call old new acts o t = absurd t
 -- ---- a call of a handler is of its one input or output
 
 plain_port_state : (l : StateLogic) (v : View) → StatePortState l v → port_state l v
-plain_port_state (Machine l) v r = r.row
-plain_port_state (Dropping l) v r = r.row
-plain_port_state (Recovering l) v r = r.row
-plain_port_state (Obeying l) v r = r.row
-plain_port_state (Tripping l) v r = r.row
+plain_port_state (Machine l) v r = r.ports
+plain_port_state (Dropping l) v r = r.ports
+plain_port_state (Recovering l) v r = r.ports
+plain_port_state (Obeying l) v r = r.ports
+plain_port_state (Tripping l) v r = r.ports
 
 first_call : (call : Call) (l : StateLogic) (v : View) → CallAllowed call v → StatePortState l v → at_first call ≡ call
-first_call call (Machine l) v h r = first_port (machine.port_state_by l.size l.phase l.ending l.asked l.pending l.stage.work) call v h r.row
-first_call call (Dropping l) v h r = first_port (dropping.drop_at l l.phase l.over l.asked) call v h r.row
-first_call call (Recovering l) v h r = first_port (recover.recover_at l l.phase l.over l.asked) call v h r.row
-first_call call (Obeying l) v h r = first_port (switch.passing_port_state l.phase) call v h r.row.0
-first_call call (Tripping l) v h r = first_port (switch.passing_port_state l.phase) call v h r.row
+first_call call (Machine l) v h r = first_port (machine.port_state_by l.size l.phase l.ending l.asked l.pending l.stage.work) call v h r.ports
+first_call call (Dropping l) v h r = first_port (dropping.drop_at l l.phase l.over l.asked) call v h r.ports
+first_call call (Recovering l) v h r = first_port (recover.recover_at l l.phase l.over l.asked) call v h r.ports
+first_call call (Obeying l) v h r = first_port (switch.passing_port_state l.phase) call v h r.ports.0
+first_call call (Tripping l) v h r = first_port (switch.passing_port_state l.phase) call v h r.ports
 
 pub met_first : (call : Call) (l : StateLogic) → Meets call (StatePortState l) → Meets (at_first call) (port_state l)
 met_first call l m = subst (λ c. Meets c (port_state l)) (sym (first_call call l m.0 m.1.0 m.1.1)) (m.0, (m.1.0, plain_port_state l m.0 m.1.1))
@@ -156,19 +156,19 @@ handles call old new acts r m o t =
 pub started : (old new : StateLogic) (acts : List Act) → Obeys starts (port_state old) (port_state new) acts → Turned starts old acts new → Starts StatePortState StateLaw StateFresh old new acts
 started (Machine l) (Machine m) acts o t =
     let s = machines.started l m acts o t in
-    record { obeys = record { allowed = s.obeys.allowed; row = s.obeys.row }; stands = s.stands; begins = s.begins }
+    record { obeys = record { allowed = s.obeys.allowed; ports = s.obeys.ports }; stands = s.stands; begins = s.begins }
 started (Dropping l) (Dropping m) acts o t =
     let s = drops.started l m acts o t in
-    record { obeys = record { allowed = s.obeys.allowed; row = s.obeys.row }; stands = s.stands; begins = s.begins }
+    record { obeys = record { allowed = s.obeys.allowed; ports = s.obeys.ports }; stands = s.stands; begins = s.begins }
 started (Recovering l) (Recovering m) acts o t =
     let s = recovers.started l m acts o t in
-    record { obeys = record { allowed = s.obeys.allowed; row = s.obeys.row }; stands = s.stands; begins = s.begins }
+    record { obeys = record { allowed = s.obeys.allowed; ports = s.obeys.ports }; stands = s.stands; begins = s.begins }
 started (Obeying l) (Obeying m) acts o t =
     let s = switches.valve_started l m acts o t in
-    record { obeys = record { allowed = s.obeys.allowed; row = s.obeys.row }; stands = s.stands; begins = s.begins }
+    record { obeys = record { allowed = s.obeys.allowed; ports = s.obeys.ports }; stands = s.stands; begins = s.begins }
 started (Tripping l) (Tripping m) acts o t =
     let s = switches.trip_started l m acts o t in
-    record { obeys = record { allowed = s.obeys.allowed; row = s.obeys.row }; stands = s.stands; begins = s.begins }
+    record { obeys = record { allowed = s.obeys.allowed; ports = s.obeys.ports }; stands = s.stands; begins = s.begins }
 started old new acts o t = absurd t
 
 -- ---- its log only grows
@@ -194,14 +194,14 @@ grew call old new acts (Ok x) u t = moves_grow call old new acts u t
 grew call old new acts (Err e) u t = tt
 
 fresh_moves : (l : StateLogic) → Meets starts (StateFresh l) → MayMove l
-fresh_moves (Obeying l) m = switch_rows.none_new starts l m.1.1.phase (m.0, (m.1.0, m.1.1.row))
+fresh_moves (Obeying l) m = switch_rows.none_new starts l m.1.1.phase (m.0, (m.1.0, m.1.1.ports))
 fresh_moves (Machine l) m = tt
 fresh_moves (Dropping l) m = tt
 fresh_moves (Recovering l) m = tt
 fresh_moves (Tripping l) m = tt
 
 called_moves : (call : Call) (l : StateLogic) → call ≢ starts → Meets call (StatePortState l) → MayMove l
-called_moves call (Obeying l) s m = switch_rows.none_open call l (switch_rows.called_valve l call m.0 s m.1.0 m.1.1) (m.0, (m.1.0, m.1.1.row))
+called_moves call (Obeying l) s m = switch_rows.none_open call l (switch_rows.called_valve l call m.0 s m.1.0 m.1.1) (m.0, (m.1.0, m.1.1.ports))
 called_moves call (Machine l) s m = tt
 called_moves call (Dropping l) s m = tt
 called_moves call (Recovering l) s m = tt
@@ -223,8 +223,8 @@ fresh_new (Obeying l) m = m.1.1.phase
 fresh_new (Tripping l) m = m.1.1.phase
 
 pub fresh_met : (l : StateLogic) → Meets starts (StateFresh l) → Meets starts (port_state l)
-fresh_met (Machine l) m = (m.0, (m.1.0, m.1.1.row))
-fresh_met (Dropping l) m = (m.0, (m.1.0, m.1.1.row))
-fresh_met (Recovering l) m = (m.0, (m.1.0, m.1.1.row))
-fresh_met (Obeying l) m = (m.0, (m.1.0, m.1.1.row))
-fresh_met (Tripping l) m = (m.0, (m.1.0, m.1.1.row))
+fresh_met (Machine l) m = (m.0, (m.1.0, m.1.1.ports))
+fresh_met (Dropping l) m = (m.0, (m.1.0, m.1.1.ports))
+fresh_met (Recovering l) m = (m.0, (m.1.0, m.1.1.ports))
+fresh_met (Obeying l) m = (m.0, (m.1.0, m.1.1.ports))
+fresh_met (Tripping l) m = (m.0, (m.1.0, m.1.1.ports))

@@ -50,20 +50,20 @@ law_after call first old new v acts took gave r h allowed t law = record {
 pub handled : (call : Call) (old new : Logic) (acts : List Act) → Obeys call (port_state old) (port_state new) acts → Turned call old acts new → Handles MachinePortState MachineLaw call old new acts
 handled call old new acts o t = record {
   obeys = record {
-    allowed = λ v h r. o.allowed v h r.row;
-    row = λ v h r. record { started = t.started; row = o.row v h r.row };
+    allowed = λ v h r. o.allowed v h r.ports;
+    ports = λ v h r. record { started = t.started; ports = o.ports v h r.ports };
   };
   stands = t.stands;
-  keeps = λ first v took gave h r law. law_after call first old new v acts took gave r.row h (o.allowed v h r.row) t law;
+  keeps = λ first v took gave h r law. law_after call first old new v acts took gave r.ports h (o.allowed v h r.ports) t law;
 }
 
 -- ---- a call of a handler is of its one input or output
 
 first_call : (call : Call) (l : Logic) (v : View) → CallAllowed call v → MachinePortState l v → at_first call ≡ call
-first_call call l v h r = first_port (port_state_by l.size l.phase l.ending l.asked l.pending l.stage.work) call v h r.row
+first_call call l v h r = first_port (port_state_by l.size l.phase l.ending l.asked l.pending l.stage.work) call v h r.ports
 
 pub met_first : (call : Call) (l : Logic) → Meets call (MachinePortState l) → Meets (at_first call) (port_state l)
-met_first call l m = subst (λ c. Meets c (port_state l)) (sym (first_call call l m.0 m.1.0 m.1.1)) (m.0, (m.1.0, m.1.1.row))
+met_first call l m = subst (λ c. Meets c (port_state l)) (sym (first_call call l m.0 m.1.0 m.1.1)) (m.0, (m.1.0, m.1.1.ports))
 
 pub handles : {T E : Type 0} (call : Call) (old new : Logic) (acts : List Act) (r : Result T E) → Meets call (MachinePortState old) → OnOk r (Obeys (at_first call) (port_state old) (port_state new) acts) → OnOk r (Turned (at_first call) old acts new)
     → OnOk r (Handles MachinePortState MachineLaw call old new acts)
@@ -110,7 +110,7 @@ at_ports m start h v x y a b law = rw (a, b) law
 
 fresh_law : (l : Logic) (v : View) (took gave : List (List Item)) → MachineFresh l v → histories.AllEmpty took → histories.AllEmpty gave → length took ≡ length v.ins → length gave ≡ length v.outs → MachineLaw l l v took gave
 fresh_law l v took gave f a b m n =
-    let p = fresh_ports (port_state_by l.size l.phase l.ending l.asked l.pending l.stage.work) v.ins v.outs took gave f.row a b m n in
+    let p = fresh_ports (port_state_by l.size l.phase l.ending l.asked l.pending l.stage.work) v.ins v.outs took gave f.ports a b m n in
     let news = new_by l.size l.phase l.ending l.asked l.pending l.stage.work p.x p.y f.phase p.holds in
     let start : Run Stage Tree = record { gave = l.pending; state = state_by l.ending l.stage } in
     let owes : held l ≡ owing start = ap (λ (q : Phase). held_in q l.ending l.pending l.stage) f.phase in
@@ -130,9 +130,9 @@ fresh_law l v took gave f a b m n =
 pub started : (old new : Logic) (acts : List Act) → Obeys starts (port_state old) (port_state new) acts → Turned starts old acts new → Starts MachinePortState MachineLaw MachineFresh old new acts
 started old new acts o t = record {
   obeys = record {
-    allowed = λ v h f. o.allowed v h f.row;
-    row = λ v h f. record { started = t.started; row = o.row v h f.row };
+    allowed = λ v h f. o.allowed v h f.ports;
+    ports = λ v h f. record { started = t.started; ports = o.ports v h f.ports };
   };
   stands = t.stands;
-  begins = λ v took gave h f a b m n. law_after starts old old new v acts took gave f.row h (o.allowed v h f.row) t (fresh_law old v took gave f a b m n);
+  begins = λ v took gave h f a b m n. law_after starts old old new v acts took gave f.ports h (o.allowed v h f.ports) t (fresh_law old v took gave f a b m n);
 }

@@ -13,12 +13,12 @@ use Rattle.stage_state.specs.States.{Logic, machine, held, port_state}
 -- it was not started, and its port state holds
 pub record MachineFresh (l : Logic) (v : View) : Type 0 where
   pub phase : l.phase ≡ New
-  pub row : port_state l v
+  pub ports : port_state l v
 
 -- it was started, and its port state holds
 pub record MachinePortState (l : Logic) (v : View) : Type 0 where
   pub started : l.phase ≢ New
-  pub row : port_state l v
+  pub ports : port_state l v
 
 -- The law of its output, by any book of plugs, since it asks none: from what it owed at first to what it owes now. Its
 -- machine stays the same, and so does its size where it is a buffer.

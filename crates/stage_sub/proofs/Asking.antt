@@ -17,7 +17,7 @@ use Rattle.stage_sub.specs.declared.blame.Blame.{Blame}
 -- the actions are allowed, and the row holds then
 record Obeyed (over : Bool) (p : List Tagged) (now : View → Type 0) (v : View) : Type 0 where
   allowed : ActsAllowed (seen (pulls 0) v) (pulled_acts over p)
-  row : now (acted_all (seen (pulls 0) v) (pulled_acts over p))
+  ports : now (acted_all (seen (pulls 0) v) (pulled_acts over p))
 
 module _ {C : Type 0} (l : Logic C) where
   abbrev then_row : Bool → List Tagged → View → Type 0
@@ -27,11 +27,11 @@ module _ {C : Type 0} (l : Logic C) where
   one_view x y = record { ins = x ∷ []; outs = y ∷ [] }
 
   obeyed_at : (over asked : Bool) (p : List Tagged) (x : InView) (y : OutView) → y ≡ outlet.Unpulled → port_state_in Open over asked p x y → (asked ≡ false) × Obeyed over p (then_row over p) (one_view x y)
-  obeyed_at false false [] Idle outlet.Unpulled u r = (refl, record { allowed = (refl, tt); row = refl })
-  obeyed_at false false (o ∷ os) Idle outlet.Unpulled u r = (refl, record { allowed = (refl, tt); row = tt })
+  obeyed_at false false [] Idle outlet.Unpulled u r = (refl, record { allowed = (refl, tt); ports = refl })
+  obeyed_at false false (o ∷ os) Idle outlet.Unpulled u r = (refl, record { allowed = (refl, tt); ports = tt })
   obeyed_at true false [] Finished outlet.Unpulled u r = absurd (omega (arith, r))
-  obeyed_at true false (o ∷ []) Finished outlet.Unpulled u r = (refl, record { allowed = (refl, (tt, tt)); row = tt })
-  obeyed_at true false (o ∷ s ∷ os) Finished outlet.Unpulled u r = (refl, record { allowed = (refl, tt); row = omega arith })
+  obeyed_at true false (o ∷ []) Finished outlet.Unpulled u r = (refl, record { allowed = (refl, (tt, tt)); ports = tt })
+  obeyed_at true false (o ∷ s ∷ os) Finished outlet.Unpulled u r = (refl, record { allowed = (refl, tt); ports = omega arith })
   obeyed_at false false p Idle outlet.Available u r = absurd r
   obeyed_at false false p Idle outlet.Closed u r = absurd r
   obeyed_at false false p Idle outlet.Cancelled u r = absurd r
@@ -78,7 +78,7 @@ asked_ports {C = C} old st now acts m ms is h n a = subst (λ (l : Logic C). l.p
     at_old : st.phase ≡ Open → Obeys (pulls 0) (port_state st) (port_state (record now { moves = ms })) acts
     at_old h = rw (n, a) (record {
       allowed = λ v may r. (obeyed st v h may r).1.allowed;
-      row = λ v may r. let o = obeyed st v h may r in bare_row st st.pending (acted_all (seen (pulls 0) v) (pulled_acts st.over st.pending)) h o.0 o.1.row;
+      ports = λ v may r. let o = obeyed st v h may r in bare_row st st.pending (acted_all (seen (pulls 0) v) (pulled_acts st.over st.pending)) h o.0 o.1.ports;
     })
 
 -- ---- the end of the input
@@ -142,4 +142,4 @@ ended_ports {C = C} old st0 st now b acts m ms is h stays n a =
         subst (λ (l : Logic C). EndObeyed l b v) same o.1
 
     at_old : st0.phase ≡ Open → Obeys (arrives 0 item.Ended) (port_state st0) (port_state (record now { moves = ms })) acts
-    at_old h = rw (n, a) (record { allowed = λ v may r. (well h v may r).allowed; row = λ v may r. (well h v may r).row_then })
+    at_old h = rw (n, a) (record { allowed = λ v may r. (well h v may r).allowed; ports = λ v may r. (well h v may r).row_then })

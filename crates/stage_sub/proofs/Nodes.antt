@@ -289,18 +289,18 @@ module _ {C : Type 0} (whole rest : C → ListFunction) (is_open : C → Bool) w
       → Handles (SubPortState rest is_open) (SubLaw rest is_open whole) call old new acts
   handled call old new acts o t ready = record {
     obeys = record {
-      allowed = λ v may r. o.allowed v may r.row;
-      row = λ v may r. record { started = t.started; ready = ready; row = o.row v may r.row };
+      allowed = λ v may r. o.allowed v may r.ports;
+      ports = λ v may r. record { started = t.started; ready = ready; ports = o.ports v may r.ports };
     };
     stands = t.stands;
-    keeps = λ first v took gave may r law. law_after call first old new v acts took gave r.row may (o.allowed v may r.row) t law;
+    keeps = λ first v took gave may r law. law_after call first old new v acts took gave r.ports may (o.allowed v may r.ports) t law;
   }
 
   -- the same of an answer, and of the call that comes to its one input or output
   pub handles : {T E : Type 0} (call : Call) (old new : Logic C) (acts : List Act) (r : Result T E) → Meets call (SubPortState rest is_open old) → OnOk r (Obeys (at_first call) (port_state old) (port_state new) acts) → OnOk r (Turned whole rest is_open (at_first call) old acts new)
       → OnOk r (Ready rest is_open new) → OnOk r (Handles (SubPortState rest is_open) (SubLaw rest is_open whole) call old new acts)
   handles call old new acts r m o t k =
-      subst (λ c. OnOk r (Handles (SubPortState rest is_open) (SubLaw rest is_open whole) c old new acts)) (first_call rest is_open call old m.0 m.1.0 m.1.1.row)
+      subst (λ c. OnOk r (Handles (SubPortState rest is_open) (SubLaw rest is_open whole) c old new acts)) (first_call rest is_open call old m.0 m.1.0 m.1.1.ports)
       (on_ok_three r o t k (λ a b c. handled (at_first call) old new acts a b c))
 
   -- ---- the run begins
@@ -366,7 +366,7 @@ module _ {C : Type 0} (whole rest : C → ListFunction) (is_open : C → Bool) w
 
   fresh_law : (l : Logic C) (v : View) (took gave : List (List Item)) → SubFresh rest is_open l v → histories.AllEmpty took → histories.AllEmpty gave → length took ≡ length v.ins → length gave ≡ length v.outs → SubLaw rest is_open whole l l v took gave
   fresh_law l v took gave fresh a b m n =
-      let p = fresh_ports (port_state_in l.phase l.over l.asked l.pending) v.ins v.outs took gave fresh.row a b m n in
+      let p = fresh_ports (port_state_in l.phase l.over l.asked l.pending) v.ins v.outs took gave fresh.ports a b m n in
       let news = new_ports l.phase l.over l.asked l.pending p.x p.y fresh.fresh p.holds in
       record {
         took_list = [];
@@ -383,11 +383,11 @@ module _ {C : Type 0} (whole rest : C → ListFunction) (is_open : C → Bool) w
   started : (old new : Logic C) (acts : List Act) → Obeys starts (port_state old) (port_state new) acts → Turned whole rest is_open starts old acts new → Ready rest is_open new → Starts (SubPortState rest is_open) (SubLaw rest is_open whole) (SubFresh rest is_open) old new acts
   started old new acts o t k = record {
     obeys = record {
-      allowed = λ v may r. o.allowed v may r.row;
-      row = λ v may r. record { started = t.started; ready = k; row = o.row v may r.row };
+      allowed = λ v may r. o.allowed v may r.ports;
+      ports = λ v may r. record { started = t.started; ready = k; ports = o.ports v may r.ports };
     };
     stands = t.stands;
-    begins = λ v took gave may r a b m n. law_after starts old old new v acts took gave r.row may (o.allowed v may r.row) t (fresh_law old v took gave r a b m n);
+    begins = λ v took gave may r a b m n. law_after starts old old new v acts took gave r.ports may (o.allowed v may r.ports) t (fresh_law old v took gave r a b m n);
   }
 
   pub starts_as : {T E : Type 0} (old new : Logic C) (acts : List Act) (r : Result T E) → OnOk r (Obeys starts (port_state old) (port_state new) acts) → OnOk r (Turned whole rest is_open starts old acts new) → OnOk r (Ready rest is_open new)

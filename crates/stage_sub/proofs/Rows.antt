@@ -55,10 +55,10 @@ module _ {C : Type 0} (rest : C → ListFunction) (is_open : C → Bool) where
   first_call call l v h r = first_port (port_state_in l.phase l.over l.asked l.pending) call v h r
 
   pub met_first : (call : Call) (l : Logic C) → Meets call (SubPortState rest is_open l) → Meets (at_first call) (port_state l)
-  met_first call l m = subst (λ c. Meets c (port_state l)) (sym (first_call call l m.0 m.1.0 m.1.1.row)) (m.0, (m.1.0, m.1.1.row))
+  met_first call l m = subst (λ c. Meets c (port_state l)) (sym (first_call call l m.0 m.1.0 m.1.1.ports)) (m.0, (m.1.0, m.1.1.ports))
 
   pub met_open : (call : Call) (l : Logic C) → Meets call (SubPortState rest is_open l) → l.phase ≡ Open
-  met_open call l m = called_open l call m.0 m.1.1.started m.1.0 m.1.1.row
+  met_open call l m = called_open l call m.0 m.1.1.started m.1.0 m.1.1.ports
 
   pub met_ready : (call : Call) (l : Logic C) → Meets call (SubPortState rest is_open l) → Ready rest is_open l
   met_ready call l m = m.1.1.ready
@@ -70,7 +70,7 @@ module _ {C : Type 0} (rest : C → ListFunction) (is_open : C → Bool) where
   fresh_ready l m = m.1.1.ready
 
   pub met_fresh : (l : Logic C) → Meets starts (SubFresh rest is_open l) → Meets starts (port_state l)
-  met_fresh l m = (m.0, (m.1.0, m.1.1.row))
+  met_fresh l m = (m.0, (m.1.0, m.1.1.ports))
 
 -- ---- where it has nothing to do
 

@@ -52,18 +52,18 @@ abbrev pub ready_of : (List Tree → End → Given Tree) → Opening → Run Sub
 ready_of yields o start l e = (close (substreams yields o) (run (substreams yields o) start l) e).list
 
 module _ {C : Type 0} (rest : C → ListFunction) (is_open : C → Bool) where
-  -- it was not started, made no move, its chains may be called, and its row holds
+  -- it was not started, made no move, its chains may be called, and its port state holds
   pub record SubFresh (l : Logic C) (v : View) : Type 0 where
     pub fresh : l.phase ≡ New
     pub unmoved : IsUnmoved l.moves
     pub ready : Ready rest is_open l
-    pub row : port_state l v
+    pub ports : port_state l v
 
-  -- it was started, its chains may be called, and its row holds
+  -- it was started, its chains may be called, and its port state holds
   pub record SubPortState (l : Logic C) (v : View) : Type 0 where
     pub started : l.phase ≢ New
     pub ready : Ready rest is_open l
-    pub row : port_state l v
+    pub ports : port_state l v
 
   -- At what a chain with the list function f yields in the model, from a start that the first one owed: what it owes now, the law
   -- of the machine that joins its substreams, and that the moves of a merge are the substreams of what it gave, in order. While

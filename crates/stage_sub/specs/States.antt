@@ -1,4 +1,4 @@
--- The state of a stage that splits, what it still owes, and its row: what it knows of its ports.
+-- The state of a stage that splits, what it still owes, and its port state: what it knows of its ports.
 use Rattle.std.specs.Prelude.{◌≡◌, ◌≢◌, ◌⊎◌, ◌<◌, ⊤, ℕ, Bool, true, false, List, [], ◌∷◌, ◌++◌, length, Option, Some, None, option_to_list}
 use Rattle.elem_core.specs.Tree.{Tree}
 use Rattle.elem_core.specs.declared.why.Cause.{Cause}
@@ -58,7 +58,7 @@ begun node how moves chain = record {
   moves = moves;
 }
 
--- its row: before its start nobody asked; then it asks where its output is asked and nothing is held; once its input has
+-- its port state: before its start nobody asked; then it asks where its output is asked and nothing is held; once its input has
 -- ended it holds something; or all is closed
 abbrev pub port_state_in : Phase → Bool → Bool → List Tagged → InView → OutView → Type 0
 port_state_in New false false p Idle Unpulled = p ≡ []

@@ -35,7 +35,7 @@ pub fn a_new_stage_owes_its_machine<C: Chain>()
     ensures { (f : ListFunction) (yields : List Tree → End → Given Tree) (node : ℕ) (how : OpenBy) (moves : Option (List ℕ)) (chain : C) → Owes C.rest C.is_open f yields (begun node how moves chain) (owing (untag (begin_subs yields node))) }
 {}
 
-/// Where its row and its law hold, a stage that was started has closed both its ports, or has nothing to do: it waits for its
+/// Where its port state and its law hold, a stage that was started has closed both its ports, or has nothing to do: it waits for its
 /// input and has given all that it may, or nobody asks it, where it may hold outputs behind the end of its input.
 pub fn a_started_stage_rests<C: Chain>()
     ensures { (f : ListFunction) (yields : List Tree → End → Given Tree) (start : Run Subs Tagged) (first now : Logic C) (v : View) (took gave : List Item) → SubPortState C.rest C.is_open now v
@@ -48,7 +48,7 @@ pub fn a_waiting_stage_gave_all<C: Chain>()
         → (t : TellsMachine C.rest C.is_open f yields start first now v took gave) → in_at v 0 ≡ Pulled → GaveAll (joined_machine yields (opening_of first.how)) (untag start) (out_at v 0) t.law.in_list t.law.out_list }
 {}
 
-/// Where the port rules allow a call of a handler and the row holds, a stage that was started is open.
+/// Where the port rules allow a call of a handler and the port state holds, a stage that was started is open.
 pub fn a_called_stage_is_open<C: Chain>()
     ensures { (l : Logic C) (call : Call) (v : View) → l.phase ≢ New → call ≢ starts → CallAllowed call v → port_state l v → l.phase ≡ Open }
 {}

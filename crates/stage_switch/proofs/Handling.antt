@@ -55,11 +55,11 @@ valve_after call first old new v acts took gave may allowed t unmoved law = reco
 pub valve_handled : (call : Call) (old new : Valve) (acts : List Act) → Obeys call (valve_port_state old) (valve_port_state new) acts → ValveTurned call old acts new → Handles ValvePortState ValveAs call old new acts
 valve_handled call old new acts o t = record {
   obeys = record {
-    allowed = λ v h r. o.allowed v h r.row;
-    row = λ v h r. record { started = t.started; row = o.row v h r.row };
+    allowed = λ v h r. o.allowed v h r.ports;
+    ports = λ v h r. record { started = t.started; ports = o.ports v h r.ports };
   };
   stands = t.stands;
-  keeps = λ first v took gave h r law. valve_after call first old new v acts took gave h (o.allowed v h r.row) t (o.row v h r.row).1 law;
+  keeps = λ first v took gave h r law. valve_after call first old new v acts took gave h (o.allowed v h r.ports) t (o.ports v h r.ports).1 law;
 }
 
 -- its ports are open and not asked
@@ -71,7 +71,7 @@ new_ports Closed x y e r = cc
 
 valve_begun : (l : Valve) (v : View) (took gave : List (List Item)) → ValveFresh l v → histories.AllEmpty took → histories.AllEmpty gave → length took ≡ length v.ins → length gave ≡ length v.outs → ValveAs l l v took gave
 valve_begun l v took gave f a b m n =
-    let p = fresh_ports (passing_port_state l.phase) v.ins v.outs took gave f.row.0 a b m n in
+    let p = fresh_ports (passing_port_state l.phase) v.ins v.outs took gave f.ports.0 a b m n in
     let ports = new_ports l.phase p.x p.y f.phase p.holds in
     let open_out : GaveAs (out_at v 0) unended = rw (p.outs, ports.1) refl in
     let idle : AllIdle v.ins = rw (p.ins, ports.0) (refl, tt) in
@@ -82,17 +82,17 @@ valve_begun l v took gave f a b m n =
       node = refl;
       switch = refl;
       valve = f.valve;
-      unmoved = f.row.1;
+      unmoved = f.ports.1;
     }
 
 pub valve_started : (old new : Valve) (acts : List Act) → Obeys starts (valve_port_state old) (valve_port_state new) acts → ValveTurned starts old acts new → Starts ValvePortState ValveAs ValveFresh old new acts
 valve_started old new acts o t = record {
   obeys = record {
-    allowed = λ v h f. o.allowed v h f.row;
-    row = λ v h f. record { started = t.started; row = o.row v h f.row };
+    allowed = λ v h f. o.allowed v h f.ports;
+    ports = λ v h f. record { started = t.started; ports = o.ports v h f.ports };
   };
   stands = t.stands;
-  begins = λ v took gave h f a b m n. valve_after starts old old new v acts took gave h (o.allowed v h f.row) t (o.row v h f.row).1 (valve_begun old v took gave f a b m n);
+  begins = λ v took gave h f a b m n. valve_after starts old old new v acts took gave h (o.allowed v h f.ports) t (o.ports v h f.ports).1 (valve_begun old v took gave f a b m n);
 }
 
 -- ---- a trip
@@ -144,16 +144,16 @@ trip_after call first old new v acts took gave r h allowed t law =
 pub trip_handled : (call : Call) (old new : Trip) (acts : List Act) → Obeys call (trip_port_state old) (trip_port_state new) acts → TripTurned call old acts new → Handles TripPortState TripAs call old new acts
 trip_handled call old new acts o t = record {
   obeys = record {
-    allowed = λ v h r. o.allowed v h r.row;
-    row = λ v h r. record { started = t.started; row = o.row v h r.row };
+    allowed = λ v h r. o.allowed v h r.ports;
+    ports = λ v h r. record { started = t.started; ports = o.ports v h r.ports };
   };
   stands = t.stands;
-  keeps = λ first v took gave h r law. trip_after call first old new v acts took gave r.row h (o.allowed v h r.row) t law;
+  keeps = λ first v took gave h r law. trip_after call first old new v acts took gave r.ports h (o.allowed v h r.ports) t law;
 }
 
 trip_begun : (l : Trip) (v : View) (took gave : List (List Item)) → TripFresh l v → histories.AllEmpty took → histories.AllEmpty gave → length took ≡ length v.ins → length gave ≡ length v.outs → TripAs l l v took gave
 trip_begun l v took gave f a b m n =
-    let p = fresh_ports (passing_port_state l.phase) v.ins v.outs took gave f.row a b m n in
+    let p = fresh_ports (passing_port_state l.phase) v.ins v.outs took gave f.ports a b m n in
     let ports = new_ports l.phase p.x p.y f.phase p.holds in
     let open_in : TookAs (in_at v 0) unended = rw (p.ins, ports.0) refl in
     let open_out : GaveAs (out_at v 0) unended = rw (p.outs, ports.1) refl in
@@ -176,30 +176,30 @@ trip_begun l v took gave f a b m n =
 pub trip_started : (old new : Trip) (acts : List Act) → Obeys starts (trip_port_state old) (trip_port_state new) acts → TripTurned starts old acts new → Starts TripPortState TripAs TripFresh old new acts
 trip_started old new acts o t = record {
   obeys = record {
-    allowed = λ v h f. o.allowed v h f.row;
-    row = λ v h f. record { started = t.started; row = o.row v h f.row };
+    allowed = λ v h f. o.allowed v h f.ports;
+    ports = λ v h f. record { started = t.started; ports = o.ports v h f.ports };
   };
   stands = t.stands;
-  begins = λ v took gave h f a b m n. trip_after starts old old new v acts took gave f.row h (o.allowed v h f.row) t (trip_begun old v took gave f a b m n);
+  begins = λ v took gave h f a b m n. trip_after starts old old new v acts took gave f.ports h (o.allowed v h f.ports) t (trip_begun old v took gave f a b m n);
 }
 
 -- ---- a call of a handler is of the one input or output
 
 pub valve_met : (call : Call) (l : Valve) → Meets call (ValvePortState l) → Meets (at_first call) (valve_port_state l)
-valve_met call l m = subst (λ c. Meets c (valve_port_state l)) (sym (first_port (passing_port_state l.phase) call m.0 m.1.0 m.1.1.row.0)) (m.0, (m.1.0, m.1.1.row))
+valve_met call l m = subst (λ c. Meets c (valve_port_state l)) (sym (first_port (passing_port_state l.phase) call m.0 m.1.0 m.1.1.ports.0)) (m.0, (m.1.0, m.1.1.ports))
 
 pub trip_met : (call : Call) (l : Trip) → Meets call (TripPortState l) → Meets (at_first call) (trip_port_state l)
-trip_met call l m = subst (λ c. Meets c (trip_port_state l)) (sym (first_port (passing_port_state l.phase) call m.0 m.1.0 m.1.1.row)) (m.0, (m.1.0, m.1.1.row))
+trip_met call l m = subst (λ c. Meets c (trip_port_state l)) (sym (first_port (passing_port_state l.phase) call m.0 m.1.0 m.1.1.ports)) (m.0, (m.1.0, m.1.1.ports))
 
 pub valve_handles : {T E : Type 0} (call : Call) (old new : Valve) (acts : List Act) (r : Result T E) → Meets call (ValvePortState old) → OnOk r (Obeys (at_first call) (valve_port_state old) (valve_port_state new) acts) → OnOk r (ValveTurned (at_first call) old acts new)
     → OnOk r (Handles ValvePortState ValveAs call old new acts)
 valve_handles call old new acts r m o t =
-    subst (λ c. OnOk r (Handles ValvePortState ValveAs c old new acts)) (first_port (passing_port_state old.phase) call m.0 m.1.0 m.1.1.row.0) (on_ok_two r o t (λ a b. valve_handled (at_first call) old new acts a b))
+    subst (λ c. OnOk r (Handles ValvePortState ValveAs c old new acts)) (first_port (passing_port_state old.phase) call m.0 m.1.0 m.1.1.ports.0) (on_ok_two r o t (λ a b. valve_handled (at_first call) old new acts a b))
 
 pub trip_handles : {T E : Type 0} (call : Call) (old new : Trip) (acts : List Act) (r : Result T E) → Meets call (TripPortState old) → OnOk r (Obeys (at_first call) (trip_port_state old) (trip_port_state new) acts) → OnOk r (TripTurned (at_first call) old acts new)
     → OnOk r (Handles TripPortState TripAs call old new acts)
 trip_handles call old new acts r m o t =
-    subst (λ c. OnOk r (Handles TripPortState TripAs c old new acts)) (first_port (passing_port_state old.phase) call m.0 m.1.0 m.1.1.row) (on_ok_two r o t (λ a b. trip_handled (at_first call) old new acts a b))
+    subst (λ c. OnOk r (Handles TripPortState TripAs c old new acts)) (first_port (passing_port_state old.phase) call m.0 m.1.0 m.1.1.ports) (on_ok_two r o t (λ a b. trip_handled (at_first call) old new acts a b))
 
 -- ---- moves, and what outlives want of memory
 
@@ -216,15 +216,15 @@ valve_same old new e = rw e record { node = refl; switch = refl; moves = prefix_
 
 -- its start
 pub valve_begins : {T E : Type 0} (old new : Valve) (acts : List Act) (r : Result T E) → Meets starts (ValveFresh old) → OnOk r (ValveTurned starts old acts new) → OnOk r (IsPrefix old.moves new.moves)
-valve_begins old new acts r m t = grown starts old new acts r (none_new starts old m.1.1.phase (m.0, (m.1.0, m.1.1.row))) t
+valve_begins old new acts r m t = grown starts old new acts r (none_new starts old m.1.1.phase (m.0, (m.1.0, m.1.1.ports))) t
 
 pub valve_start_keeps : {T E : Type 0} (X : Type 0) (old new : Valve) (acts : List Act) (r : Result T E) → Meets starts (ValveFresh old) → OnOk r (ValveTurned starts old acts new) → OnErr r ((new ≡ old) × X) → KeepsValve old new
-valve_start_keeps X old new acts (Ok x) m t e = record { node = t.node; switch = t.switch; moves = begins_with new.moves old.moves (none_new starts old m.1.1.phase (m.0, (m.1.0, m.1.1.row))); valve = λ h. t.valve }
+valve_start_keeps X old new acts (Ok x) m t e = record { node = t.node; switch = t.switch; moves = begins_with new.moves old.moves (none_new starts old m.1.1.phase (m.0, (m.1.0, m.1.1.ports))); valve = λ h. t.valve }
 valve_start_keeps X old new acts (Err x) m t e = valve_same old new e.0
 
 -- a further call
 pub valve_grows : {T E : Type 0} (call : Call) (old new : Valve) (acts : List Act) (r : Result T E) → call ≢ starts → Meets call (ValvePortState old) → OnOk r (ValveTurned (at_first call) old acts new) → OnOk r (IsPrefix old.moves new.moves)
-valve_grows call old new acts r s m t = grown (at_first call) old new acts r (none_open call old (called_valve old call m.0 s m.1.0 m.1.1) (m.0, (m.1.0, m.1.1.row))) t
+valve_grows call old new acts r s m t = grown (at_first call) old new acts r (none_open call old (called_valve old call m.0 s m.1.0 m.1.1) (m.0, (m.1.0, m.1.1.ports))) t
 
 pub valve_keeps : {T E : Type 0} (X : Type 0) (old new : Valve) (r : Result T E) → OnErr r ((new ≡ old) × X) → OnErr r (KeepsValve old new)
 valve_keeps X old new (Ok x) e = tt

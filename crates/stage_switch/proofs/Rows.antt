@@ -67,7 +67,7 @@ at_ports P (x ∷ w ∷ xs) ys r = absurd r
 pub valve_rests : (first now : Valve) (v : View) (took gave : List (List Item)) → ValvePortState now v → (law : ValveAs first now v took gave) → ValveRests v law.by.law.ins law.by.law.out_list
 valve_rests first l v took gave r law =
     let ports = law.by.law in
-    rests_at first.node l.passed l.phase l.moves (in_at v 0) (out_at v 0) ports.ins ports.out_list ports.out_end r.started (at_ports (passing_port_state l.phase) v.ins v.outs r.row.0) ports.keeps
+    rests_at first.node l.passed l.phase l.moves (in_at v 0) (out_at v 0) ports.ins ports.out_list ports.out_end r.started (at_ports (passing_port_state l.phase) v.ins v.outs r.ports.0) ports.keeps
 
 -- where it waits it is asked, and gave all that came
 waits_at : (node n : ℕ) (p : Phase) (moves : List ℕ) (x : InView) (y : OutView) (ins : List Inflow) (g : List Tree) (e : End) → x ≡ Pulled → passing_port_state p x y → ValveKeeps node (valve_held_in p n moves) ins g e → (y ≡ outlet.Available) × PassedAll ins g
@@ -93,7 +93,7 @@ waits_at node n Open moves x y (f ∷ []) g e w r k = (by_view x y w r, k.1.1.0)
 pub valve_waits : (first now : Valve) (v : View) (took gave : List (List Item)) → ValvePortState now v → (law : ValveAs first now v took gave) → in_at v 0 ≡ Pulled → (out_at v 0 ≡ outlet.Available) × PassedAll law.by.law.ins law.by.law.out_list
 valve_waits first l v took gave r law w =
     let ports = law.by.law in
-    waits_at first.node l.passed l.phase l.moves (in_at v 0) (out_at v 0) ports.ins ports.out_list ports.out_end w (at_ports (passing_port_state l.phase) v.ins v.outs r.row.0) ports.keeps
+    waits_at first.node l.passed l.phase l.moves (in_at v 0) (out_at v 0) ports.ins ports.out_list ports.out_end w (at_ports (passing_port_state l.phase) v.ins v.outs r.ports.0) ports.keeps
 
 -- ---- where it is called
 
@@ -133,10 +133,10 @@ called_open : (p : Phase) (call : Call) (v : View) → p ≢ New → call ≢ st
 called_open p call v n s h r = open_lists p call v.ins v.outs n s h r
 
 pub called_valve : (l : Valve) (call : Call) (v : View) → call ≢ starts → CallAllowed call v → ValvePortState l v → l.phase ≡ Open
-called_valve l call v s h r = called_open l.phase call v r.started s h r.row.0
+called_valve l call v s h r = called_open l.phase call v r.started s h r.ports.0
 
 pub called_trip : (l : Trip) (call : Call) (v : View) → call ≢ starts → CallAllowed call v → TripPortState l v → l.phase ≡ Open
-called_trip l call v s h r = called_open l.phase call v r.started s h r.row
+called_trip l call v s h r = called_open l.phase call v r.started s h r.ports
 
 unmoved_new : (p : Phase) (moves : List ℕ) → p ≡ New → Unmoved p moves → moves ≡ []
 unmoved_new New moves e u = u
@@ -175,17 +175,17 @@ module _ (book : Book) (start : Run Stage Tree) (took gave : List Item) where
 
 pub trip_rests : (book : Book) (d : Decider) (first now : Trip) (v : View) (took gave : List (List Item)) → TripPortState now v → (law : TripAs first now v took gave)
     → OwnRests (linear book passing) (begin_work first.node d passing) false (in_at v 0) (out_at v 0) (law.law book d).in_list (law.law book d).out_list
-trip_rests book d first l v took gave r law = trip_lists book (begin_work first.node d passing) law.took_list law.gave_list l.phase (trip_stage d l) v.ins v.outs r.started r.row (law.law book d)
+trip_rests book d first l v took gave r law = trip_lists book (begin_work first.node d passing) law.took_list law.gave_list l.phase (trip_stage d l) v.ins v.outs r.started r.ports (law.law book d)
 
 -- ---- before it was started
 
 pub new_valve : (node : ℕ) (switch : SwitchState) (seat : SeatState) → IsUnused switch seat → ValveFresh (new_valve_of node switch seat) unpulled_ports
-new_valve node switch seat u = record { phase = refl; passed = refl; valve = record { one = u.0; gave = u.1.0; knows = u.1.1; formed = refl }; row = (tt, refl) }
+new_valve node switch seat u = record { phase = refl; passed = refl; valve = record { one = u.0; gave = u.1.0; knows = u.1.1; formed = refl }; ports = (tt, refl) }
 
 pub new_trip : (node : ℕ) (order : Order) (count : ℕ) (switch : SwitchState) (seat : SeatState) → IsUnused switch seat → 1 ≤ count → TripFresh (new_trip_of node order count switch seat) unpulled_ports
 new_trip node order count switch seat u c = record {
   phase = refl;
   taken = refl;
   trip = record { one = u.0; gave = subst (λ (m : Option Order). IfSome m (λ o. (o ≡ order) × (count ≤ 0))) (sym u.1.0) tt; knows = λ z. absurd (omega (arith, z, c)) };
-  row = tt;
+  ports = tt;
 }

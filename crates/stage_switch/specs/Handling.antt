@@ -24,12 +24,12 @@ pub record ValveFresh (l : Valve) (v : View) : Type 0 where
   pub phase : l.phase ≡ New
   pub passed : l.passed ≡ 0
   pub valve : IsValve l.switch l.seat l.moves
-  pub row : valve_port_state l v
+  pub ports : valve_port_state l v
 
--- it was started, and its row holds
+-- it was started, and its port state holds
 pub record ValvePortState (l : Valve) (v : View) : Type 0 where
   pub started : l.phase ≢ New
-  pub row : valve_port_state l v
+  pub ports : valve_port_state l v
 
 -- The law of a valve by what it did, which its moves say; its node and its switch stay, and its seat knows an order exactly
 -- where its moves show it.
@@ -54,12 +54,12 @@ pub record TripFresh (l : Trip) (v : View) : Type 0 where
   pub phase : l.phase ≡ New
   pub taken : l.taken ≡ 0
   pub trip : IsTrip l.order l.count l.taken l.switch l.seat
-  pub row : trip_port_state l v
+  pub ports : trip_port_state l v
 
 -- it was started
 pub record TripPortState (l : Trip) (v : View) : Type 0 where
   pub started : l.phase ≢ New
-  pub row : trip_port_state l v
+  pub ports : trip_port_state l v
 
 -- The law of a trip, by any book of plugs, since it asks none, and any decider, since it never fails: it passes on what comes. Its node, its order, its count and its
 -- switch stay, and its seat gave its order only where so many elements came, and knows one from then on.

@@ -45,7 +45,7 @@ pub fn a_new_stage_may_start()
     ensures trip { (node : ℕ) (order : Order) (count : ℕ) (switch : SwitchState) (seat : SeatState) → IsUnused switch seat → 1 ≤ count → TripFresh (new_trip_of node order count switch seat) unpulled_ports }
 {}
 
-/// Where its row and its law hold, a stage that was started has closed its ports, or has nothing to do: it waits for its input
+/// Where its port state and its law hold, a stage that was started has closed its ports, or has nothing to do: it waits for its input
 /// and has given all that came, or nobody asks it. A valve that waits is asked, and has given all that came.
 pub fn a_started_stage_rests()
     ensures valve { (first now : Valve) (v : View) (took gave : List (List Item)) → ValvePortState now v → (law : ValveAs first now v took gave) → ValveRests v law.by.law.ins law.by.law.out_list }
@@ -54,7 +54,7 @@ pub fn a_started_stage_rests()
         → OwnRests (linear book passing) (begin_work first.node d passing) false (in_at v 0) (out_at v 0) (law.law book d).in_list (law.law book d).out_list }
 {}
 
-/// Where the port rules allow a call of a handler and the row holds, a stage that was started is open.
+/// Where the port rules allow a call of a handler and the port state holds, a stage that was started is open.
 pub fn a_called_stage_is_open()
     ensures valve { (l : Valve) (call : Call) (v : View) → call ≢ starts → CallAllowed call v → ValvePortState l v → l.phase ≡ Open }
     ensures trip { (l : Trip) (call : Call) (v : View) → call ≢ starts → CallAllowed call v → TripPortState l v → l.phase ≡ Open }

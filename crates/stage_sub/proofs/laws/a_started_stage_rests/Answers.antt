@@ -4,4 +4,4 @@ use Rattle.stage_sub.proofs.Rows.{started_rests}
 use Rattle.stage_sub.proofs.laws.a_started_stage_rests.Goals as goal
 
 pub returns : goal.returns
-returns g c = λ f yields start first now v took gave r t. started_rests g.C.Chain.rest g.C.Chain.is_open f yields (joined_machine yields (opening_of first.how)) (untag start) took gave now t.held v r.started t.owes r.row t.law
+returns g c = λ f yields start first now v took gave r t. started_rests g.C.Chain.rest g.C.Chain.is_open f yields (joined_machine yields (opening_of first.how)) (untag start) took gave now t.held v r.started t.owes r.ports t.law

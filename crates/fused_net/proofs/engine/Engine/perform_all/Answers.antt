@@ -9,8 +9,7 @@ use Rattle.fused_net.proofs.engine.Engine.perform_all.Goals as goal
 
 pub loop-act-init : goal.loop-act-init
 loop-act-init g c =
-    let back = turned_back _ _ (ap (λ (a : ActList). a.items) c.reverse.ensures) in
-    (
+    let back = turned_back _ _ (ap (λ (a : ActList). a.items) c.reverse.ensures) in (
       subst (λ l. Busy AnyRow AnyLaw c.args.self.now c.args.n l) (sym back) c.requires.busy,
       ap (λ l. acted_all c.args.self.now c.args.n l) back,
       ap (λ (a : ActList). a.room) c.reverse.ensures,

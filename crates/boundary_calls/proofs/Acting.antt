@@ -11,7 +11,7 @@ use Rattle.stream_model.specs.Outlook.{End}
 use Rattle.stream_model.specs.Linear.{Book}
 use Rattle.stage_law.specs.Held.{told}
 use Rattle.port_core.specs.Decoding.{can_push, can_pull}
-use Rattle.port_core.specs.Joint.{Joint, idle, asking, asked, moving, ending, closing, leaving, finished, parted, refused, wire_of, IsSound, Histories, under_way}
+use Rattle.port_core.specs.Joint.{Joint, idle, asking, asked, moving, ending, closing, leaving, finished, parted, cancelled, wire_of, IsSound, Histories, under_way}
 use Rattle.port_core.specs.Wire.{JointPorts, end_item}
 use Rattle.port_core.specs.View.{View, in_at, out_at, IsInOpen, IsOutOpen, output_closed, input_closed}
 use Rattle.port_core.specs.declared.act.Act.{Act}
@@ -51,7 +51,7 @@ asked_j (leaving true t) s g e = refl
 asked_j (leaving false t) s g e = cc
 asked_j (finished t c) s g e = cc
 asked_j (parted t c) s g e = cc
-asked_j (refused t c) s g e = cc
+asked_j (cancelled t c) s g e = cc
 
 can_push_asked : (w : JointPorts) (q : Bool) → IsSound w q → can_push w.conn ≡ true → w.out ≡ outlet.Available
 can_push_asked w q h e = ap (λ (v : JointPorts). v.out) h.is ∙ asked_j h.joint w.sent w.got (sym (ap (λ (v : JointPorts). can_push v.conn) h.is) ∙ e)
@@ -67,7 +67,7 @@ idle_j (leaving true t) s g e = cc
 idle_j (leaving false t) s g e = cc
 idle_j (finished t c) s g e = cc
 idle_j (parted t c) s g e = cc
-idle_j (refused t c) s g e = cc
+idle_j (cancelled t c) s g e = cc
 
 can_pull_idle : (w : JointPorts) (q : Bool) → IsSound w q → can_pull w.conn ≡ true → w.inp ≡ Idle
 can_pull_idle w q h e = ap (λ (v : JointPorts). v.inp) h.is ∙ idle_j h.joint w.sent w.got (sym (ap (λ (v : JointPorts). can_pull v.conn) h.is) ∙ e)
@@ -161,7 +161,7 @@ few_j (closing t c) s g e = rw e (let k = elements-append g (under_way t ++ end_
 few_j (leaving a t) s g e = rw e.1 (let k = elements-append g e.0 in omega (arith, k))
 few_j (finished t c) s g e = rw e (omega arith)
 few_j (parted t c) s g e = rw e.1 (let k = elements-append g e.0 in omega (arith, k))
-few_j (refused t c) s g e = rw e.1 (let k = elements-append g e.0 in omega (arith, k))
+few_j (cancelled t c) s g e = rw e.1 (let k = elements-append g e.0 in omega (arith, k))
 
 asks_least : (b : Bool) (n : ℕ) → n ≤ (if b then n + 1 else n)
 asks_least true n = omega arith

@@ -9,7 +9,7 @@ use Rattle.port_core.specs.Asking.{NoCancel, PullsStand}
 use Rattle.port_core.specs.Connection.{pulled}
 use Rattle.port_core.specs.Decoding.{can_pull}
 use Rattle.port_core.specs.Wire.{JointPorts, Delivery, nothing, pull, cancel, arrived, after_delivery, again}
-use Rattle.port_core.specs.Joint.{Joint, idle, asking, asked, moving, ending, closing, leaving, finished, parted, refused, wire_of, IsSound}
+use Rattle.port_core.specs.Joint.{Joint, idle, asking, asked, moving, ending, closing, leaving, finished, parted, cancelled, wire_of, IsSound}
 use Rattle.port_core.specs.View.{View}
 use Rattle.port_core.specs.View as view
 use Rattle.port_core.specs.declared.act.Act.{Act}
@@ -42,7 +42,7 @@ open_j (leaving true t) s g e = cc
 open_j (leaving false t) s g e = cc
 open_j (finished t c) s g e = cc
 open_j (parted t c) s g e = cc
-open_j (refused t c) s g e = cc
+open_j (cancelled t c) s g e = cc
 
 waits_open : (w : JointPorts) (q : Bool) → IsSound w q → w.inp ≡ Pulled → w.conn.in_closed ≡ false
 waits_open w q h e = ap (λ (v : JointPorts). v.conn.in_closed) h.is ∙ open_j h.joint w.sent w.got (sym (ap (λ (v : JointPorts). v.inp) h.is) ∙ e)
@@ -59,7 +59,7 @@ unasked_j (leaving true u) s g i t o = cc
 unasked_j (leaving false u) s g i t o = cc
 unasked_j (finished u c) s g i t o = cc
 unasked_j (parted u c) s g i t o = cc
-unasked_j (refused u c) s g i t o = cc
+unasked_j (cancelled u c) s g i t o = cc
 
 not_come : (w : JointPorts) (q : Bool) → IsSound w q → w.inp ≡ Pulled → w.conn.step ≡ pulled → w.out ≡ Available → ⊥
 not_come w q h i t o =

@@ -5,9 +5,9 @@ use Rattle.elem_core.specs.Prefix.{IsPrefix}
 use Rattle.elem_core.specs.Items.{elements}
 use Rattle.elem_core.specs.declared.item.Item.{Item}
 use Rattle.port_core.specs.Wire.{JointPorts}
-use Rattle.port_core.specs.Joint.{Joint, idle, asking, asked, moving, ending, closing, leaving, finished, parted, refused, wire_of, Histories, IsSound}
+use Rattle.port_core.specs.Joint.{Joint, idle, asking, asked, moving, ending, closing, leaving, finished, parted, cancelled, wire_of, Histories, IsSound}
 use Rattle.port_core.specs.View.{View}
-use Rattle.port_core.specs.Call.{starts, AllIdle, AllUnasked}
+use Rattle.port_core.specs.Call.{starts, AllIdle, AllUnpulled}
 use Rattle.port_core.specs.declared.act.Act.{Act}
 use Rattle.port_core.specs.declared.view.InView.TheVariants.{Idle}
 use Rattle.port_core.specs.declared.view.OutView.TheVariants.{Unpulled}
@@ -42,7 +42,7 @@ all_idle : (m : ℕ) → AllIdle (replicate m Idle)
 all_idle zero = tt
 all_idle (suc m) = (refl, all_idle m)
 
-all_unasked : (m : ℕ) → AllUnasked (replicate m Unpulled)
+all_unasked : (m : ℕ) → AllUnpulled (replicate m Unpulled)
 all_unasked zero = tt
 all_unasked (suc m) = (refl, all_unasked m)
 
@@ -73,7 +73,7 @@ idle_j (leaving true t) s g b h m e none = cc
 idle_j (leaving false t) s g b h m e none = cc
 idle_j (finished t c) s g b h m e none = cc
 idle_j (parted t c) s g b h m e none = cc
-idle_j (refused t c) s g b h m e none = cc
+idle_j (cancelled t c) s g b h m e none = cc
 
 none_wanted : (c : WireState) (q : Bool) → IsSound c.wire q → IsMarked c → c.wire.inp ≡ Idle → c.wire.got ≡ [] → wanted c ≡ 0
 none_wanted c q h m e none =

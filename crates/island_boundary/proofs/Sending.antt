@@ -7,7 +7,7 @@ use Rattle.elem_core.specs.Items.{elements}
 use Rattle.elem_core.specs.declared.item.Item.{Item}
 use Rattle.elem_core.specs.declared.item.Item.TheVariants as item
 use Rattle.port_core.specs.Decoding.{can_pull}
-use Rattle.port_core.specs.Joint.{Joint, idle, asking, asked, moving, ending, closing, leaving, finished, parted, refused, wire_of, IsSound, Histories}
+use Rattle.port_core.specs.Joint.{Joint, idle, asking, asked, moving, ending, closing, leaving, finished, parted, cancelled, wire_of, IsSound, Histories}
 use Rattle.port_core.specs.Wire.{JointPorts}
 use Rattle.port_core.specs.declared.act.Act.TheVariants as act
 use Rattle.stream_io.specs.State.{SourceState, DrainState}
@@ -41,7 +41,7 @@ came_j (leaving true t) s g e h = cc
 came_j (leaving false t) s g e h = cc
 came_j (finished t c) s g e h = cc
 came_j (parted t c) s g e h = cc
-came_j (refused t c) s g e h = cc
+came_j (cancelled t c) s g e h = cc
 
 -- where an input may ask, all that was sent has come
 pub all_came : (w : JointPorts) (q : Bool) → IsSound w q → can_pull w.conn ≡ true → w.sent ≡ w.got

@@ -8,7 +8,7 @@ use Rattle.elem_core.specs.Tree.{Tree}
 use Rattle.elem_core.specs.declared.item.Item.{Item}
 use Rattle.stream_io.specs.State.{SourceState, DrainState}
 use Rattle.port_core.specs.Decoding.{can_pull}
-use Rattle.port_core.specs.Joint.{Joint, idle, asking, asked, moving, ending, closing, leaving, finished, parted, refused, wire_of, IsSound, Histories}
+use Rattle.port_core.specs.Joint.{Joint, idle, asking, asked, moving, ending, closing, leaving, finished, parted, cancelled, wire_of, IsSound, Histories}
 use Rattle.port_core.specs.Wire.{JointPorts}
 use Rattle.port_core.specs.View.{View, input_closed}
 use Rattle.port_core.specs.declared.view.InView.{InView}
@@ -52,7 +52,7 @@ idle_j (leaving true t) s g e = cc
 idle_j (leaving false t) s g e = cc
 idle_j (finished t c) s g e = cc
 idle_j (parted t c) s g e = cc
-idle_j (refused t c) s g e = cc
+idle_j (cancelled t c) s g e = cc
 
 pub idle_may : (w : JointPorts) (q : Bool) → IsSound w q → w.inp ≡ Idle → (can_pull w.conn ≡ true) ⊎ (w.conn.out_closed ≡ true)
 idle_may w q s e = elim (idle_j s.joint w.sent w.got (sym (ap (λ (v : JointPorts). v.inp) s.is) ∙ e)) [
@@ -72,7 +72,7 @@ shut_j (leaving true t) s g h = refl
 shut_j (leaving false t) s g h = refl
 shut_j (finished t c) s g h = refl
 shut_j (parted t c) s g h = refl
-shut_j (refused t c) s g h = refl
+shut_j (cancelled t c) s g h = refl
 
 closed_j : (j : Joint) (s g : List Item) → (wire_of j s g).conn.in_closed ≡ true → InClosed (wire_of j s g).inp
 closed_j idle s g h = cc
@@ -85,7 +85,7 @@ closed_j (leaving true t) s g h = tt
 closed_j (leaving false t) s g h = tt
 closed_j (finished t c) s g h = tt
 closed_j (parted t c) s g h = tt
-closed_j (refused t c) s g h = tt
+closed_j (cancelled t c) s g h = tt
 
 pub shut_conn : (w : JointPorts) (q : Bool) → IsSound w q → InClosed w.inp → w.conn.in_closed ≡ true
 shut_conn w q s h = ap (λ (v : JointPorts). v.conn.in_closed) s.is ∙ shut_j s.joint w.sent w.got (subst (λ (v : JointPorts). InClosed v.inp) s.is h)

@@ -4,7 +4,7 @@ use Rattle.elem_core.specs.Tree.{Tree}
 use Rattle.elem_core.specs.declared.item.Item.{Item}
 use Rattle.elem_core.specs.declared.item.Item.TheVariants as item
 use Rattle.port_core.specs.Decoding.{can_push}
-use Rattle.port_core.specs.Joint.{Joint, idle, asking, asked, moving, ending, closing, leaving, finished, parted, refused, wire_of, IsSound, Queues}
+use Rattle.port_core.specs.Joint.{Joint, idle, asking, asked, moving, ending, closing, leaving, finished, parted, cancelled, wire_of, IsSound, Queues}
 use Rattle.port_core.specs.Wire.{JointPorts}
 use Rattle.port_core.specs.declared.view.OutView.{OutView}
 use Rattle.port_core.specs.declared.view.OutView.TheVariants.{Unpulled, Available, Closed, Cancelled}
@@ -24,7 +24,7 @@ push_j (leaving true t) s g e = refl
 push_j (leaving false t) s g e = cc
 push_j (finished t c) s g e = cc
 push_j (parted t c) s g e = cc
-push_j (refused t c) s g e = cc
+push_j (cancelled t c) s g e = cc
 
 pub push_asked : (w : JointPorts) (q : Bool) → IsSound w q → can_push w.conn ≡ true → w.out ≡ Available
 push_asked w q h e = ap (λ (v : JointPorts). v.out) h.is ∙ push_j h.joint w.sent w.got (sym (ap (λ (v : JointPorts). can_push v.conn) h.is) ∙ e)
@@ -41,7 +41,7 @@ away_j (leaving true t) s g a e = refl
 away_j (leaving false t) s g a e = cc
 away_j (finished t c) s g a e = cc
 away_j (parted t c) s g a e = cc
-away_j (refused t c) s g a e = cc
+away_j (cancelled t c) s g a e = cc
 
 pub cancel_away : (w : JointPorts) (q : Bool) → IsSound w q → w.out ≡ Available → can_push w.conn ≡ false → w.conn.in_closed ≡ true
 cancel_away w q h a e = ap (λ (v : JointPorts). v.conn.in_closed) h.is ∙ away_j h.joint w.sent w.got (sym (ap (λ (v : JointPorts). v.out) h.is) ∙ a) (sym (ap (λ (v : JointPorts). can_push v.conn) h.is) ∙ e)
@@ -57,7 +57,7 @@ rest_j (closing t c) s g a e = refl
 rest_j (leaving b t) s g a e = absurd cc
 rest_j (finished t c) s g a e = cc
 rest_j (parted t c) s g a e = cc
-rest_j (refused t c) s g a e = cc
+rest_j (cancelled t c) s g a e = cc
 
 pub rest_open : (w : JointPorts) → IsSound w false → w.out ≡ Available → w.conn.in_closed ≡ false
 rest_open w h a = ap (λ (v : JointPorts). v.conn.in_closed) h.is ∙ rest_j h.joint w.sent w.got (sym (ap (λ (v : JointPorts). v.out) h.is) ∙ a) h.queues
@@ -74,7 +74,7 @@ refused_j (leaving true t) s g c n = cc
 refused_j (leaving false t) s g c n = cc
 refused_j (finished t x) s g c n = absurd (n refl)
 refused_j (parted t x) s g c n = absurd (n refl)
-refused_j (refused t x) s g c n = refl
+refused_j (cancelled t x) s g c n = refl
 
 pub was_refused : (w : JointPorts) (q : Bool) → IsSound w q → w.conn.out_closed ≡ true → (w.out ≡ Closed → ⊥) → w.out ≡ Cancelled
 was_refused w q h c n = ap (λ (v : JointPorts). v.out) h.is ∙ refused_j h.joint w.sent w.got (sym (ap (λ (v : JointPorts). v.conn.out_closed) h.is) ∙ c) (λ e. n (ap (λ (v : JointPorts). v.out) h.is ∙ e))
@@ -90,7 +90,7 @@ closed_j (leaving true t) s g e = cc
 closed_j (leaving false t) s g e = cc
 closed_j (finished t c) s g e = cc
 closed_j (parted t c) s g e = cc
-closed_j (refused t c) s g e = refl
+closed_j (cancelled t c) s g e = refl
 
 pub refused_closed : (w : JointPorts) (q : Bool) → IsSound w q → w.out ≡ Cancelled → w.conn.out_closed ≡ true
 refused_closed w q h e = ap (λ (v : JointPorts). v.conn.out_closed) h.is ∙ closed_j h.joint w.sent w.got (sym (ap (λ (v : JointPorts). v.out) h.is) ∙ e)

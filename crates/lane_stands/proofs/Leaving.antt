@@ -8,7 +8,7 @@ use Rattle.stream_model.specs.Outlook.{End}
 use Rattle.stream_model.specs.Linear.{Book}
 use Rattle.stage_law.specs.Held.{told}
 use Rattle.stage_law.specs.Law.{TookAs}
-use Rattle.port_core.specs.Joint.{Joint, idle, asking, asked, moving, ending, closing, leaving, finished, parted, refused, wire_of, IsSound, Histories, Queues}
+use Rattle.port_core.specs.Joint.{Joint, idle, asking, asked, moving, ending, closing, leaving, finished, parted, cancelled, wire_of, IsSound, Histories, Queues}
 use Rattle.port_core.specs.Wire.{JointPorts}
 use Rattle.port_core.specs.View.{View, in_at}
 use Rattle.port_core.specs.declared.view.InView.{InView}
@@ -37,7 +37,7 @@ idle_j (leaving true t) s g e q h = absurd cc
 idle_j (leaving false t) s g e q h = absurd cc
 idle_j (finished t c) s g e q h = absurd cc
 idle_j (parted t c) s g e q h = absurd cc
-idle_j (refused t c) s g e q h = absurd cc
+idle_j (cancelled t c) s g e q h = absurd cc
 
 pub idle_rest : (w : JointPorts) → IsSound w false → w.inp ≡ Idle → (w.conn.out_closed ≡ false) × (w.sent ≡ w.got)
 idle_rest w s e =

@@ -8,7 +8,7 @@ use Rattle.port_core.specs.Connection.{ConnStep, Connection, quiet, pulled, read
 use Rattle.port_core.specs.Decoding.{can_pull, can_push, is_at_rest}
 use Rattle.port_core.specs.View.{IsInOpen, IsOutOpen}
 use Rattle.port_core.specs.Wire.{JointPorts, new_wire, pull_of, push_of, close_of, cancel_of, end_item, closed_by, delivery_of, after_delivery, again}
-use Rattle.port_core.specs.Joint.{Joint, idle, asking, asked, moving, ending, closing, leaving, finished, parted, refused, wire_of, Histories, Queues, IsSound, LeavesSound, Heard, under_way}
+use Rattle.port_core.specs.Joint.{Joint, idle, asking, asked, moving, ending, closing, leaving, finished, parted, cancelled, wire_of, Histories, Queues, IsSound, LeavesSound, Heard, under_way}
 use Rattle.port_core.specs.declared.view.InView.{InView}
 use Rattle.port_core.specs.declared.view.InView.TheVariants.{Idle, Pulled, Cancelled}
 use Rattle.port_core.specs.declared.view.OutView.TheVariants.{Available, Closed}
@@ -35,7 +35,7 @@ pull_at (leaving true t) s g q h r e = cc
 pull_at (leaving false t) s g q h r e = cc
 pull_at (finished t c) s g q h r e = cc
 pull_at (parted t c) s g q h r e = cc
-pull_at (refused t c) s g q h r e = cc
+pull_at (cancelled t c) s g q h r e = cc
 
 push_at : (x : Tree) (j : Joint) (s g : List Item) (q : Bool) → Histories j s g → Queues j q → (wire_of j s g).out ≡ Available
     → LeavesSound (push_of x (wire_of j s g)) q (can_push (wire_of j s g).conn)
@@ -49,7 +49,7 @@ push_at x (leaving true t) s g q h r e = rw r (record { sound = record { joint =
 push_at x (leaving false t) s g q h r e = cc
 push_at x (finished t c) s g q h r e = cc
 push_at x (parted t c) s g q h r e = cc
-push_at x (refused t c) s g q h r e = cc
+push_at x (cancelled t c) s g q h r e = cc
 
 -- a closing where no side was closed, and behind a cancel
 closed_open : (c : Option Cause) (t : ConnStep) → closed_by c (record { step = t; to_grab = None; in_closed = false; out_closed = false; cause = None }) ≡ record { step = t; to_grab = None; in_closed = false; out_closed = true; cause = c }
@@ -76,7 +76,7 @@ close_at c (leaving true t) s g q h r e = rw r (record { sound = record { joint 
 close_at c (leaving false t) s g q h r e = rw r (record { sound = record { joint = parted t None; is = shut_with Cancelled (s ++ end_item c ∷ []) g _ _ (closed_left c t); histories = (h.0 ++ end_item c ∷ [], longer g h.0 s (end_item c) h.1); queues = tt }; free = λ f. cc })
 close_at c (finished t d) s g q h r e = absurd e
 close_at c (parted t d) s g q h r e = absurd e
-close_at c (refused t d) s g q h r e = absurd e
+close_at c (cancelled t d) s g q h r e = absurd e
 
 cancel_at : (j : Joint) (s g : List Item) (q : Bool) → Histories j s g → Queues j q → IsInOpen (wire_of j s g).inp
     → LeavesSound (cancel_of (wire_of j s g)) q (is_at_rest (wire_of j s g).conn)
@@ -90,7 +90,7 @@ cancel_at (leaving true t) s g q h r e = absurd e
 cancel_at (leaving false t) s g q h r e = absurd e
 cancel_at (finished t c) s g q h r e = absurd e
 cancel_at (parted t c) s g q h r e = absurd e
-cancel_at (refused t c) s g q h r e = absurd e
+cancel_at (cancelled t c) s g q h r e = absurd e
 
 -- an event that was taken from the queue
 deliver_at : (j : Joint) (s g : List Item) → Histories j s g → Queues j true
@@ -108,11 +108,11 @@ deliver_at (closing pulled (Some c)) s g h r = record { joint = finished pulled 
 deliver_at (closing ready None) s g h r = record { joint = finished ready None; is = refl; histories = h; queues = tt }
 deliver_at (closing ready (Some c)) s g h r = record { joint = finished ready (Some c); is = refl; histories = h; queues = tt }
 deliver_at (closing (pushed y) c) s g h r = record { joint = ending c; is = refl; histories = h ∙ sym (append_assoc g (item.Elem y ∷ []) (end_item c ∷ [])); queues = refl }
-deliver_at (leaving true t) s g h r = record { joint = refused t None; is = refl; histories = h; queues = tt }
-deliver_at (leaving false t) s g h r = record { joint = refused t None; is = refl; histories = h; queues = tt }
+deliver_at (leaving true t) s g h r = record { joint = cancelled t None; is = refl; histories = h; queues = tt }
+deliver_at (leaving false t) s g h r = record { joint = cancelled t None; is = refl; histories = h; queues = tt }
 deliver_at (finished t c) s g h r = record { joint = finished t c; is = refl; histories = h; queues = tt }
 deliver_at (parted t c) s g h r = record { joint = parted t c; is = refl; histories = h; queues = tt }
-deliver_at (refused t c) s g h r = record { joint = refused t c; is = refl; histories = h; queues = tt }
+deliver_at (cancelled t c) s g h r = record { joint = cancelled t c; is = refl; histories = h; queues = tt }
 
 heard_at : (j : Joint) (s g : List Item) → Queues j true → Heard (delivery_of (wire_of j s g)) (wire_of j s g)
 heard_at idle s g r = cc
@@ -132,7 +132,7 @@ heard_at (leaving true t) s g r = tt
 heard_at (leaving false t) s g r = tt
 heard_at (finished t c) s g r = tt
 heard_at (parted t c) s g r = tt
-heard_at (refused t c) s g r = tt
+heard_at (cancelled t c) s g r = tt
 
 -- for any wire
 pub pull_kept : (w : JointPorts) (q : Bool) → IsSound w q → w.inp ≡ Idle → LeavesSound (pull_of w) q (can_pull w.conn)
@@ -165,7 +165,7 @@ pull_free (leaving true t) s g e = cc
 pull_free (leaving false t) s g e = cc
 pull_free (finished t c) s g e = cc
 pull_free (parted t c) s g e = cc
-pull_free (refused t c) s g e = cc
+pull_free (cancelled t c) s g e = cc
 
 push_free : (j : Joint) (s g : List Item) → (wire_of j s g).out ≡ Available → (can_push (wire_of j s g).conn ≡ true) ⊎ ((wire_of j s g).conn.in_closed ≡ true)
 push_free idle s g e = cc
@@ -178,7 +178,7 @@ push_free (leaving true t) s g e = inr refl
 push_free (leaving false t) s g e = cc
 push_free (finished t c) s g e = cc
 push_free (parted t c) s g e = cc
-push_free (refused t c) s g e = cc
+push_free (cancelled t c) s g e = cc
 
 pub pull_agrees : (w : JointPorts) (q : Bool) → IsSound w q → w.inp ≡ Idle → (can_pull w.conn ≡ true) ⊎ (w.conn.out_closed ≡ true)
 pull_agrees w q h e = subst (λ (v : JointPorts). (can_pull v.conn ≡ true) ⊎ (v.conn.out_closed ≡ true)) (sym h.is) (pull_free h.joint w.sent w.got (sym (ap (λ (v : JointPorts). v.inp) h.is) ∙ e))

@@ -23,9 +23,9 @@ AllIdle [] = ⊤
 AllIdle (x ∷ xs) = (x ≡ Idle) × AllIdle xs
 
 -- no output was pulled
-abbrev pub AllUnasked : List OutView → Type 0
-AllUnasked [] = ⊤
-AllUnasked (y ∷ ys) = (y ≡ Unpulled) × AllUnasked ys
+abbrev pub AllUnpulled : List OutView → Type 0
+AllUnpulled [] = ⊤
+AllUnpulled (y ∷ ys) = (y ≡ Unpulled) × AllUnpulled ys
 
 -- where an input may be brought the item: an element where it waits, an end where it is open
 abbrev pub MayCome : Item → InView → Type 0
@@ -41,7 +41,7 @@ came (item.Failed c) = Finished
 
 -- where the port rules allow the call
 abbrev pub CallAllowed : Call → View → Type 0
-CallAllowed starts v = AllIdle v.ins × AllUnasked v.outs
+CallAllowed starts v = AllIdle v.ins × AllUnpulled v.outs
 CallAllowed (pulls j) v = out_at v j ≡ Unpulled
 CallAllowed (arrives i x) v = MayCome x (in_at v i)
 CallAllowed (cancels j) v = IsOutOpen (out_at v j)

@@ -15,7 +15,7 @@ use Rattle.port_core.specs.declared.view.OutView.TheVariants as outlet
 -- Where both ends are open: nobody pulled, the pull is on its way, the pull has come, or an element is on its way. Where one
 -- has closed and the other does not know it: the output, while the input has not pulled (`ending`) or waits (`closing`); or
 -- the input, while the output was pulled or not (`leaving`). Where both have closed: the end came (`finished`), each closed
--- its own (`parted`), or the cancel came (`refused`).
+-- its own (`parted`), or the cancel came (`cancelled`).
 pub data Joint : Type 0 where
   idle : Joint
   asking : Joint
@@ -26,7 +26,7 @@ pub data Joint : Type 0 where
   leaving : Bool → ConnStep → Joint
   finished : ConnStep → Option Cause → Joint
   parted : ConnStep → Option Cause → Joint
-  refused : ConnStep → Option Cause → Joint
+  cancelled : ConnStep → Option Cause → Joint
 
 -- a connection from which the element was grabbed
 abbrev conn_of : ConnStep → Bool → Bool → Option Cause → Connection
@@ -44,7 +44,7 @@ wire_of (leaving true t) s g = record { out = outlet.Available; inp = Cancelled;
 wire_of (leaving false t) s g = record { out = outlet.Unpulled; inp = Cancelled; conn = conn_of t true false None; sent = s; got = g }
 wire_of (finished t c) s g = record { out = outlet.Closed; inp = Finished; conn = conn_of t true true c; sent = s; got = g }
 wire_of (parted t c) s g = record { out = outlet.Closed; inp = Cancelled; conn = conn_of t true true c; sent = s; got = g }
-wire_of (refused t c) s g = record { out = outlet.Cancelled; inp = Cancelled; conn = conn_of t true true c; sent = s; got = g }
+wire_of (cancelled t c) s g = record { out = outlet.Cancelled; inp = Cancelled; conn = conn_of t true true c; sent = s; got = g }
 
 -- an element that is on its way
 abbrev pub under_way : ConnStep → List Item
@@ -64,7 +64,7 @@ Histories (closing t c) s g = s ≡ g ++ (under_way t ++ end_item c ∷ [])
 Histories (leaving a t) s g = (r : List Item) × (s ≡ g ++ r)
 Histories (finished t c) s g = s ≡ g
 Histories (parted t c) s g = (r : List Item) × (s ≡ g ++ r)
-Histories (refused t c) s g = (r : List Item) × (s ≡ g ++ r)
+Histories (cancelled t c) s g = (r : List Item) × (s ≡ g ++ r)
 
 -- whether it is queued; where both ends are closed that does not matter
 abbrev pub Queues : Joint → Bool → Type 0
@@ -77,7 +77,7 @@ Queues (closing t c) q = q ≡ true
 Queues (leaving a t) q = q ≡ true
 Queues (finished t c) q = ⊤
 Queues (parted t c) q = ⊤
-Queues (refused t c) q = ⊤
+Queues (cancelled t c) q = ⊤
 
 -- the wire, queued or not, is in a joint state
 pub record IsSound (w : JointPorts) (q : Bool) : Type 0 where

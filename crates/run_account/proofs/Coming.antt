@@ -9,7 +9,7 @@ use Rattle.elem_core.specs.declared.item.Item.TheVariants as item
 use Rattle.elem_core.specs.declared.why.Cause.{Cause}
 use Rattle.port_core.specs.Connection.{ConnStep, quiet, pulled, ready, pushed}
 use Rattle.port_core.specs.Wire.{JointPorts, end_item}
-use Rattle.port_core.specs.Joint.{Joint, idle, asking, asked, moving, ending, closing, leaving, finished, parted, refused, wire_of, Histories, Queues, under_way, IsSound}
+use Rattle.port_core.specs.Joint.{Joint, idle, asking, asked, moving, ending, closing, leaving, finished, parted, cancelled, wire_of, Histories, Queues, under_way, IsSound}
 use Rattle.port_core.specs.declared.view.InView.{InView}
 use Rattle.port_core.specs.declared.view.InView.TheVariants.{Pulled, Finished}
 use Rattle.wire_core.specs.Cell.{WireState}
@@ -63,7 +63,7 @@ over_at (leaving true t) s g h e = cc
 over_at (leaving false t) s g h e = cc
 over_at (finished t c) s g h e = ap elements h
 over_at (parted t c) s g h e = cc
-over_at (refused t c) s g h e = cc
+over_at (cancelled t c) s g h e = cc
 
 -- one that waits got all but one element at most, and all where no event is left
 waiting_at : (j : Joint) (s g : List Item) → Histories j s g → (wire_of j s g).inp ≡ Pulled → elements s ≤ elements g + 1
@@ -79,7 +79,7 @@ waiting_at (leaving true t) s g h e = cc
 waiting_at (leaving false t) s g h e = cc
 waiting_at (finished t c) s g h e = cc
 waiting_at (parted t c) s g h e = cc
-waiting_at (refused t c) s g h e = cc
+waiting_at (cancelled t c) s g h e = cc
 
 resting_at : (j : Joint) (s g : List Item) → Histories j s g → Queues j false → (wire_of j s g).inp ≡ Pulled → elements s ≡ elements g
 resting_at idle s g h q e = cc
@@ -92,7 +92,7 @@ resting_at (leaving true t) s g h q e = cc
 resting_at (leaving false t) s g h q e = cc
 resting_at (finished t c) s g h q e = cc
 resting_at (parted t c) s g h q e = cc
-resting_at (refused t c) s g h q e = cc
+resting_at (cancelled t c) s g h q e = cc
 
 no_mark : {b : Bool} → b ≡ false → b ≡ true → ⊥
 no_mark e f = cc
@@ -112,7 +112,7 @@ all_j (leaving true u) s g b h m e t = cc
 all_j (leaving false u) s g b h m e t = cc
 all_j (finished u c) s g b h m e t = cc
 all_j (parted u c) s g b h m e t = cc
-all_j (refused u c) s g b h m e t = cc
+all_j (cancelled u c) s g b h m e t = cc
 
 pub all_came : (c : WireState) (q : Bool) → IsMarked c → IsSound c.wire q → c.wire.inp ≡ Pulled → c.asked ≡ true → elements c.wire.sent ≡ elements c.wire.got
 all_came c q m h e t =

@@ -8,7 +8,7 @@ use Rattle.elem_core.specs.declared.item.Item.TheVariants as item
 use Rattle.port_core.specs.Ring.{is_waiting}
 use Rattle.port_core.specs.Wire.{JointPorts, end_item}
 use Rattle.port_core.specs.Connection.{quiet, pulled, ready, pushed}
-use Rattle.port_core.specs.Joint.{Joint, idle, asking, asked, moving, ending, closing, leaving, finished, parted, refused, wire_of, Histories, IsSound}
+use Rattle.port_core.specs.Joint.{Joint, idle, asking, asked, moving, ending, closing, leaving, finished, parted, cancelled, wire_of, Histories, IsSound}
 use Rattle.port_core.specs.View.{View, in_at, out_at}
 use Rattle.port_core.specs.declared.view.InView.{InView}
 use Rattle.port_core.specs.declared.view.InView.TheVariants.{Cancelled}
@@ -67,7 +67,7 @@ stood_j (leaving true t) s g b h m = tt
 stood_j (leaving false t) s g b h m = tt
 stood_j (finished t c) s g b h m = tt
 stood_j (parted t c) s g b h m = tt
-stood_j (refused t c) s g b h m = tt
+stood_j (cancelled t c) s g b h m = tt
 
 pub stood_cell : (c : WireState) (q : Bool) → IsSound c.wire q → IsMarked c → WantedAt c.wire.inp (wanted c) (elements c.wire.got)
 stood_cell c q h m =

@@ -7,7 +7,7 @@ use Rattle.elem_core.specs.declared.item.Item.{Item}
 use Rattle.elem_core.specs.declared.why.Cause.{Cause}
 use Rattle.elem_core.specs.declared.item.Item.TheVariants as item
 use Rattle.port_core.specs.Wire.{JointPorts, end_item}
-use Rattle.port_core.specs.Joint.{Joint, idle, asking, asked, moving, ending, closing, leaving, finished, parted, refused, Histories, under_way, IsSound}
+use Rattle.port_core.specs.Joint.{Joint, idle, asking, asked, moving, ending, closing, leaving, finished, parted, cancelled, Histories, under_way, IsSound}
 use Rattle.stream_model.specs.Outlook.{End, unended, ended, failed}
 use Rattle.stage_law.specs.Held.{told}
 use Rattle.run_account.specs.Items.{list_of, end_of_items}
@@ -57,7 +57,7 @@ begins_at (closing t c) s g h = record { rest = under_way t ++ end_item c ∷ []
 begins_at (leaving a t) s g h = record { rest = h.0; is = h.1 }
 begins_at (finished t c) s g h = record { rest = []; is = h ∙ sym (append-nil g) }
 begins_at (parted t c) s g h = record { rest = h.0; is = h.1 }
-begins_at (refused t c) s g h = record { rest = h.0; is = h.1 }
+begins_at (cancelled t c) s g h = record { rest = h.0; is = h.1 }
 
 pub got_begins : (w : JointPorts) (q : _) → IsSound w q → IsPrefix w.got w.sent
 got_begins w q h = begins_at h.joint w.sent w.got h.histories

@@ -2,7 +2,7 @@
 use Rattle.std.proofs.Common.{◌≡◌, Bool, true, false, List, refl, sym, ap, subst, ◌∙◌}
 use Rattle.elem_core.specs.declared.item.Item.{Item}
 use Rattle.port_core.specs.Wire.{JointPorts}
-use Rattle.port_core.specs.Joint.{Joint, idle, asking, asked, moving, ending, closing, leaving, finished, parted, refused, wire_of, Queues, IsSound}
+use Rattle.port_core.specs.Joint.{Joint, idle, asking, asked, moving, ending, closing, leaving, finished, parted, cancelled, wire_of, Queues, IsSound}
 use Rattle.port_core.specs.declared.view.InView.TheVariants.{Idle, Pulled, Finished, Cancelled}
 use Rattle.port_core.specs.declared.view.OutView.TheVariants.{Unpulled, Available, Closed}
 use Rattle.stage_law.specs.Row.{OutClosed}
@@ -18,7 +18,7 @@ out_shut_j (leaving true t) s g e = cc
 out_shut_j (leaving false t) s g e = cc
 out_shut_j (finished t c) s g e = refl
 out_shut_j (parted t c) s g e = cc
-out_shut_j (refused t c) s g e = cc
+out_shut_j (cancelled t c) s g e = cc
 
 out_asked_j : (j : Joint) (s g : List Item) → Queues j false → (wire_of j s g).inp ≡ Pulled → (wire_of j s g).out ≡ Available
 out_asked_j idle s g q e = cc
@@ -31,7 +31,7 @@ out_asked_j (leaving true t) s g q e = cc
 out_asked_j (leaving false t) s g q e = cc
 out_asked_j (finished t c) s g q e = cc
 out_asked_j (parted t c) s g q e = cc
-out_asked_j (refused t c) s g q e = cc
+out_asked_j (cancelled t c) s g q e = cc
 
 out_left_j : (j : Joint) (s g : List Item) → Queues j false → (wire_of j s g).inp ≡ Cancelled → OutClosed (wire_of j s g).out
 out_left_j idle s g q e = absurd cc
@@ -44,7 +44,7 @@ out_left_j (leaving true t) s g q e = absurd cc
 out_left_j (leaving false t) s g q e = absurd cc
 out_left_j (finished t c) s g q e = tt
 out_left_j (parted t c) s g q e = tt
-out_left_j (refused t c) s g q e = tt
+out_left_j (cancelled t c) s g q e = tt
 
 inp_idle_j : (j : Joint) (s g : List Item) → Queues j false → (wire_of j s g).out ≡ Unpulled → (wire_of j s g).inp ≡ Idle
 inp_idle_j idle s g q e = refl
@@ -57,7 +57,7 @@ inp_idle_j (leaving true t) s g q e = cc
 inp_idle_j (leaving false t) s g q e = cc
 inp_idle_j (finished t c) s g q e = cc
 inp_idle_j (parted t c) s g q e = cc
-inp_idle_j (refused t c) s g q e = cc
+inp_idle_j (cancelled t c) s g q e = cc
 
 module _ (w : JointPorts) (q : Bool) (h : IsSound w q) where
   pub over_shut : w.inp ≡ Finished → w.out ≡ Closed

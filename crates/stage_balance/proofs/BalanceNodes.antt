@@ -15,7 +15,7 @@ use Rattle.port_core.specs.declared.view.OutView.{OutView}
 use Rattle.port_core.specs.declared.view.OutView.TheVariants as outlet
 use Rattle.port_core.specs.View as port
 use Rattle.port_core.specs.View.{View, in_at, out_at, IsOutOpen, ActsAllowed, acted, acted_all, unpulled_outs}
-use Rattle.port_core.specs.Call.{Call, starts, pulls, arrives, cancels, AllIdle, AllUnasked, MayCome, CallAllowed, seen, Obeys, brought_to, given_on}
+use Rattle.port_core.specs.Call.{Call, starts, pulls, arrives, cancels, AllIdle, AllUnpulled, MayCome, CallAllowed, seen, Obeys, brought_to, given_on}
 use Rattle.port_core.proofs.Views.{outs_stay}
 use Rattle.stream_model.specs.declared.kind.Kind.TheVariants.{Balance}
 use Rattle.stream_model.specs.declared.kind.TheConstants.{MAX_FAN}
@@ -240,7 +240,7 @@ idle_first : (xs : List InView) → length xs ≡ 1 → AllIdle xs → TookAs (s
 idle_first [] l a = absurd (omega (arith, l))
 idle_first (x ∷ xs) l a = rw a.0 refl
 
-unasked_at : (ys : List OutView) (i : ℕ) → i < length ys → AllUnasked ys → GaveAs (slice_index_or ys i outlet.Closed) unended
+unasked_at : (ys : List OutView) (i : ℕ) → i < length ys → AllUnpulled ys → GaveAs (slice_index_or ys i outlet.Closed) unended
 unasked_at [] i l a = absurd (omega (arith, l))
 unasked_at (y ∷ ys) zero l a = rw a.0 refl
 unasked_at (y ∷ ys) (suc i) l a = unasked_at ys i (omega (arith, l)) a.1

@@ -12,7 +12,7 @@ use Rattle.port_core.specs.declared.view.OutView.TheVariants as outlet
 use Rattle.port_core.specs.View as port
 use Rattle.port_core.specs.View.{in_at, IsInOpen, IsOutOpen, ActsAllowed, acted_all}
 use Rattle.port_core.specs.Asking.{PullsStand}
-use Rattle.port_core.specs.Call.{AllUnasked, MayCome, Call, starts, pulls, arrives, cancels, CallAllowed, given_on}
+use Rattle.port_core.specs.Call.{AllUnpulled, MayCome, Call, starts, pulls, arrives, cancels, CallAllowed, given_on}
 use Rattle.stream_model.specs.FanIn.{Inflow}
 use Rattle.stream_picture.specs.View.{SeenWire, EachWire}
 use Rattle.stream_picture.specs.Rests.{IsShut}
@@ -86,7 +86,7 @@ comes_open (item.Elem e) p h = subst IsInOpen (sym h) tt
 comes_open item.Ended p h = h
 comes_open (item.Failed c) p h = h
 
-closed_unasked : (ys : List OutView) → OneClosed ys → AllUnasked ys → ⊥
+closed_unasked : (ys : List OutView) → OneClosed ys → AllUnpulled ys → ⊥
 closed_unasked [] h a = h
 closed_unasked (outlet.Unpulled ∷ []) h a = h
 closed_unasked (outlet.Available ∷ []) h a = h

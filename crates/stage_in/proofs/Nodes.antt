@@ -10,7 +10,7 @@ use Rattle.port_core.specs.declared.view.OutView.{OutView}
 use Rattle.port_core.specs.declared.view.OutView.TheVariants as outlet
 use Rattle.port_core.specs.View.{View, ActsAllowed, acted_all}
 use Rattle.port_core.specs.Asking.{PullsStand}
-use Rattle.port_core.specs.Call.{AllIdle, AllUnasked, Call, starts, CallAllowed, Meets, seen, Obeys, given_on}
+use Rattle.port_core.specs.Call.{AllIdle, AllUnpulled, Call, starts, CallAllowed, Meets, seen, Obeys, given_on}
 use Rattle.stream_model.specs.Outlook.{End, unended}
 use Rattle.stream_model.specs.FanIn.{Inflow}
 use Rattle.stream_picture.specs.View as picture
@@ -202,7 +202,7 @@ fresh_taking l v took gave may live r a b m n =
     let s = subst (λ x. taking.port_state_by x l v) live r in
     let outs : v.outs ≡ wish l.asked ∷ [] = ap (λ (w : View). w.outs) s.0 in
     let idle : AllIdle (seats 0 l.over l.current l.asked) = subst (λ (w : View). AllIdle w.ins) s.0 may.0 in
-    let quiet : wish l.asked ≡ outlet.Unpulled = (subst (λ (w : View). AllUnasked w.outs) s.0 may.1).0 in
+    let quiet : wish l.asked ≡ outlet.Unpulled = (subst (λ (w : View). AllUnpulled w.outs) s.0 may.1).0 in
     let ins : v.ins ≡ seats 0 l.over l.current l.asked = ap (λ (w : View). w.ins) s.0 in
     let held : taking.held l ≡ fan.waits (taking.place_of l) (untouched (length v.ins)) =
     ap (λ x. taking.held_by x (taking.place_of l) l.over) live ∙ ap (λ ws. fan.waits (taking.place_of l) ws) (none_over 0 l.current l.over l.asked idle) ∙ ap (λ (xs : List InView). fan.waits (taking.place_of l) (untouched (length xs))) (sym ins) in

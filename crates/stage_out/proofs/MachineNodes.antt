@@ -12,7 +12,7 @@ use Rattle.port_core.specs.declared.view.OutView.{OutView}
 use Rattle.port_core.specs.declared.view.OutView.TheVariants.{Closed}
 use Rattle.port_core.specs.Asking.{PullsStand}
 use Rattle.port_core.specs.View.{View, in_at, out_at, ActsAllowed, acted_all}
-use Rattle.port_core.specs.Call.{Call, starts, AllIdle, AllUnasked, CallAllowed, seen, Obeys, brought_to, given_on}
+use Rattle.port_core.specs.Call.{Call, starts, AllIdle, AllUnpulled, CallAllowed, seen, Obeys, brought_to, given_on}
 use Rattle.stream_model.specs.declared.kind.Kind.{Kind}
 use Rattle.stream_model.specs.Graph.{Graph}
 use Rattle.stream_model.specs.Linear.{Book, Stage}
@@ -145,7 +145,7 @@ idle_first : (xs : List InView) → length xs ≡ 1 → AllIdle xs → TookAs (s
 idle_first [] l a = absurd (omega (arith, l))
 idle_first (x ∷ xs) l a = rw a.0 refl
 
-unasked_at : (ys : List OutView) (i : ℕ) → i < length ys → AllUnasked ys → GaveAs (slice_index_or ys i Closed) unended
+unasked_at : (ys : List OutView) (i : ℕ) → i < length ys → AllUnpulled ys → GaveAs (slice_index_or ys i Closed) unended
 unasked_at [] i l a = absurd (omega (arith, l))
 unasked_at (y ∷ ys) zero l a = rw a.0 refl
 unasked_at (y ∷ ys) (suc i) l a = unasked_at ys i (omega (arith, l)) a.1

@@ -10,7 +10,7 @@ use Rattle.port_core.specs.View.{IsInOpen, IsOutOpen}
 use Rattle.port_core.specs.Wire.{JointPorts, pull_of, push_of, close_of, cancel_of, end_item, delivery_of, after_delivery, again, Delivery, nothing, pull, cancel, arrived}
 use Rattle.port_core.specs.Decoding.{can_pull}
 use Rattle.port_core.specs.declared.act.Act.TheVariants.{Pull, Push}
-use Rattle.port_core.specs.Joint.{Joint, idle, asking, asked, moving, ending, closing, leaving, finished, parted, refused, wire_of, Queues, IsSound}
+use Rattle.port_core.specs.Joint.{Joint, idle, asking, asked, moving, ending, closing, leaving, finished, parted, cancelled, wire_of, Queues, IsSound}
 use Rattle.port_core.specs.declared.view.InView.{InView}
 use Rattle.port_core.specs.declared.view.InView.TheVariants.{Idle, Pulled, Finished, Cancelled}
 use Rattle.port_core.specs.declared.view.OutView.{OutView}
@@ -77,7 +77,7 @@ spent_deliver (leaving true t) s g r = omega arith
 spent_deliver (leaving false t) s g r = omega arith
 spent_deliver (finished t c) s g r = omega arith
 spent_deliver (parted t c) s g r = omega arith
-spent_deliver (refused t c) s g r = omega arith
+spent_deliver (cancelled t c) s g r = omega arith
 
 spent_push : (x : Tree) (j : Joint) (s g : List Item) → (wire_of j s g).out ≡ outlet.Available → (q : Bool) → spent (wire_of j s g) q ≤ spent (push_of x (wire_of j s g)) true
 spent_push x idle s g e q = cc
@@ -90,7 +90,7 @@ spent_push x (leaving true t) s g e q = omega (arith, elements_elem s x)
 spent_push x (leaving false t) s g e q = cc
 spent_push x (finished t c) s g e q = cc
 spent_push x (parted t c) s g e q = cc
-spent_push x (refused t c) s g e q = cc
+spent_push x (cancelled t c) s g e q = cc
 
 spent_close : (c : Option Cause) (j : Joint) (s g : List Item) → IsOutOpen (wire_of j s g).out → (q : Bool) → spent (wire_of j s g) q ≤ spent (close_of c (wire_of j s g)) true
 spent_close c idle s g e q = omega (arith, elements_end s c)
@@ -104,7 +104,7 @@ spent_close c (leaving true t) s g e q = omega (arith, elements_end s c)
 spent_close c (leaving false t) s g e q = omega (arith, elements_end s c)
 spent_close c (finished t d) s g e q = absurd e
 spent_close c (parted t d) s g e q = absurd e
-spent_close c (refused t d) s g e q = absurd e
+spent_close c (cancelled t d) s g e q = absurd e
 
 spent_cancel : (j : Joint) (s g : List Item) → IsInOpen (wire_of j s g).inp → (q : Bool) → spent (wire_of j s g) q ≤ spent (cancel_of (wire_of j s g)) true
 spent_cancel idle s g e q = omega arith
@@ -117,7 +117,7 @@ spent_cancel (leaving true t) s g e q = absurd e
 spent_cancel (leaving false t) s g e q = absurd e
 spent_cancel (finished t c) s g e q = absurd e
 spent_cancel (parted t c) s g e q = absurd e
-spent_cancel (refused t c) s g e q = absurd e
+spent_cancel (cancelled t c) s g e q = absurd e
 
 spent_pull : (j : Joint) (s g : List Item) (q : Bool) → (wire_of j s g).inp ≡ Idle → spent (wire_of j s g) q ≤ spent (pull_of (wire_of j s g)) true
 spent_pull idle s g q e = omega arith
@@ -130,7 +130,7 @@ spent_pull (leaving true t) s g q e = cc
 spent_pull (leaving false t) s g q e = cc
 spent_pull (finished t c) s g q e = cc
 spent_pull (parted t c) s g q e = cc
-spent_pull (refused t c) s g q e = cc
+spent_pull (cancelled t c) s g q e = cc
 
 -- for any wire
 extra_least : (o : OutView) (i : InView) (t : ConnStep) (q : Bool) → extra o i t true ≤ extra o i t q

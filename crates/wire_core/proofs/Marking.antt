@@ -9,7 +9,7 @@ use Rattle.elem_core.specs.declared.item.Item.TheVariants as item
 use Rattle.port_core.specs.Connection.{quiet, pulled, ready, pushed, Connection}
 use Rattle.port_core.specs.Decoding.{is_open, can_pull, can_push}
 use Rattle.port_core.specs.Wire.{JointPorts, pull_of, push_of, close_of, cancel_of, end_item, Delivery, nothing, pull, cancel, arrived, delivery_of, after_delivery}
-use Rattle.port_core.specs.Joint.{Joint, idle, asking, asked, moving, ending, closing, leaving, finished, parted, refused, wire_of, Queues, IsSound}
+use Rattle.port_core.specs.Joint.{Joint, idle, asking, asked, moving, ending, closing, leaving, finished, parted, cancelled, wire_of, Queues, IsSound}
 use Rattle.port_core.specs.declared.view.OutView.TheVariants.{Available}
 use Rattle.wire_core.specs.Cell.{WireState, new_cell}
 use Rattle.wire_core.specs.Marks.{IsMarked, wanted, Grown}
@@ -50,7 +50,7 @@ marks_push x (leaving true t) s g e = record { unclosed = λ o. cc; known = λ k
 marks_push x (leaving false t) s g e = cc
 marks_push x (finished t c) s g e = cc
 marks_push x (parted t c) s g e = cc
-marks_push x (refused t c) s g e = cc
+marks_push x (cancelled t c) s g e = cc
 
 pub push_marked : (x : Tree) (w : JointPorts) (q : Bool) → IsSound w q → w.out ≡ Available → IsMarked (cell (push_of x w) false)
 push_marked x w q h e = subst (λ (v : JointPorts). IsMarked (cell (push_of x v) false)) (sym h.is) (marks_push x h.joint w.sent w.got (sym (ap (λ (v : JointPorts). v.out) h.is) ∙ e))
@@ -80,7 +80,7 @@ marks_deliver (leaving true t) s g b r m = record { unclosed = λ o. cc; known =
 marks_deliver (leaving false t) s g b r m = record { unclosed = λ o. cc; known = λ k. cc; came = λ k. cc }
 marks_deliver (finished t c) s g b r m = m
 marks_deliver (parted t c) s g b r m = m
-marks_deliver (refused t c) s g b r m = m
+marks_deliver (cancelled t c) s g b r m = m
 
 pub deliver_marked : (w : JointPorts) (b : Bool) → IsSound w true → IsMarked (cell w b) → IsMarked (cell (after_delivery (delivery_of w) w) b)
 deliver_marked w b h m =

@@ -14,9 +14,9 @@ output_cancelled Closed = false
 output_cancelled Cancelled = true
 
 -- What is kept of closings is what the two ends know, and the connection is closed there too.
-pub record Closes (out : OutView) (inp : InView) (conn : Connection) (shut refused over : Bool) : Type 0 where
-  pub shut_is : shut ≡ output_closed out
-  pub refused_is : refused ≡ output_cancelled out
-  pub over_is : over ≡ input_closed inp
-  pub out_closed : shut ≡ true → conn.out_closed ≡ true
-  pub in_closed : over ≡ true → conn.in_closed ≡ true
+pub record Closes (out : OutView) (inp : InView) (conn : Connection) (is_out_closed is_cancelled is_in_closed : Bool) : Type 0 where
+  pub out_closed_is : is_out_closed ≡ output_closed out
+  pub cancelled_is : is_cancelled ≡ output_cancelled out
+  pub in_closed_is : is_in_closed ≡ input_closed inp
+  pub out_closed : is_out_closed ≡ true → conn.out_closed ≡ true
+  pub in_closed : is_in_closed ≡ true → conn.in_closed ≡ true

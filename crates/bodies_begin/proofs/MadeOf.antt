@@ -7,7 +7,7 @@ use Rattle.blue_core.specs.declared.blueprint.Blueprint.{Blueprint}
 use Rattle.blue_check.specs.Wires.{blueprint_wires}
 use Rattle.interpreter.specs.Island.{Kept}
 use Rattle.interpreter.specs.Parts.{wire_number}
-use Rattle.interpreter.specs.Picks.{node_number}
+use Rattle.interpreter.specs.Picks.{place_number}
 use Rattle.traversal.specs.declared.plan.LanePlan.{LanePlan}
 use Rattle.scatter.specs.Shares.{items_in, items_at}
 use Rattle.island_parts.proofs.Wiring.{there}
@@ -116,5 +116,5 @@ module _ {S D L B : Type 0} (sources : S → SourceState) (drains : D → DrainS
       let m = are_made.each k x at in
       record {
         wires = m.goes.numbers ∙ (m.started.numbers ∙ ap (map wire_number) m.parts_are.links_are);
-        places = m.goes.places ∙ (m.started.places ∙ ap (map node_number) m.parts_are.nodes_are);
+        places = m.goes.places ∙ (m.started.places ∙ ap (map place_number) m.parts_are.nodes_are);
       }

@@ -6,7 +6,7 @@ use Rattle.stream_model.specs.Graph.{Edge}
 use Rattle.stream_model.specs.declared.outcome.WireCount.{WireCount}
 use Rattle.wire_core.specs.Cell.{WireState}
 use Rattle.fused_net.proofs.Reading.{some_same}
-use Rattle.interpreter.specs.Island.{count_of}
+use Rattle.interpreter.specs.Island.{state_count}
 use Rattle.run_account.specs.Account.{Account}
 use Rattle.run_account.specs.Pictures.{counts_from}
 use Rattle.run_account.specs.Ports.{wire_count}
@@ -30,10 +30,10 @@ told_many : (near : ℕ → WireState) (u : ℕ) (ws : List Edge) → length (to
 told_many near u [] = refl
 told_many near u (v ∷ vs) = ap suc (told_many near (u + 1) vs)
 
-told_at : (near : ℕ → WireState) (u : ℕ) (ws : List Edge) (n : ℕ) (v : Edge) → slice_get ws n ≡ Some v → slice_get (told_counts near u ws) n ≡ Some (count_of (near (u + n)))
+told_at : (near : ℕ → WireState) (u : ℕ) (ws : List Edge) (n : ℕ) (v : Edge) → slice_get ws n ≡ Some v → slice_get (told_counts near u ws) n ≡ Some (state_count (near (u + n)))
 told_at near u [] n v at = absurd cc
-told_at near u (w ∷ ws) zero v at = let here : u ≡ u + 0 = omega arith in ap (λ k. Some (count_of (near k))) here
-told_at near u (w ∷ ws) (suc n) v at = let later : (u + 1) + n ≡ u + suc n = omega arith in told_at near (u + 1) ws n v at ∙ ap (λ k. Some (count_of (near k))) later
+told_at near u (w ∷ ws) zero v at = let here : u ≡ u + 0 = omega arith in ap (λ k. Some (state_count (near k))) here
+told_at near u (w ∷ ws) (suc n) v at = let later : (u + 1) + n ≡ u + suc n = omega arith in told_at near (u + 1) ws n v at ∙ ap (λ k. Some (state_count (near k))) later
 
 -- counts are those of a picture where each is
 counts_are : {N : Type 0} (a : Account N) (u : ℕ) (ws : List Edge) (counts : List WireCount) → length counts ≡ length ws → ((n : ℕ) (v : Edge) → slice_get ws n ≡ Some v → slice_get counts n ≡ Some (wire_count v.lane (a.near (u + n)) (a.asked (u + n)))) → counts ≡ counts_from a u ws
@@ -56,8 +56,8 @@ module _ (homes : List ℕ) (ws : List Edge) (all : List ℕ) (near : ℕ → Wi
   lanes_rise : AreRising lanes
   lanes_rise = λ m n l k lt at bt. rising homes 0 ws m n l k lt at bt
 
-  was : (n : ℕ) (v : Edge) → slice_get ws n ≡ Some v → slice_get (told_counts near 0 ws) n ≡ Some (count_of (near n))
-  was n v at = let none : 0 + n ≡ n = omega arith in told_at near 0 ws n v at ∙ ap (λ k. Some (count_of (near k))) none
+  was : (n : ℕ) (v : Edge) → slice_get ws n ≡ Some v → slice_get (told_counts near 0 ws) n ≡ Some (state_count (near n))
+  was n v at = let none : 0 + n ≡ n = omega arith in told_at near 0 ws n v at ∙ ap (λ k. Some (state_count (near k))) none
 
   -- a wire without a lane is none of the lanes
   no_lane : (n : ℕ) (v : Edge) → slice_get ws n ≡ Some v → v.lane ≡ None → (m : ℕ) (l : LanePlan) → slice_get lanes m ≡ Some l → l.wire ≡ n → ⊥
@@ -76,7 +76,7 @@ module _ (homes : List ℕ) (ws : List Edge) (all : List ℕ) (near : ℕ → Wi
       let l = lane_there n v size at lane in
       let lt : j < length lanes = slice_get_within lanes j (lane_plan homes n v size) l in
       let a = there all j (omega (arith, lt, many)) in
-      note.each j a.0 (lane_plan homes n v size) (count_of (near n)) l a.1 (was n v at) ∙ ap (λ k. Some (wire_count (Some size) (near n) k)) (sym (found_ask lanes all j (lane_plan homes n v size) a.0 lanes_rise l a.1))
+      note.each j a.0 (lane_plan homes n v size) (state_count (near n)) l a.1 (was n v at) ∙ ap (λ k. Some (wire_count (Some size) (near n) k)) (sym (found_ask lanes all j (lane_plan homes n v size) a.0 lanes_rise l a.1))
 
   at_wire : (o : Option ℕ) (n : ℕ) (v : Edge) → slice_get ws n ≡ Some v → v.lane ≡ o → slice_get counts n ≡ Some (wire_count o (near n) (lane_demand lanes all n))
   at_wire None n v at lane = note.others n (λ m l al e. no_lane n v at lane m l al e) ∙ was n v at

@@ -12,7 +12,7 @@ use Rattle.nodes.specs.Nodes.{node_picks, node_seat}
 use Rattle.nodes.specs.declared.node.IslandNode.{IslandNode}
 use Rattle.interpreter.specs.Island.{counts_of, sinks_of, readers_of, writers_of}
 use Rattle.interpreter.specs.Parts.{wire_number}
-use Rattle.interpreter.specs.Picks.{node_number, picks_of}
+use Rattle.interpreter.specs.Picks.{place_number, picks_of}
 use Rattle.interpreter.specs.Seats.{seats_of}
 use Rattle.interpreter.specs.declared.island.IslandEnd.{IslandEnd}
 use Rattle.interpreter.specs.declared.parts.Seated.{Seated}
@@ -109,13 +109,13 @@ module _ {S D L B : Type 0} (sources : S → SourceState) (drains : D → DrainS
         let n = numbered k a.0 a.1 in
         let net : net_of now k ≡ b.0.island.net = ap (λ (o : Option (Body S D L B)). net_in o) b.1 in
         let share : of_home (place_homes homes ws) k (last ++ more) ≡ b.0.island.net.nodes = r.shares k lt ∙ ap (λ (t : Net (IslandNode S D L B)). t.nodes) net in
-        let places : b.0.island.places ≡ of_home (place_homes homes ws) k (map node_number (whole_seats nodes (lanes_from homes 0 ws))) =
-        on.places ∙ (n.places ∙ sym (share_map node_number (place_homes homes ws) (whole_seats nodes (lanes_from homes 0 ws)) k)) in
+        let places : b.0.island.places ≡ of_home (place_homes homes ws) k (map place_number (whole_seats nodes (lanes_from homes 0 ws))) =
+        on.places ∙ (n.places ∙ sym (share_map place_number (place_homes homes ws) (whole_seats nodes (lanes_from homes 0 ws)) k)) in
         let wires = wires_are homes count ws nodes m.seated (net_of now) nets k lt in
         record {
           sinks = i.sinks ∙ ap sinks_of (sym share);
-          picks = i.picks ∙ (ap (λ (ns : List ℕ). picks_of ns b.0.island.net.nodes) places ∙ ap (λ (xs : List (IslandNode S D L B)). picks_of (of_home (place_homes homes ws) k (map node_number (whole_seats nodes (lanes_from homes 0 ws)))) xs) (sym share));
-          seats = i.seats ∙ (ap (λ (ns : List ℕ). seats_of ns b.0.island.net.nodes) places ∙ ap (λ (xs : List (IslandNode S D L B)). seats_of (of_home (place_homes homes ws) k (map node_number (whole_seats nodes (lanes_from homes 0 ws)))) xs) (sym share));
+          picks = i.picks ∙ (ap (λ (ns : List ℕ). picks_of ns b.0.island.net.nodes) places ∙ ap (λ (xs : List (IslandNode S D L B)). picks_of (of_home (place_homes homes ws) k (map place_number (whole_seats nodes (lanes_from homes 0 ws)))) xs) (sym share));
+          seats = i.seats ∙ (ap (λ (ns : List ℕ). seats_of ns b.0.island.net.nodes) places ∙ ap (λ (xs : List (IslandNode S D L B)). seats_of (of_home (place_homes homes ws) k (map place_number (whole_seats nodes (lanes_from homes 0 ws)))) xs) (sym share));
           readers = i.readers ∙ ap readers_of (sym share);
           writers = i.writers ∙ ap writers_of (sym share);
           fars = wires.0;
@@ -127,7 +127,7 @@ module _ {S D L B : Type 0} (sources : S → SourceState) (drains : D → DrainS
       below = subst (λ (n : ℕ). All (λ h. h < n) (place_homes homes ws)) (sym many) (all_below homes count ws nodes m.seated);
       wires_below = all_read (λ h. h < length ends) (wire_home homes) ws (λ i v at. subst (λ (n : ℕ). wire_home homes v < n) (sym many) (home_below homes count ws nodes m.seated v.from (from_node homes count ws nodes m.seated i v at)));
       nodes_each = (whole homes count ws nodes m.seated nodes_now last more r).each;
-      numbers_each = length-map (whole_seats nodes (lanes_from homes 0 ws)) node_number ∙ all_seats homes count ws nodes m.seated;
+      numbers_each = length-map (whole_seats nodes (lanes_from homes 0 ws)) place_number ∙ all_seats homes count ws nodes m.seated;
       counts_each = told_many (account_in homes ws now all).near 0 ws ∙ sym (length-map ws (wire_home homes));
       each = end_of;
     }
@@ -158,9 +158,9 @@ module _ {S D L B : Type 0} (sources : S → SourceState) (drains : D → DrainS
     pub is_left : (x : IslandEnd S D) → IsWholeEnd w x → IsLeftBy ws (account_in homes ws now all).near last x
     is_left x is = record {
       sinks = is.sinks ∙ sinks_behind last more lane_ends;
-      picks = is.picks ∙ (ap (λ (l : List ℕ). picks_of l (last ++ more)) (map_both node_number nodes (ends_at (lanes_from homes 0 ws))) ∙ (picks_behind (map node_number nodes) (map node_number (ends_at {S = S} {D = D} {L = L} {B = B} (lanes_from homes 0 ws))) last more (length-map nodes node_number ∙ sym same) lane_ends
+      picks = is.picks ∙ (ap (λ (l : List ℕ). picks_of l (last ++ more)) (map_both place_number nodes (ends_at (lanes_from homes 0 ws))) ∙ (picks_behind (map place_number nodes) (map place_number (ends_at {S = S} {D = D} {L = L} {B = B} (lanes_from homes 0 ws))) last more (length-map nodes place_number ∙ sym same) lane_ends
           ∙ ap (λ (l : List ℕ). picks_of l last) (seat_numbers g.chains 0 ns ss ds nodes seats ∙ ap (count_from 0) (sym same))));
-      seats = is.seats ∙ (ap (λ (l : List ℕ). seats_of l (last ++ more)) (map_both node_number nodes (ends_at (lanes_from homes 0 ws))) ∙ (seats_behind (map node_number nodes) (map node_number (ends_at {S = S} {D = D} {L = L} {B = B} (lanes_from homes 0 ws))) last more (length-map nodes node_number ∙ sym same) lane_ends
+      seats = is.seats ∙ (ap (λ (l : List ℕ). seats_of l (last ++ more)) (map_both place_number nodes (ends_at (lanes_from homes 0 ws))) ∙ (seats_behind (map place_number nodes) (map place_number (ends_at {S = S} {D = D} {L = L} {B = B} (lanes_from homes 0 ws))) last more (length-map nodes place_number ∙ sym same) lane_ends
           ∙ ap (λ (l : List ℕ). seats_of l last) (seat_numbers g.chains 0 ns ss ds nodes seats ∙ ap (count_from 0) (sym same))));
       wires = is.wires;
       readers = is.readers ∙ readers_behind last more lane_ends;

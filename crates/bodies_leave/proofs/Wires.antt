@@ -9,7 +9,7 @@ use Rattle.wire_core.specs.Cell.{WireState}
 use Rattle.wire_core.specs.Reading.{no_wire}
 use Rattle.fused_net.specs.Net.{Net, wire_at}
 use Rattle.nodes.specs.declared.node.IslandNode.{IslandNode}
-use Rattle.interpreter.specs.Island.{counts_of, count_of as told_of}
+use Rattle.interpreter.specs.Island.{counts_of, state_count as told_of}
 use Rattle.interpreter.specs.Parts.{ends_of, wire_number}
 use Rattle.interpreter.specs.declared.parts.Link.{Link}
 use Rattle.interpreter.specs.declared.parts.Seated.{Seated}

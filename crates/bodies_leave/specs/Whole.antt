@@ -5,7 +5,7 @@ use Rattle.stream_model.specs.Graph.{Edge}
 use Rattle.wire_core.specs.Cell.{WireState}
 use Rattle.nodes.specs.declared.node.IslandNode.{IslandNode}
 use Rattle.interpreter.specs.Island.{sinks_of, readers_of, writers_of}
-use Rattle.interpreter.specs.Picks.{node_number, pick_of, picks_of}
+use Rattle.interpreter.specs.Picks.{place_number, pick_of, picks_of}
 use Rattle.interpreter.specs.Seats.{seats_of}
 use Rattle.interpreter.specs.declared.island.IslandEnd.{IslandEnd}
 use Rattle.interpreter.specs.declared.parts.Seated.{Seated}
@@ -22,7 +22,7 @@ abbrev pub whole_of : {S D L B : Type 0} → List ℕ → List Edge → List (Se
 whole_of homes ws nodes near last ends = record {
   homes = place_homes homes ws;
   nodes = last ++ ends;
-  numbers = map node_number (whole_seats nodes (lanes_from homes 0 ws));
+  numbers = map place_number (whole_seats nodes (lanes_from homes 0 ws));
   wire_homes = map (wire_home homes) ws;
   counts = told_from near 0 ws;
 }

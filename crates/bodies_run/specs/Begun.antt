@@ -2,7 +2,7 @@
 use Rattle.std.specs.Prelude.{◌≡◌, ℕ, List, Some, map, slice_get}
 use Rattle.stream_model.specs.Graph.{Edge}
 use Rattle.interpreter.specs.Parts.{wire_number}
-use Rattle.interpreter.specs.Picks.{node_number}
+use Rattle.interpreter.specs.Picks.{place_number}
 use Rattle.interpreter.specs.declared.parts.Seated.{Seated}
 use Rattle.island_boundary.specs.declared.input.IslandInput.{IslandInput}
 use Rattle.rounds.specs.declared.crossing.Crossing.{Crossing}
@@ -19,7 +19,7 @@ module _ {S D L B : Type 0} where
   -- the island of each body has the numbers of its links' wires, and those of what stands at its places
   pub record IsNumberedBody (homes : List ℕ) (ws : List Edge) (nodes : List (Seated S D L B)) (k : ℕ) (b : Body S D L B) : Type 0 where
     pub wires : b.island.numbers ≡ map wire_number (links_in homes ws nodes k)
-    pub places : b.island.places ≡ map node_number (seats_in homes ws nodes k)
+    pub places : b.island.places ≡ map place_number (seats_in homes ws nodes k)
 
   abbrev pub AreNumberedBodies : List ℕ → List Edge → List (Seated S D L B) → List (Body S D L B) → Type 0
   AreNumberedBodies homes ws nodes bodies = (k : ℕ) (b : Body S D L B) → slice_get bodies k ≡ Some b → IsNumberedBody homes ws nodes k b

@@ -3,13 +3,13 @@ use Rattle.std.specs.Prelude.{ℕ, ◌+◌, ◌==◌, if◌then◌else◌, List,
 use Rattle.stream_model.specs.Graph.{Edge}
 use Rattle.stream_model.specs.declared.outcome.WireCount.{WireCount}
 use Rattle.wire_core.specs.Cell.{WireState}
-use Rattle.interpreter.specs.Island.{count_of}
+use Rattle.interpreter.specs.Island.{state_count}
 use Rattle.traversal.specs.declared.plan.LanePlan.{LanePlan}
 
 -- the number of each wire, and how its connection at the output stands, where the first is wire u
 abbrev pub told_from : (ℕ → WireState) → ℕ → List Edge → List (ℕ × WireCount)
 told_from near u [] = []
-told_from near u (v ∷ vs) = (u, count_of (near u)) ∷ told_from near (u + 1) vs
+told_from near u (v ∷ vs) = (u, state_count (near u)) ∷ told_from near (u + 1) vs
 
 -- of the wire of a number how many elements its lane was asked for in all, where these were asked of the lanes; 0 where it is no lane
 abbrev pub lane_demand : List LanePlan → List ℕ → ℕ → ℕ

@@ -11,7 +11,7 @@ use Rattle.stream_model.specs.Outlook.{End}
 use Rattle.stream_model.specs.Linear.{Book}
 use Rattle.stage_law.specs.Held.{told}
 use Rattle.port_core.specs.Decoding.{can_push, can_pull}
-use Rattle.port_core.specs.Joint.{Joint, idle, asking, asked, moving, ending, closing, leaving, finished, parted, cancelled, wire_of, IsSound, Histories, under_way}
+use Rattle.port_core.specs.Joint.{Joint, idle, asking, asked, moving, ending, closing, leaving, finished, parted, cancelled, joint_wire, IsSound, Histories, under_way}
 use Rattle.port_core.specs.Wire.{JointPorts, end_item}
 use Rattle.port_core.specs.View.{View, in_at, out_at, IsInOpen, IsOutOpen, output_closed, input_closed}
 use Rattle.port_core.specs.declared.act.Act.{Act}
@@ -40,7 +40,7 @@ use Rattle.boundary_calls.specs.Boundary.{IsEntering, IsLeaving, EntersAt, Leave
 
 -- ---- one wire
 
-asked_j : (j : Joint) (s g : List Item) → can_push (wire_of j s g).conn ≡ true → (wire_of j s g).out ≡ outlet.Available
+asked_j : (j : Joint) (s g : List Item) → can_push (joint_wire j s g).conn ≡ true → (joint_wire j s g).out ≡ outlet.Available
 asked_j idle s g e = cc
 asked_j asking s g e = cc
 asked_j asked s g e = refl
@@ -56,7 +56,7 @@ asked_j (cancelled t c) s g e = cc
 can_push_asked : (w : JointPorts) (q : Bool) → IsSound w q → can_push w.conn ≡ true → w.out ≡ outlet.Available
 can_push_asked w q h e = ap (λ (v : JointPorts). v.out) h.is ∙ asked_j h.joint w.sent w.got (sym (ap (λ (v : JointPorts). can_push v.conn) h.is) ∙ e)
 
-idle_j : (j : Joint) (s g : List Item) → can_pull (wire_of j s g).conn ≡ true → (wire_of j s g).inp ≡ Idle
+idle_j : (j : Joint) (s g : List Item) → can_pull (joint_wire j s g).conn ≡ true → (joint_wire j s g).inp ≡ Idle
 idle_j idle s g e = refl
 idle_j asking s g e = cc
 idle_j asked s g e = cc

@@ -9,7 +9,7 @@ use Rattle.port_core.specs.Asking.{NoCancel, PullsStand}
 use Rattle.port_core.specs.Connection.{pulled}
 use Rattle.port_core.specs.Decoding.{can_pull}
 use Rattle.port_core.specs.Wire.{JointPorts, Delivery, nothing, pull, cancel, arrived, after_delivery, again}
-use Rattle.port_core.specs.Joint.{Joint, idle, asking, asked, moving, ending, closing, leaving, finished, parted, cancelled, wire_of, IsSound}
+use Rattle.port_core.specs.Joint.{Joint, idle, asking, asked, moving, ending, closing, leaving, finished, parted, cancelled, joint_wire, IsSound}
 use Rattle.port_core.specs.View.{View}
 use Rattle.port_core.specs.View as view
 use Rattle.port_core.specs.declared.act.Act.{Act}
@@ -31,7 +31,7 @@ use Rattle.fused_net.proofs.Acting.{Fits, PortAt, fits, act_allowed, port_within
 -- ---- one wire
 
 -- an input that waits has not closed
-open_j : (j : Joint) (s g : List Item) → (wire_of j s g).inp ≡ Pulled → (wire_of j s g).conn.in_closed ≡ false
+open_j : (j : Joint) (s g : List Item) → (joint_wire j s g).inp ≡ Pulled → (joint_wire j s g).conn.in_closed ≡ false
 open_j idle s g e = cc
 open_j asking s g e = refl
 open_j asked s g e = refl
@@ -48,7 +48,7 @@ waits_open : (w : JointPorts) (q : Bool) → IsSound w q → w.inp ≡ Pulled �
 waits_open w q h e = ap (λ (v : JointPorts). v.conn.in_closed) h.is ∙ open_j h.joint w.sent w.got (sym (ap (λ (v : JointPorts). v.inp) h.is) ∙ e)
 
 -- a pull that is on its way has not come to the output
-unasked_j : (j : Joint) (s g : List Item) → (wire_of j s g).inp ≡ Pulled → (wire_of j s g).conn.step ≡ pulled → (wire_of j s g).out ≡ Available → ⊥
+unasked_j : (j : Joint) (s g : List Item) → (joint_wire j s g).inp ≡ Pulled → (joint_wire j s g).conn.step ≡ pulled → (joint_wire j s g).out ≡ Available → ⊥
 unasked_j idle s g i t o = cc
 unasked_j asking s g i t o = cc
 unasked_j asked s g i t o = cc

@@ -6,7 +6,7 @@ use Rattle.std.proofs.lemmas.List.{length-set}
 use Rattle.elem_core.specs.Tree.{Tree}
 use Rattle.elem_core.specs.declared.item.Item.{Item}
 use Rattle.elem_core.specs.declared.item.Item.TheVariants as item
-use Rattle.port_core.specs.Ring.{is_waiting}
+use Rattle.port_core.specs.Ring.{is_queued}
 use Rattle.port_core.specs.Joint.{IsSound, Heard}
 use Rattle.port_core.specs.View.{View, IsOutOpen}
 use Rattle.port_core.specs.View as view
@@ -55,10 +55,10 @@ module _ {N : Type 0} where
       ∙ ap (λ (x : WireState). put net w x more) (ap (λ (t : Tree). brought_in t c) (sym same) ∙ b.after)
       ∙ ap (λ (q : Bool). put net w (delivered (wire_at net w)) q) (sym (ap again b.brings))
 
-pub queued_here : (queue : List ℕ) (w : ℕ) → is_waiting (w ∷ queue) w ≡ true
+pub queued_here : (queue : List ℕ) (w : ℕ) → is_queued (w ∷ queue) w ≡ true
 queued_here queue w = grind (arith, common_steps, nat_tests)
 
-pub queued_there : (queue : List ℕ) (w u : ℕ) → u ≢ w → is_waiting (w ∷ queue) u ≡ is_waiting queue u
+pub queued_there : (queue : List ℕ) (w u : ℕ) → u ≢ w → is_queued (w ∷ queue) u ≡ is_queued queue u
 queued_there queue w u n = grind (arith, common_steps, nat_tests)
 
 module _ {N : Type 0} where
@@ -118,7 +118,7 @@ module _ {N : Type 0} (port_state : N → View → Type 0) (law : N → N → Vi
 
   -- a node is replaced by one that minds what it knows
   pub with_node_busy : (net : Net N) (n : ℕ) (y : N) (acts : List Act) → Wired net.ends net.ports (length net.nodes) (length net.wires) → length net.firsts ≡ length net.nodes
-      → ((u : ℕ) → u < length net.wires → IsSound (wire_at net u).wire (is_waiting net.queue u)) → ((u : ℕ) → u < length net.wires → IsMarked (wire_at net u)) → n < length net.nodes → PullsStand acts
+      → ((u : ℕ) → u < length net.wires → IsSound (wire_at net u).wire (is_queued net.queue u)) → ((u : ℕ) → u < length net.wires → IsMarked (wire_at net u)) → n < length net.nodes → PullsStand acts
       → ((first : N) → slice_get net.firsts n ≡ Some first → Minds port_state law y first (view_of net n) (took net n) (gave net n) acts)
       → ((k : ℕ) → k < length net.nodes → k ≢ n → IsMinded port_state law net k [])
       → Busy port_state law (with_node net n y) n acts
@@ -147,11 +147,11 @@ module _ {N : Type 0} (port_state : N → View → Type 0) (law : N → N → Vi
   pub sound_here : (net : Net N) (w : ℕ) → Settled port_state law asking moves (before net w) → w < length net.wires → IsSound (wire_at net w).wire true
   sound_here net w s h = subst (IsSound (wire_at net w).wire) (queued_here net.queue w) (s.sound w h)
 
-  sound_there : (net : Net N) (w : ℕ) → Settled port_state law asking moves (before net w) → (u : ℕ) → u < length net.wires → u ≢ w → IsSound (wire_at net u).wire (is_waiting net.queue u)
+  sound_there : (net : Net N) (w : ℕ) → Settled port_state law asking moves (before net w) → (u : ℕ) → u < length net.wires → u ≢ w → IsSound (wire_at net u).wire (is_queued net.queue u)
   sound_there net w s u h n = subst (IsSound (wire_at net u).wire) (queued_there net.queue w u n) (s.sound u h)
 
-  sound_told : (net : Net N) (w : ℕ) (d : Delivery) → Settled port_state law asking moves (before net w) → w < length net.wires → is_waiting net.queue w ≡ false → IsSound (after_delivery d (wire_at net w).wire) (again d)
-      → (u : ℕ) → u < length (delivered_on net w d).wires → IsSound (wire_at (delivered_on net w d) u).wire (is_waiting (delivered_on net w d).queue u)
+  sound_told : (net : Net N) (w : ℕ) (d : Delivery) → Settled port_state law asking moves (before net w) → w < length net.wires → is_queued net.queue w ≡ false → IsSound (after_delivery d (wire_at net w).wire) (again d)
+      → (u : ℕ) → u < length (delivered_on net w d).wires → IsSound (wire_at (delivered_on net w d) u).wire (is_queued (delivered_on net w d).queue u)
   sound_told net w d s h absent sound = sound_put net w _ _ h (sound_there net w s) (rw absent sound)
 
   marked_told : (net : Net N) (w : ℕ) (d : Delivery) → Settled port_state law asking moves (before net w) → w < length net.wires → IsMarked (told_by d (wire_at net w))
@@ -163,7 +163,7 @@ module _ {N : Type 0} (port_state : N → View → Type 0) (law : N → N → Vi
   marked_here net w s h = deliver_marked (wire_at net w).wire (wire_at net w).asked (sound_here net w s h) (s.marked w h)
 
   -- an event that comes to nothing
-  pub nothing_settled : (net : Net N) (w : ℕ) → Settled port_state law asking moves (before net w) → w < length net.wires → is_waiting net.queue w ≡ false → delivery_of (wire_at net w).wire ≡ nothing → Settled port_state law asking moves (event_told net w)
+  pub nothing_settled : (net : Net N) (w : ℕ) → Settled port_state law asking moves (before net w) → w < length net.wires → is_queued net.queue w ≡ false → delivery_of (wire_at net w).wire ≡ nothing → Settled port_state law asking moves (event_told net w)
   nothing_settled net w s h absent e =
       let marked : IsMarked (told_by nothing (wire_at net w)) = rw e at (marked_here net w s h) in
       let sound : IsSound (wire_at net w).wire false = rw e at (deliver_kept (wire_at net w).wire (sound_here net w s h)) in
@@ -182,7 +182,7 @@ module _ {N : Type 0} (port_state : N → View → Type 0) (law : N → N → Vi
         moments = told_moments port_state law asking moves net w nothing h s.moments;
       })
 
-  pub handled_busy : (net : Net N) (w : ℕ) (d : Delivery) (x y : N) (acts : List Act) → Settled port_state law asking moves (before net w) → w < length net.wires → is_waiting net.queue w ≡ false
+  pub handled_busy : (net : Net N) (w : ℕ) (d : Delivery) (x y : N) (acts : List Act) → Settled port_state law asking moves (before net w) → w < length net.wires → is_queued net.queue w ≡ false
       → d ≡ delivery_of (wire_at net w).wire → d ≢ nothing → slice_get net.nodes (target d (end_at net.ends w)) ≡ Some x → Handles port_state law (call_of d (end_at net.ends w)) x y acts
       → Busy port_state law (with_node (delivered_on net w d) (target d (end_at net.ends w)) y) (target d (end_at net.ends w)) acts
   handled_busy net w d x y acts s h absent e n xi handles =
@@ -208,7 +208,7 @@ module _ {N : Type 0} (port_state : N → View → Type 0) (law : N → N → Vi
     pub awaits : Awaits port_state law call v n
     pub tells : TellsAsking port_state law asking call v n
 
-  called : (net : Net N) (w : ℕ) (d : Delivery) → Settled port_state law asking moves (before net w) → w < length net.wires → is_waiting net.queue w ≡ false
+  called : (net : Net N) (w : ℕ) (d : Delivery) → Settled port_state law asking moves (before net w) → w < length net.wires → is_queued net.queue w ≡ false
       → d ≡ delivery_of (wire_at net w).wire → d ≢ nothing → Called (call_of d (end_at net.ends w)) (event_told net w) (target d (end_at net.ends w))
   called net w d s h absent e n =
       let heard : Heard d (wire_at net w).wire = rw e (deliver_heard (wire_at net w).wire (sound_here net w s h)) in
@@ -230,6 +230,6 @@ module _ {N : Type 0} (port_state : N → View → Type 0) (law : N → N → Vi
             subst (λ (a : Net N). asking y (view.acted_all (view_of a (target d (end_at net.ends w))) acts)) same at.port_state_holds;
       }
 
-  pub call_at : (net v : Net N) (w n : ℕ) (d : Delivery) (ends : WireEnds) → Settled port_state law asking moves (before net w) → w < length net.wires → is_waiting net.queue w ≡ false
+  pub call_at : (net v : Net N) (w n : ℕ) (d : Delivery) (ends : WireEnds) → Settled port_state law asking moves (before net w) → w < length net.wires → is_queued net.queue w ≡ false
       → d ≡ delivery_of (wire_at net w).wire → d ≢ nothing → v ≡ event_told net w → ends ≡ end_at net.ends w → n ≡ target d ends → Called (call_of d ends) v n
   call_at net v w n d ends s h absent e ne is same at = rw (at, same, is) (called net w d s h absent e ne)

@@ -5,7 +5,7 @@ use Rattle.elem_core.specs.Prefix.{IsPrefix}
 use Rattle.elem_core.specs.declared.item.Item.{Item}
 use Rattle.elem_core.specs.declared.item.Item.TheVariants as item
 use Rattle.elem_core.specs.declared.count.TheConstants.{MOST_COUNT}
-use Rattle.port_core.specs.Ring.{is_waiting}
+use Rattle.port_core.specs.Ring.{is_queued}
 use Rattle.port_core.specs.Joint.{IsSound}
 use Rattle.port_core.specs.View.{View}
 use Rattle.port_core.specs.View as view
@@ -115,14 +115,14 @@ module _ {N : Type 0} (port_state : N → View → Type 0) (law : N → N → Vi
 
 module _ {N : Type 0} (port_state : N → View → Type 0) (law : N → N → View → List (List Item) → List (List Item) → Type 0) (asking : N → View → Type 0) (moves : N → List ℕ) where
   -- an event is delivered
-  pub event_uses : (net : Net N) (w : ℕ) → Settled port_state law asking moves (before net w) → w < length net.wires → is_waiting net.queue w ≡ false → Uses (before net w) (event_told net w) 1
+  pub event_uses : (net : Net N) (w : ℕ) → Settled port_state law asking moves (before net w) → w < length net.wires → is_queued net.queue w ≡ false → Uses (before net w) (event_told net w) 1
   event_uses net w s h absent =
       let d : Delivery = delivery_of (wire_at net w).wire in
-      let queue : is_waiting (event_told net w).queue w ≡ again (delivery_of (wire_at net w).wire) = holds_put_same net.queue w (again (delivery_of (wire_at net w).wire)) ∙ ap (λ (q : Bool). q || again (delivery_of (wire_at net w).wire)) absent in
-      let up : spent (wire_at net w).wire (is_waiting (w ∷ net.queue) w) + 1 ≤ spent (after_delivery (delivery_of (wire_at net w).wire) (wire_at net w).wire) (is_waiting (event_told net w).queue w) =
+      let queue : is_queued (event_told net w).queue w ≡ again (delivery_of (wire_at net w).wire) = holds_put_same net.queue w (again (delivery_of (wire_at net w).wire)) ∙ ap (λ (q : Bool). q || again (delivery_of (wire_at net w).wire)) absent in
+      let up : spent (wire_at net w).wire (is_queued (w ∷ net.queue) w) + 1 ≤ spent (after_delivery (delivery_of (wire_at net w).wire) (wire_at net w).wire) (is_queued (event_told net w).queue w) =
       rw (queued_here net.queue w, queue) (deliver_spent (wire_at net w).wire (sound_here port_state law asking moves net w s h)) in
       let cost : total_cost (before net w) + 1 ≤ total_cost (event_told net w) = rw length-set (sum_up _ _ (length net.wires) w h
-      (λ k l. by_place (λ z. spent (wire_at (before net w) z).wire (is_waiting (w ∷ net.queue) z)) (λ z. spent (wire_at (event_told net w) z).wire (is_waiting (event_told net w).queue z)) w k
+      (λ k l. by_place (λ z. spent (wire_at (before net w) z).wire (is_queued (w ∷ net.queue) z)) (λ z. spent (wire_at (event_told net w) z).wire (is_queued (event_told net w).queue z)) w k
       (rw (get_or-set_same net.wires w _ no_wire h) (omega (arith, up)))
       (λ ne. rw (get_or-set_other net.wires w k _ no_wire ne, holds_put_other net.queue w k (again (delivery_of (wire_at net w).wire)) ne, queued_there net.queue w k ne) (omega arith)))
       (rw (get_or-set_same net.wires w _ no_wire h) up)) in
@@ -162,7 +162,7 @@ module _ {N : Type 0} (port_state : N → View → Type 0) (law : N → N → Vi
     pub on : NetGoesOn net new
     pub uses : Uses (before net w) new 1
 
-  pub handled : (net v new : Net N) (w n : ℕ) (d : Delivery) (ends : WireEnds) → Settled port_state law asking moves (before net w) → w < length net.wires → is_waiting net.queue w ≡ false
+  pub handled : (net v new : Net N) (w n : ℕ) (d : Delivery) (ends : WireEnds) → Settled port_state law asking moves (before net w) → w < length net.wires → is_queued net.queue w ≡ false
       → d ≡ delivery_of (wire_at net w).wire → d ≢ nothing → v ≡ event_told net w → ends ≡ end_at net.ends w → n ≡ target d ends → Responds port_state law asking moves v new n → Handled net new w
   handled net v new w n d ends s h absent e ne is same at r =
       let event : Uses (before net w) v 1 = rw is (event_uses net w s h absent) in
@@ -183,7 +183,7 @@ module _ {N : Type 0} (port_state : N → View → Type 0) (law : N → N → Vi
         uses = record { least = omega (arith, event.least, done.least); most = omega (arith, event.most, done.most); each = omega (arith, event.each, done.each) };
       }
 
-  pub handled_nothing : (net new : Net N) (w : ℕ) → Settled port_state law asking moves (before net w) → w < length net.wires → is_waiting net.queue w ≡ false → delivery_of (wire_at net w).wire ≡ nothing → new ≡ event_told net w → Handled net new w
+  pub handled_nothing : (net new : Net N) (w : ℕ) → Settled port_state law asking moves (before net w) → w < length net.wires → is_queued net.queue w ≡ false → delivery_of (wire_at net w).wire ≡ nothing → new ≡ event_told net w → Handled net new w
   handled_nothing net new w s h absent e is = rw is (record {
     laws = nothing_settled port_state law asking moves net w s h absent e;
     on = goes_put net w _ _;

@@ -6,7 +6,7 @@ use Rattle.elem_core.specs.Tree.{Tree}
 use Rattle.elem_core.specs.declared.item.Item.{Item}
 use Rattle.elem_core.specs.declared.item.Item.TheVariants as item
 use Rattle.elem_core.specs.declared.count.TheConstants.{MOST_COUNT}
-use Rattle.port_core.specs.Ring.{is_waiting}
+use Rattle.port_core.specs.Ring.{is_queued}
 use Rattle.port_core.specs.View.{View}
 use Rattle.port_core.specs.Call.{Call, pulls, arrives, Meets}
 use Rattle.port_core.specs.Wire.{Delivery, nothing, pull, cancel, arrived, delivery_of}
@@ -37,7 +37,7 @@ module _ {N : Type 0} (port_state : N → View → Type 0) (law : N → N → Vi
   pub record Calling (net heard v : Net N) (w n : ℕ) (call : Call) (ends : WireEnds) (x : N) : Type 0 where
     pub laws : Settled port_state law asking moves (before net w)
     pub within : w < length net.wires
-    pub absent : is_waiting net.queue w ≡ false
+    pub absent : is_queued net.queue w ≡ false
     pub some : delivery_of (wire_at net w).wire ≢ nothing
     pub after : heard ≡ event_told net w
     pub ends_are : ends ≡ end_at net.ends w
@@ -62,7 +62,7 @@ module _ {N : Type 0} (port_state : N → View → Type 0) (law : N → N → Vi
   pub call_few : (net heard v : Net N) (w n : ℕ) (call : Call) (ends : WireEnds) (x y : N) → Calling net heard v w n call ends x → all_asks net + 1 ≤ MOST_COUNT → all_asks (with_node v n y) ≤ MOST_COUNT
   call_few net heard v w n call ends x y c few = subst (λ (a : Net N). all_asks a ≤ MOST_COUNT) (sym c.same) (few_told port_state law asking moves net heard w c.laws c.within c.absent c.after few)
 
-  calling : (net heard v : Net N) (w n : ℕ) (d : Delivery) (ends : WireEnds) (x : N) → Settled port_state law asking moves (before net w) → w < length net.wires → is_waiting net.queue w ≡ false → d ≡ delivery_of (wire_at net w).wire → d ≢ nothing
+  calling : (net heard v : Net N) (w n : ℕ) (d : Delivery) (ends : WireEnds) (x : N) → Settled port_state law asking moves (before net w) → w < length net.wires → is_queued net.queue w ≡ false → d ≡ delivery_of (wire_at net w).wire → d ≢ nothing
       → heard ≡ event_told net w → ends ≡ end_at net.ends w → n ≡ target d ends → v ≡ heard → x ≡ get_or v.nodes n x → Calling net heard v w n (call_of d ends) ends x
   calling net heard v w n d ends x laws within absent event some after ends_are node same read = record {
     laws = laws;
@@ -78,20 +78,20 @@ module _ {N : Type 0} (port_state : N → View → Type 0) (law : N → N → Vi
   }
 
   -- an element is told and then taken
-  pub calling_push : (net told heard u v : Net N) (w : ℕ) (e : Tree) (ends : WireEnds) (x : N) → Settled port_state law asking moves (before net w) → w < length net.wires → is_waiting net.queue w ≡ false → Brings false (wire_at net w) (wire_at told w) → told ≡ put net w (wire_at told w) false
+  pub calling_push : (net told heard u v : Net N) (w : ℕ) (e : Tree) (ends : WireEnds) (x : N) → Settled port_state law asking moves (before net w) → w < length net.wires → is_queued net.queue w ≡ false → Brings false (wire_at net w) (wire_at told w) → told ≡ put net w (wire_at told w) false
       → (wire_at told w).wire.conn.to_grab ≡ Some e → heard ≡ put told w (brought_in e (wire_at told w)) false → u ≡ net → ends ≡ get_or u.ends w ends → v ≡ heard → x ≡ get_or v.nodes ends.to x → Calling net heard v w ends.to (arrives ends.input (item.Elem e)) ends x
   calling_push net told heard u v w e ends x laws within absent brings tells there on is at same read =
       calling net heard v w ends.to (arrived (item.Elem e) false) ends x laws within absent (brings_elem (wire_at net w) (wire_at told w) e false brings there) (λ none. cc) (told_brings net told heard w e false brings tells there on)
       (the_ends net u w ends is laws.wired.each_wire within at) refl same read
 
   -- a pull is told
-  pub calling_pull : (net heard u v : Net N) (w : ℕ) (ends : WireEnds) (x : N) → Settled port_state law asking moves (before net w) → w < length net.wires → is_waiting net.queue w ≡ false → Brought pull (wire_at net w) (wire_at heard w) → heard ≡ put net w (wire_at heard w) false
+  pub calling_pull : (net heard u v : Net N) (w : ℕ) (ends : WireEnds) (x : N) → Settled port_state law asking moves (before net w) → w < length net.wires → is_queued net.queue w ≡ false → Brought pull (wire_at net w) (wire_at heard w) → heard ≡ put net w (wire_at heard w) false
       → u ≡ net → ends ≡ get_or u.ends w ends → v ≡ heard → x ≡ get_or v.nodes ends.from x → Calling net heard v w ends.from (pulls ends.output) ends x
   calling_pull net heard u v w ends x laws within absent brought tells is at same read =
       calling net heard v w ends.from pull ends x laws within absent (sym brought.brings) (λ none. cc) (told_brought net heard w pull brought tells refl) (the_ends net u w ends is laws.wired.each_wire within at) refl same read
 
   -- any other event is told, and what it brings is taken
-  pub calling_closing : (b : Delivered) (net told heard u v : Net N) (w n : ℕ) (ends : WireEnds) (x : N) → Settled port_state law asking moves (before net w) → w < length net.wires → is_waiting net.queue w ≡ false → told ≡ put net w (wire_at told w) false → u ≡ told → ends ≡ get_or u.ends w ends
+  pub calling_closing : (b : Delivered) (net told heard u v : Net N) (w n : ℕ) (ends : WireEnds) (x : N) → Settled port_state law asking moves (before net w) → w < length net.wires → is_queued net.queue w ≡ false → told ≡ put net w (wire_at told w) false → u ≡ told → ends ≡ get_or u.ends w ends
       → IsBrought b (delivery_of (wire_at net w).wire) → heard ≡ event_told net w → n ≡ node_for b ends → v ≡ heard → x ≡ get_or v.nodes n x → Calling net heard v w n (call_for b ends) ends x
   calling_closing brings.Cancel net told heard u v w n ends x laws within absent tells is at brought after node same read =
       calling net heard v w n cancel ends x laws within absent (sym brought) (λ none. cc) after (told_ends net told u w ends laws.wired.each_wire within tells is at) node same read

@@ -6,7 +6,7 @@ use Rattle.std.proofs.lemmas.Bool.Decides.{nat_tests}
 use Rattle.std.proofs.lemmas.List.{length-set}
 use Rattle.std.proofs.lemmas.List.Folds.{list_any-append}
 use Rattle.elem_core.specs.declared.item.Item.{Item}
-use Rattle.port_core.specs.Ring.{is_waiting}
+use Rattle.port_core.specs.Ring.{is_queued}
 use Rattle.port_core.specs.Joint.{IsSound}
 use Rattle.port_core.specs.View.{View}
 use Rattle.port_core.specs.declared.act.Act.{Act}
@@ -18,20 +18,20 @@ use Rattle.fused_net.specs.Laws.{Wired, Minds, IsMinded}
 use Rattle.fused_net.proofs.Reading.{same_or_not, read_same, read_apart, read_here}
 
 -- the queue after a wire was put
-pub holds_put_same : (queue : List ℕ) (w : ℕ) (b : Bool) → is_waiting (if b then queue ++ w ∷ [] else queue) w ≡ (is_waiting queue w || b)
+pub holds_put_same : (queue : List ℕ) (w : ℕ) (b : Bool) → is_queued (if b then queue ++ w ∷ [] else queue) w ≡ (is_queued queue w || b)
 holds_put_same queue w true = list_any-append (λ x. x == w) queue (w ∷ []) ∙ grind (arith, common_steps, nat_tests)
 holds_put_same queue w false = grind (arith, common_steps)
 
-pub holds_put_other : (queue : List ℕ) (w u : ℕ) (b : Bool) → u ≢ w → is_waiting (if b then queue ++ w ∷ [] else queue) u ≡ is_waiting queue u
+pub holds_put_other : (queue : List ℕ) (w u : ℕ) (b : Bool) → u ≢ w → is_queued (if b then queue ++ w ∷ [] else queue) u ≡ is_queued queue u
 holds_put_other queue w u true n = list_any-append (λ x. x == u) queue (w ∷ []) ∙ grind (arith, common_steps, nat_tests)
 holds_put_other queue w u false n = refl
 
 module _ {N : Type 0} where
   -- every wire stays in a joint state
   pub sound_put : (net : Net N) (w : ℕ) (new : WireState) (b : Bool) → w < length net.wires
-      → ((u : ℕ) → u < length net.wires → u ≢ w → IsSound (wire_at net u).wire (is_waiting net.queue u))
-      → IsSound new.wire (is_waiting net.queue w || b)
-      → (u : ℕ) → u < length (put net w new b).wires → IsSound (wire_at (put net w new b) u).wire (is_waiting (put net w new b).queue u)
+      → ((u : ℕ) → u < length net.wires → u ≢ w → IsSound (wire_at net u).wire (is_queued net.queue u))
+      → IsSound new.wire (is_queued net.queue w || b)
+      → (u : ℕ) → u < length (put net w new b).wires → IsSound (wire_at (put net w new b) u).wire (is_queued (put net w new b).queue u)
   sound_put net w new b h sound s u hu = elim (same_or_not u w) [
     | inl same ↦ rw same (rw (get_or-set_same net.wires w new no_wire h, holds_put_same net.queue w b) s)
     | inr other ↦ let within : u < length net.wires = rw length-set at hu in

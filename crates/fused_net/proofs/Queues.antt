@@ -2,7 +2,7 @@
 use Rattle.std.proofs.Common.{◌≡◌, ◌⊎◌, inl, inr, ℕ, ◌<◌, false, Option, None, Some, List, [], ◌∷◌, ◌++◌, refl, sym, ap, ◌∙◌, subst, append-nil}
 use Rattle.std.specs.Option.{option_to_list}
 use Rattle.std.specs.Prelude.{length, IfNone, IfSome}
-use Rattle.port_core.specs.Ring.{is_waiting}
+use Rattle.port_core.specs.Ring.{is_queued}
 use Rattle.fused_net.specs.Net.{Net, Takes}
 use Rattle.fused_net.specs.Queue.{Queue, waiting, chase_queued, Chases, Dequeues}
 
@@ -35,8 +35,8 @@ module _ {N : Type 0} where
     is ∙ ap (λ (xs : List ℕ). record v { queue = xs }) (ap waiting h.1 ∙ settled_waits q ∙ sym at) ∙ e,
   )
 
-  pub next_some : (net v new : Net N) (q r : Queue) (x : Option ℕ) → v ≡ net → v.queue ≡ waiting q → new ≡ record v { queue = waiting r } → r.size ≡ length v.wires → IfSome x (λ w. Chases q w r ⊎ Dequeues q w r) → IfSome x (λ w. (w < r.size) × (is_waiting (waiting r) w ≡ false))
-      → IfSome x (λ w. (w < length new.wires) × ((is_waiting new.queue w ≡ false) × Takes net w new))
+  pub next_some : (net v new : Net N) (q r : Queue) (x : Option ℕ) → v ≡ net → v.queue ≡ waiting q → new ≡ record v { queue = waiting r } → r.size ≡ length v.wires → IfSome x (λ w. Chases q w r ⊎ Dequeues q w r) → IfSome x (λ w. (w < r.size) × (is_queued (waiting r) w ≡ false))
+      → IfSome x (λ w. (w < length new.wires) × ((is_queued new.queue w ≡ false) × Takes net w new))
   next_some net v new q r None e at is size some once = tt
   next_some net v new q r (Some w) e at is size some once =
       let within : w < length v.wires = rw size at once.0 in

@@ -5,7 +5,7 @@ use Rattle.std.proofs.lemmas.Option.{slice_get-get_or}
 use Rattle.elem_core.specs.Prefix.{IsPrefix}
 use Rattle.elem_core.specs.declared.item.Item.{Item}
 use Rattle.elem_core.specs.declared.count.TheConstants.{MOST_COUNT}
-use Rattle.port_core.specs.Ring.{is_waiting}
+use Rattle.port_core.specs.Ring.{is_queued}
 use Rattle.port_core.specs.View.{View}
 use Rattle.port_core.specs.Call.{Call, Meets, starts}
 use Rattle.port_core.specs.declared.act.Act.{Act}
@@ -54,7 +54,7 @@ module _ {N : Type 0} (port_state : N → View → Type 0) (law : N → N → Vi
       }
 
   -- an event leaves few asks
-  pub few_told : (net v : Net N) (w : ℕ) → Settled port_state law asking moves (before net w) → w < length net.wires → is_waiting net.queue w ≡ false → v ≡ event_told net w → all_asks net + 1 ≤ MOST_COUNT → all_asks v ≤ MOST_COUNT
+  pub few_told : (net v : Net N) (w : ℕ) → Settled port_state law asking moves (before net w) → w < length net.wires → is_queued net.queue w ≡ false → v ≡ event_told net w → all_asks net + 1 ≤ MOST_COUNT → all_asks v ≤ MOST_COUNT
   few_told net v w s h absent is few = rw is (let u = event_uses port_state law asking moves net w s h absent in omega (arith, u.most, few))
 
   module _ (fresh : N → View → Type 0) where

@@ -5,7 +5,7 @@ use Rattle.elem_core.specs.Prefix.{IsPrefix}
 use Rattle.elem_core.specs.Items.{elements}
 use Rattle.elem_core.specs.declared.item.Item.{Item}
 use Rattle.port_core.specs.Wire.{JointPorts}
-use Rattle.port_core.specs.Joint.{Joint, idle, asking, asked, moving, ending, closing, leaving, finished, parted, cancelled, wire_of, Histories, IsSound}
+use Rattle.port_core.specs.Joint.{Joint, idle, asking, asked, moving, ending, closing, leaving, finished, parted, cancelled, joint_wire, Histories, IsSound}
 use Rattle.port_core.specs.View.{View}
 use Rattle.port_core.specs.Call.{starts, AllIdle, AllUnpulled}
 use Rattle.port_core.specs.declared.act.Act.{Act}
@@ -62,7 +62,7 @@ no_asks n (suc k) h =
     omega (arith, no_asks n k (omega arith), none)
 
 -- an input that has not pulled, and to which nothing came
-idle_j : (j : Joint) (s g : List Item) (b : Bool) → Histories j s g → IsMarked (cell (wire_of j s g) b) → (wire_of j s g).inp ≡ Idle → g ≡ [] → (if b then elements s + 1 else elements s) ≡ 0
+idle_j : (j : Joint) (s g : List Item) (b : Bool) → Histories j s g → IsMarked (cell (joint_wire j s g) b) → (joint_wire j s g).inp ≡ Idle → g ≡ [] → (if b then elements s + 1 else elements s) ≡ 0
 idle_j idle s g b h m e none = rw (m.unclosed refl, h, none) refl
 idle_j (ending c) s g b h m e none = rw (m.unclosed refl, h, elements_end g c, none) refl
 idle_j asking s g b h m e none = cc

@@ -2,7 +2,7 @@
 use Rattle.std.proofs.Common.{◌≡◌, inl, inr, ℕ, zero, suc, ◌+◌, ◌≤◌, ◌==◌, Bool, true, false, ◌||◌, List, [], ◌∷◌, ◌++◌, length, map, refl, sym, ap, ◌∙◌, subst, arith}
 use Rattle.std.proofs.lemmas.List.Folds.{list_any-append}
 use Rattle.elem_core.specs.declared.item.Item.{Item}
-use Rattle.port_core.specs.Ring.{is_waiting}
+use Rattle.port_core.specs.Ring.{is_queued}
 use Rattle.port_core.specs.Joint.{IsSound}
 use Rattle.port_core.specs.View.{View}
 use Rattle.wire_core.specs.Counts.{spent}
@@ -11,8 +11,8 @@ use Rattle.fused_net.specs.Laws.{NetGoesOn, Settled, AllKept}
 use Rattle.fused_net.specs.Costs.{sum_below, total_cost, all_asks, Uses}
 
 -- a number stands in a list, at whichever end
-holds_last : (queue : List ℕ) (w u : ℕ) → is_waiting (queue ++ w ∷ []) u ≡ is_waiting (w ∷ queue) u
-holds_last queue w u = list_any-append (λ x. x == u) queue (w ∷ []) ∙ or_swap (is_waiting queue u) (w == u)
+holds_last : (queue : List ℕ) (w u : ℕ) → is_queued (queue ++ w ∷ []) u ≡ is_queued (w ∷ queue) u
+holds_last queue w u = list_any-append (λ x. x == u) queue (w ∷ []) ∙ or_swap (is_queued queue u) (w == u)
   where
     or_swap : (a b : Bool) → (a || (b || false)) ≡ (b || a)
     or_swap true true = refl
@@ -30,7 +30,7 @@ queued net q = record net { queue = q }
 
 -- the same wires wait
 abbrev Same : List ℕ → List ℕ → Type 0
-Same q r = (u : ℕ) → is_waiting q u ≡ is_waiting r u
+Same q r = (u : ℕ) → is_queued q u ≡ is_queued r u
 
 module _ {N : Type 0} where
   moved_goes : (net new : Net N) (q r : List ℕ) → NetGoesOn (queued net q) new → NetGoesOn (queued net r) new
@@ -92,8 +92,8 @@ module _ {N : Type 0} (port_state : N → View → Type 0) (law : N → N → Vi
 module _ {N : Type 0} where
   same_wires : (old new : Net N) (w : ℕ) → Takes old w new → Same old.queue (w ∷ new.queue)
   same_wires old new w t u = elim (t.stood) [
-    | inl e ↦ ap (λ (q : List ℕ). is_waiting q u) e
-    | inr e ↦ ap (λ (q : List ℕ). is_waiting q u) e ∙ holds_last new.queue w u
+    | inl e ↦ ap (λ (q : List ℕ). is_queued q u) e
+    | inr e ↦ ap (λ (q : List ℕ). is_queued q u) e ∙ holds_last new.queue w u
   ]
 
   pub taken_goes : (old net new : Net N) (w : ℕ) → Takes old w net → NetGoesOn net new → NetGoesOn old new

@@ -1,6 +1,6 @@
 -- What a graph's wires have cost and what their ends have heard, and how both are tied to the units that were used: each event is one unit.
 use Rattle.std.specs.Prelude.{ℕ, zero, suc, ◌+◌, ◌≤◌, length}
-use Rattle.port_core.specs.Ring.{is_waiting}
+use Rattle.port_core.specs.Ring.{is_queued}
 use Rattle.wire_core.specs.Counts.{spent, asks, events_heard}
 use Rattle.fused_net.specs.Net.{Net, wire_at}
 
@@ -12,7 +12,7 @@ sum_below f (suc n) = sum_below f n + f n
 module _ {N : Type 0} where
   -- what all wires have cost
   abbrev pub total_cost : Net N → ℕ
-  total_cost net = sum_below (λ w. spent (wire_at net w).wire (is_waiting net.queue w)) (length net.wires)
+  total_cost net = sum_below (λ w. spent (wire_at net w).wire (is_queued net.queue w)) (length net.wires)
 
   -- the pulls that came to outputs, on all wires: one for each element that was pushed, and those that were not answered
   abbrev pub all_asks : Net N → ℕ

@@ -2,7 +2,7 @@
 use Rattle.std.specs.Prelude.{◌≡◌, ◌≢◌, ℕ, ◌<◌, ◌≤◌, ◌⊎◌, true, Some, List, [], ◌∷◌, length, replicate, slice_get, ⊤}
 use Rattle.elem_core.specs.Prefix.{IsPrefix}
 use Rattle.elem_core.specs.declared.item.Item.{Item}
-use Rattle.port_core.specs.Ring.{is_waiting}
+use Rattle.port_core.specs.Ring.{is_queued}
 use Rattle.port_core.specs.Joint.{IsSound}
 use Rattle.port_core.specs.View.{View, in_at, ActsAllowed, acted_all}
 use Rattle.port_core.specs.Asking.{PullsStand}
@@ -84,7 +84,7 @@ module _ {N : Type 0} (port_state : N → View → Type 0) (law : N → N → Vi
   pub record Busy (net : Net N) (n : ℕ) (acts : List Act) : Type 0 where
     pub wired : Wired net.ends net.ports (length net.nodes) (length net.wires)
     pub each_first : length net.firsts ≡ length net.nodes
-    pub sound : (w : ℕ) → w < length net.wires → IsSound (wire_at net w).wire (is_waiting net.queue w)
+    pub sound : (w : ℕ) → w < length net.wires → IsSound (wire_at net w).wire (is_queued net.queue w)
     pub marked : (w : ℕ) → w < length net.wires → IsMarked (wire_at net w)
     pub within : n < length net.nodes
     pub stands : PullsStand acts
@@ -99,7 +99,7 @@ module _ {N : Type 0} (port_state : N → View → Type 0) (law : N → N → Vi
     pub on : NetGoesOn old net
     pub grown : (u : ℕ) → u < length old.wires → Grown (wire_at old u) (wire_at net u)
     pub moves_on : MovesGrow moves old net
-    pub sound : (u : ℕ) → u < length old.wires → IsSound (wire_at old u).wire (is_waiting old.queue u)
+    pub sound : (u : ℕ) → u < length old.wires → IsSound (wire_at old u).wire (is_queued old.queue u)
     pub marked : (u : ℕ) → u < length old.wires → IsMarked (wire_at old u)
     pub waits : (wire_at old w).wire.inp ≡ Pulled
     pub asked : (wire_at old w).asked ≡ true
@@ -120,7 +120,7 @@ module _ {N : Type 0} (port_state : N → View → Type 0) (law : N → N → Vi
     pub on : NetGoesOn old net
     pub grown : (u : ℕ) → u < length old.wires → Grown (wire_at old u) (wire_at net u)
     pub moves_on : MovesGrow moves old net
-    pub sound : (u : ℕ) → u < length old.wires → IsSound (wire_at old u).wire (is_waiting old.queue u)
+    pub sound : (u : ℕ) → u < length old.wires → IsSound (wire_at old u).wire (is_queued old.queue u)
     pub marked : (u : ℕ) → u < length old.wires → IsMarked (wire_at old u)
     pub minded : IsMinded port_state law old n []
     pub asking_then : IsAsking asking old n
@@ -137,7 +137,7 @@ module _ {N : Type 0} (port_state : N → View → Type 0) (law : N → N → Vi
   pub record Settled (net : Net N) : Type 0 where
     pub wired : Wired net.ends net.ports (length net.nodes) (length net.wires)
     pub each_first : length net.firsts ≡ length net.nodes
-    pub sound : (w : ℕ) → w < length net.wires → IsSound (wire_at net w).wire (is_waiting net.queue w)
+    pub sound : (w : ℕ) → w < length net.wires → IsSound (wire_at net w).wire (is_queued net.queue w)
     pub marked : (w : ℕ) → w < length net.wires → IsMarked (wire_at net w)
     pub minded : (n : ℕ) → n < length net.nodes → IsMinded port_state law net n []
     pub asked : AllAsked net
@@ -155,7 +155,7 @@ module _ {N : Type 0} (port_state : N → View → Type 0) (law : N → N → Vi
   pub record Starting (fresh : N → View → Type 0) (net : Net N) (n : ℕ) : Type 0 where
     pub wired : Wired net.ends net.ports (length net.nodes) (length net.wires)
     pub each_first : length net.firsts ≡ length net.nodes
-    pub sound : (w : ℕ) → w < length net.wires → IsSound (wire_at net w).wire (is_waiting net.queue w)
+    pub sound : (w : ℕ) → w < length net.wires → IsSound (wire_at net w).wire (is_queued net.queue w)
     pub marked : (w : ℕ) → w < length net.wires → IsMarked (wire_at net w)
     pub below : (k : ℕ) → k < n → k < length net.nodes → IsMinded port_state law net k []
     pub asked : AllAsked net

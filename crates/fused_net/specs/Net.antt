@@ -2,7 +2,7 @@
 use Rattle.std.specs.Prelude.{◌≡◌, ℕ, ◌+◌, ◌^◌, ◌<◌, ◌⊎◌, Bool, true, false, if◌then◌else◌, List, [], ◌∷◌, ◌++◌, length, slice_index_or, slice_set}
 use Rattle.elem_core.specs.Items.{elements}
 use Rattle.elem_core.specs.declared.item.Item.{Item}
-use Rattle.port_core.specs.Ring.{is_waiting}
+use Rattle.port_core.specs.Ring.{is_queued}
 use Rattle.port_core.specs.View.{View}
 use Rattle.port_core.specs.Call.{Call, starts, pulls, arrives, cancels}
 use Rattle.port_core.specs.Wire.{Delivery, nothing, pull, cancel, arrived, delivery_of, after_delivery, again}
@@ -143,7 +143,7 @@ module _ {N : Type 0} where
     pub node : n < length net.ports
     pub port : HasPort a (ports_at net n)
     pub wire : wire_for a (ports_at net n) < length net.wires
-    pub free : queues_by a (wire_at net (wire_for a (ports_at net n))).wire.conn ≡ true → is_waiting net.queue (wire_for a (ports_at net n)) ≡ false
+    pub free : queues_by a (wire_at net (wire_for a (ports_at net n))).wire.conn ≡ true → is_queued net.queue (wire_for a (ports_at net n)) ≡ false
     pub count : elements (wire_at net (wire_for a (ports_at net n))).wire.sent + 1 < 2 ^ 64
 
   -- wire w was not taken from the queue yet

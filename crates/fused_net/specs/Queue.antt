@@ -2,7 +2,7 @@
 -- which may come first.
 use Rattle.std.specs.Prelude.{◌≡◌, ℕ, ◌+◌, ◌<◌, ◌≤◌, Bool, false, if◌then◌else◌, Option, None, Some, List, [], ◌∷◌, ◌++◌, max, ⊤}
 use Rattle.std.specs.Option.{option_to_list}
-use Rattle.port_core.specs.Ring.{is_waiting}
+use Rattle.port_core.specs.Ring.{is_queued}
 use Rattle.fused_net.specs.declared.queue.TheConstants.{MOST_CHASES}
 
 -- how many wires there are; those in the ring, first in first out; the chased wire, if there is one; whether a pull was chased since one
@@ -40,7 +40,7 @@ pushed_on q w = if q.pulling then pushed_behind (waiting q) q w else pushed_firs
 -- the chased wire has a place in the ring, and is not there
 abbrev pub HasPlace : ℕ → List ℕ → Option ℕ → Type 0
 HasPlace size ring None = ⊤
-HasPlace size ring (Some w) = (w < size) × (is_waiting ring w ≡ false)
+HasPlace size ring (Some w) = (w < size) × (is_queued ring w ≡ false)
 
 -- what every queue keeps
 pub record IsQueue (q : Queue) : Type 0 where

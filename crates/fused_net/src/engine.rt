@@ -3,7 +3,7 @@ ghost use Rattle.std.specs.Prelude.{◌≡◌, ℕ, true, ◌+◌, ◌<◌, ◌�
 ghost use Rattle.elem_core.specs.Prefix.{IsPrefix};
 ghost use Rattle.elem_core.specs.declared.count.TheConstants.{MOST_COUNT};
 ghost use Rattle.port_core.specs.Call.{Meets};
-ghost use Rattle.port_core.specs.Ring.{is_waiting};
+ghost use Rattle.port_core.specs.Ring.{is_queued};
 ghost use Rattle.port_core.specs.Wire.{nothing, delivery_of};
 ghost use Rattle.port_core.specs.declared.act.Act.TheVariants as act;
 ghost use Rattle.port_core.specs.declared.conn.Event.TheVariants as events;
@@ -398,7 +398,7 @@ impl<S: Stage> Engine<S> {
     #[inline(always)]
     fn take(&mut self, w: u32, more: bool) -> Elem
         requires within { w < length self.old.wires }
-        requires absent { more ≡ true → is_waiting self.old.queue w ≡ false }
+        requires absent { more ≡ true → is_queued self.old.queue w ≡ false }
         requires there { IsSome (wire_at self.old w).wire.conn.to_grab }
         requires open { (wire_at self.old w).wire.conn.in_closed ≡ false }
         ensures value { (wire_at self.old w).wire.conn.to_grab ≡ Some result }
@@ -416,7 +416,7 @@ impl<S: Stage> Engine<S> {
     #[inline(always)]
     fn handle(&mut self, alloc: Global, w: u32, acts: &mut Acts) -> Result<bool, NoMemory>
         requires within { w < length self.old.wires }
-        requires absent { is_waiting self.old.queue w ≡ false }
+        requires absent { is_queued self.old.queue w ≡ false }
         requires laws { Settled S.port_state S.law S.asking S.moves (before self.old w) }
         requires few { all_asks self.old + 1 ≤ MOST_COUNT }
         requires empty { acts.old.items ≡ [] }
@@ -452,7 +452,7 @@ impl<S: Stage> Engine<S> {
     #[inline(always)]
     fn deliver(&mut self, w: u32, event: Event, since: Snapshot<Engine<S>>) -> Option<Delivered>
         requires within { w < length since.value.wires }
-        requires absent { is_waiting since.value.queue w ≡ false }
+        requires absent { is_queued since.value.queue w ≡ false }
         requires no_push { event ≢ events.Push }
         requires no_pull { event ≢ events.Pull }
         requires tells { Tells event (wire_at since.value w) (wire_at self.old w) }
@@ -481,7 +481,7 @@ impl<S: Stage> Engine<S> {
         acts: &mut Acts,
     ) -> Result<bool, NoMemory>
         requires within { w < length since.value.wires }
-        requires absent { is_waiting since.value.queue w ≡ false }
+        requires absent { is_queued since.value.queue w ≡ false }
         requires laws { Settled S.port_state S.law S.asking S.moves (before since.value w) }
         requires few { all_asks since.value + 1 ≤ MOST_COUNT }
         requires no_push { event ≢ events.Push }
@@ -511,7 +511,7 @@ impl<S: Stage> Engine<S> {
     // Takes out the wire whose event comes next: the one that waits first, or the one that was queued last, where it is chased.
     fn next(&mut self) -> Option<u32>
         ensures none { IfNone result ((self.old.queue ≡ []) × (self.new ≡ self.old)) }
-        ensures some { IfSome result (λ w. (w < length self.new.wires) × ((is_waiting self.new.queue w ≡ false) × Takes self.old w self.new)) }
+        ensures some { IfSome result (λ w. (w < length self.new.wires) × ((is_queued self.new.queue w ≡ false) × Takes self.old w self.new)) }
     {
         self.queue.next()
     }

@@ -1,5 +1,5 @@
 ghost use Rattle.std.specs.Prelude.{◌≡◌, ◌<◌, ◌≤◌, ◌∷◌, [], ◌++◌, false, true, None, Some, if◌then◌else◌, IsTrue, IfNone, IfSome, ◌↔◌, ◌⊎◌, max};
-ghost use Rattle.port_core.specs.Ring.{is_waiting};
+ghost use Rattle.port_core.specs.Ring.{is_queued};
 ghost use Rattle.fused_net.specs.Queue.{waiting, chase_queued, pushed_on, Chases, Dequeues};
 ghost use Rattle.fused_net.specs.declared.queue.TheConstants.{MOST_CHASES};
 
@@ -71,7 +71,7 @@ impl EventQueue {
     #[inline(always)]
     pub fn pull(&mut self, w: u32)
         requires within { w < self.old.size }
-        requires absent { is_waiting (waiting self.old) w ≡ false }
+        requires absent { is_queued (waiting self.old) w ≡ false }
         ensures is { self.new ≡ record (chase_queued self.old) { chased = Some w; pulling = true } }
         ensures waits { waiting self.new ≡ waiting self.old ++ w ∷ [] }
     {
@@ -85,7 +85,7 @@ impl EventQueue {
     #[inline(always)]
     pub fn push(&mut self, w: u32)
         requires within { w < self.old.size }
-        requires absent { is_waiting (waiting self.old) w ≡ false }
+        requires absent { is_queued (waiting self.old) w ≡ false }
         ensures is { self.new ≡ pushed_on self.old w }
         ensures size { self.new.size ≡ self.old.size }
         ensures waits { waiting self.new ≡ waiting self.old ++ w ∷ [] }
@@ -102,7 +102,7 @@ impl EventQueue {
     /// Puts a wire last in the ring, so that it waits for its turn. It takes no memory.
     pub fn enqueue(&mut self, w: u32)
         requires within { w < self.old.size }
-        requires absent { is_waiting (waiting self.old) w ≡ false }
+        requires absent { is_queued (waiting self.old) w ≡ false }
         ensures is { self.new ≡ record (chase_queued self.old) { ring = waiting self.old ++ w ∷ [] } }
         ensures waits { waiting self.new ≡ waiting self.old ++ w ∷ [] }
     {
@@ -114,7 +114,7 @@ impl EventQueue {
     #[inline(never)]
     pub fn close(&mut self, w: u32, queued: bool)
         requires within { w < self.old.size }
-        requires absent { queued ≡ true → is_waiting (waiting self.old) w ≡ false }
+        requires absent { queued ≡ true → is_queued (waiting self.old) w ≡ false }
         ensures is { self.new ≡ (if queued then record (chase_queued self.old) { ring = waiting self.old ++ w ∷ [] } else chase_queued self.old) }
         ensures size { self.new.size ≡ self.old.size }
         ensures waits { waiting self.new ≡ (if queued then waiting self.old ++ w ∷ [] else waiting self.old) }
@@ -153,7 +153,7 @@ impl EventQueue {
     pub fn next(&mut self) -> Option<u32>
         ensures none { IfNone result ((waiting self.old ≡ []) × (self.new ≡ chase_queued self.old)) }
         ensures some { IfSome result (λ w. Chases self.old w self.new ⊎ Dequeues self.old w self.new) }
-        ensures once { IfSome result (λ w. (w < self.new.size) × (is_waiting (waiting self.new) w ≡ false)) }
+        ensures once { IfSome result (λ w. (w < self.new.size) × (is_queued (waiting self.new) w ≡ false)) }
         ensures size { self.new.size ≡ self.old.size }
     {
         if let Some(w) = self.chased {
@@ -172,7 +172,7 @@ impl EventQueue {
         requires { self.old.chased ≡ None }
         ensures none { IfNone result ((self.old.ring ≡ []) × (self.new ≡ self.old)) }
         ensures some { IfSome result (λ w. Dequeues self.old w self.new) }
-        ensures once { IfSome result (λ w. (w < self.new.size) × (is_waiting self.new.ring w ≡ false)) }
+        ensures once { IfSome result (λ w. (w < self.new.size) × (is_queued self.new.ring w ≡ false)) }
     {
         let w = self.ring.dequeue()?;
         if self.longest < self.chases {

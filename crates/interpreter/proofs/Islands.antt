@@ -28,8 +28,8 @@ use Rattle.stream_model.specs.declared.outcome.WireCount.{WireCount}
 use Rattle.port_core.specs.Decoding.{is_open}
 use Rattle.wire_core.specs.Cell.{WireState}
 use Rattle.elem_core.specs.Items.{elements}
-use Rattle.interpreter.specs.Island.{IslandKeeps, count_of, counts_of, sinks_of, readers_of, writers_of}
-use Rattle.interpreter.specs.Picks.{node_number}
+use Rattle.interpreter.specs.Island.{IslandKeeps, state_count, counts_of, sinks_of, readers_of, writers_of}
+use Rattle.interpreter.specs.Picks.{place_number}
 use Rattle.interpreter.specs.Room.{HasRoom}
 use Rattle.stream_model.specs.Linear.{Book}
 
@@ -84,25 +84,25 @@ parts_wired seats nodes ends rows ports b e w = rw (same_count seats nodes b) (r
 
 -- the counts of the first wires
 counts_next : (ns : List ℕ) (cs : List WireState) (i d : ℕ) (e : WireState) → i < length ns → i < length cs
-    → counts_of (take (i + 1) ns) (take (i + 1) cs) ≡ counts_of (take i ns) (take i cs) ++ (get_or ns i d, count_of (get_or cs i e)) ∷ []
+    → counts_of (take (i + 1) ns) (take (i + 1) cs) ≡ counts_of (take i ns) (take i cs) ++ (get_or ns i d, state_count (get_or cs i e)) ∷ []
 counts_next [] cs i d e h k = absurd (omega arith)
 counts_next (m ∷ ns) [] i d e h k = absurd (omega arith)
 counts_next (m ∷ ns) (c ∷ cs) zero d e h k = refl
 counts_next (m ∷ ns) (c ∷ cs) (suc i) d e h k =
     let j : suc i + 1 ≡ suc (i + 1) = omega arith in
-    rw j (ap (λ (l : List (ℕ × WireCount)). (m, count_of c) ∷ l) (counts_next ns cs i d e (omega arith) (omega arith)))
+    rw j (ap (λ (l : List (ℕ × WireCount)). (m, state_count c) ∷ l) (counts_next ns cs i d e (omega arith) (omega arith)))
 
 pub counts_step : (ns : List ℕ) (cs : List WireState) (i d : ℕ) (c : WireState) (old new : List (ℕ × WireCount)) (s : ℕ) (a z : Bool) → i < length ns → i < length cs → c ≡ get_or cs i c
     → new ≡ old ++ (get_or ns i d, record { sent = s; asked = a; shut = z }) ∷ [] → old ≡ counts_of (take i ns) (take i cs)
     → s ≡ elements c.wire.sent → a ≡ c.asked → z ≡ not (is_open c.wire.conn) → new ≡ counts_of (take (i + 1) ns) (take (i + 1) cs)
 counts_step ns cs i d c old new s a z h k at is was es ea ez =
-    rw (is, was, es, ea, ez) (ap (λ (x : WireState). counts_of (take i ns) (take i cs) ++ (get_or ns i d, count_of x) ∷ []) at ∙ sym (counts_next ns cs i d c h k))
+    rw (is, was, es, ea, ez) (ap (λ (x : WireState). counts_of (take i ns) (take i cs) ++ (get_or ns i d, state_count x) ∷ []) at ∙ sym (counts_next ns cs i d c h k))
 
 pub counts_all : (ns : List ℕ) (cs : List WireState) (n : ℕ) → n ≡ min (length ns) (length cs) → counts_of (take n ns) (take n cs) ≡ counts_of ns cs
 counts_all [] cs n e = let z : n ≡ 0 = omega arith in rw z refl
 counts_all (m ∷ ns) [] n e = let z : n ≡ 0 = omega arith in rw z refl
 counts_all (m ∷ ns) (d ∷ cs) zero e = absurd (omega arith)
-counts_all (m ∷ ns) (d ∷ cs) (suc n) e = ap (λ (l : List (ℕ × WireCount)). (m, count_of d) ∷ l) (counts_all ns cs n (omega arith))
+counts_all (m ∷ ns) (d ∷ cs) (suc n) e = ap (λ (l : List (ℕ × WireCount)). (m, state_count d) ∷ l) (counts_all ns cs n (omega arith))
 
 -- what the nodes that are left will add
 pub left_next : {A B : Type 0} (f : List A → List B) → ((x : A) (xs : List A) → f (x ∷ xs) ≡ f (x ∷ []) ++ f xs) → (old new : List A) (x : A) (was now all : List B) → old ≡ x ∷ new → now ≡ was ++ f (x ∷ []) → was ++ f old ≡ all → now ++ f new ≡ all
@@ -156,6 +156,6 @@ pub room_as : {S D : Type 0} (room : IslandEnd S D) (nodes wires more_nodes more
 room_as room nodes wires more_nodes more_wires h e f = rw (e, f) h
 
 -- the numbers of places are those of their works
-pub numbers_same : {S D L B : Type 0} (seats : List (Seated S D L B)) → map (λ (p : Place). p.node) (map seat_place seats) ≡ map node_number seats
+pub numbers_same : {S D L B : Type 0} (seats : List (Seated S D L B)) → map (λ (p : Place). p.node) (map seat_place seats) ≡ map place_number seats
 numbers_same [] = refl
 numbers_same (s ∷ ss) = ap (λ (l : List ℕ). s.node ∷ l) (numbers_same ss)

@@ -34,12 +34,12 @@ pub record IslandKeeps {S D L B : Type 0} (sources : S → SourceState) (drains 
   pub within : used ≤ MOST_COUNT
 
 -- how a wire stands: the elements that were pushed, whether its input waits for one, and whether either end has closed it
-abbrev pub count_of : WireState → WireCount
-count_of c = record { sent = elements c.wire.sent; asked = c.asked; shut = not (is_open c.wire.conn) }
+abbrev pub state_count : WireState → WireCount
+state_count c = record { sent = elements c.wire.sent; asked = c.asked; shut = not (is_open c.wire.conn) }
 
 -- the same of each wire, with its number
 abbrev pub counts_of : List ℕ → List WireState → List (ℕ × WireCount)
-counts_of (n ∷ ns) (c ∷ cs) = (n, count_of c) ∷ counts_of ns cs
+counts_of (n ∷ ns) (c ∷ cs) = (n, state_count c) ∷ counts_of ns cs
 counts_of _ _ = []
 
 -- the sinks' ends: node, lines written, how it stands

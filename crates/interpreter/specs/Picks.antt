@@ -6,8 +6,8 @@ use Rattle.nodes.specs.declared.node.IslandNode.{IslandNode}
 use Rattle.interpreter.specs.declared.parts.Seated.{Seated}
 
 -- the number of the blueprint's node that stands at a place
-abbrev pub node_number : {S D L B : Type 0} → Seated S D L B → ℕ
-node_number s = s.node
+abbrev pub place_number : {S D L B : Type 0} → Seated S D L B → ℕ
+place_number s = s.node
 
 -- the number of a stage that chooses, and its moves
 abbrev pub Pick : Type 0

@@ -7,7 +7,7 @@ ghost use Rattle.fused_net.specs.Outside.{BreaksAside, StandsStill, Untouched};
 ghost use Rattle.fused_net.specs.declared.queue.TheConstants.{MOST_CHASES};
 ghost use Rattle.nodes.specs.Nodes.{node_fresh, node_port_state, node_law, node_asking, node_moves, node_gone, node_passive, KeepsNode};
 ghost use Rattle.interpreter.specs.Parts.{AreParts, AllBecome, ends_of, wire_number, seat_place};
-ghost use Rattle.interpreter.specs.Picks.{node_number, pick_of, with_picks, picks_of};
+ghost use Rattle.interpreter.specs.Picks.{place_number, pick_of, with_picks, picks_of};
 ghost use Rattle.interpreter.specs.Seats.{with_seat, seats_of};
 ghost use Rattle.interpreter.specs.Island.{IslandKeeps, counts_of, sinks_of, readers_of, writers_of};
 ghost use Rattle.std.specs.Option.{option_map};
@@ -121,7 +121,7 @@ impl<S: Source, D: Drain, L: Logic, B: PlugBook> Island<S, D, L, B> {
         ensures firsts { IfOk result (λ i. AllBecome parts.nodes.items i.net.firsts) }
         ensures ends { IfOk result (λ i. i.net.ends ≡ map ends_of parts.links.items) }
         ensures numbers { IfOk result (λ i. i.numbers ≡ map wire_number parts.links.items) }
-        ensures places { IfOk result (λ i. i.places ≡ map node_number parts.nodes.items) }
+        ensures places { IfOk result (λ i. i.places ≡ map place_number parts.nodes.items) }
         ensures enters { IfOk result (λ i. (q : ℕ) (l : wiring.Link) → slice_get parts.links.items q ≡ Some l → comes_in parts.nodes.items l.from ≡ true → EntersBy i l.wire q) }
         ensures leaves { IfOk result (λ i. (q : ℕ) (l : wiring.Link) → slice_get parts.links.items q ≡ Some l → goes_out parts.nodes.items l.to ≡ true → LeavesBy i l.wire q) }
         ensures begins_in { IfOk result (λ i. (q : ℕ) (l : wiring.Link) → slice_get parts.links.items q ≡ Some l → comes_in parts.nodes.items l.from ≡ true → (wire_at i.net q).wire.sent ≡ []) }

@@ -4,7 +4,7 @@ use Rattle.std.proofs.lemmas.List.{length-set}
 use Rattle.std.proofs.lemmas.Option.{slice_get_within}
 use Rattle.std.specs.declared.vec.Vec.{Vec}
 use Rattle.fused_net.proofs.Reading.{get_there, get_set_same}
-use Rattle.port_core.specs.Ring.{is_waiting}
+use Rattle.port_core.specs.Ring.{is_queued}
 use Rattle.lane_core.specs.Ends.{sent, ask_calls, has_cancelled}
 use Rattle.island_boundary.specs.declared.output.OutputBoundary.{OutputBoundary}
 use Rattle.island_boundary.specs.declared.input.IslandInput.{IslandInput}
@@ -136,7 +136,7 @@ module _ {S D L B : Type 0} where
   wakes_none a b ins_is outs_is ip op none = record {
     tells = tells_same a b ins_is outs_is ip op;
     once = rw none tt;
-    each = λ i h. let no : is_waiting [] i ≡ true = rw none at h in absurd cc;
+    each = λ i h. let no : is_queued [] i ≡ true = rw none at h in absurd cc;
     all = λ i t. absurd (elim t [
       | inl x ↦ (let is : x.before ≡ x.after = some_same x.before x.after (sym x.before_at ∙ (ap (λ (v : Vec IslandInput _). slice_get v.items x.place) (sym ins_is) ∙ x.after_at)) in told_none x.after (subst (λ (z : IslandInput). IsToldBy z x.after) is x.told))
       | inr o ↦ (let is : o.before ≡ o.after = some_same o.before o.after (sym o.before_at ∙ (ap (λ (v : Vec OutputBoundary _). slice_get v.items o.place) (sym outs_is) ∙ o.after_at)) in let l : length (sent o.after.lane) < length (sent o.after.lane) = subst (λ (z : OutputBoundary). IsSentBy z o.after) is o.told in omega (arith, l))
@@ -193,7 +193,7 @@ module _ {S D L B : Type 0} where
         told = told_now z.0 x y (w.tells.ins k z.0 x z.1 at) (says t);
       }
 
-      by_told : (t : Bool) → told ≡ t → (i : ℕ) (u : ToldIn a c i) → u.place ≡ k → u.after ≡ y → is_waiting c.peers.woken.queue i ≡ true
+      by_told : (t : Bool) → told ≡ t → (i : ℕ) (u : ToldIn a c i) → u.place ≡ k → u.after ≡ y → is_queued c.peers.woken.queue i ≡ true
       by_told true t i u here is = added.here i t (ap (λ (v : Vec ℕ _). slice_get v.items k) (sym ip) ∙ (ap (λ (n : ℕ). slice_get c.peers.ins.items n) (sym here) ∙ u.peer))
       by_told false t i u here is = let q = quiet t in added.still i (w.all i (inl (record {
         place = u.place;
@@ -257,7 +257,7 @@ module _ {S D L B : Type 0} where
         told = omega (arith, l, m);
       }
 
-      by_told : (t : Bool) → told ≡ t → (i : ℕ) (u : ToldOut a c i) → u.place ≡ k → u.after ≡ y → is_waiting c.peers.woken.queue i ≡ true
+      by_told : (t : Bool) → told ≡ t → (i : ℕ) (u : ToldOut a c i) → u.place ≡ k → u.after ≡ y → is_queued c.peers.woken.queue i ≡ true
       by_told true t i u here is = added.here i t (ap (λ (v : Vec ℕ _). slice_get v.items k) (sym op) ∙ (ap (λ (n : ℕ). slice_get c.peers.outs.items n) (sym here) ∙ u.peer))
       by_told false t i u here is = let q = ap length (quiet t) in let l : length (sent u.before.lane) < length (sent y.lane) = subst (λ (z : OutputBoundary). IsSentBy u.before z) is u.told in added.still i (w.all i (inr (record {
         place = u.place;

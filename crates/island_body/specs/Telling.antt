@@ -1,6 +1,6 @@
 -- What a body told the other ends of its lanes, and which islands it wakes for it.
 use Rattle.std.specs.Prelude.{◌≡◌, ◌⊎◌, ◌<◌, ◌≤◌, ℕ, true, length, slice_get, Some}
-use Rattle.port_core.specs.Ring.{is_waiting, Distinct}
+use Rattle.port_core.specs.Ring.{is_queued, Distinct}
 use Rattle.lane_core.specs.Ends.{sent, ask_calls, has_cancelled}
 use Rattle.island_boundary.specs.declared.output.OutputBoundary.{OutputBoundary}
 use Rattle.island_boundary.specs.declared.input.IslandInput.{IslandInput}
@@ -61,8 +61,8 @@ module _ {S D L B : Type 0} where
   pub record Wakes (old new : Body S D L B) : Type 0 where
     pub tells : TellsNoLess old new
     pub once : Distinct new.peers.woken.queue
-    pub each : (island : ℕ) → is_waiting new.peers.woken.queue island ≡ true → HasTold old new island
-    pub all : (island : ℕ) → HasTold old new island → is_waiting new.peers.woken.queue island ≡ true
+    pub each : (island : ℕ) → is_queued new.peers.woken.queue island ≡ true → HasTold old new island
+    pub all : (island : ℕ) → HasTold old new island → is_queued new.peers.woken.queue island ≡ true
 
   -- whatever was told since some moment before, the islands that are to be woken for it are those still
   abbrev pub WakesOn : Body S D L B → Body S D L B → Type 0

@@ -1,6 +1,6 @@
 // The islands that a body wakes.
 ghost use Rattle.std.specs.Prelude.{◌≡◌, ◌<◌, ◌∷◌, ◌++◌, [], ℕ, IfOk, ◌||◌, ◌==◌};
-ghost use Rattle.port_core.specs.Ring.{is_waiting, Distinct};
+ghost use Rattle.port_core.specs.Ring.{is_queued, Distinct};
 
 use elem_core::why::NoMemory;
 use std::alloc::Global;
@@ -39,7 +39,7 @@ impl Woken {
     pub(crate) fn add(&mut self, island: u32)
         requires within { island < self.old.size }
         ensures size { self.new.size ≡ self.old.size }
-        ensures holds { (w : ℕ) → is_waiting self.new.queue w ≡ (is_waiting self.old.queue w || (island == w)) }
+        ensures holds { (w : ℕ) → is_queued self.new.queue w ≡ (is_queued self.old.queue w || (island == w)) }
         ensures once { Distinct self.new.queue }
     {
         let place = island as usize;

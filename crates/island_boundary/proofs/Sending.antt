@@ -7,7 +7,7 @@ use Rattle.elem_core.specs.Items.{elements}
 use Rattle.elem_core.specs.declared.item.Item.{Item}
 use Rattle.elem_core.specs.declared.item.Item.TheVariants as item
 use Rattle.port_core.specs.Decoding.{can_pull}
-use Rattle.port_core.specs.Joint.{Joint, idle, asking, asked, moving, ending, closing, leaving, finished, parted, cancelled, wire_of, IsSound, Histories}
+use Rattle.port_core.specs.Joint.{Joint, idle, asking, asked, moving, ending, closing, leaving, finished, parted, cancelled, joint_wire, IsSound, Histories}
 use Rattle.port_core.specs.Wire.{JointPorts}
 use Rattle.port_core.specs.declared.act.Act.TheVariants as act
 use Rattle.stream_io.specs.State.{SourceState, DrainState}
@@ -30,7 +30,7 @@ use Rattle.interpreter.specs.Island.{Kept, IslandKeeps}
 use Rattle.interpreter.specs.Boundary.{way_out, cell_out, Leaves, HandsOut, with_net}
 use Rattle.island_boundary.specs.Sending.{has_end, Sends}
 
-came_j : (j : Joint) (s g : List Item) → can_pull (wire_of j s g).conn ≡ true → Histories j s g → s ≡ g
+came_j : (j : Joint) (s g : List Item) → can_pull (joint_wire j s g).conn ≡ true → Histories j s g → s ≡ g
 came_j idle s g e h = h
 came_j asking s g e h = cc
 came_j asked s g e h = cc

@@ -8,7 +8,7 @@ use Rattle.elem_core.specs.Tree.{Tree}
 use Rattle.elem_core.specs.declared.item.Item.{Item}
 use Rattle.stream_io.specs.State.{SourceState, DrainState}
 use Rattle.port_core.specs.Decoding.{can_pull}
-use Rattle.port_core.specs.Joint.{Joint, idle, asking, asked, moving, ending, closing, leaving, finished, parted, cancelled, wire_of, IsSound, Histories}
+use Rattle.port_core.specs.Joint.{Joint, idle, asking, asked, moving, ending, closing, leaving, finished, parted, cancelled, joint_wire, IsSound, Histories}
 use Rattle.port_core.specs.Wire.{JointPorts}
 use Rattle.port_core.specs.View.{View, input_closed}
 use Rattle.port_core.specs.declared.view.InView.{InView}
@@ -41,7 +41,7 @@ use Rattle.island_boundary.proofs.Beside.{beside_same, beside_trans, beside_move
 -- ---- one wire
 
 -- where an input is idle it may ask, or the output has closed
-idle_j : (j : Joint) (s g : List Item) → (wire_of j s g).inp ≡ Idle → (can_pull (wire_of j s g).conn ≡ true) ⊎ ((wire_of j s g).conn.out_closed ≡ true)
+idle_j : (j : Joint) (s g : List Item) → (joint_wire j s g).inp ≡ Idle → (can_pull (joint_wire j s g).conn ≡ true) ⊎ ((joint_wire j s g).conn.out_closed ≡ true)
 idle_j idle s g e = inl refl
 idle_j asking s g e = cc
 idle_j asked s g e = cc
@@ -61,7 +61,7 @@ idle_may w q s e = elim (idle_j s.joint w.sent w.got (sym (ap (λ (v : JointPort
 ]
 
 -- an input is closed exactly where its connection knows it
-shut_j : (j : Joint) (s g : List Item) → InClosed (wire_of j s g).inp → (wire_of j s g).conn.in_closed ≡ true
+shut_j : (j : Joint) (s g : List Item) → InClosed (joint_wire j s g).inp → (joint_wire j s g).conn.in_closed ≡ true
 shut_j idle s g h = absurd h
 shut_j asking s g h = absurd h
 shut_j asked s g h = absurd h
@@ -74,7 +74,7 @@ shut_j (finished t c) s g h = refl
 shut_j (parted t c) s g h = refl
 shut_j (cancelled t c) s g h = refl
 
-closed_j : (j : Joint) (s g : List Item) → (wire_of j s g).conn.in_closed ≡ true → InClosed (wire_of j s g).inp
+closed_j : (j : Joint) (s g : List Item) → (joint_wire j s g).conn.in_closed ≡ true → InClosed (joint_wire j s g).inp
 closed_j idle s g h = cc
 closed_j asking s g h = cc
 closed_j asked s g h = cc

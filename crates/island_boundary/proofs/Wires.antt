@@ -4,7 +4,7 @@ use Rattle.elem_core.specs.Tree.{Tree}
 use Rattle.elem_core.specs.declared.item.Item.{Item}
 use Rattle.elem_core.specs.declared.item.Item.TheVariants as item
 use Rattle.port_core.specs.Decoding.{can_push}
-use Rattle.port_core.specs.Joint.{Joint, idle, asking, asked, moving, ending, closing, leaving, finished, parted, cancelled, wire_of, IsSound, Queues}
+use Rattle.port_core.specs.Joint.{Joint, idle, asking, asked, moving, ending, closing, leaving, finished, parted, cancelled, joint_wire, IsSound, Queues}
 use Rattle.port_core.specs.Wire.{JointPorts}
 use Rattle.port_core.specs.declared.view.OutView.{OutView}
 use Rattle.port_core.specs.declared.view.OutView.TheVariants.{Unpulled, Available, Closed, Cancelled}
@@ -13,7 +13,7 @@ use Rattle.stage_law.specs.Held.{told}
 use Rattle.stage_law.specs.Law.{GaveAs}
 
 -- where an output may push its stage knows that it was asked
-push_j : (j : Joint) (s g : List Item) → can_push (wire_of j s g).conn ≡ true → (wire_of j s g).out ≡ Available
+push_j : (j : Joint) (s g : List Item) → can_push (joint_wire j s g).conn ≡ true → (joint_wire j s g).out ≡ Available
 push_j idle s g e = cc
 push_j asking s g e = cc
 push_j asked s g e = refl
@@ -30,7 +30,7 @@ pub push_asked : (w : JointPorts) (q : Bool) → IsSound w q → can_push w.conn
 push_asked w q h e = ap (λ (v : JointPorts). v.out) h.is ∙ push_j h.joint w.sent w.got (sym (ap (λ (v : JointPorts). can_push v.conn) h.is) ∙ e)
 
 -- where it was asked and may not push, a cancel is on its way
-away_j : (j : Joint) (s g : List Item) → (wire_of j s g).out ≡ Available → can_push (wire_of j s g).conn ≡ false → (wire_of j s g).conn.in_closed ≡ true
+away_j : (j : Joint) (s g : List Item) → (joint_wire j s g).out ≡ Available → can_push (joint_wire j s g).conn ≡ false → (joint_wire j s g).conn.in_closed ≡ true
 away_j idle s g a e = cc
 away_j asking s g a e = cc
 away_j asked s g a e = cc
@@ -47,7 +47,7 @@ pub cancel_away : (w : JointPorts) (q : Bool) → IsSound w q → w.out ≡ Avai
 cancel_away w q h a e = ap (λ (v : JointPorts). v.conn.in_closed) h.is ∙ away_j h.joint w.sent w.got (sym (ap (λ (v : JointPorts). v.out) h.is) ∙ a) (sym (ap (λ (v : JointPorts). can_push v.conn) h.is) ∙ e)
 
 -- but not where the wire has no event
-rest_j : (j : Joint) (s g : List Item) → (wire_of j s g).out ≡ Available → Queues j false → (wire_of j s g).conn.in_closed ≡ false
+rest_j : (j : Joint) (s g : List Item) → (joint_wire j s g).out ≡ Available → Queues j false → (joint_wire j s g).conn.in_closed ≡ false
 rest_j idle s g a e = refl
 rest_j asking s g a e = refl
 rest_j asked s g a e = refl
@@ -63,7 +63,7 @@ pub rest_open : (w : JointPorts) → IsSound w false → w.out ≡ Available →
 rest_open w h a = ap (λ (v : JointPorts). v.conn.in_closed) h.is ∙ rest_j h.joint w.sent w.got (sym (ap (λ (v : JointPorts). v.out) h.is) ∙ a) h.queues
 
 -- an output that was closed, but not by its stage, was cancelled
-refused_j : (j : Joint) (s g : List Item) → (wire_of j s g).conn.out_closed ≡ true → ((wire_of j s g).out ≡ Closed → ⊥) → (wire_of j s g).out ≡ Cancelled
+refused_j : (j : Joint) (s g : List Item) → (joint_wire j s g).conn.out_closed ≡ true → ((joint_wire j s g).out ≡ Closed → ⊥) → (joint_wire j s g).out ≡ Cancelled
 refused_j idle s g c n = cc
 refused_j asking s g c n = cc
 refused_j asked s g c n = cc
@@ -79,7 +79,7 @@ refused_j (cancelled t x) s g c n = refl
 pub was_refused : (w : JointPorts) (q : Bool) → IsSound w q → w.conn.out_closed ≡ true → (w.out ≡ Closed → ⊥) → w.out ≡ Cancelled
 was_refused w q h c n = ap (λ (v : JointPorts). v.out) h.is ∙ refused_j h.joint w.sent w.got (sym (ap (λ (v : JointPorts). v.conn.out_closed) h.is) ∙ c) (λ e. n (ap (λ (v : JointPorts). v.out) h.is ∙ e))
 
-closed_j : (j : Joint) (s g : List Item) → (wire_of j s g).out ≡ Cancelled → (wire_of j s g).conn.out_closed ≡ true
+closed_j : (j : Joint) (s g : List Item) → (joint_wire j s g).out ≡ Cancelled → (joint_wire j s g).conn.out_closed ≡ true
 closed_j idle s g e = cc
 closed_j asking s g e = cc
 closed_j asked s g e = cc

@@ -10,7 +10,7 @@ use Rattle.interpreter.specs.Boundary.{BeginsOut, EntersBy, LeavesBy}
 use Rattle.interpreter.specs.Handles.{HandsBack, HoldsHandles}
 use Rattle.interpreter.specs.Island.{Kept, IslandKeeps, readers_of, writers_of}
 use Rattle.interpreter.specs.Parts.{AreParts, AllBecome, ends_of, wire_number, seat_place}
-use Rattle.interpreter.specs.Picks.{node_number}
+use Rattle.interpreter.specs.Picks.{place_number}
 use Rattle.interpreter.specs.Room.{IsRoom}
 use Rattle.interpreter.specs.Ways.{comes_in, goes_out}
 use Rattle.stream_model.specs.Linear.{Book}
@@ -50,7 +50,7 @@ module _ {S D L B : Type 0} where
       pub firsts : AllBecome parts.nodes.items i.net.firsts
       pub ends : i.net.ends ≡ map ends_of parts.links.items
       pub numbers : i.numbers ≡ map wire_number parts.links.items
-      pub places : i.places ≡ map node_number parts.nodes.items
+      pub places : i.places ≡ map place_number parts.nodes.items
       pub enters : (q : ℕ) (l : Link) → slice_get parts.links.items q ≡ Some l → comes_in parts.nodes.items l.from ≡ true → EntersBy i l.wire q
       pub leaves : (q : ℕ) (l : Link) → slice_get parts.links.items q ≡ Some l → goes_out parts.nodes.items l.to ≡ true → LeavesBy i l.wire q
       pub begins_in : (q : ℕ) (l : Link) → slice_get parts.links.items q ≡ Some l → comes_in parts.nodes.items l.from ≡ true → (wire_at i.net q).wire.sent ≡ []

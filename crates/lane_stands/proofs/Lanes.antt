@@ -5,7 +5,7 @@ use Rattle.elem_core.proofs.Prefixes.{prefix_whole}
 use Rattle.elem_core.specs.Items.{elements}
 use Rattle.elem_core.specs.declared.item.Item.{Item}
 use Rattle.stream_io.specs.State.{SourceState, DrainState}
-use Rattle.port_core.specs.Ring.{is_waiting}
+use Rattle.port_core.specs.Ring.{is_queued}
 use Rattle.port_core.specs.Joint.{IsSound}
 use Rattle.port_core.specs.declared.view.InView.{InView}
 use Rattle.port_core.specs.declared.view.InView.TheVariants.{Idle}
@@ -39,7 +39,7 @@ use Rattle.lane_stands.proofs.Leaving.{took_there, there, idle_rest}
 
 -- no wire is queued where no event is left
 sound_rest : {S D L B : Type 0} {sources : S → SourceState} {drains : D → DrainState} {book : Book} (net : Net (IslandNode S D L B)) → Settled node_port_state (node_law sources drains book) node_asking node_moves net → net.queue ≡ [] → (q : ℕ) → q < length net.wires → IsSound (wire_at net q).wire false
-sound_rest net s none q h = subst (λ (l : List ℕ). IsSound (wire_at net q).wire (is_waiting l q)) none (s.sound q h)
+sound_rest net s none q h = subst (λ (l : List ℕ). IsSound (wire_at net q).wire (is_queued l q)) none (s.sound q h)
 
 -- ---- small facts
 

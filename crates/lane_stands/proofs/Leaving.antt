@@ -8,7 +8,7 @@ use Rattle.stream_model.specs.Outlook.{End}
 use Rattle.stream_model.specs.Linear.{Book}
 use Rattle.stage_law.specs.Held.{told}
 use Rattle.stage_law.specs.Law.{TookAs}
-use Rattle.port_core.specs.Joint.{Joint, idle, asking, asked, moving, ending, closing, leaving, finished, parted, cancelled, wire_of, IsSound, Histories, Queues}
+use Rattle.port_core.specs.Joint.{Joint, idle, asking, asked, moving, ending, closing, leaving, finished, parted, cancelled, joint_wire, IsSound, Histories, Queues}
 use Rattle.port_core.specs.Wire.{JointPorts}
 use Rattle.port_core.specs.View.{View, in_at}
 use Rattle.port_core.specs.declared.view.InView.{InView}
@@ -26,7 +26,7 @@ use Rattle.boundary_calls.specs.Boundary.{IsLeaving, LeavesAt}
 -- ---- one wire
 
 -- an idle input of a wire without an event is open at both ends, and has got all that was sent
-idle_j : (j : Joint) (s g : List Item) → (wire_of j s g).inp ≡ Idle → Queues j false → Histories j s g → ((wire_of j s g).conn.out_closed ≡ false) × (s ≡ g)
+idle_j : (j : Joint) (s g : List Item) → (joint_wire j s g).inp ≡ Idle → Queues j false → Histories j s g → ((joint_wire j s g).conn.out_closed ≡ false) × (s ≡ g)
 idle_j idle s g e q h = (refl, h)
 idle_j asking s g e q h = absurd cc
 idle_j asked s g e q h = absurd cc

@@ -24,7 +24,7 @@ use Rattle.blue_check.specs.declared.fault.CheckFault.TheVariants as fault
 use Rattle.blue_check.specs.Wires.{blueprint_wires}
 use Rattle.plug_core.specs.declared.head.PlugHead.{PlugHead}
 use Rattle.materializer.specs.Fit.{CanRun}
-use Rattle.materializer.specs.Graphs.{graph_of, graph_node, plain_chain}
+use Rattle.materializer.specs.Graphs.{graph_of, graph_node, graph_chain}
 use Rattle.stream_picture.specs.Joined.{IsJoined}
 use Rattle.blue_names.specs.declared.links.NumberedWire.{NumberedWire}
 use Rattle.blue_names.specs.Links.{wires_of_links}
@@ -78,7 +78,7 @@ facts b plugs taken fit =
 pub fit_joined : (b : Blueprint) (plugs : List PlugHead) (taken : List (List ℕ)) → IsFit b plugs taken → IsJoined (graph_of b)
 fit_joined b plugs taken fit =
     let f = facts b plugs taken fit in
-    joined b.nodes.items (blueprint_wires b) (map plain_chain b.chains.items) f.missing f.twice f.open_
+    joined b.nodes.items (blueprint_wires b) (map graph_chain b.chains.items) f.missing f.twice f.open_
 
 -- ---- kinds that have few ports
 

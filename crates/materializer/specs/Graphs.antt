@@ -13,12 +13,12 @@ abbrev pub graph_node : Node → graph.Node
 graph_node n = record { kind = n.kind; decider = n.decider }
 
 -- a chain by its name and its steps
-abbrev pub plain_chain : ChainDecl → graph.Chain
-plain_chain c = record { name = c.name; steps = map model_step c.steps.items }
+abbrev pub graph_chain : ChainDecl → graph.Chain
+graph_chain c = record { name = c.name; steps = map model_step c.steps.items }
 
 -- all chains
 abbrev pub chains_of : Blueprint → List graph.Chain
-chains_of b = map plain_chain b.chains.items
+chains_of b = map graph_chain b.chains.items
 
 -- its nodes by kind and decider, its wires by the numbers of their nodes, and its chains by their steps
 abbrev pub graph_of : Blueprint → Graph

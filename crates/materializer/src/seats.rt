@@ -10,7 +10,7 @@ ghost use Rattle.stage_in.specs.Logics.{IsFanIn};
 ghost use Rattle.stage_out.specs.OutLogics.{IsOut};
 ghost use Rattle.blue_core.specs.declared.blueprint.Node as blue;
 ghost use Rattle.materializer.specs.Files.{source_file, output_of};
-ghost use Rattle.materializer.specs.Graphs.{plain_chain};
+ghost use Rattle.materializer.specs.Graphs.{graph_chain};
 ghost use Rattle.switch_board.specs.Board.{switch_of, IsHandedAt, AreHanded, seat_of_end};
 ghost use Rattle.materializer.specs.Seats.{IsFreeWork, AreSeats, work_seat, place_seat};
 ghost use Rattle.materializer.specs.Planned.{IsPlanned, IsSeat, ArePlanned, Fills, seat_of_plan, planned_seat, reads, writes, reads_in, writes_in};
@@ -109,7 +109,7 @@ fn sub_work<S: Source, D: Drain, L: Logic, B: PlugBook>(
     decider: Decider,
 ) -> Result<Work<S, D, L, B>, NoMemory>
     requires { IsSub kind }
-    ensures work { IfOk result (IsFreeWork (map plain_chain chains.now) k kind decider) }
+    ensures work { IfOk result (IsFreeWork (map graph_chain chains.now) k kind decider) }
     ensures seat { IfOk result (λ w. work_seat w ≡ None) }
 {
     let chain = LineChain::new(alloc, k, steps_of_kind(chains, &kind))?;
@@ -160,7 +160,7 @@ fn free_work<S: Source, D: Drain, L: Logic, B: PlugBook>(
     requires no_output { output_of kind ≡ None }
     requires no_switch { switch_of kind ≡ None }
     requires no_plug { plug_of kind ≡ None }
-    ensures work { IfOk result (IsFreeWork (map plain_chain chains.now) k kind decider) }
+    ensures work { IfOk result (IsFreeWork (map graph_chain chains.now) k kind decider) }
     ensures seat { IfOk result (λ w. work_seat w ≡ None) }
     ensures no_input { source_file kind ≡ None }
     ensures no_output { output_of kind ≡ None }
@@ -198,7 +198,7 @@ fn free_seat<S: Source, D: Drain, L: Logic, B: PlugBook>(
     requires sized { sizes_fit kind ≡ true }
     requires no_switch { switch_of kind ≡ None }
     requires no_plug { plug_of kind ≡ None }
-    ensures planned { IfOk result (λ p. (node : blue.Node) → node.kind ≡ kind → node.decider ≡ decider → IsPlanned (map plain_chain chains.now) k node p) }
+    ensures planned { IfOk result (λ p. (node : blue.Node) → node.kind ≡ kind → node.decider ≡ decider → IsPlanned (map graph_chain chains.now) k node p) }
     ensures seat { IfOk result (λ p. seat_of_plan p ≡ None) }
 {
     Ok(match kind {
@@ -221,7 +221,7 @@ fn unplugged<S: Source, D: Drain, L: Logic, B: PlugBook>(
     requires sized { sizes_fit kind ≡ true }
     requires handed { IsHandedAt (switch_of kind) switch }
     requires no_plug { plug_of kind ≡ None }
-    ensures planned { IfOk result (λ p. (node : blue.Node) → node.kind ≡ kind → node.decider ≡ decider → IsPlanned (map plain_chain chains.now) k node p) }
+    ensures planned { IfOk result (λ p. (node : blue.Node) → node.kind ≡ kind → node.decider ≡ decider → IsPlanned (map graph_chain chains.now) k node p) }
     ensures seat { IfOk result (λ p. seat_of_plan p ≡ seat_of_end switch) }
 {
     match switch {
@@ -260,7 +260,7 @@ fn stand<S: Source, D: Drain, L: Logic, B: PlugBook>(
     requires sized { sizes_fit kind ≡ true }
     requires handed { IsHandedAt (switch_of kind) switch }
     requires plugged { IsPlugged L.gives B.lists (plug_of kind) plug }
-    ensures planned { IfOk result (λ p. (node : blue.Node) → node.kind ≡ kind → node.decider ≡ decider → IsPlanned (map plain_chain chains.now) k node p) }
+    ensures planned { IfOk result (λ p. (node : blue.Node) → node.kind ≡ kind → node.decider ≡ decider → IsPlanned (map graph_chain chains.now) k node p) }
     ensures seat { IfOk result (λ p. seat_of_plan p ≡ seat_of_end switch) }
 {
     match plug {
@@ -282,7 +282,7 @@ fn plan<S: Source, D: Drain, L: Logic, B: PlugBook>(
     requires sized { sizes_fit node.kind ≡ true }
     requires handed { IsHandedAt (switch_of node.kind) switch }
     requires plugged { IsPlugged L.gives B.lists (plug_of node.kind) plug }
-    ensures planned { IfOk result (IsSeat (map plain_chain chains.now) k node) }
+    ensures planned { IfOk result (IsSeat (map graph_chain chains.now) k node) }
     ensures seat { IfOk result (λ s. planned_seat s ≡ seat_of_end switch) }
 {
     let Node {
@@ -308,7 +308,7 @@ pub fn seat_all<S: Source, D: Drain, L: Logic, B: PlugBook>(
     requires sized { list_all (λ n. sizes_fit n.kind) nodes.items ≡ true }
     requires handed { AreHanded (map (λ n. n.kind) nodes.items) ends.items }
     requires plugged { ArePlugged L.gives B.lists (map (λ n. n.kind) nodes.items) plugs.items }
-    ensures planned { IfOk result (λ seats. ArePlanned (map plain_chain chains.now) 0 nodes.items seats.items) }
+    ensures planned { IfOk result (λ seats. ArePlanned (map graph_chain chains.now) 0 nodes.items seats.items) }
     ensures seats { IfOk result (λ seats. map planned_seat seats.items ≡ map seat_of_end ends.items) }
 {
     let mut unhanded = ends.into_iter();

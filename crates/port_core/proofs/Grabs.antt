@@ -2,7 +2,7 @@
 use Rattle.std.proofs.Common.{◌≡◌, ◌≤◌, List, [], ◌∷◌, ◌++◌, length, Option, Some, None, refl, sym, ◌∙◌, ap, append_assoc, append-nil, arith}
 use Rattle.elem_core.specs.Tree.{Tree}
 use Rattle.port_core.specs.Connection.{ConnStep, quiet, pulled, ready, pushed, Connection, unasked}
-use Rattle.port_core.specs.PortRules.{Move, pull, on_pull, push, on_push, grab, complete, fail, cancel, on_cancel, on_finish, on_fail, Allowed, next}
+use Rattle.port_core.specs.PortRules.{Move, pull, on_pull, push, on_push, grab, complete, fail, cancel, on_cancel, on_finish, on_fail, Allowed, after_move}
 use Rattle.port_core.specs.Runs.{AllowedRun, led, pushed_in, grabbed_in}
 
 -- the element that waits to be grabbed or is on its way
@@ -46,7 +46,7 @@ fits_some pulled g e f i = cc
 fits_some ready g e f i = cc
 fits_some (pushed t) g e f i = cc
 
-pub fits_next : (m : Move) (p : Connection) → Fits p.step p.to_grab → Allowed m p → Fits (next m p).step (next m p).to_grab
+pub fits_next : (m : Move) (p : Connection) → Fits p.step p.to_grab → Allowed m p → Fits (after_move m p).step (after_move m p).to_grab
 fits_next pull p f a = a.1.1
 fits_next on_pull p f a = fits_none p.step p.to_grab f (λ e. cc)
 fits_next (push t) p f a = fits_none p.step p.to_grab f (λ e. cc)
@@ -60,7 +60,7 @@ fits_next on_finish p f a = f
 fits_next (on_fail c) p f a = f
 
 -- one move
-held_next : (m : Move) (p : Connection) → Fits p.step p.to_grab → Allowed m p → held_by p.step p.to_grab ++ one_pushed m ≡ one_grabbed m ++ held_by (next m p).step (next m p).to_grab
+held_next : (m : Move) (p : Connection) → Fits p.step p.to_grab → Allowed m p → held_by p.step p.to_grab ++ one_pushed m ≡ one_grabbed m ++ held_by (after_move m p).step (after_move m p).to_grab
 held_next pull p f a = rw (a.1.0, a.1.1) refl
 held_next on_pull p f a = rw a.1 refl
 held_next (push t) p f a = rw a.1 refl
@@ -104,9 +104,9 @@ held_led : (ms : List Move) (p : Connection) → Fits p.step p.to_grab → Allow
 held_led [] p f run = append-nil _
 held_led (m ∷ ms) p f run =
     let h = held_by p.step p.to_grab in
-    let k = held_by (next m p).step (next m p).to_grab in
-    let l = held_by (led (next m p) ms).step (led (next m p) ms).to_grab in
-    let now : k ++ pushed_in ms ≡ grabbed_in ms ++ l = held_led ms (next m p) (fits_next m p f run.0) run.1 in
+    let k = held_by (after_move m p).step (after_move m p).to_grab in
+    let l = held_by (led (after_move m p) ms).step (led (after_move m p) ms).to_grab in
+    let now : k ++ pushed_in ms ≡ grabbed_in ms ++ l = held_led ms (after_move m p) (fits_next m p f run.0) run.1 in
     ap (λ (x : List Tree). h ++ x) (pushed_first m ms)
     ∙ sym (append_assoc h (one_pushed m) (pushed_in ms))
     ∙ ap (λ (x : List Tree). x ++ pushed_in ms) (held_next m p f run.0)

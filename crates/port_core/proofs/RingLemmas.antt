@@ -4,7 +4,7 @@ use Rattle.std.proofs.Math.ListN.{set}
 use Rattle.std.proofs.lemmas.Grind.{common_steps}
 use Rattle.std.proofs.lemmas.Bool.Decides.{nat_tests}
 use Rattle.std.proofs.lemmas.List.{length-set}
-use Rattle.port_core.specs.Ring.{is_waiting, Distinct, IsRing, Marked, marked_count}
+use Rattle.port_core.specs.Ring.{is_queued, Distinct, IsRing, Marked, marked_count}
 
 pub marked_count-le : (marks : List Bool) → marked_count marks ≤ length marks
 marked_count-le [] = omega arith
@@ -30,7 +30,7 @@ count-unmarked (false ∷ bs) (suc c) h e = count-unmarked bs c (omega arith) e
 pub marks-marked : (marks : List Bool) (c x : ℕ) → c < length marks → (get_or marks x false || (c == x)) ≡ get_or (set marks c true) x false
 marks-marked marks c x h = grind (arith, common_steps, nat_tests)
 
-pub marks-unmarked : (queue : List ℕ) (marks : List Bool) (c x : ℕ) → c < length marks → is_waiting queue c ≡ false → ((c == x) || is_waiting queue x) ≡ get_or marks x false → is_waiting queue x ≡ get_or (set marks c false) x false
+pub marks-unmarked : (queue : List ℕ) (marks : List Bool) (c x : ℕ) → c < length marks → is_queued queue c ≡ false → ((c == x) || is_queued queue x) ≡ get_or marks x false → is_queued queue x ≡ get_or (set marks c false) x false
 marks-unmarked queue marks c x h absent e = grind (arith, common_steps, nat_tests)
 
 -- what is marked is a place of the list
@@ -43,29 +43,29 @@ marked_within (b ∷ bs) (suc c) e = omega (arith, marked_within bs c e)
 pub ring_kept : (queue : List ℕ) (marks : List Bool) (capacity : ℕ) → Marked queue marks capacity → IsRing (record { size = length marks; queue = queue })
 ring_kept queue marks capacity m = record { distinct = m.distinct; below = λ c h. marked_within marks c (sym (m.marked c) ∙ h) }
 
-pub is_waiting-append : (queue : List ℕ) (c x : ℕ) → is_waiting (queue ++ c ∷ []) x ≡ (is_waiting queue x || (c == x))
-is_waiting-append [] c x = grind (arith, common_steps)
-is_waiting-append (y ∷ ys) c x = grind (arith, common_steps, is_waiting-append ys c x)
+pub is_queued-append : (queue : List ℕ) (c x : ℕ) → is_queued (queue ++ c ∷ []) x ≡ (is_queued queue x || (c == x))
+is_queued-append [] c x = grind (arith, common_steps)
+is_queued-append (y ∷ ys) c x = grind (arith, common_steps, is_queued-append ys c x)
 
-pub Distinct-append : (queue : List ℕ) (c : ℕ) → Distinct queue → is_waiting queue c ≡ false → Distinct (queue ++ c ∷ [])
+pub Distinct-append : (queue : List ℕ) (c : ℕ) → Distinct queue → is_queued queue c ≡ false → Distinct (queue ++ c ∷ [])
 Distinct-append [] c d h = (refl, tt)
 Distinct-append (x ∷ xs) c d h =
     let apart : (x == c) ≡ false = grind (arith, common_steps) in
-    let absent : is_waiting xs c ≡ false = grind (arith, common_steps) in
+    let absent : is_queued xs c ≡ false = grind (arith, common_steps) in
     let e : (c == x) ≡ false = grind (arith, nat_tests) in
-    (rw (is_waiting-append xs c x) (grind (arith, common_steps, d.0)), Distinct-append xs c d.1 absent)
+    (rw (is_queued-append xs c x) (grind (arith, common_steps, d.0)), Distinct-append xs c d.1 absent)
 
-pub room_for : (queue : List ℕ) (marks : List Bool) (capacity c : ℕ) → Marked queue marks capacity → c < length marks → is_waiting queue c ≡ false → length queue < capacity
+pub room_for : (queue : List ℕ) (marks : List Bool) (capacity c : ℕ) → Marked queue marks capacity → c < length marks → is_queued queue c ≡ false → length queue < capacity
 room_for queue marks capacity c m h e =
     let free : get_or marks c false ≡ false = sym (m.marked c) ∙ e in
     omega (arith, count-marked marks c h free, marked_count-le (set marks c true), length-set marks c true)
 
-pub enqueued : (queue : List ℕ) (marks : List Bool) (capacity c : ℕ) → Marked queue marks capacity → c < length marks → is_waiting queue c ≡ false → Marked (queue ++ c ∷ []) (set marks c true) capacity
+pub enqueued : (queue : List ℕ) (marks : List Bool) (capacity c : ℕ) → Marked queue marks capacity → c < length marks → is_queued queue c ≡ false → Marked (queue ++ c ∷ []) (set marks c true) capacity
 enqueued queue marks capacity c m h e =
     let free : get_or marks c false ≡ false = sym (m.marked c) ∙ e in
     record {
       room = omega (arith, length-set marks c true);
-      marked = λ x. rw is_waiting-append (rw m.marked (marks-marked marks c x h));
+      marked = λ x. rw is_queued-append (rw m.marked (marks-marked marks c x h));
       distinct = Distinct-append queue c m.distinct e;
       count = omega (arith, length-append queue (c ∷ []), count-marked marks c h free);
     }
@@ -79,7 +79,7 @@ first_within old queue marks capacity c e m =
     let at : Marked (c ∷ queue) marks capacity = rw e at m in
     marked_within marks c (first_marked queue marks capacity c at)
 
-pub first_gone : (old queue : List ℕ) (marks : List Bool) (capacity c : ℕ) → old ≡ c ∷ queue → Marked old marks capacity → is_waiting queue c ≡ false
+pub first_gone : (old queue : List ℕ) (marks : List Bool) (capacity c : ℕ) → old ≡ c ∷ queue → Marked old marks capacity → is_queued queue c ≡ false
 first_gone old queue marks capacity c e m = let at : Marked (c ∷ queue) marks capacity = rw e at m in at.distinct.0
 
 pub dequeued : (old queue : List ℕ) (marks : List Bool) (capacity c : ℕ) → old ≡ c ∷ queue → Marked old marks capacity → Marked queue (set marks c false) capacity

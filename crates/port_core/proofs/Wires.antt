@@ -8,7 +8,7 @@ use Rattle.port_core.specs.Connection.{ConnStep, Connection, quiet, pulled, read
 use Rattle.port_core.specs.Decoding.{can_pull, can_push, is_at_rest}
 use Rattle.port_core.specs.View.{IsInOpen, IsOutOpen}
 use Rattle.port_core.specs.Wire.{JointPorts, new_wire, pull_of, push_of, close_of, cancel_of, end_item, closed_by, delivery_of, after_delivery, again}
-use Rattle.port_core.specs.Joint.{Joint, idle, asking, asked, moving, ending, closing, leaving, finished, parted, cancelled, wire_of, Histories, Queues, IsSound, LeavesSound, Heard, under_way}
+use Rattle.port_core.specs.Joint.{Joint, idle, asking, asked, moving, ending, closing, leaving, finished, parted, cancelled, joint_wire, Histories, Queues, IsSound, LeavesSound, Heard, under_way}
 use Rattle.port_core.specs.declared.view.InView.{InView}
 use Rattle.port_core.specs.declared.view.InView.TheVariants.{Idle, Pulled, Cancelled}
 use Rattle.port_core.specs.declared.view.OutView.TheVariants.{Available, Closed}
@@ -23,8 +23,8 @@ same : (g s : List Item) → s ≡ g → s ≡ g ++ []
 same g s h = h ∙ sym (append-nil g)
 
 -- by the joint states
-pull_at : (j : Joint) (s g : List Item) (q : Bool) → Histories j s g → Queues j q → (wire_of j s g).inp ≡ Idle
-    → LeavesSound (pull_of (wire_of j s g)) q (can_pull (wire_of j s g).conn)
+pull_at : (j : Joint) (s g : List Item) (q : Bool) → Histories j s g → Queues j q → (joint_wire j s g).inp ≡ Idle
+    → LeavesSound (pull_of (joint_wire j s g)) q (can_pull (joint_wire j s g).conn)
 pull_at idle s g q h r e = rw r (record { sound = record { joint = asking; is = refl; histories = h; queues = refl }; free = λ _. refl })
 pull_at asking s g q h r e = cc
 pull_at asked s g q h r e = cc
@@ -37,8 +37,8 @@ pull_at (finished t c) s g q h r e = cc
 pull_at (parted t c) s g q h r e = cc
 pull_at (cancelled t c) s g q h r e = cc
 
-push_at : (x : Tree) (j : Joint) (s g : List Item) (q : Bool) → Histories j s g → Queues j q → (wire_of j s g).out ≡ Available
-    → LeavesSound (push_of x (wire_of j s g)) q (can_push (wire_of j s g).conn)
+push_at : (x : Tree) (j : Joint) (s g : List Item) (q : Bool) → Histories j s g → Queues j q → (joint_wire j s g).out ≡ Available
+    → LeavesSound (push_of x (joint_wire j s g)) q (can_push (joint_wire j s g).conn)
 push_at x idle s g q h r e = cc
 push_at x asking s g q h r e = cc
 push_at x asked s g q h r e = rw r (record { sound = record { joint = moving x; is = refl; histories = ap (λ (l : List Item). l ++ item.Elem x ∷ []) h; queues = refl }; free = λ _. refl })
@@ -64,8 +64,8 @@ closed_left (Some c) t = refl
 shut_with : (i : InView) (s g : List Item) (p q : Connection) → p ≡ q → ◌≡◌ {A = JointPorts} (record { out = Closed; inp = i; conn = p; sent = s; got = g }) (record { out = Closed; inp = i; conn = q; sent = s; got = g })
 shut_with i s g p q e = ap (λ (r : Connection). record { out = Closed; inp = i; conn = r; sent = s; got = g }) e
 
-close_at : (c : Option Cause) (j : Joint) (s g : List Item) (q : Bool) → Histories j s g → Queues j q → IsOutOpen (wire_of j s g).out
-    → LeavesSound (close_of c (wire_of j s g)) q (is_at_rest (wire_of j s g).conn)
+close_at : (c : Option Cause) (j : Joint) (s g : List Item) (q : Bool) → Histories j s g → Queues j q → IsOutOpen (joint_wire j s g).out
+    → LeavesSound (close_of c (joint_wire j s g)) q (is_at_rest (joint_wire j s g).conn)
 close_at c idle s g q h r e = rw r (record { sound = record { joint = ending c; is = shut_with Idle (s ++ end_item c ∷ []) g _ _ (closed_open c quiet); histories = ap (λ (l : List Item). l ++ end_item c ∷ []) h; queues = refl }; free = λ _. refl })
 close_at c asking s g q h r e = rw r (record { sound = record { joint = closing pulled c; is = shut_with Pulled (s ++ end_item c ∷ []) g _ _ (closed_open c pulled); histories = ap (λ (l : List Item). l ++ end_item c ∷ []) h; queues = refl }; free = λ f. cc })
 close_at c asked s g q h r e = rw r (record { sound = record { joint = closing ready c; is = shut_with Pulled (s ++ end_item c ∷ []) g _ _ (closed_open c ready); histories = ap (λ (l : List Item). l ++ end_item c ∷ []) h; queues = refl }; free = λ _. refl })
@@ -78,8 +78,8 @@ close_at c (finished t d) s g q h r e = absurd e
 close_at c (parted t d) s g q h r e = absurd e
 close_at c (cancelled t d) s g q h r e = absurd e
 
-cancel_at : (j : Joint) (s g : List Item) (q : Bool) → Histories j s g → Queues j q → IsInOpen (wire_of j s g).inp
-    → LeavesSound (cancel_of (wire_of j s g)) q (is_at_rest (wire_of j s g).conn)
+cancel_at : (j : Joint) (s g : List Item) (q : Bool) → Histories j s g → Queues j q → IsInOpen (joint_wire j s g).inp
+    → LeavesSound (cancel_of (joint_wire j s g)) q (is_at_rest (joint_wire j s g).conn)
 cancel_at idle s g q h r e = rw r (record { sound = record { joint = leaving false quiet; is = refl; histories = ([], same g s h); queues = refl }; free = λ _. refl })
 cancel_at asking s g q h r e = rw r (record { sound = record { joint = leaving false pulled; is = refl; histories = ([], same g s h); queues = refl }; free = λ f. cc })
 cancel_at asked s g q h r e = rw r (record { sound = record { joint = leaving true ready; is = refl; histories = ([], same g s h); queues = refl }; free = λ _. refl })
@@ -94,7 +94,7 @@ cancel_at (cancelled t c) s g q h r e = absurd e
 
 -- an event that was taken from the queue
 deliver_at : (j : Joint) (s g : List Item) → Histories j s g → Queues j true
-    → IsSound (after_delivery (delivery_of (wire_of j s g)) (wire_of j s g)) (again (delivery_of (wire_of j s g)))
+    → IsSound (after_delivery (delivery_of (joint_wire j s g)) (joint_wire j s g)) (again (delivery_of (joint_wire j s g)))
 deliver_at idle s g h r = cc
 deliver_at asking s g h r = record { joint = asked; is = refl; histories = h; queues = refl }
 deliver_at asked s g h r = cc
@@ -114,7 +114,7 @@ deliver_at (finished t c) s g h r = record { joint = finished t c; is = refl; hi
 deliver_at (parted t c) s g h r = record { joint = parted t c; is = refl; histories = h; queues = tt }
 deliver_at (cancelled t c) s g h r = record { joint = cancelled t c; is = refl; histories = h; queues = tt }
 
-heard_at : (j : Joint) (s g : List Item) → Queues j true → Heard (delivery_of (wire_of j s g)) (wire_of j s g)
+heard_at : (j : Joint) (s g : List Item) → Queues j true → Heard (delivery_of (joint_wire j s g)) (joint_wire j s g)
 heard_at idle s g r = cc
 heard_at asking s g r = refl
 heard_at asked s g r = cc
@@ -154,7 +154,7 @@ pub deliver_heard : (w : JointPorts) → IsSound w true → Heard (delivery_of w
 deliver_heard w h = subst (λ (v : JointPorts). Heard (delivery_of v) v) (sym h.is) (heard_at h.joint w.sent w.got h.queues)
 
 -- what the view allows the table allows, where the other end has not closed
-pull_free : (j : Joint) (s g : List Item) → (wire_of j s g).inp ≡ Idle → (can_pull (wire_of j s g).conn ≡ true) ⊎ ((wire_of j s g).conn.out_closed ≡ true)
+pull_free : (j : Joint) (s g : List Item) → (joint_wire j s g).inp ≡ Idle → (can_pull (joint_wire j s g).conn ≡ true) ⊎ ((joint_wire j s g).conn.out_closed ≡ true)
 pull_free idle s g e = inl refl
 pull_free asking s g e = cc
 pull_free asked s g e = cc
@@ -167,7 +167,7 @@ pull_free (finished t c) s g e = cc
 pull_free (parted t c) s g e = cc
 pull_free (cancelled t c) s g e = cc
 
-push_free : (j : Joint) (s g : List Item) → (wire_of j s g).out ≡ Available → (can_push (wire_of j s g).conn ≡ true) ⊎ ((wire_of j s g).conn.in_closed ≡ true)
+push_free : (j : Joint) (s g : List Item) → (joint_wire j s g).out ≡ Available → (can_push (joint_wire j s g).conn ≡ true) ⊎ ((joint_wire j s g).conn.in_closed ≡ true)
 push_free idle s g e = cc
 push_free asking s g e = cc
 push_free asked s g e = inl refl

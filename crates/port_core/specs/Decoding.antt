@@ -3,7 +3,7 @@ use Rattle.std.specs.Prelude.{◌≡◌, Bool, true, false, not, ◌&&◌, IsTru
 use Rattle.elem_core.specs.Tree.{Tree}
 use Rattle.elem_core.specs.declared.why.Cause.{Cause}
 use Rattle.port_core.specs.Connection.{ConnStep, quiet, pulled, ready, pushed, Connection}
-use Rattle.port_core.specs.PortRules.{on_pull, on_push, on_cancel, on_finish, on_fail, IsOpen, next, Rule}
+use Rattle.port_core.specs.PortRules.{on_pull, on_push, on_cancel, on_finish, on_fail, IsOpen, after_move, Rule}
 use Rattle.port_core.specs.declared.conn.Event.{Event}
 use Rattle.port_core.specs.declared.conn.Event.TheVariants.{Push, PushThenClose, Pull, Cancel, Finish, Fail, Nothing}
 
@@ -77,7 +77,7 @@ event_of p = event_by p.in_closed p.out_closed p.step p.cause
 
 -- the connection once the element that is on its way came
 abbrev pub arrived_by : Connection → ConnStep → Connection
-arrived_by p (pushed e) = next (on_push e) p
+arrived_by p (pushed e) = after_move (on_push e) p
 arrived_by p quiet = p
 arrived_by p pulled = p
 arrived_by p ready = p
@@ -86,9 +86,9 @@ arrived_by p ready = p
 abbrev pub after : Event → Connection → Connection
 after Push p = arrived_by p p.step
 after PushThenClose p = arrived_by p p.step
-after Pull p = next on_pull p
-after Cancel p = next on_cancel p
-after Finish p = next on_finish p
+after Pull p = after_move on_pull p
+after Cancel p = after_move on_cancel p
+after Finish p = after_move on_finish p
 after Fail p = record p { in_closed = true }
 after Nothing p = p
 

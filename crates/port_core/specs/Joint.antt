@@ -33,18 +33,18 @@ abbrev conn_of : ConnStep → Bool → Bool → Option Cause → Connection
 conn_of s i o c = record { step = s; to_grab = None; in_closed = i; out_closed = o; cause = c }
 
 -- the wire in a joint state, with its histories
-abbrev pub wire_of : Joint → List Item → List Item → JointPorts
-wire_of idle s g = record { out = outlet.Unpulled; inp = Idle; conn = conn_of quiet false false None; sent = s; got = g }
-wire_of asking s g = record { out = outlet.Unpulled; inp = Pulled; conn = conn_of pulled false false None; sent = s; got = g }
-wire_of asked s g = record { out = outlet.Available; inp = Pulled; conn = conn_of ready false false None; sent = s; got = g }
-wire_of (moving e) s g = record { out = outlet.Unpulled; inp = Pulled; conn = conn_of (pushed e) false false None; sent = s; got = g }
-wire_of (ending c) s g = record { out = outlet.Closed; inp = Idle; conn = conn_of quiet false true c; sent = s; got = g }
-wire_of (closing t c) s g = record { out = outlet.Closed; inp = Pulled; conn = conn_of t false true c; sent = s; got = g }
-wire_of (leaving true t) s g = record { out = outlet.Available; inp = Cancelled; conn = conn_of t true false None; sent = s; got = g }
-wire_of (leaving false t) s g = record { out = outlet.Unpulled; inp = Cancelled; conn = conn_of t true false None; sent = s; got = g }
-wire_of (finished t c) s g = record { out = outlet.Closed; inp = Finished; conn = conn_of t true true c; sent = s; got = g }
-wire_of (parted t c) s g = record { out = outlet.Closed; inp = Cancelled; conn = conn_of t true true c; sent = s; got = g }
-wire_of (cancelled t c) s g = record { out = outlet.Cancelled; inp = Cancelled; conn = conn_of t true true c; sent = s; got = g }
+abbrev pub joint_wire : Joint → List Item → List Item → JointPorts
+joint_wire idle s g = record { out = outlet.Unpulled; inp = Idle; conn = conn_of quiet false false None; sent = s; got = g }
+joint_wire asking s g = record { out = outlet.Unpulled; inp = Pulled; conn = conn_of pulled false false None; sent = s; got = g }
+joint_wire asked s g = record { out = outlet.Available; inp = Pulled; conn = conn_of ready false false None; sent = s; got = g }
+joint_wire (moving e) s g = record { out = outlet.Unpulled; inp = Pulled; conn = conn_of (pushed e) false false None; sent = s; got = g }
+joint_wire (ending c) s g = record { out = outlet.Closed; inp = Idle; conn = conn_of quiet false true c; sent = s; got = g }
+joint_wire (closing t c) s g = record { out = outlet.Closed; inp = Pulled; conn = conn_of t false true c; sent = s; got = g }
+joint_wire (leaving true t) s g = record { out = outlet.Available; inp = Cancelled; conn = conn_of t true false None; sent = s; got = g }
+joint_wire (leaving false t) s g = record { out = outlet.Unpulled; inp = Cancelled; conn = conn_of t true false None; sent = s; got = g }
+joint_wire (finished t c) s g = record { out = outlet.Closed; inp = Finished; conn = conn_of t true true c; sent = s; got = g }
+joint_wire (parted t c) s g = record { out = outlet.Closed; inp = Cancelled; conn = conn_of t true true c; sent = s; got = g }
+joint_wire (cancelled t c) s g = record { out = outlet.Cancelled; inp = Cancelled; conn = conn_of t true true c; sent = s; got = g }
 
 -- an element that is on its way
 abbrev pub under_way : ConnStep → List Item
@@ -82,7 +82,7 @@ Queues (cancelled t c) q = ⊤
 -- the wire, queued or not, is in a joint state
 pub record IsSound (w : JointPorts) (q : Bool) : Type 0 where
   pub joint : Joint
-  pub is : w ≡ wire_of joint w.sent w.got
+  pub is : w ≡ joint_wire joint w.sent w.got
   pub histories : Histories joint w.sent w.got
   pub queues : Queues joint q
 

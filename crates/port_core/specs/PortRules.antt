@@ -47,19 +47,19 @@ cause_after c false false was = Some c
 cause_after c _ _ was = was
 
 -- what the connection is then
-abbrev pub next : Move → Connection → Connection
-next pull p = record p { step = pulled }
-next on_pull p = record p { step = ready }
-next (push e) p = record p { step = pushed e }
-next (on_push e) p = record p { step = quiet; to_grab = Some e }
-next (grab e) p = record p { to_grab = None }
-next complete p = record p { out_closed = true }
-next (fail c) p = record p { out_closed = true; cause = cause_after c p.in_closed p.out_closed p.cause }
-next cancel p = record p { in_closed = true }
-next on_cancel p = record p { out_closed = true }
-next on_finish p = record p { in_closed = true }
-next (on_fail c) p = record p { in_closed = true }
+abbrev pub after_move : Move → Connection → Connection
+after_move pull p = record p { step = pulled }
+after_move on_pull p = record p { step = ready }
+after_move (push e) p = record p { step = pushed e }
+after_move (on_push e) p = record p { step = quiet; to_grab = Some e }
+after_move (grab e) p = record p { to_grab = None }
+after_move complete p = record p { out_closed = true }
+after_move (fail c) p = record p { out_closed = true; cause = cause_after c p.in_closed p.out_closed p.cause }
+after_move cancel p = record p { in_closed = true }
+after_move on_cancel p = record p { out_closed = true }
+after_move on_finish p = record p { in_closed = true }
+after_move (on_fail c) p = record p { in_closed = true }
 
 -- a line of the table: p allows the move, and is q then
 abbrev pub Rule : Move → Connection → Connection → Type 0
-Rule m p q = Allowed m p × (q ≡ next m p)
+Rule m p q = Allowed m p × (q ≡ after_move m p)

@@ -8,18 +8,18 @@ pub record Ring : Type 0 where
   pub queue : List ℕ
 
 -- whether c waits
-abbrev pub is_waiting : List ℕ → ℕ → Bool
-is_waiting queue c = list_any (λ x. x == c) queue
+abbrev pub is_queued : List ℕ → ℕ → Bool
+is_queued queue c = list_any (λ x. x == c) queue
 
 -- no number comes twice
 abbrev pub Distinct : List ℕ → Type 0
 Distinct [] = ⊤
-Distinct (x ∷ xs) = (is_waiting xs x ≡ false) × Distinct xs
+Distinct (x ∷ xs) = (is_queued xs x ≡ false) × Distinct xs
 
 -- what every ring keeps: distinct numbers below its size
 pub record IsRing (r : Ring) : Type 0 where
   pub distinct : Distinct r.queue
-  pub below : (c : ℕ) → is_waiting r.queue c ≡ true → c < r.size
+  pub below : (c : ℕ) → is_queued r.queue c ≡ true → c < r.size
 
 -- how many connections are marked
 abbrev pub marked_count : List Bool → ℕ
@@ -30,6 +30,6 @@ marked_count (false ∷ bs) = marked_count bs
 -- the queue has each marked connection once and no other, and room for all
 pub record Marked (queue : List ℕ) (marks : List Bool) (capacity : ℕ) : Type 0 where
   pub room : length marks ≤ capacity
-  pub marked : (c : ℕ) → is_waiting queue c ≡ slice_index_or marks c false
+  pub marked : (c : ℕ) → is_queued queue c ≡ slice_index_or marks c false
   pub distinct : Distinct queue
   pub count : length queue ≡ marked_count marks

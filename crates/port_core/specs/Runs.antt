@@ -2,17 +2,17 @@
 use Rattle.std.specs.Prelude.{Bool, true, false, List, [], ◌∷◌, ⊤}
 use Rattle.elem_core.specs.Tree.{Tree}
 use Rattle.port_core.specs.Connection.{Connection}
-use Rattle.port_core.specs.PortRules.{Move, on_pull, push, on_push, grab, complete, fail, cancel, on_cancel, on_finish, on_fail, Allowed, next}
+use Rattle.port_core.specs.PortRules.{Move, on_pull, push, on_push, grab, complete, fail, cancel, on_cancel, on_finish, on_fail, Allowed, after_move}
 
 -- from p on, the table allows each move in its turn
 abbrev pub AllowedRun : Connection → List Move → Type 0
 AllowedRun p [] = ⊤
-AllowedRun p (m ∷ ms) = Allowed m p × AllowedRun (next m p) ms
+AllowedRun p (m ∷ ms) = Allowed m p × AllowedRun (after_move m p) ms
 
 -- the connection that they lead to
 abbrev pub led : Connection → List Move → Connection
 led p [] = p
-led p (m ∷ ms) = led (next m p) ms
+led p (m ∷ ms) = led (after_move m p) ms
 
 -- a pull comes to the output
 abbrev pub is_on_pull : Move → Bool

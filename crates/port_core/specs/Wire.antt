@@ -8,7 +8,7 @@ use Rattle.elem_core.specs.declared.item.Item.{Item}
 use Rattle.elem_core.specs.declared.item.Item.TheVariants as item
 use Rattle.port_core.specs.Connection.{ConnStep, quiet, pulled, ready, pushed, Connection, unasked}
 use Rattle.port_core.specs.PortRules as rule
-use Rattle.port_core.specs.PortRules.{next}
+use Rattle.port_core.specs.PortRules.{after_move}
 use Rattle.port_core.specs.Decoding.{can_pull, can_push}
 use Rattle.port_core.specs.declared.view.InView.{InView}
 use Rattle.port_core.specs.declared.view.InView.TheVariants.{Idle, Pulled, Finished, Cancelled}
@@ -29,11 +29,11 @@ new_wire = record { out = outlet.Unpulled; inp = Idle; conn = unasked; sent = []
 
 -- the input pulls
 abbrev pub pull_of : JointPorts → JointPorts
-pull_of w = record w { inp = Pulled; conn = if can_pull w.conn then next rule.pull w.conn else w.conn }
+pull_of w = record w { inp = Pulled; conn = if can_pull w.conn then after_move rule.pull w.conn else w.conn }
 
 -- the output gives an element
 abbrev pub push_of : Tree → JointPorts → JointPorts
-push_of e w = record w { out = outlet.Unpulled; conn = if can_push w.conn then next (rule.push e) w.conn else w.conn; sent = w.sent ++ item.Elem e ∷ [] }
+push_of e w = record w { out = outlet.Unpulled; conn = if can_push w.conn then after_move (rule.push e) w.conn else w.conn; sent = w.sent ++ item.Elem e ∷ [] }
 
 -- the end of an output, which completes, or fails with a cause
 abbrev pub end_item : Option Cause → Item
@@ -42,8 +42,8 @@ end_item (Some c) = item.Failed c
 
 -- the connection then
 abbrev pub closed_by : Option Cause → Connection → Connection
-closed_by None p = next rule.complete p
-closed_by (Some c) p = next (rule.fail c) p
+closed_by None p = after_move rule.complete p
+closed_by (Some c) p = after_move (rule.fail c) p
 
 -- the output completes, or fails with a cause
 abbrev pub close_of : Option Cause → JointPorts → JointPorts
@@ -51,7 +51,7 @@ close_of c w = record w { out = outlet.Closed; conn = closed_by c w.conn; sent =
 
 -- the input cancels
 abbrev pub cancel_of : JointPorts → JointPorts
-cancel_of w = record w { inp = Cancelled; conn = next rule.cancel w.conn }
+cancel_of w = record w { inp = Cancelled; conn = after_move rule.cancel w.conn }
 
 -- what the event of a wire brings: nothing, a pull or a cancel to the output; an item to the input, and whether the wire has
 -- to be queued again behind it
@@ -89,11 +89,11 @@ delivery_of w = delivery_by w.conn.in_closed w.conn.out_closed w.conn.step w.con
 -- the wire once that was delivered, and the element grabbed
 abbrev pub after_delivery : Delivery → JointPorts → JointPorts
 after_delivery nothing w = w
-after_delivery pull w = record w { out = outlet.Available; conn = next rule.on_pull w.conn }
-after_delivery cancel w = record w { out = outlet.Cancelled; conn = next rule.on_cancel w.conn }
-after_delivery (arrived (item.Elem e) more) w = record w { inp = Idle; conn = next (rule.grab e) (next (rule.on_push e) w.conn); got = w.got ++ item.Elem e ∷ [] }
-after_delivery (arrived item.Ended more) w = record w { inp = Finished; conn = next rule.on_finish w.conn; got = w.got ++ item.Ended ∷ [] }
-after_delivery (arrived (item.Failed c) more) w = record w { inp = Finished; conn = next (rule.on_fail c) w.conn; got = w.got ++ item.Failed c ∷ [] }
+after_delivery pull w = record w { out = outlet.Available; conn = after_move rule.on_pull w.conn }
+after_delivery cancel w = record w { out = outlet.Cancelled; conn = after_move rule.on_cancel w.conn }
+after_delivery (arrived (item.Elem e) more) w = record w { inp = Idle; conn = after_move (rule.grab e) (after_move (rule.on_push e) w.conn); got = w.got ++ item.Elem e ∷ [] }
+after_delivery (arrived item.Ended more) w = record w { inp = Finished; conn = after_move rule.on_finish w.conn; got = w.got ++ item.Ended ∷ [] }
+after_delivery (arrived (item.Failed c) more) w = record w { inp = Finished; conn = after_move (rule.on_fail c) w.conn; got = w.got ++ item.Failed c ∷ [] }
 
 -- whether the wire has to be queued again
 abbrev pub again : Delivery → Bool

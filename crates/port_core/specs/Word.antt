@@ -3,7 +3,7 @@ use Rattle.std.specs.Prelude.{◌≡◌, ℕ, ◌+◌, ◌==◌, Bool, true, fal
 use Rattle.elem_core.specs.Tree.{Tree, num}
 use Rattle.elem_core.specs.declared.why.Cause.{Cause}
 use Rattle.port_core.specs.Connection.{ConnStep, quiet, pulled, ready, pushed, Connection}
-use Rattle.port_core.specs.Ring.{is_waiting}
+use Rattle.port_core.specs.Ring.{is_queued}
 
 -- one of the low four bits, beside the others
 abbrev pub with_low : ℕ → List ℕ
@@ -20,7 +20,7 @@ has bit w = not (bit_and w bit == 0)
 -- What every connection keeps: its word is one of these, an element that was delivered is held only where nobody pulled, and where
 -- no element is held or on its way the number 0 stands in its place.
 pub record IsWord (w : ℕ) (held : Bool) (e : Tree) : Type 0 where
-  pub word : is_waiting flag_words w ≡ true
+  pub word : is_queued flag_words w ≡ true
   pub quiet : held ≡ true → has 1 w ≡ true
   pub empty : held ≡ false → has 4 w ≡ false → e ≡ num (pos 0)
 

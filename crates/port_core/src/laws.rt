@@ -6,7 +6,7 @@ ghost use Rattle.elem_core.specs.declared.why.Cause.{Cause};
 ghost use Rattle.elem_core.specs.declared.why.Why.{Why};
 ghost use Rattle.port_core.specs.Connection.{Connection, unasked};
 ghost use Rattle.port_core.specs.PortRules as rule;
-ghost use Rattle.port_core.specs.PortRules.{Move, next};
+ghost use Rattle.port_core.specs.PortRules.{Move, after_move};
 ghost use Rattle.port_core.specs.declared.act.Act.{Act};
 ghost use Rattle.port_core.specs.declared.chain.ChainStep.{ChainStep};
 ghost use Rattle.port_core.specs.declared.chain.ChainStep.TheVariants.{Go, Failed};
@@ -52,10 +52,10 @@ pub fn elements_come_before_the_end()
 
 /// To close a side that is closed changes nothing, and a failure leaves no cause where a side was closed before.
 pub fn sides_close_once()
-    ensures complete { (p : Connection) → p.out_closed ≡ true → next rule.complete p ≡ p }
-    ensures fail { (p : Connection) (c : Cause) → p.out_closed ≡ true → next (rule.fail c) p ≡ p }
-    ensures cancel { (p : Connection) → p.in_closed ≡ true → next rule.cancel p ≡ p }
-    ensures cause { (p : Connection) (c : Cause) → p.in_closed ≡ true → (next (rule.fail c) p).cause ≡ p.cause }
+    ensures complete { (p : Connection) → p.out_closed ≡ true → after_move rule.complete p ≡ p }
+    ensures fail { (p : Connection) (c : Cause) → p.out_closed ≡ true → after_move (rule.fail c) p ≡ p }
+    ensures cancel { (p : Connection) → p.in_closed ≡ true → after_move rule.cancel p ≡ p }
+    ensures cause { (p : Connection) (c : Cause) → p.in_closed ≡ true → (after_move (rule.fail c) p).cause ≡ p.cause }
 {}
 
 /// Actions that follow one another: they are allowed where each part is allowed in its turn, and what they give at an output

@@ -1,5 +1,5 @@
 ghost use Rattle.std.specs.Prelude.{◌≡◌, ◌<◌, ◌∷◌, [], ◌++◌, false, IsTrue, IfOk, IfSome, IfNone, IsNone, ◌↔◌};
-ghost use Rattle.port_core.specs.Ring.{is_waiting, IsRing};
+ghost use Rattle.port_core.specs.Ring.{is_queued, IsRing};
 
 use elem_core::why::NoMemory;
 use std::alloc::Global;
@@ -38,7 +38,7 @@ impl EventRing {
 
     /// Whether the connection is in the ring. What every ring keeps is known then.
     pub fn has(&self, c: u32) -> bool
-        ensures has { result ≡ is_waiting self.now.queue c }
+        ensures has { result ≡ is_queued self.now.queue c }
         ensures ring { IsRing self.now }
     {
         let c = c as usize;
@@ -55,7 +55,7 @@ impl EventRing {
     /// Puts a connection last. It takes no memory.
     pub fn enqueue(&mut self, c: u32)
         requires within { c < self.old.size }
-        requires absent { is_waiting self.old.queue c ≡ false }
+        requires absent { is_queued self.old.queue c ≡ false }
         ensures { self.new ≡ record self.old { queue = self.old.queue ++ c ∷ [] } }
     {
         self.marks[c as usize] = true;
@@ -67,7 +67,7 @@ impl EventRing {
         ensures empty { IsNone result ↔ (self.old.queue ≡ []) }
         ensures unchanged { IfNone result (self.new ≡ self.old) }
         ensures first { IfSome result (λ c. (self.old.queue ≡ c ∷ self.new.queue) × (self.new.size ≡ self.old.size)) }
-        ensures once { IfSome result (λ c. (c < self.old.size) × (is_waiting self.new.queue c ≡ false)) }
+        ensures once { IfSome result (λ c. (c < self.old.size) × (is_queued self.new.queue c ≡ false)) }
     {
         let c = self.queue.pop_front()?;
         self.marks[c as usize] = false;

@@ -9,7 +9,7 @@ use Rattle.elem_core.specs.declared.item.Item.TheVariants as item
 use Rattle.elem_core.specs.declared.why.Cause.{Cause}
 use Rattle.port_core.specs.Connection.{ConnStep, quiet, pulled, ready, pushed}
 use Rattle.port_core.specs.Wire.{JointPorts, end_item}
-use Rattle.port_core.specs.Joint.{Joint, idle, asking, asked, moving, ending, closing, leaving, finished, parted, cancelled, wire_of, Histories, Queues, under_way, IsSound}
+use Rattle.port_core.specs.Joint.{Joint, idle, asking, asked, moving, ending, closing, leaving, finished, parted, cancelled, joint_wire, Histories, Queues, under_way, IsSound}
 use Rattle.port_core.specs.declared.view.InView.{InView}
 use Rattle.port_core.specs.declared.view.InView.TheVariants.{Pulled, Finished}
 use Rattle.wire_core.specs.Cell.{WireState}
@@ -52,7 +52,7 @@ closing_few : (t : ConnStep) (c : Option Cause) → elements (under_way t ++ end
 closing_few t c = omega (arith, elements_append (under_way t) (end_item c ∷ []), end_none c, way_few t)
 
 -- an input that saw the end got all that was sent
-over_at : (j : Joint) (s g : List Item) → Histories j s g → (wire_of j s g).inp ≡ Finished → elements s ≡ elements g
+over_at : (j : Joint) (s g : List Item) → Histories j s g → (joint_wire j s g).inp ≡ Finished → elements s ≡ elements g
 over_at idle s g h e = cc
 over_at asking s g h e = cc
 over_at asked s g h e = cc
@@ -66,7 +66,7 @@ over_at (parted t c) s g h e = cc
 over_at (cancelled t c) s g h e = cc
 
 -- one that waits got all but one element at most, and all where no event is left
-waiting_at : (j : Joint) (s g : List Item) → Histories j s g → (wire_of j s g).inp ≡ Pulled → elements s ≤ elements g + 1
+waiting_at : (j : Joint) (s g : List Item) → Histories j s g → (joint_wire j s g).inp ≡ Pulled → elements s ≤ elements g + 1
 waiting_at idle s g h e = cc
 waiting_at asking s g h e = let same : elements s ≡ elements g = ap elements h in omega (arith, same)
 waiting_at asked s g h e = let same : elements s ≡ elements g = ap elements h in omega (arith, same)
@@ -81,7 +81,7 @@ waiting_at (finished t c) s g h e = cc
 waiting_at (parted t c) s g h e = cc
 waiting_at (cancelled t c) s g h e = cc
 
-resting_at : (j : Joint) (s g : List Item) → Histories j s g → Queues j false → (wire_of j s g).inp ≡ Pulled → elements s ≡ elements g
+resting_at : (j : Joint) (s g : List Item) → Histories j s g → Queues j false → (joint_wire j s g).inp ≡ Pulled → elements s ≡ elements g
 resting_at idle s g h q e = cc
 resting_at asking s g h q e = cc
 resting_at asked s g h q e = ap elements h
@@ -98,7 +98,7 @@ no_mark : {b : Bool} → b ≡ false → b ≡ true → ⊥
 no_mark e f = cc
 
 -- while its ask is not answered, all elements that were sent have come
-all_j : (j : Joint) (s g : List Item) (b : Bool) → Histories j s g → IsMarked (cell (wire_of j s g) b) → (wire_of j s g).inp ≡ Pulled → b ≡ true → elements s ≡ elements g
+all_j : (j : Joint) (s g : List Item) (b : Bool) → Histories j s g → IsMarked (cell (joint_wire j s g) b) → (joint_wire j s g).inp ≡ Pulled → b ≡ true → elements s ≡ elements g
 all_j idle s g b h m e t = cc
 all_j asking s g b h m e t = ap elements h
 all_j asked s g b h m e t = ap elements h
@@ -116,11 +116,11 @@ all_j (cancelled u c) s g b h m e t = cc
 
 pub all_came : (c : WireState) (q : Bool) → IsMarked c → IsSound c.wire q → c.wire.inp ≡ Pulled → c.asked ≡ true → elements c.wire.sent ≡ elements c.wire.got
 all_came c q m h e t =
-    let marked : IsMarked (cell (wire_of h.joint c.wire.sent c.wire.got) c.asked) = subst (λ (v : JointPorts). IsMarked (cell v c.asked)) h.is m in
+    let marked : IsMarked (cell (joint_wire h.joint c.wire.sent c.wire.got) c.asked) = subst (λ (v : JointPorts). IsMarked (cell v c.asked)) h.is m in
     all_j h.joint c.wire.sent c.wire.got c.asked h.histories marked (sym (ap (λ (v : JointPorts). v.inp) h.is) ∙ e) t
 
 module _ (c : JointPorts) (q : Bool) (sound : IsSound c q) where
-  inp_is : (i : InView) → c.inp ≡ i → (wire_of sound.joint c.sent c.got).inp ≡ i
+  inp_is : (i : InView) → c.inp ≡ i → (joint_wire sound.joint c.sent c.got).inp ≡ i
   inp_is i e = sym (ap (λ (v : JointPorts). v.inp) sound.is) ∙ e
 
   pub over_same : c.inp ≡ Finished → elements c.sent ≡ elements c.got

@@ -5,10 +5,10 @@ use Rattle.elem_core.specs.Prefix.{IsPrefix}
 use Rattle.elem_core.specs.Items.{elements}
 use Rattle.elem_core.specs.declared.item.Item.{Item}
 use Rattle.elem_core.specs.declared.item.Item.TheVariants as item
-use Rattle.port_core.specs.Ring.{is_waiting}
+use Rattle.port_core.specs.Ring.{is_queued}
 use Rattle.port_core.specs.Wire.{JointPorts, end_item}
 use Rattle.port_core.specs.Connection.{quiet, pulled, ready, pushed}
-use Rattle.port_core.specs.Joint.{Joint, idle, asking, asked, moving, ending, closing, leaving, finished, parted, cancelled, wire_of, Histories, IsSound}
+use Rattle.port_core.specs.Joint.{Joint, idle, asking, asked, moving, ending, closing, leaving, finished, parted, cancelled, joint_wire, Histories, IsSound}
 use Rattle.port_core.specs.View.{View, in_at, out_at}
 use Rattle.port_core.specs.declared.view.InView.{InView}
 use Rattle.port_core.specs.declared.view.InView.TheVariants.{Cancelled}
@@ -32,7 +32,7 @@ use Rattle.run_account.proofs.Resting.{out_shut}
 abbrev Asks : InView → Bool → List Item → List Item → Type 0
 Asks x b s g = WantedAt x (if b then elements s + 1 else elements s) (elements g)
 
-stood_j : (j : Joint) (s g : List Item) (b : Bool) → Histories j s g → IsMarked (cell (wire_of j s g) b) → Asks (wire_of j s g).inp b s g
+stood_j : (j : Joint) (s g : List Item) (b : Bool) → Histories j s g → IsMarked (cell (joint_wire j s g) b) → Asks (joint_wire j s g).inp b s g
 stood_j idle s g b h m = let mark : b ≡ false = m.unclosed refl in let same = ap elements h in rw mark (omega (arith, same))
 stood_j asking s g b h m = let same = ap elements h in by_mark b (omega (arith, same))
   where
@@ -71,7 +71,7 @@ stood_j (cancelled t c) s g b h m = tt
 
 pub stood_cell : (c : WireState) (q : Bool) → IsSound c.wire q → IsMarked c → WantedAt c.wire.inp (wanted c) (elements c.wire.got)
 stood_cell c q h m =
-    let marked : IsMarked (cell (wire_of h.joint c.wire.sent c.wire.got) c.asked) = subst (λ (v : JointPorts). IsMarked (cell v c.asked)) h.is m in
+    let marked : IsMarked (cell (joint_wire h.joint c.wire.sent c.wire.got) c.asked) = subst (λ (v : JointPorts). IsMarked (cell v c.asked)) h.is m in
     subst (λ (x : InView). WantedAt x (wanted c) (elements c.wire.got)) (sym (ap (λ (v : JointPorts). v.inp) h.is)) (stood_j h.joint c.wire.sent c.wire.got c.asked h.histories marked)
 
 wanted_asked : (c : WireState) → c.asked ≡ true → wanted c ≡ elements c.wire.sent + 1
@@ -159,11 +159,11 @@ module _ {N : Type 0} (port_state : N → View → Type 0) (law : N → N → Vi
           let now : slice_index_or (want_out new j) i 0 ≡ wanted (wire_at new slot.0) = read_at wanted new.wires (ports_at new j).outs i slot.0 0 slot_new in
           omega (arith, count, more, gave_count, now)
 
-      pub were_shut : ((u : ℕ) → u < length old.wires → IsSound (wire_at old u).wire (is_waiting old.queue u)) → (i : ℕ) → OutClosed (out_at (view_of old j) i) → slice_index_or (shut_out new j) i true ≡ true
+      pub were_shut : ((u : ℕ) → u < length old.wires → IsSound (wire_at old u).wire (is_queued old.queue u)) → (i : ℕ) → OutClosed (out_at (view_of old j) i) → slice_index_or (shut_out new j) i true ≡ true
       were_shut sound i closed =
           let within_old : (k q : ℕ) → slice_get (ports_at new j).outs k ≡ Some q → q < length old.wires = λ k q e. let wires = on.wires in let within = outs_within k q e in omega (arith, wires, within) in
           shut_grown old.wires new.wires grew (ports_at new j).outs outs_within i
-          (shut_there old.wires (λ q h. (is_waiting old.queue q, sound q h)) (ports_at new j).outs within_old i (rw same_ports at closed))
+          (shut_there old.wires (λ q h. (is_queued old.queue q, sound q h)) (ports_at new j).outs within_old i (rw same_ports at closed))
 
       -- the node as it was
       pub first_then : slice_get old.firsts j ≡ Some first
@@ -191,7 +191,7 @@ module _ {N : Type 0} (port_state : N → View → Type 0) (law : N → N → Vi
         let x = get_there a.old.nodes j (omega (arith, nodes, hj)) in
         let minds = (rw to at a.minded) x.0 first x.1 (first_then a.old a.on a.grown a.marked) in
         let slot_old : slice_get (ports_at a.old j).ins p ≡ Some q = rw (same_ports a.old a.on a.grown a.marked) slot in
-        let came = all_came (wire_at a.old q) (is_waiting a.old.queue q) (a.marked q was) (a.sound q was) a.waits a.asked in
+        let came = all_came (wire_at a.old q) (is_queued a.old.queue q) (a.marked q was) (a.sound q was) a.waits a.asked in
         record {
           old = x.0;
           knew = view_of a.old j;
@@ -254,7 +254,7 @@ module _ {N : Type 0} (port_state : N → View → Type 0) (law : N → N → Vi
         let slot : slice_get (ports_at a.old j).ins i ≡ Some q = rw ports_then e in
         let h = slot_within i q e in
         rw (read_at inp_of a.old.wires (ports_at a.old j).ins i q Cancelled slot, same_want i q e, read_at got_of a.old.wires (ports_at a.old j).ins i q [] slot)
-        (stood_cell (wire_at a.old q) (is_waiting a.old.queue q) (a.sound q h) (a.marked q h))
+        (stood_cell (wire_at a.old q) (is_queued a.old.queue q) (a.sound q h) (a.marked q h))
 
     first_old : slice_get a.old.firsts j ≡ Some first
     first_old = ap (λ (z : List N). slice_get z j) (sym a.on.firsts) ∙ first_at

@@ -3,7 +3,7 @@
 use Rattle.std.specs.Prelude.{slice_get, slice_index_or}
 use Rattle.std.proofs.Common.{◌≡◌, ℕ, ◌<◌, ◌≤◌, List, [], length, Option, None, Some, refl, ap, subst, ◌∙◌}
 use Rattle.elem_core.specs.declared.item.Item.{Item}
-use Rattle.port_core.specs.Ring.{is_waiting}
+use Rattle.port_core.specs.Ring.{is_queued}
 use Rattle.port_core.specs.View.{View}
 use Rattle.port_core.specs.declared.view.InView.{InView}
 use Rattle.port_core.specs.declared.view.OutView.{OutView}
@@ -109,8 +109,8 @@ module _ {N : Type 0} (port_state : N → View → Type 0) (law : N → N → Vi
   pub all_keep : KeepsLaws port_state law asking moves g all
   all_keep = record {
     each_node = node_keeps;
-    near_sound = λ u h. (is_waiting (nets (s.near u).island).queue (s.near u).at, (settled (s.near u).island).sound (s.near u).at (near_there g nets s covers u h));
-    far_sound = λ u h. (is_waiting (nets (s.far u).island).queue (s.far u).at, (settled (s.far u).island).sound (s.far u).at (far_there g nets s covers u h));
+    near_sound = λ u h. (is_queued (nets (s.near u).island).queue (s.near u).at, (settled (s.near u).island).sound (s.near u).at (near_there g nets s covers u h));
+    far_sound = λ u h. (is_queued (nets (s.far u).island).queue (s.far u).at, (settled (s.far u).island).sound (s.far u).at (far_there g nets s covers u h));
     near_marked = λ u h. (settled (s.near u).island).marked (s.near u).at (near_there g nets s covers u h);
     far_marked = λ u h. (settled (s.far u).island).marked (s.far u).at (far_there g nets s covers u h);
     wires = wires_keep;

@@ -2,12 +2,12 @@
 use Rattle.std.proofs.Common.{◌≡◌, Bool, true, false, List, refl, sym, ap, subst, ◌∙◌}
 use Rattle.elem_core.specs.declared.item.Item.{Item}
 use Rattle.port_core.specs.Wire.{JointPorts}
-use Rattle.port_core.specs.Joint.{Joint, idle, asking, asked, moving, ending, closing, leaving, finished, parted, cancelled, wire_of, Queues, IsSound}
+use Rattle.port_core.specs.Joint.{Joint, idle, asking, asked, moving, ending, closing, leaving, finished, parted, cancelled, joint_wire, Queues, IsSound}
 use Rattle.port_core.specs.declared.view.InView.TheVariants.{Idle, Pulled, Finished, Cancelled}
 use Rattle.port_core.specs.declared.view.OutView.TheVariants.{Unpulled, Available, Closed}
 use Rattle.stage_law.specs.Row.{OutClosed}
 
-out_shut_j : (j : Joint) (s g : List Item) → (wire_of j s g).inp ≡ Finished → (wire_of j s g).out ≡ Closed
+out_shut_j : (j : Joint) (s g : List Item) → (joint_wire j s g).inp ≡ Finished → (joint_wire j s g).out ≡ Closed
 out_shut_j idle s g e = cc
 out_shut_j asking s g e = cc
 out_shut_j asked s g e = cc
@@ -20,7 +20,7 @@ out_shut_j (finished t c) s g e = refl
 out_shut_j (parted t c) s g e = cc
 out_shut_j (cancelled t c) s g e = cc
 
-out_asked_j : (j : Joint) (s g : List Item) → Queues j false → (wire_of j s g).inp ≡ Pulled → (wire_of j s g).out ≡ Available
+out_asked_j : (j : Joint) (s g : List Item) → Queues j false → (joint_wire j s g).inp ≡ Pulled → (joint_wire j s g).out ≡ Available
 out_asked_j idle s g q e = cc
 out_asked_j asking s g q e = cc
 out_asked_j asked s g q e = refl
@@ -33,7 +33,7 @@ out_asked_j (finished t c) s g q e = cc
 out_asked_j (parted t c) s g q e = cc
 out_asked_j (cancelled t c) s g q e = cc
 
-out_left_j : (j : Joint) (s g : List Item) → Queues j false → (wire_of j s g).inp ≡ Cancelled → OutClosed (wire_of j s g).out
+out_left_j : (j : Joint) (s g : List Item) → Queues j false → (joint_wire j s g).inp ≡ Cancelled → OutClosed (joint_wire j s g).out
 out_left_j idle s g q e = absurd cc
 out_left_j asking s g q e = absurd cc
 out_left_j asked s g q e = absurd cc
@@ -46,7 +46,7 @@ out_left_j (finished t c) s g q e = tt
 out_left_j (parted t c) s g q e = tt
 out_left_j (cancelled t c) s g q e = tt
 
-inp_idle_j : (j : Joint) (s g : List Item) → Queues j false → (wire_of j s g).out ≡ Unpulled → (wire_of j s g).inp ≡ Idle
+inp_idle_j : (j : Joint) (s g : List Item) → Queues j false → (joint_wire j s g).out ≡ Unpulled → (joint_wire j s g).inp ≡ Idle
 inp_idle_j idle s g q e = refl
 inp_idle_j asking s g q e = cc
 inp_idle_j asked s g q e = cc

@@ -5,7 +5,7 @@ use Rattle.std.proofs.lemmas.Bool.Decides.{nat_tests}
 use Rattle.elem_core.specs.Items.{elements}
 use Rattle.elem_core.specs.declared.item.Item.{Item}
 use Rattle.port_core.specs.Joint.{IsSound}
-use Rattle.port_core.specs.Ring.{is_waiting}
+use Rattle.port_core.specs.Ring.{is_queued}
 use Rattle.port_core.specs.View.{View}
 use Rattle.wire_core.specs.Counts.{spent}
 use Rattle.stream_model.specs.declared.outcome.WireCount.{WireCount}
@@ -181,7 +181,7 @@ module _ {N : Type 0} (port_state : N → View → Type 0) (law : N → N → Vi
 
   -- what a connection costs
   abbrev spent_at : ℕ → ℕ → ℕ
-  spent_at b q = spent (wire_at (nets b) q).wire (is_waiting (nets b).queue q)
+  spent_at b q = spent (wire_at (nets b) q).wire (is_queued (nets b).queue q)
 
   abbrev near_cost : ℕ → ℕ
   near_cost u = spent_at (s.near u).island (s.near u).at
@@ -221,17 +221,17 @@ module _ {N : Type 0} (port_state : N → View → Type 0) (law : N → N → Vi
   wire_units : (u : ℕ) → u < length g.wires → ((near_cost u + if_lane (lane u) (far_cost u)) + if_lane (lane u) (cost u)) + 1 ≤ units_of (lane u) (sent_at (picture_counts all g) u)
   wire_units u h = let v = get_there g.wires u h in rw (sent_there u h, lane_there g.wires u v.0 v.1) (by v.0 v.1 v.0.lane refl)
     where
-      near_sound : IsSound (all.near u).wire (is_waiting (nets (s.near u).island).queue (s.near u).at)
+      near_sound : IsSound (all.near u).wire (is_queued (nets (s.near u).island).queue (s.near u).at)
       near_sound = (settled (s.near u).island).sound (s.near u).at (near_there g nets s covers u h)
 
-      far_sound : IsSound (all.far u).wire (is_waiting (nets (s.far u).island).queue (s.far u).at)
+      far_sound : IsSound (all.far u).wire (is_queued (nets (s.far u).island).queue (s.far u).at)
       far_sound = (settled (s.far u).island).sound (s.far u).at (far_there g nets s covers u h)
 
       by : (v : Edge) → slice_get g.wires u ≡ Some v → (l : Option ℕ) → v.lane ≡ l → ((near_cost u + if_lane l (far_cost u)) + if_lane l (cost u)) + 1 ≤ units_of l (elements (all.near u).wire.sent)
-      by v e None is = let c = connection_cost (all.near u).wire (is_waiting (nets (s.near u).island).queue (s.near u).at) near_sound in omega (arith, c)
+      by v e None is = let c = connection_cost (all.near u).wire (is_queued (nets (s.near u).island).queue (s.near u).at) near_sound in omega (arith, c)
       by v e (Some z) is =
           let k = lanes u v z e is in
-          let c = paid z (all.near u) (all.far u) (is_waiting (nets (s.near u).island).queue (s.near u).at) (is_waiting (nets (s.far u).island).queue (s.far u).at) (asked u) near_sound far_sound k.0 in
+          let c = paid z (all.near u) (all.far u) (is_queued (nets (s.near u).island).queue (s.near u).at) (is_queued (nets (s.far u).island).queue (s.far u).at) (asked u) near_sound far_sound k.0 in
           let same = k.1 in
           omega (arith, c, same)
 

@@ -55,7 +55,7 @@ use Rattle.blue_walks.specs.Forest.{wiring}
 use Rattle.plug_core.specs.declared.head.PlugHead.{PlugHead}
 use Rattle.materializer.specs.Fit.{CanRun}
 use Rattle.materializer.specs.Files.{output_of, inputs_of_nodes, outputs_of_nodes, is_sink}
-use Rattle.materializer.specs.Graphs.{graph_node, graph_of, plain_chain}
+use Rattle.materializer.specs.Graphs.{graph_node, graph_of, graph_chain}
 use Rattle.run_files.specs.Names.{drain_names}
 use Rattle.run_type_laws.specs.Checked.{PassesRules}
 use Rattle.run_type_laws.specs.Plugs.{KeepsPlugTypes}
@@ -243,7 +243,7 @@ module _ {S D : Type 0} (L B : Type 0) (sources : S → SourceState) (drains : D
       → (k : ℕ) (n : graph.Node) → slice_get g.nodes k ≡ Some n → n.kind ≡ kind.Ignore → (first : Ignorer) × ((now : Ignorer) × IsIgnorerAt a k first now)
 
   abbrev FitsLaw : Type 0
-  FitsLaw = (b : Blueprint) (plugs : List PlugHead) (taken : List (List ℕ)) (g : Graph) → IsFit b plugs taken → g.nodes ≡ map graph_node b.nodes.items → g.wires ≡ blueprint_wires b → g.chains ≡ map plain_chain b.chains.items
+  FitsLaw = (b : Blueprint) (plugs : List PlugHead) (taken : List (List ℕ)) (g : Graph) → IsFit b plugs taken → g.nodes ≡ map graph_node b.nodes.items → g.wires ≡ blueprint_wires b → g.chains ≡ map graph_chain b.chains.items
       → PassesRules plugs b.chains.items b.nodes.items g
 
   abbrev TypesLaw : Type 0

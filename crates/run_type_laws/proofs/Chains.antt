@@ -24,7 +24,7 @@ use Rattle.blue_rules.specs.declared.typed.Typed.{Typed}
 use Rattle.blue_rules.specs.declared.typed.Typed.TheVariants.{Gives, Clashes, TooDeep}
 use Rattle.blue_rules.specs.declared.want.Want.TheVariants.{Is}
 use Rattle.std.proofs.lemmas.Cmp.{nat_list_eq_equiv}
-use Rattle.materializer.specs.Graphs.{plain_chain as declared_chain}
+use Rattle.materializer.specs.Graphs.{graph_chain as declared_chain}
 use Rattle.line_chain.specs.Line.{model_step}
 use Rattle.run_type_laws.specs.Kinds.{is_known, chain_in, StepsTake}
 use Rattle.run_type_laws.specs.Plugs.{KeepsPlugTypes}

@@ -12,7 +12,7 @@ use Rattle.blue_rules.specs.declared.spot.Spot.TheVariants as at
 use Rattle.blue_check.specs.declared.fault.CheckFault.TheVariants.{NoSuchPort, PortTwice, NoSuchPlug, PlugTwice, BadSize, TooDeep}
 use Rattle.blue_check.specs.Fitness.{IsFit, name_at, open_fault, clash_fault, names_fault, ports_fault, plugs_fault, sizes_fault, types_fault}
 use Rattle.blue_check.specs.Wires.{blueprint_wires}
-use Rattle.materializer.specs.Graphs.{graph_node, plain_chain}
+use Rattle.materializer.specs.Graphs.{graph_node, graph_chain}
 use Rattle.run_type_laws.specs.Checked.{PassesRules}
 use Rattle.run_type_laws.proofs.Rules.{none_parts}
 
@@ -41,7 +41,7 @@ groups b plugs taken fit =
     let four = none_parts (sizes_fault chains nodes b.wires.items) types three.1 in
     record { ports = two.0; handed = three.0; sizes = four.0; types = four.1 }
 
-pub fit_passes : (b : Blueprint) (plugs : List PlugHead) (taken : List (List ℕ)) (g : Graph) → IsFit b plugs taken → g.nodes ≡ map graph_node b.nodes.items → g.wires ≡ blueprint_wires b → g.chains ≡ map plain_chain b.chains.items
+pub fit_passes : (b : Blueprint) (plugs : List PlugHead) (taken : List (List ℕ)) (g : Graph) → IsFit b plugs taken → g.nodes ≡ map graph_node b.nodes.items → g.wires ≡ blueprint_wires b → g.chains ≡ map graph_chain b.chains.items
     → PassesRules plugs b.chains.items b.nodes.items g
 fit_passes b plugs taken g fit nodes_are wires_are chains_are =
     let nodes = b.nodes.items in

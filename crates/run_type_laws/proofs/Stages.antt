@@ -29,7 +29,7 @@ use Rattle.blue_rules.specs.declared.want.Want.TheVariants.{Is, AnyPair}
 use Rattle.blue_rules.specs.FnTypes.{map_want, map_gives, pred_want, left_type, right_type}
 use Rattle.blue_rules.specs.Rounds.{half_type}
 use Rattle.blue_rules.specs.StageTypes.{source_type, stage_typed, parted, keyed, chain_typed, chain_named}
-use Rattle.materializer.specs.Graphs.{plain_chain as declared_chain}
+use Rattle.materializer.specs.Graphs.{graph_chain as declared_chain}
 use Rattle.line_chain.specs.Line.{model_step}
 use Rattle.run_type_laws.specs.Kinds.{joining, single, shape_of, is_known}
 use Rattle.run_type_laws.specs.Plugs.{KeepsPlugTypes}

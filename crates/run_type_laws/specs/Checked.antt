@@ -15,7 +15,7 @@ use Rattle.blue_rules.specs.Rounds.{settled, type_on, type_clash, too_deep}
 use Rattle.blue_rules.specs.Sizes.{node_wrong}
 use Rattle.run_type_laws.specs.Kinds.{is_known, function_want, chain_in, StepsTake}
 use Rattle.run_type_laws.specs.Types.{AllTyped, TakesSort}
-use Rattle.materializer.specs.Graphs.{graph_node, plain_chain}
+use Rattle.materializer.specs.Graphs.{graph_node, graph_chain}
 
 -- a plug that a step of a chain names is handed in: so it is where the rule on plugs is not broken
 pub record HasKnownSteps (plugs : List PlugHead) (chains : List ChainDecl) : Type 0 where
@@ -25,7 +25,7 @@ module _ (plugs : List PlugHead) (chains : List ChainDecl) (nodes : List Node) (
   -- the graph has these nodes and chains, and no rule on plugs, ports, sizes of nodes or types is broken
   pub record PassesRules : Type 0 where
     pub nodes_are : g.nodes ≡ map graph_node nodes
-    pub chains_are : g.chains ≡ map plain_chain chains
+    pub chains_are : g.chains ≡ map graph_chain chains
     pub no_unknown : unknown_plug plugs chains nodes ≡ None
     pub no_missing : port_missing nodes g.wires ≡ None
     pub no_twice : port_twice g.wires ≡ None

@@ -37,7 +37,7 @@ ghost use Rattle.blue_rules.specs.Rounds.{half_type};
 ghost use Rattle.blue_rules.specs.StageTypes.{source_type, stage_typed};
 ghost use Rattle.blue_check.specs.Fitness.{IsFit};
 ghost use Rattle.blue_check.specs.Wires.{blueprint_wires};
-ghost use Rattle.materializer.specs.Graphs.{graph_node, plain_chain};
+ghost use Rattle.materializer.specs.Graphs.{graph_node, graph_chain};
 ghost use Rattle.run_type_laws.specs.Checked.{PassesRules, HasKnownSteps, CarriesType};
 ghost use Rattle.run_type_laws.specs.Kinds.{is_known, shape_of, joining, single};
 ghost use Rattle.run_type_laws.specs.Plugs.{KeepsPlugTypes};
@@ -76,7 +76,7 @@ pub fn functions_meet_their_types()
 pub fn stages_keep_types()
     ensures source { (g : Graph) (w : World) (node : ℕ) (d : Decider) (is : List Outlook) (k : Kind) (t : Sort) → source_type k ≡ Some t → (p : ℕ) → AllTyped t (node_outlook g w node k d is p).list }
     ensures single { (g : Graph) (w : World) (node : ℕ) (d : Decider) (o : Outlook) (plugs : List PlugHead) (chains : List ChainDecl) (k : Kind) (t u : Sort) → KeepsPlugTypes plugs w.book
-        → g.chains ≡ map plain_chain chains → HasKnownSteps plugs chains → is_known plugs k ≡ true → shape_of k ≡ single
+        → g.chains ≡ map graph_chain chains → HasKnownSteps plugs chains → is_known plugs k ≡ true → shape_of k ≡ single
         → stage_typed plugs chains k t ≡ Gives u → AllTyped t o.list → (p : ℕ) → AllTyped (half_type k p u) (node_outlook g w node k d (o ∷ []) p).list }
     ensures joining { (g : Graph) (w : World) (node : ℕ) (d : Decider) (is : List Outlook) (k : Kind) (t : Sort) → shape_of k ≡ joining → OutlooksTyped t is → (p : ℕ) → AllTyped t (node_outlook g w node k d is p).list }
     ensures zip { (g : Graph) (w : World) (node : ℕ) (d : Decider) (o r : Outlook) (t u : Sort) → AllTyped t o.list → AllTyped u r.list → (p : ℕ) → AllTyped (pair_type t u) (node_outlook g w node kind.Zip d (o ∷ r ∷ []) p).list }
@@ -84,7 +84,7 @@ pub fn stages_keep_types()
 
 /// A graph of a blueprint that breaks no rule passes the rules that the laws below rest on.
 pub fn fit_blueprints_pass_the_rules()
-    ensures { (b : Blueprint) (plugs : List PlugHead) (taken : List (List ℕ)) (g : Graph) → IsFit b plugs taken → g.nodes ≡ map graph_node b.nodes.items → g.wires ≡ blueprint_wires b → g.chains ≡ map plain_chain b.chains.items
+    ensures { (b : Blueprint) (plugs : List PlugHead) (taken : List (List ℕ)) (g : Graph) → IsFit b plugs taken → g.nodes ≡ map graph_node b.nodes.items → g.wires ≡ blueprint_wires b → g.chains ≡ map graph_chain b.chains.items
         → PassesRules plugs b.chains.items b.nodes.items g }
 {}
 

@@ -1,5 +1,6 @@
 -- Each call of a stage with substreams keeps the law of its output and of its moves.
 use Rattle.std.specs.Prelude.{Result, OnOk, option_to_list}
+use Rattle.stage_law.specs.Fans.{untagged}
 use Rattle.std.specs.Option.{unwrap_or}
 use Rattle.std.proofs.Common.{◌≡◌, ◌≢◌, ℕ, zero, suc, ◌+◌, Bool, true, false, inl, inr, List, [], ◌∷◌, ◌++◌, length, take, Option, Some, None, Ok, Err, refl, sym, ap, ◌∙◌, subst, append_assoc, append-nil}
 use Rattle.std.proofs.lemmas.List.{map-append, length-append}
@@ -34,7 +35,7 @@ use Rattle.stage_law.proofs.Ports.{in_unended, may_open}
 use Rattle.stage_core.specs.declared.phase.Phase.{Phase}
 use Rattle.stage_core.specs.declared.phase.Phase.TheVariants.{New, Open, Closed}
 use Rattle.chain_core.specs.Means.{Means}
-use Rattle.stage_sub.specs.Joined.{items, untag, joined_machine}
+use Rattle.stage_sub.specs.Joined.{untag, joined_machine}
 use Rattle.stage_sub.specs.KeptSubs.{opening_of}
 use Rattle.stage_sub.specs.Moves.{port_in, noted, added, arising}
 use Rattle.stage_sub.specs.States.{Logic, port_state, port_state_in, OwesIn, Owes, QueuesOutputs, Turned, Ready}
@@ -218,7 +219,7 @@ module _ {C : Type 0} (whole rest : C → ListFunction) (is_open : C → Bool) w
         }
 
     -- the moves are as many as the elements that were given
-    as_many : (ms : List ℕ) (g : List Tree) (gave : Option Tagged) → length ms ≡ length g → length (ms ++ ports_given (option_to_list gave)) ≡ length (g ++ items (option_to_list gave))
+    as_many : (ms : List ℕ) (g : List Tree) (gave : Option Tagged) → length ms ≡ length g → length (ms ++ ports_given (option_to_list gave)) ≡ length (g ++ untagged (option_to_list gave))
     as_many ms g None e = ap length (append-nil ms) ∙ e ∙ ap length (sym (append-nil g))
     as_many ms g (Some x) e = length-append ms (x.port ∷ []) ∙ ap (λ n. n + 1) e ∙ sym (length-append g (x.item ∷ []))
 
@@ -241,7 +242,7 @@ module _ {C : Type 0} (whole rest : C → ListFunction) (is_open : C → Bool) w
           → (y : Held Subs) → Owes rest is_open f yields new y → TurnAt j 0 call (owing x) (given_on 0 acts) y → QueuesOutputs (substreams yields o) call (owing x) old t.gave new → Later
       tells_owing x owes law counts queued r may allowed t y now turn queues =
           let next = call_law j (untag start) 0 call (owing x) y v took gave acts (one_input (port_state_in old.phase old.over old.asked old.pending) v.ins v.outs r) may allowed turn law in
-          let out = told_then gave (gave ++ given_on 0 acts) (given_on 0 acts) law.out_list (items (option_to_list t.gave)) law.out_end t.closing next.out_list next.out_end law.gave_is law.keeps.0 t.out next.gave_is refl in
+          let out = told_then gave (gave ++ given_on 0 acts) (given_on 0 acts) law.out_list (untagged (option_to_list t.gave)) law.out_end t.closing next.out_list next.out_end law.gave_is law.keeps.0 t.out next.gave_is refl in
           let grown : ready next.in_list next.in_end ≡ ready law.in_list law.in_end ++ arising (substreams yields o) call x.state =
           call_ready yields o start call v law.in_list next.in_list law.in_end next.in_end x.state took (first_call rest is_open call old v may r) may law.took_as law.took_is next.took_is (λ u. owed_state x law u) in
           let noted_now : (ms : List ℕ) → new.moves ≡ Some ms → Noted old.moves t.gave ms = λ ms e. noted_as old.moves t.gave ms (sym t.moves ∙ e) in
@@ -328,10 +329,10 @@ module _ {C : Type 0} (whole rest : C → ListFunction) (is_open : C → Bool) w
   at_ports m start h v x y a b law = rw (a, b) law
 
   -- what a new one owes is what it holds
-  owed_new : (f : ListFunction) (yields : List Tree → End → Given Tree) (l : Logic C) (x : Run Subs Tree) → l.phase ≡ New → Owes rest is_open f yields l (owing x) → x.gave ≡ items l.pending
+  owed_new : (f : ListFunction) (yields : List Tree → End → Given Tree) (l : Logic C) (x : Run Subs Tree) → l.phase ≡ New → Owes rest is_open f yields l (owing x) → x.gave ≡ untagged l.pending
   owed_new f yields l x n h = by_phase l.phase n h
     where
-      by_phase : (p : Phase) → p ≡ New → OwesIn rest is_open f yields p l (owing x) → x.gave ≡ items l.pending
+      by_phase : (p : Phase) → p ≡ New → OwesIn rest is_open f yields p l (owing x) → x.gave ≡ untagged l.pending
       by_phase New n h = h.0
       by_phase Open n h = cc
       by_phase Closed n h = cc
@@ -340,7 +341,7 @@ module _ {C : Type 0} (whole rest : C → ListFunction) (is_open : C → Bool) w
   unmoved_none None ms u e = cc
   unmoved_none (Some ks) ms u e = sym (same_Some ks ms e) ∙ u
 
-  no_items : (l : List Tagged) → items l ≡ [] → l ≡ []
+  no_items : (l : List Tagged) → untagged l ≡ [] → l ≡ []
   no_items [] e = refl
   no_items (x ∷ l) e = cc
 
@@ -348,9 +349,9 @@ module _ {C : Type 0} (whole rest : C → ListFunction) (is_open : C → Bool) w
       → Owes rest is_open f yields l (owing (untag start)) → TellsMachine rest is_open f yields start l l v [] []
   fresh_tells f yields start l v x y n u news a b owes =
       let o : Opening = opening_of l.how in
-      let none : start.gave ≡ [] = no_items start.gave (owed_new f yields l (untag start) n owes ∙ ap items news.none) in
+      let none : start.gave ≡ [] = no_items start.gave (owed_new f yields l (untag start) n owes ∙ ap untagged news.none) in
       let law : Law (joined_machine yields o) (untag start) (owing (untag start)) (in_at v 0) (out_at v 0) [] [] =
-      at_ports (joined_machine yields o) (untag start) (owing (untag start)) v x y a b (new_law (joined_machine yields o) (untag start) x y news.took_as news.gave_as (λ h. ap items none)) in
+      at_ports (joined_machine yields o) (untag start) (owing (untag start)) v x y a b (new_law (joined_machine yields o) (untag start) x y news.took_as news.gave_as (λ h. ap untagged none)) in
       let took = told_still [] [] [] unended law.in_list law.in_end refl law.took_is refl in
       let gave = told_still [] [] [] unended law.out_list law.out_end refl law.gave_is refl in
       let nothing : ready_of yields o start law.in_list law.in_end ≡ [] =

@@ -1,5 +1,6 @@
 -- An element that came to substreams is one step of the stage's machine.
 use Rattle.std.specs.Prelude.{Result, option_to_list}
+use Rattle.stage_law.specs.Fans.{untagged}
 use Rattle.std.proofs.Common.{◌≡◌, ℕ, ◌+◌, ◌≤◌, Bool, true, false, inl, inr, List, [], ◌∷◌, length, Option, Some, None, Ok, Err, refl, sym, ap, ◌∙◌, subst, arith}
 use Rattle.std.proofs.lemmas.Option.{same_Some}
 use Rattle.elem_core.specs.Tree.{Tree}
@@ -26,7 +27,7 @@ use Rattle.stage_core.specs.declared.phase.Phase.{Phase}
 use Rattle.stage_core.specs.declared.phase.Phase.TheVariants.{New, Open}
 use Rattle.chain_core.specs.Means.{Means}
 use Rattle.stage_sub.specs.Subs.{fault_in_model}
-use Rattle.stage_sub.specs.Joined.{items, untag, joined_machine}
+use Rattle.stage_sub.specs.Joined.{untag, joined_machine}
 use Rattle.stage_sub.specs.KeptSubs.{KeptSubs, opening_of, Keeps, TakesBy}
 use Rattle.stage_sub.specs.Moves.{noted, port_in}
 use Rattle.stage_sub.specs.States.{Logic, port_state, port_state_in, Owes, QueuesOutputs, Turned, cause_of_blame, answered, answer_acts, answer_gave}
@@ -156,9 +157,9 @@ module _ {C : Type 0} (rest : C → ListFunction) (is_open : C → Bool) (node n
       ),
     )
     goes s now subs (o ∷ os) sn st e sp =
-        let z : Run Subs Tree = record { gave = items os; state = going (goes_to yields s subs) } in
-        let whole : feed machine (at s) t ≡ record { gave = o.item ∷ items os; state = going (goes_to yields s subs) } = fed s _ e in
-        let long : length (items os) ≤ length (feed machine (at s) t).gave = subst (λ (x : Run Subs Tree). length (items os) ≤ length x.gave) (sym whole) (omega arith) in (
+        let z : Run Subs Tree = record { gave = untagged os; state = going (goes_to yields s subs) } in
+        let whole : feed machine (at s) t ≡ record { gave = o.item ∷ untagged os; state = going (goes_to yields s subs) } = fed s _ e in
+        let long : length (untagged os) ≤ length (feed machine (at s) t).gave = subst (λ (x : Run Subs Tree). length (untagged os) ≤ length x.gave) (sym whole) (omega arith) in (
           owing z,
           (
             (refl, (goes_to yields s subs, (refl, (sn, (ap (λ k. k + 1) st, sp))))),
@@ -223,7 +224,7 @@ module _ {C : Type 0} (rest : C → ListFunction) (is_open : C → Bool) (node n
   closing_by None = unended
   closing_by (Some b) = failed (cause_of_blame node (n + 1) b)
 
-  out_by : (now : KeptSubs C) (after : List Tagged) (b : Option Blame) → given_on 0 (acts_then now after b) ≡ told (items (option_to_list (gave_then now after b))) (closing_by b)
+  out_by : (now : KeptSubs C) (after : List Tagged) (b : Option Blame) → given_on 0 (acts_then now after b) ≡ told (untagged (option_to_list (gave_then now after b))) (closing_by b)
   out_by now [] None = refl
   out_by now (o ∷ os) None = refl
   out_by now after (Some b) = refl

@@ -1,5 +1,6 @@
 -- What a stage with substreams knows of its ports: where it is open, and that it has nothing to do there.
 use Rattle.std.specs.Prelude.{slice_index_or}
+use Rattle.stage_law.specs.Fans.{untagged}
 use Rattle.std.proofs.Common.{◌≡◌, ◌⊎◌, inl, inr, Bool, true, false, List, [], ◌∷◌, ◌++◌, refl, sym, ap, ◌∙◌, subst, append-nil}
 use Rattle.elem_core.specs.Tree.{Tree}
 use Rattle.elem_core.specs.declared.item.Item.{Item}
@@ -22,7 +23,6 @@ use Rattle.stage_core.proofs.OneOnes.{at_first, first_port}
 use Rattle.stage_linear.proofs.Rows.{may_come, closed_ports}
 use Rattle.stage_core.specs.declared.phase.Phase.{Phase}
 use Rattle.stage_core.specs.declared.phase.Phase.TheVariants.{New, Open, Closed}
-use Rattle.stage_sub.specs.Joined.{items}
 use Rattle.stage_sub.specs.Handling.{SubFresh, SubPortState, GaveAll}
 use Rattle.stage_sub.specs.States.{Logic, port_state, port_state_in, StateIs, OwesIn, Owes, Ready}
 
@@ -79,7 +79,7 @@ module _ {C : Type 0} (rest : C → ListFunction) (is_open : C → Bool) (f : Li
   waiting x none law = subst (λ (k : List Tree). (law : Law m start (owing (record { gave = k; state = x.state })) Pulled outlet.Available took gave) → OwnRests m start true Pulled outlet.Available law.in_list law.out_list) (sym none) (λ law. waiting_rests m start true x.state took gave law) law
 
   waiting_held : (l : Logic C) (h : Held Subs) → OwesIn rest is_open f yields Open l h → l.pending ≡ [] → (law : Law m start h Pulled outlet.Available took gave) → OwnRests m start true Pulled outlet.Available law.in_list law.out_list
-  waiting_held l (owing x) o none law = waiting x (o.0 ∙ ap items none) law
+  waiting_held l (owing x) o none law = waiting x (o.0 ∙ ap untagged none) law
   waiting_held l shut o none law = absurd o
 
   at_ports : (l : Logic C) (h : Held Subs) (p : Phase) (over asked : Bool) (x : InView) (y : OutView) → (p ≡ New → ⊥) → OwesIn rest is_open f yields p l h → port_state_in p over asked l.pending x y → (law : Law m start h x y took gave) → OwnRests m start true x y law.in_list law.out_list
@@ -135,7 +135,7 @@ module _ {C : Type 0} (rest : C → ListFunction) (is_open : C → Bool) (f : Li
   gave_held l shut w o none law = absurd o
   gave_held l (owing x) w o none law =
       let s = subst (λ (b : Bool). StateIs rest is_open f yields b l x.state) w o.1 in
-      gave_run x s.0 (o.0 ∙ ap items none) s.1.0 law
+      gave_run x s.0 (o.0 ∙ ap untagged none) s.1.0 law
 
   gave_ports : (l : Logic C) (h : Held Subs) (p : Phase) (over asked : Bool) (x : InView) (y : OutView) → (p ≡ New → ⊥) → l.over ≡ over → OwesIn rest is_open f yields p l h → port_state_in p over asked l.pending x y → x ≡ Pulled → (law : Law m start h x y took gave) → GaveAll m start y law.in_list law.out_list
   gave_ports l h New over asked x y n w o r e law = absurd (n refl)

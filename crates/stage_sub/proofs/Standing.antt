@@ -1,5 +1,6 @@
 -- What a stage with substreams gave is what the model lets it: joined by `concat`, and joined by `merge` by its moves.
 use Rattle.std.proofs.Common.{◌≡◌, ℕ, ◌≤◌, Bool, List, length, take, Some, refl, sym, ap, ◌∙◌, subst, arith}
+use Rattle.stage_law.specs.Fans.{untagged}
 use Rattle.std.proofs.lemmas.List.{length-map, take-map}
 use Rattle.elem_core.specs.Prefix.{IsPrefix}
 use Rattle.elem_core.specs.Tree.{Tree}
@@ -13,7 +14,7 @@ use Rattle.stream_model.specs.Machine.{Run, Given, run, close, Fails, Stands}
 use Rattle.stream_model.specs.Outlook.{End, unended, ended, failed}
 use Rattle.stream_model.specs.Substreams.{Opening, Subs, substreams, begin_subs, by_sub, sub_count, MergedStands}
 use Rattle.stage_law.proofs.Whole.{stage_stands}
-use Rattle.stage_sub.specs.Joined.{items, untag, joined_machine}
+use Rattle.stage_sub.specs.Joined.{untag, joined_machine}
 use Rattle.stage_sub.specs.KeptSubs.{opening_of}
 use Rattle.stage_sub.specs.Handling.{ports_given, ready_of, TellsMachine}
 use Rattle.stage_sub.specs.States.{Logic}
@@ -36,7 +37,7 @@ module _ (yields : List Tree → End → Given Tree) (node : ℕ) (o : Opening) 
         ready = all;
         are = refl;
         finds = subst (λ (k : List ℕ). Finds k (by_sub yields (sub_count yields all) 0 all)) same (found_by_moves yields gave all first);
-        gave = sym part ∙ ap items (sym (given_by_moves yields gave all first)) ∙ ap (λ (k : List ℕ). items (merge_of k (by_sub yields (sub_count yields all) 0 all))) same;
+        gave = sym part ∙ ap untagged (sym (given_by_moves yields gave all first)) ∙ ap (λ (k : List ℕ). untagged (merge_of k (by_sub yields (sub_count yields all) 0 all))) same;
         ends = λ d. at_end f ms count stands d;
         fails = λ c d. at_failure f ms count stands c d;
       }
@@ -61,7 +62,7 @@ module _ (yields : List Tree → End → Given Tree) (node : ℕ) (o : Opening) 
 
 module _ {C : Type 0} (rest : C → ListFunction) (is_open : C → Bool) (f : ListFunction) (yields : List Tree → End → Given Tree) (node : ℕ) (first now : Logic C) (v : View) (took gave : List Item) where
   pub concat_stands : (t : TellsMachine rest is_open f yields (begin_subs yields node) first now v took gave)
-      → (g : List Tagged) × ((items g ≡ t.law.out_list) × Stands (substreams yields (opening_of first.how)) (begin_subs yields node) t.law.in_list t.law.in_end g t.law.out_end)
+      → (g : List Tagged) × ((untagged g ≡ t.law.out_list) × Stands (substreams yields (opening_of first.how)) (begin_subs yields node) t.law.in_list t.law.in_end g t.law.out_end)
   concat_stands t =
       stands_tagged yields (opening_of first.how) (begin_subs yields node) t.law.in_list t.law.in_end t.law.out_list t.law.out_end
       (stage_stands (joined_machine yields (opening_of first.how)) (untag (begin_subs yields node)) t.held (in_at v 0) (out_at v 0) took gave t.law)

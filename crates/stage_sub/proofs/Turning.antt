@@ -1,5 +1,6 @@
 -- The start, an ask and the end of the input, as steps of the stage's machine.
 use Rattle.std.proofs.Common.{◌≡◌, ℕ, Bool, true, false, inl, inr, List, [], ◌∷◌, ◌++◌, Option, Some, None, refl, sym, ap, ◌∙◌, subst, arith, append-nil}
+use Rattle.stage_law.specs.Fans.{untagged}
 use Rattle.std.specs.Prelude.{⊤, IsTrue}
 use Rattle.std.proofs.lemmas.List.{map-append}
 use Rattle.elem_core.specs.Tree.{Tree}
@@ -24,7 +25,7 @@ use Rattle.stage_core.specs.declared.phase.Phase.{Phase}
 use Rattle.stage_core.specs.declared.phase.Phase.TheVariants.{New, Open, Closed}
 use Rattle.chain_core.specs.Means.{Means}
 use Rattle.stage_sub.specs.Subs.{SubsReach, fault_in_model}
-use Rattle.stage_sub.specs.Joined.{items, untag_finish, joined_machine}
+use Rattle.stage_sub.specs.Joined.{untag_finish, joined_machine}
 use Rattle.stage_sub.specs.KeptSubs.{KeptSubs, opening_of, Keeps}
 use Rattle.stage_sub.specs.Moves.{noted, port_in, first_output, added, arising}
 use Rattle.stage_sub.specs.States.{Logic, port_state, port_state_in, StateIs, Owes, QueuesOutputs, Turned, cause_of_blame, pulled, pulled_acts, finished, finish_acts, finish_gave, cancel_acts}
@@ -111,15 +112,15 @@ module _ {C : Type 0} (whole rest : C → ListFunction) (is_open : C → Bool) (
     state_kept p q a b false l k st h = h
     state_kept p q a b true l k st h = h
 
-    gave_first : (x : Run Subs Tree) (o : Tagged) (os : List Tagged) → x.gave ≡ items (o ∷ os) → Emits (joined_machine yields (opening_of how)) x (item.Elem o.item ∷ []) (owing (record { gave = items os; state = x.state }))
+    gave_first : (x : Run Subs Tree) (o : Tagged) (os : List Tagged) → x.gave ≡ untagged (o ∷ os) → Emits (joined_machine yields (opening_of how)) x (item.Elem o.item ∷ []) (owing (record { gave = untagged os; state = x.state }))
     gave_first x o os e = (ap (λ (l : List Tree). told l unended) e, refl)
 
     asks_at : (p : List Tagged) (asked over : Bool) (x : Held Subs) → Owes rest is_open f yields (logic Open kept p asked over) x → Asks p asked over x
     asks_at [] asked over (owing x) h = (owing x, ((h.0, state_kept [] [] asked true over ms (noted ms None) x.state h.1), ((refl, refl), inl refl)))
-    asks_at (o ∷ os) asked false (owing x) h = (owing (record { gave = items os; state = x.state }), ((refl, h.1), (gave_first x o os h.0, inl (sym (append-nil (o ∷ os))))))
+    asks_at (o ∷ os) asked false (owing x) h = (owing (record { gave = untagged os; state = x.state }), ((refl, h.1), (gave_first x o os h.0, inl (sym (append-nil (o ∷ os))))))
     asks_at (o ∷ []) asked true (owing x) h =
         (shut, (tt, (subst (λ (k : Run Subs Tree). Emits (joined_machine yields (opening_of how)) k (item.Elem o.item ∷ item.Ended ∷ []) shut) (sym (ap (λ (l : List Tree). record { gave = l; state = x.state }) h.0 ∙ ap (λ (k : State Subs). record { gave = o.item ∷ []; state = k }) h.1)) (refl, refl), inl refl)))
-    asks_at (o ∷ u ∷ os) asked true (owing x) h = (owing (record { gave = items (u ∷ os); state = x.state }), ((refl, h.1), (gave_first x o (u ∷ os) h.0, inl (sym (append-nil (o ∷ u ∷ os))))))
+    asks_at (o ∷ u ∷ os) asked true (owing x) h = (owing (record { gave = untagged (u ∷ os); state = x.state }), ((refl, h.1), (gave_first x o (u ∷ os) h.0, inl (sym (append-nil (o ∷ u ∷ os))))))
     asks_at p asked over shut h = absurd h
 
   ask_at : (kept : KeptSubs C) (p : List Tagged) (asked over : Bool) → Turned whole rest is_open (pulls 0) (logic Open kept p asked over) (pulled_acts over p) (asked_then kept p asked over)
@@ -152,12 +153,12 @@ module _ {C : Type 0} (whole rest : C → ListFunction) (is_open : C → Bool) (
     Queue p x = p ≡ held ++ arising tagged_machine (arrives 0 item.Ended) x.state
 
     -- by what is held once the input has ended
-    seals : (p : List Tagged) (asked : Bool) (x : Run Subs Tree) → after machine x item.Ended ≡ record { gave = items p; state = done } → Queue p x → Ends p asked None x
+    seals : (p : List Tagged) (asked : Bool) (x : Run Subs Tree) → after machine x item.Ended ≡ record { gave = untagged p; state = done } → Queue p x → Ends p asked None x
     seals [] true x e q = (shut, (tt, (inl (subst (λ k. Emits machine k (item.Ended ∷ []) shut) (sym e) (refl, refl)), inl q)))
     seals [] false x e q = (shut, (tt, (inl (subst (λ k. Emits machine k (item.Ended ∷ []) shut) (sym e) (refl, refl)), inl q)))
-    seals (o ∷ os) false x e q = (owing (record { gave = items (o ∷ os); state = done }), ((refl, refl), (inl (subst (λ k. Emits machine k [] (owing (record { gave = items (o ∷ os); state = done }))) (sym e) (refl, refl)), inl q)))
+    seals (o ∷ os) false x e q = (owing (record { gave = untagged (o ∷ os); state = done }), ((refl, refl), (inl (subst (λ k. Emits machine k [] (owing (record { gave = untagged (o ∷ os); state = done }))) (sym e) (refl, refl)), inl q)))
     seals (o ∷ []) true x e q = (shut, (tt, (inl (subst (λ k. Emits machine k (item.Elem o.item ∷ item.Ended ∷ []) shut) (sym e) (refl, refl)), inl q)))
-    seals (o ∷ u ∷ os) true x e q = (owing (record { gave = items (u ∷ os); state = done }), ((refl, refl), (inl (subst (λ k. Emits machine k (item.Elem o.item ∷ []) (owing (record { gave = items (u ∷ os); state = done }))) (sym e) (refl, refl)), inl q)))
+    seals (o ∷ u ∷ os) true x e q = (owing (record { gave = untagged (u ∷ os); state = done }), ((refl, refl), (inl (subst (λ k. Emits machine k (item.Elem o.item ∷ []) (owing (record { gave = untagged (u ∷ os); state = done }))) (sym e) (refl, refl)), inl q)))
 
     abbrev of_fault : Subs → Option Fault → Finish Tagged
     of_fault s (Some v) = refuses (blame_end s (why_of v))
@@ -174,15 +175,15 @@ module _ {C : Type 0} (whole rest : C → ListFunction) (is_open : C → Bool) (
     cause_is s (AtElement w) e = ap (λ k. record { stage = k; nth = 0; why = w }) e
     cause_is s (AtEnd w) e = ap (λ k. record { stage = k; nth = 0; why = w }) e
 
-    ends : (after : List Tagged) (asked : Bool) (b : Option Blame) (x : Run Subs Tree) (s : Subs) → x.gave ≡ items held → x.state ≡ going s → s.node ≡ node
+    ends : (after : List Tagged) (asked : Bool) (b : Option Blame) (x : Run Subs Tree) (s : Subs) → x.gave ≡ untagged held → x.state ≡ going s → s.node ≡ node
         → SubsReach yields (λ k. ⊤) s.subs (end_all s.subs) b held after → Ends after asked b x
     ends after_ asked None x s g st sn h =
-        let k : Run Subs Tree = record { gave = items held; state = going s } in
-        let is : x ≡ k = ap (λ (l : List Tree). record { gave = l; state = x.state }) g ∙ ap (λ (q : State Subs). record { gave = items held; state = q }) st in
+        let k : Run Subs Tree = record { gave = untagged held; state = going s } in
+        let is : x ≡ k = ap (λ (l : List Tree). record { gave = l; state = x.state }) g ∙ ap (λ (q : State Subs). record { gave = untagged held; state = q }) st in
         let fin : sub_finish yields s ≡ adds (news yields 0 s.subs (end_all s.subs)) = finish_is s None h.0 in
-        let all : items held ++ items (news yields 0 s.subs (end_all s.subs)) ≡ items after_ = sym (map-append (λ (o : Tagged). o.item) held (news yields 0 s.subs (end_all s.subs))) ∙ ap items (sym h.1.0) in
-        let e : after machine k item.Ended ≡ record { gave = items after_; state = done } =
-        ap (λ (q : Finish Tagged). sealed_by machine (items held) (untag_finish q)) fin ∙ ap (λ (l : List Tree). record { gave = l; state = done }) all in
+        let all : untagged held ++ untagged (news yields 0 s.subs (end_all s.subs)) ≡ untagged after_ = sym (map-append (λ (o : Tagged). o.item) held (news yields 0 s.subs (end_all s.subs))) ∙ ap untagged (sym h.1.0) in
+        let e : after machine k item.Ended ≡ record { gave = untagged after_; state = done } =
+        ap (λ (q : Finish Tagged). sealed_by machine (untagged held) (untag_finish q)) fin ∙ ap (λ (l : List Tree). record { gave = l; state = done }) all in
         let arose : arising tagged_machine (arrives 0 item.Ended) x.state ≡ news yields 0 s.subs (end_all s.subs) = ap (λ (q : State Subs). arising tagged_machine (arrives 0 item.Ended) q) st ∙ ap added fin in
         seals after_ asked x (ap (λ (q : Run Subs Tree). after machine q item.Ended) is ∙ e) (h.1.0 ∙ ap (λ (l : List Tagged). held ++ l) (sym arose))
     ends after_ asked (Some b) x s g st sn h =

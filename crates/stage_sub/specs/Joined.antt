@@ -1,19 +1,17 @@
 -- The machine of substreams as one over elements: the numbers of its outputs' substreams left out.
 use Rattle.std.specs.Prelude.{List, map}
+use Rattle.stage_law.specs.Fans.{untagged}
 use Rattle.elem_core.specs.Tree.{Tree}
 use Rattle.stream_model.specs.Outlook.{End}
 use Rattle.stream_model.specs.Machine.{Run, Finish, adds, refuses, Machine, Given}
 use Rattle.stream_model.specs.FanIn.{Tagged}
 use Rattle.stream_model.specs.Substreams.{Opening, Subs, substreams}
 
-abbrev pub items : List Tagged → List Tree
-items l = map (λ x. x.item) l
-
 abbrev pub untag : Run Subs Tagged → Run Subs Tree
-untag x = record { gave = items x.gave; state = x.state }
+untag x = record { gave = untagged x.gave; state = x.state }
 
 abbrev pub untag_finish : Finish Tagged → Finish Tree
-untag_finish (adds l) = adds (items l)
+untag_finish (adds l) = adds (untagged l)
 untag_finish (refuses c) = refuses c
 
 -- what substreams give, in the order in which it arises

@@ -1,5 +1,6 @@
 -- The state of a stage that splits, what it still owes, and its port state: what it knows of its ports.
 use Rattle.std.specs.Prelude.{◌≡◌, ◌≢◌, ◌⊎◌, ◌<◌, ⊤, ℕ, Bool, true, false, List, [], ◌∷◌, ◌++◌, length, Option, Some, None, option_to_list}
+use Rattle.stage_law.specs.Fans.{untagged}
 use Rattle.elem_core.specs.Tree.{Tree}
 use Rattle.elem_core.specs.declared.why.Cause.{Cause}
 use Rattle.port_core.specs.declared.view.InView.{InView}
@@ -23,7 +24,7 @@ use Rattle.stage_core.specs.declared.phase.Phase.{Phase}
 use Rattle.stage_core.specs.declared.phase.Phase.TheVariants.{New, Open, Closed}
 use Rattle.chain_core.specs.Means.{Means}
 use Rattle.stage_sub.specs.KeptSubs.{KeptSubs, opening_of, Keeps, MayCallKept}
-use Rattle.stage_sub.specs.Joined.{items, joined_machine}
+use Rattle.stage_sub.specs.Joined.{joined_machine}
 use Rattle.stage_sub.specs.Moves.{noted, port_in, first_output, arising}
 use Rattle.stage_sub.specs.declared.opening.OpenBy.{OpenBy}
 use Rattle.stage_sub.specs.declared.blame.Blame.{Blame}
@@ -83,8 +84,8 @@ module _ {C : Type 0} (rest : C → ListFunction) (is_open : C → Bool) (f : Li
   StateIs true l st = st ≡ done
 
   abbrev pub OwesIn : Phase → Logic C → Held Subs → Type 0
-  OwesIn New l (owing x) = (x.gave ≡ items l.pending) × StateIs l.over l x.state
-  OwesIn Open l (owing x) = (x.gave ≡ items l.pending) × StateIs l.over l x.state
+  OwesIn New l (owing x) = (x.gave ≡ untagged l.pending) × StateIs l.over l x.state
+  OwesIn Open l (owing x) = (x.gave ≡ untagged l.pending) × StateIs l.over l x.state
   OwesIn Closed l shut = ⊤
   OwesIn _ _ _ = ⊥
 
@@ -103,7 +104,7 @@ QueuesOutputs m call (owing x) old gave new = (option_to_list gave ++ new.pendin
 pub record Turned {C : Type 0} (whole rest : C → ListFunction) (is_open : C → Bool) (call : Call) (old : Logic C) (acts : List Act) (new : Logic C) : Type 0 where
   pub gave : Option Tagged
   pub closing : End
-  pub out : given_on 0 acts ≡ told (items (option_to_list gave)) closing
+  pub out : given_on 0 acts ≡ told (untagged (option_to_list gave)) closing
   pub turn : (f : ListFunction) → Same (whole old.chain) f → (yields : List Tree → End → Given Tree) → Means yields f → (x : Held Subs) → Owes rest is_open f yields old x
       → (y : Held Subs) × (Owes rest is_open f yields new y × (TurnAt (joined_machine yields (opening_of old.how)) 0 call x (given_on 0 acts) y × QueuesOutputs (substreams yields (opening_of old.how)) call x old gave new))
   pub moves : new.moves ≡ noted old.moves (port_in gave)

@@ -1,5 +1,6 @@
 // Laws of the stages with substreams: each function has no body, and its contract is the law.
 ghost use Rattle.std.specs.Prelude.{◌≡◌, ◌≢◌, ℕ, true, List, Option, Some};
+ghost use Rattle.stage_law.specs.Fans.{untagged};
 ghost use Rattle.elem_core.specs.Tree.{Tree};
 ghost use Rattle.elem_core.specs.declared.item.Item.{Item};
 ghost use Rattle.port_core.specs.ListFunction.{ListFunction};
@@ -13,7 +14,7 @@ ghost use Rattle.stream_model.specs.Substreams.{Subs, substreams, begin_subs, Me
 ghost use Rattle.stage_law.specs.Held.{owing};
 ghost use Rattle.stage_law.specs.OwnPorts.{OwnRests};
 ghost use Rattle.stage_core.specs.declared.phase.Phase.TheVariants.{New, Open};
-ghost use Rattle.stage_sub.specs.Joined.{items, untag, joined_machine};
+ghost use Rattle.stage_sub.specs.Joined.{untag, joined_machine};
 ghost use Rattle.stage_sub.specs.KeptSubs.{opening_of};
 ghost use Rattle.stage_sub.specs.Handling.{SubPortState, TellsMachine, GaveAll};
 ghost use Rattle.stage_sub.specs.States.{Logic, port_state, Owes, begun};
@@ -25,7 +26,7 @@ use port_core::chain::Chain;
 /// order in which their outputs arise, and by its moves, where they are merged.
 pub fn substreams_stand<C: Chain>()
     ensures concat { (f : ListFunction) (yields : List Tree → End → Given Tree) (node : ℕ) (first now : Logic C) (v : View) (took gave : List Item) → (t : TellsMachine C.rest C.is_open f yields (begin_subs yields node) first now v took gave)
-        → (g : List Tagged) × ((items g ≡ t.law.out_list) × Stands (substreams yields (opening_of first.how)) (begin_subs yields node) t.law.in_list t.law.in_end g t.law.out_end) }
+        → (g : List Tagged) × ((untagged g ≡ t.law.out_list) × Stands (substreams yields (opening_of first.how)) (begin_subs yields node) t.law.in_list t.law.in_end g t.law.out_end) }
     ensures merge { (f : ListFunction) (yields : List Tree → End → Given Tree) (node : ℕ) (first now : Logic C) (v : View) (took gave : List Item) → (t : TellsMachine C.rest C.is_open f yields (begin_subs yields node) first now v took gave)
         → (ms : List ℕ) → now.moves ≡ Some ms → MergedStands yields node (opening_of first.how) ms t.law.in_list t.law.in_end t.law.out_list t.law.out_end }
 {}

@@ -10,7 +10,7 @@ use Rattle.port_core.specs.View.{IsInOpen, IsOutOpen}
 use Rattle.port_core.specs.Wire.{JointPorts, pull_of, push_of, close_of, cancel_of, end_item, delivery_of, after_delivery, again, Delivery, nothing, pull, cancel, arrived}
 use Rattle.port_core.specs.Decoding.{can_pull}
 use Rattle.port_core.specs.declared.act.Act.TheVariants.{Pull, Push}
-use Rattle.port_core.specs.Joint.{Joint, idle, asking, asked, moving, ending, closing, leaving, finished, parted, cancelled, wire_of, Queues, IsSound}
+use Rattle.port_core.specs.Joint.{Joint, idle, asking, asked, moving, ending, closing, leaving, finished, parted, cancelled, joint_wire, Queues, IsSound}
 use Rattle.port_core.specs.declared.view.InView.{InView}
 use Rattle.port_core.specs.declared.view.InView.TheVariants.{Idle, Pulled, Finished, Cancelled}
 use Rattle.port_core.specs.declared.view.OutView.{OutView}
@@ -59,7 +59,7 @@ free_le false = omega arith
 
 -- a delivered event raises what the wire has cost
 spent_deliver : (j : Joint) (s g : List Item) → Queues j true
-    → spent (wire_of j s g) true + 1 ≤ spent (after_delivery (delivery_of (wire_of j s g)) (wire_of j s g)) (again (delivery_of (wire_of j s g)))
+    → spent (joint_wire j s g) true + 1 ≤ spent (after_delivery (delivery_of (joint_wire j s g)) (joint_wire j s g)) (again (delivery_of (joint_wire j s g)))
 spent_deliver idle s g r = cc
 spent_deliver asking s g r = omega arith
 spent_deliver asked s g r = cc
@@ -79,7 +79,7 @@ spent_deliver (finished t c) s g r = omega arith
 spent_deliver (parted t c) s g r = omega arith
 spent_deliver (cancelled t c) s g r = omega arith
 
-spent_push : (x : Tree) (j : Joint) (s g : List Item) → (wire_of j s g).out ≡ outlet.Available → (q : Bool) → spent (wire_of j s g) q ≤ spent (push_of x (wire_of j s g)) true
+spent_push : (x : Tree) (j : Joint) (s g : List Item) → (joint_wire j s g).out ≡ outlet.Available → (q : Bool) → spent (joint_wire j s g) q ≤ spent (push_of x (joint_wire j s g)) true
 spent_push x idle s g e q = cc
 spent_push x asking s g e q = cc
 spent_push x asked s g e q = omega (arith, elements_elem s x)
@@ -92,7 +92,7 @@ spent_push x (finished t c) s g e q = cc
 spent_push x (parted t c) s g e q = cc
 spent_push x (cancelled t c) s g e q = cc
 
-spent_close : (c : Option Cause) (j : Joint) (s g : List Item) → IsOutOpen (wire_of j s g).out → (q : Bool) → spent (wire_of j s g) q ≤ spent (close_of c (wire_of j s g)) true
+spent_close : (c : Option Cause) (j : Joint) (s g : List Item) → IsOutOpen (joint_wire j s g).out → (q : Bool) → spent (joint_wire j s g) q ≤ spent (close_of c (joint_wire j s g)) true
 spent_close c idle s g e q = omega (arith, elements_end s c)
 spent_close c asking s g e q = omega (arith, elements_end s c)
 spent_close None asked s g e q = omega (arith, elements_ended s)
@@ -106,7 +106,7 @@ spent_close c (finished t d) s g e q = absurd e
 spent_close c (parted t d) s g e q = absurd e
 spent_close c (cancelled t d) s g e q = absurd e
 
-spent_cancel : (j : Joint) (s g : List Item) → IsInOpen (wire_of j s g).inp → (q : Bool) → spent (wire_of j s g) q ≤ spent (cancel_of (wire_of j s g)) true
+spent_cancel : (j : Joint) (s g : List Item) → IsInOpen (joint_wire j s g).inp → (q : Bool) → spent (joint_wire j s g) q ≤ spent (cancel_of (joint_wire j s g)) true
 spent_cancel idle s g e q = omega arith
 spent_cancel asking s g e q = omega arith
 spent_cancel asked s g e q = omega arith
@@ -119,7 +119,7 @@ spent_cancel (finished t c) s g e q = absurd e
 spent_cancel (parted t c) s g e q = absurd e
 spent_cancel (cancelled t c) s g e q = absurd e
 
-spent_pull : (j : Joint) (s g : List Item) (q : Bool) → (wire_of j s g).inp ≡ Idle → spent (wire_of j s g) q ≤ spent (pull_of (wire_of j s g)) true
+spent_pull : (j : Joint) (s g : List Item) (q : Bool) → (joint_wire j s g).inp ≡ Idle → spent (joint_wire j s g) q ≤ spent (pull_of (joint_wire j s g)) true
 spent_pull idle s g q e = omega arith
 spent_pull asking s g q e = cc
 spent_pull asked s g q e = cc

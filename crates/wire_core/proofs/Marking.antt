@@ -9,7 +9,7 @@ use Rattle.elem_core.specs.declared.item.Item.TheVariants as item
 use Rattle.port_core.specs.Connection.{quiet, pulled, ready, pushed, Connection}
 use Rattle.port_core.specs.Decoding.{is_open, can_pull, can_push}
 use Rattle.port_core.specs.Wire.{JointPorts, pull_of, push_of, close_of, cancel_of, end_item, Delivery, nothing, pull, cancel, arrived, delivery_of, after_delivery}
-use Rattle.port_core.specs.Joint.{Joint, idle, asking, asked, moving, ending, closing, leaving, finished, parted, cancelled, wire_of, Queues, IsSound}
+use Rattle.port_core.specs.Joint.{Joint, idle, asking, asked, moving, ending, closing, leaving, finished, parted, cancelled, joint_wire, Queues, IsSound}
 use Rattle.port_core.specs.declared.view.OutView.TheVariants.{Available}
 use Rattle.wire_core.specs.Cell.{WireState, new_cell}
 use Rattle.wire_core.specs.Marks.{IsMarked, wanted, Grown}
@@ -39,7 +39,7 @@ pull_by w b false e m = rw e (record { unclosed = m.unclosed; known = m.known; c
 pub pull_marked : (w : JointPorts) (b : Bool) → IsMarked (cell w b) → IsMarked (cell (pull_of w) (if can_pull w.conn then true else b))
 pull_marked w b m = pull_by w b (can_pull w.conn) refl m
 
-marks_push : (x : Tree) (j : Joint) (s g : List Item) → (wire_of j s g).out ≡ Available → IsMarked (cell (push_of x (wire_of j s g)) false)
+marks_push : (x : Tree) (j : Joint) (s g : List Item) → (joint_wire j s g).out ≡ Available → IsMarked (cell (push_of x (joint_wire j s g)) false)
 marks_push x idle s g e = cc
 marks_push x asking s g e = cc
 marks_push x asked s g e = record { unclosed = λ o. refl; known = λ k. cc; came = λ k. cc }
@@ -62,7 +62,7 @@ close_marked (Some c) w b m = record { unclosed = m.unclosed; known = λ k. cc; 
 pub cancel_marked : (w : JointPorts) (b : Bool) → IsMarked (cell w b) → IsMarked (cell (cancel_of w) b)
 cancel_marked w b m = record { unclosed = λ o. cc; known = m.known; came = m.came }
 
-marks_deliver : (j : Joint) (s g : List Item) (b : Bool) → Queues j true → IsMarked (cell (wire_of j s g) b) → IsMarked (cell (after_delivery (delivery_of (wire_of j s g)) (wire_of j s g)) b)
+marks_deliver : (j : Joint) (s g : List Item) (b : Bool) → Queues j true → IsMarked (cell (joint_wire j s g) b) → IsMarked (cell (after_delivery (delivery_of (joint_wire j s g)) (joint_wire j s g)) b)
 marks_deliver idle s g b r m = cc
 marks_deliver asking s g b r m = record { unclosed = λ o. m.unclosed refl; known = λ k. m.unclosed refl; came = λ k. refl }
 marks_deliver asked s g b r m = cc
@@ -84,7 +84,7 @@ marks_deliver (cancelled t c) s g b r m = m
 
 pub deliver_marked : (w : JointPorts) (b : Bool) → IsSound w true → IsMarked (cell w b) → IsMarked (cell (after_delivery (delivery_of w) w) b)
 deliver_marked w b h m =
-    let at : IsMarked (cell (wire_of h.joint w.sent w.got) b) = subst (λ (v : JointPorts). IsMarked (cell v b)) h.is m in
+    let at : IsMarked (cell (joint_wire h.joint w.sent w.got) b) = subst (λ (v : JointPorts). IsMarked (cell v b)) h.is m in
     subst (λ (v : JointPorts). IsMarked (cell (after_delivery (delivery_of v) v) b)) (sym h.is) (marks_deliver h.joint w.sent w.got b h.queues at)
 
 -- ---- the wire goes on

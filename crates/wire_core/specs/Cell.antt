@@ -4,7 +4,7 @@ use Rattle.elem_core.specs.Tree.{Tree}
 use Rattle.elem_core.specs.declared.item.Item.TheVariants as item
 use Rattle.port_core.specs.Connection.{Connection}
 use Rattle.port_core.specs.PortRules as rule
-use Rattle.port_core.specs.PortRules.{next}
+use Rattle.port_core.specs.PortRules.{after_move}
 use Rattle.port_core.specs.Decoding.{can_pull, can_push, is_at_rest}
 use Rattle.port_core.specs.Wire.{JointPorts, new_wire, pull_of, push_of, close_of, cancel_of, Delivery, nothing, pull, cancel, arrived, end_item, delivery_of, after_delivery}
 use Rattle.port_core.specs.declared.conn.Event.{Event}
@@ -41,7 +41,7 @@ queues_by (Cancel i) p = is_at_rest p
 
 -- an element that waits to be grabbed goes to the input
 abbrev pub brought_in : Tree → WireState → WireState
-brought_in e c = record c { wire = record c.wire { inp = Idle; conn = next (rule.grab e) c.wire.conn; got = c.wire.got ++ item.Elem e ∷ [] } }
+brought_in e c = record c { wire = record c.wire { inp = Idle; conn = after_move (rule.grab e) c.wire.conn; got = c.wire.got ++ item.Elem e ∷ [] } }
 
 -- the wire once its event was delivered
 abbrev pub delivered : WireState → WireState

@@ -14,9 +14,9 @@ source_count [] = 0
 source_count (n ∷ ns) = (if inputs_of n.kind == 0 then 1 else 0) + source_count ns
 
 -- the first count, and those behind it
-abbrev pub first_count : List ℕ → ℕ
-first_count [] = 0
-first_count (c ∷ cs) = c
+abbrev pub next_count : List ℕ → ℕ
+next_count [] = 0
+next_count (c ∷ cs) = c
 
 abbrev pub later_counts : List ℕ → List ℕ
 later_counts [] = []
@@ -25,7 +25,7 @@ later_counts (c ∷ cs) = cs
 -- what each node gives of its own: a source the count of its place among sources, any other node none
 abbrev pub own_elements : List Node → List ℕ → List ℕ
 own_elements [] counts = []
-own_elements (n ∷ ns) counts = if inputs_of n.kind == 0 then first_count counts ∷ own_elements ns (later_counts counts) else 0 ∷ own_elements ns counts
+own_elements (n ∷ ns) counts = if inputs_of n.kind == 0 then next_count counts ∷ own_elements ns (later_counts counts) else 0 ∷ own_elements ns counts
 
 -- what the wires from number i on carry into node a, where f tells what each wire carries
 abbrev pub into : ℕ → List Edge → (ℕ → ℕ) → ℕ → ℕ

@@ -14,7 +14,7 @@ use Rattle.interpreter.specs.declared.parts.Place.{Place}
 use Rattle.traversal.specs.Plan.{lanes_from}
 use Rattle.island_parts.specs.Split.{IsSplit}
 use Rattle.materializer.specs.Fit.{CanRun}
-use Rattle.materializer.specs.Graphs.{plain_chain, chains_of}
+use Rattle.materializer.specs.Graphs.{graph_chain, chains_of}
 use Rattle.plug_board.specs.Handed.{HasPlugs, ArePlugged}
 use Rattle.switch_board.specs.Board.{IsBoard, AreAtSwitches, AreHanded, seat_of_end}
 use Rattle.materializer.specs.Planned.{ArePlanned, places_from, planned_seat}
@@ -120,7 +120,7 @@ returns-clause-plans g c =
     subst (λ (l : List Node). AreAtSwitches (map (λ (n : Node). n.kind) l) board (map seat_of_end c.in_ok-board.switches.items)) c.deref-13.ensures.value c.in_ok-board.ensures.ends in
     let at_switches : AreAtSwitches (map (λ (n : Node). n.kind) ns) board (map planned_seat c.in_ok-seats.seats.items) =
     subst (λ l. AreAtSwitches (map (λ (n : Node). n.kind) ns) board l) (sym c.in_ok-seats.ensures.seats) switches in
-    let planned : ArePlanned (chains_of b) 0 ns c.in_ok-seats.seats.items = subst (λ (l : List ChainDecl). ArePlanned (map plain_chain l) 0 ns c.in_ok-seats.seats.items) c.deref-15.ensures.value c.in_ok-seats.ensures.planned in
+    let planned : ArePlanned (chains_of b) 0 ns c.in_ok-seats.seats.items = subst (λ (l : List ChainDecl). ArePlanned (map graph_chain l) 0 ns c.in_ok-seats.seats.items) c.deref-15.ensures.value c.in_ok-seats.ensures.planned in
     let exact : vec_capacity c.in_ok-places.places ≡ c.in_ok-all_places.field-0 = c.in_ok-places.ensures.exact in
     let places_all : c.in_ok-all_places.field-0 ≡ c.len-2.result + c.len-3.result + c.len-3.result = c.in_ok-all_places.ensures in
     record {

@@ -2,7 +2,7 @@
 use Rattle.std.proofs.Common.{rules, List, map, sym, subst}
 use Rattle.interpreter.specs.declared.parts.Work.{Work}
 use Rattle.stream_model.specs.Graph as graph
-use Rattle.materializer.specs.Graphs.{plain_chain}
+use Rattle.materializer.specs.Graphs.{graph_chain}
 use Rattle.materializer.specs.Seats.{IsFreeWork}
 use Rattle.materializer.proofs.seats.free_work.Goals as goal
 use Rattle.materializer.proofs.seats.free_work.Goals.{in-Range, in-Ignore, in-Grouped+in_ok-state_work-in-Grouped, in-GroupBy+in_ok-sub_work-in-GroupBy, in-Merge+in_ok-fan_in_work-in-Merge, in-Broadcast+in_ok-fan_out_work-in-Broadcast, in_default+in_ok-linear_work-in_default}
@@ -10,7 +10,7 @@ use Rattle.materializer.proofs.seats.free_work.Goals.{in-Range, in-Ignore, in-Gr
 -- a stage without substreams is of its kind whatever the chains
 pub returns-clause-work : goal.returns-clause-work
 returns-clause-work g c =
-    let chains : List graph.Chain = map plain_chain c.args.chains.now in
+    let chains : List graph.Chain = map graph_chain c.args.chains.now in
     elim c.match-kind.branch as (λ _. IsFreeWork chains c.args.k c.args.kind c.args.decider c.match-kind.result) [
       | in-Range w ↦ search rules
       | in-Ignore w ↦ search rules

@@ -6,7 +6,7 @@ use Rattle.interpreter.proofs.Tables.{none_left, len_next}
 use Rattle.blue_rules.specs.Sizes.{sizes_fit}
 use Rattle.plug_board.specs.Handed.{ArePlugged}
 use Rattle.switch_board.specs.Board.{AreHanded, seat_of_end}
-use Rattle.materializer.specs.Graphs.{plain_chain}
+use Rattle.materializer.specs.Graphs.{graph_chain}
 use Rattle.materializer.specs.Planned.{planned_seat}
 use Rattle.materializer.proofs.Plugs.{plugs_left, plug_next}
 use Rattle.materializer.proofs.SeatLoops.{all_next, planned_start, planned_next, planned_end}
@@ -25,7 +25,7 @@ loop-node-init g c =
       tt,
       left,
       ap (list_all (λ n. sizes_fit n.kind)) all ∙ c.requires.sized,
-      λ xs h. planned_start c.args.nodes.items (map plain_chain c.args.chains.now) (into_iter_items r) c.new-seats.result.items xs all c.new-seats.ensures.items h,
+      λ xs h. planned_start c.args.nodes.items (map graph_chain c.args.chains.now) (into_iter_items r) c.new-seats.result.items xs all c.new-seats.ensures.items h,
       subst (λ l. AreHanded (kinds_of l) (into_iter_items c.into_iter-unhanded.result)) (sym all) (subst (λ l. AreHanded (kinds_of c.args.nodes.items) l) (sym c.into_iter-unhanded.ensures.rest) c.requires.handed),
       search rules,
       ap (λ l. map planned_seat l ++ map seat_of_end (into_iter_items c.into_iter-unhanded.result)) c.new-seats.ensures.items ∙ ap (map seat_of_end) c.into_iter-unhanded.ensures.rest,

@@ -3,7 +3,7 @@ use Rattle.std.proofs.Common.{◌≡◌, true, List, ◌++◌, length, map}
 use Rattle.std.specs.List.{list_all}
 use Rattle.std.specs.Vec.Iter.{into_iter_items, into_iter_len}
 use Rattle.blue_rules.specs.Sizes.{sizes_fit}
-use Rattle.materializer.specs.Graphs.{plain_chain}
+use Rattle.materializer.specs.Graphs.{graph_chain}
 use Rattle.materializer.specs.Planned.{ArePlanned, planned_seat}
 use Rattle.plug_board.specs.Handed.{ArePlugged}
 use Rattle.switch_board.specs.Board.{AreHanded, seat_of_end}
@@ -17,7 +17,7 @@ invariant-loop-node g l =
     × (goal.iterator-loop-node g).is_finite l.node-iterator
     × (into_iter_len l.node-iterator ≡ length (into_iter_items l.node-iterator))
     × (list_all (λ n. sizes_fit n.kind) (into_iter_items l.node-iterator) ≡ true)
-    × ((xs : List _) → ArePlanned (map plain_chain l.fn.chains) (length l.seats.items) (into_iter_items l.node-iterator) xs → ArePlanned (map plain_chain l.fn.chains) 0 l.fn.nodes.items (l.seats.items ++ xs))
+    × ((xs : List _) → ArePlanned (map graph_chain l.fn.chains) (length l.seats.items) (into_iter_items l.node-iterator) xs → ArePlanned (map graph_chain l.fn.chains) 0 l.fn.nodes.items (l.seats.items ++ xs))
     × AreHanded (map (λ n. n.kind) (into_iter_items l.node-iterator)) (into_iter_items l.unhanded)
     × (into_iter_len l.unhanded ≡ length (into_iter_items l.unhanded))
     × (map planned_seat l.seats.items ++ map seat_of_end (into_iter_items l.unhanded) ≡ map seat_of_end l.fn.ends.items)

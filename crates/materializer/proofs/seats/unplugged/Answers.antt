@@ -1,12 +1,12 @@
 -- The goal of `seats::unplugged` that the search leaves.
 use Rattle.std.proofs.Common.{map, Some, subst}
 use Rattle.switch_board.specs.Board.{switch_of, IsHandedAt}
-use Rattle.materializer.specs.Graphs.{plain_chain}
+use Rattle.materializer.specs.Graphs.{graph_chain}
 use Rattle.materializer.proofs.Switches.{plans_at_switch}
 use Rattle.materializer.proofs.seats.unplugged.Goals as goal
 
 pub returns-in_ok-state_work-in-Some-clause-planned : goal.returns-in_ok-state_work-in-Some-clause-planned
 returns-in_ok-state_work-in-Some-clause-planned g c =
-    let chains = map plain_chain c.args.chains.now in
+    let chains = map graph_chain c.args.chains.now in
     let handed : IsHandedAt (switch_of c.args.kind) (Some c.in-Some.end) = subst (λ e. IsHandedAt (switch_of c.args.kind) e) c.in-Some.is c.requires.handed in
     plans_at_switch chains c.args.k c.args.kind c.args.decider c.in-Some.end _ handed (c.in_ok-state_work-in-Some.ensures.work chains)

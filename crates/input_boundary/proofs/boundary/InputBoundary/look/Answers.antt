@@ -1,4 +1,5 @@
 use Rattle.std.proofs.Common.{rules, ◌<◌, length, refl, sym, ap, subst}
+use Rattle.lane_core.specs.Ends.{taken_items}
 use Rattle.lane_core.specs.Lane.{weight}
 use Rattle.input_boundary.proofs.Flows.{took_elem, dropped_elem, took_end, place, at_lane, behind, pending_none, pending_some}
 use Rattle.input_boundary.proofs.boundary.InputBoundary.look.Goals as goal
@@ -6,13 +7,13 @@ use Rattle.input_boundary.proofs.boundary.InputBoundary.look.Goals as goal
 pub hold-requires : goal.hold-requires
 hold-requires c =
     subst (λ n. length c.args.self.now.buffer.items < n) (sym c.args.self.now.wide)
-    (place _ _ _ _ _ _ _ _ _ _ c.args.self.now.flow _ _ _ _ c.args.self.now.asking _ _ _ c.in-Some-Elem.ensures.counts (ap weight c.in-Some-Elem.field-0-is) c.in-Some-Elem.ensures.few c.in-Some-Elem.ensures.lane.1)
+    (place _ _ _ _ _ _ _ _ _ _ c.args.self.now.flow _ _ _ _ c.args.self.now.asking (taken_items c.take.new.self) _ _ c.in-Some-Elem.ensures.counts (ap weight c.in-Some-Elem.field-0-is) c.in-Some-Elem.ensures.few c.in-Some-Elem.ensures.lane.1)
 
 pub invariant_of-self-in-Flowing-clause-flow : goal.invariant_of-self-in-Flowing-clause-flow
 invariant_of-self-in-Flowing-clause-flow c =
     at_lane _ _ _ _ _ _ _ _ _ _ _ _ _ c.in-Some-Elem.ensures.lane.0.1 refl c.in-Some-Elem.ensures.lane.3
     (took_elem _ _ _ _ _ _ _ _ _ _ c.args.self.now.flow c.in-Some-Elem.e _ _ c.in-Flowing.is c.if-self.false
-    (place _ _ _ _ _ _ _ _ _ _ c.args.self.now.flow _ _ _ _ c.args.self.now.asking _ _ _ c.in-Some-Elem.ensures.counts (ap weight c.in-Some-Elem.field-0-is) c.in-Some-Elem.ensures.few c.in-Some-Elem.ensures.lane.1)
+    (place _ _ _ _ _ _ _ _ _ _ c.args.self.now.flow _ _ _ _ c.args.self.now.asking (taken_items c.take.new.self) _ _ c.in-Some-Elem.ensures.counts (ap weight c.in-Some-Elem.field-0-is) c.in-Some-Elem.ensures.few c.in-Some-Elem.ensures.lane.1)
     (behind _ _ _ _ c.in-Some-Elem.ensures.some c.in-Some-Elem.field-0-is) c.hold.ensures.0)
 
 pub invariant_of-self-in_default-clause-flow : goal.invariant_of-self-in_default-clause-flow

@@ -1,8 +1,8 @@
 -- An event's delivery and its handling keep the graph's laws.
-use Rattle.std.proofs.Common.{◌≡◌, ◌≢◌, ℕ, ◌<◌, Bool, true, false, if◌then◌else◌, Some, List, [], ◌∷◌, ◌++◌, length, set-set, slice_get, refl, sym, ap, ◌∙◌, subst, arith}
+use Rattle.std.proofs.Common.{◌≡◌, ◌≢◌, ℕ, ◌<◌, Bool, true, false, if◌then◌else◌, Some, List, [], ◌∷◌, ◌++◌, length, get_or, set-set, slice_get, refl, sym, ap, ◌∙◌, subst, arith}
 use Rattle.std.proofs.lemmas.Grind.{common_steps}
 use Rattle.std.proofs.lemmas.Bool.Decides.{nat_tests}
-use Rattle.std.proofs.lemmas.List.{length-set}
+use Rattle.std.proofs.lemmas.List.{length-set, get_or_default}
 use Rattle.elem_core.specs.Tree.{Tree}
 use Rattle.elem_core.specs.declared.item.Item.{Item}
 use Rattle.elem_core.specs.declared.item.Item.TheVariants as item
@@ -12,7 +12,7 @@ use Rattle.port_core.specs.View.{View, IsOutOpen}
 use Rattle.port_core.specs.View as view
 use Rattle.port_core.specs.Asking.{PullsStand}
 use Rattle.port_core.specs.Call.{Call, CallAllowed, MayCome, Meets, seen}
-use Rattle.port_core.specs.Wire.{Delivery, nothing, pull, cancel, arrived, delivery_of, after_delivery, again}
+use Rattle.port_core.specs.Wire.{Delivery, nothing, pull, cancel, arrived, end_item, delivery_of, after_delivery, again}
 use Rattle.port_core.specs.declared.act.Act.{Act}
 use Rattle.port_core.specs.declared.view.InView.TheVariants.{Cancelled}
 use Rattle.port_core.specs.declared.view.OutView.TheVariants.{Closed}
@@ -23,7 +23,7 @@ use Rattle.wire_core.proofs.Marking.{deliver_marked}
 use Rattle.stage_core.specs.Histories.{brought_by}
 use Rattle.stage_core.specs.Handling.{Pulls, PullsAs, Handles}
 use Rattle.fused_net.specs.declared.net.WireEnds.{WireEnds}
-use Rattle.wire_core.specs.Reading.{inp_of, out_of, got_of, sent_of}
+use Rattle.wire_core.specs.Reading.{no_wire, inp_of, out_of, got_of, sent_of}
 use Rattle.fused_net.specs.Net.{Net, end_at, wire_at, ports_at, view_of, took, gave, target, call_of, put, told_by, delivered_on, event_told, with_node, before}
 use Rattle.fused_net.specs.Laws.{AnyLaw, Wired, Minds, IsMinded, Settled, Busy}
 use Rattle.fused_net.proofs.Reading.{read_same, read_at, some_same, get_there, get_set_same, get_set_other}
@@ -54,6 +54,15 @@ module _ {N : Type 0} where
       ∙ put_twice net w c (brought_in e c) more
       ∙ ap (λ (x : WireState). put net w x more) (ap (λ (t : Tree). brought_in t c) (sym same) ∙ b.after)
       ∙ ap (λ (q : Bool). put net w (delivered (wire_at net w)) q) (sym (ap again b.brings))
+
+  -- the end that is told is the one that the wire has, as it is read behind the telling
+  pub told_end : (net told u : Net N) (w : ℕ) (c : WireState) (i : Item) → w < length net.wires → told ≡ put net w (wire_at told w) false → u ≡ told → c ≡ get_or u.wires w c → i ≡ end_item c.wire.conn.cause
+      → Brought (arrived (end_item (wire_at told w).wire.conn.cause) false) (wire_at net w) (wire_at told w) → delivery_of (wire_at net w).wire ≡ arrived i false
+  told_end net told u w c i h tells is at end brought =
+      let same : length net.wires ≡ length u.wires = sym (length-set net.wires w (wire_at told w)) ∙ sym (ap (λ (a : Net N). length a.wires) tells) ∙ sym (ap (λ (a : Net N). length a.wires) is) in
+      let within : w < length u.wires = subst (λ (k : ℕ). w < k) same h in
+      let read : c ≡ wire_at told w = at ∙ get_or_default u.wires w c no_wire within ∙ ap (λ (a : Net N). wire_at a w) is in
+      brought.brings ∙ ap (λ (t : Item). arrived t false) (sym (end ∙ ap (λ (x : WireState). end_item x.wire.conn.cause) read))
 
 pub queued_here : (queue : List ℕ) (w : ℕ) → is_queued (w ∷ queue) w ≡ true
 queued_here queue w = grind (arith, common_steps, nat_tests)

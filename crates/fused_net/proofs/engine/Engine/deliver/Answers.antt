@@ -4,7 +4,7 @@ use Rattle.port_core.specs.Wire.{nothing, cancel, arrived, end_item}
 use Rattle.port_core.specs.declared.conn.Event.{Event}
 use Rattle.wire_core.specs.Cell.{Tells}
 use Rattle.fused_net.specs.Net.{wire_at}
-use Rattle.fused_net.proofs.Delivering.{brings_elem, told_brought, told_brings}
+use Rattle.fused_net.proofs.Delivering.{brings_elem, told_brought, told_brings, told_end}
 use Rattle.fused_net.proofs.engine.Engine.deliver.Goals as goal
 
 pub returns-in-Nothing-clause-none : goal.returns-in-Nothing-clause-none
@@ -27,8 +27,8 @@ returns-in-PushThenClose-clause-after g c = told_brings c.args.since.value c.arg
 
 pub returns-in-Finish-clause-some : goal.returns-in-Finish-clause-some
 returns-in-Finish-clause-some g c = elim c.in-Finish.is [
-  | inl e ↦ (false, (subst (λ (e : Event). Tells e (wire_at c.args.since.value c.args.w) (wire_at c.args.self.now c.args.w)) e c.requires.tells).brings)
-  | inr e ↦ (false, (subst (λ (e : Event). Tells e (wire_at c.args.since.value c.args.w) (wire_at c.args.self.now c.args.w)) e c.requires.tells).brings)
+  | inl e ↦ (false, told_end _ _ _ _ _ _ c.requires.within c.requires.after c.self.view_is c.index.ensures c.end.ensures (subst (λ (e : Event). Tells e (wire_at c.args.since.value c.args.w) (wire_at c.args.self.now c.args.w)) e c.requires.tells))
+  | inr e ↦ (false, told_end _ _ _ _ _ _ c.requires.within c.requires.after c.self.view_is c.index.ensures c.end.ensures (subst (λ (e : Event). Tells e (wire_at c.args.since.value c.args.w) (wire_at c.args.self.now c.args.w)) e c.requires.tells))
 ]
 
 pub returns-in-Finish-clause-after : goal.returns-in-Finish-clause-after

@@ -21,7 +21,7 @@ use Rattle.fused_net.specs.Laws.{AnyRow, AnyLaw, Settled, Busy, NetGoesOn, AllKe
 use Rattle.fused_net.specs.Costs.{all_asks, Uses}
 use Rattle.fused_net.specs.Poking.{AtNode}
 use Rattle.fused_net.specs.Outside.{StandsStill, Untouched, touched}
-use Rattle.fused_net.proofs.Delivering.{brings_elem, told_brought, told_brings, Called, call_at}
+use Rattle.fused_net.proofs.Delivering.{brings_elem, told_brought, told_brings, target_within, Called, call_at}
 use Rattle.fused_net.proofs.Going.{handled}
 use Rattle.fused_net.proofs.Responding.{node_is, the_ends, awaited, responded, few_told}
 use Rattle.fused_net.proofs.Keeping.{kept_called}
@@ -89,6 +89,14 @@ module _ {N : Type 0} (port_state : N → View → Type 0) (law : N → N → Vi
       → u ≡ net → ends ≡ get_or u.ends w ends → v ≡ heard → x ≡ get_or v.nodes ends.from x → Calling net heard v w ends.from (pulls ends.output) ends x
   calling_pull net heard u v w ends x laws within absent brought tells is at same read =
       calling net heard v w ends.from pull ends x laws within absent (sym brought.brings) (λ none. cc) (told_brought net heard w pull brought tells refl) (the_ends net u w ends is laws.wired.each_wire within at) refl same read
+
+  -- the node that any other event is for is there
+  pub closing_within : (b : Delivered) (net told heard u v : Net N) (w n : ℕ) (ends : WireEnds) → Settled port_state law asking moves (before net w) → w < length net.wires → told ≡ put net w (wire_at told w) false → u ≡ told → ends ≡ get_or u.ends w ends → heard ≡ event_told net w → n ≡ node_for b ends
+      → v ≡ heard → n < length v.nodes
+  closing_within brings.Cancel net told heard u v w n ends laws within tells is at after node same =
+      rw (same, after, node, told_ends net told u w ends laws.wired.each_wire within tells is at) (target_within cancel net w laws.wired within)
+  closing_within (brings.Arrived i) net told heard u v w n ends laws within tells is at after node same =
+      rw (same, after, node, told_ends net told u w ends laws.wired.each_wire within tells is at) (target_within (arrived i false) net w laws.wired within)
 
   -- any other event is told, and what it brings is taken
   pub calling_closing : (b : Delivered) (net told heard u v : Net N) (w n : ℕ) (ends : WireEnds) (x : N) → Settled port_state law asking moves (before net w) → w < length net.wires → is_queued net.queue w ≡ false → told ≡ put net w (wire_at told w) false → u ≡ told → ends ≡ get_or u.ends w ends

@@ -1,10 +1,9 @@
 -- Each node's last ask is kept while nodes act and events are delivered, and made anew where the node asks.
-use Rattle.std.proofs.Common.{◌≡◌, ◌≢◌, ◌⊎◌, inl, inr, ℕ, zero, suc, ◌+◌, ◌<◌, ◌≤◌, Bool, List, [], ◌∷◌, length, get_or, slice_get, None, Some, refl, sym, ap, ◌∙◌, subst, arith, get_or-set_same, get_or-set_other}
+use Rattle.std.proofs.Common.{◌≡◌, ◌≢◌, ◌⊎◌, inl, inr, ℕ, zero, suc, ◌<◌, ◌≤◌, List, [], ◌∷◌, length, get_or, slice_get, None, Some, refl, sym, ap, ◌∙◌, subst, arith, get_or-set_same, get_or-set_other}
 use Rattle.std.proofs.lemmas.List.{length-set}
-use Rattle.std.specs.Prelude.{slice_index_or}
 use Rattle.elem_core.specs.declared.item.Item.{Item}
 use Rattle.port_core.specs.Asking.{NoCancel, PullsStand}
-use Rattle.port_core.specs.Wire.{Delivery, again}
+use Rattle.port_core.specs.Wire.{Delivery}
 use Rattle.port_core.specs.View.{View, in_at, ActsAllowed}
 use Rattle.port_core.specs.View as view
 use Rattle.port_core.specs.declared.act.Act.{Act}
@@ -16,8 +15,8 @@ use Rattle.wire_core.specs.Marks.{IsMarked, wanted, Grown}
 use Rattle.wire_core.proofs.Marking.{push_wanted, close_wanted, grown_same, grown_trans}
 use Rattle.stage_core.specs.Handling.{Pulls}
 use Rattle.wire_core.specs.Reading.{no_wire}
-use Rattle.fused_net.specs.Net.{Net, end_at, wire_at, ports_at, view_of, wire_for, acted, acted_all, told_by, delivered_on, with_node, before}
-use Rattle.fused_net.specs.Laws.{AnyRow, AnyLaw, NetGoesOn, IsAsking, MovesGrow, Minds, IsMinded, AllAsked, NodeAsked, AllMoments, Busy}
+use Rattle.fused_net.specs.Net.{Net, end_at, wire_at, ports_at, view_of, wire_for, acted, acted_all, delivered_on, with_node, before}
+use Rattle.fused_net.specs.Laws.{AnyRow, AnyLaw, NetGoesOn, IsAsking, MovesGrow, IsMinded, AllAsked, NodeAsked, AllMoments, Busy}
 use Rattle.fused_net.proofs.Reading.{same_or_not, get_there}
 use Rattle.fused_net.proofs.Ongoing.{goes_same, goes_trans, goes_acts, goes_node, nodes-acts}
 use Rattle.fused_net.proofs.Acting.{Fits, PortAt, fits, act_allowed, port_within, queued, acted_busy, acts_busy, acts_here}

@@ -55,9 +55,10 @@ cases:
 	echo "$$(cat crates/rows/data/*.txt | grep -c '^case ') passed, 0 failed" > crates/rows/stdout
 
 # Each file of cases is named among the words of the program that tries them, and those of the pages say what the pages and examples/ say;
-# docs/ARCHITECTURE.md has each crate of crates.txt.
+# docs/ARCHITECTURE.md has each crate of crates.txt, and docs/DEFINITIONS.md the names that several crates have.
 listed:
 	@tools/crates_are_mapped
+	@tools/names_are_own
 	@tools/blocks_are_cases crates/rows/data docs/LANGUAGE.md
 	@tools/blocks_are_cases crates/workbench_rows/data docs/WORKBENCH.md
 	@{ tools/page_cases $(PAGES) && tools/example_cases; } | diff - crates/rows/data/book.txt

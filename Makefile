@@ -39,7 +39,7 @@ picture: blueprint
 	dot -Tsvg -o picture.svg picture.dot
 
 # The first run from nothing proves every crate: FIRST_RUN is an estimate of how long that takes. A line is printed for each step.
-FIRST_RUN = about 360 processor minutes, so 95 minutes on four processors
+FIRST_RUN = about 320 processor minutes, so 85 minutes on four processors
 
 test: listed
 	@echo "The first run proves every crate from nothing and takes long ($(FIRST_RUN)); later runs prove only what changed."

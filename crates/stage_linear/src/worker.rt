@@ -13,12 +13,21 @@ use plug_logic::logic::Logic;
 use std::alloc::Global;
 
 /// What does the work of a linear stage.
-#[derive(Drop)]
 pub enum Worker<L: Logic, B: PlugBook> {
     /// A task of the program's own stages.
     Plain(LinearWork),
     /// A logic that a caller made.
     Plug(PlugTask<L, B>),
+}
+
+// Dropped by a call, as its task is.
+impl<L: Logic, B: PlugBook> Drop for Worker<L, B> {
+    fn drop(self) {
+        match self {
+            Worker::Plain(_) => {}
+            Worker::Plug(_) => {}
+        }
+    }
 }
 
 impl<L: Logic, B: PlugBook> Worker<L, B> {

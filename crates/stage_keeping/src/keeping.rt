@@ -9,7 +9,6 @@ use std::alloc::{AllocError, Global};
 use std::mem;
 
 /// What a stage keeps between elements, and what it does with each. Rule: Akka Streams 2.6 reference.
-#[derive(Drop)]
 pub enum StateWork {
     /// Groups of so many, and the group that is not full.
     Group(u32, Vec<Elem>),
@@ -19,6 +18,17 @@ pub enum StateWork {
     Reduce(ReduceOp, Option<Elem>),
     /// A scan, and its value.
     Scan(FoldOp, Elem),
+}
+
+// Dropped by a call, wherever it is dropped: else each of its variants is a path of each function that drops it.
+impl Drop for StateWork {
+    fn drop(self) {
+        match self {
+            StateWork::Group(_, _) => {}
+            StateWork::Fold(_, _) | StateWork::Scan(_, _) => {}
+            StateWork::Reduce(_, _) => {}
+        }
+    }
 }
 
 /// What came of an element.

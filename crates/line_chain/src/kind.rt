@@ -15,7 +15,6 @@ use std::alloc::{AllocError, Global};
 use stream_model::kind::Kind;
 
 /// What a step of a chain does, from its start. Rule: Akka Streams 2.6 reference, but where a line says own.
-#[derive(Drop)]
 pub enum StepKind {
     /// Each element mapped.
     Map(MapFn),
@@ -49,6 +48,30 @@ pub enum StepKind {
     First,
     /// The last element, at the end.
     Last,
+}
+
+// Dropped by a call, wherever it is dropped: else each of its variants is a path of each function that drops it.
+impl Drop for StepKind {
+    fn drop(self) {
+        match self {
+            StepKind::Map(_)
+            | StepKind::Filter(_)
+            | StepKind::FilterNot(_)
+            | StepKind::TakeWhile(_)
+            | StepKind::DropWhile(_) => {}
+            StepKind::Take(_)
+            | StepKind::Drop(_)
+            | StepKind::Limit(_)
+            | StepKind::Expand(_)
+            | StepKind::Group(_)
+            | StepKind::Fold(_)
+            | StepKind::Scan(_)
+            | StepKind::Reduce(_)
+            | StepKind::Pass
+            | StepKind::First
+            | StepKind::Last => {}
+        }
+    }
 }
 
 impl StepKind {

@@ -17,7 +17,6 @@ use stage_linear::task::LinearReaction;
 use std::alloc::Global;
 
 /// A step of a chain as it runs. Rule: Akka Streams 2.6 reference.
-#[derive(Drop)]
 pub struct LineStep {
     // The node of the chain.
     pub node: u32,
@@ -31,6 +30,21 @@ pub struct LineStep {
     pub work: StepWork,
     // Whether it has ended or failed by its own doing.
     pub ending: StateEnd,
+}
+
+// Dropped by a call, as its kind and its work are.
+impl Drop for LineStep {
+    fn drop(self) {
+        let LineStep {
+            node: _,
+            decider: _,
+            kind: _,
+            owed: _,
+            taken: _,
+            work: _,
+            ending: _,
+        } = self;
+    }
 }
 
 impl LineStep {

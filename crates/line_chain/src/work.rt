@@ -13,7 +13,6 @@ use stage_linear::task::{LinearReaction, LinearWork};
 use std::alloc::Global;
 
 /// The work of a step of a chain, and how far it has come. Rule: Akka Streams 2.6 reference, but where a line says own.
-#[derive(Drop)]
 pub enum StepWork {
     /// A task, which keeps at most a count.
     Plain(LinearWork),
@@ -25,6 +24,18 @@ pub enum StepWork {
     First,
     /// It keeps the last.
     Last(Option<Elem>),
+}
+
+// Dropped by a call, wherever it is dropped: else each of its variants is a path of each function that drops it.
+impl Drop for StepWork {
+    fn drop(self) {
+        match self {
+            StepWork::Plain(_) => {}
+            StepWork::Keeps(_) => {}
+            StepWork::Last(_) => {}
+            StepWork::Passes | StepWork::First => {}
+        }
+    }
 }
 
 impl StepWork {

@@ -22,7 +22,6 @@ use std::marker::Model;
 /// The logic of a grouped, a fold, a reduce or a scan. It asks its input when its output is asked, and again where an
 /// element gave nothing; what the end of its input brings it gives when asked, and then completes. A scan gives its zero at
 /// the first ask; an end or a failure that comes before is kept until then. Rule: Akka Streams 2.6 reference.
-#[derive(Drop)]
 pub struct KeepLogic {
     node: u32,
     decider: Decider,
@@ -47,6 +46,22 @@ impl Model for KeepLogic {
     ghost use Rattle.stage_keeping.specs.Keeping.{work_in};
 
     ghost view = { λ l. record { phase = l.phase; stage = record { node = l.node; decider = l.decider; taken = l.taken; work = work_in l.keeping }; pending = option_to_list l.pending; asked = l.asked; ending = l.ending; size = None } };
+}
+
+// Dropped by a call, as what it keeps is.
+impl Drop for KeepLogic {
+    fn drop(self) {
+        let KeepLogic {
+            node: _,
+            decider: _,
+            taken: _,
+            keeping: _,
+            pending: _,
+            asked: _,
+            ending: _,
+            phase: _,
+        } = self;
+    }
 }
 
 impl KeepLogic {

@@ -24,7 +24,6 @@ use stream_model::kind::{Kind, Policy};
 
 /// The logic of a stage with one input and one output that keeps a state: a grouped, a fold, a reduce, a scan, a buffer, a
 /// recover, or a valve or a trip of a kill switch. Rule: Akka Streams 2.6 reference; the trip: own.
-#[derive(Drop)]
 pub enum StateLogic {
     /// One that chooses nothing: it keeps a group or a value, or is a buffer that holds its input back.
     Machine(MachineLogic),
@@ -36,6 +35,19 @@ pub enum StateLogic {
     Obeying(Valve),
     /// A trip, which gives its switch an order.
     Tripping(Trip),
+}
+
+// Dropped by a call, wherever it is dropped: else each of its variants is a path of each function that drops it.
+impl Drop for StateLogic {
+    fn drop(self) {
+        match self {
+            StateLogic::Machine(_) => {}
+            StateLogic::Dropping(_) => {}
+            StateLogic::Recovering(_) => {}
+            StateLogic::Obeying(_) => {}
+            StateLogic::Tripping(_) => {}
+        }
+    }
 }
 
 impl StateLogic {

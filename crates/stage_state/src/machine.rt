@@ -21,9 +21,15 @@ use stream_model::kind::{Kind, Policy};
 
 /// The logic of a grouped, a fold, a reduce, a scan, or a buffer that holds its input back: what it gives follows from what it
 /// takes, and it chooses nothing. Rule: Akka Streams 2.6 reference.
-#[derive(Drop)]
 pub struct MachineLogic {
     part: Part,
+}
+
+// Dropped by a call, as what it keeps is.
+impl Drop for MachineLogic {
+    fn drop(self) {
+        let MachineLogic { part: _ } = self;
+    }
 }
 
 /// What such a stage is.

@@ -16,12 +16,21 @@ use stream_model::kind::Kind;
 
 /// The logic of a node with several outputs. A call that appends actions wants room for two of them for each port, of which
 /// the node has its outputs and one input. Rule: Akka Streams 2.6 reference; which output of a balance comes first: own.
-#[derive(Drop)]
 pub enum OutLogic {
     /// A broadcast, an unzip or a partition: what each output gets hangs on what came alone.
     Machines(OutMachines),
     /// A balance: each element goes to the output that asked first.
     Balances(Balancing),
+}
+
+// Dropped by a call, wherever it is dropped: else each of its variants is a path of each function that drops it.
+impl Drop for OutLogic {
+    fn drop(self) {
+        match self {
+            OutLogic::Machines(_) => {}
+            OutLogic::Balances(_) => {}
+        }
+    }
 }
 
 impl OutLogic {

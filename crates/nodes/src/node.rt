@@ -33,7 +33,6 @@ use std::alloc::Global;
 use stream_io::outside::{Drain, Source};
 
 /// A node of an island.
-#[derive(Drop)]
 pub enum IslandNode<S: Source, D: Drain, L: Logic, B: PlugBook> {
     /// A source of the lines of a file.
     Reading(LinesSource<S>),
@@ -57,6 +56,24 @@ pub enum IslandNode<S: Source, D: Drain, L: Logic, B: PlugBook> {
     Entering(Entering),
     /// The stage at which what leaves the island for a lane waits.
     Leaving(Leaving),
+}
+
+// Dropped by a call, wherever it is dropped: else each of its variants is a path of each function that drops it.
+impl<S: Source, D: Drain, L: Logic, B: PlugBook> Drop for IslandNode<S, D, L, B> {
+    fn drop(self) {
+        match self {
+            IslandNode::Reading(_) => {}
+            IslandNode::Making(_) => {}
+            IslandNode::Linear(_) => {}
+            IslandNode::State(_) => {}
+            IslandNode::Sub(_) => {}
+            IslandNode::FanIn(_) => {}
+            IslandNode::FanOut(_) => {}
+            IslandNode::Writing(_) => {}
+            IslandNode::Ignoring(_) => {}
+            IslandNode::Entering(_) | IslandNode::Leaving(_) => {}
+        }
+    }
 }
 
 /// What a node leaves at the end of a run.

@@ -8,7 +8,6 @@ use elem_core::elem_type::ElemType;
 use elem_core::line::Line;
 
 /// The first rule that a blueprint breaks, at its least place.
-#[derive(Drop)]
 pub enum CheckFault {
     /// A name is declared twice, or a file is wanted twice.
     TwoNames(Line),
@@ -32,6 +31,25 @@ pub enum CheckFault {
     PlugTwice(Line),
     /// A size is out of its limits.
     BadSize(Spot),
+}
+
+// Dropped by a call, wherever it is dropped: else each of its variants is a path of each function that drops it.
+impl Drop for CheckFault {
+    fn drop(self) {
+        match self {
+            CheckFault::TwoNames(_)
+            | CheckFault::NoSuchName(_)
+            | CheckFault::TooDeep(_)
+            | CheckFault::NoSuchPlug(_)
+            | CheckFault::PlugTwice(_) => {}
+            CheckFault::PortOpen(_, _, _) => {}
+            CheckFault::TypeClash(_, _, _) => {}
+            CheckFault::NoSuchPort(_)
+            | CheckFault::PortTwice(_)
+            | CheckFault::ClosedWalk(_)
+            | CheckFault::BadSize(_) => {}
+        }
+    }
 }
 
 impl CheckFault {

@@ -5,7 +5,6 @@ use elem_core::line::Line;
 use stream_model::outcome::EndState;
 
 /// How a call ended.
-#[derive(Drop)]
 pub enum Status {
     /// Every sink ended.
     Done,
@@ -29,6 +28,25 @@ pub enum Status {
     WriteFault,
     /// Memory was wanting.
     NoMemory,
+}
+
+// Dropped by a call, wherever it is dropped: else each of its variants is a path of each function that drops it.
+impl Drop for Status {
+    fn drop(self) {
+        match self {
+            Status::Refused(_) => {}
+            Status::Unfit(_) => {}
+            Status::Missing(_) => {}
+            Status::Done
+            | Status::Usage
+            | Status::StreamFailed
+            | Status::Stalled
+            | Status::OutOfTurns
+            | Status::ReadFault
+            | Status::WriteFault
+            | Status::NoMemory => {}
+        }
+    }
 }
 
 /// A sink after a run: its name, how many whole lines it wrote, and how it ended.

@@ -27,7 +27,6 @@ use std::marker::Model;
 
 /// A stage with substreams, but for the log of its moves. It gives the outputs of its substreams in the order in which they
 /// arise. Rule: Akka Streams 2.6 reference.
-#[derive(Drop)]
 pub struct SubState<C: Chain> {
     node: u32,
     taken: u64,
@@ -38,6 +37,23 @@ pub struct SubState<C: Chain> {
     asked: bool,
     over: bool,
     phase: Phase,
+}
+
+// Dropped by a call, wherever it is dropped: else each of its parts is a path of each function that drops it.
+impl<C: Chain> Drop for SubState<C> {
+    fn drop(self) {
+        let SubState {
+            node: _,
+            taken: _,
+            how: _,
+            chain: _,
+            kept: _,
+            outs: _,
+            asked: _,
+            over: _,
+            phase: _,
+        } = self;
+    }
 }
 
 impl<C: Chain> Model for SubState<C> {

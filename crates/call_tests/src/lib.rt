@@ -4,6 +4,8 @@
 #[cfg(test)]
 mod chains;
 #[cfg(test)]
+mod flag_words;
+#[cfg(test)]
 mod lanes;
 #[cfg(test)]
 mod plans;

@@ -1,5 +1,5 @@
 -- The flag word of a connection, and the connection that it stands for.
-use Rattle.std.specs.Prelude.{◌≡◌, ℕ, ◌+◌, ◌==◌, Bool, true, false, not, if◌then◌else◌, Option, None, Some, List, [], ◌∷◌, ◌++◌, pos, bit_and}
+use Rattle.std.specs.Prelude.{◌≡◌, ℕ, ◌+◌, ◌==◌, Bool, true, false, not, if◌then◌else◌, Option, None, Some, List, [], ◌∷◌, ◌++◌, pos, bit_and, is_some}
 use Rattle.elem_core.specs.Tree.{Tree, num}
 use Rattle.elem_core.specs.declared.why.Cause.{Cause}
 use Rattle.port_core.specs.Connection.{ConnStep, quiet, pulled, ready, pushed, Connection}
@@ -41,3 +41,18 @@ cause_by true c = Some c
 -- the connection that a word, an element and a cause stand for
 abbrev pub connection_of : ℕ → Bool → Tree → Cause → Connection
 connection_of w held e c = record { step = step_by w e; to_grab = to_grab_by held e; in_closed = has 16 w; out_closed = has 32 w; cause = cause_by (has 64 w) c }
+
+-- the low bit of a step
+abbrev pub low_bit : ConnStep → ℕ
+low_bit quiet = 1
+low_bit pulled = 2
+low_bit (pushed e) = 4
+low_bit ready = 8
+
+-- the value of a bit that is set, or not
+abbrev pub bit_by : Bool → ℕ → ℕ
+bit_by b bit = if b then bit else 0
+
+-- the flag word of a connection: the bit of its step, 16 for a closed input, 32 for a closed output, 64 where it has the cause of a failure
+abbrev pub word_of : Connection → ℕ
+word_of c = low_bit c.step + bit_by c.in_closed 16 + bit_by c.out_closed 32 + bit_by (is_some c.cause) 64

@@ -3,15 +3,13 @@ ghost use Rattle.elem_core.specs.Tree.{Tree, num};
 ghost use Rattle.port_core.specs.Connection.{unasked, pushed};
 ghost use Rattle.port_core.specs.PortRules as rule;
 ghost use Rattle.port_core.specs.PortRules.{Allowed, Rule};
+ghost use Rattle.port_core.specs.Word.{word_of};
 ghost use Rattle.port_core.specs.Decoding.{can_pull, can_push, is_at_rest, is_open, event_of, arrived_by, delivered, Decodes};
 
 use elem_core::elem::{Elem, Form};
 use elem_core::why::{Cause, Why};
 use std::marker::Model;
 use std::mem;
-
-#[cfg(test)]
-mod tests;
 
 /// What a connection that was queued has for one of its ends. The events are those of the Akka Streams 2.6 interpreter, but
 /// that an element with a close behind it is an event of its own.
@@ -222,6 +220,14 @@ impl Conn {
         } else {
             Some(self.cause)
         }
+    }
+
+    /// The flag word: 1 where nobody pulled, 2 where the input pulled, 4 where an element is on its way, 8 where the output was
+    /// pulled; and 16 for a closed input, 32 for a closed output, 64 where the output failed before either side was closed.
+    pub fn word(&self) -> u8
+        ensures { result ≡ word_of self.now }
+    {
+        self.word
     }
 
     /// Whether a side is closed.

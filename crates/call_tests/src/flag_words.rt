@@ -1,7 +1,7 @@
-// The flag word after each call. What the calls mean is in their contracts; which bits say so is told here alone.
-use super::{Conn, Event};
+// The flag word of a connection after each call.
 use elem_core::elem::{Elem, Form};
 use elem_core::why::{Cause, Why};
+use port_core::conn::{Conn, Event};
 
 #[derive(Clone, Copy)]
 enum Call {
@@ -43,7 +43,7 @@ fn goes(conn: &mut Conn, call: &Call) -> bool {
 fn first_fault(calls: &[(Call, u8)]) -> Option<usize> {
     let mut conn = Conn::new();
     for i in 0..calls.len() {
-        if !goes(&mut conn, &calls[i].0) || conn.word != calls[i].1 {
+        if !goes(&mut conn, &calls[i].0) || conn.word() != calls[i].1 {
             return Some(i);
         }
     }
@@ -52,7 +52,7 @@ fn first_fault(calls: &[(Call, u8)]) -> Option<usize> {
 
 #[test]
 fn words_follow_the_calls(rt: HostRuntime) {
-    assert_eq!(rt; Conn::new().word, 1);
+    assert_eq!(rt; Conn::new().word(), 1);
     let an_element = [
         (Call::Pull, 2),
         (Call::Decode(Event::Pull), 8),

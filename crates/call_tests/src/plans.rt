@@ -1,43 +1,13 @@
 // That the islands of a blueprint are found with ample memory.
+use crate::blueprints::{node, wire};
 use blue_check::check::check;
-use blue_core::blueprint::{Blueprint, Node, WireDecl};
-use elem_core::line::Line;
-use elem_core::why::{Decider, NoMemory};
-use std::alloc::{AllocError, Global};
+use blue_core::blueprint::Blueprint;
+use elem_core::why::NoMemory;
+use std::alloc::Global;
 use std::test::Fail;
 use stream_model::kind::{Base, Kind};
 use traversal::islands::islands;
 use traversal::plan::LanePlan;
-
-/// A name of one byte.
-fn name(alloc: Global, byte: u8) -> Result<Line, NoMemory> {
-    let mut bytes = Vec::new(alloc);
-    bytes.push(byte)?;
-    if !Line::can_hold(&bytes) {
-        return Err(AllocError);
-    }
-    Ok(Line::of(bytes))
-}
-
-/// A node that is called by this byte.
-fn node(alloc: Global, byte: u8, kind: Kind) -> Result<Node, NoMemory> {
-    Ok(Node {
-        name: name(alloc, byte)?,
-        kind,
-        decider: Decider::Stop,
-    })
-}
-
-/// A wire from the one output of a node to the one input of another.
-fn wire(alloc: Global, from: u8, to: u8, lane: Option<u32>) -> Result<WireDecl, NoMemory> {
-    Ok(WireDecl {
-        from: name(alloc, from)?,
-        output: 0,
-        to: name(alloc, to)?,
-        input: 0,
-        lane,
-    })
-}
 
 /// Two sources and two sinks, of which the last sink is in the island of the first source.
 fn blueprint(alloc: Global) -> Result<Blueprint, NoMemory> {

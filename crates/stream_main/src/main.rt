@@ -1,9 +1,6 @@
 //! The program `streams`: the current folder, standard output, and the exit code.
 #![tactic(auto)]
 
-#[cfg(test)]
-mod tests;
-
 use elem_core::line::Line;
 use std::alloc::{AllocError, Global};
 use std::process::ExitCode;

@@ -1,5 +1,5 @@
 // One plug in a row between a source and a sink.
-use crate::calls::{add, call};
+use crate::plug_calls::{add, call};
 use plug_logic::plug::Plug;
 use plug_samples::halts::Halts;
 use plug_samples::spoils::Spoils;

@@ -1,5 +1,5 @@
-// A whole call over a folder and a console that never fail. What other calls come to is told by the cases of `rows`.
-use crate::line_of;
+// A whole call over a folder and a console that never fail. What other calls come to is told by the cases of the program `rows`.
+use crate::lines::line_of;
 use plug_logic::book::Shipped;
 use plug_logic::dedup::Dedup;
 use std::test::Fail;

@@ -1,4 +1,4 @@
-// A whole call over a folder in memory.
+// A whole call over a folder in memory, with plugs of the caller's own.
 ghost use Rattle.std.specs.Prelude.{◌≡◌, ◌≤◌, ◌++◌, ◌∷◌, [], IsTrue, OnOk, length};
 ghost use Rattle.std.specs.List.{All};
 ghost use Rattle.elem_core.specs.Line.{has_no_lf};
@@ -6,6 +6,7 @@ ghost use Rattle.plug_logic.specs.Gives.{listed};
 ghost use Rattle.plug_samples.specs.Samples.{sample_book};
 ghost use Rattle.stage_linear.specs.Plugs.{Is};
 
+use crate::lines::line_of;
 use elem_core::elem_type::{ElemType, TypeForm};
 use elem_core::line::Line;
 use plug_core::head::PlugHead;
@@ -19,15 +20,6 @@ use stream_command::run::run_streams;
 use stream_io::mem_drain::MemDrain;
 use stream_io::mem_folder::MemFolder;
 use stream_io::named_file::{NamedFile, bytes_of};
-
-/// The line of a text; a text that is no line is the empty line.
-pub fn line_of(alloc: Global, text: &str) -> Result<Line, AllocError> {
-    let mut bytes = Vec::new(alloc);
-    if Line::can_hold(text.as_bytes()) {
-        bytes.extend_from_slice(text.as_bytes())?;
-    }
-    Ok(Line::of(bytes))
-}
 
 /// One more plug of texts, or of numbers, whose logic gives what the book of samples lists of this name.
 pub fn add(

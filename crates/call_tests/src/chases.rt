@@ -1,55 +1,27 @@
 // How many events of an island are chased for one that waited for its turn.
 ghost use Rattle.std.specs.Prelude.{◌≤◌};
 
+use crate::blueprints::{node, wire};
 use blue_check::check::check;
-use blue_core::blueprint::{Blueprint, Node, WireDecl};
+use blue_core::blueprint::Blueprint;
 use elem_core::function::MapFn;
-use elem_core::line::Line;
-use elem_core::why::{Decider, NoMemory};
+use elem_core::why::NoMemory;
 use interpreter::island::Island;
 use island_plans::plans::plans_of;
 use materializer::names::{input_names, output_names};
 use plug_logic::book::Shipped;
 use plug_logic::dedup::Dedup;
-use std::alloc::{AllocError, Global};
+use std::alloc::Global;
 use std::test::Fail;
 use stream_io::mem_drain::MemDrain;
 use stream_io::mem_folder::MemSource;
 use stream_model::kind::{Base, Kind};
 
 /// The name of the node at a place.
-fn name(alloc: Global, place: u8) -> Result<Line, NoMemory>
+fn letter(place: u8) -> u8
     requires { place ≤ 100 }
 {
-    let mut bytes = Vec::new(alloc);
-    bytes.push(b'A' + place)?;
-    if !Line::can_hold(&bytes) {
-        return Err(AllocError);
-    }
-    Ok(Line::of(bytes))
-}
-
-fn node(alloc: Global, place: u8, kind: Kind) -> Result<Node, NoMemory>
-    requires { place ≤ 100 }
-{
-    Ok(Node {
-        name: name(alloc, place)?,
-        kind,
-        decider: Decider::Stop,
-    })
-}
-
-/// A wire from the node at a place to the next one.
-fn wire(alloc: Global, place: u8) -> Result<WireDecl, NoMemory>
-    requires { place ≤ 99 }
-{
-    Ok(WireDecl {
-        from: name(alloc, place)?,
-        output: 0,
-        to: name(alloc, place + 1)?,
-        input: 0,
-        lane: None,
-    })
+    b'A' + place
 }
 
 /// A source, so many stages that add nothing, and a sink.
@@ -58,13 +30,13 @@ fn chain(alloc: Global, source: Kind, stages: u8) -> Result<Blueprint, NoMemory>
 {
     let mut nodes = Vec::new(alloc);
     let mut wires = Vec::new(alloc);
-    nodes.push(node(alloc, 0, source)?)?;
+    nodes.push(node(alloc, letter(0), source)?)?;
     for place in 0..stages {
-        wires.push(wire(alloc, place)?)?;
-        nodes.push(node(alloc, place + 1, Kind::Map(MapFn::Add(0)))?)?;
+        wires.push(wire(alloc, letter(place), letter(place + 1), None)?)?;
+        nodes.push(node(alloc, letter(place + 1), Kind::Map(MapFn::Add(0)))?)?;
     }
-    wires.push(wire(alloc, stages)?)?;
-    nodes.push(node(alloc, stages + 1, Kind::Ignore)?)?;
+    wires.push(wire(alloc, letter(stages), letter(stages + 1), None)?)?;
+    nodes.push(node(alloc, letter(stages + 1), Kind::Ignore)?)?;
     Ok(Blueprint {
         switches: Vec::new(alloc),
         chains: Vec::new(alloc),

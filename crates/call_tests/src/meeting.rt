@@ -1,5 +1,5 @@
 // A run that uses one thread is told from one that uses two.
-use crate::calls::{add, call};
+use crate::plug_calls::{add, call};
 use once_cell::race::OnceBool;
 use plug_logic::plug::Plug;
 use plug_samples::meets::Meets;

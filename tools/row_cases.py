@@ -1,4 +1,4 @@
-"""The cases of crates/rows/data, read as crates/rows/src/text.rt and case.rt read them, for the tools that run a built program."""
+"""The cases of crates/rows/data, read as text.rt and case.rt of crates/case_files/src read them, for the tools that run a built program."""
 import os
 import re
 

@@ -1,22 +1,19 @@
 // What a case comes to.
 ghost use Rattle.std.specs.Prelude.{◌<◌};
 
-use crate::case::{Case, Kind, Wanted};
-use crate::text::{Fault, line_of, put_number};
 use blue_check::check::{CheckEnd, check};
 use blue_check::detail::put_detail;
 use blue_core::blueprint::Blueprint;
 use blue_lang::parse::{ParseEnd, parse};
 use blue_lang::print::print;
 use blue_words::fault::{BlueFault, kind_number};
+use case_files::case::{Case, Kind, Wanted, copies};
+use case_files::text::{Fault, line_of, put_number};
 use elem_core::elem_type::{ElemType, TypeForm};
 use plug_core::head::PlugHead;
 use std::alloc::Global;
 use std::sync::Wait;
 use std::thread::Threads;
-use stream_io::fail_at::FailAt;
-use stream_io::mem_drain::MemDrain;
-use stream_io::mem_folder::MemFolder;
 use stream_io::named_file::{NamedFile, bytes_of};
 use stream_shipped::RunEnd;
 use stream_shipped::run::run_shipped;
@@ -113,17 +110,8 @@ fn call<R: Threads + Wait + Sync>(
 ) -> Result<Came, Fault>
     requires { 0 < step }
 {
-    let mut fails = Vec::new(alloc);
-    for fail in &case.fails {
-        fails.push(FailAt {
-            name: fail.name.copy(alloc)?,
-            op: fail.op,
-            nth: fail.nth,
-        })?;
-    }
-    let mut folder = MemFolder::new(copies(alloc, &case.files)?, fails, step, case.room);
-    let console_fails = Vec::from_slice(alloc, &case.console_fails)?;
-    let mut console = MemDrain::new(alloc, console_fails, step, 100_000)?;
+    let mut folder = case.folder(alloc, step)?;
+    let mut console = case.console(alloc, step)?;
     let end = run_shipped(rt, alloc, &case.words, &mut folder, &mut console);
     Ok(Came {
         step,
@@ -141,17 +129,6 @@ fn sent_of(alloc: Global, end: &RunEnd) -> Result<Vec<u64>, Fault> {
         sent.push(wire.sent)?;
     }
     Ok(sent)
-}
-
-fn copies(alloc: Global, files: &[NamedFile]) -> Result<Vec<NamedFile>, Fault> {
-    let mut copies = Vec::new(alloc);
-    for file in files {
-        copies.push(NamedFile {
-            name: file.name.copy(alloc)?,
-            bytes: Vec::from_slice(alloc, &file.bytes)?,
-        })?;
-    }
-    Ok(copies)
 }
 
 /// What is said where no file is touched.

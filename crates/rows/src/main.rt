@@ -2,12 +2,11 @@
 #![tactic(auto)]
 
 mod attempt;
-mod case;
 mod show;
-mod text;
 
 use attempt::first_miss;
-use case::{Case, Verdict, read_cases};
+use case_files::case::{Case, Verdict, read_cases};
+use case_files::text::Fault;
 use show::put_miss;
 use std::alloc::AllocError;
 use std::process::ExitCode;
@@ -15,7 +14,6 @@ use std::rt::{Env, Files};
 use std::sync::Wait;
 use std::thread::Threads;
 use std::{env, fs, io};
-use text::Fault;
 
 /// How many cases went as they should, how many did not, and what is told of those.
 #[derive(Drop)]
@@ -39,11 +37,7 @@ impl Count {
         } else {
             first_miss(rt, alloc, case)?
         };
-        let came = match &miss {
-            _ if case.is_malformed => Verdict::Malformed,
-            Some(_) => Verdict::Fails,
-            None => Verdict::Passes,
-        };
+        let came = case.verdict_by(miss.is_none());
         if came == case.verdict {
             self.passed = self.passed.saturating_add(1);
             return Ok(());
@@ -81,7 +75,7 @@ impl Count {
         let Ok(text) = fs::read(rt, file) else {
             return Ok(self.fail(file, b"the file cannot be read", Verdict::Fails)?);
         };
-        let cases = read_cases(alloc, &text)?;
+        let cases = read_cases(alloc, &text, true)?;
         if cases.is_empty() {
             self.fail(file, b"the file has no case", Verdict::Malformed)?;
         }

@@ -1,7 +1,7 @@
 // How a case that went wrong is told.
 use crate::attempt::Came;
-use crate::case::Case;
-use crate::text::put_number;
+use case_files::case::Case;
+use case_files::text::put_number;
 use std::alloc::AllocError;
 use stream_io::named_file::NamedFile;
 

@@ -1,8 +1,7 @@
 // What a case comes to, over a folder, an input and drains in memory.
-use crate::case::Case;
+use case_files::case::{Case, Wanted};
 use elem_core::line::Line;
 use std::alloc::{AllocError, Global};
-use stream_io::fail_at::{FailAt, Op};
 use stream_io::mem_drain::MemDrain;
 use stream_io::mem_folder::{MemFolder, MemSource};
 use stream_io::named_file::NamedFile;
@@ -20,6 +19,15 @@ pub struct Came {
     pub told: Vec<u8>,
 }
 
+impl Came {
+    /// Whether this is wanted.
+    pub fn is(&self, wanted: &Wanted) -> bool {
+        wanted.code == u32::from(self.code)
+            && wanted.said.as_slice() == self.said.as_slice()
+            && wanted.told.as_slice() == self.told.as_slice()
+    }
+}
+
 /// The name of the input among files.
 fn input_name(alloc: Global) -> Result<Line, AllocError> {
     let mut bytes = Vec::new(alloc);
@@ -31,38 +39,12 @@ fn input_name(alloc: Global) -> Result<Line, AllocError> {
     }
 }
 
-/// Which calls fail: the first read of each file, where the case says so.
-fn fails_of(alloc: Global, case: &Case) -> Result<Vec<FailAt>, AllocError> {
-    let mut fails = Vec::new(alloc);
-    if case.is_unreadable {
-        for file in &case.files {
-            fails.push(FailAt {
-                name: file.name.copy(alloc)?,
-                op: Op::Read,
-                nth: 1,
-            })?;
-        }
-    }
-    Ok(fails)
-}
-
-fn copies(alloc: Global, files: &[NamedFile]) -> Result<Vec<NamedFile>, AllocError> {
-    let mut copies = Vec::new(alloc);
-    for file in files {
-        copies.push(NamedFile {
-            name: file.name.copy(alloc)?,
-            bytes: Vec::from_slice(alloc, &file.bytes)?,
-        })?;
-    }
-    Ok(copies)
-}
-
 /// The input as a source.
 fn input_of(alloc: Global, case: &Case) -> Result<MemSource, AllocError> {
     let mut files = Vec::new(alloc);
     files.push(NamedFile {
         name: input_name(alloc)?,
-        bytes: Vec::from_slice(alloc, &case.input)?,
+        bytes: Vec::from_slice(alloc, &case.text)?,
     })?;
     let mut folder = MemFolder::new(files, Vec::new(alloc), STEP, 1);
     match folder.open_in(alloc, &input_name(alloc)?) {
@@ -71,21 +53,12 @@ fn input_of(alloc: Global, case: &Case) -> Result<MemSource, AllocError> {
     }
 }
 
-/// A drain in memory; its first put fails, where the case says so.
-fn drain_of(alloc: Global, fails: bool) -> Result<MemDrain, AllocError> {
-    let mut numbers = Vec::new(alloc);
-    if fails {
-        numbers.push(1)?;
-    }
-    MemDrain::new(alloc, numbers, STEP, 100_000)
-}
-
 /// Tries a case.
 pub fn attempt(alloc: Global, case: &Case) -> Result<Came, AllocError> {
     let mut input = input_of(alloc, case)?;
-    let mut folder = MemFolder::new(copies(alloc, &case.files)?, fails_of(alloc, case)?, STEP, 1);
-    let mut console = drain_of(alloc, case.console_fails)?;
-    let mut faults = drain_of(alloc, false)?;
+    let mut folder = case.folder(alloc, STEP)?;
+    let mut console = case.console(alloc, STEP)?;
+    let mut faults = MemDrain::new(alloc, Vec::new(alloc), STEP, 100_000)?;
     let code = run_workbench(
         alloc,
         &case.words,

@@ -2,10 +2,10 @@
 #![tactic(auto)]
 
 mod attempt;
-mod case;
 
 use attempt::{Came, attempt};
-use case::{Case, read_cases};
+use case_files::case::{Case, read_cases};
+use case_files::text::Fault;
 use std::alloc::{AllocError, Global};
 use std::process::ExitCode;
 use std::rt::{Env, Files};
@@ -43,7 +43,11 @@ impl Count {
     /// Tries a case of this file. One that is to fail passes where it fails.
     fn add(&mut self, alloc: Global, file: &str, case: &Case) -> Result<(), AllocError> {
         let came = attempt(alloc, case)?;
-        if !case.is_malformed && case.is_wanted(&came) != case.must_fail {
+        let is_wanted = match case.wanted.as_slice() {
+            [wanted] => came.is(wanted),
+            _ => false,
+        };
+        if case.verdict_by(is_wanted) == case.verdict {
             self.passed = self.passed.saturating_add(1);
             return Ok(());
         }
@@ -52,12 +56,12 @@ impl Count {
     }
 
     /// Tries the cases of a file. One that can't be read, or has no case, fails.
-    fn add_file<R: Files + AllocGlobal>(&mut self, rt: &R, file: &str) -> Result<(), AllocError> {
+    fn add_file<R: Files + AllocGlobal>(&mut self, rt: &R, file: &str) -> Result<(), Fault> {
         let alloc = rt.alloc();
         let Ok(text) = fs::read(rt, file) else {
-            return self.fail(file, b"the file cannot be read");
+            return Ok(self.fail(file, b"the file cannot be read")?);
         };
-        let cases = read_cases(alloc, &text)?;
+        let cases = read_cases(alloc, &text, false)?;
         if cases.is_empty() {
             self.fail(file, b"the file has no case")?;
         }

@@ -26,7 +26,7 @@ impl<T: Drop> From<AllocFailed<T>> for Fault {
 }
 
 /// The part of a text before the first such byte, and the part behind it; None where there is no such byte.
-pub fn cut(text: &[u8], mark: u8) -> Option<(&[u8], &[u8])> {
+fn cut(text: &[u8], mark: u8) -> Option<(&[u8], &[u8])> {
     for i in 0..text.len() {
         if text[i] == mark {
             return Some((&text[..i], &text[i + 1..]));
@@ -37,8 +37,13 @@ pub fn cut(text: &[u8], mark: u8) -> Option<(&[u8], &[u8])> {
 
 /// A number in decimal.
 pub fn number(word: &[u8]) -> Result<u32, Fault> {
-    let text = str::from_utf8(word).map_err(|_| Fault::Malformed)?;
-    text.parse::<u32>().map_err(|_| Fault::Malformed)
+    let Ok(text) = str::from_utf8(word) else {
+        return Err(Fault::Malformed);
+    };
+    match text.parse::<u32>() {
+        Ok(number) => Ok(number),
+        Err(_) => Err(Fault::Malformed),
+    }
 }
 
 /// The line of these bytes; bytes that are no line are malformed.
@@ -51,8 +56,18 @@ pub fn line_of(alloc: Global, bytes: &[u8]) -> Result<Line, Fault> {
     }
 }
 
-/// Appends what a line of a part says: its bytes, its escapes by their meaning, and LF, but for a line that ends with `\`.
-pub fn put_line(out: &mut Vec<u8>, line: &[u8]) -> Result<(), Fault> {
+/// Appends what a line of a part says: its bytes and LF. Where it has escapes, those are taken by their meaning, and a line that ends
+/// with `\` has no LF.
+pub fn put_line(out: &mut Vec<u8>, line: &[u8], has_escapes: bool) -> Result<(), Fault> {
+    if has_escapes {
+        return put_escapes(out, line);
+    }
+    out.extend_from_slice(line)?;
+    out.push(b'\n')?;
+    Ok(())
+}
+
+fn put_escapes(out: &mut Vec<u8>, line: &[u8]) -> Result<(), Fault> {
     let mut rest = line;
     for _ in 0..line.len() {
         rest = match rest {

@@ -45,22 +45,12 @@ test: listed
 	@echo "The first run proves every crate from nothing and takes long ($(FIRST_RUN)); later runs prove only what changed."
 	bash .ci/run
 
-# The pages whose examples are cases.
-PAGES = README.md docs/book/*.md
-
 # Writes the cases of the pages and of examples/ anew, and how many cases there are.
 cases:
-	tools/page_cases $(PAGES) > crates/rows/data/book.txt
+	tools/page_cases > crates/rows/data/book.txt
 	tools/example_cases >> crates/rows/data/book.txt
 	echo "$$(cat crates/rows/data/*.txt | grep -c '^case ') passed, 0 failed" > crates/rows/stdout
 
-# Each file of cases is named among the words of the program that tries them, and those of the pages say what the pages and examples/ say;
-# docs/ARCHITECTURE.md has each crate of crates.txt, and docs/DEFINITIONS.md the names that several crates have.
+# Compares the pages with the cases, the crates and the names that they speak of; .ci/run does so too.
 listed:
-	@tools/crates_are_mapped
-	@tools/names_are_own
-	@tools/blocks_are_cases crates/rows/data docs/LANGUAGE.md
-	@tools/blocks_are_cases crates/workbench_rows/data docs/WORKBENCH.md
-	@{ tools/page_cases $(PAGES) && tools/example_cases; } | diff - crates/rows/data/book.txt
-	@LC_ALL=C ls crates/rows/data | diff - crates/rows/args
-	@LC_ALL=C ls crates/workbench_rows/data | diff - crates/workbench_rows/args
+	@tools/pages_stand

@@ -1,36 +1,36 @@
-# `make` builds the proved program as ./streams, `make example` runs it on a bundled example, `make try` runs that without any proof,
-# `make test` is the merge gate.
-# Nothing is needed but the Rattle kit, whose command is `rt`.
+# `make help` lists the words. Nothing is needed but the Rattle kit, whose command is `rt`.
 
-.PHONY: build example try blueprint picture test listed cases
+.PHONY: build blueprint example proved picture test listed cases help
 
 # `rt run` proves the program and those below it, builds it, and runs it once: on a file that is not there, which is code 6.
 build:
 	cd crates/stream_main && { rt run -- absent.blue; test $$? -eq 6; }
 	cp crates/stream_main/out/stream_main streams
 
-# `make example NAME=split` runs examples/split; without a name it is examples/log. What it leaves is compared with examples/NAME/result.
-NAME = log
-
-example: build
-	rm -rf out/example && mkdir -p out && cp -r examples/$(NAME) out/example
-	@echo "--- the report of $(NAME).blue:"
-	cd out/example && ../../streams $(NAME).blue | tee report
-	@cd out/example && diff report result/report
-	@cd out/example/result && for file in *; do test $$file = report || { echo "--- $$file holds:"; cat ../$$file; diff ../$$file $$file || exit 1; }; done
-
-# A first look, without any proof: one to three minutes. `make try FROM=../logs NAME=sum` runs sum.blue of the folder ../logs.
-FROM = examples/$(NAME)
-
-try:
-	@echo "This runs $(FROM)/$(NAME).blue from the sources. Nothing is proved by it: make proves what it builds."
-	cd crates/stream_main && rt try $(foreach file,$(abspath $(shell find $(FROM) -maxdepth 1 -type f)),--data $(notdir $(file))=$(file)) -- $(NAME).blue
-	@echo "rt try keeps no file. What the bundled examples leave is in their folders result."
-
-# The program `blueprint`. `rt run` proves it and those below it, builds it, and runs it once: on a file that is not there, which is code 6.
+# The program `blueprint`, in the same way.
 blueprint:
 	cd crates/workbench_main && { rt run -- check absent.blue; test $$? -eq 6; }
 	cp crates/workbench_main/out/workbench_main blueprint
+
+# A first look, in three minutes and without any proof: the reports, and every file that the sinks wrote. `make example` runs examples/log,
+# `make example NAME=split` another of examples/, `make example FROM=../logs` every blueprint of a folder, with NAME=sum its sum.blue alone.
+NAME =
+FROM =
+
+example:
+	@tools/look "$(FROM)" "$(NAME)"
+
+# Runs a bundled example by ./streams, and compares what it leaves with examples/NAME/result: `make proved NAME=split`, else examples/log.
+PROVED = $(or $(NAME),log)
+
+proved:
+	@test -d "examples/$(PROVED)" || { echo "There is no folder examples/$(PROVED)."; exit 1; }
+	@$(MAKE) --no-print-directory build
+	rm -rf out/example && mkdir -p out && cp -r "examples/$(PROVED)" out/example
+	@echo "--- the report of $(PROVED).blue:"
+	cd out/example && ../../streams "$(PROVED).blue" | tee report
+	@cd out/example && diff report result/report
+	@cd out/example/result && for file in *; do test $$file = report || { echo "--- $$file holds:"; cat ../$$file; diff ../$$file $$file || exit 1; }; done
 
 # `make picture FILE=log.blue` draws that blueprint of the current folder as picture.svg, where `dot` is installed. One that breaks a rule is drawn with its fault in red.
 picture: blueprint
@@ -38,11 +38,12 @@ picture: blueprint
 	./blueprint draw "$(FILE)" > picture.dot || test $$? -eq 2
 	dot -Tsvg -o picture.svg picture.dot
 
-# The first run from nothing proves every crate: FIRST_RUN is an estimate of how long that takes. A line is printed for each step.
+# The merge gate. The pages are compared first too, which takes a second; a line is printed for each step.
+# FIGURES OF THE GATE, here and in README.md: how long the first run takes.
 FIRST_RUN = about 320 processor minutes, so 85 minutes on four processors
 
 test: listed
-	@echo "The first run proves every crate from nothing and takes long ($(FIRST_RUN)); later runs prove only what changed."
+	@echo "The first run proves every crate that this machine has not proved yet ($(FIRST_RUN)); later runs prove only what changed."
 	bash .ci/run
 
 # Writes the cases of the pages and of examples/ anew, and how many cases there are.
@@ -54,3 +55,14 @@ cases:
 # Compares the pages with the cases, the crates and the names that they speak of; .ci/run does so too.
 listed:
 	@tools/pages_stand
+
+help:
+	@echo "make example                        a first look, in three minutes, nothing proved: the report of examples/log, and the files that it wrote"
+	@echo "make example NAME=split             another of examples/"
+	@echo "make example FROM=../logs           every blueprint of a folder, over copies of its files; with NAME=sum its sum.blue alone"
+	@echo "make                                proves and builds ./streams"
+	@echo "make proved NAME=split              that, and runs an example by it, beside what it is to leave"
+	@echo "make blueprint                      proves and builds ./blueprint, which checks, draws and explains blueprints"
+	@echo "make picture FILE=log.blue          draws a blueprint of this folder as picture.svg, by ./blueprint and dot"
+	@echo "make test                           the gate: every proof, must-fail edit, test and program, and pages beside what they speak of"
+	@echo "make cases                          writes the cases of the pages anew; make listed compares them"

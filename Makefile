@@ -2,15 +2,13 @@
 
 .PHONY: build blueprint example proved picture test listed cases help
 
-# `rt run` proves the program and those below it, builds it, and runs it once: on a file that is not there, which is code 6.
+# Proves and builds ./streams. Both programs are built from the lowest crate up; what is proved is kept for `make test` too.
 build:
-	cd crates/stream_main && { rt run -- absent.blue; test $$? -eq 6; }
-	cp crates/stream_main/out/stream_main streams
+	@tools/prove stream_main streams
 
-# The program `blueprint`, in the same way.
+# Proves and builds ./blueprint.
 blueprint:
-	cd crates/workbench_main && { rt run -- check absent.blue; test $$? -eq 6; }
-	cp crates/workbench_main/out/workbench_main blueprint
+	@tools/prove workbench_main blueprint
 
 # A first look, in three minutes and without any proof: the reports, and every file that the sinks wrote. `make example` runs examples/log,
 # `make example NAME=split` another of examples/, `make example FROM=../logs` every blueprint of a folder, with NAME=sum its sum.blue alone.

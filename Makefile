@@ -31,8 +31,10 @@ proved:
 	@cd out/example/result && for file in *; do test $$file = report || { echo "--- $$file holds:"; cat ../$$file; diff ../$$file $$file || exit 1; }; done
 
 # `make picture FILE=log.blue` draws that blueprint of the current folder as picture.svg, where `dot` is installed. One that breaks a rule is drawn with its fault in red.
-picture: blueprint
+picture:
 	@test -n "$(FILE)" || { echo "make picture FILE=.."; exit 1; }
+	@test -f "$(FILE)" || { echo "There is no file $(FILE)."; exit 1; }
+	@$(MAKE) --no-print-directory blueprint
 	./blueprint draw "$(FILE)" > picture.dot || test $$? -eq 2
 	dot -Tsvg -o picture.svg picture.dot
 

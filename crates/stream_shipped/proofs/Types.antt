@@ -14,7 +14,7 @@ use Rattle.plug_logic.specs.Gives.{Gives}
 use Rattle.plug_logic.specs.Shipped.{last_behind, unrepeated, dedup_after, waiting, summed, pair_reply, odd, sums_after, silent, shipped_book}
 use Rattle.run_type_laws.specs.Plugs.{KeepsPlugTypes}
 use Rattle.run_type_laws.specs.Types.{HasType, AllTyped}
-use Rattle.stream_shipped.specs.Heads.{shipped_heads}
+use Rattle.plug_core.specs.Heads.{dedup_head, pairsum_head, shipped_heads}
 
 -- ---- dedup
 
@@ -72,12 +72,6 @@ odd_typed (Some a) h = (h, tt)
 record Keeps (p : PlugHead) (g : Gives) : Type 0 where
   reply : (taken : List Tree) (x : Tree) → AllTyped p.input taken → HasType p.input x → AllTyped p.output (g.reply taken x).gave
   closing : (taken : List Tree) → AllTyped p.input taken → AllTyped p.output (g.closing taken).gave
-
-abbrev dedup_head : PlugHead
-dedup_head = record { name = codes "dedup"; input = text_type; output = text_type }
-
-abbrev pairsum_head : PlugHead
-pairsum_head = record { name = codes "pairsum"; input = num_type; output = num_type }
 
 dedup_keeps : Keeps dedup_head (dedup_after None)
 dedup_keeps = record { reply = λ taken x all h. unrepeated_typed (last_behind None taken) text_type x h; closing = λ taken all. tt }

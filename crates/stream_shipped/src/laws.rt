@@ -1,6 +1,6 @@
 // A law of the plugs that the program ships: a function without a body, whose contract is the law.
 ghost use Rattle.plug_logic.specs.Shipped.{shipped_book};
-ghost use Rattle.stream_shipped.specs.Heads.{shipped_heads};
+ghost use Rattle.plug_core.specs.Heads.{shipped_heads};
 ghost use Rattle.run_type_laws.specs.Plugs.{KeepsPlugTypes};
 
 /// Each plug of the program gives elements of its output type, where it takes elements of its input type. So in a run with

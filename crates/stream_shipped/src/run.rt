@@ -1,8 +1,6 @@
 // The whole call with the plugs that the program ships.
-ghost use Rattle.std.specs.Prelude.{◌≡◌, ◌≤◌, ◌⊎◌, ◌↔◌, ◌≢◌, ◌++◌, ◌∷◌, [], List, ℕ, Some, None, IsTrue, OnOk, IfOk, length, map, codes};
+ghost use Rattle.std.specs.Prelude.{◌≡◌, ◌⊎◌, ◌↔◌, ◌≢◌, ◌++◌, ◌∷◌, [], List, ℕ, Some, None, IsTrue, OnOk, map, codes};
 ghost use Rattle.std.specs.List.{All};
-ghost use Rattle.elem_core.specs.Line.{has_no_lf};
-ghost use Rattle.elem_core.specs.TypeForm.{sort_of};
 ghost use Rattle.plug_logic.specs.Gives.{listed};
 ghost use Rattle.plug_logic.specs.Shipped.{shipped_book};
 ghost use Rattle.stage_linear.specs.Plugs.{Is};
@@ -14,12 +12,13 @@ ghost use Rattle.stream_io.specs.Putting.{Puts, PutsPart};
 ghost use Rattle.stream_command.specs.Answers.{AnswersCommand, IsValidFor};
 ghost use Rattle.stream_command.specs.Calls.{answer_of, RoseNowhere, WasRun};
 ghost use Rattle.stream_command.specs.Receipts.{ReceiptsOf, IslandsOf};
-ghost use Rattle.stream_shipped.specs.Heads.{shipped_heads, shipped_plugs};
+ghost use Rattle.plug_core.specs.Heads.{shipped_heads};
+ghost use Rattle.stream_shipped.specs.Heads.{shipped_plugs};
 
-use elem_core::elem_type::{ElemType, TypeForm};
 use elem_core::line::Line;
 use elem_core::why::NoMemory;
 use plug_core::head::PlugHead;
+use plug_core::heads::{dedup_head, pairsum_head};
 use plug_logic::book::Shipped;
 use plug_logic::dedup::Dedup;
 use plug_logic::logic::Logic;
@@ -32,28 +31,6 @@ use std::thread::Threads;
 use stream_command::run::run_streams;
 use stream_command::{RunEnd, end_before_run};
 use stream_io::outside::{Drain, Folder};
-
-/// The head of a plug of this name.
-fn head_of(
-    alloc: Global,
-    name: &str,
-    input: TypeForm,
-    output: TypeForm,
-) -> Result<PlugHead, NoMemory>
-    requires short { length name.now ≤ 65536 }
-    requires no_lf { IsTrue (has_no_lf name.now) }
-    ensures name { IfOk result (λ h. h.name ≡ name.now) }
-    ensures input { IfOk result (λ h. h.input ≡ sort_of input) }
-    ensures output { IfOk result (λ h. h.output ≡ sort_of output) }
-{
-    let mut bytes = Vec::new(alloc);
-    bytes.extend_from_slice(name.as_bytes())?;
-    Ok(PlugHead {
-        name: Line::of(bytes),
-        input: ElemType::of(input),
-        output: ElemType::of(output),
-    })
-}
 
 /// One more plug, whose logic gives what the book of the program lists of its name.
 fn add(plugs: &mut Vec<Plug>, head: PlugHead, logic: Box<dyn Logic + Send>) -> Result<(), NoMemory>
@@ -79,16 +56,8 @@ fn add_both(
     ensures kept { OnOk result (All (λ p. Is (gives p.logic) [] (listed shipped_book p.head.name)) plugs.new.items) }
     ensures heads { OnOk result (map (λ p. p.head) plugs.new.items ≡ shipped_heads) }
 {
-    add(
-        plugs,
-        head_of(alloc, "dedup", TypeForm::Text, TypeForm::Text)?,
-        dedup,
-    )?;
-    add(
-        plugs,
-        head_of(alloc, "pairsum", TypeForm::Num, TypeForm::Num)?,
-        pairsum,
-    )?;
+    add(plugs, dedup_head(alloc)?, dedup)?;
+    add(plugs, pairsum_head(alloc)?, pairsum)?;
     Ok(())
 }
 

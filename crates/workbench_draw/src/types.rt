@@ -11,6 +11,7 @@ use blue_types::net::{Net, type_on};
 use blue_types::rounds::settle_types;
 use elem_core::elem_type::ElemType;
 use elem_core::why::NoMemory;
+use plug_core::heads::shipped_heads;
 use std::alloc::Global;
 
 /// The type on each wire of a net of so many nodes, where it is settled.
@@ -25,7 +26,8 @@ fn types_in(
 {
     let targets = targets_of(alloc, links)?;
     let outs = outs_of(alloc, count, links)?;
-    let library = Library::new(alloc, &[], chains)?;
+    let heads = shipped_heads(alloc)?;
+    let library = Library::new(alloc, &heads, chains)?;
     let net = Net {
         nodes,
         links,

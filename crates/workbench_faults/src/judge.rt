@@ -3,6 +3,7 @@ ghost use Rattle.std.specs.Prelude.{◌≡◌, ◌∷◌, [], IfOk, IfErr};
 ghost use Rattle.blue_check.specs.Checked.{checked_blueprint};
 ghost use Rattle.blue_lang.specs.Plain.{plain};
 ghost use Rattle.blue_lang.specs.Blueprints.{Says};
+ghost use Rattle.plug_core.specs.Heads.{shipped_heads};
 ghost use Rattle.workbench_faults.specs.Judging.{IsFitText, IsUnready};
 
 use blue_check::check::{CheckEnd, check};
@@ -13,6 +14,8 @@ use blue_lang::parse::{ParseEnd, parse};
 use blue_words::fault::BlueFault;
 use elem_core::line::Line;
 use elem_core::why::NoMemory;
+use plug_core::head::PlugHead;
+use plug_core::heads::shipped_heads;
 use std::alloc::Global;
 
 /// Why a text says no blueprint that can be run.
@@ -39,24 +42,26 @@ fn taken_of(alloc: Global, file: &Line) -> Result<Vec<Line>, NoMemory>
 fn check_said(
     alloc: Global,
     text: &[u8],
+    heads: &[PlugHead],
     taken: &[Line],
     file: &Line,
     b: Blueprint,
 ) -> Result<Checked, Unready>
     requires says { Says text.now (plain b) }
+    requires heads { heads.now ≡ shipped_heads }
     requires taken { taken.now ≡ file.now ∷ [] }
     ensures fit { IfOk result (λ c. IsFitText text.now file.now (checked_blueprint c)) }
     ensures unready { IfErr result (IsUnready text.now file.now) }
 {
-    match check(alloc, b, &[], taken) {
+    match check(alloc, b, heads, taken) {
         Ok(checked) => Ok(checked),
         Err(CheckEnd::Fault(fault)) => Err(Unready::Unfit(fault)),
         Err(CheckEnd::NoMemory) => Err(Unready::NoMemory),
     }
 }
 
-/// The checked blueprint of the text of that name's file, which no plug is handed in for, or why there is none: the first fault of
-/// the text, or the first rule that the blueprint breaks. Want of memory may come in the place of each.
+/// The checked blueprint of the text of that name's file, with the plugs of `streams`, or why there is none: the first fault of the
+/// text, or the first rule that the blueprint breaks. Want of memory may come in the place of each.
 pub fn judge_text(alloc: Global, text: &[u8], file: &Line) -> Result<Checked, Unready>
     ensures fit { IfOk result (λ c. IsFitText text.now file.now (checked_blueprint c)) }
     ensures unready { IfErr result (IsUnready text.now file.now) }
@@ -64,8 +69,11 @@ pub fn judge_text(alloc: Global, text: &[u8], file: &Line) -> Result<Checked, Un
     let Ok(taken) = taken_of(alloc, file) else {
         return Err(Unready::NoMemory);
     };
+    let Ok(heads) = shipped_heads(alloc) else {
+        return Err(Unready::NoMemory);
+    };
     match parse(alloc, text) {
-        Ok(b) => check_said(alloc, text, &taken, file, b),
+        Ok(b) => check_said(alloc, text, &heads, &taken, file, b),
         Err(ParseEnd::Fault(fault)) => Err(Unready::Refused(fault)),
         Err(ParseEnd::NoMemory) => Err(Unready::NoMemory),
     }

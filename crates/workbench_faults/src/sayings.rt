@@ -53,8 +53,8 @@ fn of_names(fault: &CheckFault) -> Option<Saying> {
             advice: b"Declare it, or mend its spelling.",
         }),
         CheckFault::NoSuchPlug(_) => Some(Saying {
-            means: b"The plug is not handed in: `streams` has none.",
-            advice: b"Use a stage of the language, or a program that hands the plug in.",
+            means: b"`streams` has no plug of this name.",
+            advice: b"It has `dedup` and `pairsum`. Use one of them, a stage of the language, or a program that hands the plug in.",
         }),
         CheckFault::PlugTwice(_) => Some(Saying {
             means: b"Two plugs have this name, or two stages name this plug.",

@@ -10,11 +10,16 @@ use Rattle.workbench_draw.specs.declared.draw.Drawing.{Drawing}
 abbrev pub lines_text : List (Vec ℕ Global) → List ℕ
 lines_text lines = flat_map (λ line. line.items) lines
 
+-- the first lines: from left to right, outputs in their order, and how nodes and wires look
+abbrev pub drawing_head : List ℕ
+drawing_head =
+    codes "digraph blueprint {\n  rankdir=LR; ordering=out; nodesep=0.35; ranksep=0.7;\n  graph [fontname=Helvetica, fontsize=10];\n  node [shape=box, style=rounded, fontname=Helvetica, fontsize=12];\n  edge [fontname=Helvetica, fontsize=10, labeldistance=1.8];\n"
+
 -- the lines of a drawing in its braces
 abbrev pub drawing_text : Drawing → List ℕ
 drawing_text d =
-    codes "digraph blueprint {\n  rankdir=LR;\n  node [shape=box];\n" ++ lines_text d.islands.items ++ lines_text d.nodes.items
-    ++ lines_text d.others.items ++ lines_text d.wires.items ++ codes "}\n"
+    drawing_head ++ lines_text d.islands.items ++ lines_text d.nodes.items ++ lines_text d.wires.items ++ lines_text d.others.items
+    ++ codes "}\n"
 
 -- the text is a drawing with a line for each node and a line for each wire
 pub record IsDrawingOf (b : Blueprint) (text : List ℕ) : Type 0 where

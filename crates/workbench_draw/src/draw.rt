@@ -2,17 +2,19 @@
 ghost use Rattle.std.specs.Prelude.{◌≡◌, ◌++◌, IfOk, OnOk, length, vec_len};
 ghost use Rattle.std.specs.List.{flat_map};
 ghost use Rattle.blue_check.specs.Checked.{checked_blueprint};
-ghost use Rattle.workbench_draw.specs.Drawing.{IsDrawingOf, drawing_text};
+ghost use Rattle.workbench_draw.specs.Drawing.{IsDrawingOf, drawing_head, drawing_text};
 
 use crate::lines::{Blamed, island_lines, node_lines, other_lines, wire_lines};
 use crate::types::types_of;
 use blue_check::checked::Checked;
 use blue_check::fault::CheckFault;
 use blue_core::blueprint::Blueprint;
+use elem_core::elem_type::ElemType;
 use elem_core::line::Line;
 use elem_core::why::NoMemory;
 use std::alloc::Global;
 use traversal::islands::islands;
+use traversal::plan::IslandPlan;
 use workbench_faults::place::place_of;
 
 /// The lines of a drawing.
@@ -20,8 +22,8 @@ use workbench_faults::place::place_of;
 struct Drawing {
     islands: Vec<Vec<u8>>,
     nodes: Vec<Vec<u8>>,
-    others: Vec<Vec<u8>>,
     wires: Vec<Vec<u8>>,
+    others: Vec<Vec<u8>>,
 }
 
 /// Appends lines.
@@ -34,16 +36,25 @@ fn put_lines(out: &mut Vec<u8>, lines: &[Vec<u8>]) -> Result<(), NoMemory>
     Ok(())
 }
 
+/// Appends the first lines of a drawing: from left to right, outputs in their order, and how nodes and wires look.
+fn put_head(out: &mut Vec<u8>) -> Result<(), NoMemory>
+    ensures { OnOk result (out.new.items ≡ out.old.items ++ drawing_head) }
+{
+    out.extend_from_slice(
+        b"digraph blueprint {\n  rankdir=LR; ordering=out; nodesep=0.35; ranksep=0.7;\n  graph [fontname=Helvetica, fontsize=10];\n  node [shape=box, style=rounded, fontname=Helvetica, fontsize=12];\n  edge [fontname=Helvetica, fontsize=10, labeldistance=1.8];\n",
+    )
+}
+
 /// The text of a drawing.
 fn text_of(alloc: Global, drawing: &Drawing) -> Result<Vec<u8>, NoMemory>
     ensures { IfOk result (λ text. text.items ≡ drawing_text drawing.now) }
 {
     let mut out = Vec::new(alloc);
-    out.extend_from_slice(b"digraph blueprint {\n  rankdir=LR;\n  node [shape=box];\n")?;
+    put_head(&mut out)?;
     put_lines(&mut out, &drawing.islands)?;
     put_lines(&mut out, &drawing.nodes)?;
-    put_lines(&mut out, &drawing.others)?;
     put_lines(&mut out, &drawing.wires)?;
+    put_lines(&mut out, &drawing.others)?;
     out.extend_from_slice(b"}\n")?;
     Ok(out)
 }
@@ -57,21 +68,35 @@ fn drawn(alloc: Global, b: &Blueprint, drawing: &Drawing) -> Result<Vec<u8>, NoM
     text_of(alloc, drawing)
 }
 
-/// The graph of a checked blueprint in the DOT language: a box round each island, a line for each node with its kind, and one for
-/// each wire with its type; a lane is dashed and has its size.
+/// The text of a drawing with an area round each island where there are several, and the types on wires as far as they are known.
+fn draw_all(
+    alloc: Global,
+    b: &Blueprint,
+    islands: &[IslandPlan],
+    types: &[Option<ElemType>],
+    blamed: Option<Blamed<'_>>,
+) -> Result<Vec<u8>, NoMemory>
+    ensures { IfOk result (λ text. IsDrawingOf b.now text.items) }
+{
+    let several: &[IslandPlan] = if islands.len() > 1 { islands } else { &[] };
+    let drawing = Drawing {
+        islands: island_lines(alloc, &b.nodes, several)?,
+        nodes: node_lines(alloc, b, blamed)?,
+        wires: wire_lines(alloc, b, types, blamed)?,
+        others: other_lines(alloc, &b.nodes, blamed)?,
+    };
+    drawn(alloc, b, &drawing)
+}
+
+/// The graph of a checked blueprint in the DOT language: a line for each node with its kind and the chain that it runs, files as notes,
+/// and one for each wire with its type and the numbers of its ports, a lane dashed and with its size; a dotted line from each trip to
+/// the valves of its switch; and where there are several islands an area round each.
 pub fn draw(alloc: Global, c: &Checked) -> Result<Vec<u8>, NoMemory>
     ensures { IfOk result (λ text. IsDrawingOf (checked_blueprint c.now) text.items) }
 {
-    let b = c.blueprint();
     let plan = islands(alloc, c)?;
     let types = types_of(alloc, c)?;
-    let drawing = Drawing {
-        islands: island_lines(alloc, &b.nodes, &plan.islands)?,
-        nodes: node_lines(alloc, &b.nodes, None)?,
-        others: Vec::new(alloc),
-        wires: wire_lines(alloc, &b.wires, &types, None)?,
-    };
-    drawn(alloc, b, &drawing)
+    draw_all(alloc, c.blueprint(), &plan.islands, &types, None)
 }
 
 /// The graph of a blueprint that breaks a rule: the same without islands and types, and the place of the fault is red and has the
@@ -89,11 +114,5 @@ pub fn draw_unfit(
         Some(place) => Some(Blamed { place, fault: told }),
         None => None,
     };
-    let drawing = Drawing {
-        islands: Vec::new(alloc),
-        nodes: node_lines(alloc, &b.nodes, blamed)?,
-        others: other_lines(alloc, blamed)?,
-        wires: wire_lines(alloc, &b.wires, &[], blamed)?,
-    };
-    drawn(alloc, b, &drawing)
+    draw_all(alloc, b, &[], &[], blamed)
 }

@@ -1,12 +1,15 @@
-// The lines of a drawing: one for each node, each wire and each island.
+// The lines of a drawing: one for each node, each wire, each island and each order of a switch.
 ghost use Rattle.std.specs.Prelude.{◌≡◌, IfOk, length, vec_len};
 
 use blue_check::detail::put_type;
-use blue_core::blueprint::{Node, WireDecl};
+use blue_core::blueprint::{Blueprint, ChainDecl, Node, Step, WireDecl};
+use blue_names::ports::{input_ports, output_ports};
 use blue_spell::kinds::{write_decider, write_kind};
 use elem_core::elem_type::ElemType;
-use elem_core::why::NoMemory;
+use elem_core::line::Line;
+use elem_core::why::{Decider, NoMemory};
 use std::alloc::Global;
+use stream_model::kind::Kind;
 use traversal::plan::IslandPlan;
 use workbench_faults::message::put_number;
 use workbench_faults::place::{FaultPlace, Sort};
@@ -57,24 +60,130 @@ fn put_end(out: &mut Vec<u8>, fault: Option<&[u8]>) -> Result<(), NoMemory> {
     }
 }
 
-/// The words of a node's kind, and its decider.
-fn words_of(alloc: Global, node: &Node) -> Result<Vec<u8>, NoMemory> {
+/// How long a line of a label may be before the next step of a chain begins a further one.
+const LABEL_WIDTH: usize = 40;
+
+/// Appends the words of a kind and its decider, each behind a space.
+fn put_words(out: &mut Vec<u8>, kind: &Kind, decider: Decider) -> Result<(), NoMemory> {
+    write_kind(out, kind)?;
+    write_decider(out, decider)
+}
+
+/// The words of a kind and its decider.
+fn words_of(alloc: Global, kind: &Kind, decider: Decider) -> Result<Vec<u8>, NoMemory> {
     let mut words = Vec::new(alloc);
-    write_kind(&mut words, &node.kind)?;
-    write_decider(&mut words, node.decider)?;
+    put_words(&mut words, kind, decider)?;
     Ok(words)
 }
 
-/// The line of a node: its name, and as its label the name and the words of its kind.
-fn node_line(alloc: Global, node: &Node, fault: Option<&[u8]>) -> Result<Vec<u8>, NoMemory> {
+/// The shape of a node, and the beginning of its label: files are notes, a sink that keeps nothing is a point, and stages are boxes.
+fn shape_of(kind: &Kind) -> &'static [u8] {
+    match kind {
+        Kind::Lines(_) | Kind::ToLines(_) | Kind::Head(_) | Kind::Last(_) => {
+            b" [shape=note, style=\"\", label=\""
+        }
+        Kind::Ignore => b" [shape=point, width=0.12, xlabel=\"",
+        _ => b" [label=\"",
+    }
+}
+
+/// Appends what a node does as a further line of its label: of lines their file alone, of a sink that keeps nothing nothing.
+fn put_work(alloc: Global, out: &mut Vec<u8>, node: &Node) -> Result<(), NoMemory> {
+    match &node.kind {
+        Kind::Lines(file) | Kind::ToLines(file) => {
+            out.extend_from_slice(b"\\n")?;
+            put_escaped(out, file.bytes())
+        }
+        Kind::Ignore => Ok(()),
+        kind => {
+            let words = words_of(alloc, kind, node.decider)?;
+            out.extend_from_slice(b"\\n")?;
+            put_escaped(out, words.strip_prefix(b" ").unwrap_or(&words))
+        }
+    }
+}
+
+/// The chain that a kind runs.
+fn chain_of(kind: &Kind) -> Option<&Line> {
+    match kind {
+        Kind::GroupBy(_, _, chain) => Some(chain),
+        Kind::SplitWhen(_, chain, _) => Some(chain),
+        Kind::SplitAfter(_, chain, _) => Some(chain),
+        _ => None,
+    }
+}
+
+/// The chain of that name.
+fn chain_named<'a>(chains: &'a [ChainDecl], name: &Line) -> Option<&'a ChainDecl> {
+    for chain in chains {
+        if chain.name == *name {
+            return Some(chain);
+        }
+    }
+    None
+}
+
+/// Appends the steps of a chain, parted by `|`, of which no line of a label holds many.
+fn put_steps(alloc: Global, out: &mut Vec<u8>, steps: &[Step]) -> Result<(), NoMemory> {
+    let mut width: usize = 0;
+    for (i, step) in steps.iter().enumerate() {
+        let words = words_of(alloc, &step.kind, step.decider)?;
+        if width > LABEL_WIDTH {
+            out.extend_from_slice(b"\\n")?;
+            width = 0;
+        }
+        if i != 0 {
+            out.extend_from_slice(b" |")?;
+        }
+        put_escaped(out, &words)?;
+        width = width.saturating_add(words.len());
+    }
+    Ok(())
+}
+
+/// Appends the chain that a node runs as further lines of its label.
+fn put_chain(
+    alloc: Global,
+    out: &mut Vec<u8>,
+    chains: &[ChainDecl],
+    kind: &Kind,
+) -> Result<(), NoMemory> {
+    let Some(name) = chain_of(kind) else {
+        return Ok(());
+    };
+    let Some(chain) = chain_named(chains, name) else {
+        return Ok(());
+    };
+    out.extend_from_slice(b"\\n")?;
+    put_escaped(out, name.bytes())?;
+    out.push(b':')?;
+    put_steps(alloc, out, &chain.steps)
+}
+
+/// Appends the label of a node: its name, what it does, and the chain that it runs.
+fn put_node(
+    alloc: Global,
+    out: &mut Vec<u8>,
+    chains: &[ChainDecl],
+    node: &Node,
+) -> Result<(), NoMemory> {
+    put_escaped(out, node.name.bytes())?;
+    put_work(alloc, out, node)?;
+    put_chain(alloc, out, chains, &node.kind)
+}
+
+/// The line of a node: its name, its shape, and its label.
+fn node_line(
+    alloc: Global,
+    chains: &[ChainDecl],
+    node: &Node,
+    fault: Option<&[u8]>,
+) -> Result<Vec<u8>, NoMemory> {
     let mut out = Vec::new(alloc);
-    let words = words_of(alloc, node)?;
     out.extend_from_slice(b"  ")?;
     put_quoted(&mut out, node.name.bytes())?;
-    out.extend_from_slice(b" [label=\"")?;
-    put_escaped(&mut out, node.name.bytes())?;
-    out.extend_from_slice(b"\\n")?;
-    put_escaped(&mut out, words.strip_prefix(b" ").unwrap_or(&words))?;
+    out.extend_from_slice(shape_of(&node.kind))?;
+    put_node(alloc, &mut out, chains, node)?;
     put_end(&mut out, fault)?;
     Ok(out)
 }
@@ -82,29 +191,58 @@ fn node_line(alloc: Global, node: &Node, fault: Option<&[u8]>) -> Result<Vec<u8>
 /// A line for each node, in the order of nodes.
 pub(crate) fn node_lines(
     alloc: Global,
-    nodes: &[Node],
+    b: &Blueprint,
     blamed: Option<Blamed<'_>>,
 ) -> Result<Vec<Vec<u8>>, NoMemory>
-    ensures { IfOk result (λ lines. vec_len lines ≡ length nodes.now) }
+    ensures { IfOk result (λ lines. vec_len lines ≡ length b.now.nodes.items) }
 {
     let mut lines = Vec::new(alloc);
-    for (i, node) in nodes.iter().enumerate() {
-        lines.push(node_line(alloc, node, blame_at(blamed, Sort::Node, i))?)?;
+    for (i, node) in b.nodes.iter().enumerate() {
+        lines.push(node_line(alloc, &b.chains, node, blame_at(blamed, Sort::Node, i))?)?;
     }
     Ok(lines)
 }
 
-/// Appends the numbers of the output and the input that a wire joins, where they are not the first.
-fn put_ports(out: &mut Vec<u8>, wire: &WireDecl) -> Result<(), NoMemory> {
-    if wire.output != 0 {
-        out.extend_from_slice(b"taillabel=\"")?;
-        put_number(out, u64::from(wire.output))?;
-        out.extend_from_slice(b"\", ")?;
+/// The node of that name.
+fn node_named<'a>(nodes: &'a [Node], name: &Line) -> Option<&'a Node> {
+    for node in nodes {
+        if node.name == *name {
+            return Some(node);
+        }
     }
-    if wire.input != 0 {
-        out.extend_from_slice(b"headlabel=\"")?;
-        put_number(out, u64::from(wire.input))?;
-        out.extend_from_slice(b"\", ")?;
+    None
+}
+
+/// Whether an output is told by its number: its node has several, or it is not the first.
+fn is_output_told(nodes: &[Node], wire: &WireDecl) -> bool {
+    match node_named(nodes, &wire.from) {
+        Some(node) => wire.output != 0 || output_ports(&node.kind) > 1,
+        None => wire.output != 0,
+    }
+}
+
+/// Whether an input is told by its number: its node has several, or it is not the first.
+fn is_input_told(nodes: &[Node], wire: &WireDecl) -> bool {
+    match node_named(nodes, &wire.to) {
+        Some(node) => wire.input != 0 || input_ports(&node.kind) > 1,
+        None => wire.input != 0,
+    }
+}
+
+/// Appends the number of the output or the input at an end of a wire.
+fn put_port(out: &mut Vec<u8>, end: &[u8], number: u32) -> Result<(), NoMemory> {
+    out.extend_from_slice(end)?;
+    put_number(out, u64::from(number))?;
+    out.extend_from_slice(b"\", ")
+}
+
+/// Appends the numbers of the output and the input that a wire joins, each where its node has several.
+fn put_ports(out: &mut Vec<u8>, nodes: &[Node], wire: &WireDecl) -> Result<(), NoMemory> {
+    if is_output_told(nodes, wire) {
+        put_port(out, b"taillabel=\"", wire.output)?;
+    }
+    if is_input_told(nodes, wire) {
+        put_port(out, b"headlabel=\"", wire.input)?;
     }
     Ok(())
 }
@@ -123,7 +261,11 @@ fn put_label(
         put_type(out, t)?;
     }
     if let Some(size) = wire.lane {
-        out.extend_from_slice(b" async ")?;
+        out.extend_from_slice(if carried.is_some() {
+            b", lane "
+        } else {
+            b"lane "
+        })?;
         put_number(out, u64::from(size))?;
     }
     Ok(())
@@ -132,6 +274,7 @@ fn put_label(
 /// The line of a wire, from its node to its node.
 fn wire_line(
     alloc: Global,
+    nodes: &[Node],
     wire: &WireDecl,
     carried: Option<&ElemType>,
     fault: Option<&[u8]>,
@@ -142,7 +285,7 @@ fn wire_line(
     out.extend_from_slice(b" -> ")?;
     put_quoted(&mut out, wire.to.bytes())?;
     out.extend_from_slice(b" [")?;
-    put_ports(&mut out, wire)?;
+    put_ports(&mut out, nodes, wire)?;
     put_label(&mut out, wire, carried)?;
     put_end(&mut out, fault)?;
     Ok(out)
@@ -159,18 +302,81 @@ fn carried_on(types: &[Option<ElemType>], wire: usize) -> Option<&ElemType> {
 /// A line for each wire, in the order of wires.
 pub(crate) fn wire_lines(
     alloc: Global,
-    wires: &[WireDecl],
+    b: &Blueprint,
     types: &[Option<ElemType>],
     blamed: Option<Blamed<'_>>,
 ) -> Result<Vec<Vec<u8>>, NoMemory>
-    ensures { IfOk result (λ lines. vec_len lines ≡ length wires.now) }
+    ensures { IfOk result (λ lines. vec_len lines ≡ length b.now.wires.items) }
 {
     let mut lines = Vec::new(alloc);
-    for (i, wire) in wires.iter().enumerate() {
+    for (i, wire) in b.wires.iter().enumerate() {
         let fault = blame_at(blamed, Sort::Wire, i);
-        lines.push(wire_line(alloc, wire, carried_on(types, i), fault)?)?;
+        lines.push(wire_line(alloc, &b.nodes, wire, carried_on(types, i), fault)?)?;
     }
     Ok(lines)
+}
+
+/// The switch that a trip orders.
+fn switch_ordered(kind: &Kind) -> Option<&Line> {
+    match kind {
+        Kind::TripShutdown(switch, _) => Some(switch),
+        Kind::TripAbort(switch, _) => Some(switch),
+        _ => None,
+    }
+}
+
+/// Whether a kind is a valve of that switch.
+fn is_valve_of(kind: &Kind, switch: &Line) -> bool {
+    match kind {
+        Kind::Valve(name) => *name == *switch,
+        _ => false,
+    }
+}
+
+/// The line from a trip to a valve of its switch.
+fn order_line(
+    alloc: Global,
+    trip: &Node,
+    valve: &Node,
+    switch: &Line,
+) -> Result<Vec<u8>, NoMemory> {
+    let mut out = Vec::new(alloc);
+    out.extend_from_slice(b"  ")?;
+    put_quoted(&mut out, trip.name.bytes())?;
+    out.extend_from_slice(b" -> ")?;
+    put_quoted(&mut out, valve.name.bytes())?;
+    out.extend_from_slice(
+        b" [style=dotted, arrowhead=vee, constraint=false, color=gray40, fontcolor=gray40, label=\"switch ",
+    )?;
+    put_escaped(&mut out, switch.bytes())?;
+    out.extend_from_slice(b"\"];\n")?;
+    Ok(out)
+}
+
+/// Adds a line from a trip to each valve of its switch.
+fn add_orders(
+    alloc: Global,
+    lines: &mut Vec<Vec<u8>>,
+    nodes: &[Node],
+    trip: &Node,
+    switch: &Line,
+) -> Result<(), NoMemory> {
+    for valve in nodes {
+        if is_valve_of(&valve.kind, switch) {
+            lines.push(order_line(alloc, trip, valve, switch)?)?;
+        }
+    }
+    Ok(())
+}
+
+/// Adds a line from each trip to each valve of its switch.
+fn add_all_orders(alloc: Global, lines: &mut Vec<Vec<u8>>, nodes: &[Node]) -> Result<(), NoMemory> {
+    for trip in nodes {
+        if let Some(switch) = switch_ordered(&trip.kind) {
+            add_orders(alloc, lines, nodes, trip, switch)?;
+        }
+    }
+    Ok(())
 }
 
 /// Appends the names of the nodes of an island.
@@ -185,7 +391,7 @@ fn put_members(out: &mut Vec<u8>, nodes: &[Node], island: &IslandPlan) -> Result
     Ok(())
 }
 
-/// The line of an island: a box round its nodes.
+/// The line of an island: a grey area round its nodes.
 fn island_line(
     alloc: Global,
     nodes: &[Node],
@@ -197,7 +403,7 @@ fn island_line(
     put_number(&mut out, number as u64)?;
     out.extend_from_slice(b" { label=\"island ")?;
     put_number(&mut out, number as u64)?;
-    out.extend_from_slice(b"\";")?;
+    out.extend_from_slice(b"\"; style=filled; color=gray93; margin=14;")?;
     put_members(&mut out, nodes, island)?;
     out.extend_from_slice(b" }\n")?;
     Ok(out)
@@ -218,19 +424,19 @@ pub(crate) fn island_lines(
     Ok(lines)
 }
 
-/// A line for a switch or a chain that is at fault, which no node stands for.
-pub(crate) fn other_lines(
+/// Adds a line for a switch or a chain that is at fault, which no node stands for.
+fn add_blamed(
     alloc: Global,
+    lines: &mut Vec<Vec<u8>>,
     blamed: Option<Blamed<'_>>,
-) -> Result<Vec<Vec<u8>>, NoMemory> {
-    let mut lines = Vec::new(alloc);
+) -> Result<(), NoMemory> {
     let Some(b) = blamed else {
-        return Ok(lines);
+        return Ok(());
     };
     let sort: &[u8] = match b.place.sort {
         Sort::Switch => b"switch ",
         Sort::Chain => b"chain ",
-        Sort::Node | Sort::Wire => return Ok(lines),
+        Sort::Node | Sort::Wire => return Ok(()),
     };
     let mut out = Vec::new(alloc);
     out.extend_from_slice(b"  \"at fault\" [label=\"")?;
@@ -238,5 +444,17 @@ pub(crate) fn other_lines(
     put_number(&mut out, b.place.number as u64)?;
     put_end(&mut out, Some(b.fault))?;
     lines.push(out)?;
+    Ok(())
+}
+
+/// The lines that are of no node, wire or island: of a switch or a chain that is at fault, and from trips to valves.
+pub(crate) fn other_lines(
+    alloc: Global,
+    nodes: &[Node],
+    blamed: Option<Blamed<'_>>,
+) -> Result<Vec<Vec<u8>>, NoMemory> {
+    let mut lines = Vec::new(alloc);
+    add_blamed(alloc, &mut lines, blamed)?;
+    add_all_orders(alloc, &mut lines, nodes)?;
     Ok(lines)
 }

@@ -1,10 +1,15 @@
 -- Answers on a text that says a blueprint which breaks no rule.
-use Rattle.std.proofs.Common.{◌≡◌, ◌⊎◌, inl, inr, ℕ, List, [], sym, subst}
+use Rattle.std.proofs.Common.{◌≡◌, ◌≤◌, ◌⊎◌, ◌∙◌, inl, inr, ℕ, List, [], length, sym, subst}
+use Rattle.blue_lang.proofs.Roundtrip.{canonical_says}
+use Rattle.blue_lang.specs.Blueprints.{Says}
+use Rattle.blue_lang.specs.Canonical.{canonical}
+use Rattle.blue_lang.specs.Plain.{PlainBlueprint}
 use Rattle.blue_core.specs.declared.blueprint.Blueprint.{Blueprint}
 use Rattle.workbench_faults.specs.Judging.{IsFitText}
 use Rattle.workbench_draw.specs.Drawing.{IsDrawingOf}
 use Rattle.workbench_turns.specs.Turns.{Suffices}
 use Rattle.workbench_answers.specs.Answer.{Checks, Counts, DrawsFit}
+use Rattle.workbench_answers.specs.Rows.{SaysRow}
 use Rattle.workbench_answers.specs.declared.answer.Answer.{Answer}
 use Rattle.workbench_answers.specs.declared.answer.Ending.TheVariants as ending
 
@@ -26,3 +31,10 @@ misses text file counts b a fit ends said = elim ends [
   | inl words ↦ inr (inl (record { ending = words; blueprint = b; fit = fit; said = said words }))
   | inr memory ↦ inr (inr (inr memory))
 ]
+
+-- the canonical text of a row's blueprint is said, and is read again as that blueprint
+pub says_row : (text said : List ℕ) (b : PlainBlueprint) (a : Answer) → Says text b → a.ending ≡ ending.Done → a.said.items ≡ said → a.told.items ≡ [] → said ≡ canonical b → length said ≤ 1048576 → SaysRow text a
+says_row text said b a says done same told is short =
+    let whole : a.said.items ≡ canonical b = same ∙ is in
+    record { ending = done; blueprint = b; says = says; said = whole; told = told;
+      again = subst (λ t. Says t b) (sym whole) (canonical_says text b says (subst (λ t. length t ≤ 1048576) is short)) }

@@ -1,11 +1,11 @@
 // What is answered to a work on the text of a blueprint's file.
-ghost use Rattle.std.specs.Prelude.{◌≡◌, ◌⊎◌, [], IfOk, IfSome};
+ghost use Rattle.std.specs.Prelude.{◌≡◌, ◌⊎◌, [], IfOk, IfSome, Some};
 ghost use Rattle.blue_check.specs.Checked.{checked_blueprint};
 ghost use Rattle.workbench_faults.specs.Judging.{IsFitText, IsUnready};
-ghost use Rattle.blue_lang.specs.Blueprints.{Says};
+ghost use Rattle.blue_lang.specs.Blueprints.{Says, text_fault};
 ghost use Rattle.blue_lang.specs.Plain.{plain};
 ghost use Rattle.workbench_faults.specs.Message.{BeginsWithReport};
-ghost use Rattle.workbench_answers.specs.Answer.{IsBlame, Blames, Checks, SaysCanonical, Formats, DrawsFit, DrawsUnfit, DrawsAnswer, Counts};
+ghost use Rattle.workbench_answers.specs.Answer.{IsBlame, Blames, Checks, RefusesText, SaysCanonical, Formats, DrawsFit, DrawsUnfit, DrawsAnswer, Counts};
 
 use crate::answer::{Answer, Ending};
 use blue_check::checked::Checked;
@@ -13,6 +13,7 @@ use blue_check::fault::CheckFault;
 use blue_core::blueprint::Blueprint;
 use blue_lang::parse::{ParseEnd, parse};
 use blue_lang::print::print;
+use blue_words::fault::BlueFault;
 use blue_words::lines::{is_passed_over, next_line};
 use elem_core::line::Line;
 use elem_core::why::NoMemory;
@@ -35,6 +36,15 @@ fn faulty(alloc: Global, text: &[u8], file: &Line, why: &Unready) -> Answer
         Ok(message) => Answer::telling(alloc, Ending::Faulty, message),
         Err(_) => Answer::without_memory(alloc),
     }
+}
+
+/// The answer that tells the first fault of a text that stands in no file.
+pub(crate) fn refused(alloc: Global, text: &[u8], fault: BlueFault) -> Answer
+    requires { text_fault text.now ≡ Some fault }
+    ensures { RefusesText text.now result ⊎ (result.ending ≡ Ending.NoMemory) }
+{
+    let no_file = Line::of(Vec::new(alloc));
+    faulty(alloc, text, &no_file, &Unready::Refused(fault))
 }
 
 /// The same where it is the fault of the text.

@@ -8,10 +8,11 @@ use crate::judge::Unready;
 use crate::place::place_of;
 use crate::sayings::{Saying, of_rule, of_text};
 use crate::source::{SourceLine, line_numbered, line_of};
+use crate::walk::put_misfit;
 use blue_check::detail::put_detail;
 use blue_check::fault::CheckFault;
 use blue_lang::parse::parse;
-use blue_words::fault::{BlueFault, kind_number};
+use blue_words::fault::{BlueFault, BlueKind, kind_number};
 use elem_core::line::Line;
 use elem_core::why::NoMemory;
 use itoa::Buffer;
@@ -114,14 +115,29 @@ fn words_of_rule(
     Ok(out)
 }
 
+/// Appends at which word of its line a fault is, where it is at a word, and what may stand there.
+fn put_word_at(
+    alloc: Global,
+    out: &mut Vec<u8>,
+    line: Option<SourceLine<'_>>,
+    kind: BlueKind,
+) -> Result<(), NoMemory> {
+    let Some(line) = line else {
+        return Ok(());
+    };
+    match kind {
+        BlueKind::BadLine => put_misfit(alloc, out, line.bytes, false),
+        BlueKind::BadName | BlueKind::BadNumber => put_misfit(alloc, out, line.bytes, true),
+        _ => Ok(()),
+    }
+}
+
 /// What is said of a fault of a text behind the line of the report.
 fn words_of_text(alloc: Global, text: &[u8], fault: BlueFault) -> Result<Vec<u8>, NoMemory> {
     let mut out = Vec::new(alloc);
-    put_saying(
-        &mut out,
-        line_numbered(text, fault.line),
-        of_text(fault.kind),
-    )?;
+    let line = line_numbered(text, fault.line);
+    put_saying(&mut out, line, of_text(fault.kind))?;
+    put_word_at(alloc, &mut out, line, fault.kind)?;
     Ok(out)
 }
 

@@ -1,13 +1,14 @@
 -- What a call of the workbench answers and leaves.
-use Rattle.std.specs.Prelude.{◌≡◌, ℕ, ◌⊎◌, IsTrue, false, List, Some}
+use Rattle.std.specs.Prelude.{◌≡◌, ℕ, ◌⊎◌, ◌++◌, IsTrue, false, List, [], Some, None, codes}
 use Rattle.std.specs.Option.{option_map}
 use Rattle.stream_io.specs.State.{FolderState, DrainState, SameFiles}
 use Rattle.file_text.specs.Text.{text_of_file, StaysMissing, FailsToRead}
 use Rattle.stream_io.specs.Putting.{Puts}
-use Rattle.workbench_words.specs.Task.{Asks, is_task}
+use Rattle.workbench_words.specs.Task.{Asks, is_task, row_in}
 use Rattle.workbench_words.specs.declared.task.Task.{Task}
 use Rattle.workbench_words.specs.declared.task.TaskKind.TheVariants.{Explain}
 use Rattle.workbench_answers.specs.Answer.{AnswersText, code_of}
+use Rattle.workbench_answers.specs.Rows.{PrintsRow, row_text}
 use Rattle.workbench_answers.specs.declared.answer.Answer.{Answer}
 use Rattle.workbench_answers.specs.declared.answer.Ending.TheVariants as ending
 
@@ -17,10 +18,19 @@ pub record AnswersFile (t : Task) (old : FolderState) (a : Answer) : Type 0 wher
   pub is : option_map text_of_file (old.file t.file) ≡ Some text
   pub answers : AnswersText t.work text t.file t.counts.items a
 
+-- what is told of a file that is not there: its name
+abbrev pub missing_text : List ℕ → List ℕ
+missing_text file = codes "the blueprint's file " ++ (file ++ codes " is not there, or was refused\n")
+
+pub record IsMissing (file : List ℕ) (a : Answer) : Type 0 where
+  pub ending : a.ending ≡ ending.Missing
+  pub said : a.said.items ≡ []
+  pub told : a.told.items ≡ missing_text file
+
 -- The file is not there; it, or the report, could not be read; memory was wanting; or the text is answered.
 abbrev pub AnswersTask : Task → FolderState → FolderState → Answer → Type 0
 AnswersTask t old new a =
-    ((a.ending ≡ ending.Missing) × StaysMissing old new t.file)
+    (IsMissing t.file a × StaysMissing old new t.file)
     ⊎ (((a.ending ≡ ending.ReadFault) × (FailsToRead old new t.file ⊎ (t.work ≡ Explain)))
     ⊎ ((a.ending ≡ ending.NoMemory) ⊎ (IsTrue old.tells → AnswersFile t old a)))
 
@@ -30,14 +40,22 @@ pub record AnswersAsked (words : List (List ℕ)) (old new : FolderState) (a : A
   pub asks : Asks words task
   pub answers : AnswersTask task old new a
 
+-- the answer to a row that the words ask for
+pub record AnswersRow (words : List (List ℕ)) (a : Answer) : Type 0 where
+  pub source : List ℕ
+  pub parts : List ℕ
+  pub asks : row_in words ≡ Some (source, parts)
+  pub prints : PrintsRow (row_text source parts) a
+
 -- the words are no command: help is said, or what is wrong is told
 pub record AnswersNothing (words : List (List ℕ)) (a : Answer) : Type 0 where
+  pub row : row_in words ≡ None
   pub grammar : is_task words ≡ false
   pub ending : (a.ending ≡ ending.Done) ⊎ (a.ending ≡ ending.Words)
 
 -- what is answered to words; memory may be wanting at any words
 abbrev pub AnswersWords : List (List ℕ) → FolderState → FolderState → Answer → Type 0
-AnswersWords words old new a = AnswersNothing words a ⊎ ((a.ending ≡ ending.NoMemory) ⊎ AnswersAsked words old new a)
+AnswersWords words old new a = AnswersNothing words a ⊎ ((a.ending ≡ ending.NoMemory) ⊎ (AnswersRow words a ⊎ AnswersAsked words old new a))
 
 -- the answer is put: what is said on the console, and what is told where faults are told; or a write failed, which is code 8
 abbrev pub IsAnswerPut : Answer → DrainState → DrainState → DrainState → DrainState → ℕ → Type 0

@@ -1,19 +1,21 @@
 // A call of the workbench.
-ghost use Rattle.std.specs.Prelude.{◌≡◌, ◌⊎◌};
+ghost use Rattle.std.specs.Prelude.{◌≡◌, ◌⊎◌, IfOk, None};
 ghost use Rattle.stream_io.specs.State.{SameFiles};
-ghost use Rattle.workbench_words.specs.Task.{Asks, TaskEnds};
+ghost use Rattle.workbench_words.specs.Task.{Asks, TaskEnds, row_in};
 ghost use Rattle.workbench_answers.specs.Answer.{AnswersText};
-ghost use Rattle.workbench_top.specs.Call.{AnswersTask, AnswersNothing, AnswersWords, IsAnswerPut, Works};
+ghost use Rattle.workbench_top.specs.Call.{AnswersTask, AnswersNothing, AnswersWords, IsAnswerPut, IsMissing, Works, missing_text};
 
 use crate::report::{ReportEnd, read_report};
 use elem_core::line::Line;
+use elem_core::why::NoMemory;
 use file_text::text::{ReadEnd, read_file};
 use std::alloc::Global;
 use stream_io::outside::{Drain, Folder, Source};
 use stream_io::put::put_all;
 use workbench_answers::answer::{Answer, Ending, code};
+use workbench_answers::rows::answer_row;
 use workbench_answers::texts::{check_text, count_text, draw_text, explain_text, format_text};
-use workbench_words::task::{Task, TaskEnd, TaskKind, read_words};
+use workbench_words::task::{Task, TaskEnd, TaskKind, read_row, read_words};
 
 /// The answer that tells these words.
 fn telling(alloc: Global, ending: Ending, words: &[u8]) -> Answer
@@ -21,6 +23,27 @@ fn telling(alloc: Global, ending: Ending, words: &[u8]) -> Answer
 {
     match Vec::from_slice(alloc, words) {
         Ok(told) => Answer::telling(alloc, ending, told),
+        Err(_) => Answer::without_memory(alloc),
+    }
+}
+
+/// What is told of a file that is not there.
+fn missing_text(alloc: Global, file: &Line) -> Result<Vec<u8>, NoMemory>
+    ensures { IfOk result (λ told. told.items ≡ missing_text file.now) }
+{
+    let mut told = Vec::new(alloc);
+    told.extend_from_slice(b"the blueprint's file ")?;
+    told.extend_from_slice(file.bytes())?;
+    told.extend_from_slice(b" is not there, or was refused\n")?;
+    Ok(told)
+}
+
+/// The answer where the blueprint's file is not there.
+fn missing(alloc: Global, file: &Line) -> Answer
+    ensures { IsMissing file.now result ⊎ (result.ending ≡ Ending.NoMemory) }
+{
+    match missing_text(alloc, file) {
+        Ok(told) => Answer::telling(alloc, Ending::Missing, told),
         Err(_) => Answer::without_memory(alloc),
     }
 }
@@ -63,11 +86,7 @@ fn answer_task<S: Source, F: Folder>(
 {
     match read_file(alloc, folder, &task.file) {
         Ok(text) => answer_text(alloc, task, &text, input),
-        Err(ReadEnd::Missing) => telling(
-            alloc,
-            Ending::Missing,
-            b"the blueprint's file is not there, or was refused\n",
-        ),
+        Err(ReadEnd::Missing) => missing(alloc, &task.file),
         Err(ReadEnd::Fault) => telling(
             alloc,
             Ending::ReadFault,
@@ -79,7 +98,8 @@ fn answer_task<S: Source, F: Folder>(
 
 /// The answer to words that ask for nothing.
 fn answer_end(alloc: Global, words: &[Line], end: TaskEnd) -> Answer
-    requires { TaskEnds words.now end }
+    requires row { row_in words.now ≡ None }
+    requires end { TaskEnds words.now end }
     ensures { AnswersNothing words.now result ⊎ (result.ending ≡ Ending.NoMemory) }
 {
     match end {
@@ -89,7 +109,25 @@ fn answer_end(alloc: Global, words: &[Line], end: TaskEnd) -> Answer
     }
 }
 
+/// The answer to words that ask for no row.
+fn answer_no_row<S: Source, F: Folder>(
+    alloc: Global,
+    words: &[Line],
+    input: &mut S,
+    folder: &mut F,
+) -> Answer
+    requires { row_in words.now ≡ None }
+    ensures answers { AnswersWords words.now (F.state folder.old) (F.state folder.new) result }
+    ensures files { SameFiles (F.state folder.old) (F.state folder.new) }
+{
+    match read_words(alloc, words) {
+        Ok(task) => answer_task(alloc, &task, input, folder),
+        Err(end) => answer_end(alloc, words, end),
+    }
+}
+
 /// The answer to words.
+#[tactic(auto, using(crate::proofs::Answering::row_asked))]
 fn answer_words<S: Source, F: Folder>(
     alloc: Global,
     words: &[Line],
@@ -99,9 +137,9 @@ fn answer_words<S: Source, F: Folder>(
     ensures answers { AnswersWords words.now (F.state folder.old) (F.state folder.new) result }
     ensures files { SameFiles (F.state folder.old) (F.state folder.new) }
 {
-    match read_words(alloc, words) {
-        Ok(task) => answer_task(alloc, &task, input, folder),
-        Err(end) => answer_end(alloc, words, end),
+    match read_row(words) {
+        Some((source, parts)) => answer_row(alloc, source, parts),
+        None => answer_no_row(alloc, words, input, folder),
     }
 }
 
@@ -115,8 +153,8 @@ fn put_answer<C: Drain, D: Drain>(answer: &Answer, console: &mut C, faults: &mut
     code(answer.ending)
 }
 
-/// A call of the workbench: `check FILE`, `fmt FILE`, `draw FILE`, `explain FILE` or `turns FILE N..`. It reads the blueprint of that
-/// file, and for `explain` a report from the input; it changes no file. What was wanted goes to the console, faults go where faults
+/// A call of the workbench: `check FILE`, `fmt FILE`, `draw FILE`, `explain FILE`, `turns FILE N..` or `row ROW`. It reads the blueprint
+/// of that file, and for `explain` a report from the input, and for `row` nothing; it changes no file. What was wanted goes to the console, faults go where faults
 /// are told. The exit code is 0, 1 for the words, 2 for the blueprint, and those of `streams` for the outside and for memory: 6, 7, 8
 /// and 9.
 pub fn run_workbench<S: Source, F: Folder, C: Drain, D: Drain>(

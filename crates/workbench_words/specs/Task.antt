@@ -3,6 +3,7 @@ use Rattle.std.specs.Prelude.{◌≡◌, ℕ, Bool, true, false, ◌&&◌, if◌
 use Rattle.std.specs.List.{list_all}
 use Rattle.std.specs.Str.{bytes_eq}
 use Rattle.blue_words.specs.declared.fault.BlueKind.{BlueKind}
+use Rattle.blue_words.specs.Cut.{cut_at}
 use Rattle.blue_words.specs.Names.{is_file_name}
 use Rattle.blue_words.specs.Numbers.{read_count}
 use Rattle.workbench_words.specs.declared.task.Task.{Task}
@@ -10,6 +11,15 @@ use Rattle.workbench_words.specs.declared.task.TaskEnd.{TaskEnd}
 use Rattle.workbench_words.specs.declared.task.TaskEnd.TheVariants.{NoMemory}
 use Rattle.workbench_words.specs.declared.task.TaskKind.{TaskKind}
 use Rattle.workbench_words.specs.declared.task.TaskKind.TheVariants.{Check, Format, Draw, Explain, Turns}
+
+-- the row behind the command's name: what stands before its first bar, and what stands behind it
+abbrev pub row_named : List ℕ → List ℕ → Option (List ℕ × List ℕ)
+row_named name row = if bytes_eq name (codes "row") then cut_at 124 row else None
+
+-- the row that words ask for
+abbrev pub row_in : List (List ℕ) → Option (List ℕ × List ℕ)
+row_in (name ∷ row ∷ []) = row_named name row
+row_in _ = None
 
 -- the work of that name
 abbrev pub task_named : List ℕ → Option TaskKind

@@ -1,9 +1,10 @@
 // What the words of the workbench ask for.
-ghost use Rattle.std.specs.Prelude.{◌≡◌, false, true, map, IfOk, IfErr, IfSome, Ok, None};
+ghost use Rattle.std.specs.Prelude.{◌≡◌, false, true, map, IfOk, IfErr, IfSome, MatchOption, Ok, None, Some};
 ghost use Rattle.blue_words.specs.Numbers.{read_count};
-ghost use Rattle.workbench_words.specs.Task.{Asks, TaskEnds, task_named, are_numbers, allows, is_rest, is_task};
+ghost use Rattle.workbench_words.specs.Task.{Asks, TaskEnds, row_named, row_in, task_named, are_numbers, allows, is_rest, is_task};
 
 use crate::texts::no_task;
+use blue_words::lines::cut_at;
 use blue_words::names::is_file_name;
 use blue_words::places::count_place;
 use blue_words::words::is_word;
@@ -137,6 +138,27 @@ fn task_in(alloc: Global, words: &[Line]) -> Result<Option<Task>, AllocError>
             None => Ok(None),
         },
         _ => Ok(None),
+    }
+}
+
+/// The row behind the command's name, where that is `row`: what stands before its first `|`, and what stands behind it.
+fn row_named<'a>(name: &Line, row: &'a Line) -> Option<(&'a [u8], &'a [u8])>
+    ensures { MatchOption result (row_named name.now row.now ≡ None) (λ r. row_named name.now row.now ≡ Some (r.0.now, r.1.now)) }
+{
+    if is_word(name.bytes(), b"row") {
+        cut_at(row.bytes(), b'|')
+    } else {
+        None
+    }
+}
+
+/// The row whose blueprint the words ask for, by `row ROW`: what stands before its first `|`, and what stands behind it.
+pub fn read_row(words: &[Line]) -> Option<(&[u8], &[u8])>
+    ensures { MatchOption result (row_in words.now ≡ None) (λ r. row_in words.now ≡ Some (r.0.now, r.1.now)) }
+{
+    match words {
+        [name, row] => row_named(name, row),
+        _ => None,
     }
 }
 

@@ -7,7 +7,7 @@ use std::alloc::{AllocError, Global};
 
 /// What is said of words that clap takes and the grammar does not.
 const NO_PLACE: &str =
-    "FILE is the name of a file in this folder (a letter or a digit, and letters, digits, `.`, `_` and `-`), and N a number";
+    "FILE is the name of a file in this folder (a letter or a digit, and letters, digits, `.`, `_` and `-`), N a number, and ROW a source, stages and a sink with `|` between them";
 
 /// A command on one file.
 fn command<'a>(alloc: Global, name: &'a str, about: &'a str) -> Result<Command<'a>, AllocError> {
@@ -31,6 +31,16 @@ fn turns<'a>(alloc: Global) -> Result<Command<'a>, AllocError> {
     .arg(counts)
 }
 
+/// The command that prints the blueprint of a row.
+fn row<'a>(alloc: Global) -> Result<Command<'a>, AllocError> {
+    let row = Arg::new(alloc, "ROW").required(true).help(
+        "A source, stages and a sink with `|` between them, as one word",
+    );
+    Command::new(alloc, "row")
+        .about("Prints the blueprint of a row")
+        .arg(row)
+}
+
 /// The workbench as clap is told of it.
 fn workbench<'a>(alloc: Global) -> Result<Command<'a>, AllocError> {
     Command::new(alloc, "blueprint")
@@ -46,7 +56,8 @@ fn workbench<'a>(alloc: Global) -> Result<Command<'a>, AllocError> {
             "explain",
             "Says a report of streams, read from standard input, in words",
         )?)?
-        .subcommand(turns(alloc)?)
+        .subcommand(turns(alloc)?)?
+        .subcommand(row(alloc)?)
 }
 
 /// The texts of the words; None where one is no text.

@@ -13,7 +13,7 @@ use Rattle.atomic_table.proofs.shared.Seat.TheSendSync as seat
 use Rattle.atomic_table.proofs.shared.Shared.TheSendSync as shared
 use Rattle.atomic_table.proofs.send_lease.SendLease.TheSendSync as lease
 use Rattle.turn_table.specs.contracts.turns.Turns as turns
-use Rattle.dispatcher.specs.contracts.crew.ReadyList as ready_list
+use Rattle.dispatcher.specs.contracts.ready.ReadyList as ready_list
 use Rattle.unit_budget.specs.contracts.budget.Budget as budget
 use Rattle.unit_budget.specs.contracts.budget.BudgetSeat as budget_seat
 use Rattle.dispatcher.specs.contracts.place.TablePlace as place
@@ -26,7 +26,7 @@ start_send : (T : RattleType) → IsSend (snapshot.the_row T)
 start_send T = owning_send (snapshot.the_type T) (search sendable, tt) (λ d. tt) (λ k x w. tt)
 
 fields_send : (T : RattleType) (g : _) (h : _) → IsSend T → IsSend (inside.the_row T g h)
-fields_send T g h s = declared_send (inside.the_type T g h) (as_row_send (row_field T) s, (seat_send, (start_send T, (as_row_send u32-field (search sendable), (as_row_send bool-field (search sendable), tt)))))
+fields_send T g h s = declared_send (inside.the_type T g h) (as_row_send (row_field T) s, (seat_send, (start_send T, (as_row_send u32-field (search sendable), (as_row_send bool-field (search sendable), (as_row_send bool-field (search sendable), tt))))))
 
 pub place_send : (T : RattleType) (g : _) (h : _) → IsSend T → IsSend (place.the_row T g h)
 place_send T g h s = view_send _ _ _ _ _ (fields_send T g h s)

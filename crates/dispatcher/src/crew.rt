@@ -1,5 +1,5 @@
 // What the workers share, and what one of them does.
-ghost use Rattle.std.specs.Prelude.{◌≡◌, ◌<◌, ◌≤◌, length, IfOk, IfSome};
+ghost use Rattle.std.specs.Prelude.{◌≡◌, ◌<◌, ◌≤◌, length};
 ghost use Rattle.std.specs.List.{All};
 ghost use Rattle.elem_core.specs.declared.count.TheConstants.{MOST_COUNT};
 ghost use Rattle.unit_budget.specs.Public.{budget_id};
@@ -7,89 +7,43 @@ ghost use Rattle.turn_table.specs.Public.{IsSeatOf, IsFree, held_turns, handed_i
 ghost use Rattle.dispatcher.specs.Crew.{IsCrew};
 
 use crate::place::{Came, TablePlace};
+use crate::ready::ReadyList;
 use crate::waking::Waking;
-use crossbeam_queue::ArrayQueue;
-use crossbeam_utils::Backoff;
-use std::alloc::{AllocError, Global};
+use std::alloc::Global;
 use std::sync::Wait;
 use std::thread::{Threads, for_each_mut};
 use turn_table::turns::{TurnSeat, Turns};
 use unit_budget::budget::Budget;
 
-/// The islands that are ready, of so many.
-#[derive(Drop)]
-pub struct ReadyList {
-    queue: ArrayQueue<u32, Global>,
-    count: u32,
-}
-
-// How many tries in a row find no island before a worker leaves.
-const TRIES: u32 = 1000;
-
-impl ReadyList {
-    /// A list of so many islands, none of which is ready.
-    pub fn new(alloc: Global, count: u32) -> Result<ReadyList, AllocError>
-        requires { 0 < count }
-        ensures { IfOk result (λ l. l.count ≡ count) }
-    {
-        Ok(ReadyList {
-            queue: ArrayQueue::new(alloc, count as usize)?,
-            count,
-        })
-    }
-}
-
-// Takes an island from the ready list.
-fn take<R: Wait>(rt: &R, list: &ReadyList) -> Option<u32>
-    ensures { IfSome result (λ id. id < list.now.count) }
-{
-    let id = list.queue.pop(rt)?;
-    if id < list.count { Some(id) } else { None }
-}
-
-// Puts an island on the ready list. One that finds it full is left to the caller's thread.
-fn put<R: Wait>(rt: &R, list: &ReadyList, id: u32) {
-    let _ = list.queue.push(rt, id);
-}
-
-// Wakes an island, and puts it on the ready list where it was at rest.
-fn wake_one<B: Waking, R: Wait>(
-    rt: &R,
-    turns: &Turns<TablePlace<B>>,
-    list: &ReadyList,
-    seat: &mut TurnSeat,
-    id: u32,
-)
-    requires inside { id < length (handed_in turns.now) }
-    requires seat { IsSeatOf turns.now seat.old }
-    ensures { IsSeatOf turns.now seat.new × (held_turns seat.new ≡ held_turns seat.old) }
-{
-    if turns.wake(seat, id) {
-        put(rt, list, id);
-    }
-}
-
-// Wakes the islands that a body names, of those that there are.
+// Wakes the islands that a body names, of those that there are, and puts those on the ready list that were at rest. True where some
+// were. The worker itself comes for the first of them, and behind a long turn it wakes a worker that sleeps for each further one.
 fn wake_peers<B: Waking, R: Wait>(
     rt: &R,
     turns: &Turns<TablePlace<B>>,
     list: &ReadyList,
     seat: &mut TurnSeat,
     peers: &[u32],
-)
+    long: bool,
+) -> bool
     requires count { length (handed_in turns.now) ≡ list.now.count }
     requires seat { IsSeatOf turns.now seat.old }
     ensures { IsSeatOf turns.now seat.new × (held_turns seat.new ≡ held_turns seat.old) }
 {
+    let mut some = false;
     for i in 0..peers.len() {
         let peer = peers[i];
-        if peer < list.count {
-            wake_one(rt, turns, list, seat, peer);
+        if peer < list.count && turns.wake(seat, peer) {
+            list.put(rt, peer);
+            if some && long {
+                list.call_one();
+            }
+            some = true;
         }
     }
+    some
 }
 
-/// Wakes every island.
+/// Wakes every island, before any worker is there.
 pub fn wake_each<B: Waking, R: Wait>(
     rt: &R,
     turns: &Turns<TablePlace<B>>,
@@ -101,7 +55,9 @@ pub fn wake_each<B: Waking, R: Wait>(
     ensures { IsFree turns.now seat.new }
 {
     for id in 0..list.count {
-        wake_one(rt, turns, list, seat, id);
+        if turns.wake(seat, id) {
+            list.put(rt, id);
+        }
     }
 }
 
@@ -125,18 +81,21 @@ fn serve<B: Waking, R: Wait>(
     let Ok(mut turn) = turns.begin(seat, id) else {
         return true;
     };
-    let came = turn.value().turn(alloc, budget);
-    wake_peers(rt, turns, list, seat, turn.value().wakes(&came));
+    let came = turn.value().turn(alloc, budget, list);
+    let some = wake_peers(rt, turns, list, seat, turn.value().wakes(&came), came.long);
     if came.again {
         turns.wake(seat, id);
     }
     if turns.end(seat, turn) {
-        put(rt, list, id);
+        list.put(rt, id);
+        if some && came.long {
+            list.call_one();
+        }
     }
     !came.broke
 }
 
-// One worker. It leaves after so many tries in a row that found no island, and where memory was wanting.
+// One worker. It leaves where no island is on the list and no worker is busy, so that none will be, and where memory was wanting.
 fn work<B: Waking, R: Wait>(
     rt: &R,
     alloc: Global,
@@ -150,23 +109,23 @@ fn work<B: Waking, R: Wait>(
     requires seat { IsFree turns.now seat.old }
     ensures { IsFree turns.now seat.new }
 {
-    let backoff = Backoff::new();
-    let mut missed = 0u32;
+    list.join();
+    let mut taken = 0u32;
     for _ in rt.forever() {
-        if missed >= TRIES {
-            break;
-        }
-        match take(rt, list) {
+        match list.take(rt) {
             Some(id) => {
-                missed = 0;
-                backoff.reset();
+                taken = list.stride(taken);
                 if !serve(rt, alloc, turns, budget, list, seat, id) {
+                    list.call_one();
+                    list.rest();
                     break;
                 }
             }
             None => {
-                missed += 1;
-                backoff.snooze();
+                if !list.rest() || !list.wait(rt) {
+                    break;
+                }
+                list.join();
             }
         }
     }

@@ -6,6 +6,7 @@ pub mod finish;
 pub mod origin;
 pub mod place;
 pub mod ran;
+pub mod ready;
 pub mod run;
 pub mod taken;
 pub mod waking;

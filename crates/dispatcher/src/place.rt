@@ -5,6 +5,7 @@ ghost use Rattle.unit_budget.specs.Public.{budget_id, seat_id, limit_of};
 ghost use Rattle.dispatcher.specs.Places.{Paid, PlaceStands, Belongs};
 
 use crate::origin::PlaceOrigin;
+use crate::ready::ReadyList;
 use crate::waking::Waking;
 use rounds::turning::Turning;
 use std::alloc::Global;
@@ -22,6 +23,8 @@ pub struct TablePlace<B: Turning> {
     start: Snapshot<B>,
     used: u32,
     broken: bool,
+    // Whether its last turn lasted, as one does that waits in a read.
+    slow: bool,
 }
 
 impl<B: Turning> Model for TablePlace<B> {
@@ -50,9 +53,14 @@ pub struct Came {
     pub told: bool,
     /// Whether it used up what it claimed, and that was some.
     pub again: bool,
+    /// Whether it used so many units that what it woke is worth another worker.
+    pub long: bool,
     /// Whether memory was wanting.
     pub broke: bool,
 }
+
+// How many units a turn uses that is worth another worker.
+const LONG: u32 = 32;
 
 /// What a place is made of.
 pub struct TableParts<B> {
@@ -81,11 +89,27 @@ impl<B: Turning> TablePlace<B> {
             start,
             used: 0,
             broken: false,
+            slow: false,
         }
     }
 
-    /// One turn of at most 1000 units, all of which the budget has. After a turn in which memory was wanting there is none.
-    pub fn turn(&mut self, alloc: Global, budget: &Budget) -> Came
+    /// One turn of at most 1000 units, all of which the budget has. After a turn in which memory was wanting there is none. Where its
+    /// last turn lasted, another worker is called first for what else is on the list.
+    pub fn turn(&mut self, alloc: Global, budget: &Budget, list: &ReadyList) -> Came
+        requires belongs { Belongs (budget_id budget.now) budget.now.limit self.old }
+        requires few { budget.now.limit ≤ MOST_COUNT }
+        ensures same { self.new ≡ self.old }
+    {
+        if self.slow {
+            list.call_for_more();
+        }
+        let naps = list.naps();
+        let came = self.take_turn(alloc, budget);
+        self.slow = list.lasted(naps);
+        came
+    }
+
+    fn take_turn(&mut self, alloc: Global, budget: &Budget) -> Came
         requires belongs { Belongs (budget_id budget.now) budget.now.limit self.old }
         requires few { budget.now.limit ≤ MOST_COUNT }
         ensures same { self.new ≡ self.old }
@@ -94,6 +118,7 @@ impl<B: Turning> TablePlace<B> {
             return Came {
                 told: false,
                 again: false,
+                long: false,
                 broke: false,
             };
         }
@@ -105,6 +130,7 @@ impl<B: Turning> TablePlace<B> {
                 Came {
                     told: used > 0,
                     again: granted > 0 && used as u64 == granted,
+                    long: used >= LONG,
                     broke: false,
                 }
             }
@@ -114,6 +140,7 @@ impl<B: Turning> TablePlace<B> {
                 Came {
                     told: false,
                     again: false,
+                    long: false,
                     broke: true,
                 }
             }
@@ -131,6 +158,7 @@ impl<B: Turning> TablePlace<B> {
             start: _,
             used,
             broken,
+            slow: _,
         } = self;
         TableParts {
             body,

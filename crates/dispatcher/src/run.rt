@@ -10,10 +10,11 @@ ghost use Rattle.dispatcher.specs.Broken.{WholeOrBroken};
 ghost use Rattle.dispatcher.specs.Places.{BodyWentOn, WentOrBroke};
 ghost use Rattle.dispatcher.specs.Crew.{IsCrew};
 
-use crate::crew::{ReadyList, wake_each, work_all};
+use crate::crew::{wake_each, work_all};
 use crate::finish::{Finish, settled};
 use crate::place::TablePlace;
 use crate::ran::Ran;
+use crate::ready::ReadyList;
 use crate::taken::{TurnsTaken, place_all, take_apart, untaken};
 use crate::waking::Waking;
 use elem_core::why::NoMemory;
@@ -57,7 +58,7 @@ impl<B: Waking> RunRoom<B> {
     }
 }
 
-// All islands are woken, the workers take turns until they find none, and the table is closed.
+// All islands are woken, the workers take turns until none is ready any more, and the table is closed.
 fn take_turns<B: Waking + Send, R: Threads + Wait + Sync>(
     rt: &R,
     alloc: Global,
@@ -84,8 +85,8 @@ fn take_turns<B: Waking + Send, R: Threads + Wait + Sync>(
 // The greatest number of bodies of a run.
 const MOST_BODIES: usize = 4294967294;
 
-// The workers' part of a run. There is none where one worker runs, or one body at most: nobody takes a turn beside another then, and
-// the caller's thread needs no table for it. Where memory was wanting at first no turn was taken.
+// The workers' part of a run, by no more of them than there are bodies. There is none where one worker runs, or one body at most: nobody
+// takes a turn beside another then, and the caller's thread needs no table for it. Where memory was wanting at first no turn was taken.
 fn run_workers<B: Waking + Send, R: Threads + Wait + Sync>(
     rt: &R,
     alloc: Global,
@@ -122,7 +123,7 @@ fn run_workers<B: Waking + Send, R: Threads + Wait + Sync>(
         bodies: room,
     } = room;
     let places = place_all(&purse, &mut first, bodies, places);
-    match Turns::new(alloc, places, workers + 1) {
+    match Turns::new(alloc, places, workers.min(count) + 1) {
         Ok((turns, seats)) => {
             let places = take_turns(rt, alloc, turns, seats, &purse, &list, back);
             take_apart(&purse, first, places, room, false)
@@ -132,10 +133,10 @@ fn run_workers<B: Waking + Send, R: Threads + Wait + Sync>(
 }
 
 /// Runs bodies by workers until none has an event or `budget` units are used: each worker takes a body that is ready, and gives it a
-/// turn of at most 1000 units, until it finds none; what is left the caller's thread does, in rounds, and it does all of it where there
-/// is one worker or one body at most. Where no thread can be made the caller's thread works. Where memory was wanting all bodies come
-/// back, in order, each whole or broken off in a turn, and the ends of all lanes are brought together too. That their number is out of
-/// 32 bits is want of memory.
+/// turn of at most 1000 units, until none is ready and none can become so; there are no more workers than bodies. What is left the
+/// caller's thread does, in rounds, and it does all of it where there is one worker or one body at most. Where no thread can be made
+/// the caller's thread works. Where memory was wanting all bodies come back, in order, each whole or broken off in a turn, and the ends
+/// of all lanes are brought together too. That their number is out of 32 bits is want of memory.
 pub fn run<B: Waking + Send, R: Threads + Wait + Sync>(
     rt: &R,
     alloc: Global,

@@ -16,3 +16,8 @@ pub take_apart-requires-clause-belong : goal.take_apart-requires-clause-belong
 take_apart-requires-clause-belong g c =
     let b = c.in-Ok.room.purse in
     All-same (Belongs (budget_id b) b.limit) _ _ (c.take_turns-places.ensures ∙ c.in-Ok-new.ensures.values) c.place_all-places.ensures.belong
+
+pub take_apart-requires-in-Err-clause-belong : goal.take_apart-requires-in-Err-clause-belong
+take_apart-requires-in-Err-clause-belong g c =
+    let b = c.in-Ok.room.purse in
+    All-same (Belongs (budget_id b) b.limit) _ _ c.in-Err.ensures.refused c.place_all-places.ensures.belong

@@ -1,1 +1,14 @@
+pub mod Reaching
+pub mod VisitSteps
+pub mod ClosedWalks
+pub mod Forests
+pub mod ForestLoops
+pub mod Joining
+pub mod Carrying
 pub mod Verdicts
+pub mod Numbers
+pub mod Linking
+pub mod Filling
+pub mod Numbering
+pub mod Ranges
+pub mod Planning

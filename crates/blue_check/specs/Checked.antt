@@ -1,5 +1,5 @@
 -- What is shown of a blueprint that was checked.
-use Rattle.blue_core.specs.declared.blueprint.Blueprint.{Blueprint}
+use Rattle.stream_model.specs.declared.blueprint.Blueprint.{Blueprint}
 use Rattle.blue_check.specs.declared.checked.Checked.{Checked}
 
 abbrev pub checked_blueprint : Checked → Blueprint

@@ -2,10 +2,10 @@
 use Rattle.std.specs.Prelude.{ℕ, Bool, true, false, List, [], ◌∷◌, ◌++◌, codes}
 use Rattle.std.specs.Fmt.{decimal}
 use Rattle.elem_core.specs.Sort.{Sort, num_type, text_type, seq_type, pair_type}
-use Rattle.blue_rules.specs.declared.spot.Spot.{Spot}
-use Rattle.blue_rules.specs.declared.spot.Spot.TheVariants as at
-use Rattle.blue_rules.specs.declared.want.Want.{Want}
-use Rattle.blue_rules.specs.declared.want.Want.TheVariants.{Is, AnySeq, AnyPair}
+use Rattle.blue_names.specs.declared.spot.Spot.{Spot}
+use Rattle.blue_names.specs.declared.spot.Spot.TheVariants as at
+use Rattle.blue_names.specs.declared.want.Want.{Want}
+use Rattle.blue_names.specs.declared.want.Want.TheVariants.{Is, AnySeq, AnyPair}
 use Rattle.blue_check.specs.declared.fault.CheckFault.{CheckFault}
 use Rattle.blue_check.specs.declared.fault.CheckFault.TheVariants.{TwoNames, NoSuchName, NoSuchPort, PortTwice, PortOpen, TypeClash, ClosedWalk, TooDeep, NoSuchPlug, PlugTwice, BadSize}
 

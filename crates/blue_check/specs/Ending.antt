@@ -1,7 +1,7 @@
 -- How a check ends where a blueprint is not fit.
 use Rattle.std.specs.Prelude.{List, ℕ}
-use Rattle.blue_core.specs.declared.blueprint.Blueprint.{Blueprint}
-use Rattle.plug_core.specs.declared.head.PlugHead.{PlugHead}
+use Rattle.stream_model.specs.declared.blueprint.Blueprint.{Blueprint}
+use Rattle.stream_model.specs.declared.head.PlugHead.{PlugHead}
 use Rattle.blue_check.specs.declared.check.CheckEnd.{CheckEnd}
 use Rattle.blue_check.specs.declared.check.CheckEnd.TheVariants.{Fault, NoMemory}
 use Rattle.blue_check.specs.Fitness.{IsFirstFault}

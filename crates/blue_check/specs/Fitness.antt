@@ -2,18 +2,18 @@
 use Rattle.std.specs.Prelude.{◌≡◌, ℕ, List, [], slice_get, Option, Some, None, ◌⊎◌}
 use Rattle.std.specs.Option.{option_map, option_or}
 use Rattle.stream_model.specs.Graph.{Edge}
-use Rattle.blue_core.specs.declared.blueprint.Blueprint.{Blueprint}
-use Rattle.blue_core.specs.declared.blueprint.ChainDecl.{ChainDecl}
-use Rattle.blue_core.specs.declared.blueprint.Node.{Node}
-use Rattle.blue_core.specs.declared.blueprint.WireDecl.{WireDecl}
-use Rattle.plug_core.specs.declared.head.PlugHead.{PlugHead}
-use Rattle.blue_rules.specs.Names.{taken_twice, unknown_name, unknown_plug, plug_twice}
-use Rattle.blue_rules.specs.Paths.{IsFirstClosed, HasNoClosedWalk}
-use Rattle.blue_rules.specs.Ports.{OpenPort, port_missing, port_twice, port_open}
-use Rattle.blue_rules.specs.Rounds.{type_clash, too_deep}
-use Rattle.blue_rules.specs.Sizes.{size_wrong}
-use Rattle.blue_rules.specs.declared.typed.Clash.{Clash}
-use Rattle.blue_rules.specs.Links.{wires_of}
+use Rattle.stream_model.specs.declared.blueprint.Blueprint.{Blueprint}
+use Rattle.stream_model.specs.declared.blueprint.ChainDecl.{ChainDecl}
+use Rattle.stream_model.specs.declared.blueprint.Node.{Node}
+use Rattle.stream_model.specs.declared.blueprint.WireDecl.{WireDecl}
+use Rattle.stream_model.specs.declared.head.PlugHead.{PlugHead}
+use Rattle.blue_names.specs.Names.{taken_twice, unknown_name, unknown_plug, plug_twice}
+use Rattle.blue_names.specs.Paths.{IsFirstClosed, HasNoClosedWalk}
+use Rattle.blue_names.specs.Ports.{OpenPort, port_missing, port_twice, port_open}
+use Rattle.blue_names.specs.Rounds.{type_clash, too_deep}
+use Rattle.blue_names.specs.Sizes.{size_wrong}
+use Rattle.blue_names.specs.declared.typed.Clash.{Clash}
+use Rattle.blue_names.specs.RuleLinks.{wires_of}
 use Rattle.blue_check.specs.Wires.{blueprint_wires}
 use Rattle.blue_check.specs.declared.fault.CheckFault.{CheckFault}
 use Rattle.blue_check.specs.declared.fault.CheckFault.TheVariants.{TwoNames, NoSuchName, NoSuchPort, PortTwice, PortOpen, TypeClash, ClosedWalk, TooDeep, NoSuchPlug, PlugTwice, BadSize}

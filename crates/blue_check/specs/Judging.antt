@@ -1,9 +1,9 @@
 -- What is found of a blueprint.
 use Rattle.std.specs.Prelude.{◌≡◌, Bool, true, false, List, Option, Some, None, ◌⊎◌}
 use Rattle.stream_model.specs.Graph.{Edge}
-use Rattle.stream_picture.specs.Shape.{IsPolytree}
-use Rattle.blue_rules.specs.Paths.{HasNoClosedWalk}
-use Rattle.blue_walks.specs.Forest.{wiring}
+use Rattle.stream_model.specs.Shape.{IsPolytree}
+use Rattle.blue_names.specs.Paths.{HasNoClosedWalk}
+use Rattle.blue_check.specs.Forest.{wiring}
 use Rattle.blue_check.specs.declared.fault.CheckFault.{CheckFault}
 use Rattle.blue_check.specs.declared.judge.Judged.{Judged}
 use Rattle.blue_check.specs.declared.judge.Judged.TheVariants.{Unfit, Fit}

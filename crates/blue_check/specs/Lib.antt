@@ -1,3 +1,9 @@
+pub mod Marks
+pub mod Visits
+pub mod Ranks
+pub mod Forest
+pub mod Classes
+pub mod Components
 pub mod Number
 pub mod Wires
 pub mod Fitness
@@ -5,3 +11,6 @@ pub mod Judging
 pub mod Checked
 pub mod Ending
 pub mod Detail
+pub mod Plan
+pub mod Labels
+pub mod Homes

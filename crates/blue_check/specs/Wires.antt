@@ -1,8 +1,8 @@
 -- The wires of a blueprint by the numbers of their nodes.
 use Rattle.std.specs.Prelude.{List}
 use Rattle.stream_model.specs.Graph.{Edge}
-use Rattle.blue_core.specs.declared.blueprint.Blueprint.{Blueprint}
-use Rattle.blue_rules.specs.Links.{wires_of}
+use Rattle.stream_model.specs.declared.blueprint.Blueprint.{Blueprint}
+use Rattle.blue_names.specs.RuleLinks.{wires_of}
 
 abbrev pub blueprint_wires : Blueprint → List Edge
 blueprint_wires b = wires_of b.nodes.items b.wires.items

@@ -8,10 +8,10 @@ use crate::checked::Checked;
 use crate::fault::CheckFault;
 use crate::judge::{Judged, judge};
 use crate::picks::needs_picks;
-use blue_core::blueprint::Blueprint;
 use elem_core::line::Line;
-use plug_core::head::PlugHead;
 use std::alloc::Global;
+use stream_model::blueprint::Blueprint;
+use stream_model::head::PlugHead;
 
 /// Why a check gives no checked blueprint.
 #[derive(Drop)]

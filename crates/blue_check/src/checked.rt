@@ -1,12 +1,12 @@
 // Blueprints that were checked.
 ghost use Rattle.std.specs.Prelude.{◌≡◌, ◌↔◌, true, false, IsTrue};
-ghost use Rattle.stream_picture.specs.Shape.{IsPolytree};
-ghost use Rattle.blue_rules.specs.Paths.{HasNoClosedWalk};
-ghost use Rattle.blue_rules.specs.Picks.{needs_picks};
-ghost use Rattle.blue_walks.specs.Forest.{wiring};
+ghost use Rattle.stream_model.specs.Shape.{IsPolytree};
+ghost use Rattle.blue_names.specs.Paths.{HasNoClosedWalk};
+ghost use Rattle.blue_names.specs.Picks.{needs_picks};
+ghost use Rattle.blue_check.specs.Forest.{wiring};
 ghost use Rattle.blue_check.specs.Wires.{blueprint_wires};
 
-use blue_core::blueprint::Blueprint;
+use stream_model::blueprint::Blueprint;
 
 /// A blueprint that can be run: it breaks no rule. No wire of it lies on a closed walk.
 #[derive(Drop)]

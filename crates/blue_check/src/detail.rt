@@ -4,8 +4,8 @@ ghost use Rattle.std.specs.Fmt.{decimal};
 ghost use Rattle.blue_check.specs.Detail.{type_text, want_text, wire_text, spot_text, side_text, detail_text};
 
 use crate::fault::CheckFault;
-use blue_rules::spot::Spot;
-use blue_rules::want::Want;
+use blue_names::spot::Spot;
+use blue_names::want::Want;
 use elem_core::elem_type::{ElemType, TypeForm};
 use elem_core::why::NoMemory;
 use itoa::Buffer;

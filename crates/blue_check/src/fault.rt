@@ -2,8 +2,8 @@
 ghost use Rattle.std.specs.Prelude.{◌≡◌};
 ghost use Rattle.blue_check.specs.Number.{number_of_fault};
 
-use blue_rules::spot::Spot;
-use blue_rules::want::Want;
+use blue_names::spot::Spot;
+use blue_names::want::Want;
 use elem_core::elem_type::ElemType;
 use elem_core::line::Line;
 

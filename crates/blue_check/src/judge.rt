@@ -1,7 +1,7 @@
 // What is found of a blueprint, group of rules by group of rules.
 ghost use Rattle.std.specs.Prelude.{◌≡◌, ℕ, IfOk, List, None, Some, length};
 ghost use Rattle.std.specs.Option.{option_or};
-ghost use Rattle.blue_rules.specs.Links.{wires_of};
+ghost use Rattle.blue_names.specs.RuleLinks.{wires_of};
 ghost use Rattle.blue_names.specs.Links.{AreInRange, wires_of_links};
 ghost use Rattle.blue_names.specs.Outs.{IsOuts};
 ghost use Rattle.blue_names.specs.Wiring.{FindsWires};
@@ -9,19 +9,19 @@ ghost use Rattle.blue_check.specs.Fitness.{names_fault, ports_fault, plugs_fault
 ghost use Rattle.blue_check.specs.Wires.{blueprint_wires};
 ghost use Rattle.blue_check.specs.Judging.{IsJudged};
 
+use crate::closed::first_closed;
 use crate::fault::CheckFault;
+use crate::forest::is_polytree;
 use crate::rules::{names_fault, plugs_fault, ports_fault, sizes_fault, types_fault};
-use blue_core::blueprint::{Blueprint, ChainDecl, Node, WireDecl};
 use blue_names::links::{NumberedWire, links_of};
 use blue_names::outs::outs_of;
 use blue_names::ports::{PortTable, targets_of};
-use blue_walks::closed::first_closed;
-use blue_walks::forest::is_polytree;
 use elem_core::count::numbered;
 use elem_core::line::Line;
 use elem_core::why::NoMemory;
-use plug_core::head::PlugHead;
 use std::alloc::Global;
+use stream_model::blueprint::{Blueprint, ChainDecl, Node, WireDecl};
+use stream_model::head::PlugHead;
 
 /// What is found of a blueprint.
 #[derive(Drop)]

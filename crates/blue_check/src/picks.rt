@@ -1,8 +1,8 @@
 // Which blueprints make moves that a run has to record.
 ghost use Rattle.std.specs.Prelude.{◌≡◌};
-ghost use Rattle.blue_rules.specs.Picks.{may_drop, is_merged, picks, needs_picks};
+ghost use Rattle.blue_names.specs.Picks.{may_drop, is_merged, picks, needs_picks};
 
-use blue_core::blueprint::Node;
+use stream_model::blueprint::Node;
 use stream_model::kind::{Joining, Kind, Policy};
 
 /// Whether a full buffer does not hold its input back.

@@ -1,7 +1,7 @@
 // The rules, some at a time: each answers the fault of the first that is broken.
 ghost use Rattle.std.specs.Prelude.{◌≡◌, ℕ, IfOk, List, None, length};
 ghost use Rattle.std.specs.Option.{option_map, option_or};
-ghost use Rattle.blue_rules.specs.Rounds.{type_clash, too_deep, settled};
+ghost use Rattle.blue_names.specs.Rounds.{type_clash, too_deep, settled};
 ghost use Rattle.blue_names.specs.Links.{AreInRange, wires_of_links};
 ghost use Rattle.blue_names.specs.Outs.{IsOuts};
 ghost use Rattle.blue_names.specs.Wiring.{FindsWires, port_of};
@@ -10,7 +10,6 @@ ghost use Rattle.blue_types.specs.Net.{HasFirstWires, type_at};
 ghost use Rattle.blue_check.specs.Fitness.{name_at, open_fault, clash_fault, names_fault, ports_fault, plugs_fault, sizes_fault, types_fault};
 
 use crate::fault::CheckFault;
-use blue_core::blueprint::{ChainDecl, Node, WireDecl};
 use blue_names::claims::{plug_twice, taken_twice};
 use blue_names::links::NumberedWire;
 use blue_names::names::{unknown_name, unknown_plug};
@@ -18,8 +17,8 @@ use blue_names::ports::{
     OpenPort, PortTable, port_missing, port_open, port_twice, sources_of, targets_of,
 };
 use blue_names::sizes::{chain_wrong, node_wrong, wire_wrong};
-use blue_rules::spot::Spot;
-use blue_rules::typed::Clash;
+use blue_names::spot::Spot;
+use blue_names::typed::Clash;
 use blue_types::clashes::{too_deep, type_clash};
 use blue_types::library::Library;
 use blue_types::net::{Net, node_at};
@@ -28,8 +27,9 @@ use elem_core::count::numbered;
 use elem_core::elem_type::ElemType;
 use elem_core::line::Line;
 use elem_core::why::NoMemory;
-use plug_core::head::PlugHead;
 use std::alloc::Global;
+use stream_model::blueprint::{ChainDecl, Node, WireDecl};
+use stream_model::head::PlugHead;
 
 /// The first fault of a name or a file.
 pub fn names_fault(

@@ -1,7 +1,7 @@
 -- Reading the steps of a chain, one after another.
 use Rattle.std.proofs.Common.{◌≡◌, ℕ, zero, suc, ◌≤◌, ◌<◌, ◌≢◌, false, List, [], ◌∷◌, ◌++◌, length, Some, None, Ok, Err, refl, sym, ap, ◌∙◌, append_assoc, arith}
 use Rattle.std.specs.Prelude.{codes}
-use Rattle.blue_core.specs.declared.blueprint.Step.{Step}
+use Rattle.stream_model.specs.declared.blueprint.Step.{Step}
 use Rattle.blue_words.specs.declared.fault.FormEnd.{FormEnd}
 use Rattle.blue_words.specs.declared.fault.FormEnd.TheVariants.{BadLine, NoMemory}
 use Rattle.blue_words.specs.Reading.{At, Reading, Reads, at_map, made, with_second, begins_with}

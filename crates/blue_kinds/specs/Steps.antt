@@ -1,6 +1,6 @@
 -- The steps of a chain. Rule: Akka Streams 2.6 reference for what they do, own for their words.
 use Rattle.std.specs.Prelude.{ℕ, zero, suc, List, [], ◌∷◌, ◌++◌, length, Some, None, codes}
-use Rattle.blue_core.specs.declared.blueprint.Step.{Step}
+use Rattle.stream_model.specs.declared.blueprint.Step.{Step}
 use Rattle.blue_words.specs.Reading.{At, Reading, at_map, both, made, with_second, then_read, behind_word}
 use Rattle.blue_kinds.specs.Kinds.{linear_kind, may_decide, decider_of}
 

@@ -5,12 +5,12 @@ ghost use Rattle.blue_kinds.specs.Steps.{read_step, read_chain, pushed};
 
 use crate::decider::{may_decide, read_decider};
 use crate::kinds::read_linear;
-use blue_core::blueprint::Step;
 use blue_words::fault::{FormEnd, PlaceValue};
 use blue_words::places::both;
 use blue_words::words::Words;
 use elem_core::why::NoMemory;
 use std::alloc::Global;
+use stream_model::blueprint::Step;
 
 /// The steps of a chain that the words say, parted by `|`, up to their end.
 pub fn read_steps(alloc: Global, words: &mut Words) -> Result<PlaceValue<Vec<Step>>, FormEnd>

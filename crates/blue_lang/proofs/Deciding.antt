@@ -9,15 +9,15 @@ use Rattle.std.proofs.lemmas.Slice.Eq.{bytes_eq-Decides}
 use Rattle.elem_core.specs.declared.why.Decider.{Decider}
 use Rattle.elem_core.specs.declared.why.Decider.TheVariants.{Stop, Resume, Restart}
 use Rattle.stream_model.specs.declared.kind.Kind.{Kind}
-use Rattle.blue_core.specs.declared.blueprint.Step.{Step}
+use Rattle.stream_model.specs.declared.blueprint.Step.{Step}
 use Rattle.blue_words.specs.Names.{is_word}
 use Rattle.blue_words.specs.Reading.{At, Reading, at_map, said, made, with_second, then_read, behind_word, begins_with}
 use Rattle.blue_kinds.specs.Functions.{one_of, said_if}
 use Rattle.blue_kinds.specs.Kinds.{decider_word, decider_of, may_decide, linear_kind}
 use Rattle.blue_kinds.specs.Steps.{read_step, later_steps, with_steps, read_steps, read_chain}
-use Rattle.blue_spell.specs.Spaced.{spaced}
-use Rattle.blue_spell.specs.Kinds.{kind_words, decider_words}
-use Rattle.blue_spell.proofs.Spacing.{spaced_append}
+use Rattle.blue_lang.specs.Spaced.{spaced}
+use Rattle.blue_lang.specs.Kinds.{kind_words, decider_words}
+use Rattle.blue_lang.proofs.Spacing.{spaced_append}
 use Rattle.blue_lang.specs.Canonical.{step_words, later_words, steps_words}
 use Rattle.blue_lang.proofs.Respelling.{Words, AllWords, Kept, Respelled, Tabled, none_tabled, row_word, behind_word_respelled, made_of, then_of, second_of, same_value, same_rest, same_place, made_place, some_if_read}
 use Rattle.blue_lang.proofs.Tables.{fixed, one_respelled}

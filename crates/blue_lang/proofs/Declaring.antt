@@ -11,9 +11,9 @@ use Rattle.std.proofs.lemmas.Slice.Eq.{bytes_eq-Decides}
 use Rattle.elem_core.specs.declared.why.Decider.{Decider}
 use Rattle.elem_core.specs.declared.why.Decider.TheVariants.{Stop}
 use Rattle.stream_model.specs.declared.kind.Kind.{Kind}
-use Rattle.blue_core.specs.declared.blueprint.Step.{Step}
-use Rattle.blue_core.specs.declared.blueprint.Node.{Node}
-use Rattle.blue_core.specs.declared.blueprint.WireDecl.{WireDecl}
+use Rattle.stream_model.specs.declared.blueprint.Step.{Step}
+use Rattle.stream_model.specs.declared.blueprint.Node.{Node}
+use Rattle.stream_model.specs.declared.blueprint.WireDecl.{WireDecl}
 use Rattle.blue_words.specs.declared.fault.BlueKind.TheVariants.{BadLine, BadName}
 use Rattle.blue_words.specs.Cut.{cut_at}
 use Rattle.blue_words.specs.Line.{is_passed_over}
@@ -24,8 +24,8 @@ use Rattle.blue_words.proofs.Cutting.{cut_at-append, cut_at-says}
 use Rattle.blue_words.proofs.Plain.{lacks-name}
 use Rattle.blue_kinds.specs.Kinds.{source_kind, sink_kind, stage_kind, decider_of, may_decide}
 use Rattle.blue_kinds.specs.Steps.{read_chain}
-use Rattle.blue_spell.specs.Spaced.{spaced}
-use Rattle.blue_spell.specs.Kinds.{kind_words, sort_word}
+use Rattle.blue_lang.specs.Spaced.{spaced}
+use Rattle.blue_lang.specs.Kinds.{kind_words, sort_word}
 use Rattle.blue_lang.specs.Canonical.{switch_words, steps_words, chain_line, node_words, port_word, lane_words, wire_words}
 use Rattle.blue_lang.specs.Declarations.{PlainChain, Declaration, switch, chain, node, wire, port_place, port, read_lane_size, read_lane, read_end, read_wire, undecided, read_decided, read_node, chain_words, declaration, is_nil, read_whole, declared_by}
 use Rattle.blue_lang.proofs.Respelling.{Words, AllWords, Tabled, made_of, then_of, both_of, same_value, same_rest, same_place, some_if_read}

@@ -19,11 +19,11 @@ use Rattle.blue_words.specs.Names.{is_word}
 use Rattle.blue_words.specs.Reading.{Reading, made, then_read, before_word, word, name, file, int, count, size}
 use Rattle.blue_kinds.specs.Functions.{one_of, said_if, map_of, pred_of, expand_named, fold_named, reduce_named}
 use Rattle.blue_kinds.specs.Kinds.{base_named, policy_named, joining_named, source_kind, sink_kind, testing_kind, making_kind, linear_kind, fan_out_kind, fan_in_kind, each_chain, split_of, key_of, keys_of, substream_kind, recover_of, trip_of, stage_kind}
-use Rattle.blue_spell.specs.Spaced.{spaced}
-use Rattle.blue_spell.specs.Functions.{map_words, pred_words}
-use Rattle.blue_spell.specs.Functions as spell_functions
-use Rattle.blue_spell.specs.Kinds.{kind_words}
-use Rattle.blue_spell.specs.Kinds as spell
+use Rattle.blue_lang.specs.Spaced.{spaced}
+use Rattle.blue_lang.specs.Functions.{map_words, pred_words}
+use Rattle.blue_lang.specs.Functions as spell_functions
+use Rattle.blue_lang.specs.Kinds.{kind_words}
+use Rattle.blue_lang.specs.Kinds as spell
 use Rattle.blue_lang.proofs.Respelling.{Words, Respelled, Tabled, if_tabled, made_again, made_of, none_tabled, row, row_said, row_word, second_row, then_respelled, behind_word_respelled, ending_respelled}
 use Rattle.blue_lang.proofs.Lexical.{word_respelled, name_respelled, file_respelled, int_respelled, count_respelled, size_respelled}
 use Rattle.blue_lang.proofs.Tables.{map_respelled, pred_respelled, expand_respelled, fold_respelled, reduce_respelled, fixed, one_respelled}

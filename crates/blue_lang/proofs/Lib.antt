@@ -1,3 +1,4 @@
+pub mod Spacing
 pub mod Deciding
 pub mod Declaring
 pub mod KindTables

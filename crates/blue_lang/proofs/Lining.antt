@@ -13,7 +13,7 @@ use Rattle.blue_words.specs.Line.{is_plain, is_plain_byte}
 use Rattle.blue_words.specs.Names.{is_word}
 use Rattle.blue_words.proofs.Plain.{lacks-all}
 use Rattle.blue_words.proofs.Cutting.{cut_at-append, lines-cut}
-use Rattle.blue_spell.specs.Spaced.{spaced}
+use Rattle.blue_lang.specs.Spaced.{spaced}
 use Rattle.blue_lang.specs.Canonical.{line_text}
 use Rattle.blue_lang.specs.Declarations.{declared_by, declared_in}
 use Rattle.blue_lang.proofs.Respelling.{Words, AllWords}

@@ -2,9 +2,9 @@
 use Rattle.std.proofs.Common.{◌≡◌, ℕ, ◌+◌, ◌<◌, suc, List, [], ◌∷◌, ◌++◌, length, drop, get_or, refl, sym, ap, ◌∙◌, append_assoc, add-one}
 use Rattle.std.specs.Prelude.{codes}
 use Rattle.std.proofs.Math.Seq.{drop-cons}
-use Rattle.blue_core.specs.declared.blueprint.Step.{Step}
-use Rattle.blue_spell.specs.Spaced.{spaced}
-use Rattle.blue_spell.proofs.Spacing.{spaced_behind}
+use Rattle.stream_model.specs.declared.blueprint.Step.{Step}
+use Rattle.blue_lang.specs.Spaced.{spaced}
+use Rattle.blue_lang.proofs.Spacing.{spaced_behind}
 use Rattle.blue_lang.specs.Canonical.{step_words, later_words, steps_words, line_text, lines_text, version_words}
 
 -- one step more behind `|`

@@ -9,8 +9,8 @@ use Rattle.std.proofs.lemmas.Slice.Eq.{bytes_eq-Decides}
 use Rattle.blue_words.specs.Names.{is_word}
 use Rattle.blue_words.specs.Reading.{At, Reading, at_map, both, said, made, with_second, then_read, read_place, behind_word, before_word}
 use Rattle.blue_kinds.specs.Functions.{said_if}
-use Rattle.blue_spell.specs.Spaced.{spaced}
-use Rattle.blue_spell.proofs.Spacing.{spaced_append}
+use Rattle.blue_lang.specs.Spaced.{spaced}
+use Rattle.blue_lang.proofs.Spacing.{spaced_append}
 pub use Rattle.blue_lang.specs.Spelling.{AllWords}
 
 abbrev pub Words : Type 0

@@ -9,7 +9,7 @@ use Rattle.blue_words.specs.Reading.{Reading, said, made, with_second, then_read
 use Rattle.blue_kinds.specs.Functions.{one_of, map_of, pred_of, expand_named, fold_named, reduce_named}
 use Rattle.blue_kinds.specs.Kinds.{base_named, policy_named, source_kind, sink_kind, testing_kind, making_kind, linear_kind, fan_out_kind, fan_in_kind, split_of, group_of, keys_of, substream_kind, recover_of, trip_of, stage_kind}
 use Rattle.blue_words.specs.Reading.{before_word}
-use Rattle.blue_spell.specs.Kinds.{sort_word}
+use Rattle.blue_lang.specs.Kinds.{sort_word}
 use Rattle.blue_lang.proofs.Respelling.{Words, made_of, same_value}
 
 -- each kind that is read is of this sort

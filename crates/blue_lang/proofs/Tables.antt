@@ -9,8 +9,8 @@ use Rattle.elem_core.specs.declared.function.FoldOp.TheVariants as o
 use Rattle.elem_core.specs.declared.function.ReduceOp.TheVariants as r
 use Rattle.blue_words.specs.Reading.{Reading, then_read, word, int, count}
 use Rattle.blue_kinds.specs.Functions.{one_of, said_if, map_of, number_map, text_map, bare_map, pred_of, number_pred, text_pred, bare_pred, expand_named, fold_named, reduce_named}
-use Rattle.blue_spell.specs.Functions.{map_words, pred_words}
-use Rattle.blue_spell.specs.Functions as spell
+use Rattle.blue_lang.specs.Functions.{map_words, pred_words}
+use Rattle.blue_lang.specs.Functions as spell
 use Rattle.blue_lang.proofs.Respelling.{Words, Respelled, Tabled, headed, headed_respelled, none_tabled, row, row_word, then_respelled}
 use Rattle.blue_lang.proofs.Lexical.{word_respelled, int_respelled, count_respelled}
 

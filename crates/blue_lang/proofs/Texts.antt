@@ -3,11 +3,11 @@ use Rattle.std.proofs.Common.{◌≡◌, ℕ, List, [], ◌∷◌, ◌++◌, Opt
 use Rattle.elem_core.specs.Text.{lines}
 use Rattle.elem_core.specs.declared.why.Decider.{Decider}
 use Rattle.stream_model.specs.declared.kind.Kind.{Kind}
-use Rattle.blue_core.specs.declared.blueprint.Step.{Step}
+use Rattle.stream_model.specs.declared.blueprint.Step.{Step}
 use Rattle.blue_words.specs.declared.fault.BlueFault.{BlueFault}
 use Rattle.blue_kinds.specs.Kinds.{stage_kind}
 use Rattle.blue_kinds.specs.Steps.{read_chain}
-use Rattle.blue_spell.specs.Kinds.{kind_words, decider_words}
+use Rattle.blue_lang.specs.Kinds.{kind_words, decider_words}
 use Rattle.blue_lang.specs.Blueprints.{Says, blueprint_of, text_fault}
 use Rattle.blue_lang.specs.Canonical.{steps_words}
 use Rattle.blue_lang.specs.Declarations.{read_decided}

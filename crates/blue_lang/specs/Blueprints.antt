@@ -3,8 +3,8 @@ use Rattle.std.specs.Prelude.{◌≡◌, ℕ, ◌+◌, Bool, false, not, ◌&&�
 use Rattle.std.specs.List.{filter, filter_map, list_any}
 use Rattle.std.specs.Str.{bytes_eq}
 use Rattle.elem_core.specs.Text.{words, lines}
-use Rattle.blue_core.specs.declared.blueprint.Node.{Node}
-use Rattle.blue_core.specs.declared.blueprint.WireDecl.{WireDecl}
+use Rattle.stream_model.specs.declared.blueprint.Node.{Node}
+use Rattle.stream_model.specs.declared.blueprint.WireDecl.{WireDecl}
 use Rattle.blue_words.specs.declared.fault.BlueKind.{BlueKind}
 use Rattle.blue_words.specs.declared.fault.BlueKind.TheVariants.{BadVersion, TooLong, TooMany}
 use Rattle.blue_words.specs.declared.fault.BlueFault.{BlueFault}

@@ -1,11 +1,11 @@
 -- The canonical text of a blueprint.
 use Rattle.std.specs.Prelude.{ℕ, List, [], ◌∷◌, ◌++◌, map, Option, Some, None, codes}
 use Rattle.std.specs.Fmt.{decimal}
-use Rattle.blue_core.specs.declared.blueprint.Step.{Step}
-use Rattle.blue_core.specs.declared.blueprint.Node.{Node}
-use Rattle.blue_core.specs.declared.blueprint.WireDecl.{WireDecl}
-use Rattle.blue_spell.specs.Spaced.{spaced}
-use Rattle.blue_spell.specs.Kinds.{kind_words, sort_word, decider_words}
+use Rattle.stream_model.specs.declared.blueprint.Step.{Step}
+use Rattle.stream_model.specs.declared.blueprint.Node.{Node}
+use Rattle.stream_model.specs.declared.blueprint.WireDecl.{WireDecl}
+use Rattle.blue_lang.specs.Spaced.{spaced}
+use Rattle.blue_lang.specs.Kinds.{kind_words, sort_word, decider_words}
 use Rattle.blue_lang.specs.Declarations.{PlainChain}
 use Rattle.blue_lang.specs.Plain.{PlainBlueprint}
 

@@ -5,9 +5,9 @@ use Rattle.elem_core.specs.Text.{words}
 use Rattle.elem_core.specs.declared.why.Decider.{Decider}
 use Rattle.elem_core.specs.declared.why.Decider.TheVariants.{Stop}
 use Rattle.stream_model.specs.declared.kind.Kind.{Kind}
-use Rattle.blue_core.specs.declared.blueprint.Step.{Step}
-use Rattle.blue_core.specs.declared.blueprint.Node.{Node}
-use Rattle.blue_core.specs.declared.blueprint.WireDecl.{WireDecl}
+use Rattle.stream_model.specs.declared.blueprint.Step.{Step}
+use Rattle.stream_model.specs.declared.blueprint.Node.{Node}
+use Rattle.stream_model.specs.declared.blueprint.WireDecl.{WireDecl}
 use Rattle.blue_words.specs.declared.fault.BlueKind.TheVariants.{BadLine}
 use Rattle.blue_words.specs.Cut.{cut_at}
 use Rattle.blue_words.specs.Line.{is_plain}

@@ -1,3 +1,6 @@
+pub mod Functions
+pub mod Kinds
+pub mod Spaced
 pub mod Blueprints
 pub mod Canonical
 pub mod Declarations

@@ -1,9 +1,9 @@
 -- Declarations and blueprints as plain values.
 use Rattle.std.specs.Prelude.{ℕ, List, map}
-use Rattle.blue_core.specs.declared.blueprint.ChainDecl.{ChainDecl}
-use Rattle.blue_core.specs.declared.blueprint.Node.{Node}
-use Rattle.blue_core.specs.declared.blueprint.WireDecl.{WireDecl}
-use Rattle.blue_core.specs.declared.blueprint.Blueprint.{Blueprint}
+use Rattle.stream_model.specs.declared.blueprint.ChainDecl.{ChainDecl}
+use Rattle.stream_model.specs.declared.blueprint.Node.{Node}
+use Rattle.stream_model.specs.declared.blueprint.WireDecl.{WireDecl}
+use Rattle.stream_model.specs.declared.blueprint.Blueprint.{Blueprint}
 use Rattle.blue_lang.specs.declared.declarations.Declaration as declared
 use Rattle.blue_lang.specs.declared.declarations.Declaration.TheVariants.{Switch, Chain, Node as NodeLine, Wire}
 use Rattle.blue_lang.specs.Declarations.{PlainChain, Declaration, switch, chain, node, wire}

@@ -7,8 +7,6 @@ ghost use Rattle.blue_lang.specs.Declarations.{port, read_lane, read_lane_size, 
 ghost use Rattle.blue_kinds.specs.Kinds.{source_kind, sink_kind};
 ghost use Rattle.blue_lang.specs.Plain.{plain_chain, plain_declaration};
 
-use blue_core::blueprint::{ChainDecl, Node, WireDecl};
-use blue_core::limit::DEFAULT_LANE;
 use blue_kinds::decider::{may_decide, read_decider};
 use blue_kinds::edges::read_stage_kind;
 use blue_kinds::kinds::{read_sink, read_source};
@@ -20,7 +18,9 @@ use blue_words::words::{Words, is_word};
 use elem_core::line::Line;
 use elem_core::why::{Decider, NoMemory};
 use std::alloc::{AllocError, Global};
+use stream_model::blueprint::{ChainDecl, Node, WireDecl};
 use stream_model::kind::Kind;
+use stream_model::limit::DEFAULT_LANE;
 
 /// What a line declares.
 #[derive(Drop)]

@@ -3,10 +3,10 @@ ghost use Rattle.std.specs.Prelude.{◌≡◌, ◌≤◌, ℕ, List, [], ◌++�
 ghost use Rattle.elem_core.specs.Text.{lines};
 ghost use Rattle.elem_core.specs.declared.why.Decider.{Decider};
 ghost use Rattle.stream_model.specs.declared.kind.Kind.{Kind};
-ghost use Rattle.blue_core.specs.declared.blueprint.Step.{Step};
+ghost use Rattle.stream_model.specs.declared.blueprint.Step.{Step};
 ghost use Rattle.blue_words.specs.declared.fault.BlueKind.TheVariants.{BadVersion, BadLine, BadName, BadNumber};
 ghost use Rattle.blue_kinds.specs.Steps.{read_chain};
-ghost use Rattle.blue_spell.specs.Kinds.{kind_words, decider_words};
+ghost use Rattle.blue_lang.specs.Kinds.{kind_words, decider_words};
 ghost use Rattle.blue_lang.specs.Blueprints.{Says, blueprint_of, text_fault, said_words};
 ghost use Rattle.blue_lang.specs.Canonical.{canonical, steps_words};
 ghost use Rattle.blue_lang.specs.Declarations.{read_decided};

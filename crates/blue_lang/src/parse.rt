@@ -11,15 +11,15 @@ ghost use Rattle.blue_lang.specs.Progress.{with_declaration, Declares, ReadsLine
 ghost use Rattle.blue_lang.specs.Ends.{stop_end};
 
 use crate::declarations::{Declaration, read_declaration};
-use blue_core::blueprint::Blueprint;
-use blue_core::limit::{
-    MAX_CHAINS, MAX_NODES, MAX_STEPS, MAX_SWITCHES, MAX_TEXT, MAX_TEXT_LINE, MAX_WIRES,
-};
 use blue_words::fault::{BlueFault, BlueKind, PlaceValue};
 use blue_words::lines::{is_passed_over, is_plain, next_line};
 use blue_words::words::Words;
 use elem_core::why::NoMemory;
 use std::alloc::Global;
+use stream_model::blueprint::Blueprint;
+use stream_model::limit::{
+    MAX_CHAINS, MAX_NODES, MAX_STEPS, MAX_SWITCHES, MAX_TEXT, MAX_TEXT_LINE, MAX_WIRES,
+};
 
 /// Why a text gave no blueprint.
 #[derive(Clone, Copy, PartialEq, Eq)]

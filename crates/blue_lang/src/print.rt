@@ -1,17 +1,17 @@
 // The canonical text of a blueprint.
 ghost use Rattle.std.specs.Prelude.{◌≡◌, ◌++◌, ◌∷◌, [], map, OnOk, IfOk, codes};
-ghost use Rattle.blue_spell.specs.Spaced.{spaced};
-ghost use Rattle.blue_spell.specs.Kinds.{kind_words, decider_words};
+ghost use Rattle.blue_lang.specs.Spaced.{spaced};
+ghost use Rattle.blue_lang.specs.Kinds.{kind_words, decider_words};
 ghost use Rattle.blue_lang.specs.Canonical.{switch_words, step_words, later_words, steps_words, chain_line, node_words, port_word, lane_words, wire_words, line_text, lines_text, canonical};
 ghost use Rattle.blue_lang.specs.Plain.{plain, plain_chain};
 
-use blue_core::blueprint::{Blueprint, ChainDecl, Node, Step, WireDecl};
-use blue_spell::kinds::{sort_word, write_decider, write_kind};
-use blue_spell::words::{write_word, write_word_count};
+use crate::kinds::{sort_word, write_decider, write_kind};
+use crate::words::{write_word, write_word_count};
 use elem_core::line::Line;
 use elem_core::why::{Decider, NoMemory};
 use itoa::Buffer;
 use std::alloc::Global;
+use stream_model::blueprint::{Blueprint, ChainDecl, Node, Step, WireDecl};
 use stream_model::kind::Kind;
 
 /// The canonical text of a blueprint: the version line, then its switches, chains, nodes and wires, each in their order; one

@@ -9,8 +9,8 @@ use Rattle.std.proofs.lemmas.List.{at_drop_more, at_drop_all}
 use Rattle.std.proofs.lemmas.List.Folds.{list_any-append}
 use denote.Ref.{Bor}
 use Rattle.elem_core.specs.Values.{same_text}
-use Rattle.blue_rules.specs.First.{when}
-use Rattle.blue_rules.specs.Names.{Claim, called, opens, same_claim, first_again, text_of}
+use Rattle.blue_names.specs.First.{when}
+use Rattle.blue_names.specs.Names.{Claim, called, opens, same_claim, first_again, text_of}
 use Rattle.blue_names.specs.Claims.{Knows}
 use Rattle.blue_names.specs.Table.{number_in}
 

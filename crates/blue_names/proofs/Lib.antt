@@ -1,3 +1,4 @@
+pub mod FirstPlaces
 pub mod ClaimTables
 pub mod InRange
 pub mod NameTables

@@ -11,9 +11,9 @@ use Rattle.std.proofs.lemmas.Map.Text.{hash_map_updates_str}
 use Rattle.std.proofs.lemmas.Slice.Eq.{bytes_eq-Decides}
 use denote.Ref.{Bor}
 use Rattle.elem_core.specs.Values.{same_text}
-use Rattle.blue_rules.specs.First.{when}
-use Rattle.blue_rules.specs.Links.{number_from}
-use Rattle.blue_rules.specs.Names.{missing}
+use Rattle.blue_names.specs.First.{when}
+use Rattle.blue_names.specs.RuleLinks.{number_from}
+use Rattle.blue_names.specs.Names.{missing}
 use Rattle.blue_names.specs.Table.{number_in, Numbers}
 
 -- the test is the same both ways

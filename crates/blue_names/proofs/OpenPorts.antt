@@ -5,11 +5,11 @@ use Rattle.std.specs.HashMap.{HashMap}
 use Rattle.stream_model.specs.Composed.{count_from, inputs_of}
 use Rattle.stream_model.specs.Graph.{Edge, find_wire, find_source}
 use Rattle.stream_model.specs.declared.kind.Kind.{Kind}
-use Rattle.stream_picture.specs.View.{outputs_of}
-use Rattle.blue_core.specs.declared.blueprint.Node.{Node}
-use Rattle.blue_rules.specs.Ports.{OpenPort, open_input, open_output}
+use Rattle.stream_model.specs.View.{outputs_of}
+use Rattle.stream_model.specs.declared.blueprint.Node.{Node}
+use Rattle.blue_names.specs.Ports.{OpenPort, open_input, open_output}
 use Rattle.blue_names.specs.Wiring.{found_in, FindsWires, FindsSources}
-use Rattle.blue_rules.specs.First.{first_from, when}
+use Rattle.blue_names.specs.First.{first_from, when}
 
 option_map-when : {X Y : Type 0} (f : X → Y) (b : Bool) (x : X) (o : Option X) (u : Option Y) → option_map f o ≡ u → option_map f (option_or (when b x) o) ≡ option_or (when b (f x)) u
 option_map-when f true x o u h = refl

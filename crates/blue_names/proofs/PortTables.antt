@@ -6,7 +6,7 @@ use Rattle.std.proofs.lemmas.Bool.{cases_Bool, and_parts, eqb-true}
 use Rattle.std.proofs.lemmas.Grind.{common_steps}
 use Rattle.std.proofs.lemmas.List.{map_more, get_or_default}
 use Rattle.stream_model.specs.Graph.{Edge, find_by, find_wire, find_source}
-use Rattle.blue_rules.specs.First.{when}
+use Rattle.blue_names.specs.First.{when}
 use Rattle.blue_names.specs.Wiring.{found_in, FindsWires, FindsSources}
 
 pub none_of : (o : Option ℕ) → ((x : ℕ) → o ≡ Some x → ⊥) → o ≡ None

@@ -3,7 +3,7 @@ use Rattle.std.specs.Prelude.{◌≡◌, ℕ, List, is_some}
 use Rattle.std.specs.HashMap.{HashMap}
 use Rattle.std.specs.List.{list_any}
 use denote.Ref.{Bor}
-use Rattle.blue_rules.specs.Names as rule
+use Rattle.blue_names.specs.Names as rule
 use Rattle.blue_names.specs.declared.claims.NameClaim.{NameClaim}
 use Rattle.blue_names.specs.declared.claims.NameClaim.TheVariants.{Called, Opens}
 use Rattle.blue_names.specs.Table.{number_in}

@@ -1,3 +1,13 @@
+pub mod First
+pub mod Names
+pub mod RuleLinks
+pub mod Ports
+pub mod Sizes
+pub mod FnTypes
+pub mod StageTypes
+pub mod Rounds
+pub mod Paths
+pub mod Picks
 pub mod Table
 pub mod Claims
 pub mod Links

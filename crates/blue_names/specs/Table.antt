@@ -3,7 +3,7 @@ use Rattle.std.specs.Prelude.{◌≡◌, ℕ, List, Option}
 use Rattle.std.specs.HashMap.{HashMap, get_by}
 use denote.Ref.{Bor}
 use Rattle.elem_core.specs.Values.{same_text}
-use Rattle.blue_rules.specs.Links.{number_from}
+use Rattle.blue_names.specs.RuleLinks.{number_from}
 
 -- the number that a table has for a name
 abbrev pub number_in : {S : Type 0} → HashMap (Bor (List ℕ)) ℕ S → List ℕ → Option ℕ

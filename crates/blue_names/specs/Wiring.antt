@@ -2,7 +2,7 @@
 use Rattle.std.specs.Prelude.{◌≡◌, ℕ, ◌==◌, ◌&&◌, List, Option}
 use Rattle.std.specs.HashMap.{HashMap, get}
 use Rattle.stream_model.specs.Graph.{Edge, find_wire, find_source}
-use Rattle.blue_rules.specs.Ports as rule
+use Rattle.blue_names.specs.Ports as rule
 use Rattle.blue_names.specs.declared.ports.OpenPort.{OpenPort}
 
 -- the wire that a table has at a port

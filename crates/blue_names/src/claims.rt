@@ -2,16 +2,16 @@
 ghost use Rattle.std.specs.Prelude.{◌≡◌, ℕ, List, [], ◌∷◌, ◌++◌, IfOk, OnOk, map, not};
 ghost use Rattle.std.specs.List.{list_any};
 ghost use Rattle.std.specs.Option.{option_map, option_or};
-ghost use Rattle.blue_rules.specs.Names.{Claim as Taking, same_claim, first_again, text_of, claims_of_nodes, plugs_of_nodes, taken_twice, plug_twice, called, opens, opening, calling, file_of, plug_of};
+ghost use Rattle.blue_names.specs.Names.{Claim as Taking, same_claim, first_again, text_of, claims_of_nodes, plugs_of_nodes, taken_twice, plug_twice, called, opens, opening, calling, file_of, plug_of};
 ghost use Rattle.blue_names.specs.Claims.{claim_of, Knows};
 
 use crate::table::{NameTable, note_name};
-use blue_core::blueprint::{ChainDecl, Node};
 use elem_core::line::Line;
 use elem_core::why::NoMemory;
-use plug_core::head::PlugHead;
 use std::alloc::Global;
 use std::collections::HashMap;
+use stream_model::blueprint::{ChainDecl, Node};
+use stream_model::head::PlugHead;
 use stream_model::kind::Kind;
 
 /// What a declaration takes for itself.

@@ -1,16 +1,16 @@
 // Wires by the numbers of their nodes.
 ghost use Rattle.std.specs.Prelude.{◌≡◌, ℕ, ◌<◌, ◌≤◌, List, IfOk, map, length, slice_get, Some, Option};
 ghost use Rattle.std.specs.Option.{option_map};
-ghost use Rattle.blue_rules.specs.Links.{node_number, wire_of, wires_of};
-ghost use Rattle.blue_rules.specs.Names.{unknown_end};
+ghost use Rattle.blue_names.specs.RuleLinks.{node_number, wire_of, wires_of};
+ghost use Rattle.blue_names.specs.Names.{unknown_end};
 ghost use Rattle.blue_names.specs.Table.{Numbers};
 ghost use Rattle.blue_names.specs.Links.{wire_of_link, wires_of_links};
 
 use crate::table::{NameTable, find, table_of};
-use blue_core::blueprint::{Node, WireDecl};
 use elem_core::line::Line;
 use elem_core::why::NoMemory;
 use std::alloc::Global;
+use stream_model::blueprint::{Node, WireDecl};
 
 /// A wire by the numbers of its nodes.
 #[derive(Clone, Copy, PartialEq, Eq)]

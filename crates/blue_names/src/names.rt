@@ -1,17 +1,17 @@
 // Names that are used and not declared.
 ghost use Rattle.std.specs.Prelude.{◌≡◌, ℕ, List, IfOk, map};
 ghost use Rattle.std.specs.Option.{option_map, option_or};
-ghost use Rattle.blue_rules.specs.First.{first_from};
-ghost use Rattle.blue_rules.specs.Names.{missing, unknown_at, unknown_end, unknown_name, unknown_plug, unknown_plug_at, unknown_in_steps, unknown_in_chains, plug_of};
+ghost use Rattle.blue_names.specs.First.{first_from};
+ghost use Rattle.blue_names.specs.Names.{missing, unknown_at, unknown_end, unknown_name, unknown_plug, unknown_plug_at, unknown_in_steps, unknown_in_chains, plug_of};
 ghost use Rattle.blue_names.specs.Table.{Numbers};
 
 use crate::claims::plug_of;
 use crate::table::{NameTable, find, table_of};
-use blue_core::blueprint::{ChainDecl, Node, Step, WireDecl};
 use elem_core::line::Line;
 use elem_core::why::NoMemory;
-use plug_core::head::PlugHead;
 use std::alloc::Global;
+use stream_model::blueprint::{ChainDecl, Node, Step, WireDecl};
+use stream_model::head::PlugHead;
 use stream_model::kind::Kind;
 
 /// The name, where a table has none of it.

@@ -2,19 +2,19 @@
 ghost use Rattle.std.specs.Prelude.{◌≡◌, ℕ, ◌<◌, ◌≤◌, List, IfOk, OnOk, map, length, slice_get, Some, Option, ◌==◌, ◌&&◌, ◌||◌, not, is_none, IfNone};
 ghost use Rattle.stream_model.specs.Composed.{inputs_of, count_from};
 ghost use Rattle.stream_model.specs.Graph.{Edge, find_wire, find_source};
-ghost use Rattle.stream_picture.specs.View.{outputs_of};
-ghost use Rattle.blue_rules.specs.First.{first_from, when};
+ghost use Rattle.stream_model.specs.View.{outputs_of};
+ghost use Rattle.blue_names.specs.First.{first_from, when};
 ghost use Rattle.std.specs.Option.{option_or, option_map};
-ghost use Rattle.blue_core.specs.declared.blueprint.Node.{Node as Declared};
-ghost use Rattle.blue_rules.specs.Ports.{port_missing, port_twice, port_open, is_port_number, open_input, open_output, lacks_input, lacks_output};
+ghost use Rattle.stream_model.specs.declared.blueprint.Node.{Node as Declared};
+ghost use Rattle.blue_names.specs.Ports.{port_missing, port_twice, port_open, is_port_number, open_input, open_output, lacks_input, lacks_output};
 ghost use Rattle.blue_names.specs.Links.{AreInRange, wires_of_links};
 ghost use Rattle.blue_names.specs.Wiring.{found_in, FindsWires, FindsSources, port_of};
 
 use crate::links::NumberedWire;
-use blue_core::blueprint::Node;
 use elem_core::why::NoMemory;
 use std::alloc::Global;
 use std::collections::HashMap;
+use stream_model::blueprint::Node;
 use stream_model::kind::Kind;
 
 /// The number of the wire at each port: a port is the number of its node, and its own.

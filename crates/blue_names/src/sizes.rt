@@ -2,14 +2,14 @@
 ghost use Rattle.std.specs.Prelude.{◌≡◌, ℕ, ◌≤◌, ◌^◌, ◌<◌, List, IfOk, map, not, length, OnOk, MatchOption, true};
 ghost use Rattle.std.specs.List.{list_all};
 ghost use Rattle.std.specs.Option.{option_map, option_or};
-ghost use Rattle.blue_rules.specs.First.{first_from, when};
-ghost use Rattle.blue_rules.specs.Sizes.{is_within, sizes_fit, lane_fits, chain_wrong, node_wrong, wire_wrong};
-ghost use Rattle.blue_rules.specs.declared.spot.Spot.TheVariants as at;
+ghost use Rattle.blue_names.specs.First.{first_from, when};
+ghost use Rattle.blue_names.specs.Sizes.{is_within, sizes_fit, lane_fits, chain_wrong, node_wrong, wire_wrong};
+ghost use Rattle.blue_names.specs.declared.spot.Spot.TheVariants as at;
 
-use blue_core::blueprint::{ChainDecl, Node, Step, WireDecl};
-use blue_core::limit::{MAX_COUNT, MAX_HELD, MAX_KEYS, MAX_LANE};
 use elem_core::why::NoMemory;
+use stream_model::blueprint::{ChainDecl, Node, Step, WireDecl};
 use stream_model::kind::{Kind, MAX_FAN};
+use stream_model::limit::{MAX_COUNT, MAX_HELD, MAX_KEYS, MAX_LANE};
 
 /// Whether a size is within its limits.
 fn is_within(least: u32, most: u32, size: u32) -> bool

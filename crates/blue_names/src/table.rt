@@ -2,15 +2,15 @@
 ghost use Rattle.std.specs.Prelude.{◌≡◌, ℕ, List, IfOk, OnOk, map, is_none};
 ghost use Rattle.std.specs.Option.{option_or};
 ghost use Rattle.elem_core.specs.Values.{same_text};
-ghost use Rattle.blue_rules.specs.First.{when};
+ghost use Rattle.blue_names.specs.First.{when};
 ghost use Rattle.blue_names.specs.Table.{number_in, Numbers};
 
-use blue_core::blueprint::{ChainDecl, Node};
 use elem_core::line::Line;
 use elem_core::why::NoMemory;
-use plug_core::head::PlugHead;
 use std::alloc::Global;
 use std::collections::HashMap;
+use stream_model::blueprint::{ChainDecl, Node};
+use stream_model::head::PlugHead;
 
 /// The number of each name.
 pub type NameTable<'a> = HashMap<&'a [u8], usize>;

@@ -2,8 +2,8 @@
 use Rattle.std.proofs.Common.{◌≡◌, ℕ, zero, suc, ◌+◌, Bool, true, false, cond, List, [], ◌∷◌, map, Option, Some, None, refl, ap, sym, ◌∙◌, subst, arith}
 use Rattle.std.specs.Prelude.{slice_get, MatchOption}
 use Rattle.elem_core.specs.Values.{same_text}
-use Rattle.blue_rules.specs.Links.{number_from}
-use Rattle.blue_rules.specs.StageTypes.{named}
+use Rattle.blue_names.specs.RuleLinks.{number_from}
+use Rattle.blue_names.specs.StageTypes.{named}
 
 -- the value at a place that is counted from n
 record At {X : Type 0} (xs : List X) (o : Option X) (n i : ℕ) : Type 0 where

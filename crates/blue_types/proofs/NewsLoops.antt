@@ -6,7 +6,7 @@ use Rattle.std.proofs.lemmas.Bool.{or_cases, eqb-true, cases_Bool, both_ways}
 use Rattle.std.proofs.lemmas.List.{take_more}
 use Rattle.elem_core.specs.Sort.{Sort}
 use Rattle.stream_model.specs.Graph.{Edge}
-use Rattle.blue_rules.specs.First.{when}
+use Rattle.blue_names.specs.First.{when}
 use Rattle.blue_types.specs.declared.news.Fixed.{Fixed}
 use Rattle.blue_names.specs.Members.{is_in}
 use Rattle.blue_types.specs.News.{AreBelow, AreReached, news_at}

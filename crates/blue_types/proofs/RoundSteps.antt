@@ -6,10 +6,10 @@ use Rattle.std.proofs.lemmas.Bool.{cases_Bool, or_cases, eqb-true, and_parts, bo
 use Rattle.elem_core.specs.Sort.{Sort}
 use Rattle.stream_model.specs.Graph.{Edge, find_by, find_wire}
 use Rattle.stream_model.specs.Composed.{count_from, inputs_of}
-use Rattle.blue_core.specs.declared.blueprint.Node.{Node}
-use Rattle.blue_core.specs.declared.blueprint.ChainDecl.{ChainDecl}
-use Rattle.plug_core.specs.declared.head.PlugHead.{PlugHead}
-use Rattle.blue_rules.specs.Rounds.{attempt, attempt_at, arrivals, fixes, port_type, type_on, wire_into}
+use Rattle.stream_model.specs.declared.blueprint.Node.{Node}
+use Rattle.stream_model.specs.declared.blueprint.ChainDecl.{ChainDecl}
+use Rattle.stream_model.specs.declared.head.PlugHead.{PlugHead}
+use Rattle.blue_names.specs.Rounds.{attempt, attempt_at, arrivals, fixes, port_type, type_on, wire_into}
 use Rattle.blue_types.specs.declared.news.Fixed.{Fixed}
 use Rattle.blue_names.specs.Members.{is_in}
 use Rattle.blue_types.specs.News.{AreNews, AreReached, RestsOn, news_at}

@@ -6,9 +6,9 @@ use Rattle.std.proofs.lemmas.Bool.{cases_lt, cases_Bool, both_ways}
 use Rattle.std.proofs.lemmas.Grind.{common_steps}
 use mathlib.Core.Path.{fun_ext}
 use Rattle.elem_core.specs.Sort.{Sort}
-use Rattle.blue_core.specs.declared.blueprint.Node.{Node}
-use Rattle.blue_rules.specs.Rounds.{before, next, rounds, settled, source_at, attempt_at, fixes}
-use Rattle.blue_rules.specs.StageTypes.{source_type}
+use Rattle.stream_model.specs.declared.blueprint.Node.{Node}
+use Rattle.blue_names.specs.Rounds.{before, next, rounds, settled, source_at, attempt_at, fixes}
+use Rattle.blue_names.specs.StageTypes.{source_type}
 use Rattle.blue_names.specs.Links.{wires_of_links}
 use Rattle.blue_types.specs.declared.library.Library.{Library}
 use Rattle.blue_types.specs.declared.net.Net.{Net}

@@ -1,7 +1,7 @@
 -- What a node of a net would fix.
 use Rattle.std.specs.Prelude.{ℕ, Option, slice_get}
 use Rattle.elem_core.specs.Sort.{Sort}
-use Rattle.blue_rules.specs.Rounds.{attempt_at, fixes}
+use Rattle.blue_names.specs.Rounds.{attempt_at, fixes}
 use Rattle.blue_names.specs.Links.{wires_of_links}
 use Rattle.blue_types.specs.declared.library.Library.{Library}
 use Rattle.blue_types.specs.declared.net.Net.{Net}

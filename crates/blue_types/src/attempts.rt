@@ -1,8 +1,8 @@
 // What a node would give, where it has what it needs.
 ghost use Rattle.std.specs.Prelude.{◌≡◌, ◌<◌, ◌≤◌, ℕ, ◌-◌, List, [], ◌∷◌, Option, IfOk, slice_get, Some, None};
 ghost use Rattle.stream_model.specs.Composed.{inputs_of, count_from};
-ghost use Rattle.blue_rules.specs.Rounds.{arrivals, first_typed, pair_up, attempt, attempt_by, attempt_at, fixes, is_deep};
-ghost use Rattle.blue_rules.specs.StageTypes.{fixed_type};
+ghost use Rattle.blue_names.specs.Rounds.{arrivals, first_typed, pair_up, attempt, attempt_by, attempt_at, fixes, is_deep};
+ghost use Rattle.blue_names.specs.StageTypes.{fixed_type};
 ghost use Rattle.blue_names.specs.Links.{wires_of_links};
 ghost use Rattle.blue_types.specs.Library.{IsKnown};
 ghost use Rattle.blue_types.specs.Net.{HasFirstWires, type_at};
@@ -12,7 +12,7 @@ use crate::net::{Net, arrival};
 use crate::sorts::pair_of;
 use crate::stages::{fixed_type, limited, stage_typed};
 use blue_names::ports::input_ports;
-use blue_rules::typed::Typed;
+use blue_names::typed::Typed;
 use elem_core::elem_type::ElemType;
 use elem_core::why::NoMemory;
 use std::alloc::Global;

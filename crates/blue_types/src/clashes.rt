@@ -2,9 +2,9 @@
 ghost use Rattle.std.specs.Prelude.{◌≡◌, ◌==◌, ℕ, List, Option, IfOk, slice_get, Some, length};
 ghost use Rattle.std.specs.Option.{option_map};
 ghost use Rattle.elem_core.specs.Sort.{Sort};
-ghost use Rattle.blue_core.specs.declared.blueprint.Node.{Node as Declared};
-ghost use Rattle.blue_rules.specs.First.{first_from, when};
-ghost use Rattle.blue_rules.specs.Rounds.{is_joining, unlike, clash_of, clash_with, clash_on, type_on, attempt_at, is_deep, settled, type_clash, too_deep};
+ghost use Rattle.stream_model.specs.declared.blueprint.Node.{Node as Declared};
+ghost use Rattle.blue_names.specs.First.{first_from, when};
+ghost use Rattle.blue_names.specs.Rounds.{is_joining, unlike, clash_of, clash_with, clash_on, type_on, attempt_at, is_deep, settled, type_clash, too_deep};
 ghost use Rattle.blue_names.specs.Links.{wire_of_link, wires_of_links};
 ghost use Rattle.blue_types.specs.Library.{IsKnown};
 ghost use Rattle.blue_types.specs.Net.{HasFirstWires, type_at};
@@ -13,13 +13,13 @@ use crate::attempts::attempt;
 use crate::library::Library;
 use crate::net::{Net, node_at, type_of, type_on};
 use crate::stages::stage_typed;
-use blue_core::blueprint::Node;
 use blue_names::links::NumberedWire;
-use blue_rules::typed::{Clash, Typed};
-use blue_rules::want::Want;
+use blue_names::typed::{Clash, Typed};
+use blue_names::want::Want;
 use elem_core::elem_type::ElemType;
 use elem_core::why::NoMemory;
 use std::alloc::Global;
+use stream_model::blueprint::Node;
 use stream_model::kind::Kind;
 
 /// Whether the inputs of a kind take one type.

@@ -1,10 +1,10 @@
 // The types that functions want and give.
 ghost use Rattle.std.specs.Prelude.{◌≡◌, IfOk};
 ghost use Rattle.elem_core.specs.Sort.{num_type, text_type};
-ghost use Rattle.blue_rules.specs.FnTypes.{map_want, map_fixed, map_shape, map_gives, pred_want, expand_want, expand_fixed, expand_gives, fold_want, fold_fixed, fold_gives, reduce_want, reduce_fixed, reduce_gives};
+ghost use Rattle.blue_names.specs.FnTypes.{map_want, map_fixed, map_shape, map_gives, pred_want, expand_want, expand_fixed, expand_gives, fold_want, fold_fixed, fold_gives, reduce_want, reduce_fixed, reduce_gives};
 
 use crate::sorts::{items_type, left_type, num_type, pair_of, right_type, seq_of, text_type};
-use blue_rules::want::Want;
+use blue_names::want::Want;
 use elem_core::elem_type::ElemType;
 use elem_core::function::{Expand, FoldOp, MapFn, Pred, ReduceOp};
 use elem_core::why::NoMemory;

@@ -1,15 +1,15 @@
 // The plugs and the chains that nodes name.
 ghost use Rattle.std.specs.Prelude.{◌≡◌, IfOk, map, slice_get};
 ghost use Rattle.std.specs.Option.{option_map};
-ghost use Rattle.blue_rules.specs.StageTypes.{plug_named, chain_named};
+ghost use Rattle.blue_names.specs.StageTypes.{plug_named, chain_named};
 ghost use Rattle.blue_types.specs.Library.{IsKnown};
 
-use blue_core::blueprint::{ChainDecl, Step};
 use blue_names::table::{NameTable, find, table_of};
 use elem_core::line::Line;
 use elem_core::why::NoMemory;
-use plug_core::head::PlugHead;
 use std::alloc::Global;
+use stream_model::blueprint::{ChainDecl, Step};
+use stream_model::head::PlugHead;
 
 /// The plugs and the chains, with their places by name.
 #[derive(Drop)]

@@ -1,17 +1,17 @@
 // A blueprint's nodes and wires by numbers, and the types of its nodes.
 ghost use Rattle.std.specs.Prelude.{◌≡◌, ◌<◌, ℕ, List, Option, IfOk, MatchBool, map, slice_get, length, Some, None, unwrap_or};
 ghost use Rattle.std.specs.Option.{option_map, option_copied};
-ghost use Rattle.blue_rules.specs.Rounds.{wire_into, port_type, half_type, type_on};
+ghost use Rattle.blue_names.specs.Rounds.{wire_into, port_type, half_type, type_on};
 ghost use Rattle.blue_names.specs.Links.{wire_of_link, wires_of_links};
 ghost use Rattle.blue_types.specs.Net.{HasFirstWires, type_at};
 
 use crate::sorts::{left_type, right_type};
-use blue_core::blueprint::Node;
 use blue_names::links::{NumberedWire, link_at};
 use blue_names::ports::{PortTable, wire_at};
 use elem_core::elem_type::ElemType;
 use elem_core::why::NoMemory;
 use std::alloc::Global;
+use stream_model::blueprint::Node;
 use stream_model::kind::Kind;
 
 /// The nodes, the wires, and the wire into each input.

@@ -3,7 +3,7 @@ ghost use Rattle.std.specs.Prelude.{◌≡◌, ◌<◌, ◌≤◌, ℕ, List, []
 ghost use Rattle.std.specs.Option.{option_or};
 ghost use Rattle.stream_model.specs.Graph.{Edge};
 ghost use Rattle.blue_names.specs.Links.{wires_of_links};
-ghost use Rattle.blue_rules.specs.First.{when};
+ghost use Rattle.blue_names.specs.First.{when};
 ghost use Rattle.blue_names.specs.Outs.{IsOuts};
 ghost use Rattle.blue_types.specs.Library.{IsKnown};
 ghost use Rattle.blue_types.specs.Net.{HasFirstWires, type_at};

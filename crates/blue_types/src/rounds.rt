@@ -1,6 +1,6 @@
 // The types of nodes, once a round fixes nothing.
 ghost use Rattle.std.specs.Prelude.{◌≡◌, ◌<◌, ◌≤◌, ℕ, List, [], ◌∷◌, ◌++◌, Option, IfOk, OnOk, slice_get, length, vec_len, true};
-ghost use Rattle.blue_rules.specs.Rounds.{source_at, settled};
+ghost use Rattle.blue_names.specs.Rounds.{source_at, settled};
 ghost use Rattle.blue_names.specs.Links.{wires_of_links};
 ghost use Rattle.blue_names.specs.Outs.{IsOuts};
 ghost use Rattle.blue_types.specs.Library.{IsKnown};
@@ -11,10 +11,10 @@ use crate::library::Library;
 use crate::net::Net;
 use crate::news::types_round;
 use crate::stages::source_type;
-use blue_core::blueprint::Node;
 use elem_core::elem_type::ElemType;
 use elem_core::why::NoMemory;
 use std::alloc::Global;
+use stream_model::blueprint::Node;
 
 /// The types before the first round: those of the sources.
 fn before(alloc: Global, nodes: &[Node]) -> Result<Vec<Option<ElemType>>, NoMemory>

@@ -1,9 +1,9 @@
 // Types of elements, made and taken apart.
 ghost use Rattle.std.specs.Prelude.{◌≡◌, IfOk};
 ghost use Rattle.elem_core.specs.Sort.{num_type, text_type, seq_type, pair_type};
-ghost use Rattle.blue_rules.specs.FnTypes.{suits, items_type, left_type, right_type};
+ghost use Rattle.blue_names.specs.FnTypes.{suits, items_type, left_type, right_type};
 
-use blue_rules::want::Want;
+use blue_names::want::Want;
 use elem_core::elem_type::{ElemType, TypeForm};
 use elem_core::why::NoMemory;
 use std::alloc::Global;

@@ -1,8 +1,8 @@
 // What comes of a type at a stage.
 ghost use Rattle.std.specs.Prelude.{◌≡◌, IfOk, unwrap_or, Some, []};
-ghost use Rattle.blue_rules.specs.FnTypes.{map_want, map_gives, pred_want};
-ghost use Rattle.blue_rules.specs.StageTypes.{limited, clash_or, base_type, source_type, stage_want, stage_gives, fixed_type, step_typed, chain_typed, keyed, parted, stage_typed, plug_want, plug_gives, plug_fixed, plug_named, chain_named};
-ghost use Rattle.blue_rules.specs.declared.typed.Typed.{Typed as Coming};
+ghost use Rattle.blue_names.specs.FnTypes.{map_want, map_gives, pred_want};
+ghost use Rattle.blue_names.specs.StageTypes.{limited, clash_or, base_type, source_type, stage_want, stage_gives, fixed_type, step_typed, chain_typed, keyed, parted, stage_typed, plug_want, plug_gives, plug_fixed, plug_named, chain_named};
+ghost use Rattle.blue_names.specs.declared.typed.Typed.{Typed as Coming};
 ghost use Rattle.blue_types.specs.Library.{IsKnown};
 
 use crate::functions::{
@@ -11,13 +11,13 @@ use crate::functions::{
 };
 use crate::library::{Library, chain_named, plug_named};
 use crate::sorts::{num_type, seq_of, suits, text_type};
-use blue_core::blueprint::Step;
-use blue_rules::typed::{MAX_NESTING, Typed};
-use blue_rules::want::Want;
+use blue_names::typed::{MAX_NESTING, Typed};
+use blue_names::want::Want;
 use elem_core::elem_type::ElemType;
 use elem_core::line::Line;
 use elem_core::why::NoMemory;
 use std::alloc::Global;
+use stream_model::blueprint::Step;
 use stream_model::kind::{Base, Kind};
 
 /// A type, where it does not nest too deep.

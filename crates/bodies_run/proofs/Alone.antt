@@ -9,10 +9,10 @@ use Rattle.stream_model.specs.declared.outcome.WireCount.{WireCount}
 use Rattle.nodes.specs.Nodes.{node_port_state, node_law, node_asking, node_moves}
 use Rattle.nodes.specs.declared.node.IslandNode.{IslandNode}
 use Rattle.interpreter.specs.declared.parts.Seated.{Seated}
-use Rattle.run_account.specs.Account.{Account, NodeKeeps, IsStill}
-use Rattle.run_account.specs.Pictures.{counts_from}
-use Rattle.run_account.specs.Ports.{wire_count}
-use Rattle.run_outlook_laws.specs.Runs.{IsRun}
+use Rattle.run_laws.specs.Account.{Account, NodeKeeps, IsStill}
+use Rattle.run_laws.specs.Pictures.{counts_from}
+use Rattle.run_laws.specs.Ports.{wire_count}
+use Rattle.run_laws.specs.Runs.{IsRun}
 use Rattle.bodies_run.specs.Leaving.{AreLeft, of_lists}
 use Rattle.bodies_run.proofs.Leaving.{become_many}
 use Rattle.stream_model.specs.Linear.{Book}

@@ -2,10 +2,10 @@
 use Rattle.std.proofs.Common.{◌≤◌, ◌<◌, ◌+◌, ◌/◌, max, sym, subst}
 use Rattle.elem_core.specs.Items.{elements}
 use Rattle.lane_core.specs.Ends.{asked_in_all, ask_calls, in_size}
-use Rattle.input_boundary.specs.Boundary.{BoundaryKeeps}
-use Rattle.input_boundary.specs.Flow.{AsksByHalves}
-use Rattle.input_boundary.specs.declared.boundary.InputBoundary.{InputBoundary}
-use Rattle.input_boundary.proofs.Keeps.{carried, given_count, most, more, least, few_calls}
+use Rattle.lane_core.specs.Boundary.{BoundaryKeeps}
+use Rattle.lane_core.specs.Flow.{AsksByHalves}
+use Rattle.lane_core.specs.declared.boundary.InputBoundary.{InputBoundary}
+use Rattle.lane_core.proofs.Keeps.{carried, given_count, most, more, least, few_calls}
 
 pub boundary_keeps : (b : InputBoundary) → BoundaryKeeps b
 boundary_keeps b =

@@ -10,11 +10,11 @@ use Rattle.nodes.specs.Nodes.{KeepsNode}
 use Rattle.nodes.specs.declared.node.IslandNode.{IslandNode}
 use Rattle.interpreter.specs.Parts.{AllBecome}
 use Rattle.interpreter.specs.declared.parts.Seated.{Seated}
-use Rattle.run_account.specs.Seats.{Covers, LanesKeep, joined_account}
-use Rattle.run_account.specs.Units.{Owned}
-use Rattle.island_seats.specs.Islands.{seats_by_islands, AreNets}
-use Rattle.rounds.specs.Crossings.{AllJoined}
-use Rattle.rounds.specs.declared.crossing.Crossing.{Crossing}
+use Rattle.run_laws.specs.Seats.{Covers, LanesKeep, joined_account}
+use Rattle.run_laws.specs.Units.{Owned}
+use Rattle.bodies_run.specs.Islands.{seats_by_islands, AreNets}
+use Rattle.lane_core.specs.Crossings.{AllJoined}
+use Rattle.lane_core.specs.declared.crossing.Crossing.{Crossing}
 use Rattle.dispatcher.specs.Broken.{WholeOrBroken}
 use Rattle.island_body.specs.Keeping.{SameLanes, BodyKeeps, BodyGoes, BodyBreaks}
 use Rattle.island_body.specs.Meeting.{BodiesJoined}

@@ -11,15 +11,15 @@ use Rattle.fused_net.proofs.Reading.{some_same}
 use Rattle.nodes.specs.declared.node.IslandNode.{IslandNode}
 use Rattle.interpreter.specs.declared.parts.Seated.{Seated}
 use Rattle.lane_core.specs.Ends.{taken_items, finds}
-use Rattle.island_boundary.specs.Beside.{in_node, out_node}
-use Rattle.island_boundary.specs.declared.output.OutputBoundary.{OutputBoundary}
-use Rattle.island_boundary.specs.declared.input.IslandInput.{IslandInput}
-use Rattle.run_account.specs.Ends.{OutEnd, InEnd}
-use Rattle.run_account.specs.Units.{LanesCost, over_lanes}
-use Rattle.island_seats.specs.Islands.{seats_by_islands, AreSeated}
-use Rattle.rounds.specs.Bodies.{AllOf}
-use Rattle.rounds.specs.Crossings.{AllJoined}
-use Rattle.rounds.specs.declared.crossing.Crossing.{Crossing}
+use Rattle.island_body.specs.Beside.{in_node, out_node}
+use Rattle.island_body.specs.declared.output.OutputBoundary.{OutputBoundary}
+use Rattle.island_body.specs.declared.input.IslandInput.{IslandInput}
+use Rattle.run_laws.specs.Ends.{OutEnd, InEnd}
+use Rattle.run_laws.specs.Units.{LanesCost, over_lanes}
+use Rattle.bodies_run.specs.Islands.{seats_by_islands, AreSeated}
+use Rattle.lane_core.specs.Bodies.{AllOf}
+use Rattle.lane_core.specs.Crossings.{AllJoined}
+use Rattle.lane_core.specs.declared.crossing.Crossing.{Crossing}
 use Rattle.island_body.specs.Ends.{all_taken, all_finds}
 use Rattle.island_body.specs.Keeping.{cost_of, BodyKeeps}
 use Rattle.island_body.specs.Meeting.{BodiesJoined}

@@ -4,7 +4,7 @@ use Rattle.std.proofs.Common.{◌≡◌, ℕ, ◌<◌, zero, suc, false, List, [
 use Rattle.std.proofs.lemmas.Option.{slice_get_within}
 use Rattle.stream_io.specs.State.{SourceState, DrainState}
 use Rattle.stream_model.specs.Graph.{Graph, Edge}
-use Rattle.wire_core.specs.Cell.{WireState}
+use Rattle.port_core.specs.Cell.{WireState}
 use Rattle.fused_net.specs.Net.{wire_at}
 use Rattle.fused_net.proofs.Reading.{get_there}
 use Rattle.interpreter.specs.Boundary.{Enters, Leaves, way_in, way_out, cell_in, cell_out}
@@ -12,20 +12,20 @@ use Rattle.interpreter.specs.Island.{Kept}
 use Rattle.interpreter.specs.declared.parts.Seated.{Seated}
 use Rattle.lane_core.specs.declared.room.Waits.{Waits}
 use Rattle.lane_core.specs.Ends.{asked_in_all, in_size}
-use Rattle.lane_account.specs.Ends.{out_end, in_end}
-use Rattle.lane_stands.proofs.Lanes.{lane_keeps, lane_quiet}
-use Rattle.island_boundary.specs.Serving.{Serves, IsServed}
-use Rattle.island_boundary.specs.declared.output.OutputBoundary.{OutputBoundary}
-use Rattle.island_boundary.specs.Feeding.{Feeds, IsFed}
-use Rattle.island_boundary.specs.declared.input.IslandInput.{IslandInput}
-use Rattle.run_account.specs.Account.{WireQuiet}
-use Rattle.run_account.specs.Ends.{LaneKeeps}
-use Rattle.run_account.specs.Seats.{LanesKeep, LanesRest}
-use Rattle.island_seats.specs.Islands.{seats_by_islands, AreSeated, HasWays}
-use Rattle.island_seats.proofs.Leading.{has_ways}
-use Rattle.rounds.specs.Bodies.{AllOf}
-use Rattle.rounds.specs.Crossings.{AllJoined, AtRest}
-use Rattle.rounds.specs.declared.crossing.Crossing.{Crossing}
+use Rattle.bodies_run.specs.Ends.{out_end, in_end}
+use Rattle.bodies_run.proofs.StandLanes.{lane_keeps, lane_quiet}
+use Rattle.island_body.specs.Serving.{Serves, IsServed}
+use Rattle.island_body.specs.declared.output.OutputBoundary.{OutputBoundary}
+use Rattle.island_body.specs.Feeding.{Feeds, IsFed}
+use Rattle.island_body.specs.declared.input.IslandInput.{IslandInput}
+use Rattle.run_laws.specs.Account.{WireQuiet}
+use Rattle.run_laws.specs.Ends.{LaneKeeps}
+use Rattle.run_laws.specs.Seats.{LanesKeep, LanesRest}
+use Rattle.bodies_run.specs.Islands.{seats_by_islands, AreSeated, HasWays}
+use Rattle.bodies_run.proofs.Leading.{has_ways}
+use Rattle.lane_core.specs.Bodies.{AllOf}
+use Rattle.lane_core.specs.Crossings.{AllJoined, AtRest}
+use Rattle.lane_core.specs.declared.crossing.Crossing.{Crossing}
 use Rattle.island_body.specs.Ends.{InputEndStands, OutputEndStands}
 use Rattle.island_body.specs.Keeping.{has_some, is_pending, BodyKeeps}
 use Rattle.island_body.specs.Meeting.{BodiesJoined}

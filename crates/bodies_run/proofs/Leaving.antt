@@ -2,7 +2,7 @@
 use Rattle.std.specs.Prelude.{slice_get}
 use Rattle.std.specs.List.{All}
 use Rattle.std.proofs.Common.{◌≡◌, ◌⊎◌, ℕ, zero, suc, ◌<◌, List, [], ◌∷◌, length, Some, refl, sym, ap, ◌∙◌, subst, arith}
-use Rattle.blue_core.specs.declared.blueprint.Blueprint.{Blueprint}
+use Rattle.stream_model.specs.declared.blueprint.Blueprint.{Blueprint}
 use Rattle.stream_io.specs.State.{SourceState}
 use Rattle.stream_model.specs.Graph.{Edge}
 use Rattle.stream_model.proofs.Compositions.{slice_get-below}
@@ -11,15 +11,15 @@ use Rattle.fused_net.specs.Net.{Net}
 use Rattle.nodes.specs.declared.node.IslandNode.{IslandNode}
 use Rattle.interpreter.specs.Parts.{AllBecome}
 use Rattle.interpreter.specs.declared.parts.Seated.{Seated}
-use Rattle.run_account.specs.Account.{Account, AllMade}
-use Rattle.run_account.specs.Seats.{joined_account}
-use Rattle.run_outlook_laws.specs.Made.{FirstOf}
+use Rattle.run_laws.specs.Account.{Account, AllMade}
+use Rattle.run_laws.specs.Seats.{joined_account}
+use Rattle.run_laws.specs.Made.{FirstOf}
 use Rattle.materializer.specs.Graphs.{graph_of, chains_of}
 use Rattle.materializer.specs.Seats.{AreSeats}
 use Rattle.materializer.proofs.Making.{are_firsts}
-use Rattle.island_seats.specs.Islands.{seats_by_islands, AreSeated, AreNets, AreBroughtBack}
-use Rattle.island_seats.proofs.Covering.{nodes_count}
-use Rattle.island_seats.proofs.Gathering.{back}
+use Rattle.bodies_run.specs.Islands.{seats_by_islands, AreSeated, AreNets, AreBroughtBack}
+use Rattle.bodies_run.proofs.Covering.{nodes_count}
+use Rattle.bodies_run.proofs.Gathering.{back}
 use Rattle.bodies_run.specs.Leaving.{AreLeft}
 
 pub become_many : {S D L B : Type 0} (ps : List (Seated S D L B)) (xs : List (IslandNode S D L B)) → AllBecome ps xs → length ps ≡ length xs

@@ -1,3 +1,13 @@
+pub mod Meeting
+pub mod StandLeaving
+pub mod StandLanes
+pub mod Bringing
+pub mod Ports
+pub mod Standing
+pub mod Covering
+pub mod Leading
+pub mod Becoming
+pub mod Gathering
 pub mod Nets
 pub mod Boundaries
 pub mod Lanes

@@ -9,12 +9,12 @@ use Rattle.nodes.specs.Nodes.{node_port_state, node_law, node_asking, node_moves
 use Rattle.nodes.specs.declared.node.IslandNode.{IslandNode}
 use Rattle.interpreter.specs.Parts.{ends_of, AllBecome}
 use Rattle.interpreter.specs.declared.parts.Seated.{Seated}
-use Rattle.run_account.specs.Seats.{Covers, joined_account}
-use Rattle.run_account.specs.Units.{Owned}
-use Rattle.island_seats.specs.Islands.{seats_by_islands, seats_in, links_in, AreNets}
-use Rattle.island_seats.proofs.Covering.{covers, owned, go_on, firsts_count}
-use Rattle.island_seats.proofs.Gathering.{back, become}
-use Rattle.rounds.specs.declared.crossing.Crossing.{Crossing}
+use Rattle.run_laws.specs.Seats.{Covers, joined_account}
+use Rattle.run_laws.specs.Units.{Owned}
+use Rattle.bodies_run.specs.Islands.{seats_by_islands, seats_in, links_in, AreNets}
+use Rattle.bodies_run.proofs.Covering.{covers, owned, go_on, firsts_count}
+use Rattle.bodies_run.proofs.Gathering.{back, become}
+use Rattle.lane_core.specs.declared.crossing.Crossing.{Crossing}
 use Rattle.island_body.specs.Ends.{AllStand, IslandGoes}
 use Rattle.island_body.specs.Keeping.{SameLanes, BodyKeeps, BodyGoes}
 use Rattle.island_body.specs.declared.body.Body.{Body}

@@ -4,18 +4,18 @@ use Rattle.std.specs.List.{sum_by}
 use Rattle.std.proofs.Common.{◌≡◌, ℕ, ◌+◌, ◌≤◌, List, length, Some, ◌∙◌, subst, arith}
 use Rattle.stream_io.specs.State.{SourceState, DrainState}
 use Rattle.stream_model.specs.Graph.{Graph, Edge}
-use Rattle.stream_picture.specs.Shape.{count_needed}
+use Rattle.stream_model.specs.Shape.{count_needed}
 use Rattle.fused_net.specs.Costs.{sum_below, total_cost, all_asks}
 use Rattle.nodes.specs.Nodes.{node_port_state, node_law, node_asking, node_moves}
 use Rattle.interpreter.specs.declared.parts.Seated.{Seated}
-use Rattle.run_account.specs.Pictures.{picture_counts}
-use Rattle.run_account.specs.Seats.{joined_account}
-use Rattle.run_account.specs.Units.{LanesCost, over_lanes}
-use Rattle.run_account.proofs.Units.{all_paid}
-use Rattle.island_seats.specs.Islands.{seats_by_islands}
-use Rattle.rounds.specs.Bodies.{AllOf, EachOf}
-use Rattle.rounds.specs.Crossings.{AllJoined}
-use Rattle.rounds.specs.declared.crossing.Crossing.{Crossing}
+use Rattle.run_laws.specs.Pictures.{picture_counts}
+use Rattle.run_laws.specs.Seats.{joined_account}
+use Rattle.run_laws.specs.Units.{LanesCost, over_lanes}
+use Rattle.run_laws.proofs.Units.{all_paid}
+use Rattle.bodies_run.specs.Islands.{seats_by_islands}
+use Rattle.lane_core.specs.Bodies.{AllOf, EachOf}
+use Rattle.lane_core.specs.Crossings.{AllJoined}
+use Rattle.lane_core.specs.declared.crossing.Crossing.{Crossing}
 use Rattle.island_body.specs.Keeping.{BodyKeeps, BodyGoes}
 use Rattle.island_body.specs.Meeting.{BodiesJoined}
 use Rattle.island_body.specs.declared.body.Body.{Body}

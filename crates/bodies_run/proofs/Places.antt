@@ -7,8 +7,8 @@ use Rattle.interpreter.specs.Island.{Kept}
 use Rattle.interpreter.specs.Ways.{comes_in, goes_out}
 use Rattle.interpreter.specs.declared.parts.Link.{Link}
 use Rattle.interpreter.specs.declared.parts.Seated.{Seated}
-use Rattle.island_seats.specs.Islands.{seats_by_islands, seats_in, links_in, AreSeated, HasWays}
-use Rattle.island_seats.proofs.Leading.{has_ways}
+use Rattle.bodies_run.specs.Islands.{seats_by_islands, seats_in, links_in, AreSeated, HasWays}
+use Rattle.bodies_run.proofs.Leading.{has_ways}
 
 module _ {S D L B : Type 0} (homes : List ℕ) (count : ℕ) (ws : List Edge) (nodes : List (Seated S D L B)) (u : ℕ) (v : Edge) (size : ℕ) (i : Kept S D L B) (a : AreSeated homes count ws nodes) (at : slice_get ws u ≡ Some v) (lane : v.lane ≡ Some size) where
   ways : HasWays homes ws nodes u v

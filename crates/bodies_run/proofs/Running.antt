@@ -4,21 +4,21 @@ use Rattle.std.specs.List.{All}
 use Rattle.std.proofs.Common.{◌≡◌, ℕ, List, Some}
 use Rattle.blue_check.specs.Fitness.{IsFit}
 use Rattle.blue_check.specs.Wires.{blueprint_wires}
-use Rattle.blue_core.specs.declared.blueprint.Blueprint.{Blueprint}
-use Rattle.plug_core.specs.declared.head.PlugHead.{PlugHead}
+use Rattle.stream_model.specs.declared.blueprint.Blueprint.{Blueprint}
+use Rattle.stream_model.specs.declared.head.PlugHead.{PlugHead}
 use Rattle.stream_io.specs.State.{SourceState, DrainState}
 use Rattle.nodes.specs.declared.node.IslandNode.{IslandNode}
 use Rattle.interpreter.specs.declared.parts.Seated.{Seated}
-use Rattle.run_account.specs.Account.{IsStill}
-use Rattle.run_outlook_laws.specs.Runs.{IsRun}
-use Rattle.run_outlook_laws.proofs.Islands.{all_run, all_rest}
+use Rattle.run_laws.specs.Account.{IsStill}
+use Rattle.run_laws.specs.Runs.{IsRun}
+use Rattle.run_laws.proofs.Islands.{all_run, all_rest}
 use Rattle.materializer.specs.Graphs.{graph_of, chains_of}
 use Rattle.materializer.specs.Seats.{AreSeats}
 use Rattle.materializer.proofs.Fitting.{fit_joined}
-use Rattle.island_seats.specs.Islands.{seats_by_islands, AreBroughtBack}
-use Rattle.rounds.specs.Bodies.{AllOf, EachOf}
-use Rattle.rounds.specs.Crossings.{AllJoined, AtRest}
-use Rattle.rounds.specs.declared.crossing.Crossing.{Crossing}
+use Rattle.bodies_run.specs.Islands.{seats_by_islands, AreBroughtBack}
+use Rattle.lane_core.specs.Bodies.{AllOf, EachOf}
+use Rattle.lane_core.specs.Crossings.{AllJoined, AtRest}
+use Rattle.lane_core.specs.declared.crossing.Crossing.{Crossing}
 use Rattle.island_body.specs.Keeping.{is_pending, BodyKeeps, BodyGoes}
 use Rattle.island_body.specs.Meeting.{BodiesJoined}
 use Rattle.island_body.specs.declared.body.Body.{Body}

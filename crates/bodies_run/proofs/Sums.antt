@@ -6,7 +6,7 @@ use Rattle.std.proofs.lemmas.List.Sums.{sum_by-cons}
 use Rattle.stream_model.specs.Graph.{Edge}
 use Rattle.fused_net.specs.Costs.{sum_below}
 use Rattle.fused_net.proofs.Sums.{sum_has}
-use Rattle.run_account.specs.Units.{lane_at, if_lane}
+use Rattle.run_laws.specs.Units.{lane_at, if_lane}
 
 -- f of each, together
 abbrev pub add_up : {X : Type 0} → (X → ℕ) → List X → ℕ

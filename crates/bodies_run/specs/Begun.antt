@@ -4,10 +4,10 @@ use Rattle.stream_model.specs.Graph.{Edge}
 use Rattle.interpreter.specs.Parts.{wire_number}
 use Rattle.interpreter.specs.Picks.{place_number}
 use Rattle.interpreter.specs.declared.parts.Seated.{Seated}
-use Rattle.island_boundary.specs.declared.input.IslandInput.{IslandInput}
-use Rattle.rounds.specs.declared.crossing.Crossing.{Crossing}
-use Rattle.traversal.specs.declared.plan.LanePlan.{LanePlan}
-use Rattle.island_seats.specs.Islands.{seats_in, links_in}
+use Rattle.island_body.specs.declared.input.IslandInput.{IslandInput}
+use Rattle.lane_core.specs.declared.crossing.Crossing.{Crossing}
+use Rattle.blue_check.specs.declared.plan.LanePlan.{LanePlan}
+use Rattle.bodies_run.specs.Islands.{seats_in, links_in}
 use Rattle.island_body.specs.Keeping.{SameLanes}
 use Rattle.island_body.specs.declared.body.Body.{Body}
 

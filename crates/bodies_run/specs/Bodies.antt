@@ -10,11 +10,11 @@ use Rattle.interpreter.specs.Boundary.{way_in, way_out}
 use Rattle.interpreter.specs.Parts.{ends_of, AllBecome}
 use Rattle.interpreter.specs.declared.parts.Seated.{Seated}
 use Rattle.lane_core.specs.Ends.{asked_in_all, in_size}
-use Rattle.island_boundary.specs.declared.output.OutputBoundary.{OutputBoundary}
-use Rattle.island_boundary.specs.declared.input.IslandInput.{IslandInput}
-use Rattle.island_seats.specs.Islands.{seats_by_islands, seats_in, links_in, AreSeated, IsGraphOf}
-use Rattle.rounds.specs.Bodies.{AllOf}
-use Rattle.rounds.specs.declared.crossing.Crossing.{Crossing}
+use Rattle.island_body.specs.declared.output.OutputBoundary.{OutputBoundary}
+use Rattle.island_body.specs.declared.input.IslandInput.{IslandInput}
+use Rattle.bodies_run.specs.Islands.{seats_by_islands, seats_in, links_in, AreSeated, IsGraphOf}
+use Rattle.lane_core.specs.Bodies.{AllOf}
+use Rattle.lane_core.specs.declared.crossing.Crossing.{Crossing}
 use Rattle.island_body.specs.Ends.{AllStand, IslandGoes}
 use Rattle.island_body.specs.Keeping.{BodyKeeps}
 use Rattle.island_body.specs.declared.body.Body.{Body}

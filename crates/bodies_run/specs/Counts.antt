@@ -2,9 +2,9 @@
 use Rattle.std.specs.Prelude.{ℕ, ◌+◌, ◌==◌, if◌then◌else◌, List, [], ◌∷◌}
 use Rattle.stream_model.specs.Graph.{Edge}
 use Rattle.stream_model.specs.declared.outcome.WireCount.{WireCount}
-use Rattle.wire_core.specs.Cell.{WireState}
+use Rattle.port_core.specs.Cell.{WireState}
 use Rattle.interpreter.specs.Island.{state_count}
-use Rattle.traversal.specs.declared.plan.LanePlan.{LanePlan}
+use Rattle.blue_check.specs.declared.plan.LanePlan.{LanePlan}
 
 -- the number of each wire, and how its connection at the output stands, where the first is wire u
 abbrev pub told_from : (ℕ → WireState) → ℕ → List Edge → List (ℕ × WireCount)

@@ -4,9 +4,9 @@ use Rattle.stream_model.specs.Graph.{Edge}
 use Rattle.nodes.specs.declared.node.IslandNode.{IslandNode}
 use Rattle.interpreter.specs.Parts.{AllBecome}
 use Rattle.interpreter.specs.declared.parts.Seated.{Seated}
-use Rattle.run_account.specs.Account.{Account}
-use Rattle.run_account.specs.Seats.{joined_account}
-use Rattle.island_seats.specs.Islands.{seats_by_islands}
+use Rattle.run_laws.specs.Account.{Account}
+use Rattle.run_laws.specs.Seats.{joined_account}
+use Rattle.bodies_run.specs.Islands.{seats_by_islands}
 use Rattle.island_body.specs.declared.body.Body.{Body}
 use Rattle.bodies_run.specs.Bodies.{net_of}
 

@@ -1,3 +1,5 @@
+pub mod Ends
+pub mod Islands
 pub mod Bodies
 pub mod Begun
 pub mod Leaving

@@ -1,6 +1,6 @@
 -- The last of a blueprint's islands can be started.
 use Rattle.std.proofs.Common.{◌≡◌, List, [], ◌∷◌, ◌++◌, length, slice_get, Some, refl, subst, sym}
-use Rattle.blue_core.specs.declared.blueprint.Blueprint.{Blueprint}
+use Rattle.stream_model.specs.declared.blueprint.Blueprint.{Blueprint}
 use Rattle.blue_check.specs.Wires.{blueprint_wires}
 use Rattle.interpreter.specs.declared.parts.Parts.{Parts}
 use Rattle.interpreter.specs.declared.room.IslandRoom.{IslandRoom}

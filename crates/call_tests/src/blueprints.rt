@@ -1,8 +1,8 @@
 // Nodes and wires of small blueprints, whose nodes have names of one byte.
-use blue_core::blueprint::{Node, WireDecl};
 use elem_core::line::Line;
 use elem_core::why::{Decider, NoMemory};
 use std::alloc::{AllocError, Global};
+use stream_model::blueprint::{Node, WireDecl};
 use stream_model::kind::Kind;
 
 /// A name of one byte.

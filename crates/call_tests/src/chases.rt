@@ -3,7 +3,6 @@ ghost use Rattle.std.specs.Prelude.{◌≤◌};
 
 use crate::blueprints::{node, wire};
 use blue_check::check::check;
-use blue_core::blueprint::Blueprint;
 use elem_core::function::MapFn;
 use elem_core::why::NoMemory;
 use interpreter::island::Island;
@@ -15,6 +14,7 @@ use std::alloc::Global;
 use std::test::Fail;
 use stream_io::mem_drain::MemDrain;
 use stream_io::mem_folder::MemSource;
+use stream_model::blueprint::Blueprint;
 use stream_model::kind::{Base, Kind};
 
 /// The name of the node at a place.

@@ -1,13 +1,13 @@
 // That the islands of a blueprint are found with ample memory.
 use crate::blueprints::{node, wire};
 use blue_check::check::check;
-use blue_core::blueprint::Blueprint;
+use blue_check::islands::islands;
+use blue_check::plan::LanePlan;
 use elem_core::why::NoMemory;
 use std::alloc::Global;
 use std::test::Fail;
+use stream_model::blueprint::Blueprint;
 use stream_model::kind::{Base, Kind};
-use traversal::islands::islands;
-use traversal::plan::LanePlan;
 
 /// Two sources and two sinks, of which the last sink is in the island of the first source.
 fn blueprint(alloc: Global) -> Result<Blueprint, NoMemory> {

@@ -9,7 +9,6 @@ ghost use Rattle.stage_linear.specs.Plugs.{Is};
 use crate::lines::line_of;
 use elem_core::elem_type::{ElemType, TypeForm};
 use elem_core::line::Line;
-use plug_core::head::PlugHead;
 use plug_logic::logic::Logic;
 use plug_logic::plug::Plug;
 use plug_samples::book::Samples;
@@ -20,6 +19,7 @@ use stream_command::run::run_streams;
 use stream_io::mem_drain::MemDrain;
 use stream_io::mem_folder::MemFolder;
 use stream_io::named_file::{NamedFile, bytes_of};
+use stream_model::head::PlugHead;
 
 /// One more plug of texts, or of numbers, whose logic gives what the book of samples lists of this name.
 pub fn add(

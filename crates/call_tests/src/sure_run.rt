@@ -3,10 +3,10 @@ use crate::lines::line_of;
 use plug_logic::book::Shipped;
 use plug_logic::dedup::Dedup;
 use std::test::Fail;
+use stream_command::{Status, run_surely};
 use stream_io::named_file::NamedFile;
 use stream_io::sure::{SureDrain, SureFolder};
 use stream_model::outcome::EndState;
-use stream_shipped::{Status, run_surely};
 
 const TEXT: &str =
     "streams 1\nsource src lines in.txt\nstage size map len\nsink out lines out.txt\nwire src.0 -> size.0\nwire size.0 -> out.0\n";

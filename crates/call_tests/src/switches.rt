@@ -1,6 +1,6 @@
 // That a switch is made with ample memory, and that its seats know its first order.
-use kill_core::order::Order;
-use kill_core::switch::Switch;
+use stage_switch::order::Order;
+use stage_switch::switch::Switch;
 use std::alloc::AllocError;
 
 #[test]

@@ -1,8 +1,8 @@
 // What no clause says: that the numbers tell of each wire whether it lies on a closed walk, so that no walk has to be looked for.
+use blue_check::components::{Components, components_of};
+use blue_check::depth::ins_of;
+use blue_check::ranks::rank_of;
 use blue_names::links::NumberedWire;
-use blue_walks::components::{Components, components_of};
-use blue_walks::depth::ins_of;
-use blue_walks::ranks::rank_of;
 use elem_core::why::NoMemory;
 use std::alloc::Global;
 use std::test::Fail;

@@ -12,10 +12,10 @@ use Rattle.std.proofs.alloc.Global.TheSendSync as heap
 use Rattle.atomic_table.proofs.shared.Seat.TheSendSync as seat
 use Rattle.atomic_table.proofs.shared.Shared.TheSendSync as shared
 use Rattle.atomic_table.proofs.send_lease.SendLease.TheSendSync as lease
-use Rattle.turn_table.specs.contracts.turns.Turns as turns
+use Rattle.dispatcher.specs.contracts.turns.Turns as turns
 use Rattle.dispatcher.specs.contracts.ready.ReadyList as ready_list
-use Rattle.unit_budget.specs.contracts.budget.Budget as budget
-use Rattle.unit_budget.specs.contracts.budget.BudgetSeat as budget_seat
+use Rattle.dispatcher.specs.contracts.budget.Budget as budget
+use Rattle.dispatcher.specs.contracts.budget.BudgetSeat as budget_seat
 use Rattle.dispatcher.specs.contracts.place.TablePlace as place
 use Rattle.dispatcher.specs.contracts.place.TablePlace.TheInside as inside
 

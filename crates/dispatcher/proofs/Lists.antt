@@ -3,9 +3,9 @@ use Rattle.std.proofs.Common.{rules, ◌≡◌, ℕ, zero, suc, ◌+◌, ◌⊎�
 use Rattle.std.specs.List.{All}
 use Rattle.std.proofs.lemmas.List.Elements.{All-head, All-tail}
 use Rattle.std.proofs.lemmas.Option.{slice_get_within}
-use Rattle.turn_table.specs.Table.{OriginFits}
-use Rattle.turn_table.proofs.Closing.{some_same}
-use Rattle.rounds.specs.Bodies.{AllOf, EachOf}
+use Rattle.dispatcher.specs.Table.{OriginFits}
+use Rattle.dispatcher.proofs.Closing.{some_same}
+use Rattle.lane_core.specs.Bodies.{AllOf, EachOf}
 
 -- the value that follows what was passed is one of the list
 pub all_next : {A : Type 0} (P : A → Type 0) (done : List A) (x : A) (left : List A) (xs : List A) → xs ≡ done ++ x ∷ left → All P xs → P x

@@ -1,10 +1,10 @@
 -- Bodies that went on or broke off.
 use Rattle.std.proofs.Common.{◌≡◌, inl, inr, ℕ, Bool, true, false, not, List, sym, refl, ap, ◌∙◌, slice_get}
-use Rattle.rounds.specs.declared.crossing.Crossing.{Crossing}
-use Rattle.rounds.specs.Bodies.{AllOf, EachOf, BrokeOff}
-use Rattle.rounds.specs.Crossings.{AreCrossings}
-use Rattle.rounds.proofs.Each.{same_or, at_count}
-use Rattle.rounds.proofs.Lanes.{crossings_each}
+use Rattle.lane_core.specs.declared.crossing.Crossing.{Crossing}
+use Rattle.lane_core.specs.Bodies.{AllOf, EachOf, BrokeOff}
+use Rattle.lane_core.specs.Crossings.{AreCrossings}
+use Rattle.lane_core.proofs.Each.{same_or, at_count}
+use Rattle.lane_core.proofs.Lanes.{crossings_each}
 use Rattle.dispatcher.specs.Broken.{WholeOrBroken}
 use Rattle.dispatcher.specs.Places.{BodyWentOn, WentOrBroke, PlaceStands}
 

@@ -2,8 +2,8 @@
 use Rattle.std.specs.Prelude.{◌≡◌, ℕ, length}
 use Rattle.std.specs.List.{All}
 use Rattle.atomic_table.specs.Seated.{TableId}
-use Rattle.turn_table.specs.declared.turns.Turns.{Turns}
-use Rattle.turn_table.specs.Public.{handed_in}
+use Rattle.dispatcher.specs.declared.turns.Turns.{Turns}
+use Rattle.dispatcher.specs.PublicTurns.{handed_in}
 use Rattle.dispatcher.specs.declared.origin.PlaceOrigin.{PlaceOrigin}
 use Rattle.dispatcher.specs.Places.{Belongs}
 

@@ -1,3 +1,9 @@
+pub mod Sums
+pub mod Table
+pub mod PublicTurns
+pub mod Lent
+pub mod Rule
+pub mod PublicBudget
 pub mod Broken
 pub mod Places
 pub mod Crew

@@ -2,8 +2,8 @@
 use Rattle.std.specs.Prelude.{◌≡◌, ◌⊎◌, ℕ, Bool, true, false}
 use Rattle.std.specs.declared.snapshot.Snapshot.{Snapshot}
 use Rattle.atomic_table.specs.Seated.{TableId}
-use Rattle.unit_budget.specs.declared.budget.BudgetSeat.{BudgetSeat}
-use Rattle.unit_budget.specs.Public.{used_by, budget_parts, HasNoClaim}
+use Rattle.dispatcher.specs.declared.budget.BudgetSeat.{BudgetSeat}
+use Rattle.dispatcher.specs.PublicBudget.{used_by, budget_parts, HasNoClaim}
 use Rattle.dispatcher.specs.declared.origin.PlaceOrigin.{PlaceOrigin}
 
 -- the seat has one part and no claim, and so many units were used with it

@@ -2,18 +2,18 @@
 ghost use Rattle.std.specs.Prelude.{◌≡◌, ◌<◌, ◌≤◌, length};
 ghost use Rattle.std.specs.List.{All};
 ghost use Rattle.elem_core.specs.declared.count.TheConstants.{MOST_COUNT};
-ghost use Rattle.unit_budget.specs.Public.{budget_id};
-ghost use Rattle.turn_table.specs.Public.{IsSeatOf, IsFree, held_turns, handed_in};
+ghost use Rattle.dispatcher.specs.PublicBudget.{budget_id};
+ghost use Rattle.dispatcher.specs.PublicTurns.{IsSeatOf, IsFree, held_turns, handed_in};
 ghost use Rattle.dispatcher.specs.Crew.{IsCrew};
 
+use crate::budget::Budget;
 use crate::place::{Came, TablePlace};
 use crate::ready::ReadyList;
+use crate::turns::{TurnSeat, Turns};
 use crate::waking::Waking;
 use std::alloc::Global;
 use std::sync::Wait;
 use std::thread::{Threads, for_each_mut};
-use turn_table::turns::{TurnSeat, Turns};
-use unit_budget::budget::Budget;
 
 // Wakes the islands that a body names, of those that there are, and puts those on the ready list that were at rest. True where some
 // were. The worker itself comes for the first of them, and behind a long turn it wakes a worker that sleeps for each further one.

@@ -1,11 +1,11 @@
 // What a run leaves.
-ghost use Rattle.rounds.specs.Bodies.{EachOf};
-ghost use Rattle.rounds.specs.Crossings.{AreCrossings, AllJoined};
+ghost use Rattle.lane_core.specs.Bodies.{EachOf};
+ghost use Rattle.lane_core.specs.Crossings.{AreCrossings, AllJoined};
 
 use crate::ran::Ran;
-use rounds::crossing::Crossing;
-use rounds::settle::settle;
-use rounds::turning::Turning;
+use lane_core::crossing::Crossing;
+use lane_core::settle::settle;
+use lane_core::turning::Turning;
 
 /// What a run leaves.
 #[derive(Drop)]

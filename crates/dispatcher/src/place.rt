@@ -1,18 +1,18 @@
 // A body beside its seat of the budget.
 ghost use Rattle.std.specs.Prelude.{◌≡◌, ◌≤◌, false};
 ghost use Rattle.elem_core.specs.declared.count.TheConstants.{MOST_COUNT};
-ghost use Rattle.unit_budget.specs.Public.{budget_id, seat_id, limit_of};
+ghost use Rattle.dispatcher.specs.PublicBudget.{budget_id, seat_id, limit_of};
 ghost use Rattle.dispatcher.specs.Places.{Paid, PlaceStands, Belongs};
 
+use crate::budget::{Budget, BudgetSeat};
 use crate::origin::PlaceOrigin;
 use crate::ready::ReadyList;
+use crate::turn_rule::Kept;
 use crate::waking::Waking;
-use rounds::turning::Turning;
+use lane_core::turning::Turning;
 use std::alloc::Global;
 use std::marker::Model;
 use std::snapshot::Snapshot;
-use turn_table::rule::Kept;
-use unit_budget::budget::{Budget, BudgetSeat};
 
 /// A body with its seat of the budget, and the units that its turns used. Where memory was wanting in one it is broken, and takes no
 /// turn any more.
@@ -29,7 +29,7 @@ pub struct TablePlace<B: Turning> {
 
 impl<B: Turning> Model for TablePlace<B> {
     ghost use Rattle.std.specs.Coded.{codes};
-    ghost use Rattle.unit_budget.specs.Public.{seat_id, limit_of};
+    ghost use Rattle.dispatcher.specs.PublicBudget.{seat_id, limit_of};
     ghost use Rattle.dispatcher.specs.Places.{PlaceHolds, place_origin};
     ghost use Rattle.dispatcher.specs.declared.origin.PlaceOrigin.{PlaceOrigin};
 

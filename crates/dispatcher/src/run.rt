@@ -2,29 +2,29 @@
 ghost use Rattle.std.specs.Prelude.{◌≡◌, ◌+◌, ◌<◌, ◌≤◌, [], ℕ, true, false, map, length, vec_len, vec_capacity, IfOk, IfErr};
 ghost use Rattle.std.specs.List.{All, sum_by};
 ghost use Rattle.elem_core.specs.declared.count.TheConstants.{MOST_COUNT};
-ghost use Rattle.turn_table.specs.Public.{IsFree, handed_in, seat_count};
-ghost use Rattle.unit_budget.specs.Public.{budget_id, seat_id, used_by, budget_parts, limit_of, HasNoClaim};
-ghost use Rattle.rounds.specs.Bodies.{AllOf, EachOf};
-ghost use Rattle.rounds.specs.Crossings.{AreCrossings, AllJoined, AtRest, FirstEvent};
+ghost use Rattle.dispatcher.specs.PublicTurns.{IsFree, handed_in, seat_count};
+ghost use Rattle.dispatcher.specs.PublicBudget.{budget_id, seat_id, used_by, budget_parts, limit_of, HasNoClaim};
+ghost use Rattle.lane_core.specs.Bodies.{AllOf, EachOf};
+ghost use Rattle.lane_core.specs.Crossings.{AreCrossings, AllJoined, AtRest, FirstEvent};
 ghost use Rattle.dispatcher.specs.Broken.{WholeOrBroken};
 ghost use Rattle.dispatcher.specs.Places.{BodyWentOn, WentOrBroke};
 ghost use Rattle.dispatcher.specs.Crew.{IsCrew};
 
+use crate::budget::{Budget, BudgetSeat};
 use crate::crew::{wake_each, work_all};
 use crate::finish::{Finish, settled};
 use crate::place::TablePlace;
 use crate::ran::Ran;
 use crate::ready::ReadyList;
 use crate::taken::{TurnsTaken, place_all, take_apart, untaken};
+use crate::turns::{TurnSeat, Turns};
 use crate::waking::Waking;
 use elem_core::why::NoMemory;
-use rounds::crossing::Crossing;
-use rounds::run::go_on;
+use lane_core::crossing::Crossing;
+use lane_core::run::go_on;
 use std::alloc::Global;
 use std::sync::Wait;
 use std::thread::Threads;
-use turn_table::turns::{TurnSeat, Turns};
-use unit_budget::budget::{Budget, BudgetSeat};
 
 // All the memory that a run takes before bodies move, but the turn table.
 struct RunRoom<B: Waking> {

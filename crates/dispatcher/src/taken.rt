@@ -2,13 +2,13 @@
 ghost use Rattle.std.specs.Prelude.{◌≡◌, ◌+◌, ◌≤◌, [], ℕ, false, map, vec_len, vec_capacity, IfOk};
 ghost use Rattle.std.specs.List.{All, sum_by};
 ghost use Rattle.elem_core.specs.declared.count.TheConstants.{MOST_COUNT};
-ghost use Rattle.unit_budget.specs.Public.{budget_id, seat_id, used_by, budget_parts, limit_of, HasNoClaim};
-ghost use Rattle.rounds.specs.Bodies.{AllOf, EachOf};
+ghost use Rattle.dispatcher.specs.PublicBudget.{budget_id, seat_id, used_by, budget_parts, limit_of, HasNoClaim};
+ghost use Rattle.lane_core.specs.Bodies.{AllOf, EachOf};
 ghost use Rattle.dispatcher.specs.Places.{Paid, Belongs, BodyWentOn, WentOrBroke, body_start};
 
+use crate::budget::{Budget, BudgetSeat};
 use crate::place::{TableParts, TablePlace};
-use rounds::turning::Turning;
-use unit_budget::budget::{Budget, BudgetSeat};
+use lane_core::turning::Turning;
 
 /// What the workers left: the bodies in order, the units that all used, and whether memory was wanting.
 pub struct TurnsTaken<B> {

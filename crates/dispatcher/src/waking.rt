@@ -1,5 +1,5 @@
 // What the workers ask of a body.
-use rounds::turning::Turning;
+use lane_core::turning::Turning;
 
 /// A body that tells which islands are to be woken.
 pub trait Waking: Turning {

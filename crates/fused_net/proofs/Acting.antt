@@ -18,12 +18,12 @@ use Rattle.port_core.specs.declared.view.InView.TheVariants.{Idle, Cancelled}
 use Rattle.port_core.specs.declared.view.OutView.TheVariants.{Available, Closed}
 use Rattle.port_core.proofs.Wires.{pull_kept, push_kept, close_kept, cancel_kept}
 use Rattle.stage_core.specs.Histories.{given_by}
-use Rattle.wire_core.specs.Cell.{WireState, moved_by, queues_by}
-use Rattle.wire_core.specs.Marks.{IsMarked}
-use Rattle.wire_core.proofs.Marking.{pull_marked, push_marked, close_marked, cancel_marked}
-use Rattle.wire_core.specs.Counts.{asks}
+use Rattle.port_core.specs.Cell.{WireState, moved_by, queues_by}
+use Rattle.port_core.specs.Marks.{IsMarked}
+use Rattle.port_core.proofs.Marking.{pull_marked, push_marked, close_marked, cancel_marked}
+use Rattle.port_core.specs.Counts.{asks}
 use Rattle.fused_net.specs.PortLists.{PortLists}
-use Rattle.wire_core.specs.Reading.{no_wire, inp_of, out_of, got_of, sent_of}
+use Rattle.port_core.specs.Reading.{no_wire, inp_of, out_of, got_of, sent_of}
 use Rattle.fused_net.specs.Net.{Net, read_all, wire_at, ports_at, view_of, took, gave, wire_for, HasPort, acted, acted_all, Able}
 use Rattle.fused_net.specs.Laws.{AnyRow, AnyLaw, Wired, Minds, IsMinded, AllAsked, AllMoments, Settled, Busy}
 use Rattle.fused_net.specs.Costs.{all_asks}

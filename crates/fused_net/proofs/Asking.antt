@@ -16,12 +16,12 @@ use Rattle.port_core.specs.declared.act.Act.{Act}
 use Rattle.port_core.specs.declared.act.Act.TheVariants.{Pull, Push, Complete, FailOut, Cancel}
 use Rattle.port_core.specs.declared.view.InView.TheVariants.{Idle, Pulled}
 use Rattle.port_core.specs.declared.view.OutView.TheVariants.{Available}
-use Rattle.wire_core.specs.Cell.{WireState, moved_by}
-use Rattle.wire_core.specs.Marks.{wants, IsMarked, wanted, Grown}
-use Rattle.wire_core.proofs.Marking.{pull_grown, push_grown, close_grown, cancel_grown, push_wanted, close_wanted, deliver_grown, deliver_wanted, grown_same, grown_trans}
+use Rattle.port_core.specs.Cell.{WireState, moved_by}
+use Rattle.port_core.specs.Marks.{wants, IsMarked, wanted, Grown}
+use Rattle.port_core.proofs.Marking.{pull_grown, push_grown, close_grown, cancel_grown, push_wanted, close_wanted, deliver_grown, deliver_wanted, grown_same, grown_trans}
 use Rattle.stage_core.specs.Handling.{Pulls}
 use Rattle.fused_net.specs.PortLists.{PortLists}
-use Rattle.wire_core.specs.Reading.{no_wire}
+use Rattle.port_core.specs.Reading.{no_wire}
 use Rattle.fused_net.specs.Net.{Net, end_at, port_at, wire_at, ports_at, view_of, wire_for, target, put, acted, acted_all, told_by, delivered_on, with_node, before}
 use Rattle.fused_net.specs.Laws.{AnyRow, AnyLaw, Wired, NetGoesOn, NodeStays, IsAsking, MovesGrow, IsMinded, LastAsk, AllAsked, Busy}
 use Rattle.fused_net.proofs.Reading.{same_or_not, some_same, get_there, get_within, get_set_same, get_set_other}

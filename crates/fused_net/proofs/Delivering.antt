@@ -17,13 +17,13 @@ use Rattle.port_core.specs.declared.act.Act.{Act}
 use Rattle.port_core.specs.declared.view.InView.TheVariants.{Cancelled}
 use Rattle.port_core.specs.declared.view.OutView.TheVariants.{Closed}
 use Rattle.port_core.proofs.Wires.{deliver_kept, deliver_heard}
-use Rattle.wire_core.specs.Cell.{WireState, brought_in, delivered, Brings, Brought}
-use Rattle.wire_core.specs.Marks.{IsMarked}
-use Rattle.wire_core.proofs.Marking.{deliver_marked}
+use Rattle.port_core.specs.Cell.{WireState, brought_in, delivered, Brings, Brought}
+use Rattle.port_core.specs.Marks.{IsMarked}
+use Rattle.port_core.proofs.Marking.{deliver_marked}
 use Rattle.stage_core.specs.Histories.{brought_by}
 use Rattle.stage_core.specs.Handling.{Pulls, PullsAs, Handles}
 use Rattle.fused_net.specs.declared.net.WireEnds.{WireEnds}
-use Rattle.wire_core.specs.Reading.{no_wire, inp_of, out_of, got_of, sent_of}
+use Rattle.port_core.specs.Reading.{no_wire, inp_of, out_of, got_of, sent_of}
 use Rattle.fused_net.specs.Net.{Net, end_at, wire_at, ports_at, view_of, took, gave, target, call_of, put, told_by, delivered_on, event_told, with_node, before}
 use Rattle.fused_net.specs.Laws.{AnyLaw, Wired, Minds, IsMinded, Settled, Busy}
 use Rattle.fused_net.proofs.Reading.{read_same, read_at, some_same, get_there, get_set_same, get_set_other}

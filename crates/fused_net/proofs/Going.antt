@@ -12,12 +12,12 @@ use Rattle.port_core.specs.View as view
 use Rattle.port_core.specs.Wire.{JointPorts, Delivery, nothing, pull, cancel, arrived, delivery_of, after_delivery, again}
 use Rattle.port_core.specs.declared.act.Act.{Act}
 use Rattle.port_core.specs.declared.act.Act.TheVariants.{Pull, Push, Complete, FailOut, Cancel}
-use Rattle.wire_core.specs.Cell.{WireState, moved_by}
-use Rattle.wire_core.specs.Marks.{IsMarked}
-use Rattle.wire_core.specs.Counts.{spent, asks, events_heard}
-use Rattle.wire_core.proofs.Counting.{pull_spent, push_spent, close_spent, cancel_spent, deliver_spent, pull_asks, push_asks, close_asks, cancel_asks, pull_heard, push_heard, close_heard, cancel_heard, deliver_heard}
+use Rattle.port_core.specs.Cell.{WireState, moved_by}
+use Rattle.port_core.specs.Marks.{IsMarked}
+use Rattle.port_core.specs.Counts.{spent, asks, events_heard}
+use Rattle.port_core.proofs.Counting.{pull_spent, push_spent, close_spent, cancel_spent, deliver_spent, pull_asks, push_asks, close_asks, cancel_asks, pull_heard, push_heard, close_heard, cancel_heard, deliver_heard}
 use Rattle.fused_net.specs.declared.net.WireEnds.{WireEnds}
-use Rattle.wire_core.specs.Reading.{no_wire}
+use Rattle.port_core.specs.Reading.{no_wire}
 use Rattle.fused_net.specs.Net.{Net, end_at, target, delivered_on, wire_at, ports_at, view_of, wire_for, acted, acted_all, event_told, with_node, before}
 use Rattle.stage_core.specs.Handling.{Pulls}
 use Rattle.fused_net.specs.Laws.{AnyRow, AnyLaw, IsAsking, MovesGrow, IsMinded, AllAsked, AllMoments, Settled, Busy, NetGoesOn}

@@ -13,7 +13,7 @@ use Rattle.port_core.specs.Wire.{Delivery, nothing, pull, cancel, arrived, deliv
 use Rattle.port_core.specs.declared.act.Act.{Act}
 use Rattle.stage_core.specs.Handling.{PullsAs, StaysPassive, Handles}
 use Rattle.fused_net.specs.declared.net.WireEnds.{WireEnds}
-use Rattle.wire_core.specs.Cell.{brought_in, Brings, Brought}
+use Rattle.port_core.specs.Cell.{brought_in, Brings, Brought}
 use Rattle.fused_net.specs.declared.engine.Delivered.{Delivered}
 use Rattle.fused_net.specs.declared.engine.Delivered.TheVariants as brings
 use Rattle.fused_net.specs.Net.{Net, end_at, wire_at, target, call_of, IsBrought, node_for, call_for, put, acted_all, event_told, with_node, before}

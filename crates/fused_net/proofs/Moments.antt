@@ -10,11 +10,11 @@ use Rattle.port_core.specs.declared.act.Act.{Act}
 use Rattle.port_core.specs.declared.act.Act.TheVariants.{Pull, Push, Complete, FailOut, Cancel}
 use Rattle.port_core.specs.declared.view.InView.{InView}
 use Rattle.port_core.specs.declared.view.InView.TheVariants.{Idle, Pulled, Cancelled}
-use Rattle.wire_core.specs.Cell.{WireState, moved_by}
-use Rattle.wire_core.specs.Marks.{IsMarked, wanted, Grown}
-use Rattle.wire_core.proofs.Marking.{push_wanted, close_wanted, grown_same, grown_trans}
+use Rattle.port_core.specs.Cell.{WireState, moved_by}
+use Rattle.port_core.specs.Marks.{IsMarked, wanted, Grown}
+use Rattle.port_core.proofs.Marking.{push_wanted, close_wanted, grown_same, grown_trans}
 use Rattle.stage_core.specs.Handling.{Pulls}
-use Rattle.wire_core.specs.Reading.{no_wire}
+use Rattle.port_core.specs.Reading.{no_wire}
 use Rattle.fused_net.specs.Net.{Net, end_at, wire_at, ports_at, view_of, wire_for, acted, acted_all, delivered_on, with_node, before}
 use Rattle.fused_net.specs.Laws.{AnyRow, AnyLaw, NetGoesOn, IsAsking, MovesGrow, IsMinded, AllAsked, NodeAsked, AllMoments, Busy}
 use Rattle.fused_net.proofs.Reading.{same_or_not, get_there}

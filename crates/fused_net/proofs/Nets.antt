@@ -10,9 +10,9 @@ use Rattle.port_core.specs.Ring.{is_queued}
 use Rattle.port_core.specs.Joint.{IsSound}
 use Rattle.port_core.specs.View.{View}
 use Rattle.port_core.specs.declared.act.Act.{Act}
-use Rattle.wire_core.specs.Cell.{WireState}
-use Rattle.wire_core.specs.Marks.{IsMarked}
-use Rattle.wire_core.specs.Reading.{no_wire, inp_of, out_of, got_of, sent_of}
+use Rattle.port_core.specs.Cell.{WireState}
+use Rattle.port_core.specs.Marks.{IsMarked}
+use Rattle.port_core.specs.Reading.{no_wire, inp_of, out_of, got_of, sent_of}
 use Rattle.fused_net.specs.Net.{Net, wire_at, ports_at, view_of, took, gave, put}
 use Rattle.fused_net.specs.Laws.{Wired, Minds, IsMinded}
 use Rattle.fused_net.proofs.Reading.{same_or_not, read_same, read_apart, read_here}

@@ -2,7 +2,7 @@
 use Rattle.std.proofs.Common.{◌≡◌, ℕ, Bool, List, [], ◌∷◌, refl, ◌∙◌}
 use Rattle.std.proofs.lemmas.List.{length-set}
 use Rattle.port_core.specs.declared.act.Act.{Act}
-use Rattle.wire_core.specs.Cell.{WireState}
+use Rattle.port_core.specs.Cell.{WireState}
 use Rattle.fused_net.specs.Net.{Net, put, acted, acted_all, with_node}
 use Rattle.fused_net.specs.Laws.{NetGoesOn}
 

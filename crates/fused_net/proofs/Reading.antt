@@ -2,8 +2,8 @@
 use Rattle.std.proofs.Common.{◌≡◌, ◌≢◌, ◌⊎◌, inl, inr, ℕ, zero, suc, ◌<◌, ◌==◌, true, false, Some, List, [], ◌∷◌, length, get_or, slice_get, refl, ap, ◌∙◌, arith, get_or-set_same, get_or-set_other}
 use Rattle.std.proofs.Math.ListN.{set}
 use Rattle.std.proofs.lemmas.Bool.Decides.{nat_tests}
-use Rattle.wire_core.specs.Cell.{WireState}
-use Rattle.wire_core.specs.Reading.{no_wire}
+use Rattle.port_core.specs.Cell.{WireState}
+use Rattle.port_core.specs.Reading.{no_wire}
 use Rattle.fused_net.specs.Net.{read_all}
 
 -- a number is equal to another, or not

@@ -13,14 +13,14 @@ use Rattle.port_core.specs.declared.view.InView.TheVariants.{Idle}
 use Rattle.port_core.specs.declared.view.OutView.TheVariants.{Unpulled}
 use Rattle.stage_core.specs.Histories.{AllEmpty}
 use Rattle.stage_core.specs.Handling.{Pulls, PullsAs, Starts}
-use Rattle.wire_core.specs.Cell.{WireState, new_cell}
-use Rattle.wire_core.proofs.Marking.{new_marked, cell}
-use Rattle.wire_core.specs.Marks.{IsMarked, wanted}
-use Rattle.wire_core.proofs.Counting.{elements_end}
-use Rattle.wire_core.specs.Counts.{asks}
+use Rattle.port_core.specs.Cell.{WireState, new_cell}
+use Rattle.port_core.proofs.Marking.{new_marked, cell}
+use Rattle.port_core.specs.Marks.{IsMarked, wanted}
+use Rattle.port_core.proofs.Counting.{elements_end}
+use Rattle.port_core.specs.Counts.{asks}
 use Rattle.fused_net.specs.PortLists.{PortLists}
 use Rattle.fused_net.specs.declared.net.WireEnds.{WireEnds}
-use Rattle.wire_core.specs.Reading.{no_wire, inp_of, out_of, got_of, sent_of}
+use Rattle.port_core.specs.Reading.{no_wire, inp_of, out_of, got_of, sent_of}
 use Rattle.fused_net.specs.Net.{Net, read_all, port_at, wire_at, view_of, took, gave, acted_all, with_node}
 use Rattle.fused_net.specs.Laws.{AnyRow, AnyLaw, FreshLaw, first_view, MovesGrow, Wired, Minds, IsMinded, AllAsked, AllMoments, Settled, Busy, Starting}
 use Rattle.fused_net.specs.Costs.{sum_below}

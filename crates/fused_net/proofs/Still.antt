@@ -8,9 +8,9 @@ use Rattle.port_core.specs.View.{View}
 use Rattle.port_core.specs.declared.act.Act.{Act}
 use Rattle.port_core.specs.declared.act.Act.TheVariants.{Pull, Push, Complete, FailOut, Cancel}
 use Rattle.port_core.specs.declared.view.InView.TheVariants.{Cancelled}
-use Rattle.wire_core.specs.Cell.{WireState, moved_by}
-use Rattle.wire_core.proofs.Marking.{grown_same, grown_trans}
-use Rattle.wire_core.specs.Reading.{no_wire}
+use Rattle.port_core.specs.Cell.{WireState, moved_by}
+use Rattle.port_core.proofs.Marking.{grown_same, grown_trans}
+use Rattle.port_core.specs.Reading.{no_wire}
 use Rattle.stage_core.specs.Handling.{StaysPassive}
 use Rattle.fused_net.specs.declared.net.WireEnds.{WireEnds}
 use Rattle.fused_net.specs.Net.{Net, end_at, target, wire_at, ports_at, wire_for, acted, acted_all, told_by, event_told, with_node, Takes}

@@ -5,7 +5,7 @@ use Rattle.elem_core.specs.declared.item.Item.{Item}
 use Rattle.port_core.specs.Ring.{is_queued}
 use Rattle.port_core.specs.Joint.{IsSound}
 use Rattle.port_core.specs.View.{View}
-use Rattle.wire_core.specs.Counts.{spent}
+use Rattle.port_core.specs.Counts.{spent}
 use Rattle.fused_net.specs.Net.{Net, wire_at, before, Takes}
 use Rattle.fused_net.specs.Laws.{NetGoesOn, Settled, AllKept}
 use Rattle.fused_net.specs.Costs.{sum_below, total_cost, all_asks, Uses}

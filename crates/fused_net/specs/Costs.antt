@@ -1,7 +1,7 @@
 -- What a graph's wires have cost and what their ends have heard, and how both are tied to the units that were used: each event is one unit.
 use Rattle.std.specs.Prelude.{ℕ, zero, suc, ◌+◌, ◌≤◌, length}
 use Rattle.port_core.specs.Ring.{is_queued}
-use Rattle.wire_core.specs.Counts.{spent, asks, events_heard}
+use Rattle.port_core.specs.Counts.{spent, asks, events_heard}
 use Rattle.fused_net.specs.Net.{Net, wire_at}
 
 -- f 0 + .. + f (n - 1)

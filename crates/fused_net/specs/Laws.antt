@@ -10,7 +10,7 @@ use Rattle.port_core.specs.Call.{starts, CallAllowed}
 use Rattle.port_core.specs.declared.view.InView.TheVariants.{Idle, Pulled}
 use Rattle.port_core.specs.declared.view.OutView.TheVariants.{Unpulled}
 use Rattle.port_core.specs.declared.act.Act.{Act}
-use Rattle.wire_core.specs.Marks.{IsMarked, wanted, Grown}
+use Rattle.port_core.specs.Marks.{IsMarked, wanted, Grown}
 use Rattle.stage_core.specs.Histories.{given_all, AllEmpty}
 use Rattle.fused_net.specs.PortLists.{PortLists}
 use Rattle.fused_net.specs.declared.net.WireEnds.{WireEnds}

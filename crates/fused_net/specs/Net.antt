@@ -8,8 +8,8 @@ use Rattle.port_core.specs.Call.{Call, starts, pulls, arrives, cancels}
 use Rattle.port_core.specs.Wire.{Delivery, nothing, pull, cancel, arrived, delivery_of, after_delivery, again}
 use Rattle.port_core.specs.declared.act.Act.{Act}
 use Rattle.port_core.specs.declared.act.Act.TheVariants.{Pull, Push, Complete, FailOut, Cancel}
-use Rattle.wire_core.specs.Cell.{WireState, moved_by, queues_by}
-use Rattle.wire_core.specs.Reading.{no_wire, inp_of, out_of, got_of, sent_of}
+use Rattle.port_core.specs.Cell.{WireState, moved_by, queues_by}
+use Rattle.port_core.specs.Reading.{no_wire, inp_of, out_of, got_of, sent_of}
 use Rattle.fused_net.specs.PortLists.{PortLists}
 use Rattle.fused_net.specs.declared.net.WireEnds.{WireEnds}
 use Rattle.fused_net.specs.declared.engine.Delivered.{Delivered}

@@ -9,7 +9,7 @@ ghost use Rattle.port_core.specs.declared.act.Act.TheVariants as act;
 ghost use Rattle.port_core.specs.declared.conn.Event.TheVariants as events;
 ghost use Rattle.stage_core.specs.declared.stage.TheConstants.{MOST_ACTS};
 ghost use Rattle.stage_core.specs.Handling.{PullsAs, StaysPassive, Handles};
-ghost use Rattle.wire_core.specs.Cell.{new_cell, brought_in, Tells};
+ghost use Rattle.port_core.specs.Cell.{new_cell, brought_in, Tells};
 ghost use Rattle.fused_net.specs.Net.{acted, acted_all, event_told, put, wire_at, end_at, Able, port_at, node_for, call_for, IsBrought, before, Takes};
 ghost use Rattle.fused_net.specs.declared.queue.TheConstants.{MOST_CHASES};
 ghost use Rattle.fused_net.specs.Laws.{AnyRow, AnyLaw, Wired, first_view, Settled, Busy, Starting, NetGoesOn, AllKept, BreaksOff, IsMinded};
@@ -26,11 +26,11 @@ use port_core::act::Act;
 use port_core::acts::Acts;
 use port_core::conn::Event;
 use port_core::ring::EventRing;
+use port_core::wire::Wire;
 use stage_core::stage::Stage;
 use std::alloc::Global;
 use std::marker::Model;
 use std::snapshot::Snapshot;
-use wire_core::wire::Wire;
 
 /// Nodes joined by wires, and the wires that have an event.
 #[derive(Drop)]

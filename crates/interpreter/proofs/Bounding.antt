@@ -5,16 +5,16 @@ use Rattle.std.proofs.lemmas.List.{length-map}
 use Rattle.stream_io.specs.State.{SourceState, DrainState}
 use Rattle.elem_core.specs.declared.item.Item.{Item}
 use Rattle.port_core.specs.declared.view.InView.TheVariants.{Idle}
-use Rattle.wire_core.specs.Cell.{new_cell}
-use Rattle.wire_core.specs.Marks.{wanted}
-use Rattle.wire_core.specs.Reading.{no_wire}
+use Rattle.port_core.specs.Cell.{new_cell}
+use Rattle.port_core.specs.Marks.{wanted}
+use Rattle.port_core.specs.Reading.{no_wire}
 use Rattle.nodes.specs.declared.node.IslandNode.{IslandNode}
 use Rattle.nodes.specs.declared.node.IslandNode.TheVariants as node
 use Rattle.nodes.specs.Nodes.{node_gone, node_passive}
 use Rattle.fused_net.specs.Laws.{NetGoesOn}
 use Rattle.fused_net.specs.Net.{Net, end_at, wire_at}
 use Rattle.fused_net.specs.Outside.{IsPassiveAt, StandsStill}
-use Rattle.boundary_calls.specs.Boundary.{IsEntering, IsLeaving}
+use Rattle.interpreter.specs.BoundaryPlaces.{IsEntering, IsLeaving}
 use Rattle.interpreter.specs.declared.parts.Link.{Link}
 use Rattle.interpreter.specs.declared.parts.Seated.{Seated}
 use Rattle.interpreter.specs.declared.parts.Work.{Work}

@@ -26,7 +26,7 @@ use Rattle.stage_core.specs.declared.phase.Phase.TheVariants.{New}
 use Rattle.nodes.specs.Kinds.{maker_of}
 use Rattle.stream_model.specs.declared.outcome.WireCount.{WireCount}
 use Rattle.port_core.specs.Decoding.{is_open}
-use Rattle.wire_core.specs.Cell.{WireState}
+use Rattle.port_core.specs.Cell.{WireState}
 use Rattle.elem_core.specs.Items.{elements}
 use Rattle.interpreter.specs.Island.{IslandKeeps, state_count, counts_of, sinks_of, readers_of, writers_of}
 use Rattle.interpreter.specs.Picks.{place_number}

@@ -1,3 +1,4 @@
+pub mod Acting
 pub mod Tables
 pub mod Islands
 pub mod Picking

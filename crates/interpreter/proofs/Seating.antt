@@ -1,7 +1,7 @@
 -- The seats of the nodes of an island, gathered one after another.
 use Rattle.std.proofs.Common.{◌≡◌, ℕ, zero, suc, ◌+◌, ◌<◌, Some, None, List, [], ◌∷◌, ◌++◌, length, drop, get_or, refl, sym, ap, ◌∙◌, arith, append_assoc}
 use Rattle.std.specs.Prelude.{Option}
-use Rattle.kill_core.specs.Public.{SeatState}
+use Rattle.stage_switch.specs.Public.{SeatState}
 use Rattle.nodes.specs.Nodes.{node_seat}
 use Rattle.nodes.specs.declared.node.IslandNode.{IslandNode}
 use Rattle.interpreter.specs.Seats.{with_seat, seats_of}

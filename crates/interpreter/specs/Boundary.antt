@@ -2,13 +2,13 @@
 use Rattle.std.specs.Prelude.{◌≡◌, ◌≢◌, ℕ, ◌<◌, List, [], length, slice_index_or}
 use Rattle.elem_core.specs.declared.item.Item.{Item}
 use Rattle.port_core.specs.declared.view.InView.TheVariants.{Cancelled}
-use Rattle.wire_core.specs.Cell.{WireState}
-use Rattle.wire_core.specs.Marks.{wanted}
+use Rattle.port_core.specs.Cell.{WireState}
+use Rattle.port_core.specs.Marks.{wanted}
 use Rattle.nodes.specs.declared.node.IslandNode.{IslandNode}
 use Rattle.nodes.specs.Nodes.{node_gone, node_waits}
 use Rattle.fused_net.specs.Net.{Net, end_at, wire_at}
 use Rattle.fused_net.specs.Poking.{AtNode, HandsAt}
-use Rattle.boundary_calls.specs.Boundary.{EntersAt, LeavesAt, cancelled_at}
+use Rattle.interpreter.specs.BoundaryPlaces.{EntersAt, LeavesAt, cancelled_at}
 use Rattle.interpreter.specs.Island.{Kept}
 
 module _ {S D L B : Type 0} where

@@ -1,3 +1,4 @@
+pub mod BoundaryPlaces
 pub mod Parts
 pub mod Island
 pub mod Room

@@ -1,6 +1,6 @@
 -- Room for an island: what it takes of memory before its nodes hold their handles.
 use Rattle.std.specs.Prelude.{◌≡◌, ℕ, ◌+◌, ◌≤◌, List, [], map, length, replicate, vec_len, vec_capacity}
-use Rattle.wire_core.specs.Cell.{new_cell}
+use Rattle.port_core.specs.Cell.{new_cell}
 use Rattle.stage_core.specs.declared.stage.TheConstants.{MOST_ACTS}
 use Rattle.interpreter.specs.declared.island.IslandEnd.{IslandEnd}
 use Rattle.interpreter.specs.declared.parts.Link.{Link}

@@ -1,6 +1,6 @@
 -- The seats that the valves and trips of an island have at their kill switches.
 use Rattle.std.specs.Prelude.{ℕ, Option, None, Some, List, [], ◌∷◌}
-use Rattle.kill_core.specs.Public.{SeatState}
+use Rattle.stage_switch.specs.Public.{SeatState}
 use Rattle.nodes.specs.Nodes.{node_seat}
 use Rattle.nodes.specs.declared.node.IslandNode.{IslandNode}
 

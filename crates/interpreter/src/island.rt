@@ -13,36 +13,36 @@ ghost use Rattle.interpreter.specs.Island.{IslandKeeps, counts_of, sinks_of, rea
 ghost use Rattle.std.specs.Option.{option_map};
 ghost use Rattle.elem_core.specs.declared.count.TheConstants.{MOST_COUNT};
 ghost use Rattle.interpreter.specs.Room.{HasRoom, RoomFor, IsBlank, IsRoom};
-ghost use Rattle.wire_core.specs.Cell.{new_cell};
+ghost use Rattle.port_core.specs.Cell.{new_cell};
 ghost use Rattle.interpreter.specs.Handles.{DidNotStart, HandsBack, HoldsHandles};
 ghost use Rattle.interpreter.specs.declared.parts.Link as wiring;
 ghost use Rattle.interpreter.specs.Ways.{comes_in, goes_out};
 ghost use Rattle.interpreter.specs.Boundary.{BeginsOut, Enters, Leaves, EntersBy, LeavesBy, HandsOut, Drops, way_in, way_out, cell_in, cell_out, with_net};
-ghost use Rattle.boundary_calls.specs.Boundary.{IsClearAt, ReceivedAt, GivenIs, wanted_at, moved_at, ended_at};
-ghost use Rattle.boundary_calls.specs.declared.given.Wanted.TheVariants as wanted;
+ghost use Rattle.interpreter.specs.BoundaryPlaces.{IsClearAt, ReceivedAt, GivenIs, wanted_at, moved_at, ended_at};
+ghost use Rattle.interpreter.specs.declared.given.Wanted.TheVariants as wanted;
 ghost use Rattle.port_core.specs.Decoding.{can_pull};
 ghost use Rattle.port_core.specs.declared.act.Act.TheVariants as act;
 
+use crate::calls;
+use crate::given::{Given, Wanted};
 use crate::parts::{Parts, build_all, join_ports};
 use crate::room::{Blank, IslandRoom};
 use crate::ways::Ways;
-use boundary_calls::calls;
-use boundary_calls::given::{Given, Wanted};
 use elem_core::elem::Elem;
 use elem_core::why::{Cause, NoMemory};
 use fused_net::engine::{Advance, Engine};
-use kill_core::seat::SwitchSeat;
 use nodes::node::{IslandNode, NodeEnd};
 use plug_logic::book::PlugBook;
 use plug_logic::logic::Logic;
 use port_core::acts::Acts;
 use port_core::pick_log::PickLog;
+use port_core::wire::Wire;
+use stage_switch::seat::SwitchSeat;
 use std::alloc::{AllocError, Global};
 use std::cmp::min;
 use std::marker::Model;
 use stream_io::outside::{Drain, Source};
 use stream_model::outcome::{EndState, PickList, WireCount};
-use wire_core::wire::Wire;
 
 /// The nodes and wires of one island, and the wires that have an event. After `NoMemory` it is only dropped or taken apart.
 /// Akka calls this an island too, and runs it by a `GraphInterpreterShell`.

@@ -1,6 +1,11 @@
-// The fused interpreter: an island of nodes that runs event by event.
+//! An island of fused stages: it is made from its parts, executes events, and is closed; its boundary stages are called by their wires.
+//!
+//! - `calls`, `given`: What the boundary stages of an island do between two events: the calls that join it to its lanes.
+//! - `island`, `parts`, `room`, `ways`: The fused interpreter: an island of nodes that runs event by event.
 #![tactic(auto)]
 
+pub mod calls;
+pub mod given;
 pub mod island;
 pub mod parts;
 pub mod room;

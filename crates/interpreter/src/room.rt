@@ -13,10 +13,10 @@ use plug_logic::book::PlugBook;
 use plug_logic::logic::Logic;
 use port_core::acts::Acts;
 use port_core::ring::EventRing;
+use port_core::wire::Wire;
 use stage_core::stage::MOST_ACTS;
 use std::alloc::Global;
 use stream_io::outside::{Drain, Source};
-use wire_core::wire::Wire;
 
 /// An engine before its nodes are there: tables with a row for each of their ports, and an empty list that has room for them.
 #[derive(Drop)]

@@ -7,16 +7,16 @@ use Rattle.nodes.specs.Nodes.{node_port_state, node_law, node_asking, node_moves
 use Rattle.fused_net.specs.Laws.{Settled}
 use Rattle.fused_net.specs.Outside.{StandsStill, BreaksAside}
 use Rattle.lane_core.specs.Ends.{taken_items, IsSameIn, IsSameOut}
-use Rattle.input_boundary.specs.Boundary.{given, waits, state}
+use Rattle.lane_core.specs.Boundary.{given, waits, state}
 use Rattle.interpreter.specs.Island.{Kept}
 use Rattle.interpreter.specs.Boundary.{Enters, Leaves, way_in, way_out}
-use Rattle.island_boundary.specs.Beside.{Beside, in_node, out_node}
-use Rattle.island_boundary.specs.Serving.{Serves, IsServed}
-use Rattle.island_boundary.specs.declared.output.OutputBoundary.{OutputBoundary}
-use Rattle.island_boundary.proofs.Beside.{leaves_beside, enters_beside}
-use Rattle.island_boundary.specs.Feeding.{Feeds, IsFed}
-use Rattle.island_boundary.specs.declared.input.IslandInput.{IslandInput}
-use Rattle.island_boundary.proofs.Feeding.{feeds_looked}
+use Rattle.island_body.specs.Beside.{Beside, in_node, out_node}
+use Rattle.island_body.specs.Serving.{Serves, IsServed}
+use Rattle.island_body.specs.declared.output.OutputBoundary.{OutputBoundary}
+use Rattle.island_body.proofs.Beside.{leaves_beside, enters_beside}
+use Rattle.island_body.specs.Feeding.{Feeds, IsFed}
+use Rattle.island_body.specs.declared.input.IslandInput.{IslandInput}
+use Rattle.island_body.proofs.Feeding.{feeds_looked}
 use Rattle.island_body.specs.Ends.{in_wires, out_wires, InputEndStands, OutputEndStands, AllServed, AllDone, IslandGoes}
 use Rattle.island_body.specs.Keeping.{IsIdle, BodyStands, BodyGoes, BodyBreaks, SameLanes}
 use Rattle.island_body.specs.Moving.{TookNone, FoundNone, TookNoneAt, TookNoneBelow, FoundNoneAt, FoundNoneBelow}

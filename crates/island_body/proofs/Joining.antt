@@ -4,9 +4,9 @@ use Rattle.std.specs.declared.vec.Vec.{Vec}
 use Rattle.std.proofs.lemmas.List.{length-set}
 use Rattle.lane_core.specs.declared.room.Waits.{Waits}
 use Rattle.lane_core.specs.Ends.{IsLaneHistory, WaitsAre}
-use Rattle.lane_meet.specs.Meeting.{AreTold}
-use Rattle.island_boundary.specs.declared.output.OutputBoundary.{OutputBoundary}
-use Rattle.island_boundary.specs.declared.input.IslandInput.{IslandInput}
+use Rattle.lane_core.specs.Meeting.{AreTold}
+use Rattle.island_body.specs.declared.output.OutputBoundary.{OutputBoundary}
+use Rattle.island_body.specs.declared.input.IslandInput.{IslandInput}
 use Rattle.island_body.specs.Meeting.{OutMet, InMet, OnlyMet, BodiesMeet}
 use Rattle.island_body.specs.Lasting.{out_met_still, in_met_still, only_on}
 use Rattle.island_body.specs.declared.body.Body.{Body}

@@ -1,3 +1,9 @@
+pub mod BoundarySending
+pub mod Beside
+pub mod Serving
+pub mod Wires
+pub mod Stage
+pub mod Feeding
 pub mod Joining
 pub mod Marking
 pub mod Lists

@@ -4,8 +4,8 @@ use Rattle.std.specs.Prelude.{get_or}
 use Rattle.std.proofs.lemmas.Option.{slice_get_within}
 use Rattle.fused_net.proofs.Reading.{same_or_not, get_set_same, get_set_other}
 use Rattle.lane_core.specs.Ends.{taken_items, finds}
-use Rattle.island_boundary.specs.declared.output.OutputBoundary.{OutputBoundary}
-use Rattle.island_boundary.specs.declared.input.IslandInput.{IslandInput}
+use Rattle.island_body.specs.declared.output.OutputBoundary.{OutputBoundary}
+use Rattle.island_body.specs.declared.input.IslandInput.{IslandInput}
 use Rattle.island_body.specs.Ends.{all_taken, all_finds}
 
 pub some_same : {A : Type 0} (x y : A) → Some x ≡ Some y → x ≡ y

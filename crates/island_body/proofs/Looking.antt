@@ -4,8 +4,8 @@ use Rattle.std.proofs.lemmas.Option.{slice_get_within}
 use Rattle.std.specs.declared.vec.Vec.{Vec}
 use Rattle.fused_net.proofs.Reading.{same_or_not, get_set_other}
 use Rattle.lane_core.specs.Ends.{found_sent, told_sent, told_asked, told_cancel}
-use Rattle.island_boundary.specs.declared.output.OutputBoundary.{OutputBoundary}
-use Rattle.island_boundary.specs.declared.input.IslandInput.{IslandInput}
+use Rattle.island_body.specs.declared.output.OutputBoundary.{OutputBoundary}
+use Rattle.island_body.specs.declared.input.IslandInput.{IslandInput}
 use Rattle.island_body.specs.Ends.{AllDone}
 use Rattle.island_body.specs.Keeping.{BodyGoes}
 use Rattle.island_body.specs.Lasting.{map_count, there_after}

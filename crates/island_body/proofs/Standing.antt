@@ -8,14 +8,14 @@ use Rattle.fused_net.specs.Outside.{StandsStill, Untouched}
 use Rattle.fused_net.proofs.Reading.{same_or_not}
 use Rattle.interpreter.specs.Island.{Kept}
 use Rattle.interpreter.specs.Boundary.{Enters, Leaves, way_in, way_out}
-use Rattle.island_boundary.specs.Beside.{Beside, in_node, out_node}
-use Rattle.island_boundary.specs.Serving.{IsServed}
-use Rattle.island_boundary.specs.declared.output.OutputBoundary.{OutputBoundary}
-use Rattle.island_boundary.proofs.Beside.{leaves_beside, enters_beside}
-use Rattle.island_boundary.proofs.Serving.{serves_beside, served_beside, serves_ran, served_ran}
-use Rattle.island_boundary.specs.Feeding.{IsFed}
-use Rattle.island_boundary.specs.declared.input.IslandInput.{IslandInput}
-use Rattle.island_boundary.proofs.Feeding.{feeds_beside, fed_beside, feeds_ran, fed_ran}
+use Rattle.island_body.specs.Beside.{Beside, in_node, out_node}
+use Rattle.island_body.specs.Serving.{IsServed}
+use Rattle.island_body.specs.declared.output.OutputBoundary.{OutputBoundary}
+use Rattle.island_body.proofs.Beside.{leaves_beside, enters_beside}
+use Rattle.island_body.proofs.Serving.{serves_beside, served_beside, serves_ran, served_ran}
+use Rattle.island_body.specs.Feeding.{IsFed}
+use Rattle.island_body.specs.declared.input.IslandInput.{IslandInput}
+use Rattle.island_body.proofs.Feeding.{feeds_beside, fed_beside, feeds_ran, fed_ran}
 use Rattle.island_body.specs.Ends.{in_wires, out_wires, InputEndStands, OutputEndStands, AllStand, AllServed, AreApart, IsTable, IslandGoes}
 use Rattle.island_body.specs.declared.way.Way.{Way}
 use Rattle.island_body.specs.declared.way.Way.TheVariants.{Inner, In, Out}

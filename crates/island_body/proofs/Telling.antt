@@ -6,8 +6,8 @@ use Rattle.std.specs.declared.vec.Vec.{Vec}
 use Rattle.fused_net.proofs.Reading.{get_there, get_set_same}
 use Rattle.port_core.specs.Ring.{is_queued}
 use Rattle.lane_core.specs.Ends.{sent, ask_calls, has_cancelled}
-use Rattle.island_boundary.specs.declared.output.OutputBoundary.{OutputBoundary}
-use Rattle.island_boundary.specs.declared.input.IslandInput.{IslandInput}
+use Rattle.island_body.specs.declared.output.OutputBoundary.{OutputBoundary}
+use Rattle.island_body.specs.declared.input.IslandInput.{IslandInput}
 use Rattle.island_body.specs.declared.peers.Peers.{Peers}
 use Rattle.island_body.specs.declared.body.Body.{Body}
 use Rattle.island_body.specs.Waked.{Added}

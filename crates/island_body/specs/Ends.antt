@@ -6,11 +6,11 @@ use Rattle.fused_net.specs.Outside.{HasOnly, IsElse}
 use Rattle.lane_core.specs.Ends.{taken_items, finds}
 use Rattle.interpreter.specs.Island.{Kept}
 use Rattle.interpreter.specs.Boundary.{Enters, Leaves, way_in, way_out}
-use Rattle.island_boundary.specs.Beside.{in_node, out_node}
-use Rattle.island_boundary.specs.Serving.{Serves, IsServed}
-use Rattle.island_boundary.specs.declared.output.OutputBoundary.{OutputBoundary}
-use Rattle.island_boundary.specs.Feeding.{Feeds, IsFed}
-use Rattle.island_boundary.specs.declared.input.IslandInput.{IslandInput}
+use Rattle.island_body.specs.Beside.{in_node, out_node}
+use Rattle.island_body.specs.Serving.{Serves, IsServed}
+use Rattle.island_body.specs.declared.output.OutputBoundary.{OutputBoundary}
+use Rattle.island_body.specs.Feeding.{Feeds, IsFed}
+use Rattle.island_body.specs.declared.input.IslandInput.{IslandInput}
 use Rattle.island_body.specs.declared.way.Way.{Way}
 use Rattle.island_body.specs.declared.way.Way.TheVariants.{In, Out}
 

@@ -7,8 +7,8 @@ use Rattle.nodes.specs.Nodes.{node_port_state, node_law, node_asking, node_moves
 use Rattle.lane_core.specs.Ends.{IsSameIn, IsSameOut}
 use Rattle.interpreter.specs.Island.{Kept, IslandKeeps}
 use Rattle.interpreter.specs.Boundary.{way_in, way_out}
-use Rattle.island_boundary.specs.declared.output.OutputBoundary.{OutputBoundary}
-use Rattle.island_boundary.specs.declared.input.IslandInput.{IslandInput}
+use Rattle.island_body.specs.declared.output.OutputBoundary.{OutputBoundary}
+use Rattle.island_body.specs.declared.input.IslandInput.{IslandInput}
 use Rattle.island_body.specs.Ends.{in_wires, out_wires, all_taken, all_finds, AllStand, AllDone, AreApart, IsTable, IslandGoes}
 use Rattle.island_body.specs.Moving.{TookNone, FoundNone}
 use Rattle.island_body.specs.declared.body.Body.{Body}

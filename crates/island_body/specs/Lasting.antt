@@ -9,14 +9,14 @@ use Rattle.lane_core.specs.declared.lane_out.LaneOut.{LaneOut}
 use Rattle.lane_core.specs.declared.lane_in.LaneIn.{LaneIn}
 use Rattle.elem_core.specs.Items.{elements}
 use Rattle.lane_core.specs.Ends.{finds, taken_items}
-use Rattle.lane_meet.specs.Meeting.{KeepsOut, KeepsIn}
-use Rattle.lane_meet.proofs.Standing.{history_stands, waits_stand}
+use Rattle.lane_core.specs.Meeting.{KeepsOut, KeepsIn}
+use Rattle.lane_core.proofs.Standing.{history_stands, waits_stand}
 use Rattle.interpreter.specs.Island.{Kept}
-use Rattle.island_boundary.specs.Sending.{Sends, has_end}
-use Rattle.island_boundary.specs.Serving.{Serves, IsServed}
-use Rattle.island_boundary.specs.declared.output.OutputBoundary.{OutputBoundary}
-use Rattle.island_boundary.specs.Feeding.{Feeds, IsFed}
-use Rattle.island_boundary.specs.declared.input.IslandInput.{IslandInput}
+use Rattle.island_body.specs.Sending.{Sends, has_end}
+use Rattle.island_body.specs.Serving.{Serves, IsServed}
+use Rattle.island_body.specs.declared.output.OutputBoundary.{OutputBoundary}
+use Rattle.island_body.specs.Feeding.{Feeds, IsFed}
+use Rattle.island_body.specs.declared.input.IslandInput.{IslandInput}
 use Rattle.island_body.specs.Ends.{all_taken, all_finds, InputEndStands, OutputEndStands, AllStand, AllDone, IslandGoes}
 use Rattle.island_body.specs.Keeping.{BodyStands, BodyKeeps, BodyGoes, BodyBreaks, SameLanes, IsIdle, is_pending}
 use Rattle.island_body.specs.Meeting.{OutMet, InMet, OnlyMet, BodiesMayMeet, BodiesJoined, BodiesMeet}

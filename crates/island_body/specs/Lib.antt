@@ -1,3 +1,7 @@
+pub mod Sending
+pub mod Beside
+pub mod Serving
+pub mod Feeding
 pub mod Ends
 pub mod Moving
 pub mod Waked

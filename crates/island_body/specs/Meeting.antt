@@ -2,10 +2,10 @@
 use Rattle.std.specs.Prelude.{◌≡◌, ℕ, ◌<◌, length, slice_get, Some}
 use Rattle.lane_core.specs.declared.room.Waits.{Waits}
 use Rattle.lane_core.specs.Ends.{AreOneLane, IsLaneHistory, WaitsAre}
-use Rattle.lane_meet.specs.Meeting.{KeepsOut, KeepsIn, AreTold}
-use Rattle.input_boundary.specs.Boundary.{given, waits, is_over, state}
-use Rattle.island_boundary.specs.declared.output.OutputBoundary.{OutputBoundary}
-use Rattle.island_boundary.specs.declared.input.IslandInput.{IslandInput}
+use Rattle.lane_core.specs.Meeting.{KeepsOut, KeepsIn, AreTold}
+use Rattle.lane_core.specs.Boundary.{given, waits, is_over, state}
+use Rattle.island_body.specs.declared.output.OutputBoundary.{OutputBoundary}
+use Rattle.island_body.specs.declared.input.IslandInput.{IslandInput}
 use Rattle.island_body.specs.declared.body.Body.{Body}
 
 -- an output end that only met, and an input end

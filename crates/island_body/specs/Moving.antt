@@ -1,9 +1,9 @@
 -- What a body found where it looked at its lanes.
 use Rattle.std.specs.Prelude.{◌≡◌, ◌≢◌, ◌⊎◌, ◌<◌, ◌≤◌, ℕ, true, List, [], length, slice_get, Some}
 use Rattle.lane_core.specs.Ends.{taken_items, seen_count, saw_cancel, found_sent, told_sent, told_asked, told_cancel}
-use Rattle.input_boundary.specs.Boundary.{is_over}
-use Rattle.island_boundary.specs.declared.output.OutputBoundary.{OutputBoundary}
-use Rattle.island_boundary.specs.declared.input.IslandInput.{IslandInput}
+use Rattle.lane_core.specs.Boundary.{is_over}
+use Rattle.island_body.specs.declared.output.OutputBoundary.{OutputBoundary}
+use Rattle.island_body.specs.declared.input.IslandInput.{IslandInput}
 use Rattle.island_body.specs.Ends.{AllDone}
 use Rattle.island_body.specs.declared.body.Body.{Body}
 

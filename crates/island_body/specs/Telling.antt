@@ -2,8 +2,8 @@
 use Rattle.std.specs.Prelude.{◌≡◌, ◌⊎◌, ◌<◌, ◌≤◌, ℕ, true, length, slice_get, Some}
 use Rattle.port_core.specs.Ring.{is_queued, Distinct}
 use Rattle.lane_core.specs.Ends.{sent, ask_calls, has_cancelled}
-use Rattle.island_boundary.specs.declared.output.OutputBoundary.{OutputBoundary}
-use Rattle.island_boundary.specs.declared.input.IslandInput.{IslandInput}
+use Rattle.island_body.specs.declared.output.OutputBoundary.{OutputBoundary}
+use Rattle.island_body.specs.declared.input.IslandInput.{IslandInput}
 use Rattle.island_body.specs.declared.body.Body.{Body}
 
 -- an input end has asked no less often than before, and taken back no cancel

@@ -5,18 +5,18 @@ use Rattle.fused_net.proofs.Reading.{get_there}
 use Rattle.elem_core.specs.Items.{elements}
 use Rattle.elem_core.specs.declared.item.Item.{Item}
 use Rattle.stream_model.specs.Outlook.{unended}
-use Rattle.stage_law.specs.Held.{told}
+use Rattle.stage_core.specs.Held.{told}
 use Rattle.lane_core.specs.declared.room.Waits.{Waits}
 use Rattle.lane_core.specs.declared.lane_out.LaneOut.{LaneOut}
 use Rattle.lane_core.specs.declared.lane_in.LaneIn.{LaneIn}
 use Rattle.lane_core.proofs.Lists.{weight_le, elements_first}
 use Rattle.lane_core.specs.Ends.{sent, saw_cancel, taken_items, has_cancelled, IsLaneHistory, WaitsAre}
-use Rattle.lane_meet.specs.Meeting.{AreTold}
-use Rattle.input_boundary.specs.Boundary.{is_over}
-use Rattle.input_boundary.specs.declared.boundary.InputBoundary.{InputBoundary}
-use Rattle.input_boundary.proofs.Flows.{elements_append, elements_told, length_told}
-use Rattle.island_boundary.specs.declared.output.OutputBoundary.{OutputBoundary}
-use Rattle.island_boundary.specs.declared.input.IslandInput.{IslandInput}
+use Rattle.lane_core.specs.Meeting.{AreTold}
+use Rattle.lane_core.specs.Boundary.{is_over}
+use Rattle.lane_core.specs.declared.boundary.InputBoundary.{InputBoundary}
+use Rattle.lane_core.proofs.Flows.{elements_append, elements_told, length_told}
+use Rattle.island_body.specs.declared.output.OutputBoundary.{OutputBoundary}
+use Rattle.island_body.specs.declared.input.IslandInput.{IslandInput}
 use Rattle.island_body.specs.Moving.{TookNone, FoundNone}
 use Rattle.island_body.specs.Keeping.{BodyGoes, IsIdle, has_some, is_pending}
 use Rattle.island_body.specs.Meeting.{BodiesMayMeet, BodiesMeet}

@@ -8,11 +8,11 @@ ghost use Rattle.std.specs.Prelude.{◌≡◌, refl};
 use crate::body::Body;
 use dispatcher::waking::Waking;
 use elem_core::why::NoMemory;
+use lane_core::pairs::Meet;
 use lane_core::room::Waits;
-use lane_meet::pairs::Meet;
+use lane_core::turning::Turning;
 use plug_logic::book::PlugBook;
 use plug_logic::logic::Logic;
-use rounds::turning::Turning;
 use std::alloc::{AllocError, Global};
 use stream_io::outside::{Drain, Source};
 

@@ -4,11 +4,11 @@ ghost use Rattle.island_body.specs.Ends.{in_wires, out_wires, IsTable};
 ghost use Rattle.island_body.specs.Keeping.{BodyBegins};
 ghost use Rattle.island_body.specs.declared.way.Way.TheVariants as way;
 
+use crate::input::IslandInput;
+use crate::output::OutputBoundary;
 use crate::way::Way;
 use elem_core::why::NoMemory;
 use interpreter::island::Island;
-use island_boundary::input::IslandInput;
-use island_boundary::output::OutputBoundary;
 use plug_logic::book::PlugBook;
 use plug_logic::logic::Logic;
 use std::alloc::{AllocError, Global};

@@ -3,8 +3,8 @@ use Rattle.std.proofs.Common.{◌≡◌, ℕ, zero, suc, ◌+◌, ◌<◌, List,
 use Rattle.std.specs.Prelude.{slice_get, slice_index}
 use Rattle.stream_model.specs.Graph.{Edge}
 use Rattle.interpreter.specs.declared.parts.Link.{Link}
-use Rattle.traversal.specs.declared.plan.LanePlan.{LanePlan}
-use Rattle.traversal.specs.Plan.{lane_sized, lanes_from}
+use Rattle.blue_check.specs.declared.plan.LanePlan.{LanePlan}
+use Rattle.blue_check.specs.Plan.{lane_sized, lanes_from}
 use Rattle.island_parts.specs.Whole.{one_lane, lanes_in, near_at, nears_from, far_at, fars_from}
 
 -- a wire that is a lane, and which of the lanes it is

@@ -4,3 +4,10 @@ pub mod Restricting
 pub mod Wholes
 pub mod Joining
 pub mod Splitting
+mod Starting
+pub mod Behind
+pub mod EndsJoining
+pub mod Leaving
+pub mod Listing
+pub mod OfNodes
+pub mod Sharing

@@ -12,8 +12,8 @@ use Rattle.stream_model.specs.Graph.{Edge}
 use Rattle.blue_names.specs.declared.links.NumberedWire.{NumberedWire}
 use Rattle.blue_names.specs.Links.{AreInRange, wire_of_link, wires_of_links}
 use Rattle.interpreter.specs.declared.parts.Link.{Link}
-use Rattle.traversal.specs.declared.plan.LanePlan.{LanePlan}
-use Rattle.traversal.specs.Plan.{lanes_from}
+use Rattle.blue_check.specs.declared.plan.LanePlan.{LanePlan}
+use Rattle.blue_check.specs.Plan.{lanes_from}
 use Rattle.scatter.specs.Shares.{items_at, rank_of, share_of, AreRanks, AreEmptyFor, AreShares}
 use Rattle.island_parts.specs.Whole.{nears_from, fars_from, lanes_in, whole_links, whole_homes, link_home, local_link, at_ranks}
 use Rattle.scatter.proofs.Sharing.{share_count, count_within}

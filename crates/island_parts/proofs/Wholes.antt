@@ -11,8 +11,8 @@ use Rattle.interpreter.specs.declared.parts.Link.{Link}
 use Rattle.interpreter.specs.declared.parts.Seated.{Seated}
 use Rattle.interpreter.specs.Parts.{ends_of, seat_place, inputs_at, outputs_at, AllUnused, IsWiring, AreParts}
 use Rattle.interpreter.specs.Ways.{IsOnce, is_lane_in, is_lane_out, lane_comes, lane_goes, comes_in, goes_out}
-use Rattle.traversal.specs.declared.plan.LanePlan.{LanePlan}
-use Rattle.traversal.specs.Plan.{lanes_from}
+use Rattle.blue_check.specs.declared.plan.LanePlan.{LanePlan}
+use Rattle.blue_check.specs.Plan.{lanes_from}
 use Rattle.scatter.specs.Shares.{of_home}
 use Rattle.island_parts.specs.Whole.{lanes_in, whole_links, in_seat, out_seat, whole_seats, in_place, out_place, whole_places, whole_homes}
 use Rattle.island_parts.proofs.Cutting.{IsLane, lanes_count, lane_plan, lane_get}

@@ -9,7 +9,7 @@ use Rattle.interpreter.specs.declared.parts.Place.{Place}
 use Rattle.interpreter.specs.declared.parts.Seated.{Seated}
 use Rattle.interpreter.specs.declared.room.IslandRoom.{IslandRoom}
 use Rattle.interpreter.specs.Room.{IsRoom}
-use Rattle.traversal.specs.Plan.{lanes_from}
+use Rattle.blue_check.specs.Plan.{lanes_from}
 use Rattle.scatter.specs.Shares.{of_home, items_at, AreEmptyFor}
 use Rattle.island_parts.specs.Whole.{whole_links, whole_places, whole_homes, own_links}
 use Rattle.island_parts.specs.declared.spaces.Space.{Space}

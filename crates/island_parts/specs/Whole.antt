@@ -10,7 +10,7 @@ use Rattle.interpreter.specs.declared.parts.Link.{Link}
 use Rattle.interpreter.specs.declared.parts.Place.{Place}
 use Rattle.interpreter.specs.declared.parts.Seated.{Seated}
 use Rattle.interpreter.specs.declared.parts.Work.TheVariants.{LaneIn, LaneOut}
-use Rattle.traversal.specs.declared.plan.LanePlan.{LanePlan}
+use Rattle.blue_check.specs.declared.plan.LanePlan.{LanePlan}
 use Rattle.scatter.specs.Shares.{of_home, rank_of}
 
 -- how many of some wires have a lane

@@ -3,8 +3,8 @@ ghost use Rattle.std.specs.Prelude.{◌≡◌, ◌<◌, ◌^◌, ℕ, List, leng
 ghost use Rattle.stream_model.specs.Graph.{Edge};
 ghost use Rattle.interpreter.specs.Parts.{AreParts, seat_place};
 ghost use Rattle.interpreter.specs.declared.parts.Seated.{Seated};
-ghost use Rattle.traversal.specs.Plan.{lanes_from};
-ghost use Rattle.traversal.specs.declared.plan.LanePlan.{LanePlan};
+ghost use Rattle.blue_check.specs.Plan.{lanes_from};
+ghost use Rattle.blue_check.specs.declared.plan.LanePlan.{LanePlan};
 ghost use Rattle.scatter.specs.Shares.{of_home};
 ghost use Rattle.island_parts.specs.Whole.{AreNodes, KeepsInside, own_links, whole_homes, whole_links, whole_places, whole_seats};
 

@@ -4,8 +4,8 @@ ghost use Rattle.blue_names.specs.Links.{wire_of_link, wires_of_links};
 ghost use Rattle.interpreter.specs.declared.parts.Link as wiring;
 ghost use Rattle.island_parts.specs.Whole.{one_lane, near_at, nears_from, far_at, fars_from, whole_links, link_home, at_ranks};
 
+use blue_check::ranks::rank_of;
 use blue_names::links::NumberedWire;
-use blue_walks::ranks::rank_of;
 use elem_core::count::numbered;
 use elem_core::why::NoMemory;
 use interpreter::parts::Link;

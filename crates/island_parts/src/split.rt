@@ -1,12 +1,13 @@
 // The islands of places and wires.
 ghost use Rattle.std.specs.Prelude.{◌≡◌, ◌+◌, ◌<◌, ◌≤◌, ◌^◌, [], IfOk, All, length, vec_len, vec_capacity};
 ghost use Rattle.blue_names.specs.Links.{AreInRange, wires_of_links};
-ghost use Rattle.traversal.specs.Plan.{lanes_from};
+ghost use Rattle.blue_check.specs.Plan.{lanes_from};
 ghost use Rattle.island_parts.specs.Split.{IsReady, IsSplit, AreJoined, AreIslands};
 
 use crate::links::{all_links, link_homes, local_links};
 use crate::spaces::{Space, spaces_of, take_next};
 use crate::whole::{whole_homes, whole_places};
+use blue_check::plan::LanePlan;
 use blue_names::links::NumberedWire as WireLink;
 use elem_core::why::NoMemory;
 use interpreter::parts::{Parts, Place, Seated};
@@ -17,7 +18,6 @@ use scatter::ranks::ranks_of;
 use scatter::shares::{rooms, scatter};
 use std::alloc::{AllocError, Global};
 use stream_io::outside::{Drain, Source};
-use traversal::plan::LanePlan;
 
 /// All that the islands of a blueprint take of memory before they start, but what their nodes need.
 #[derive(Drop)]

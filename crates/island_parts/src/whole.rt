@@ -2,12 +2,12 @@
 ghost use Rattle.std.specs.Prelude.{◌≡◌, ◌+◌, ◌≤◌, IfOk, length, vec_len, vec_capacity};
 ghost use Rattle.island_parts.specs.Whole.{in_place, out_place, whole_homes, whole_places, whole_seats};
 
+use blue_check::plan::LanePlan;
 use elem_core::why::NoMemory;
 use interpreter::parts::{Place, Seated, Work};
 use plug_logic::book::PlugBook;
 use plug_logic::logic::Logic;
 use stream_io::outside::{Drain, Source};
-use traversal::plan::LanePlan;
 
 /// The islands of all places: behind those of nodes, those at which lanes come in, and those at which they go out.
 pub fn whole_homes(homes: Vec<usize>, lanes: &[LanePlan]) -> Result<Vec<usize>, NoMemory>

@@ -2,7 +2,7 @@
 use Rattle.std.proofs.Common.{◌≡◌, ℕ, ◌+◌, ◌<◌, ◌^◌, ◌++◌, List, length, map, ap, sym, ◌∙◌, subst, arith, length-append}
 use Rattle.std.proofs.lemmas.List.{length-map}
 use Rattle.stream_model.specs.Graph.{Edge}
-use Rattle.blue_core.specs.declared.blueprint.Node.{Node}
+use Rattle.stream_model.specs.declared.blueprint.Node.{Node}
 use Rattle.interpreter.specs.Parts.{AreParts, seat_place}
 use Rattle.interpreter.specs.Room.{IsRoom}
 use Rattle.interpreter.specs.declared.parts.Link.{Link}
@@ -10,8 +10,8 @@ use Rattle.interpreter.specs.declared.parts.Parts.{Parts}
 use Rattle.interpreter.specs.declared.parts.Place.{Place}
 use Rattle.interpreter.specs.declared.parts.Seated.{Seated}
 use Rattle.interpreter.specs.declared.room.IslandRoom.{IslandRoom}
-use Rattle.traversal.specs.Plan.{lanes_from}
-use Rattle.traversal.specs.declared.plan.LanePlan.{LanePlan}
+use Rattle.blue_check.specs.Plan.{lanes_from}
+use Rattle.blue_check.specs.declared.plan.LanePlan.{LanePlan}
 use Rattle.scatter.specs.Shares.{of_home}
 use Rattle.scatter.proofs.Sharing.{share_map}
 use Rattle.island_parts.specs.Split.{IsSplit, IsIsland}

@@ -1,7 +1,7 @@
 -- The islands of what some nodes leave, node by node.
 use Rattle.std.proofs.Common.{◌≡◌, ℕ, ◌+◌, ◌<◌, List, [], ◌∷◌, ◌++◌, take, length, get_or, ap, sym, ◌∙◌, arith, append_assoc, append-nil}
 use Rattle.std.proofs.lemmas.List.{take_more, length-take-le}
-use Rattle.blue_core.specs.declared.blueprint.Node.{Node}
+use Rattle.stream_model.specs.declared.blueprint.Node.{Node}
 use Rattle.island_plans.specs.Ends.{own_home, homes_in}
 use Rattle.island_plans.specs.declared.ends.EndList.{EndList}
 

@@ -4,10 +4,10 @@ use Rattle.std.specs.Prelude.{is_none, slice_index}
 use Rattle.std.specs.List.{filter}
 use Rattle.blue_names.specs.declared.links.NumberedWire.{NumberedWire}
 use Rattle.blue_names.specs.Links.{wires_of_links}
-use Rattle.traversal.specs.Homes.{AreNumbered}
-use Rattle.traversal.specs.Labels.{AreLabels}
-use Rattle.traversal.specs.Plan.{AreHomes}
-use Rattle.traversal.proofs.Planning.{homes_below}
+use Rattle.blue_check.specs.Homes.{AreNumbered}
+use Rattle.blue_check.specs.Labels.{AreLabels}
+use Rattle.blue_check.specs.Plan.{AreHomes}
+use Rattle.blue_check.proofs.Planning.{homes_below}
 use Rattle.island_plans.specs.Homes.{AreNumberedHomes}
 
 -- labels of the wires without a lane, as code reads them

@@ -5,19 +5,19 @@ use Rattle.std.proofs.lemmas.List.{length-map}
 use Rattle.std.proofs.lemmas.Option.{slice_get_within}
 use Rattle.stream_model.specs.Graph as graph
 use Rattle.stream_model.specs.Graph.{Edge}
-use Rattle.blue_core.specs.declared.blueprint.Blueprint.{Blueprint}
-use Rattle.blue_core.specs.declared.blueprint.Node.{Node}
+use Rattle.stream_model.specs.declared.blueprint.Blueprint.{Blueprint}
+use Rattle.stream_model.specs.declared.blueprint.Node.{Node}
 use Rattle.blue_check.specs.Fitness.{IsFit}
 use Rattle.blue_check.specs.Wires.{blueprint_wires}
 use Rattle.blue_names.specs.declared.links.NumberedWire.{NumberedWire}
 use Rattle.blue_names.specs.Links.{AreInRange, wires_of_links}
-use Rattle.blue_walks.proofs.ClosedWalks.{link_at_place}
-use Rattle.plug_core.specs.declared.head.PlugHead.{PlugHead}
+use Rattle.blue_check.proofs.ClosedWalks.{link_at_place}
+use Rattle.stream_model.specs.declared.head.PlugHead.{PlugHead}
 use Rattle.interpreter.specs.Ways.{is_lane_in, is_lane_out}
 use Rattle.interpreter.specs.declared.parts.Seated.{Seated}
 use Rattle.interpreter.specs.declared.parts.Work.{Work}
 use Rattle.interpreter.specs.declared.parts.Work.TheVariants as work
-use Rattle.traversal.specs.Plan.{AreHomes}
+use Rattle.blue_check.specs.Plan.{AreHomes}
 use Rattle.island_parts.specs.Whole.{AreNodes, KeepsInside}
 use Rattle.materializer.specs.Fit.{CanRun}
 use Rattle.materializer.specs.Graphs.{graph_of, graph_node, chains_of}
@@ -26,7 +26,7 @@ use Rattle.materializer.specs.Seats.{IsWork, AreSeats}
 use Rattle.materializer.proofs.Fitting.{fit_joined}
 use Rattle.materializer.proofs.Linking.{wire_ends, ends_at, wiring}
 use Rattle.materializer.proofs.Placing.{seats_unused}
-use Rattle.stream_picture.specs.Joined.{IsJoined}
+use Rattle.stream_model.specs.Joined.{IsJoined}
 
 -- ---- wires
 

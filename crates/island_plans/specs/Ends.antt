@@ -1,11 +1,11 @@
 -- Which island's end has what nodes and wires leave.
 use Rattle.std.specs.Prelude.{◌≡◌, ℕ, Bool, is_some, if◌then◌else◌, List, [], ◌∷◌, ◌++◌, map, slice_index}
 use Rattle.stream_model.specs.Graph.{Edge}
-use Rattle.blue_core.specs.declared.blueprint.Node.{Node}
-use Rattle.blue_rules.specs.Picks.{picks}
+use Rattle.stream_model.specs.declared.blueprint.Node.{Node}
+use Rattle.blue_names.specs.Picks.{picks}
 use Rattle.materializer.specs.Files.{source_file, output_of, is_sink}
-use Rattle.switch_board.specs.Board.{switch_of}
-use Rattle.island_ends.specs.declared.room.EndHomes.{EndHomes}
+use Rattle.materializer.specs.Board.{switch_of}
+use Rattle.island_parts.specs.declared.room.EndHomes.{EndHomes}
 use Rattle.island_plans.specs.declared.ends.EndList.{EndList}
 use Rattle.island_plans.specs.declared.ends.EndList.TheVariants.{Sinks, Picks, Seats, Readers, Writers}
 

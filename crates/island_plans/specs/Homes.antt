@@ -1,7 +1,7 @@
 -- The islands of nodes by their numbers.
 use Rattle.std.specs.Prelude.{◌≡◌, ℕ, ◌<◌, List, All, slice_index}
 use Rattle.stream_model.specs.Graph.{Edge}
-use Rattle.traversal.specs.Plan.{AreHomes}
+use Rattle.blue_check.specs.Plan.{AreHomes}
 
 -- the islands of so many nodes have the numbers below a count: none is empty, and an island's least node stands behind the least
 -- nodes of all islands before it

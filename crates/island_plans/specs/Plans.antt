@@ -1,8 +1,8 @@
 -- The plans of a blueprint's islands: what they take of memory before its files are opened, and their parts.
 use Rattle.std.specs.Prelude.{◌≡◌, ℕ, ◌+◌, ◌≤◌, List, [], length, map, slice_get, Some, vec_len, vec_capacity}
 use Rattle.stream_model.specs.Graph.{Edge}
-use Rattle.blue_core.specs.declared.blueprint.Blueprint.{Blueprint}
-use Rattle.blue_core.specs.declared.blueprint.Node.{Node}
+use Rattle.stream_model.specs.declared.blueprint.Blueprint.{Blueprint}
+use Rattle.stream_model.specs.declared.blueprint.Node.{Node}
 use Rattle.blue_check.specs.Wires.{blueprint_wires}
 use Rattle.interpreter.specs.Handles.{sources_in, drains_in}
 use Rattle.interpreter.specs.Parts.{AreParts, seat_place}
@@ -10,14 +10,14 @@ use Rattle.interpreter.specs.Room.{IsRoom}
 use Rattle.interpreter.specs.declared.parts.Parts.{Parts}
 use Rattle.interpreter.specs.declared.parts.Seated.{Seated}
 use Rattle.interpreter.specs.declared.room.IslandRoom.{IslandRoom}
-use Rattle.traversal.specs.Plan.{lanes_from}
-use Rattle.traversal.specs.declared.plan.LanePlan.{LanePlan}
+use Rattle.blue_check.specs.Plan.{lanes_from}
+use Rattle.blue_check.specs.declared.plan.LanePlan.{LanePlan}
 use Rattle.scatter.specs.Shares.{of_home}
 use Rattle.island_parts.specs.Split.{IsSplit}
 use Rattle.island_parts.specs.Whole.{AreNodes, own_links, whole_homes, whole_links, whole_seats}
 use Rattle.materializer.specs.Fit.{CanRun}
 use Rattle.materializer.specs.Graphs.{chains_of}
-use Rattle.switch_board.specs.Board.{IsBoard, AreAtSwitches}
+use Rattle.materializer.specs.Board.{IsBoard, AreAtSwitches}
 use Rattle.materializer.specs.Planned.{ArePlanned, places_from, planned_seat}
 use Rattle.materializer.specs.Seats.{AreSeats, place_seat}
 use Rattle.island_plans.specs.Ends.{AreEndHomes}

@@ -4,14 +4,14 @@ ghost use Rattle.blue_names.specs.Links.{wires_of_links};
 ghost use Rattle.island_plans.specs.Ends.{leaves_in, own_home, homes_in, wire_home, AreEndHomes};
 
 use blue_check::picks::picks;
-use blue_core::blueprint::Node;
+use blue_check::ranks::rank_of;
 use blue_names::links::NumberedWire;
-use blue_walks::ranks::rank_of;
 use elem_core::why::NoMemory;
-use island_ends::room::EndHomes;
+use island_parts::room::EndHomes;
 use materializer::names::{is_sink, output_of, source_file};
+use materializer::switch_names::switch_of;
 use std::alloc::Global;
-use switch_board::names::switch_of;
+use stream_model::blueprint::Node;
 
 /// A list of an island's end in which some of its nodes leave one item each, in order.
 #[derive(Clone, Copy, PartialEq, Eq, Debug)]

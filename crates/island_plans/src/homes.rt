@@ -3,11 +3,11 @@ ghost use Rattle.std.specs.Prelude.{◌≡◌, IfOk, vec_len};
 ghost use Rattle.blue_names.specs.Links.{AreInRange, wires_of_links};
 ghost use Rattle.island_plans.specs.Homes.{AreNumberedHomes};
 
+use blue_check::homes::{Homes, homes_of};
+use blue_check::island_labels::{fused_links, labels_of};
 use blue_names::links::NumberedWire;
 use elem_core::why::NoMemory;
 use std::alloc::Global;
-use traversal::classes::{fused_links, labels_of};
-use traversal::homes::{Homes, homes_of};
 
 /// The islands of so many nodes that these wires join, numbered by the least node of each.
 pub fn homes_of_links(

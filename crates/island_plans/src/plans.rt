@@ -4,31 +4,31 @@ ghost use Rattle.std.specs.Prelude.{◌≡◌, ◌+◌, IfOk, length, map, vec_l
 ghost use Rattle.materializer.specs.Fit.{CanRun};
 ghost use Rattle.materializer.specs.Files.{inputs_of_nodes, outputs_of_nodes};
 ghost use Rattle.island_plans.specs.Plans.{IsPlans, IsFilled};
-ghost use Rattle.plug_board.specs.Handed.{GivesAsListed, HasPlugs};
+ghost use Rattle.materializer.specs.HandedPlugs.{GivesAsListed, HasPlugs};
 
 use crate::ends::end_homes;
 use crate::homes::{copy_of, homes_of_links};
-use blue_core::blueprint::Blueprint;
+use blue_check::lanes::lanes_of;
+use blue_check::plan::LanePlan;
 use blue_names::links::links_of;
 use elem_core::why::NoMemory;
 use interpreter::parts::{Parts, Seated};
 use interpreter::room::IslandRoom;
-use island_ends::room::EndHomes;
 use island_parts::laws::islands_have_parts;
+use island_parts::room::EndHomes;
 use island_parts::split::{Split, join, split_of};
 use island_parts::whole::whole_seats;
 use materializer::parts::places_of;
+use materializer::plug_board::hand_out;
 use materializer::seats::{Seat, fill_all, seat_all};
-use plug_board::board::hand_out;
+use materializer::switch_board::Board;
 use plug_logic::book::PlugBook;
 use plug_logic::logic::Logic;
 use plug_logic::plug::Plug;
 use std::alloc::{AllocError, Global};
 use std::snapshot::Snapshot;
 use stream_io::outside::{Drain, Source};
-use switch_board::board::Board;
-use traversal::lanes::lanes_of;
-use traversal::plan::LanePlan;
+use stream_model::blueprint::Blueprint;
 
 /// The islands of a blueprint, but for their handles: all that they take of memory before its files are opened.
 #[derive(Drop)]

@@ -3,17 +3,17 @@ use Rattle.std.proofs.Common.{◌≡◌, ℕ, suc, ◌+◌, List, [], ◌∷◌,
 use Rattle.std.specs.declared.vec.Vec.{Vec}
 use Rattle.std.specs.declared.alloc.Global.{Global}
 use Rattle.stream_model.specs.Graph.{Edge}
-use Rattle.wire_core.specs.Cell.{WireState}
-use Rattle.traversal.specs.declared.plan.LanePlan.{LanePlan}
-use Rattle.lane_ends.specs.Ends.{AreAllEnds}
-use Rattle.lane_ends.specs.declared.ends.AllEnds.{AllEnds}
+use Rattle.port_core.specs.Cell.{WireState}
+use Rattle.blue_check.specs.declared.plan.LanePlan.{LanePlan}
+use Rattle.island_plans.specs.LaneEnds.{AreAllEnds}
+use Rattle.island_plans.specs.declared.lane_ends.AllEnds.{AllEnds}
 use Rattle.island_body.specs.declared.way.Way.{Way}
 use Rattle.island_body.specs.declared.peers.Peers.{Peers}
-use Rattle.island_bodies.specs.Peers.{ArePeers}
-use Rattle.island_bodies.specs.Making.{way_homes, AreBlank}
-use Rattle.island_ends.specs.Room.{IsRoomForEnds}
-use Rattle.island_ends.specs.declared.room.EndHomes.{EndHomes}
-use Rattle.island_ends.specs.declared.room.EndRoom.{EndRoom}
+use Rattle.island_plans.specs.Peers.{ArePeers}
+use Rattle.island_plans.specs.Making.{way_homes, AreBlank}
+use Rattle.island_parts.specs.Room.{IsRoomForEnds}
+use Rattle.island_parts.specs.declared.room.EndHomes.{EndHomes}
+use Rattle.island_parts.specs.declared.room.EndRoom.{EndRoom}
 use Rattle.bodies_run.specs.Counts.{told_from}
 
 -- the ends of lanes, the blank tables, the peers and the room for ends, by the same lanes, the same homes and as many islands

@@ -2,14 +2,14 @@
 use Rattle.std.proofs.Common.{◌≡◌, ◌∙◌, ℕ, zero, suc, ◌+◌, ◌≤◌, Bool, true, false, List, [], ◌∷◌, ◌++◌, length, take, drop, refl, ap, sym, subst, arith}
 use Rattle.std.specs.Prelude.{not}
 use Rattle.std.specs.List.{sum_by}
-use Rattle.blue_core.specs.declared.blueprint.Blueprint.{Blueprint}
+use Rattle.stream_model.specs.declared.blueprint.Blueprint.{Blueprint}
 use Rattle.stream_io.specs.State.{SourceState, DrainState}
 use Rattle.blue_check.specs.Wires.{blueprint_wires}
 use Rattle.dispatcher.specs.Broken.{WholeOrBroken}
 use Rattle.dispatcher.specs.declared.ran.Ran.{Ran}
-use Rattle.rounds.specs.Bodies.{AllOf, EachOf}
-use Rattle.rounds.specs.Crossings.{AllJoined, AtRest}
-use Rattle.rounds.specs.declared.crossing.Crossing.{Crossing}
+use Rattle.lane_core.specs.Bodies.{AllOf, EachOf}
+use Rattle.lane_core.specs.Crossings.{AllJoined, AtRest}
+use Rattle.lane_core.specs.declared.crossing.Crossing.{Crossing}
 use Rattle.island_body.specs.Keeping.{is_pending, BodyKeeps, BodyGoes, BodyBreaks}
 use Rattle.island_body.specs.Meeting.{BodiesJoined}
 use Rattle.island_body.specs.declared.body.Body.{Body}

@@ -4,7 +4,7 @@ use Rattle.std.proofs.lemmas.List.{length-map}
 use Rattle.std.proofs.Common.{◌≡◌, ℕ, zero, suc, ◌+◌, List, [], ◌∷◌, length, map, refl, sym, ap, ◌∙◌, subst, arith}
 use Rattle.elem_core.specs.declared.item.Item.{Item}
 use Rattle.elem_core.specs.declared.why.Decider.{Decider}
-use Rattle.kill_core.specs.Public.{SwitchState, SeatState}
+use Rattle.stage_switch.specs.Public.{SwitchState, SeatState}
 use Rattle.port_core.specs.View.{View}
 use Rattle.stream_io.specs.State.{SourceState, DrainState}
 use Rattle.stream_model.specs.Composed.{count_from}
@@ -25,17 +25,17 @@ use Rattle.interpreter.specs.Seats.{with_seat, seats_of}
 use Rattle.interpreter.specs.declared.parts.Seated.{Seated}
 use Rattle.interpreter.specs.declared.parts.Work.{Work}
 use Rattle.interpreter.specs.declared.parts.Work.TheVariants as work
-use Rattle.run_account.specs.Account.{Account}
-use Rattle.run_outlook_laws.specs.Made.{FirstOf}
-use Rattle.run_outlook_laws.specs.Runs.{IsRun}
-use Rattle.run_outlook_laws.specs.Telling.{seat_at, AreSettled}
-use Rattle.blue_core.specs.declared.blueprint.Blueprint.{Blueprint}
-use Rattle.blue_core.specs.declared.blueprint.Node as blue
+use Rattle.run_laws.specs.Account.{Account}
+use Rattle.run_laws.specs.Made.{FirstOf}
+use Rattle.run_laws.specs.Runs.{IsRun}
+use Rattle.run_laws.specs.Telling.{seat_at, AreSettled}
+use Rattle.stream_model.specs.declared.blueprint.Blueprint.{Blueprint}
+use Rattle.stream_model.specs.declared.blueprint.Node as blue
 use Rattle.materializer.specs.Graphs.{graph_of, graph_node}
 use Rattle.materializer.specs.Seats.{place_seat}
-use Rattle.run_switch_laws.specs.Settling.{kinds_of, AllSettled}
-use Rattle.switch_board.specs.Board.{switch_of, switch_at, IsSeatAt, AreAtSwitches, numbered_from, seat_in}
-use Rattle.switch_board.specs.declared.board.Board.{Board}
+use Rattle.stage_switch.specs.Settling.{kinds_of, AllSettled}
+use Rattle.materializer.specs.Board.{switch_of, switch_at, IsSeatAt, AreAtSwitches, numbered_from, seat_in}
+use Rattle.materializer.specs.declared.switch_board.Board.{Board}
 use Rattle.stream_model.specs.Linear.{Book}
 
 -- ---- a node keeps the switch at which it has its seat

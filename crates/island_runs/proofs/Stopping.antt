@@ -3,13 +3,13 @@ use Rattle.std.specs.Prelude.{slice_get}
 use Rattle.std.specs.List.{All}
 use Rattle.std.proofs.Common.{◌≡◌, ℕ, ◌+◌, ◌≤◌, Bool, true, false, IsTrue, List, length, map, refl, sym, ap, ◌∙◌, subst}
 use Rattle.blue_check.specs.Wires.{blueprint_wires}
-use Rattle.blue_core.specs.declared.blueprint.Blueprint.{Blueprint}
-use Rattle.blue_core.specs.declared.blueprint.Node as blue
+use Rattle.stream_model.specs.declared.blueprint.Blueprint.{Blueprint}
+use Rattle.stream_model.specs.declared.blueprint.Node as blue
 use Rattle.stream_io.specs.State.{SourceState, DrainState}
 use Rattle.stream_model.specs.Graph.{Edge}
 use Rattle.stream_model.specs.declared.outcome.WireCount.{WireCount}
-use Rattle.stream_picture.specs.Shape.{count_needed}
-use Rattle.wire_core.specs.Cell.{WireState}
+use Rattle.stream_model.specs.Shape.{count_needed}
+use Rattle.port_core.specs.Cell.{WireState}
 use Rattle.nodes.specs.Nodes.{KeepsNode, node_seat}
 use Rattle.nodes.specs.declared.node.IslandNode.{IslandNode}
 use Rattle.fused_net.specs.Laws.{AllKept}
@@ -17,18 +17,18 @@ use Rattle.interpreter.specs.Island.{readers_of, writers_of}
 use Rattle.interpreter.specs.Picks.{pick_of}
 use Rattle.interpreter.specs.declared.island.IslandEnd.{IslandEnd}
 use Rattle.interpreter.specs.declared.parts.Seated.{Seated}
-use Rattle.run_account.specs.Account.{Account, IsStill}
-use Rattle.run_account.specs.Pictures.{picture_counts}
-use Rattle.run_outlook_laws.specs.Runs.{IsRun}
+use Rattle.run_laws.specs.Account.{Account, IsStill}
+use Rattle.run_laws.specs.Pictures.{picture_counts}
+use Rattle.run_laws.specs.Runs.{IsRun}
 use Rattle.materializer.specs.Graphs.{graph_of, chains_of}
 use Rattle.materializer.specs.Seats.{AreSeats, place_seat}
 use Rattle.bodies_run.specs.Leaving.{AreLeft, of_lists}
 use Rattle.bodies_run.proofs.Alone.{run_alone, still_alone, counts_alone}
 use Rattle.bodies_run.specs.Counts.{all_sent}
-use Rattle.bodies_leave.specs.Whole.{IsLeftBy}
-use Rattle.run_switch_laws.specs.Settling.{AllSettled}
-use Rattle.switch_board.specs.Board.{AreAtSwitches, numbered_from, seat_in}
-use Rattle.switch_board.specs.declared.board.Board.{Board}
+use Rattle.island_runs.specs.Whole.{IsLeftBy}
+use Rattle.stage_switch.specs.Settling.{AllSettled}
+use Rattle.materializer.specs.Board.{AreAtSwitches, numbered_from, seat_in}
+use Rattle.materializer.specs.declared.switch_board.Board.{Board}
 use Rattle.island_runs.specs.Leaving.{Moment, RunLeaves, LeavesBroken}
 use Rattle.island_runs.specs.declared.run.Stopped.{Stopped}
 use Rattle.island_runs.proofs.Settling.{kept_seats, seats_numbered, settled_run}

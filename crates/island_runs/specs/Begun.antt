@@ -2,19 +2,19 @@
 use Rattle.std.specs.Prelude.{◌≡◌, ℕ, ◌≤◌, Bool, true, false, List, [], length, map, vec_capacity}
 use Rattle.std.specs.List.{All, sum_by}
 use Rattle.stream_io.specs.State.{SourceState, DrainState}
-use Rattle.blue_core.specs.declared.blueprint.Blueprint.{Blueprint}
-use Rattle.blue_core.specs.declared.blueprint.Node.{Node}
+use Rattle.stream_model.specs.declared.blueprint.Blueprint.{Blueprint}
+use Rattle.stream_model.specs.declared.blueprint.Node.{Node}
 use Rattle.blue_check.specs.Fitness.{IsFit}
 use Rattle.blue_check.specs.Wires.{blueprint_wires}
-use Rattle.plug_core.specs.declared.head.PlugHead.{PlugHead}
+use Rattle.stream_model.specs.declared.head.PlugHead.{PlugHead}
 use Rattle.interpreter.specs.declared.parts.Seated.{Seated}
-use Rattle.traversal.specs.Plan.{lanes_from}
+use Rattle.blue_check.specs.Plan.{lanes_from}
 use Rattle.dispatcher.specs.Broken.{WholeOrBroken}
-use Rattle.rounds.specs.Bodies.{AllOf, EachOf}
-use Rattle.rounds.specs.Crossings.{AreCrossings, AllJoined, AtRest}
-use Rattle.rounds.specs.declared.crossing.Crossing.{Crossing}
-use Rattle.lane_ends.specs.Ends.{AreRising}
-use Rattle.island_ends.specs.Room.{IsRoomForEnds}
+use Rattle.lane_core.specs.Bodies.{AllOf, EachOf}
+use Rattle.lane_core.specs.Crossings.{AreCrossings, AllJoined, AtRest}
+use Rattle.lane_core.specs.declared.crossing.Crossing.{Crossing}
+use Rattle.island_plans.specs.LaneEnds.{AreRising}
+use Rattle.island_parts.specs.Room.{IsRoomForEnds}
 use Rattle.island_plans.specs.Ends.{AreEndHomes}
 use Rattle.island_plans.specs.Homes.{AreNumberedHomes}
 use Rattle.island_body.specs.Keeping.{is_pending, BodyKeeps, BodyGoes, BodyBreaks}
@@ -24,7 +24,7 @@ use Rattle.bodies_run.specs.Bodies.{AreBodiesOf}
 use Rattle.bodies_run.specs.Begun.{AreNumberedBodies, AreAligned}
 use Rattle.materializer.specs.Graphs.{graph_of, chains_of}
 use Rattle.materializer.specs.Seats.{AreSeats, place_seat}
-use Rattle.switch_board.specs.Board.{IsBoard, AreAtSwitches}
+use Rattle.materializer.specs.Board.{IsBoard, AreAtSwitches}
 use Rattle.island_runs.specs.declared.run.Remains.{Remains}
 use Rattle.stream_model.specs.Linear.{Book}
 

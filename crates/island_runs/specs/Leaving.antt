@@ -1,10 +1,10 @@
 -- What the run of a blueprint leaves, by an account of its nodes and wires at its end. Where they stood, in one island or in many,
 -- it does not say.
 use Rattle.std.specs.Prelude.{◌≡◌, ℕ, ◌+◌, ◌≤◌, false, IsTrue, List, map, length, slice_get}
-use Rattle.blue_core.specs.declared.blueprint.Blueprint.{Blueprint}
+use Rattle.stream_model.specs.declared.blueprint.Blueprint.{Blueprint}
 use Rattle.blue_check.specs.Wires.{blueprint_wires}
 use Rattle.stream_model.specs.Composed.{count_from}
-use Rattle.stream_picture.specs.Shape.{count_needed}
+use Rattle.stream_model.specs.Shape.{count_needed}
 use Rattle.stream_io.specs.State.{SourceState, DrainState}
 use Rattle.nodes.specs.declared.node.IslandNode.{IslandNode}
 use Rattle.nodes.specs.Nodes.{KeepsNode}
@@ -14,10 +14,10 @@ use Rattle.interpreter.specs.declared.parts.Seated.{Seated}
 use Rattle.interpreter.specs.Parts.{AllBecome}
 use Rattle.interpreter.specs.Picks.{pick_of, picks_of}
 use Rattle.interpreter.specs.Island.{sinks_of, readers_of, writers_of}
-use Rattle.run_account.specs.Account.{Account, IsStill}
-use Rattle.run_account.specs.Pictures.{picture_counts}
-use Rattle.run_outlook_laws.specs.Runs.{IsRun}
-use Rattle.run_outlook_laws.specs.Telling.{AreSettled}
+use Rattle.run_laws.specs.Account.{Account, IsStill}
+use Rattle.run_laws.specs.Pictures.{picture_counts}
+use Rattle.run_laws.specs.Runs.{IsRun}
+use Rattle.run_laws.specs.Telling.{AreSettled}
 use Rattle.materializer.specs.Graphs.{graph_of, chains_of}
 use Rattle.materializer.specs.Seats.{AreSeats}
 use Rattle.bodies_run.specs.Counts.{all_sent}

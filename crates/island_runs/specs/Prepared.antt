@@ -1,9 +1,9 @@
 -- What the run of a blueprint's islands takes of memory before its files are opened.
 use Rattle.std.specs.Prelude.{◌≡◌, ◌≤◌, List, [], length, vec_capacity}
 use Rattle.blue_check.specs.Wires.{blueprint_wires}
-use Rattle.lane_ends.specs.Ends.{AreAllEnds}
-use Rattle.island_ends.specs.Room as ends
-use Rattle.island_bodies.specs.Making as bodies
+use Rattle.island_plans.specs.LaneEnds.{AreAllEnds}
+use Rattle.island_parts.specs.Room as ends
+use Rattle.island_plans.specs.Making as bodies
 use Rattle.island_plans.specs.Plans.{IsPlans}
 use Rattle.island_runs.specs.declared.prepare.Prepared.{Prepared}
 

@@ -1,6 +1,6 @@
 -- The receipt of a blueprint's run.
 use Rattle.std.specs.Prelude.{◌≡◌, ℕ, Bool, not, List, length}
-use Rattle.blue_core.specs.declared.blueprint.Blueprint.{Blueprint}
+use Rattle.stream_model.specs.declared.blueprint.Blueprint.{Blueprint}
 use Rattle.blue_check.specs.Wires.{blueprint_wires}
 use Rattle.dispatcher.specs.declared.ran.Ran.{Ran}
 use Rattle.island_plans.specs.Homes.{AreNumberedHomes}

@@ -3,21 +3,21 @@ ghost use Rattle.std.specs.List.{All};
 ghost use Rattle.std.specs.Prelude.{◌≡◌, IfOk, map};
 ghost use Rattle.materializer.specs.Fit.{CanRun};
 ghost use Rattle.island_runs.specs.Prepared.{IsPrepared};
-ghost use Rattle.plug_board.specs.Handed.{GivesAsListed, HasPlugs};
+ghost use Rattle.materializer.specs.HandedPlugs.{GivesAsListed, HasPlugs};
 
-use blue_core::blueprint::Blueprint;
-use bodies_begin::laws::filled_islands_are_seated;
+use crate::begin_laws::filled_islands_are_seated;
 use elem_core::why::NoMemory;
 use interpreter::island::{Island, IslandEnd};
-use island_bodies::room::BodyRoom;
-use island_ends::room::EndRoom;
+use island_parts::room::EndRoom;
+use island_plans::lane_ends::{AllEnds, ends_of};
 use island_plans::plans::{Plans, plans_of};
-use lane_ends::ends::{AllEnds, ends_of};
+use island_plans::room::BodyRoom;
 use plug_logic::book::PlugBook;
 use plug_logic::logic::Logic;
 use plug_logic::plug::Plug;
 use std::alloc::Global;
 use stream_io::outside::{Drain, Source};
+use stream_model::blueprint::Blueprint;
 use stream_model::outcome::WireCount;
 
 /// The islands of a blueprint, before its files are opened, with all that their run takes of memory but what their nodes want as they

@@ -1,7 +1,7 @@
 // The run of a blueprint's islands, by workers.
 ghost use Rattle.std.specs.Prelude.{◌≡◌, ◌<◌, ◌≤◌, [], ℕ, List, IfOk, IfErr, All, length, map, vec_len, vec_capacity};
 ghost use Rattle.elem_core.specs.declared.count.TheConstants.{MOST_COUNT};
-ghost use Rattle.blue_core.specs.declared.blueprint.Blueprint as plan;
+ghost use Rattle.stream_model.specs.declared.blueprint.Blueprint as plan;
 ghost use Rattle.island_body.specs.declared.body.Body as island;
 ghost use Rattle.materializer.specs.Files.{inputs_of_nodes, outputs_of_nodes};
 ghost use Rattle.island_runs.specs.Begun.{HaveBegun, HaveRun, HaveBroken};
@@ -9,38 +9,38 @@ ghost use Rattle.island_runs.specs.Leaving.{HasHandles, RunLeaves, LeavesBroken,
 ghost use Rattle.island_runs.specs.Prepared.{IsPrepared};
 ghost use Rattle.island_runs.specs.Receipt.{HasIslands, IsReceipt};
 
-use crate::prepare::Prepared;
-use bodies_begin::laws::{
+use crate::begin_laws::{
     ends_stay_at_their_crossings, filled_islands_are_seated, made_bodies_begin_their_blueprint,
     started_islands_begin_bodies,
 };
-use bodies_leave::laws::{
+use crate::leave_laws::{
     bodies_leave_what_their_nodes_do, bodies_spent_what_was_sent,
     broken_bodies_leave_their_handles, noted_counts_are_the_picture, told_asks_are_those_of_lanes,
     unmade_islands_hand_back,
 };
+use crate::prepare::Prepared;
+use blue_check::plan::LanePlan;
 use bodies_run::laws::{
     bodies_leave_a_run, broken_bodies_cover, broken_bodies_leave_a_run, nodes_alone_are_a_run,
 };
 use dispatcher::finish::Finish;
 use dispatcher::ran::Ran;
 use interpreter::island::IslandEnd;
-use island_bodies::asked::{asked_of, note_asked};
-use island_bodies::make::{finish_all, make_all};
 use island_body::body::Body;
-use island_ends::join::{join_ends, join_handles};
-use island_ends::room::{EndHomes, EndRoom};
-use island_starts::start::start_all;
+use island_parts::join::{join_ends, join_handles};
+use island_parts::room::{EndHomes, EndRoom};
+use island_parts::start::start_all;
+use island_plans::asked::{asked_of, note_asked};
+use island_plans::body_make::{finish_all, make_all};
+use lane_core::crossing::Crossing;
+use materializer::switch_board::Board;
 use plug_logic::book::PlugBook;
 use plug_logic::logic::Logic;
-use rounds::crossing::Crossing;
 use std::alloc::Global;
 use std::sync::Wait;
 use std::thread::Threads;
 use stream_io::outside::{Drain, Source};
 use stream_model::outcome::WireCount;
-use switch_board::board::Board;
-use traversal::plan::LanePlan;
 
 /// A run that was taken apart: what its nodes left, in order of nodes, but for the seats at its kill switches, which were settled; what
 /// each wire carried, how many units were used, whether no event was left, and the receipt of the run.

@@ -7,3 +7,9 @@ pub mod InSteps
 pub mod Notes
 pub mod Steps
 pub mod Calls
+pub mod Meets
+pub mod Standing
+pub mod Flows
+pub mod Keeps
+pub mod Each
+pub mod Lanes

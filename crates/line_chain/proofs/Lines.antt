@@ -3,7 +3,7 @@ use Rattle.std.proofs.Common.{◌≡◌, ℕ, Bool, true, false, List, [], ◌�
 use Rattle.std.proofs.Math.Seq.{drop-length}
 use Rattle.elem_core.specs.Tree.{Tree}
 use Rattle.elem_core.specs.declared.why.Cause.{Cause}
-use Rattle.blue_core.specs.declared.blueprint.Step as blue
+use Rattle.stream_model.specs.declared.blueprint.Step as blue
 use Rattle.port_core.specs.declared.chain.ChainStep.{ChainStep}
 use Rattle.port_core.specs.declared.chain.ChainStep.TheVariants.{Go, Closed, Failed}
 use Rattle.port_core.specs.ListFunction.{ListFunction, Pushed, FunctionFinished}

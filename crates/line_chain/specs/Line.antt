@@ -1,6 +1,6 @@
 -- A chain of linear stages as it runs: where its steps stood at its start, and where they stand now.
 use Rattle.std.specs.Prelude.{◌≡◌, ℕ, Bool, List, [], unwrap_or}
-use Rattle.blue_core.specs.declared.blueprint.Step as blue
+use Rattle.stream_model.specs.declared.blueprint.Step as blue
 use Rattle.port_core.specs.ListFunction.{ListFunction, Same}
 use Rattle.stream_model.specs.Graph.{Step}
 use Rattle.stream_model.specs.Linear.{Book, go, work_of, passing}

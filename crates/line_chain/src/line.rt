@@ -8,7 +8,6 @@ ghost use Rattle.line_chain.specs.Steps.{end_of};
 use crate::batch::Batch;
 use crate::kind::StepKind;
 use crate::step::LineStep;
-use blue_core::blueprint::Step;
 use elem_core::elem::Elem;
 use elem_core::elems::Elems;
 use elem_core::why::NoMemory;
@@ -17,6 +16,7 @@ use stage_keeping::ending::StateEnd;
 use std::alloc::Global;
 use std::marker::Model;
 use std::mem;
+use stream_model::blueprint::Step;
 
 /// A chain of linear stages. A call runs the steps one after another: what one gives the next takes. It stands for a
 /// subflow of the Akka Streams 2.6 reference.

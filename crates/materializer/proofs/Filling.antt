@@ -5,7 +5,7 @@ use Rattle.stream_model.specs.Graph as graph
 use Rattle.stream_model.specs.declared.kind.Kind.{Kind}
 use Rattle.stream_model.specs.declared.kind.Kind.TheVariants as kind
 use Rattle.stream_model.specs.Composed.{inputs_of}
-use Rattle.stream_picture.specs.View.{outputs_of}
+use Rattle.stream_model.specs.View.{outputs_of}
 use Rattle.nodes.specs.Kinds.{IsFileSink, IsMaker}
 use Rattle.stage_linear.specs.States.{IsLinear}
 use Rattle.stage_state.specs.Logics.{IsStateful}
@@ -18,7 +18,7 @@ use Rattle.interpreter.specs.declared.parts.Work.{Work}
 use Rattle.interpreter.specs.declared.parts.Work.TheVariants as work
 use Rattle.interpreter.specs.Parts.{seat_place}
 use Rattle.interpreter.specs.Handles.{with_source, with_drain, sources_in, drains_in}
-use Rattle.blue_core.specs.declared.blueprint.Node.{Node}
+use Rattle.stream_model.specs.declared.blueprint.Node.{Node}
 use Rattle.materializer.specs.Files.{source_file, output_of, inputs_of_nodes, outputs_of_nodes}
 use Rattle.materializer.specs.Seats.{handle_of, handles_left, IsWork, AreSeats}
 use Rattle.materializer.specs.Planned.{IsPlanned, ArePlanned, reads, writes, reads_in, writes_in, places_from}

@@ -10,25 +10,25 @@ use Rattle.stream_model.specs.Graph as graph
 use Rattle.stream_model.specs.Composed.{inputs_of}
 use Rattle.stream_model.specs.declared.kind.Kind.{Kind}
 use Rattle.stream_model.specs.declared.kind.Kind.TheVariants.{Merge, Concat, Interleave, Broadcast, Balance, Partition}
-use Rattle.stream_picture.specs.View.{outputs_of}
-use Rattle.blue_core.specs.declared.blueprint.Blueprint.{Blueprint}
-use Rattle.blue_core.specs.declared.blueprint.ChainDecl.{ChainDecl}
-use Rattle.blue_core.specs.declared.blueprint.Node.{Node}
-use Rattle.blue_core.specs.declared.blueprint.WireDecl.{WireDecl}
-use Rattle.blue_rules.specs.First.{first_from, when}
-use Rattle.blue_rules.specs.Ports.{port_missing, port_twice, port_open}
-use Rattle.blue_rules.specs.Sizes.{sizes_fit, chain_wrong, node_wrong, wire_wrong, size_wrong}
-use Rattle.blue_rules.specs.declared.spot.Spot.TheVariants as at
+use Rattle.stream_model.specs.View.{outputs_of}
+use Rattle.stream_model.specs.declared.blueprint.Blueprint.{Blueprint}
+use Rattle.stream_model.specs.declared.blueprint.ChainDecl.{ChainDecl}
+use Rattle.stream_model.specs.declared.blueprint.Node.{Node}
+use Rattle.stream_model.specs.declared.blueprint.WireDecl.{WireDecl}
+use Rattle.blue_names.specs.First.{first_from, when}
+use Rattle.blue_names.specs.Ports.{port_missing, port_twice, port_open}
+use Rattle.blue_names.specs.Sizes.{sizes_fit, chain_wrong, node_wrong, wire_wrong, size_wrong}
+use Rattle.blue_names.specs.declared.spot.Spot.TheVariants as at
 use Rattle.blue_check.specs.Fitness.{open_fault, names_fault, ports_fault, plugs_fault, sizes_fault, types_fault, IsFit}
 use Rattle.blue_check.specs.declared.fault.CheckFault.TheVariants as fault
 use Rattle.blue_check.specs.Wires.{blueprint_wires}
-use Rattle.plug_core.specs.declared.head.PlugHead.{PlugHead}
+use Rattle.stream_model.specs.declared.head.PlugHead.{PlugHead}
 use Rattle.materializer.specs.Fit.{CanRun}
 use Rattle.materializer.specs.Graphs.{graph_of, graph_node, graph_chain}
-use Rattle.stream_picture.specs.Joined.{IsJoined}
+use Rattle.stream_model.specs.Joined.{IsJoined}
 use Rattle.blue_names.specs.declared.links.NumberedWire.{NumberedWire}
 use Rattle.blue_names.specs.Links.{wires_of_links}
-use Rattle.blue_walks.proofs.ClosedWalks.{link_at_place}
+use Rattle.blue_check.proofs.ClosedWalks.{link_at_place}
 use Rattle.materializer.proofs.Joining.{both_none, none_here, not_when, mapped_from, joined}
 
 map_none : {X Y : Type 0} (f : X → Y) (o : Option X) → option_map f o ≡ None → o ≡ None

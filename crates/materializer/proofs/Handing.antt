@@ -19,7 +19,7 @@ use Rattle.interpreter.specs.declared.parts.Seated.{Seated}
 use Rattle.interpreter.specs.declared.parts.Work.{Work}
 use Rattle.interpreter.specs.declared.parts.Work.TheVariants as work
 use Rattle.interpreter.specs.Parts.{BecomesOf, AllBecome}
-use Rattle.blue_core.specs.declared.blueprint.Node as blue
+use Rattle.stream_model.specs.declared.blueprint.Node as blue
 use Rattle.materializer.specs.Files.{source_file, output_of, inputs_of_nodes, outputs_of_nodes}
 use Rattle.materializer.specs.Handed.{ReadsSourceFile, WritesFile, WritesNoFile}
 use Rattle.materializer.specs.Seats.{handle_of, handles_left, IsWork, AreSeats}

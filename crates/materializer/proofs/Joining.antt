@@ -8,12 +8,12 @@ use Rattle.std.proofs.lemmas.Option.{slice_get-map}
 use Rattle.stream_model.specs.Graph.{Graph, Edge, Chain, find_by, find_wire, find_source}
 use Rattle.stream_model.specs.Graph as graph
 use Rattle.stream_model.specs.Composed.{inputs_of, count_from}
-use Rattle.stream_picture.specs.View.{outputs_of}
-use Rattle.blue_core.specs.declared.blueprint.Node.{Node}
-use Rattle.blue_rules.specs.First.{first_from, when}
-use Rattle.blue_rules.specs.Ports.{port_missing, port_twice, port_open, is_port_number, lacks_output, lacks_input, open_input, open_output}
+use Rattle.stream_model.specs.View.{outputs_of}
+use Rattle.stream_model.specs.declared.blueprint.Node.{Node}
+use Rattle.blue_names.specs.First.{first_from, when}
+use Rattle.blue_names.specs.Ports.{port_missing, port_twice, port_open, is_port_number, lacks_output, lacks_input, open_input, open_output}
 use Rattle.materializer.specs.Graphs.{graph_node}
-use Rattle.stream_picture.specs.Joined.{IsJoined}
+use Rattle.stream_model.specs.Joined.{IsJoined}
 
 -- ---- nothing is said of any place
 

@@ -1,3 +1,11 @@
+pub mod Finding
+pub mod Naming
+pub mod HandingPlugs
+pub mod Places
+pub mod Sitting
+pub mod Dealt
+pub mod Settled
+pub mod Put
 pub mod Ranking
 pub mod Joining
 pub mod Fitting

@@ -8,14 +8,14 @@ use Rattle.std.proofs.lemmas.Option.{slice_get_within, slice_get-map}
 use Rattle.stream_model.specs.Graph.{Graph, Edge, Chain, find_by, find_wire, find_source}
 use Rattle.stream_model.specs.Graph as graph
 use Rattle.stream_model.specs.Composed.{inputs_of}
-use Rattle.stream_picture.specs.View.{outputs_of}
+use Rattle.stream_model.specs.View.{outputs_of}
 use Rattle.fused_net.specs.declared.net.WireEnds.{WireEnds}
 use Rattle.fused_net.specs.Net.{end_at}
 use Rattle.interpreter.specs.declared.parts.Seated.{Seated}
 use Rattle.interpreter.specs.Parts.{inputs_at, outputs_at, IsWiring}
-use Rattle.blue_core.specs.declared.blueprint.Node.{Node}
+use Rattle.stream_model.specs.declared.blueprint.Node.{Node}
 use Rattle.materializer.specs.Graphs.{graph_node}
-use Rattle.stream_picture.specs.Joined.{IsJoined}
+use Rattle.stream_model.specs.Joined.{IsJoined}
 use Rattle.materializer.specs.Seats.{AreSeats}
 use Rattle.materializer.proofs.Joining.{mapped_from}
 use Rattle.materializer.proofs.Placing.{seats_count, seats_ports}

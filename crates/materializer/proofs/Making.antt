@@ -15,9 +15,9 @@ use Rattle.interpreter.specs.declared.parts.Work.{Work}
 use Rattle.interpreter.specs.declared.parts.Work.TheVariants as work
 use Rattle.interpreter.specs.Parts.{BecomesOf, AllBecome}
 use Rattle.interpreter.proofs.Islands.{same_count}
-use Rattle.run_outlook_laws.specs.Made.{FirstOf}
-use Rattle.blue_core.specs.declared.blueprint.Blueprint.{Blueprint}
-use Rattle.blue_core.specs.declared.blueprint.Node as blue
+use Rattle.run_laws.specs.Made.{FirstOf}
+use Rattle.stream_model.specs.declared.blueprint.Blueprint.{Blueprint}
+use Rattle.stream_model.specs.declared.blueprint.Node as blue
 use Rattle.materializer.specs.Files.{source_file}
 use Rattle.materializer.specs.Firsts.{AreFirsts}
 use Rattle.materializer.specs.Graphs.{graph_node, graph_of, chains_of}

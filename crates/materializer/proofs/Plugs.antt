@@ -3,11 +3,11 @@ use Rattle.std.proofs.Common.{◌≡◌, ℕ, ◌<◌, List, [], ◌∷◌, leng
 use Rattle.stream_model.specs.Linear.{Book}
 use Rattle.stream_model.specs.declared.kind.Kind.{Kind}
 use Rattle.stream_model.specs.declared.kind.Kind.TheVariants as kind
-use Rattle.blue_core.specs.declared.blueprint.Node.{Node}
-use Rattle.blue_rules.specs.Names.{plug_of}
+use Rattle.stream_model.specs.declared.blueprint.Node.{Node}
+use Rattle.blue_names.specs.Names.{plug_of}
 use Rattle.plug_logic.specs.declared.plug.Plug.{Plug}
 use Rattle.plug_logic.specs.Gives.{Gives}
-use Rattle.plug_board.specs.Handed.{GivesAsListed, IsPlugged, ArePlugged}
+use Rattle.materializer.specs.HandedPlugs.{GivesAsListed, IsPlugged, ArePlugged}
 use Rattle.materializer.proofs.Switches.{kinds_of}
 
 none_some : {A : Type 0} {x : A} → None ≡ Some x → ⊥

@@ -5,8 +5,8 @@ use Rattle.std.proofs.lemmas.Bool.{cases_Bool, or_cases, and_parts, eqb-true, eq
 use Rattle.std.proofs.lemmas.Option.{slice_get-get_or}
 use Rattle.stream_model.specs.Graph.{Graph, Edge}
 use Rattle.stream_model.specs.Composed.{IsRanked}
-use Rattle.blue_rules.specs.Paths.{Path, Leads, stay, along, HasNoClosedWalk}
-use Rattle.blue_walks.proofs.Reaching.{path_append}
+use Rattle.blue_names.specs.Paths.{Path, Leads, stay, along, HasNoClosedWalk}
+use Rattle.blue_check.proofs.Reaching.{path_append}
 
 -- whether a walk leads from a to b: one that does not use the first wire, or one up to it and one behind it
 abbrev reaches : List Edge → ℕ → ℕ → Bool

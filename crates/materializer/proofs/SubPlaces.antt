@@ -7,7 +7,7 @@ use Rattle.stream_model.specs.declared.kind.Kind.TheVariants.{GroupBy, SplitWhen
 use Rattle.line_chain.specs.Line.{Line, IsLine, line_rest, line_is_open}
 use Rattle.stage_sub.specs.States.{Logic}
 use Rattle.stage_sub.specs.Handling.{IsSub, Begins, BeginsAs}
-use Rattle.run_outlook_laws.specs.Made.{chain_name}
+use Rattle.run_laws.specs.Made.{chain_name}
 use Rattle.materializer.specs.Seats.{StagesSub}
 
 -- a new stage with substreams has the chain that it was made with

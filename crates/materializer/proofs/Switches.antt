@@ -5,13 +5,13 @@ use Rattle.std.proofs.lemmas.Bool.Decides.{nat_tests}
 use Rattle.std.proofs.lemmas.List.{map-append}
 use Rattle.std.specs.Prelude.{nat_le}
 use Rattle.stream_model.specs.Graph as graph
-use Rattle.kill_core.specs.declared.end.SwitchEnd.{SwitchEnd}
+use Rattle.stage_switch.specs.declared.end.SwitchEnd.{SwitchEnd}
 use Rattle.stream_model.specs.declared.kind.Kind.{Kind}
 use Rattle.stream_model.specs.declared.kind.Kind.TheVariants.{Valve, TripShutdown, TripAbort}
-use Rattle.blue_core.specs.declared.blueprint.Node.{Node}
-use Rattle.blue_rules.specs.Sizes.{sizes_fit}
+use Rattle.stream_model.specs.declared.blueprint.Node.{Node}
+use Rattle.blue_names.specs.Sizes.{sizes_fit}
 use Rattle.stage_state.specs.Logics.{IsHandedEnd, IsStateful}
-use Rattle.switch_board.specs.Board.{switch_of, IsHandedAt, AreHanded}
+use Rattle.materializer.specs.Board.{switch_of, IsHandedAt, AreHanded}
 use Rattle.elem_core.specs.declared.why.Decider.{Decider}
 use Rattle.interpreter.specs.declared.parts.Work.{Work}
 use Rattle.materializer.specs.Files.{source_file, output_of}

@@ -1,7 +1,7 @@
 -- The stages of a blueprint whose kinds choose, in the order of nodes.
 use Rattle.std.specs.Prelude.{ℕ, List, map, filter}
-use Rattle.blue_core.specs.declared.blueprint.Node.{Node}
-use Rattle.blue_rules.specs.Picks.{picks}
+use Rattle.stream_model.specs.declared.blueprint.Node.{Node}
+use Rattle.blue_names.specs.Picks.{picks}
 
 -- their names
 abbrev pub pick_names : List Node → List (List ℕ)

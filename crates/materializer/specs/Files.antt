@@ -2,8 +2,8 @@
 use Rattle.std.specs.Prelude.{ℕ, ◌==◌, Bool, List, map, filter, filter_map, Option, Some, None}
 use Rattle.stream_model.specs.declared.kind.Kind.{Kind}
 use Rattle.stream_model.specs.Linear.{Role, reads_lines, gives_range, gives_nothing, gives_failure, works, trips, plugs_in, buffers, recovers, obeys, groups_by, splits_when, splits_after, merges, concats, interleaves, merges_sorted, zips, broadcasts, balances, partitions, unzips, sinks, role_of}
-use Rattle.stream_picture.specs.View.{outputs_of}
-use Rattle.blue_core.specs.declared.blueprint.Node.{Node}
+use Rattle.stream_model.specs.View.{outputs_of}
+use Rattle.stream_model.specs.declared.blueprint.Node.{Node}
 
 -- the file that a source reads
 abbrev read_by : Role → Option (List ℕ)

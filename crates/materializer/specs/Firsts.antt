@@ -3,7 +3,7 @@ use Rattle.std.specs.Prelude.{◌≡◌, ℕ, List, length, slice_get, Some}
 use Rattle.stream_model.specs.Graph as graph
 use Rattle.stream_io.specs.State.{SourceState}
 use Rattle.nodes.specs.declared.node.IslandNode.{IslandNode}
-use Rattle.run_outlook_laws.specs.Made.{FirstOf}
+use Rattle.run_laws.specs.Made.{FirstOf}
 
 -- each of these nodes of a blueprint's graph, which has these chains, stands at its place, as it is handed in
 pub record AreFirsts {S D L B : Type 0} (sources : S → SourceState) (chains : List graph.Chain) (nodes : List graph.Node) (firsts : List (IslandNode S D L B)) : Type 0 where

@@ -1,7 +1,7 @@
 -- Which blueprints can be run.
 use Rattle.std.specs.Prelude.{ℕ, List}
-use Rattle.blue_core.specs.declared.blueprint.Blueprint.{Blueprint}
-use Rattle.plug_core.specs.declared.head.PlugHead.{PlugHead}
+use Rattle.stream_model.specs.declared.blueprint.Blueprint.{Blueprint}
+use Rattle.stream_model.specs.declared.head.PlugHead.{PlugHead}
 use Rattle.blue_check.specs.Fitness.{IsFit}
 
 -- a blueprint that can be run, whether its wires have lanes or not: it breaks no rule, by some plugs and some files that were taken

@@ -1,3 +1,7 @@
+pub mod HandedPlugs
+pub mod Handing
+pub mod Board
+pub mod Dealing
 pub mod Graphs
 pub mod Fit
 pub mod Files

@@ -1,16 +1,16 @@
 -- The nodes of a blueprint at their places, before its files are opened.
 use Rattle.std.specs.Prelude.{◌≡◌, ℕ, ◌+◌, List, [], ◌∷◌, Option, None, ⊤}
-use Rattle.kill_core.specs.Public.{SeatState}
+use Rattle.stage_switch.specs.Public.{SeatState}
 use Rattle.stream_model.specs.Graph as graph
 use Rattle.stream_model.specs.declared.kind.Kind.{Kind}
 use Rattle.stream_model.specs.declared.kind.Kind.TheVariants.{Lines}
 use Rattle.stream_model.specs.Composed.{inputs_of}
-use Rattle.stream_picture.specs.View.{outputs_of}
+use Rattle.stream_model.specs.View.{outputs_of}
 use Rattle.nodes.specs.Kinds.{IsFileSink}
 use Rattle.interpreter.specs.declared.parts.Place.{Place}
 use Rattle.interpreter.specs.declared.parts.Seated.{Seated}
 use Rattle.interpreter.specs.declared.parts.Work.{Work}
-use Rattle.blue_core.specs.declared.blueprint.Node.{Node}
+use Rattle.stream_model.specs.declared.blueprint.Node.{Node}
 use Rattle.materializer.specs.Files.{source_file, output_of}
 use Rattle.materializer.specs.Seats.{handles_left, IsFreeWork, IsWork, work_seat}
 use Rattle.materializer.specs.declared.seats.Planned.{Planned}

@@ -6,9 +6,9 @@ use Rattle.stream_model.specs.declared.kind.Kind.TheVariants.{Ignore}
 use Rattle.stream_model.specs.Graph as graph
 use Rattle.stream_model.specs.Graph.{steps_of}
 use Rattle.stream_model.specs.Composed.{inputs_of}
-use Rattle.stream_picture.specs.View.{outputs_of}
+use Rattle.stream_model.specs.View.{outputs_of}
 use Rattle.stream_io.specs.Reading.{ReaderState}
-use Rattle.kill_core.specs.Public.{SeatState}
+use Rattle.stage_switch.specs.Public.{SeatState}
 use Rattle.stage_linear.specs.States.{Logic, IsLinear, Begins}
 use Rattle.stage_state.specs.declared.logic.StateLogic.{StateLogic}
 use Rattle.stage_state.specs.Logics.{IsStateful}
@@ -24,11 +24,11 @@ use Rattle.stage_out.specs.declared.logic.OutLogic.{OutLogic}
 use Rattle.stage_out.specs.OutLogics.{IsOut}
 use Rattle.stage_out.specs.OutLogics as fan_out
 use Rattle.nodes.specs.Kinds.{IsMaker, IsFileSink}
-use Rattle.run_outlook_laws.specs.Made.{chain_name}
+use Rattle.run_laws.specs.Made.{chain_name}
 use Rattle.interpreter.specs.declared.parts.Seated.{Seated}
 use Rattle.interpreter.specs.declared.parts.Work.{Work}
 use Rattle.interpreter.specs.declared.parts.Work.TheVariants as work
-use Rattle.blue_core.specs.declared.blueprint.Node.{Node}
+use Rattle.stream_model.specs.declared.blueprint.Node.{Node}
 use Rattle.materializer.specs.Files.{source_file, output_of}
 
 -- the handle that a node takes where it has a file: the next one

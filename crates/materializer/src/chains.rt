@@ -2,12 +2,12 @@
 ghost use Rattle.std.specs.Prelude.{◌≡◌, map};
 ghost use Rattle.line_chain.specs.Line.{model_step};
 ghost use Rattle.materializer.specs.Graphs.{graph_chain};
-ghost use Rattle.run_outlook_laws.specs.Made.{chain_name};
+ghost use Rattle.run_laws.specs.Made.{chain_name};
 ghost use Rattle.stage_sub.specs.Handling.{IsSub};
 ghost use Rattle.stream_model.specs.Graph.{steps_of};
 
-use blue_core::blueprint::{ChainDecl, Step};
 use elem_core::line::Line;
+use stream_model::blueprint::{ChainDecl, Step};
 use stream_model::kind::Kind;
 
 /// The steps of the chain of that name; none where there is no such chain.

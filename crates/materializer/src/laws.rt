@@ -1,12 +1,12 @@
 // Laws of what stands at the places of a blueprint's nodes: each function has no body, and its contract is the law.
 ghost use Rattle.std.specs.Prelude.{◌≡◌, ℕ, List, slice_get, Some, All};
 ghost use Rattle.blue_check.specs.Fitness.{IsFit};
-ghost use Rattle.blue_core.specs.declared.blueprint.Blueprint.{Blueprint};
-ghost use Rattle.blue_core.specs.declared.blueprint.Node as blue;
+ghost use Rattle.stream_model.specs.declared.blueprint.Blueprint.{Blueprint};
+ghost use Rattle.stream_model.specs.declared.blueprint.Node as blue;
 ghost use Rattle.interpreter.specs.Parts.{AllBecome};
 ghost use Rattle.interpreter.specs.declared.parts.Seated.{Seated};
 ghost use Rattle.nodes.specs.declared.node.IslandNode.{IslandNode};
-ghost use Rattle.plug_core.specs.declared.head.PlugHead.{PlugHead};
+ghost use Rattle.stream_model.specs.declared.head.PlugHead.{PlugHead};
 ghost use Rattle.stream_model.specs.Composed.{IsRanked};
 ghost use Rattle.stream_model.specs.Graph as graph;
 ghost use Rattle.stream_model.specs.declared.kind.Kind.TheVariants as kind;
@@ -14,7 +14,7 @@ ghost use Rattle.materializer.specs.Files.{output_of, inputs_of_nodes, outputs_o
 ghost use Rattle.materializer.specs.Firsts.{AreFirsts};
 ghost use Rattle.materializer.specs.Graphs.{chains_of, graph_of};
 ghost use Rattle.materializer.specs.Handed.{ReadsSourceFile, WritesFile, WritesNoFile};
-ghost use Rattle.stream_picture.specs.Joined.{IsJoined};
+ghost use Rattle.stream_model.specs.Joined.{IsJoined};
 ghost use Rattle.materializer.specs.Seats.{AreSeats};
 
 use plug_logic::book::PlugBook;

@@ -5,11 +5,11 @@ ghost use Rattle.materializer.specs.Choices.{pick_names};
 ghost use Rattle.materializer.specs.Files.{source_file, output_of, inputs_of_nodes, outputs_of_nodes, is_sink, sinks_of_nodes};
 
 use blue_check::picks::picks;
-use blue_core::blueprint::{Blueprint, Node};
 use blue_names::ports::output_ports;
 use elem_core::line::Line;
 use elem_core::why::NoMemory;
 use std::alloc::Global;
+use stream_model::blueprint::{Blueprint, Node};
 use stream_model::kind::Kind;
 
 /// The file that a source reads.

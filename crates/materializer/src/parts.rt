@@ -2,12 +2,12 @@
 ghost use Rattle.std.specs.Prelude.{◌≡◌, IfOk};
 ghost use Rattle.materializer.specs.Planned.{places_from};
 
-use blue_core::blueprint::Node;
 use blue_names::ports::{input_ports, output_ports};
 use elem_core::count::numbered;
 use elem_core::why::NoMemory;
 use interpreter::parts::Place;
 use std::alloc::Global;
+use stream_model::blueprint::Node;
 
 /// The places of these nodes, in order. A number that is out of 32 bits is want of memory.
 pub fn places_of(alloc: Global, nodes: &[Node]) -> Result<Vec<Place>, NoMemory>

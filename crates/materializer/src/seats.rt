@@ -2,30 +2,28 @@
 ghost use Rattle.std.specs.Prelude.{◌≡◌, ◌+◌, ◌<◌, ◌≤◌, List, [], ◌∷◌, true, None, IfOk, map, vec_len, vec_capacity};
 ghost use Rattle.std.specs.List.{list_all};
 ghost use Rattle.std.specs.Vec.Iter.{into_iter_items, into_iter_len};
-ghost use Rattle.blue_rules.specs.Sizes.{sizes_fit};
+ghost use Rattle.blue_names.specs.Sizes.{sizes_fit};
 ghost use Rattle.stage_linear.specs.States.{HasTask};
 ghost use Rattle.stage_state.specs.Logics.{IsStateful};
 ghost use Rattle.stage_sub.specs.Handling.{IsSub};
 ghost use Rattle.stage_in.specs.Logics.{IsFanIn};
 ghost use Rattle.stage_out.specs.OutLogics.{IsOut};
-ghost use Rattle.blue_core.specs.declared.blueprint.Node as blue;
+ghost use Rattle.stream_model.specs.declared.blueprint.Node as blue;
 ghost use Rattle.materializer.specs.Files.{source_file, output_of};
 ghost use Rattle.materializer.specs.Graphs.{graph_chain};
-ghost use Rattle.switch_board.specs.Board.{switch_of, IsHandedAt, AreHanded, seat_of_end};
+ghost use Rattle.materializer.specs.Board.{switch_of, IsHandedAt, AreHanded, seat_of_end};
 ghost use Rattle.materializer.specs.Seats.{IsFreeWork, AreSeats, work_seat, place_seat};
 ghost use Rattle.materializer.specs.Planned.{IsPlanned, IsSeat, ArePlanned, Fills, seat_of_plan, planned_seat, reads, writes, reads_in, writes_in};
-ghost use Rattle.plug_board.specs.Handed.{GivesAsListed, IsPlugged, ArePlugged};
-ghost use Rattle.blue_rules.specs.Names.{plug_of};
+ghost use Rattle.materializer.specs.HandedPlugs.{GivesAsListed, IsPlugged, ArePlugged};
+ghost use Rattle.blue_names.specs.Names.{plug_of};
 ghost use Rattle.stream_model.specs.Graph as graph;
 ghost use Rattle.stream_model.specs.declared.kind.Kind.TheVariants as kind;
 
 use crate::chains::steps_of_kind;
-use blue_core::blueprint::{ChainDecl, Node};
 use blue_names::ports::{input_ports, output_ports};
 use elem_core::count::numbered;
 use elem_core::why::{Decider, NoMemory};
 use interpreter::parts::{Seated, Work};
-use kill_core::end::SwitchEnd;
 use line_chain::line::LineChain;
 use plug_logic::book::PlugBook;
 use plug_logic::logic::Logic;
@@ -35,10 +33,12 @@ use stage_linear::logic::LinearLogic;
 use stage_out::logic::OutLogic;
 use stage_state::logic::StateLogic;
 use stage_sub::logic::SubLogic;
+use stage_switch::end::SwitchEnd;
 use std::alloc::Global;
 use std::vec::IntoIter;
 use stream_io::line_reader::LineReader;
 use stream_io::outside::{Drain, Source};
+use stream_model::blueprint::{ChainDecl, Node};
 use stream_model::kind::Kind;
 
 /// What is to stand at a place, before its handle is there.

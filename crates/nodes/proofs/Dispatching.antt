@@ -13,8 +13,8 @@ use Rattle.port_core.specs.Call.{Call, Meets, MayCome, pulls, arrives, cancels}
 use Rattle.stream_model.specs.Linear.{Book}
 use Rattle.stage_core.specs.Handling.{Starts, Handles}
 use Rattle.stream_io.specs.State.{SourceState, DrainState}
-use Rattle.stage_boundary.specs.Entering.{Entering, EnteringFresh, EnteringPortState, EnteringLaw}
-use Rattle.stage_boundary.specs.Leaving.{Leaving, LeavingFresh, LeavingPortState, LeavingLaw}
+use Rattle.nodes.specs.Entering.{Entering, EnteringFresh, EnteringPortState, EnteringLaw}
+use Rattle.nodes.specs.Leaving.{Leaving, LeavingFresh, LeavingPortState, LeavingLaw}
 use Rattle.nodes.specs.Ports.{OneIn, OneInOf, OneOut, OneOutOf}
 use Rattle.nodes.specs.Source.{Lines, lines_port_state, lines_port_state_in, LinesLaw}
 use Rattle.nodes.specs.Sink.{Sink, sink_port_state, sink_port_state_in, SinkLaw}

@@ -7,7 +7,7 @@ use Rattle.stream_io.specs.State.{SourceState, DrainState}
 use Rattle.stream_model.specs.Linear.{Book}
 use Rattle.stage_linear.specs.Handling.{LinearFresh, LinearPortState, LinearLaw}
 use Rattle.stage_state.specs.Handling.{StateFresh, StatePortState, StateLaw}
-use Rattle.kill_core.specs.Public.{SeatState}
+use Rattle.stage_switch.specs.Public.{SeatState}
 use Rattle.stage_state.specs.Moves.{state_picks, state_seat}
 use Rattle.line_chain.specs.Line.{line_whole, line_rest, line_is_open}
 use Rattle.stage_sub.specs.Handling.{SubFresh, SubPortState, SubLaw, sub_picks}
@@ -20,8 +20,8 @@ use Rattle.nodes.specs.declared.node.IslandNode.{IslandNode}
 use Rattle.nodes.specs.declared.node.IslandNode.TheVariants.{Reading, Making, Linear, State, Sub, FanIn, FanOut, Writing, Ignoring, Entering, Leaving}
 use Rattle.nodes.specs.declared.node.NodeEnd.{NodeEnd}
 use Rattle.nodes.specs.declared.node.NodeEnd.TheVariants.{Read, Staged, Wrote}
-use Rattle.stage_boundary.specs.Entering.{EnteringFresh, EnteringPortState, EnteringLaw}
-use Rattle.stage_boundary.specs.Leaving.{LeavingFresh, LeavingPortState, LeavingLaw}
+use Rattle.nodes.specs.Entering.{EnteringFresh, EnteringPortState, EnteringLaw}
+use Rattle.nodes.specs.Leaving.{LeavingFresh, LeavingPortState, LeavingLaw}
 use Rattle.stage_core.specs.declared.phase.Phase.TheVariants.{New}
 use Rattle.nodes.specs.Keeping.{KeepsEnd}
 use Rattle.nodes.specs.Source.{LinesFresh, lines_port_state, LinesLaw}

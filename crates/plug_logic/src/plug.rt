@@ -1,6 +1,6 @@
 // A stage that a caller hands in.
 use crate::logic::Logic;
-use plug_core::head::PlugHead;
+use stream_model::head::PlugHead;
 
 /// A plug: what blueprints have to know of it, and its logic, which is boxed where no other type is named.
 #[derive(Drop)]

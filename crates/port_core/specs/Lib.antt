@@ -12,3 +12,8 @@ pub mod Wire
 pub mod Joint
 pub mod ListFunction
 pub mod Asking
+pub mod Cell
+pub mod Counts
+pub mod Marks
+pub mod Reading
+pub mod Closes

@@ -3,20 +3,20 @@ ghost use Rattle.std.specs.Prelude.{◌<◌};
 
 use blue_check::check::{CheckEnd, check};
 use blue_check::detail::put_detail;
-use blue_core::blueprint::Blueprint;
 use blue_lang::parse::{ParseEnd, parse};
 use blue_lang::print::print;
 use blue_words::fault::{BlueFault, kind_number};
 use case_files::case::{Case, Kind, Wanted, copies};
 use case_files::text::{Fault, line_of, put_number};
 use elem_core::elem_type::{ElemType, TypeForm};
-use plug_core::head::PlugHead;
 use std::alloc::Global;
 use std::sync::Wait;
 use std::thread::Threads;
+use stream_command::RunEnd;
+use stream_command::shipped_run::run_shipped;
 use stream_io::named_file::{NamedFile, bytes_of};
-use stream_shipped::RunEnd;
-use stream_shipped::run::run_shipped;
+use stream_model::blueprint::Blueprint;
+use stream_model::head::PlugHead;
 
 /// The code that stands for want of memory.
 const NO_MEMORY: u32 = 9;

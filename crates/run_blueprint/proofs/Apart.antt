@@ -4,17 +4,17 @@ use Rattle.std.specs.Prelude.{Option, Some, None, ◌||◌, if◌then◌else◌}
 use Rattle.std.specs.Option.{option_map, option_or}
 use Rattle.std.specs.List.{Contains, filter_map, cons_option, list_any}
 use Rattle.stream_model.specs.declared.kind.Kind.{Kind}
-use Rattle.blue_core.specs.declared.blueprint.Blueprint.{Blueprint}
-use Rattle.blue_core.specs.declared.blueprint.Node.{Node}
+use Rattle.stream_model.specs.declared.blueprint.Blueprint.{Blueprint}
+use Rattle.stream_model.specs.declared.blueprint.Node.{Node}
 use Rattle.stream_model.specs.declared.kind.Kind.TheVariants.{Lines, ToLines, Head, Last}
 use Rattle.std.specs.Cmp.Lexicographic.{bytes_decides}
 use Rattle.elem_core.specs.Values.{same_text}
-use Rattle.blue_core.specs.declared.blueprint.ChainDecl.{ChainDecl}
-use Rattle.plug_core.specs.declared.head.PlugHead.{PlugHead}
-use Rattle.blue_rules.specs.Names.{Claim, called, opens, same_claim, text_of, first_again, file_of, opening, claims_of_nodes, claims, taken_twice}
+use Rattle.stream_model.specs.declared.blueprint.ChainDecl.{ChainDecl}
+use Rattle.stream_model.specs.declared.head.PlugHead.{PlugHead}
+use Rattle.blue_names.specs.Names.{Claim, called, opens, same_claim, text_of, first_again, file_of, opening, claims_of_nodes, claims, taken_twice}
 use Rattle.blue_check.specs.declared.fault.CheckFault.TheVariants.{TwoNames}
 use Rattle.blue_check.specs.Fitness.{IsFit}
-use Rattle.run_files.specs.Names.{DistinctNames}
+use Rattle.stream_io.specs.Names.{DistinctNames}
 use Rattle.materializer.specs.Files.{source_file, output_of, inputs_of_nodes, outputs_of_nodes}
 use Rattle.run_blueprint.proofs.Places.{contained_at, unfiltered_at}
 

@@ -27,21 +27,21 @@ use Rattle.nodes.specs.declared.node.NodeEnd.{NodeEnd}
 use Rattle.nodes.specs.declared.node.NodeEnd.TheVariants.{Read, Staged, Wrote}
 use Rattle.nodes.proofs.Drawings.{text_lines-append}
 use Rattle.interpreter.specs.declared.island.IslandEnd.{IslandEnd}
-use Rattle.run_account.specs.Account.{Account}
-use Rattle.run_outlook_laws.specs.Runs.{IsRun}
-use Rattle.run_outlook_laws.specs.Sinks.{SinkTells, SinkWrote}
-use Rattle.blue_core.specs.declared.blueprint.Blueprint.{Blueprint}
-use Rattle.blue_core.specs.declared.blueprint.Node as blue
+use Rattle.run_laws.specs.Account.{Account}
+use Rattle.run_laws.specs.Runs.{IsRun}
+use Rattle.run_laws.specs.Sinks.{SinkTells, SinkWrote}
+use Rattle.stream_model.specs.declared.blueprint.Blueprint.{Blueprint}
+use Rattle.stream_model.specs.declared.blueprint.Node as blue
 use Rattle.blue_check.specs.Fitness.{IsFit}
-use Rattle.plug_core.specs.declared.head.PlugHead.{PlugHead}
+use Rattle.stream_model.specs.declared.head.PlugHead.{PlugHead}
 use Rattle.materializer.specs.Fit.{CanRun}
 use Rattle.materializer.specs.Files.{output_of, inputs_of_nodes, outputs_of_nodes}
 use Rattle.materializer.specs.Graphs.{graph_node, graph_of}
-use Rattle.run_files.specs.Opening.{OpensAll, GivesUp}
-use Rattle.run_files.specs.Closing.{ClosesAll}
-use Rattle.run_files.proofs.Stoppings.{gives_up}
-use Rattle.run_files.proofs.Closings.{adds_more, adds_behind, keeps_more}
-use Rattle.run_files.specs.Names.{drain_names}
+use Rattle.stream_io.specs.Opening.{OpensAll, GivesUp}
+use Rattle.stream_io.specs.Closing.{ClosesAll}
+use Rattle.stream_io.proofs.Stoppings.{gives_up}
+use Rattle.stream_io.proofs.Closings.{adds_more, adds_behind, keeps_more}
+use Rattle.stream_io.specs.Names.{drain_names}
 use Rattle.run_blueprint.specs.Drawing.{Drawn, IsSource, IsWorldOf}
 use Rattle.island_runs.specs.Leaving.{Moment, LeavesBroken, HasHandles, HasAsMany}
 use Rattle.run_blueprint.specs.Opening.{Opens, ClosesAs}

@@ -14,22 +14,22 @@ use Rattle.stream_model.specs.Linear.{Book}
 use Rattle.stream_model.specs.Node.{World}
 use Rattle.stream_model.specs.Outlook.{Outlook, End}
 use Rattle.stream_model.proofs.Compositions.{slice_get-below}
-use Rattle.stage_law.specs.Held.{told}
-use Rattle.stream_picture.specs.Shape.{sent_at}
-use Rattle.run_account.specs.Items.{list_of, end_of_items, AgreesWith}
-use Rattle.run_outlook_laws.specs.Reads.{GivesTexts}
-use Rattle.run_account.proofs.Coming.{elements_told}
-use Rattle.run_account.proofs.Histories.{list_of_told, standing_told}
-use Rattle.blue_core.specs.declared.blueprint.Blueprint.{Blueprint}
-use Rattle.plug_core.specs.declared.head.PlugHead.{PlugHead}
+use Rattle.stage_core.specs.Held.{told}
+use Rattle.stream_model.specs.Shape.{sent_at}
+use Rattle.run_laws.specs.Items.{list_of, end_of_items, AgreesWith}
+use Rattle.run_laws.specs.Reads.{GivesTexts}
+use Rattle.run_laws.proofs.Coming.{elements_told}
+use Rattle.run_laws.proofs.Histories.{list_of_told, standing_told}
+use Rattle.stream_model.specs.declared.blueprint.Blueprint.{Blueprint}
+use Rattle.stream_model.specs.declared.head.PlugHead.{PlugHead}
 use Rattle.blue_check.specs.Fitness.{IsFit}
 use Rattle.blue_check.specs.Wires.{blueprint_wires}
 use Rattle.materializer.specs.Graphs.{graph_node, graph_of}
-use Rattle.run_type_laws.specs.Plugs.{KeepsPlugTypes}
-use Rattle.run_type_laws.specs.Sent.{exact, SendsItsType}
-use Rattle.run_type_laws.specs.Types.{AllTyped}
-use Rattle.run_type_laws.proofs.Sending.{exact_agrees}
-use Rattle.run_type_laws.proofs.Settling.{all_by_rank}
+use Rattle.run_blueprint.specs.Plugs.{KeepsPlugTypes}
+use Rattle.run_blueprint.specs.Sent.{exact, SendsItsType}
+use Rattle.run_blueprint.specs.Types.{AllTyped}
+use Rattle.run_blueprint.proofs.TypeSending.{exact_agrees}
+use Rattle.run_blueprint.proofs.Settling.{all_by_rank}
 use Rattle.interpreter.specs.Picks.{Pick}
 use Rattle.run_blueprint.specs.Carrying.{WiresCarry}
 use Rattle.run_blueprint.specs.Choosing.{HasPicks}

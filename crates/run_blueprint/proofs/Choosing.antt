@@ -17,7 +17,7 @@ use Rattle.stream_model.specs.Node.{World}
 use Rattle.stream_io.specs.State.{SourceState, DrainState}
 use Rattle.stage_linear.specs.States.{IsLinear}
 use Rattle.stage_dropping.specs.Droppings.{Dropping}
-use Rattle.stage_recover.specs.Recoverings.{Recover}
+use Rattle.stage_dropping.specs.Recoverings.{Recover}
 use Rattle.stage_switch.specs.States.{Valve, Trip}
 use Rattle.stage_state.specs.States.{IsMachine}
 use Rattle.stage_state.specs.declared.logic.StateLogic.{StateLogic}
@@ -33,7 +33,7 @@ use Rattle.stage_in.specs.declared.logic.InLogic.{InLogic}
 use Rattle.stage_in.specs.declared.logic.InLogic.TheVariants.{Taking, Sorting, Zipping, Merging}
 use Rattle.stage_in.specs.Logics.{TakesAs, SameKind}
 use Rattle.stage_in.specs.Moves.{in_picks}
-use Rattle.stage_balance.specs.Balancings.{Balancing}
+use Rattle.stage_out.specs.Balancings.{Balancing}
 use Rattle.stage_out.specs.declared.logic.OutLogic.{OutLogic}
 use Rattle.stage_out.specs.declared.logic.OutLogic.TheVariants.{Machines, Balances}
 use Rattle.stage_out.specs.Machines.{IsMachines}
@@ -45,9 +45,9 @@ use Rattle.nodes.specs.Kinds.{IsMaker, IsFileSink}
 use Rattle.nodes.specs.declared.node.IslandNode.{IslandNode}
 use Rattle.nodes.specs.declared.node.IslandNode.TheVariants as node
 use Rattle.interpreter.specs.Picks.{Pick, with_picks, picks_of}
-use Rattle.run_outlook_laws.specs.Made.{FirstOf}
-use Rattle.blue_core.specs.declared.blueprint.Node as blue
-use Rattle.blue_rules.specs.Picks.{picks, is_merged}
+use Rattle.run_laws.specs.Made.{FirstOf}
+use Rattle.stream_model.specs.declared.blueprint.Node as blue
+use Rattle.blue_names.specs.Picks.{picks, is_merged}
 use Rattle.materializer.specs.Graphs.{graph_node}
 use Rattle.run_blueprint.specs.Choosing.{pick_places, picked, HasPicks}
 use Rattle.stream_model.specs.Linear.{Book}

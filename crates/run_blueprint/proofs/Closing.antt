@@ -19,12 +19,12 @@ use Rattle.stream_model.specs.Outlook.{Outlook}
 use Rattle.stream_model.specs.Composed.{next, composed, sink_outlook, IsRanked, inputs_of}
 use Rattle.stream_model.specs.Fits.{Fits}
 use Rattle.stream_model.proofs.Compositions.{found_first}
-use Rattle.stream_picture.specs.Lawful.{IsLawful}
-use Rattle.stream_picture.specs.OneWay as oneway
-use Rattle.stream_picture.specs.Rests.{Rests, SinksMatch}
-use Rattle.stream_picture.specs.Shape.{IsPolytree, IsWired, sent_at, need, count_needed}
-use Rattle.stream_picture.specs.View.{EachWire, ins, outputs_of}
-use Rattle.run_picture_laws.specs.Picture.{has_ended, sink_ended, ended_there}
+use Rattle.stream_model.specs.Lawful.{IsLawful}
+use Rattle.stream_model.specs.OneWay as oneway
+use Rattle.stream_model.specs.Rests.{Rests, SinksMatch}
+use Rattle.stream_model.specs.Shape.{IsPolytree, IsWired, sent_at, need, count_needed}
+use Rattle.stream_model.specs.View.{EachWire, ins, outputs_of}
+use Rattle.run_laws.specs.Picture.{has_ended, sink_ended, ended_there}
 use Rattle.stream_io.specs.Counts.{Grew}
 use Rattle.stream_io.specs.State.{FolderState, SourceState, DrainState}
 use Rattle.stream_io.specs.Reading.{FirstTooLong}
@@ -35,31 +35,31 @@ use Rattle.nodes.specs.Ignoring.{Ignorer}
 use Rattle.nodes.specs.declared.node.IslandNode.{IslandNode}
 use Rattle.nodes.specs.declared.node.IslandNode.TheVariants as node
 use Rattle.interpreter.specs.Picks.{pick_of}
-use Rattle.run_account.specs.Account.{Account, IsStill, took}
-use Rattle.run_account.specs.Items.{AgreesWith}
-use Rattle.run_account.specs.Pictures as pictures
-use Rattle.run_account.specs.Ports.{wire_count}
-use Rattle.run_account.proofs.Coming.{elements_told}
-use Rattle.run_account.proofs.Pictures.{counts_at}
-use Rattle.run_outlook_laws.specs.Runs.{IsRun}
-use Rattle.run_outlook_laws.specs.Telling.{TellsPicks, WorldTells, AreSettled}
-use Rattle.run_outlook_laws.proofs.Choosing.{chosen_told}
-use Rattle.run_outlook_laws.specs.Sinks.{TookList, SinkWrote, SentTo, IsSinkAt, IgnoreTells, IsIgnorerAt}
-use Rattle.run_outlook_laws.specs.Reads.{IsSourceAt, ReadsAhead, SentLines, GivesTexts}
-use Rattle.blue_core.specs.declared.blueprint.Blueprint.{Blueprint}
-use Rattle.blue_core.specs.declared.blueprint.ChainDecl.{ChainDecl}
-use Rattle.blue_core.specs.declared.blueprint.Node as blue
+use Rattle.run_laws.specs.Account.{Account, IsStill, took}
+use Rattle.run_laws.specs.Items.{AgreesWith}
+use Rattle.run_laws.specs.Pictures as pictures
+use Rattle.run_laws.specs.Ports.{wire_count}
+use Rattle.run_laws.proofs.Coming.{elements_told}
+use Rattle.run_laws.proofs.Pictures.{counts_at}
+use Rattle.run_laws.specs.Runs.{IsRun}
+use Rattle.run_laws.specs.Telling.{TellsPicks, WorldTells, AreSettled}
+use Rattle.run_laws.proofs.Choosing.{chosen_told}
+use Rattle.run_laws.specs.Sinks.{TookList, SinkWrote, SentTo, IsSinkAt, IgnoreTells, IsIgnorerAt}
+use Rattle.run_laws.specs.Reads.{IsSourceAt, ReadsAhead, SentLines, GivesTexts}
+use Rattle.stream_model.specs.declared.blueprint.Blueprint.{Blueprint}
+use Rattle.stream_model.specs.declared.blueprint.ChainDecl.{ChainDecl}
+use Rattle.stream_model.specs.declared.blueprint.Node as blue
 use Rattle.blue_check.specs.Fitness.{IsFit}
 use Rattle.blue_check.specs.Wires.{blueprint_wires}
-use Rattle.blue_walks.specs.Forest.{wiring}
-use Rattle.plug_core.specs.declared.head.PlugHead.{PlugHead}
+use Rattle.blue_check.specs.Forest.{wiring}
+use Rattle.stream_model.specs.declared.head.PlugHead.{PlugHead}
 use Rattle.materializer.specs.Fit.{CanRun}
 use Rattle.materializer.specs.Files.{output_of, inputs_of_nodes, outputs_of_nodes, is_sink}
 use Rattle.materializer.specs.Graphs.{graph_node, graph_of, graph_chain}
-use Rattle.run_files.specs.Names.{drain_names}
-use Rattle.run_type_laws.specs.Checked.{PassesRules}
-use Rattle.run_type_laws.specs.Plugs.{KeepsPlugTypes}
-use Rattle.run_type_laws.specs.Sent.{SendsItsType}
+use Rattle.stream_io.specs.Names.{drain_names}
+use Rattle.run_blueprint.specs.Checked.{PassesRules}
+use Rattle.run_blueprint.specs.Plugs.{KeepsPlugTypes}
+use Rattle.run_blueprint.specs.Sent.{SendsItsType}
 use Rattle.run_blueprint.specs.Carrying.{WiresCarry}
 use Rattle.run_blueprint.specs.Choosing.{picked}
 use Rattle.run_blueprint.proofs.Carried.{unread, told_sent, carries}

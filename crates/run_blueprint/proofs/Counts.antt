@@ -3,7 +3,7 @@ use Rattle.std.proofs.Common.{◌≡◌, ◌≢◌, ◌⊎◌, inl, inr, ℕ, ze
 use Rattle.std.specs.Prelude.{IsTrue, Option, Some, None, IsSome, slice_index_or}
 use Rattle.std.specs.List.{Contains}
 use Rattle.stream_io.specs.Counts.{Rose, Grew, last_count}
-use Rattle.run_files.proofs.Counts.{grew_two, same_name}
+use Rattle.stream_io.proofs.Counts.{grew_two, same_name}
 
 -- it did not rise, and then it grew
 pub grew_behind : (a b c n : ℕ) → Grew a 0 b → Grew b n c → Grew a n c

@@ -11,12 +11,12 @@ use Rattle.stream_io.specs.State.{FolderState, SourceState, DrainState}
 use Rattle.nodes.specs.Source.{Lines}
 use Rattle.nodes.specs.declared.node.IslandNode.{IslandNode}
 use Rattle.nodes.specs.declared.node.IslandNode.TheVariants as node
-use Rattle.run_account.specs.Account.{Account}
+use Rattle.run_laws.specs.Account.{Account}
 use Rattle.interpreter.specs.Picks.{picks_of}
-use Rattle.run_outlook_laws.specs.Telling.{TellsFile, TellsNode, TellsFiles, TellsPicks, WorldTells, moves_at}
-use Rattle.blue_core.specs.declared.blueprint.Blueprint.{Blueprint}
-use Rattle.blue_rules.specs.Names.{file_of}
-use Rattle.blue_core.specs.declared.blueprint.Node as blue
+use Rattle.run_laws.specs.Telling.{TellsFile, TellsNode, TellsFiles, TellsPicks, WorldTells, moves_at}
+use Rattle.stream_model.specs.declared.blueprint.Blueprint.{Blueprint}
+use Rattle.blue_names.specs.Names.{file_of}
+use Rattle.stream_model.specs.declared.blueprint.Node as blue
 use Rattle.materializer.specs.Fit.{CanRun}
 use Rattle.materializer.specs.Files.{inputs_of_nodes, outputs_of_nodes}
 use Rattle.materializer.specs.Graphs.{graph_node, graph_of, chains_of}

@@ -17,20 +17,20 @@ use Rattle.nodes.specs.declared.node.IslandNode.TheVariants as node
 use Rattle.interpreter.specs.declared.parts.Seated.{Seated}
 use Rattle.interpreter.specs.Parts.{AllBecome}
 use Rattle.interpreter.specs.Island.{sinks_of}
-use Rattle.run_account.specs.Account.{Account, knows, took, gave}
-use Rattle.run_account.proofs.Nodes.{kept_as}
-use Rattle.run_outlook_laws.specs.Made.{FirstOf}
-use Rattle.run_outlook_laws.specs.Runs.{IsRun}
-use Rattle.run_outlook_laws.specs.Sinks.{IsSinkAt}
-use Rattle.run_outlook_laws.specs.Reads.{IsSourceAt}
-use Rattle.blue_core.specs.declared.blueprint.Blueprint.{Blueprint}
-use Rattle.blue_core.specs.declared.blueprint.Node as blue
+use Rattle.run_laws.specs.Account.{Account, knows, took, gave}
+use Rattle.run_laws.proofs.Nodes.{kept_as}
+use Rattle.run_laws.specs.Made.{FirstOf}
+use Rattle.run_laws.specs.Runs.{IsRun}
+use Rattle.run_laws.specs.Sinks.{IsSinkAt}
+use Rattle.run_laws.specs.Reads.{IsSourceAt}
+use Rattle.stream_model.specs.declared.blueprint.Blueprint.{Blueprint}
+use Rattle.stream_model.specs.declared.blueprint.Node as blue
 use Rattle.materializer.specs.Files.{output_of, inputs_of_nodes, outputs_of_nodes, is_sink}
 use Rattle.materializer.specs.Graphs.{graph_node, graph_of, chains_of}
 use Rattle.materializer.specs.Handed.{ReadsSourceFile, WritesFile}
 use Rattle.materializer.specs.Seats.{AreSeats}
-use Rattle.run_files.specs.Names.{source_names, drain_names}
-use Rattle.run_files.specs.Opening.{AtStart, HoldsNone}
+use Rattle.stream_io.specs.Names.{source_names, drain_names}
+use Rattle.stream_io.specs.Opening.{AtStart, HoldsNone}
 use Rattle.run_blueprint.specs.Opening.{Opens}
 use Rattle.run_blueprint.specs.Drawing.{IsSource}
 use Rattle.island_runs.specs.Leaving.{Moment}

@@ -10,8 +10,8 @@ use Rattle.stream_model.specs.Graph as graph
 use Rattle.stream_model.specs.declared.kind.Kind.{Kind}
 use Rattle.stream_model.specs.declared.kind.Kind.TheVariants as kind
 use Rattle.stream_model.specs.declared.outcome.EndState.TheVariants.{WriteFault}
-use Rattle.stream_picture.specs.View.{outputs_of}
-use Rattle.stream_picture.specs.OneWay as oneway
+use Rattle.stream_model.specs.View.{outputs_of}
+use Rattle.stream_model.specs.OneWay as oneway
 use Rattle.stream_io.specs.State.{SourceState, DrainState}
 use Rattle.stage_linear.specs.States.{IsLinear}
 use Rattle.stage_state.specs.Logics.{IsStateful}
@@ -26,9 +26,9 @@ use Rattle.nodes.specs.Source.{Lines}
 use Rattle.nodes.specs.declared.node.IslandNode.{IslandNode}
 use Rattle.nodes.specs.declared.node.IslandNode.TheVariants as node
 use Rattle.interpreter.specs.Island.{sinks_of, readers_of, writers_of}
-use Rattle.run_outlook_laws.specs.Made.{FirstOf}
-use Rattle.run_picture_laws.specs.Picture.{has_ended}
-use Rattle.blue_core.specs.declared.blueprint.Node as blue
+use Rattle.run_laws.specs.Made.{FirstOf}
+use Rattle.run_laws.specs.Picture.{has_ended}
+use Rattle.stream_model.specs.declared.blueprint.Node as blue
 use Rattle.materializer.specs.Files.{source_file, output_of, is_sink}
 use Rattle.materializer.specs.Graphs.{graph_node}
 use Rattle.run_blueprint.specs.Stands.{SinkStand, sink_places, has_ended_at}

@@ -11,9 +11,9 @@ use Rattle.port_core.specs.Joint.{IsSound}
 use Rattle.port_core.specs.declared.view.InView.{InView}
 use Rattle.port_core.specs.declared.view.InView.TheVariants.{Pulled}
 use Rattle.port_core.specs.declared.view.OutView.{OutView}
-use Rattle.wire_core.specs.Cell.{WireState}
-use Rattle.wire_core.specs.Marks.{wanted}
-use Rattle.wire_core.specs.Reading.{inp_of, got_of}
+use Rattle.port_core.specs.Cell.{WireState}
+use Rattle.port_core.specs.Marks.{wanted}
+use Rattle.port_core.specs.Reading.{inp_of, got_of}
 use Rattle.stream_model.specs.declared.kind.Kind.TheVariants as kind
 use Rattle.stream_model.specs.declared.outcome.EndState.{EndState}
 use Rattle.stream_model.specs.declared.outcome.EndState.TheVariants.{Ended, Failed, Unended, WriteFault}
@@ -27,24 +27,24 @@ use Rattle.stream_model.specs.Outlook.{Outlook, End, unended, ended, failed, Agr
 use Rattle.stream_model.proofs.Compositions.{slice_get-below}
 use Rattle.stream_model.proofs.Lanes.{carried}
 use Rattle.stream_io.specs.State.{SourceState, DrainState}
-use Rattle.stage_law.specs.Held.{told}
+use Rattle.stage_core.specs.Held.{told}
 use Rattle.nodes.specs.declared.node.IslandNode.{IslandNode}
 use Rattle.nodes.specs.declared.node.IslandNode.TheVariants as node
 use Rattle.nodes.specs.Ignoring.{Ignorer, IgnoreLaw, EndsWith}
 use Rattle.nodes.specs.Nodes.{node_port_state, node_law, node_asking, node_moves}
 use Rattle.nodes.specs.Ports.{OneInOf}
 use Rattle.nodes.specs.Sink.{Sink, sink_port_state_in, end_seen}
-use Rattle.run_account.specs.Account.{Account, knows, took, gave, WireKeeps, IsStill}
-use Rattle.run_account.specs.Items.{list_of, end_of_items, lane_size, AgreesWith, ArrivedOf}
-use Rattle.run_account.proofs.Carrying.{wire_brings, carries_part}
-use Rattle.run_account.proofs.Coming.{elements_prefix, elements_told, no_fewer, resting_same}
-use Rattle.run_account.proofs.Histories.{list_of_told, standing_told}
-use Rattle.run_account.proofs.Nodes.{kept_as, one_input, read_one}
-use Rattle.run_account.proofs.Standing.{in_rests}
-use Rattle.run_outlook_laws.specs.Runs.{IsRun}
-use Rattle.run_outlook_laws.specs.Sinks.{TookList, SentTo, IsSinkAt, IgnoreTells, IsIgnorerAt}
-use Rattle.run_outlook_laws.proofs.Faults.{sent_wanted}
-use Rattle.run_outlook_laws.proofs.Passing.{passing_agrees}
+use Rattle.run_laws.specs.Account.{Account, knows, took, gave, WireKeeps, IsStill}
+use Rattle.run_laws.specs.Items.{list_of, end_of_items, lane_size, AgreesWith, ArrivedOf}
+use Rattle.run_laws.proofs.Carrying.{wire_brings, carries_part}
+use Rattle.run_laws.proofs.Coming.{elements_prefix, elements_told, no_fewer, resting_same}
+use Rattle.run_laws.proofs.Histories.{list_of_told, standing_told}
+use Rattle.run_laws.proofs.Nodes.{kept_as, one_input, read_one}
+use Rattle.run_laws.proofs.Standing.{in_rests}
+use Rattle.run_laws.specs.Runs.{IsRun}
+use Rattle.run_laws.specs.Sinks.{TookList, SentTo, IsSinkAt, IgnoreTells, IsIgnorerAt}
+use Rattle.run_laws.proofs.Faults.{sent_wanted}
+use Rattle.run_laws.proofs.Passing.{passing_agrees}
 use Rattle.run_blueprint.specs.Sending.{SentOn}
 
 -- ---- one wire

@@ -4,8 +4,8 @@ use Rattle.std.specs.Prelude.{IsTrue, Option, Some, None, slice_index_or}
 use Rattle.std.specs.List.{All, Contains}
 use Rattle.stream_io.specs.Counts.{Grew}
 use Rattle.stream_io.specs.State.{FolderState, SourceState, DrainState, ClosesDrain, SameRefusals}
-use Rattle.run_files.specs.Names.{source_names, drain_names, DistinctNames}
-use Rattle.run_files.specs.Closing.{ClosesAll}
+use Rattle.stream_io.specs.Names.{source_names, drain_names, DistinctNames}
+use Rattle.stream_io.specs.Closing.{ClosesAll}
 use Rattle.run_blueprint.specs.Opening.{ClosesAs}
 use Rattle.run_blueprint.proofs.Places.{place_of, place_reads, mapped_at, contains_at}
 

@@ -11,14 +11,14 @@ use Rattle.nodes.specs.Sink.{Sink}
 use Rattle.nodes.specs.declared.node.IslandNode.{IslandNode}
 use Rattle.nodes.specs.declared.node.IslandNode.TheVariants as node
 use Rattle.interpreter.specs.Island.{readers_of, writers_of}
-use Rattle.blue_core.specs.declared.blueprint.Blueprint.{Blueprint}
-use Rattle.blue_core.specs.declared.blueprint.Node as blue
+use Rattle.stream_model.specs.declared.blueprint.Blueprint.{Blueprint}
+use Rattle.stream_model.specs.declared.blueprint.Node as blue
 use Rattle.materializer.specs.Fit.{CanRun}
 use Rattle.materializer.specs.Files.{source_file, output_of, inputs_of_nodes, outputs_of_nodes}
-use Rattle.run_files.specs.Names.{source_names, drain_names, DistinctNames}
+use Rattle.stream_io.specs.Names.{source_names, drain_names, DistinctNames}
 use Rattle.run_blueprint.specs.Opening.{Opens}
 use Rattle.run_blueprint.proofs.Shuts.{Shuts}
-use Rattle.run_files.proofs.Counts.{grew_same}
+use Rattle.stream_io.proofs.Counts.{grew_same}
 use Rattle.run_blueprint.proofs.Places.{all_at, mapped_at, filtered_at, filtered_along, map_two}
 use Rattle.run_blueprint.proofs.Counts.{grew_behind}
 use Rattle.run_blueprint.proofs.Apart.{inputs_distinct, outputs_distinct}

@@ -8,14 +8,14 @@ use Rattle.stream_io.specs.Counts.{Rose, Grew}
 use Rattle.stream_io.specs.State.{FolderState, SourceState, DrainState, ClosesDrain}
 use Rattle.stream_model.specs.declared.outcome.PickList.{PickList}
 use Rattle.interpreter.specs.Picks.{Pick, pick_of}
-use Rattle.blue_core.specs.declared.blueprint.Blueprint.{Blueprint}
+use Rattle.stream_model.specs.declared.blueprint.Blueprint.{Blueprint}
 use Rattle.materializer.specs.Choices.{pick_names}
 use Rattle.materializer.specs.Files.{inputs_of_nodes, outputs_of_nodes}
-use Rattle.run_files.specs.Quiet.{Quiet}
-use Rattle.run_files.specs.Names.{drain_names}
-use Rattle.run_files.specs.Opening.{HoldsNone, OpensAll}
-use Rattle.run_files.specs.Closing.{ClosesAll}
-use Rattle.run_files.proofs.Counts.{rose_after}
+use Rattle.stream_io.specs.Quiet.{Quiet}
+use Rattle.stream_io.specs.Names.{drain_names}
+use Rattle.stream_io.specs.Opening.{HoldsNone, OpensAll}
+use Rattle.stream_io.specs.Closing.{ClosesAll}
+use Rattle.stream_io.proofs.Counts.{rose_after}
 use Rattle.run_report.specs.Trace.{trace_text, moves_in}
 use Rattle.stream_io.specs.Putting.{Puts, PutsPart}
 use Rattle.run_blueprint.specs.Opening.{Opens, OpensTrace, OpensAs, WritesAs, ClosesAs}

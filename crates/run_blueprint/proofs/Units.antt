@@ -7,9 +7,9 @@ use Rattle.elem_core.specs.declared.item.Item.{Item}
 use Rattle.elem_core.proofs.Prefixes.{prefix_length}
 use Rattle.stream_model.specs.Graph.{Edge}
 use Rattle.stream_model.specs.Outlook.{Outlook, End, unended, ended, failed, Agrees}
-use Rattle.stream_picture.specs.Shape.{units_of, need_from}
-use Rattle.run_account.specs.Items.{AgreesWith}
-use Rattle.run_account.proofs.Coming.{elements_told}
+use Rattle.stream_model.specs.Shape.{units_of, need_from}
+use Rattle.run_laws.specs.Items.{AgreesWith}
+use Rattle.run_laws.proofs.Coming.{elements_told}
 
 units_more : (o : Option ℕ) (m n : ℕ) → m ≤ n → units_of o m ≤ units_of o n
 units_more None m n h = omega (arith, h)

@@ -9,9 +9,9 @@ use Rattle.stream_model.specs.Graph.{Graph}
 use Rattle.stream_model.specs.Linear.{Book}
 use Rattle.stream_model.specs.Node.{World}
 use Rattle.stream_model.specs.Sources.{File}
-use Rattle.stream_picture.specs.Shape.{Walk, stay, along, IsPolytree}
-use Rattle.blue_core.specs.declared.blueprint.Node as blue
-use Rattle.blue_walks.specs.Forest.{wiring}
+use Rattle.stream_model.specs.Shape.{Walk, stay, along, IsPolytree}
+use Rattle.stream_model.specs.declared.blueprint.Node as blue
+use Rattle.blue_check.specs.Forest.{wiring}
 use Rattle.run_blueprint.specs.Choosing.{HasPicks}
 use Rattle.run_blueprint.specs.Drawing.{Drawn, IsWorldOf}
 

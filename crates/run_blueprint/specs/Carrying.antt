@@ -8,20 +8,20 @@ use Rattle.stream_model.specs.Composed.{next}
 use Rattle.stream_model.specs.Graph.{Edge}
 use Rattle.stream_model.specs.Node.{World}
 use Rattle.stream_model.specs.Outlook.{End, Agrees}
-use Rattle.stream_picture.specs.Shape.{sent_at}
-use Rattle.blue_core.specs.declared.blueprint.Blueprint.{Blueprint}
-use Rattle.blue_core.specs.declared.blueprint.Node.{Node}
-use Rattle.plug_core.specs.declared.head.PlugHead.{PlugHead}
+use Rattle.stream_model.specs.Shape.{sent_at}
+use Rattle.stream_model.specs.declared.blueprint.Blueprint.{Blueprint}
+use Rattle.stream_model.specs.declared.blueprint.Node.{Node}
+use Rattle.stream_model.specs.declared.head.PlugHead.{PlugHead}
 use Rattle.blue_check.specs.Fitness.{IsFit}
 use Rattle.blue_check.specs.Wires.{blueprint_wires}
 use Rattle.materializer.specs.Graphs.{graph_of}
-use Rattle.run_type_laws.specs.Checked.{wire_type}
-use Rattle.run_type_laws.specs.Sent.{exact}
-use Rattle.run_type_laws.specs.Types.{AllTyped}
+use Rattle.run_blueprint.specs.Checked.{wire_type}
+use Rattle.run_blueprint.specs.Sent.{exact}
+use Rattle.run_blueprint.specs.Types.{AllTyped}
 use Rattle.interpreter.specs.Picks.{Pick}
 use Rattle.run_blueprint.specs.Choosing.{HasPicks}
 use Rattle.stream_model.specs.Linear.{Book}
-use Rattle.run_type_laws.specs.Plugs.{KeepsPlugTypes}
+use Rattle.run_blueprint.specs.Plugs.{KeepsPlugTypes}
 
 -- the type that the check settles for a wire
 abbrev pub settled_type : Blueprint → List PlugHead → Edge → Option Sort

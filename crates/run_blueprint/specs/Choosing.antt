@@ -1,8 +1,8 @@
 -- What the stages of a run chose.
 use Rattle.std.specs.Prelude.{◌≡◌, ℕ, ◌+◌, List, [], ◌∷◌, map, slice_get, Some, if◌then◌else◌}
 use Rattle.stream_model.specs.Node.{World}
-use Rattle.blue_core.specs.declared.blueprint.Node.{Node}
-use Rattle.blue_rules.specs.Picks.{picks}
+use Rattle.stream_model.specs.declared.blueprint.Node.{Node}
+use Rattle.blue_names.specs.Picks.{picks}
 use Rattle.interpreter.specs.Picks.{Pick}
 
 -- the numbers of the stages whose kinds choose among these nodes, which are numbered from k

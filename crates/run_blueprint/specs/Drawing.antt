@@ -1,7 +1,7 @@
 -- What the sources of a run drew of their files, and what its stages chose.
 use Rattle.std.specs.Prelude.{◌≡◌, ℕ, ◌+◌, ◌≤◌, ◌⊎◌, Bool, false, IsTrue, List, ◌++◌, length, slice_get, Some}
 use Rattle.elem_core.specs.Text.{lines}
-use Rattle.blue_core.specs.declared.blueprint.Node.{Node}
+use Rattle.stream_model.specs.declared.blueprint.Node.{Node}
 use Rattle.stream_model.specs.declared.kind.Kind.TheVariants.{Lines}
 use Rattle.stream_model.specs.Node.{World}
 use Rattle.stream_io.specs.Counts.{Rose, Grew}

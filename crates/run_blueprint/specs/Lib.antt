@@ -1,3 +1,8 @@
+pub mod Types
+pub mod Kinds
+pub mod Plugs
+pub mod Checked
+pub mod Sent
 pub mod Choosing
 pub mod Drawing
 pub mod Stands

@@ -2,9 +2,9 @@
 use Rattle.std.specs.Prelude.{◌≡◌, ℕ, IsTrue, List, Option, Some, None, Bool, true, false, ⊤}
 use Rattle.std.specs.List.{All, Contains}
 use Rattle.stream_io.specs.State.{FolderState, SourceState, DrainState, ClosesDrain}
-use Rattle.run_files.specs.Quiet.{Quiet}
-use Rattle.run_files.specs.Names.{source_names, drain_names}
-use Rattle.run_files.specs.Opening.{AtStart, HoldsNone}
+use Rattle.stream_io.specs.Quiet.{Quiet}
+use Rattle.stream_io.specs.Names.{source_names, drain_names}
+use Rattle.stream_io.specs.Opening.{AtStart, HoldsNone}
 use Rattle.stream_io.specs.Putting.{Puts, PutsPart}
 
 -- these inputs and these outputs were opened, in their order, and the outputs are empty; of other files only these others may have

@@ -3,10 +3,10 @@ use Rattle.std.specs.Prelude.{◌≡◌, ◌≢◌, ℕ, ◌+◌, ◌≤◌, ◌
 use Rattle.std.specs.List.{Contains, list_any}
 use Rattle.elem_core.specs.Prefix.{IsPrefix}
 use Rattle.elem_core.specs.Text.{text_lines}
-use Rattle.blue_core.specs.declared.blueprint.Blueprint.{Blueprint}
-use Rattle.blue_core.specs.declared.blueprint.Node.{Node}
+use Rattle.stream_model.specs.declared.blueprint.Blueprint.{Blueprint}
+use Rattle.stream_model.specs.declared.blueprint.Node.{Node}
 use Rattle.blue_check.specs.Wires.{blueprint_wires}
-use Rattle.blue_walks.specs.Forest.{wiring}
+use Rattle.blue_check.specs.Forest.{wiring}
 use Rattle.stream_model.specs.declared.kind.Kind.TheVariants.{ToLines, Ignore}
 use Rattle.stream_model.specs.declared.outcome.WireCount.{WireCount}
 use Rattle.stream_model.specs.declared.outcome.EndState.{EndState}
@@ -16,16 +16,16 @@ use Rattle.stream_model.specs.Node.{World}
 use Rattle.stream_model.specs.Composed.{composed, sink_outlook}
 use Rattle.stream_model.specs.Fits.{Fits}
 use Rattle.stream_model.specs.Sources.{whole_lines}
-use Rattle.stream_picture.specs.Lawful.{IsLawful}
-use Rattle.stream_picture.specs.Rests.{Rests, SinksMatch}
-use Rattle.stream_picture.specs.Shape.{IsPolytree, sent_at, need, count_needed}
+use Rattle.stream_model.specs.Lawful.{IsLawful}
+use Rattle.stream_model.specs.Rests.{Rests, SinksMatch}
+use Rattle.stream_model.specs.Shape.{IsPolytree, sent_at, need, count_needed}
 use Rattle.stream_io.specs.Counts.{Rose, Grew}
 use Rattle.stream_io.specs.State.{FolderState}
-use Rattle.run_outlook_laws.specs.Sinks.{SinkTells, IgnoreTells}
+use Rattle.run_laws.specs.Sinks.{SinkTells, IgnoreTells}
 use Rattle.materializer.specs.Graphs.{graph_node, graph_of}
 use Rattle.materializer.specs.Files.{output_of, inputs_of_nodes, outputs_of_nodes}
-use Rattle.run_files.specs.Quiet.{Quiet}
-use Rattle.run_files.specs.Opening.{GivesUp}
+use Rattle.stream_io.specs.Quiet.{Quiet}
+use Rattle.stream_io.specs.Opening.{GivesUp}
 use Rattle.interpreter.specs.Picks.{Pick, pick_of}
 use Rattle.run_blueprint.specs.Carrying.{WiresCarry}
 use Rattle.run_blueprint.specs.Choosing.{pick_places, picked}

@@ -2,7 +2,7 @@
 use Rattle.std.specs.Prelude.{◌≡◌, ℕ, ◌+◌, ◌≤◌, Option, None, Some}
 use Rattle.stream_model.specs.declared.outcome.EndState.{EndState}
 use Rattle.stream_model.specs.declared.outcome.EndState.TheVariants.{Ended, Failed, Unended, WriteFault}
-use Rattle.run_outlook_laws.specs.Sinks.{SentTo}
+use Rattle.run_laws.specs.Sinks.{SentTo}
 
 -- So many elements were sent on the wire of a sink of lines that wrote `count` lines. Of a lane it is counted what was pushed into
 -- it: as many where a normal end came; and else as on any wire, and so many more at most as the lane has places.

@@ -1,10 +1,10 @@
 -- How the sinks of a run stand at its end, in order of nodes.
 use Rattle.std.specs.Prelude.{ℕ, ◌+◌, ◌==◌, Bool, true, false, if◌then◌else◌, List, [], ◌∷◌}
-use Rattle.blue_core.specs.declared.blueprint.Node.{Node}
+use Rattle.stream_model.specs.declared.blueprint.Node.{Node}
 use Rattle.stream_model.specs.declared.outcome.EndState.{EndState}
 use Rattle.stream_model.specs.declared.outcome.EndState.TheVariants.{Failed, Unended, WriteFault}
 use Rattle.materializer.specs.Files.{is_sink}
-use Rattle.run_picture_laws.specs.Picture.{has_ended}
+use Rattle.run_laws.specs.Picture.{has_ended}
 
 -- the number of the sink's node, how many whole lines it wrote, and how it stands
 abbrev pub SinkStand : Type 0

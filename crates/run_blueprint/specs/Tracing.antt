@@ -6,7 +6,7 @@ use Rattle.elem_core.specs.Prefix.{IsPrefix}
 use Rattle.stream_io.specs.Counts.{Rose, Grew}
 use Rattle.stream_io.specs.State.{FolderState}
 use Rattle.interpreter.specs.Picks.{Pick}
-use Rattle.blue_core.specs.declared.blueprint.Blueprint.{Blueprint}
+use Rattle.stream_model.specs.declared.blueprint.Blueprint.{Blueprint}
 use Rattle.materializer.specs.Choices.{pick_names}
 use Rattle.materializer.specs.Files.{inputs_of_nodes, outputs_of_nodes}
 use Rattle.run_report.specs.Trace.{trace_text}

@@ -1,9 +1,9 @@
 -- What the picture of a run says of the units that were used.
 use Rattle.std.specs.Prelude.{◌≡◌, ℕ, ◌+◌, ◌≤◌, List, length}
-use Rattle.blue_core.specs.declared.blueprint.Blueprint.{Blueprint}
+use Rattle.stream_model.specs.declared.blueprint.Blueprint.{Blueprint}
 use Rattle.blue_check.specs.Wires.{blueprint_wires}
 use Rattle.stream_model.specs.declared.outcome.WireCount.{WireCount}
-use Rattle.stream_picture.specs.Shape.{count_needed}
+use Rattle.stream_model.specs.Shape.{count_needed}
 use Rattle.materializer.specs.Graphs.{graph_of}
 use Rattle.bodies_run.specs.Counts.{all_sent}
 

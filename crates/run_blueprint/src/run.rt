@@ -1,13 +1,13 @@
 // The run of a blueprint over a folder.
 ghost use Rattle.std.specs.Prelude.{◌≡◌, ◌+◌, ◌-◌, ◌<◌, ◌≤◌, ◌++◌, [], ℕ, List, Option, IfOk, IfErr, Err, Bool, true, false, IsTrue, map, length, vec_len, is_some};
 ghost use Rattle.std.specs.Option.{option_map, option_to_list};
-ghost use Rattle.blue_core.specs.declared.blueprint.Blueprint as plan;
+ghost use Rattle.stream_model.specs.declared.blueprint.Blueprint as plan;
 ghost use Rattle.stream_io.specs.State.{FolderState};
 ghost use Rattle.materializer.specs.Fit.{CanRun};
 ghost use Rattle.materializer.specs.Choices.{pick_names};
 ghost use Rattle.materializer.specs.Files.{inputs_of_nodes, outputs_of_nodes};
-ghost use Rattle.run_files.specs.Opening.{MissesInput, RefusesOutput};
-ghost use Rattle.run_files.specs.Closing.{ClosesAll};
+ghost use Rattle.stream_io.specs.Opening.{MissesInput, RefusesOutput};
+ghost use Rattle.stream_io.specs.Closing.{ClosesAll};
 ghost use Rattle.run_report.specs.Trace.{trace_text, moves_in};
 ghost use Rattle.island_runs.specs.Leaving.{RunLeaves, LeavesBroken, HasAsMany};
 ghost use Rattle.run_blueprint.specs.Receipt.{IsReceipt};
@@ -16,9 +16,9 @@ ghost use Rattle.run_blueprint.specs.Running.{Runs, Wants, WantsWithin};
 ghost use Rattle.run_blueprint.specs.Tracing.{written_files, IsApart};
 ghost use Rattle.std.specs.List.{All};
 ghost use Rattle.elem_core.specs.declared.count.TheConstants.{MOST_COUNT};
-ghost use Rattle.plug_board.specs.Handed.{GivesAsListed, HasPlugs};
+ghost use Rattle.materializer.specs.HandedPlugs.{GivesAsListed, HasPlugs};
 
-use blue_core::blueprint::Blueprint;
+use crate::laws::{every_wire_carries_its_type, fit_blueprints_pass_the_rules};
 use dispatcher::ran::Ran;
 use elem_core::line::Line;
 use elem_core::why::NoMemory;
@@ -30,23 +30,23 @@ use materializer::names::{input_names, output_names, pick_names};
 use plug_logic::book::PlugBook;
 use plug_logic::logic::Logic;
 use plug_logic::plug::Plug;
-use run_files::close::close_all;
-use run_files::open::{OpenEnd, Opened, open_all};
-use run_outlook_laws::laws::{
+use run_laws::outlook_laws::{
     every_node_gives_of_what_came, every_sink_agrees, every_sink_counts_its_lines,
     every_sink_writes, every_source_reads_little_ahead, every_wire_agrees,
 };
-use run_picture_laws::laws::{
+use run_laws::picture_laws::{
     a_picture_without_events_rests, every_move_fits, every_picture_is_lawful,
 };
 use run_report::trace::put_trace;
-use run_type_laws::laws::{every_wire_carries_its_type, fit_blueprints_pass_the_rules};
 use std::alloc::Global;
 use std::sync::Wait;
 use std::thread::Threads;
+use stream_io::close::close_all;
+use stream_io::open::{OpenEnd, Opened, open_all};
 use stream_io::outside::{Drain, Folder};
+use stream_model::blueprint::Blueprint;
 use stream_model::outcome::{PickList, WireCount};
-use stream_picture::laws::polytrees_end;
+use stream_model::picture_laws::polytrees_end;
 
 /// What a run came to: of each sink, in order of nodes, its node, how many whole lines it wrote and how it stands; the moves of
 /// each stage whose kind chooses, in order of nodes; what each wire carried; how many units were used, and whether no event was left;

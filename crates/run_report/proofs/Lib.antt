@@ -1,2 +1,12 @@
 pub mod Puttings
 pub mod Tracing
+pub mod Joining
+pub mod Ranges
+pub mod Worked
+pub mod Names
+pub mod Cuts
+pub mod Steps
+pub mod Walking
+pub mod Rows
+pub mod Telling
+pub mod Texts

@@ -2,3 +2,10 @@ pub mod Answer
 pub mod Report
 pub mod Writing
 pub mod Trace
+pub mod Generated
+pub mod Texts
+pub mod FileWriting
+pub mod Asking
+pub mod Commands
+pub mod Parts
+pub mod Shape

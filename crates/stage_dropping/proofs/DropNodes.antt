@@ -25,13 +25,13 @@ use Rattle.stream_model.proofs.PickTraces.{buffer_trace}
 use Rattle.stage_core.specs.Handling.{Starts, Handles}
 use Rattle.stage_core.specs.Histories.{given_all, brought_by, AllEmpty}
 use Rattle.stage_core.proofs.OneOnes.{one_input}
-use Rattle.stage_law.specs.Law.{GaveAs}
-use Rattle.stage_law.specs.Inflows.{PortsLaw}
+use Rattle.stage_core.specs.Law.{GaveAs}
+use Rattle.stage_core.specs.Inflows.{PortsLaw}
 use Rattle.stage_linear.proofs.Rows.{may_come, closed_ports}
 use Rattle.stage_core.specs.declared.phase.Phase.{Phase}
 use Rattle.stage_core.specs.declared.phase.Phase.TheVariants.{New, Open, Closed}
-use Rattle.stage_fans.specs.PortsLaws.{InPortsLaw}
-use Rattle.stage_fans.proofs.Histories.{in_node, ins_seen, ins_acted, begun}
+use Rattle.stage_core.specs.PortsLaws.{InPortsLaw}
+use Rattle.stage_core.proofs.Histories.{in_node, ins_seen, ins_acted, begun}
 use Rattle.stage_dropping.specs.Drops.{DropHeld, holds, DropTurnAt, DropKeeps, DropStandsOf, DropRest, DropCounts, drop_moves}
 use Rattle.stage_dropping.specs.Droppings as stage
 use Rattle.stage_dropping.specs.Droppings.{Dropping, drop_at, port_state, held_in, held_of, Turned, DropFresh, DropPortState, DropsAs}

@@ -11,7 +11,7 @@ use Rattle.stream_model.specs.Picks.{buffered, after_coming, comes}
 use Rattle.port_core.specs.declared.act.Act.{Act}
 use Rattle.port_core.specs.declared.act.Act.TheVariants.{Pull, Push, Complete, FailOut, Cancel}
 use Rattle.port_core.specs.Call.{Call, starts, pulls, arrives}
-use Rattle.stage_law.specs.Held.{told}
+use Rattle.stage_core.specs.Held.{told}
 use Rattle.stage_core.specs.declared.phase.Phase.{Phase}
 use Rattle.stage_core.specs.declared.phase.Phase.TheVariants.{New, Open, Closed}
 use Rattle.stage_dropping.specs.Drops.{holds, shut, buffer_at, overflow_at, overflow_of, DropTurn, completes, fails, overflows, DropTurnAt}

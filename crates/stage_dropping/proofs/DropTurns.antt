@@ -13,9 +13,9 @@ use Rattle.stream_model.specs.Picks.{Buffered, buffered, after_coming, leaves, c
 use Rattle.port_core.specs.declared.act.Act.{Act}
 use Rattle.port_core.specs.View.{View, out_at, ActsAllowed, acted_all}
 use Rattle.port_core.specs.Call.{Call, starts, pulls, arrives, cancels, AllIdle, CallAllowed, seen, brought_to, given_on}
-use Rattle.stage_law.specs.Law.{GaveAs}
-use Rattle.stage_law.specs.Inflows.{nothing_came, joined, joined_at, joined_all, coming}
-use Rattle.stage_law.proofs.Inflows.{Stepped, ports_law, new_ports}
+use Rattle.stage_core.specs.Law.{GaveAs}
+use Rattle.stage_core.specs.Inflows.{nothing_came, joined, joined_at, joined_all, coming}
+use Rattle.stage_core.proofs.Inflows.{Stepped, ports_law, new_ports}
 use Rattle.stage_dropping.specs.Drops.{DropHeld, holds, shut, buffer_at, overflow_at, overflow_of, DropTurn, completes, fails, overflows, DropStep, DropRefused, DropTurnAt, DropKeeps, DropLaw, DropRest, DropStandsOf, drop_moves}
 
 -- what came joins what had come: it adds what the end lets through

@@ -15,8 +15,8 @@ use Rattle.stream_model.specs.Outlook.{End, unended, ended}
 use Rattle.stream_model.specs.Picks.{comes}
 use Rattle.stream_model.specs.declared.kind.Policy.{Policy}
 use Rattle.stream_model.specs.declared.kind.Policy.TheVariants.{Backpressure}
-use Rattle.stage_fans.specs.PortsLaws.{InPortsLaw}
-use Rattle.stage_law.specs.Row.{BothClosed}
+use Rattle.stage_core.specs.PortsLaws.{InPortsLaw}
+use Rattle.stage_core.specs.Row.{BothClosed}
 use Rattle.stage_core.specs.declared.phase.Phase.{Phase}
 use Rattle.stage_core.specs.declared.phase.Phase.TheVariants.{New, Open, Closed}
 use Rattle.stage_dropping.specs.Drops as law

@@ -13,10 +13,10 @@ use Rattle.port_core.specs.declared.view.InView.{InView}
 use Rattle.port_core.specs.declared.view.OutView.{OutView}
 use Rattle.port_core.specs.View.{View, in_at, out_at}
 use Rattle.port_core.specs.Call.{Call, cancels}
-use Rattle.stream_picture.specs.Rests.{IsShut, DroppingRests}
-use Rattle.stage_law.specs.OwnPorts.{own_input, own_output}
-use Rattle.stage_law.specs.Held.{told}
-use Rattle.stage_law.specs.Inflows.{coming, joined, joined_at, PortsLaw}
+use Rattle.stream_model.specs.Rests.{IsShut, DroppingRests}
+use Rattle.stage_core.specs.OwnPorts.{own_input, own_output}
+use Rattle.stage_core.specs.Held.{told}
+use Rattle.stage_core.specs.Inflows.{coming, joined, joined_at, PortsLaw}
 
 -- between two calls: how many elements came, its moves, what it holds and how its input stands; or its output is closed, and
 -- these are its moves

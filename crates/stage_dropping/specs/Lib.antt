@@ -1,2 +1,4 @@
 pub mod Drops
 pub mod Droppings
+pub mod Recovers
+pub mod Recoverings

@@ -15,9 +15,9 @@ use Rattle.stream_model.specs.FanIn.{Tagged, Inflow, AllAgree, FanStands, concat
 use Rattle.stream_model.specs.Picks.{merge_fits}
 use Rattle.stream_model.proofs.FanTraces.{concat_trace, interleave_trace, sorted_trace}
 use Rattle.stream_model.proofs.PickTraces.{zip_trace}
-use Rattle.stage_law.specs.Zips.{ZipStandsOf}
-use Rattle.stage_law.proofs.FanTurns.{fan_history_stands}
-use Rattle.stage_law.proofs.ZipTurns.{zip_history_stands}
+use Rattle.stage_core.specs.Zips.{ZipStandsOf}
+use Rattle.stage_core.proofs.FanTurns.{fan_history_stands}
+use Rattle.stage_core.proofs.ZipTurns.{zip_history_stands}
 use Rattle.stage_in.specs.declared.logic.InLogic.{InLogic}
 use Rattle.stage_in.specs.declared.logic.InLogic.TheVariants as logic
 use Rattle.stage_in.specs.Kinds.{concatenating, interleaving, taking_by, sorting}

@@ -15,7 +15,7 @@ use Rattle.stage_core.specs.declared.phase.Phase.{Phase}
 use Rattle.stage_core.specs.declared.phase.Phase.TheVariants.{New, Open, Closed}
 use Rattle.stage_in.specs.declared.logic.InLogic.{InLogic}
 use Rattle.stage_in.specs.declared.logic.InLogic.TheVariants as logic
-use Rattle.stage_fans.specs.Seats.{OneClosed}
+use Rattle.stage_core.specs.Seats.{OneClosed}
 use Rattle.stage_in.specs.Pairings.{Pairing, port_state_by}
 use Rattle.stage_in.specs.Takings as taking
 use Rattle.stage_in.specs.Sortings as sorted

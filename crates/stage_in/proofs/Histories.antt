@@ -6,12 +6,12 @@ use Rattle.port_core.specs.declared.act.Act.{Act}
 use Rattle.port_core.specs.View.{View, ActsAllowed, acted_all}
 use Rattle.port_core.specs.Call.{Call, CallAllowed, seen, given_on}
 use Rattle.stage_core.specs.Histories.{given_all, brought_by}
-use Rattle.stage_law.specs.Fans.{Fan, FanHeld, FanTurnAt, FanKeeps}
-use Rattle.stage_law.specs.Zips.{ZipHeld, ZipTurnAt, ZipKeeps}
-use Rattle.stage_law.proofs.FanTurns.{fan_call}
-use Rattle.stage_law.proofs.ZipTurns.{zip_call}
-use Rattle.stage_fans.specs.PortsLaws.{InPortsLaw}
-use Rattle.stage_fans.proofs.Histories.{in_node, ins_seen, ins_acted}
+use Rattle.stage_core.specs.Fans.{Fan, FanHeld, FanTurnAt, FanKeeps}
+use Rattle.stage_core.specs.Zips.{ZipHeld, ZipTurnAt, ZipKeeps}
+use Rattle.stage_core.proofs.FanTurns.{fan_call}
+use Rattle.stage_core.proofs.ZipTurns.{zip_call}
+use Rattle.stage_core.specs.PortsLaws.{InPortsLaw}
+use Rattle.stage_core.proofs.Histories.{in_node, ins_seen, ins_acted}
 
 pub fan_node : {S : Type 0} (k : Fan S) (start : S) (c : Call) (old new : FanHeld S) (v : View) (took gave : List (List Item)) (acts : List Act) → CallAllowed c v → ActsAllowed (seen c v) acts → FanTurnAt k c old (given_on 0 acts) new
     → InPortsLaw (FanKeeps k start old) v took gave → InPortsLaw (FanKeeps k start new) (acted_all (seen c v) acts) (brought_by c took) (given_all acts gave)

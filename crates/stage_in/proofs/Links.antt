@@ -5,9 +5,9 @@ use Rattle.std.proofs.lemmas.Bool.{cases_order}
 use Rattle.std.proofs.lemmas.Bool.Decides.{nat_tests}
 use Rattle.std.proofs.lemmas.List.{length-replicate, length-set, length-map, length-append, get_or-map, get_or_append_left, get_or_at}
 use Rattle.stage_in.specs.Kinds.{behind_input}
-use Rattle.stage_fans.specs.Seats.{AllOver}
+use Rattle.stage_core.specs.Seats.{AllOver}
 use Rattle.stage_in.specs.Takings.{OverBetween, IsNext, Follows, HasFollowers, InputRing, followed_by, relinked}
-use Rattle.stage_fans.proofs.Flags.{same, set_here, set_other, set_keeps}
+use Rattle.stage_core.proofs.Flags.{same, set_here, set_other, set_keeps}
 
 -- ---- a new stage
 

@@ -13,26 +13,26 @@ use Rattle.port_core.specs.Asking.{PullsStand}
 use Rattle.port_core.specs.Call.{AllIdle, AllUnpulled, Call, starts, CallAllowed, Meets, seen, Obeys, given_on}
 use Rattle.stream_model.specs.Outlook.{End, unended}
 use Rattle.stream_model.specs.FanIn.{Inflow}
-use Rattle.stream_picture.specs.View as picture
+use Rattle.stream_model.specs.View as picture
 use Rattle.elem_core.specs.Prefix.{IsPrefix}
-use Rattle.stream_picture.specs.Rests.{SortedRests, ZipRests}
+use Rattle.stream_model.specs.Rests.{SortedRests, ZipRests}
 use Rattle.stage_core.specs.declared.stage.TheConstants.{MOST_ACTS}
 use Rattle.stage_core.specs.Handling.{Starts, Handles}
 use Rattle.stage_core.specs.Histories.{given_all, brought_by, AllEmpty}
-use Rattle.stage_law.specs.Law.{GaveAs}
-use Rattle.stage_law.specs.Inflows.{PortsLaw, nothing_came, untouched}
-use Rattle.stage_law.specs.Fans.{FanHeld, FanTurnAt, FanKeeps}
-use Rattle.stage_law.specs.Fans as fan
-use Rattle.stage_law.specs.Zips.{ZipHeld, ZipKeeps}
-use Rattle.stage_law.specs.Zips as zip
-use Rattle.stage_law.proofs.FanTurns.{fan_new}
-use Rattle.stage_law.proofs.ZipTurns.{zip_new}
+use Rattle.stage_core.specs.Law.{GaveAs}
+use Rattle.stage_core.specs.Inflows.{PortsLaw, nothing_came, untouched}
+use Rattle.stage_core.specs.Fans.{FanHeld, FanTurnAt, FanKeeps}
+use Rattle.stage_core.specs.Fans as fan
+use Rattle.stage_core.specs.Zips.{ZipHeld, ZipKeeps}
+use Rattle.stage_core.specs.Zips as zip
+use Rattle.stage_core.proofs.FanTurns.{fan_new}
+use Rattle.stage_core.proofs.ZipTurns.{zip_new}
 use Rattle.stage_core.specs.declared.phase.Phase.{Phase}
 use Rattle.stage_core.specs.declared.phase.Phase.TheVariants.{New, Open, Closed}
 use Rattle.stage_in.specs.declared.logic.InLogic.{InLogic}
 use Rattle.stage_in.specs.declared.logic.InLogic.TheVariants as logic
 use Rattle.stage_in.specs.Kinds.{taking_by, sorting}
-use Rattle.stage_fans.specs.Seats.{wish}
+use Rattle.stage_core.specs.Seats.{wish}
 use Rattle.stage_in.specs.Seats.{seats, none_of}
 use Rattle.stage_in.specs.declared.inlet.Inlet.{Inlet}
 use Rattle.stage_in.specs.Pairings.{Pairing, IsVacant, inlet_flow, port_state_by}
@@ -43,13 +43,13 @@ use Rattle.stage_in.specs.Zippings as zipping
 use Rattle.stage_merge.specs.Mergings as merging
 use Rattle.stage_merge.specs.Mergings.{Merging}
 use Rattle.stage_merge.proofs.MergeNodes as merge
-use Rattle.stage_fans.specs.OwnRows.{FanRests}
-use Rattle.stage_fans.specs.PortsLaws.{InPortsLaw}
+use Rattle.stage_core.specs.OwnRows.{FanRests}
+use Rattle.stage_core.specs.PortsLaws.{InPortsLaw}
 use Rattle.stage_in.specs.Logics.{IsNew, IsOpen, IsStarted, room_of, port_state, Turned, InFresh, InPortState, InLaw, KindRests}
 use Rattle.stage_in.specs.Moves.{in_moves}
-use Rattle.stage_fans.proofs.Closings.{none_called, closed_rests}
+use Rattle.stage_core.proofs.Closings.{none_called, closed_rests}
 use Rattle.stage_in.proofs.Rests.{taking_rests, sorting_rests, zipping_rests}
-use Rattle.stage_fans.proofs.Histories.{begun}
+use Rattle.stage_core.proofs.Histories.{begun}
 use Rattle.stage_in.proofs.Histories.{fan_node, zip_node}
 
 -- ---- where it is called it is open

@@ -6,22 +6,22 @@ use Rattle.elem_core.specs.Tree.{Tree}
 use Rattle.port_core.specs.View as port
 use Rattle.stream_model.specs.Outlook.{End}
 use Rattle.stream_model.specs.FanIn.{Inflow, pairs}
-use Rattle.stream_picture.specs.View.{EachWire}
-use Rattle.stream_picture.specs.Rests.{IdlesOrShut, WaitsIdlesOrShut, FirstOpenWaits, OneWaits, SortedRests, ZipRests}
-use Rattle.stage_law.specs.Zips.{ZipKeeps}
-use Rattle.stage_law.specs.OwnPorts.{own_input}
+use Rattle.stream_model.specs.View.{EachWire}
+use Rattle.stream_model.specs.Rests.{IdlesOrShut, WaitsIdlesOrShut, FirstOpenWaits, OneWaits, SortedRests, ZipRests}
+use Rattle.stage_core.specs.Zips.{ZipKeeps}
+use Rattle.stage_core.specs.OwnPorts.{own_input}
 use Rattle.stage_core.specs.declared.phase.Phase.TheVariants.{Open}
-use Rattle.stage_fans.specs.Seats.{wish}
+use Rattle.stage_core.specs.Seats.{wish}
 use Rattle.stage_in.specs.Seats.{seat, seats}
 use Rattle.stage_in.specs.Pairings.{Pairing, inlet_view, pair_view, port_state_by}
 use Rattle.stage_in.specs.Sortings as sorting
 use Rattle.stage_in.specs.Zippings as zipping
 use Rattle.stage_in.specs.Takings as taking
 use Rattle.stage_in.specs.Takings.{Taking, view_of, OverBetween, InOrder}
-use Rattle.stage_fans.specs.OwnRows.{own_inputs, FanRests}
+use Rattle.stage_core.specs.OwnRows.{own_inputs, FanRests}
 use Rattle.stage_in.specs.OwnRows.{TakingRests}
-use Rattle.stage_fans.proofs.Flags.{same, other}
-use Rattle.stage_fans.proofs.Closings.{closed_rests}
+use Rattle.stage_core.proofs.Flags.{same, other}
+use Rattle.stage_core.proofs.Closings.{closed_rests}
 use Rattle.stage_in.proofs.Seats.{marked_before}
 use Rattle.stage_in.proofs.Zips.{open_at, opened}
 

@@ -18,16 +18,16 @@ use Rattle.port_core.specs.Asking.{PullsStand}
 use Rattle.port_core.specs.Call.{Call, starts, pulls, arrives, cancels, CallAllowed, seen, Obeys, Meets, given_on}
 use Rattle.stream_model.specs.Outlook.{ended, failed}
 use Rattle.stream_model.specs.FanIn.{Tagged, tag, Inflow, flow}
-use Rattle.stage_law.specs.Held.{told}
-use Rattle.stage_law.specs.Inflows.{nothing_came, joined_all, coming}
-use Rattle.stage_law.specs.Fans.{FanPlace, AllFew, untagged, fan_gives, FanTurn, FanClose, completes, fails}
-use Rattle.stage_law.proofs.Inflows.{joined_all-nothing_came}
+use Rattle.stage_core.specs.Held.{told}
+use Rattle.stage_core.specs.Inflows.{nothing_came, joined_all, coming}
+use Rattle.stage_core.specs.Fans.{FanPlace, AllFew, untagged, fan_gives, FanTurn, FanClose, completes, fails}
+use Rattle.stage_core.proofs.Inflows.{joined_all-nothing_came}
 use Rattle.stage_in.specs.Kinds.{taking_by}
-use Rattle.stage_fans.specs.Seats.{wish, open_cancels, InsClosed, OneClosed, FanClosed}
+use Rattle.stage_core.specs.Seats.{wish, open_cancels, InsClosed, OneClosed, FanClosed}
 use Rattle.stage_in.specs.Seats.{seat, seats, none_of}
 use Rattle.stage_in.specs.Takings.{Begins, Taking, place_of, OverBetween, AllOverBut, InOrder, IsNext, view_of, Sound, port_state_by, port_state, Turned, Counted, fresh_left, WentOn, goes_on, ends, Does, Passed, without, failed_by, relinked, HasFollowers, InputFinished, another, current}
-use Rattle.stage_fans.proofs.Flags.{set_here, set_other, set_keeps}
-use Rattle.stage_fans.proofs.Closings.{unasked_wish, open_wish, cancels_give, cancels_stand}
+use Rattle.stage_core.proofs.Flags.{set_here, set_other, set_keeps}
+use Rattle.stage_core.proofs.Closings.{unasked_wish, open_wish, cancels_give, cancels_stand}
 use Rattle.stage_in.proofs.Seats.{ended_seat, waits_current, open_seat, unmarked, all_cancelled, idle_seat, marked_now, over_now, all_over_closed}
 use Rattle.stage_in.proofs.Steps.{FirstOf, element_given, none_given}
 use Rattle.stage_in.proofs.Waits.{came_end, came_first, used_at, none_waits, uses_none, uses_came, none_few, length-outlooks, all_ended, failed_at}

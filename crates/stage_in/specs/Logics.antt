@@ -13,17 +13,17 @@ use Rattle.stream_model.specs.declared.kind.Kind.TheVariants.{Merge, Concat, Int
 use Rattle.stream_model.specs.declared.kind.TheConstants.{MAX_FAN}
 use Rattle.stream_model.specs.Outlook.{End}
 use Rattle.stream_model.specs.FanIn.{Inflow, concat_taken, interleave_taken}
-use Rattle.stream_picture.specs.View.{SeenWire}
-use Rattle.stream_picture.specs.Rests.{MergeRests, SortedRests, ZipRests}
-use Rattle.stage_fans.specs.PortsLaws.{InPortsLaw}
-use Rattle.stage_law.specs.Fans.{FanKeeps}
-use Rattle.stage_law.specs.Zips.{ZipKeeps}
-use Rattle.stage_law.specs.Merges.{MergeKeeps}
+use Rattle.stream_model.specs.View.{SeenWire}
+use Rattle.stream_model.specs.Rests.{MergeRests, SortedRests, ZipRests}
+use Rattle.stage_core.specs.PortsLaws.{InPortsLaw}
+use Rattle.stage_core.specs.Fans.{FanKeeps}
+use Rattle.stage_core.specs.Zips.{ZipKeeps}
+use Rattle.stage_core.specs.Merges.{MergeKeeps}
 use Rattle.stage_core.specs.declared.phase.Phase.TheVariants.{New, Open}
 use Rattle.stage_in.specs.declared.logic.InLogic.{InLogic}
 use Rattle.stage_in.specs.declared.logic.InLogic.TheVariants as logic
 use Rattle.stage_in.specs.Kinds.{taking_by, sorting}
-use Rattle.stage_fans.specs.Seats.{room_for}
+use Rattle.stage_core.specs.Seats.{room_for}
 use Rattle.stage_in.specs.Takings as taking
 use Rattle.stage_in.specs.Sortings as sorted
 use Rattle.stage_in.specs.Zippings as zipping

@@ -11,7 +11,7 @@ use Rattle.stream_model.specs.FanIn.{Inflow}
 use Rattle.stage_core.specs.declared.phase.Phase.{Phase}
 use Rattle.stage_core.specs.declared.phase.Phase.TheVariants.{New, Open, Closed}
 use Rattle.stage_in.specs.declared.inlet.Inlet.{Inlet}
-use Rattle.stage_fans.specs.Seats.{wish, FanClosed, end_by, open_cancels}
+use Rattle.stage_core.specs.Seats.{wish, FanClosed, end_by, open_cancels}
 
 -- where it stands, its inputs, and whether its output is asked
 pub record Pairing : Type 0 where

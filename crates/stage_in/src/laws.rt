@@ -16,7 +16,7 @@ ghost use Rattle.stage_core.specs.Handling.{Starts, Handles};
 ghost use Rattle.stage_in.specs.declared.logic.InLogic.{InLogic};
 ghost use Rattle.stage_in.specs.Logics.{Begins, IsNew, IsOpen, IsStarted, InFresh, InLaw, InPortState, KindRests, Turned, inputs_of, room_of, port_state};
 ghost use Rattle.stage_in.specs.Moves.{TellsMoves};
-ghost use Rattle.stage_fans.specs.OwnRows.{FanRests};
+ghost use Rattle.stage_core.specs.OwnRows.{FanRests};
 
 /// Where its port state and its law hold, a stage that was started has closed all its ports, or has nothing to do.
 pub fn a_started_stage_rests()

@@ -2,7 +2,7 @@ ghost use Rattle.std.specs.Prelude.{◌≡◌, ◌≢◌, ◌≤◌, ◌<◌, �
 ghost use Rattle.elem_core.specs.declared.item.Item.TheVariants as item;
 ghost use Rattle.port_core.specs.declared.act.Act.TheVariants as act;
 ghost use Rattle.port_core.specs.Call.{Obeys, Meets, starts, pulls, arrives, cancels};
-ghost use Rattle.stage_fans.specs.Seats.{open_cancels, room_for};
+ghost use Rattle.stage_core.specs.Seats.{open_cancels, room_for};
 ghost use Rattle.stage_in.specs.Takings.{port_state, Turned, Begins, Counted, WentOn, Does, Passed, InputFinished, without, failed_by, followed_by, HasFollowers, InputRing, IsNext, AllOverBut};
 ghost use Rattle.stage_in.specs.Kinds.{behind_input};
 
@@ -10,7 +10,7 @@ use elem_core::elem::Elem;
 use elem_core::why::{Cause, NoMemory};
 use port_core::act::Act;
 use port_core::acts::Acts;
-use stage_fans::ins::{cancel_open, open_inputs};
+use stage_core::ins::{cancel_open, open_inputs};
 use std::alloc::Global;
 use std::marker::Model;
 

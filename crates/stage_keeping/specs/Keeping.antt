@@ -9,7 +9,7 @@ use Rattle.elem_core.specs.declared.why.Decider.{Decider}
 use Rattle.elem_core.specs.declared.why.Decider.TheVariants.{Stop, Resume, Restart}
 use Rattle.stream_model.specs.Machine.{going, broken, adds, refuses}
 use Rattle.stream_model.specs.Linear.{Book, Work, Stage, grouping, folding, scanning, reducing, step, finish_of, blame_end, linear}
-use Rattle.stream_picture.specs.OneWay.{holds_at_end}
+use Rattle.stream_model.specs.OneWay.{holds_at_end}
 use Rattle.stage_keeping.specs.declared.keeping.StateWork.{StateWork}
 use Rattle.stage_keeping.specs.declared.keeping.StateWork.TheVariants.{Group, Fold, Reduce, Scan}
 use Rattle.stage_keeping.specs.declared.keeping.StateReaction.{StateReaction}

@@ -17,10 +17,10 @@ use Rattle.stage_core.proofs.OnOks.{on_ok_two}
 use Rattle.stream_model.specs.Outlook.{unended}
 use Rattle.stream_model.specs.Machine.{Run, Machine}
 use Rattle.stream_model.specs.Linear.{Book, Stage, Work, linear}
-use Rattle.stage_law.specs.Held.{Held, owing}
-use Rattle.stage_law.specs.Turn.{TurnAt}
-use Rattle.stage_law.specs.Law.{TookAs, GaveAs, Law}
-use Rattle.stage_law.proofs.Calls.{new_law, call_law}
+use Rattle.stage_core.specs.Held.{Held, owing}
+use Rattle.stage_core.specs.Turn.{TurnAt}
+use Rattle.stage_core.specs.Law.{TookAs, GaveAs, Law}
+use Rattle.stage_core.proofs.Calls.{new_law, call_law}
 use Rattle.stage_core.specs.declared.phase.Phase.{Phase}
 use Rattle.stage_core.specs.declared.phase.Phase.TheVariants.{New, Open, Closed}
 use Rattle.stage_linear.specs.declared.course.Course.{Course}

@@ -16,9 +16,9 @@ use Rattle.port_core.specs.declared.view.OutView.{OutView}
 use Rattle.port_core.specs.declared.view.OutView.TheVariants as outlet
 use Rattle.stream_model.specs.Machine.{State, going, done, Machine}
 use Rattle.stream_model.specs.Linear.{Book, Stage, Work, Reaction, gives, ends, blames, breaks, reaction, reacts, linear}
-use Rattle.stage_law.specs.Held.{Held, owing, shut}
-use Rattle.stage_law.specs.Turn.{last_held, Emits, FewIn, TurnAt}
-use Rattle.stage_law.proofs.Lagging.{few_nothing}
+use Rattle.stage_core.specs.Held.{Held, owing, shut}
+use Rattle.stage_core.specs.Turn.{last_held, Emits, FewIn, TurnAt}
+use Rattle.stage_core.proofs.Lagging.{few_nothing}
 use Rattle.stage_core.specs.declared.phase.Phase.TheVariants.{New, Open}
 use Rattle.stage_linear.specs.declared.course.Course.{Course}
 use Rattle.stage_linear.specs.declared.course.Course.TheVariants as course

@@ -12,12 +12,12 @@ use Rattle.port_core.specs.View.{View, in_at, out_at, OneOneOf, IsInOpen, IsOutO
 use Rattle.port_core.specs.Call.{Call, starts, pulls, arrives, cancels, CallAllowed}
 use Rattle.stream_model.specs.Machine.{going, Run, Machine}
 use Rattle.stream_model.specs.Linear.{Book, Stage, Work}
-use Rattle.stage_law.specs.Law.{Law}
-use Rattle.stage_law.specs.OwnPorts.{OwnRests}
-use Rattle.stage_law.specs.Held.{owing}
-use Rattle.stage_law.specs.Row.{BothClosed}
-use Rattle.stream_picture.specs.OneWay.{holds_at_end}
-use Rattle.stage_law.proofs.OwnRows.{waiting_rests, idle_rests, closed_rests}
+use Rattle.stage_core.specs.Law.{Law}
+use Rattle.stage_core.specs.OwnPorts.{OwnRests}
+use Rattle.stage_core.specs.Held.{owing}
+use Rattle.stage_core.specs.Row.{BothClosed}
+use Rattle.stream_model.specs.OneWay.{holds_at_end}
+use Rattle.stage_core.proofs.OwnRows.{waiting_rests, idle_rests, closed_rests}
 use Rattle.stage_core.specs.declared.phase.Phase.{Phase}
 use Rattle.stage_core.specs.declared.phase.Phase.TheVariants.{New, Open, Closed}
 use Rattle.stage_linear.specs.declared.course.Course.{Course}

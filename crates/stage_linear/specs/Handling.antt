@@ -5,8 +5,8 @@ use Rattle.elem_core.specs.declared.item.Item.{Item}
 use Rattle.port_core.specs.View.{View, in_at, out_at}
 use Rattle.stream_model.specs.Linear.{Book, Stage, linear}
 use Rattle.stream_model.specs.Machine.{Run}
-use Rattle.stage_law.specs.Held.{owing}
-use Rattle.stage_law.specs.Law.{Law}
+use Rattle.stage_core.specs.Held.{owing}
+use Rattle.stage_core.specs.Law.{Law}
 use Rattle.stage_core.specs.declared.phase.Phase.TheVariants.{New}
 use Rattle.stage_linear.specs.States.{Logic, held, port_state}
 

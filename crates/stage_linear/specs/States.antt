@@ -17,9 +17,9 @@ use Rattle.port_core.specs.declared.act.Act.TheVariants.{Pull, FailOut, Cancel}
 use Rattle.port_core.specs.View.{View, OneOne}
 use Rattle.port_core.specs.Asking.{PullsStand}
 use Rattle.port_core.specs.Call.{Call, given_on}
-use Rattle.stage_law.specs.Held.{Held, owing, shut, sealed_by}
-use Rattle.stage_law.specs.Row.{BothClosed}
-use Rattle.stage_law.specs.Turn.{TurnAt}
+use Rattle.stage_core.specs.Held.{Held, owing, shut, sealed_by}
+use Rattle.stage_core.specs.Row.{BothClosed}
+use Rattle.stage_core.specs.Turn.{TurnAt}
 use Rattle.stage_core.specs.declared.phase.Phase.{Phase}
 use Rattle.stage_core.specs.declared.phase.Phase.TheVariants.{New, Open, Closed}
 use Rattle.stage_linear.specs.declared.course.Course.{Course}

@@ -2,7 +2,7 @@
 use Rattle.std.specs.Prelude.{◌≡◌, ◌<◌, ⊤, Bool, true, false, [], ◌∷◌}
 use Rattle.elem_core.specs.Tree.{Tree, num}
 use Rattle.stream_model.specs.Linear.{Book, Work, mapping, filtering, taking, taking_while, dropping, dropping_while, passing, limiting, grouping, folding, scanning, reducing, heading, lasting, numbering, expanding, gives, ends, blames, breaks, reaction, holds, restarted, first_of, linear}
-use Rattle.stream_picture.specs.OneWay.{holds_at_end}
+use Rattle.stream_model.specs.OneWay.{holds_at_end}
 use Rattle.elem_core.specs.declared.function.Pred.{Pred}
 use Rattle.stage_linear.specs.declared.task.LinearWork.{LinearWork}
 use Rattle.stage_linear.specs.declared.task.LinearWork.TheVariants.{Map, Filter, FilterNot, Take, TakeWhile, Drop, DropWhile, Limit, Expand}

@@ -6,9 +6,9 @@ ghost use Rattle.port_core.specs.View.{View, in_at, out_at};
 ghost use Rattle.port_core.specs.Call.{Call, starts, CallAllowed};
 ghost use Rattle.stream_model.specs.Linear.{Book, Stage};
 ghost use Rattle.stream_model.specs.Machine.{Run, Machine};
-ghost use Rattle.stage_law.specs.Law.{Law};
-ghost use Rattle.stage_law.specs.OwnPorts.{OwnRests};
-ghost use Rattle.stream_picture.specs.OneWay.{holds_at_end};
+ghost use Rattle.stage_core.specs.Law.{Law};
+ghost use Rattle.stage_core.specs.OwnPorts.{OwnRests};
+ghost use Rattle.stream_model.specs.OneWay.{holds_at_end};
 ghost use Rattle.stage_core.specs.declared.phase.Phase.TheVariants.{New, Open};
 ghost use Rattle.stage_linear.specs.States.{Logic, held, port_state};
 

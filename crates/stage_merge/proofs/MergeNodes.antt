@@ -18,21 +18,21 @@ use Rattle.stream_model.specs.FanIn.{AllAgree}
 use Rattle.stream_model.specs.Picks.{merge_fits, merge_outlook, MergeStands}
 use Rattle.stream_model.proofs.Agreeing.{merge_moves_fit}
 use Rattle.stream_model.proofs.MergeTraces.{merge_trace}
-use Rattle.stream_picture.specs.Rests.{MergeRests}
+use Rattle.stream_model.specs.Rests.{MergeRests}
 use Rattle.stage_core.specs.declared.stage.TheConstants.{MOST_ACTS}
 use Rattle.stage_core.specs.Handling.{Starts, Handles}
 use Rattle.stage_core.specs.Histories.{given_all, brought_by, AllEmpty}
-use Rattle.stage_law.specs.Law.{GaveAs}
-use Rattle.stage_law.specs.Inflows.{PortsLaw, untouched}
-use Rattle.stage_law.specs.Merges.{waits, MergeTurnAt, MergeKeeps, moves_of}
-use Rattle.stage_law.proofs.MergeTurns.{merge_call, merge_new, merge_history_stands}
+use Rattle.stage_core.specs.Law.{GaveAs}
+use Rattle.stage_core.specs.Inflows.{PortsLaw, untouched}
+use Rattle.stage_core.specs.Merges.{waits, MergeTurnAt, MergeKeeps, moves_of}
+use Rattle.stage_core.proofs.MergeTurns.{merge_call, merge_new, merge_history_stands}
 use Rattle.stage_core.specs.declared.phase.Phase.{Phase}
 use Rattle.stage_core.specs.declared.phase.Phase.TheVariants.{New, Open, Closed}
-use Rattle.stage_fans.specs.Seats.{room_for}
-use Rattle.stage_fans.specs.OwnRows.{FanRests}
-use Rattle.stage_fans.specs.PortsLaws.{InPortsLaw}
-use Rattle.stage_fans.proofs.Closings.{none_called}
-use Rattle.stage_fans.proofs.Histories.{in_node, ins_seen, ins_acted, begun}
+use Rattle.stage_core.specs.Seats.{room_for}
+use Rattle.stage_core.specs.OwnRows.{FanRests}
+use Rattle.stage_core.specs.PortsLaws.{InPortsLaw}
+use Rattle.stage_core.proofs.Closings.{none_called}
+use Rattle.stage_core.proofs.Histories.{in_node, ins_seen, ins_acted, begun}
 use Rattle.stage_merge.specs.Mergings.{Core, Merging, Begins, Turned, Fresh, idles, waiting, port_state_by, port_state, held_by, held, MergeFresh, MergePortState, MergesAs}
 use Rattle.stage_merge.proofs.MergeRests.{merge_rests, new_row, none_waits}
 

@@ -6,17 +6,17 @@ use Rattle.elem_core.specs.Tree.{Tree}
 use Rattle.port_core.specs.declared.view.OutView.TheVariants.{Unpulled}
 use Rattle.port_core.specs.View as port
 use Rattle.stream_model.specs.FanIn.{Inflow}
-use Rattle.stream_picture.specs.View.{EachWire, SomeWire}
-use Rattle.stream_picture.specs.Rests.{IsShut, Waits, WaitsIdlesOrShut, MergeRests}
-use Rattle.stage_law.specs.Inflows.{nothing_came, untouched}
-use Rattle.stage_law.specs.OwnPorts.{own_input, own_output}
+use Rattle.stream_model.specs.View.{EachWire, SomeWire}
+use Rattle.stream_model.specs.Rests.{IsShut, Waits, WaitsIdlesOrShut, MergeRests}
+use Rattle.stage_core.specs.Inflows.{nothing_came, untouched}
+use Rattle.stage_core.specs.OwnPorts.{own_input, own_output}
 use Rattle.stage_core.specs.declared.phase.Phase.{Phase}
 use Rattle.stage_core.specs.declared.phase.Phase.TheVariants.{New, Open, Closed}
 use Rattle.stage_merge.specs.declared.merging.Queued.{Queued}
-use Rattle.stage_fans.specs.Seats.{wish}
-use Rattle.stage_fans.specs.OwnRows.{own_inputs, FanRests}
+use Rattle.stage_core.specs.Seats.{wish}
+use Rattle.stage_core.specs.OwnRows.{own_inputs, FanRests}
 use Rattle.stage_merge.specs.Mergings.{Core, Merging, Begins, of_port, input_view, places, idles, waiting, open_count, Sound, Fresh, port_state_by, port_state}
-use Rattle.stage_fans.proofs.Closings.{closed_rests}
+use Rattle.stage_core.proofs.Closings.{closed_rests}
 
 place_any : (b : Bool) (l u : List Tree) → WaitsIdlesOrShut (own_input (input_view b l) u)
 place_any true l u = inr (inr refl)

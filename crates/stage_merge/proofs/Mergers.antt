@@ -19,15 +19,15 @@ use Rattle.port_core.specs.Asking.{PullsStand, NoCancel}
 use Rattle.port_core.specs.Call.{Call, starts, pulls, arrives, cancels, CallAllowed, seen, Obeys, Meets, given_on}
 use Rattle.stream_model.specs.FanIn.{Inflow, flow}
 use Rattle.stream_model.specs.Picks.{used_up}
-use Rattle.stage_law.specs.Inflows.{joined_all, coming}
-use Rattle.stage_law.specs.Merges.{MergeHeld, waits, shut, MergeTurn, MergeClose, completes, fails, MergeTurnAt}
-use Rattle.stage_law.proofs.Inflows.{joined_all-nothing_came}
+use Rattle.stage_core.specs.Inflows.{joined_all, coming}
+use Rattle.stage_core.specs.Merges.{MergeHeld, waits, shut, MergeTurn, MergeClose, completes, fails, MergeTurnAt}
+use Rattle.stage_core.proofs.Inflows.{joined_all-nothing_came}
 use Rattle.stage_core.specs.declared.phase.Phase.{Phase}
 use Rattle.stage_core.specs.declared.phase.Phase.TheVariants.{New, Open, Closed}
 use Rattle.stage_merge.specs.declared.merging.Queued.{Queued}
-use Rattle.stage_fans.specs.Seats.{wish, open_cancels, InsClosed, OneClosed, FanClosed, AllOver}
+use Rattle.stage_core.specs.Seats.{wish, open_cancels, InsClosed, OneClosed, FanClosed, AllOver}
 use Rattle.stage_merge.specs.Mergings.{Core, Merging, of_port, waiting, input_view, places, idles, pull_acts, open_count, PortsThere, view_of, new_view, Sound, Fresh, port_state_by, port_state, held_by, held, Turned, Does, EndsIfDone, done, opens, more, Again, over, still, HandedOn, Gave, first, none, Took, passed, stored, without, Ended, FirstOut, LastIn}
-use Rattle.stage_fans.proofs.Closings.{open_wish, unasked_wish, Cancels, set_behind, at_behind, ins_append, cancels_give, cancels_stand}
+use Rattle.stage_core.proofs.Closings.{open_wish, unasked_wish, Cancels, set_behind, at_behind, ins_append, cancels_give, cancels_stand}
 use Rattle.stage_merge.proofs.Fewer.{fewer}
 use Rattle.stage_merge.proofs.Merges.{queued, out_merged, none_merged, used_none, used_one, ended_place, open_place, over_closed, came_now, ended_now, stored_now, released_now, idle_now, gone_now, failed_now, none_now, here_now, only_head, tail_once, stored_once, there_stored, there_by, one_less, none_open}
 

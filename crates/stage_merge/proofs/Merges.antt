@@ -12,14 +12,14 @@ use Rattle.port_core.specs.Call.{arrives}
 use Rattle.stream_model.specs.Outlook.{ended}
 use Rattle.stream_model.specs.FanIn.{Inflow, flow}
 use Rattle.stream_model.specs.Picks.{used_up, FailsWithin}
-use Rattle.stage_law.specs.Inflows.{joined_all, coming}
-use Rattle.stage_law.specs.Merges.{SameEnds, Merged, lists_of}
-use Rattle.stage_law.proofs.Inflows.{joined-nothing_came}
+use Rattle.stage_core.specs.Inflows.{joined_all, coming}
+use Rattle.stage_core.specs.Merges.{SameEnds, Merged, lists_of}
+use Rattle.stage_core.proofs.Inflows.{joined-nothing_came}
 use Rattle.stage_merge.specs.declared.merging.Queued.{Queued}
-use Rattle.stage_fans.specs.Seats.{end_by, InsClosed, AllOver}
+use Rattle.stage_core.specs.Seats.{end_by, InsClosed, AllOver}
 use Rattle.stage_merge.specs.Mergings.{of_port, waiting, input_view, places, open_count, PortsThere}
-use Rattle.stage_fans.proofs.Flags.{same, other}
-use Rattle.stage_fans.proofs.Arrivals.{not_here}
+use Rattle.stage_core.proofs.Flags.{same, other}
+use Rattle.stage_core.proofs.Arrivals.{not_here}
 
 abbrev pub queued : ℕ → Tree → Queued
 queued i t = record { port = i; item = t }

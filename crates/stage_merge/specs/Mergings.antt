@@ -12,12 +12,12 @@ use Rattle.port_core.specs.View.{View}
 use Rattle.port_core.specs.Asking.{PullsStand}
 use Rattle.port_core.specs.Call.{Call, given_on}
 use Rattle.stream_model.specs.FanIn.{Inflow}
-use Rattle.stage_law.specs.Merges.{MergeHeld, waits, shut, MergeTurnAt, MergeKeeps}
-use Rattle.stage_fans.specs.PortsLaws.{InPortsLaw}
+use Rattle.stage_core.specs.Merges.{MergeHeld, waits, shut, MergeTurnAt, MergeKeeps}
+use Rattle.stage_core.specs.PortsLaws.{InPortsLaw}
 use Rattle.stage_core.specs.declared.phase.Phase.{Phase}
 use Rattle.stage_core.specs.declared.phase.Phase.TheVariants.{New, Open, Closed}
 use Rattle.stage_merge.specs.declared.merging.Queued.{Queued}
-use Rattle.stage_fans.specs.Seats.{wish, FanClosed, end_by}
+use Rattle.stage_core.specs.Seats.{wish, FanClosed, end_by}
 
 -- where it stands; which inputs have ended; what waits, first come first, and the room for it; whether the output is asked; how many
 -- inputs have not ended

@@ -12,11 +12,11 @@ ghost use Rattle.stream_model.specs.Node.{World, node_outlook};
 ghost use Rattle.stream_model.specs.Outlook.{Outlook, Agrees};
 ghost use Rattle.stream_model.specs.FanIn.{AllAgree};
 ghost use Rattle.stream_model.specs.Picks.{merge_fits};
-ghost use Rattle.stream_picture.specs.Rests.{MergeRests};
+ghost use Rattle.stream_model.specs.Rests.{MergeRests};
 ghost use Rattle.stage_core.specs.declared.stage.TheConstants.{MOST_ACTS};
 ghost use Rattle.stage_core.specs.Handling.{Starts, Handles};
-ghost use Rattle.stage_fans.specs.Seats.{room_for};
-ghost use Rattle.stage_fans.specs.OwnRows.{FanRests};
+ghost use Rattle.stage_core.specs.Seats.{room_for};
+ghost use Rattle.stage_core.specs.OwnRows.{FanRests};
 ghost use Rattle.stage_core.specs.declared.phase.Phase.TheVariants.{New, Open};
 ghost use Rattle.stage_merge.specs.Mergings.{Merging, Begins, Turned, port_state, MergeFresh, MergePortState, MergesAs};
 

@@ -4,7 +4,7 @@ ghost use Rattle.port_core.specs.declared.act.Act.TheVariants as act;
 ghost use Rattle.port_core.specs.Call.{Obeys, Meets, starts, pulls, arrives, cancels};
 ghost use Rattle.stream_model.specs.declared.kind.TheConstants.{MAX_FAN};
 ghost use Rattle.stage_core.specs.declared.phase.Phase.TheVariants.{New, Open, Closed};
-ghost use Rattle.stage_fans.specs.Seats.{open_cancels, room_for};
+ghost use Rattle.stage_core.specs.Seats.{open_cancels, room_for};
 ghost use Rattle.stage_merge.specs.Mergings.{port_state, Turned, FirstOut, LastIn, Begins, Does, Gave, HandedOn, Took, EndsIfDone, Again, Ended, without, pull_acts, PortsThere, open_count};
 
 use elem_core::elem::Elem;
@@ -12,8 +12,8 @@ use elem_core::why::{Cause, NoMemory};
 use port_core::act::Act;
 use port_core::acts::Acts;
 use port_core::pick_log::PickLog;
+use stage_core::ins::{cancel_open, open_inputs};
 use stage_core::phase::Phase;
-use stage_fans::ins::{cancel_open, open_inputs};
 use std::alloc::Global;
 use std::collections::VecDeque;
 use std::marker::Model;

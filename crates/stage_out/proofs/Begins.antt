@@ -6,8 +6,8 @@ use Rattle.port_core.specs.declared.view.OutView.{OutView}
 use Rattle.port_core.specs.declared.view.OutView.TheVariants.{Unpulled}
 use Rattle.port_core.specs.View.{unpulled_outs}
 use Rattle.port_core.specs.declared.view.InView.TheVariants.{Idle}
-use Rattle.stage_fans.specs.declared.outs.OutputState.TheVariants.{Quiet}
-use Rattle.stage_fans.specs.Outs.{want_view, open_count, asks_count}
+use Rattle.stage_core.specs.declared.outs.OutputState.TheVariants.{Quiet}
+use Rattle.stage_core.specs.OpenOuts.{want_view, open_count, asks_count}
 use Rattle.stage_out.specs.Copies.{quiet_count, input_by}
 use Rattle.stage_out.specs.PartitionStates as part
 use Rattle.stage_out.specs.CopyStates as copy

@@ -21,14 +21,14 @@ use Rattle.port_core.specs.Asking.{PullsStand}
 use Rattle.port_core.specs.Call.{Call, starts, pulls, arrives, cancels, CallAllowed, seen, Obeys, Meets, given_on}
 use Rattle.stream_model.specs.Machine.{going, done}
 use Rattle.stream_model.specs.Linear.{Book}
-use Rattle.stage_law.specs.Held.{shut}
-use Rattle.stage_law.specs.Turn.{TurnAt}
-use Rattle.stage_law.specs.Outs.{TurnsAt}
-use Rattle.stage_fans.specs.declared.outs.OutputState.{OutputState}
-use Rattle.stage_fans.specs.declared.outs.OutputState.TheVariants.{Quiet, Asks, Gone}
-use Rattle.stage_fans.specs.Outs.{want_view, open_count, at_open, AllClosed, OutsClosed, asks_count}
+use Rattle.stage_core.specs.Held.{shut}
+use Rattle.stage_core.specs.Turn.{TurnAt}
+use Rattle.stage_core.specs.Outs.{TurnsAt}
+use Rattle.stage_core.specs.declared.outs.OutputState.{OutputState}
+use Rattle.stage_core.specs.declared.outs.OutputState.TheVariants.{Quiet, Asks, Gone}
+use Rattle.stage_core.specs.OpenOuts.{want_view, open_count, at_open, AllClosed, OutsClosed, asks_count}
 use Rattle.stage_out.specs.PartitionStates.{PartitionLogic, input_of, view_of, Holding, Sound, port_state_by, port_state, held_for, stage_of, state_of, due_of, held_of, dealers, dues, Turned, Parts, pull_by, waits_by, EndedFor, ends_now, ends_later, with_asks, Noted, pulls_input, rests, AskedOf, gets, notes, moved_on, moving_acts, Dealt, given, keeps, drops, with_given, Served, dealt, blamed, blaming, struck, less_by, PassedOver, dropped, kept_on, Lost, last, others}
-use Rattle.stage_fans.proofs.OutViews.{want_set, is_quiet, is_open, gone_views, after_one, shut_views}
+use Rattle.stage_core.proofs.OutViews.{want_set, is_quiet, is_open, gone_views, after_one, shut_views}
 use Rattle.stage_out.proofs.Wants.{same, other, quiet_lost, asked_lost, Acted, given_one, acts_from, all_open}
 use Rattle.stage_out.proofs.Dues.{get_of, same_get, set_at, pull_given, open_given, mach, turns_each, is_gone, still, gone_here, out_here, last_here, ends_asked, ends_lost, deal_given, deal_kept, deal_other, deal_blamed, end_now, end_later, fail_now}
 

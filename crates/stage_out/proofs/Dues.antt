@@ -14,12 +14,12 @@ use Rattle.port_core.specs.declared.act.Act.TheVariants.{Complete, FailOut}
 use Rattle.port_core.specs.Call.{Call, starts, pulls, arrives, cancels, given_by, given_on}
 use Rattle.stream_model.specs.Machine.{State, going, done, Machine}
 use Rattle.stream_model.specs.Linear.{Book, Stage, numbering, linear}
-use Rattle.stage_law.specs.Held.{Held, shut}
-use Rattle.stage_law.specs.Turn.{TurnAt}
-use Rattle.stage_law.specs.Outs.{TurnsAt}
-use Rattle.stage_fans.specs.declared.outs.OutputState.{OutputState}
-use Rattle.stage_fans.specs.declared.outs.OutputState.TheVariants.{Quiet, Asks, Gone}
-use Rattle.stage_fans.specs.Outs.{at_open}
+use Rattle.stage_core.specs.Held.{Held, shut}
+use Rattle.stage_core.specs.Turn.{TurnAt}
+use Rattle.stage_core.specs.Outs.{TurnsAt}
+use Rattle.stage_core.specs.declared.outs.OutputState.{OutputState}
+use Rattle.stage_core.specs.declared.outs.OutputState.TheVariants.{Quiet, Asks, Gone}
+use Rattle.stage_core.specs.OpenOuts.{at_open}
 use Rattle.stage_out.specs.PartitionStates.{PartitionLogic, due_of, dealers, dues, pull_by}
 use Rattle.stage_out.proofs.Wants.{same, other, later, first, given_one, BringsNone}
 use Rattle.stage_out.proofs.Partitions.{given_here, held_here, counted_here, blamed_here, ends_here, end_waits, failure_drops}

@@ -1,3 +1,9 @@
+pub mod Queues
+pub mod BalanceWants
+pub mod Handlings
+pub mod Comings
+pub mod Balances
+pub mod BalanceNodes
 pub mod Wants
 pub mod OnOks
 pub mod Serves

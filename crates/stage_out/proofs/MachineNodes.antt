@@ -21,15 +21,15 @@ use Rattle.stream_model.specs.Node.{World, head_of, node_outlook}
 use Rattle.stream_model.specs.Outlook.{Outlook, End, unended, ended, failed, Agrees}
 use Rattle.stage_core.specs.Handling.{Starts, Handles}
 use Rattle.stage_core.specs.Histories.{given_all, brought_by, AllEmpty}
-use Rattle.stage_law.specs.Held.{told, Held}
-use Rattle.stage_law.specs.Law.{TookAs, GaveAs, Law}
-use Rattle.stage_law.specs.Outs.{Outlet, OutsLaw, owe}
-use Rattle.stage_law.proofs.Calls.{new_law}
-use Rattle.stage_law.proofs.Whole.{stage_stands}
-use Rattle.stage_law.proofs.OutTurns.{outs_call}
+use Rattle.stage_core.specs.Held.{told, Held}
+use Rattle.stage_core.specs.Law.{TookAs, GaveAs, Law}
+use Rattle.stage_core.specs.Outs.{Outlet, OutsLaw, owe}
+use Rattle.stage_core.proofs.Calls.{new_law}
+use Rattle.stage_core.proofs.Whole.{stage_stands}
+use Rattle.stage_core.proofs.OutTurns.{outs_call}
 use Rattle.stage_out.specs.declared.machines.OutMachines.{OutMachines}
 use Rattle.stage_out.specs.declared.machines.OutMachines.TheVariants.{Copies, Deals}
-use Rattle.stage_fans.specs.Outs.{want_view}
+use Rattle.stage_core.specs.OpenOuts.{want_view}
 use Rattle.stage_out.specs.CopyStates.{part_by}
 use Rattle.stage_out.specs.CopyStates as copy
 use Rattle.stage_out.specs.PartitionStates.{then_of}
@@ -38,7 +38,7 @@ use Rattle.stage_out.specs.Machines.{is_live, port_state, Turned, outlets, owed,
 use Rattle.stage_out.specs.MachineNodes.{MachinesFresh, MachinesLaw, GaveAgrees}
 use Rattle.stage_out.proofs.OutMachines.{turns_of, owe_copies, owe_deals, length-owed, length-dues}
 use Rattle.stage_out.proofs.Rests.{told_lists}
-use Rattle.stage_fans.proofs.Histories.{brought_at, length-brought, given_at, length-given_all}
+use Rattle.stage_core.proofs.Histories.{brought_at, length-brought, given_at, length-given_all}
 use Rattle.stage_out.proofs.OutRests.{called_is_live, length-copiers, length-dealers}
 
 -- ---- the laws of the outputs

@@ -13,10 +13,10 @@ use Rattle.stream_model.specs.declared.kind.Kind.TheVariants.{Broadcast, Balance
 use Rattle.stage_core.specs.declared.stage.TheConstants.{MOST_ACTS}
 use Rattle.stage_core.specs.Handling.{PullsAs, Starts, Handles}
 use Rattle.stage_core.specs.Histories.{given_all, brought_by}
-use Rattle.stage_fans.specs.Seats.{room_for}
-use Rattle.stage_balance.specs.Balancings.{Balancing, BalanceFresh, BalancesAs}
-use Rattle.stage_balance.specs.Balancings as balance
-use Rattle.stage_balance.proofs.BalanceNodes as balances
+use Rattle.stage_core.specs.Seats.{room_for}
+use Rattle.stage_out.specs.Balancings.{Balancing, BalanceFresh, BalancesAs}
+use Rattle.stage_out.specs.Balancings as balance
+use Rattle.stage_out.proofs.BalanceNodes as balances
 use Rattle.stage_out.specs.declared.machines.OutMachines.{OutMachines}
 use Rattle.stage_out.specs.declared.logic.OutLogic.{OutLogic}
 use Rattle.stage_out.specs.declared.logic.OutLogic.TheVariants.{Machines, Balances}

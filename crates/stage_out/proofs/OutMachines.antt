@@ -14,10 +14,10 @@ use Rattle.stream_model.specs.Machine.{Stands, output}
 use Rattle.stream_model.specs.Node.{World, head_of}
 use Rattle.stream_model.specs.Outlook.{Outlook, End, Agrees}
 use Rattle.stream_model.proofs.Traces.{trace_output}
-use Rattle.stage_law.specs.Held.{Held}
-use Rattle.stage_law.specs.Outs.{TurnsAt, owe}
-use Rattle.stage_fans.specs.declared.outs.OutputState.{OutputState}
-use Rattle.stage_fans.specs.declared.outs.OutputState.TheVariants.{Quiet}
+use Rattle.stage_core.specs.Held.{Held}
+use Rattle.stage_core.specs.Outs.{TurnsAt, owe}
+use Rattle.stage_core.specs.declared.outs.OutputState.{OutputState}
+use Rattle.stage_core.specs.declared.outs.OutputState.TheVariants.{Quiet}
 use Rattle.stage_out.specs.declared.machines.OutMachines.{OutMachines}
 use Rattle.stage_out.specs.declared.machines.OutMachines.TheVariants.{Copies, Deals}
 use Rattle.stage_out.specs.Copies.{copying, nothing_owed, owed_by, outlets}

@@ -13,19 +13,19 @@ use Rattle.port_core.specs.View.{IsOutOpen}
 use Rattle.port_core.specs.Call.{Call, starts, pulls, arrives, cancels, AllIdle, MayCome, CallAllowed, Meets}
 use Rattle.stream_model.specs.Linear.{Book, Stage}
 use Rattle.stream_model.specs.Outlook.{End}
-use Rattle.stream_picture.specs.View.{SomeWire}
-use Rattle.stream_picture.specs.Rests.{IsUnasked, PartitionRests}
-use Rattle.stage_law.specs.Held.{told, Held}
-use Rattle.stage_law.specs.Outs.{Outlet, OutsLaw}
-use Rattle.stage_law.specs.OwnPorts.{own_input}
+use Rattle.stream_model.specs.View.{SomeWire}
+use Rattle.stream_model.specs.Rests.{IsUnasked, PartitionRests}
+use Rattle.stage_core.specs.Held.{told, Held}
+use Rattle.stage_core.specs.Outs.{Outlet, OutsLaw}
+use Rattle.stage_core.specs.OwnPorts.{own_input}
 use Rattle.stage_core.specs.declared.stage.TheConstants.{MOST_ACTS}
-use Rattle.stage_fans.specs.Seats.{room_for}
-use Rattle.stage_fans.specs.declared.outs.OutputState.{OutputState}
-use Rattle.stage_fans.specs.declared.outs.OutputState.TheVariants.{Quiet, Asks, Gone}
+use Rattle.stage_core.specs.Seats.{room_for}
+use Rattle.stage_core.specs.declared.outs.OutputState.{OutputState}
+use Rattle.stage_core.specs.declared.outs.OutputState.TheVariants.{Quiet, Asks, Gone}
 use Rattle.stage_out.specs.declared.machines.OutMachines.{OutMachines}
 use Rattle.stage_out.specs.declared.machines.OutMachines.TheVariants.{Copies, Deals}
 use Rattle.stage_out.specs.Copies as copies
-use Rattle.stage_fans.specs.Outs.{want_view, open_count, OneInClosed, OutsClosed, AllClosed, asks_count}
+use Rattle.stage_core.specs.OpenOuts.{want_view, open_count, OneInClosed, OutsClosed, AllClosed, asks_count}
 use Rattle.stage_out.specs.CopyStates.{CopyLogic, part_by}
 use Rattle.stage_out.specs.CopyStates as copy
 use Rattle.stage_out.specs.PartitionStates.{PartitionLogic, input_of, view_of, Holding, Sound, dealers, then_of}

@@ -6,7 +6,7 @@ use Rattle.elem_core.specs.Values.{map_value, part_of}
 use Rattle.elem_core.specs.declared.why.Why.{Why}
 use Rattle.port_core.specs.declared.act.Act.{Act}
 use Rattle.port_core.specs.declared.act.Act.TheVariants.{Push, Cancel, FailOut}
-use Rattle.stage_fans.specs.Outs.{at_open}
+use Rattle.stage_core.specs.OpenOuts.{at_open}
 use Rattle.stage_out.specs.PartitionStates.{PartitionLogic, TookFor, moved_on, moving_acts, Noted, AskedOf, gets, notes, PassedOver, dropped, kept_on, Dealt, Served, dealt, blamed}
 
 pub took_by : (j : ℕ) (old new : PartitionLogic) (h : Option Tree) → old.to ≡ j → h ≡ old.held → new ≡ record old { held = None } → TookFor j old new h

@@ -6,9 +6,9 @@ use Rattle.elem_core.specs.declared.item.Item.{Item}
 use Rattle.stream_model.specs.Outlook.{End, unended, ended, failed}
 use Rattle.stream_model.specs.Machine.{going, done, broken, Run, run}
 use Rattle.stream_model.specs.Linear.{Stage}
-use Rattle.stage_law.specs.Held.{told}
-use Rattle.stage_law.specs.Law.{ends_by, Law}
-use Rattle.stage_law.specs.Outs.{OutsLaw}
+use Rattle.stage_core.specs.Held.{told}
+use Rattle.stage_core.specs.Law.{ends_by, Law}
+use Rattle.stage_core.specs.Outs.{OutsLaw}
 use Rattle.stage_out.proofs.Agreeing.{copies_run}
 use Rattle.elem_core.specs.Tree.{Tree}
 use Rattle.port_core.specs.declared.view.InView.{InView}
@@ -16,12 +16,12 @@ use Rattle.port_core.specs.declared.view.InView.TheVariants.{Idle, Pulled, Finis
 use Rattle.port_core.specs.declared.view.OutView.{OutView}
 use Rattle.port_core.specs.declared.view.OutView.TheVariants as outlet
 use Rattle.port_core.specs.View as port
-use Rattle.stream_picture.specs.View.{EachWire, SomeWire}
-use Rattle.stream_picture.specs.Rests.{IsShut, IsUnasked, AllOpenAsked, CopiesAll, CopiesSome, OneToMany, BroadcastRests}
-use Rattle.stage_law.specs.OwnPorts.{own_input}
-use Rattle.stage_fans.specs.declared.outs.OutputState.{OutputState}
-use Rattle.stage_fans.specs.declared.outs.OutputState.TheVariants.{Quiet, Asks, Gone}
-use Rattle.stage_fans.specs.Outs.{want_view, OneInClosed, OutsClosed}
+use Rattle.stream_model.specs.View.{EachWire, SomeWire}
+use Rattle.stream_model.specs.Rests.{IsShut, IsUnasked, AllOpenAsked, CopiesAll, CopiesSome, OneToMany, BroadcastRests}
+use Rattle.stage_core.specs.OwnPorts.{own_input}
+use Rattle.stage_core.specs.declared.outs.OutputState.{OutputState}
+use Rattle.stage_core.specs.declared.outs.OutputState.TheVariants.{Quiet, Asks, Gone}
+use Rattle.stage_core.specs.OpenOuts.{want_view, OneInClosed, OutsClosed}
 use Rattle.stage_out.specs.Copies.{copying, nothing_owed, owed_by, outlets, input_by, quiet_count}
 use Rattle.stage_out.specs.CopyStates.{CopyLogic, port_state_by, port_state}
 use Rattle.stage_out.specs.OwnRows.{own_ins, own_outs, Even, Outlists}

@@ -16,15 +16,15 @@ use Rattle.port_core.specs.View.{View, in_at, IsInOpen, IsOutOpen, ActsAllowed, 
 use Rattle.port_core.specs.Asking.{PullsStand}
 use Rattle.port_core.specs.Call.{Call, starts, pulls, arrives, cancels, CallAllowed, seen, Obeys, Meets, given_on}
 use Rattle.stream_model.specs.Linear.{Stage}
-use Rattle.stage_law.specs.Held.{shut}
-use Rattle.stage_law.specs.Turn.{none_lost, TurnAt}
-use Rattle.stage_law.specs.Outs.{TurnsAt}
-use Rattle.stage_fans.specs.declared.outs.OutputState.{OutputState}
-use Rattle.stage_fans.specs.declared.outs.OutputState.TheVariants.{Quiet, Asks, Gone}
-use Rattle.stage_fans.specs.Outs.{want_view, open_count, at_open, OutsClosed, AllClosed}
+use Rattle.stage_core.specs.Held.{shut}
+use Rattle.stage_core.specs.Turn.{none_lost, TurnAt}
+use Rattle.stage_core.specs.Outs.{TurnsAt}
+use Rattle.stage_core.specs.declared.outs.OutputState.{OutputState}
+use Rattle.stage_core.specs.declared.outs.OutputState.TheVariants.{Quiet, Asks, Gone}
+use Rattle.stage_core.specs.OpenOuts.{want_view, open_count, at_open, OutsClosed, AllClosed}
 use Rattle.stage_out.specs.Copies.{copying, owed_by, owed, outlets, input_by, quiet_count, served_one, served}
 use Rattle.stage_out.specs.CopyStates.{CopyLogic, part_by, view_of, Sound, port_state_by, port_state, Turned, Does, without, Lost, last, unasked, wanted}
-use Rattle.stage_fans.proofs.OutViews.{after_one, want_set, is_quiet, is_open, shut_views, gone_views}
+use Rattle.stage_core.proofs.OutViews.{after_one, want_set, is_quiet, is_open, shut_views, gone_views}
 use Rattle.stage_out.proofs.Wants.{other, asked_count, quiet_lost, asked_lost, served_quiet, served_open, Acted, acts_from, all_asked, all_open, served_views, given_one, turns_from, kept_turns, asked_turns, lost_turns, none_owed, map_same}
 
 -- ---- the row

@@ -7,10 +7,10 @@ use Rattle.port_core.specs.declared.view.InView.{InView}
 use Rattle.port_core.specs.declared.view.InView.TheVariants.{Idle, Pulled}
 use Rattle.stream_model.specs.Machine.{going, adds, Run, Machine}
 use Rattle.stream_model.specs.Linear.{Stage}
-use Rattle.stage_law.specs.Held.{Held, owing, shut}
-use Rattle.stage_law.specs.Outs.{Outlet}
-use Rattle.stage_fans.specs.declared.outs.OutputState.{OutputState}
-use Rattle.stage_fans.specs.declared.outs.OutputState.TheVariants.{Quiet, Asks, Gone}
+use Rattle.stage_core.specs.Held.{Held, owing, shut}
+use Rattle.stage_core.specs.Outs.{Outlet}
+use Rattle.stage_core.specs.declared.outs.OutputState.{OutputState}
+use Rattle.stage_core.specs.declared.outs.OutputState.TheVariants.{Quiet, Asks, Gone}
 
 -- a part of each element, as a machine
 abbrev pub copying : (Tree → Tree) → Machine Stage Tree

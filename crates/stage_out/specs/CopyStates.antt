@@ -8,10 +8,10 @@ use Rattle.port_core.specs.View.{View}
 use Rattle.port_core.specs.Asking.{PullsStand}
 use Rattle.port_core.specs.Call.{Call}
 use Rattle.stream_model.specs.Linear.{Stage}
-use Rattle.stage_law.specs.Outs.{TurnsAt}
-use Rattle.stage_fans.specs.declared.outs.OutputState.{OutputState}
-use Rattle.stage_fans.specs.declared.outs.OutputState.TheVariants.{Quiet, Gone}
-use Rattle.stage_fans.specs.Outs.{want_view, open_count, AllClosed}
+use Rattle.stage_core.specs.Outs.{TurnsAt}
+use Rattle.stage_core.specs.declared.outs.OutputState.{OutputState}
+use Rattle.stage_core.specs.declared.outs.OutputState.TheVariants.{Quiet, Gone}
+use Rattle.stage_core.specs.OpenOuts.{want_view, open_count, AllClosed}
 use Rattle.stage_out.specs.Copies.{owed, outlets, input_by, quiet_count}
 
 -- whether its ports are open; whether it takes pairs apart; its outputs; how many of them are open and unasked, and how many are open

@@ -1,3 +1,6 @@
+pub mod Outs
+pub mod Balances
+pub mod Balancings
 pub mod Copies
 pub mod CopyStates
 pub mod OwnRows

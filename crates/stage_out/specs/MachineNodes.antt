@@ -5,9 +5,9 @@ use Rattle.port_core.specs.View.{View}
 use Rattle.stream_model.specs.Linear.{Book}
 use Rattle.stream_model.specs.Outlook.{Outlook, End, Agrees}
 use Rattle.elem_core.specs.Tree.{Tree}
-use Rattle.stream_picture.specs.View as picture
-use Rattle.stage_law.specs.Held.{told}
-use Rattle.stage_law.specs.Outs.{OutsLaw, owe}
+use Rattle.stream_model.specs.View as picture
+use Rattle.stage_core.specs.Held.{told}
+use Rattle.stage_core.specs.Outs.{OutsLaw, owe}
 use Rattle.stage_out.specs.declared.machines.OutMachines.{OutMachines}
 use Rattle.stage_out.specs.Machines.{IsNew, port_state, outlets, owed, rests_as, IsAlike}
 

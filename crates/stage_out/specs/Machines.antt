@@ -17,12 +17,12 @@ use Rattle.stream_model.specs.Graph.{Graph}
 use Rattle.stream_model.specs.Machine.{Stands}
 use Rattle.stream_model.specs.Node.{World, head_of, node_outlook}
 use Rattle.stream_model.specs.Outlook.{Outlook, End, Agrees}
-use Rattle.stream_picture.specs.View as picture
-use Rattle.stream_picture.specs.Rests.{OneToMany, BroadcastRests, PartitionRests, RowRests}
-use Rattle.stage_law.specs.Held.{Held, owing, shut}
-use Rattle.stage_law.specs.Outs.{Outlet, TurnsAt, owe}
-use Rattle.stage_fans.specs.Seats.{room_for}
-use Rattle.stage_fans.specs.declared.outs.OutputState.{OutputState}
+use Rattle.stream_model.specs.View as picture
+use Rattle.stream_model.specs.Rests.{OneToMany, BroadcastRests, PartitionRests, RowRests}
+use Rattle.stage_core.specs.Held.{Held, owing, shut}
+use Rattle.stage_core.specs.Outs.{Outlet, TurnsAt, owe}
+use Rattle.stage_core.specs.Seats.{room_for}
+use Rattle.stage_core.specs.declared.outs.OutputState.{OutputState}
 use Rattle.stage_out.specs.declared.machines.OutMachines.{OutMachines}
 use Rattle.stage_out.specs.declared.machines.OutMachines.TheVariants.{Copies, Deals}
 use Rattle.stage_out.specs.Copies.{copying, nothing_owed, owed_by}

@@ -8,10 +8,10 @@ use Rattle.port_core.specs.Call.{Call}
 use Rattle.stream_model.specs.declared.kind.Kind.{Kind}
 use Rattle.stream_model.specs.declared.kind.Kind.TheVariants.{Balance}
 use Rattle.stream_model.specs.declared.kind.TheConstants.{MAX_FAN}
-use Rattle.stage_fans.specs.Seats.{room_for}
-use Rattle.stage_balance.specs.Outs.{SomeAsked}
-use Rattle.stage_balance.specs.Balancings.{BalanceFresh, BalancesAs}
-use Rattle.stage_balance.specs.Balancings as balance
+use Rattle.stage_core.specs.Seats.{room_for}
+use Rattle.stage_out.specs.Outs.{SomeAsked}
+use Rattle.stage_out.specs.Balancings.{BalanceFresh, BalancesAs}
+use Rattle.stage_out.specs.Balancings as balance
 use Rattle.stage_out.specs.declared.logic.OutLogic.{OutLogic}
 use Rattle.stage_out.specs.declared.logic.OutLogic.TheVariants.{Machines, Balances}
 use Rattle.stage_out.specs.Machines.{IsMachines}

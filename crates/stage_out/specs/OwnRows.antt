@@ -6,14 +6,14 @@ use Rattle.port_core.specs.declared.view.OutView.{OutView}
 use Rattle.port_core.specs.View as port
 use Rattle.elem_core.specs.declared.item.Item.{Item}
 use Rattle.stream_model.specs.Outlook.{End}
-use Rattle.stage_law.specs.Held.{told}
-use Rattle.stream_picture.specs.View.{SeenWire, EachWire}
-use Rattle.stream_picture.specs.Rests.{IsShut}
-use Rattle.stage_law.specs.OwnPorts.{own_input, own_output}
-use Rattle.stage_fans.specs.declared.outs.OutputState.{OutputState}
+use Rattle.stage_core.specs.Held.{told}
+use Rattle.stream_model.specs.View.{SeenWire, EachWire}
+use Rattle.stream_model.specs.Rests.{IsShut}
+use Rattle.stage_core.specs.OwnPorts.{own_input, own_output}
+use Rattle.stage_core.specs.declared.outs.OutputState.{OutputState}
 use Rattle.stage_out.specs.declared.machines.OutMachines.{OutMachines}
 use Rattle.stage_out.specs.Machines.{rests_as}
-use Rattle.stage_fans.specs.declared.outs.OutputState.TheVariants.{Quiet, Asks, Gone}
+use Rattle.stage_core.specs.declared.outs.OutputState.TheVariants.{Quiet, Asks, Gone}
 
 -- the one input, with what was taken, and the outputs, each with what was given there
 abbrev pub own_ins : List InView → List Tree → List SeenWire

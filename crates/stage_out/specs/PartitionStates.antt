@@ -15,11 +15,11 @@ use Rattle.port_core.specs.Asking.{PullsStand}
 use Rattle.port_core.specs.Call.{Call}
 use Rattle.stream_model.specs.Machine.{State, going, done}
 use Rattle.stream_model.specs.Linear.{Book, Stage, numbering, linear, begin_work}
-use Rattle.stage_law.specs.Held.{Held, owing, shut}
-use Rattle.stage_law.specs.Outs.{Outlet, TurnsAt}
-use Rattle.stage_fans.specs.declared.outs.OutputState.{OutputState}
-use Rattle.stage_fans.specs.declared.outs.OutputState.TheVariants.{Quiet, Asks, Gone}
-use Rattle.stage_fans.specs.Outs.{want_view, open_count, asks_count, at_open, AllClosed}
+use Rattle.stage_core.specs.Held.{Held, owing, shut}
+use Rattle.stage_core.specs.Outs.{Outlet, TurnsAt}
+use Rattle.stage_core.specs.declared.outs.OutputState.{OutputState}
+use Rattle.stage_core.specs.declared.outs.OutputState.TheVariants.{Quiet, Asks, Gone}
+use Rattle.stage_core.specs.OpenOuts.{want_view, open_count, asks_count, at_open, AllClosed}
 
 -- Whether its ports are open; its number, its count of outputs and its function; its outputs, how many of them ask and how many are open;
 -- the output that it holds an element for, and the element; whether its input is asked, and has ended; how many elements it took.

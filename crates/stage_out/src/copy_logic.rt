@@ -3,10 +3,10 @@ ghost use Rattle.elem_core.specs.declared.item.Item.TheVariants as item;
 ghost use Rattle.port_core.specs.declared.act.Act.TheVariants as act;
 ghost use Rattle.port_core.specs.Call.{Obeys, Meets, starts, pulls, arrives, cancels};
 ghost use Rattle.stream_model.specs.declared.kind.TheConstants.{MAX_FAN};
-ghost use Rattle.stage_fans.specs.declared.outs.OutputState.TheVariants.{Quiet, Asks, Gone};
+ghost use Rattle.stage_core.specs.declared.outs.OutputState.TheVariants.{Quiet, Asks, Gone};
 ghost use Rattle.elem_core.specs.Values.{left_half, right_half};
-ghost use Rattle.stage_fans.specs.Seats.{room_for};
-ghost use Rattle.stage_fans.specs.Outs.{at_open};
+ghost use Rattle.stage_core.specs.Seats.{room_for};
+ghost use Rattle.stage_core.specs.OpenOuts.{at_open};
 ghost use Rattle.stage_out.specs.Copies.{push_to, push_where, served, served_one};
 ghost use Rattle.stage_out.specs.CopyStates.{port_state, Turned, Does, Lost, part_by, begun};
 
@@ -14,7 +14,7 @@ use elem_core::elem::{Elem, Form};
 use elem_core::why::{Cause, NoMemory};
 use port_core::act::Act;
 use port_core::acts::Acts;
-use stage_fans::outs::{OutputState, complete_open, fail_open, quiet_outs};
+use stage_core::outs::{OutputState, complete_open, fail_open, quiet_outs};
 use std::alloc::Global;
 use std::marker::Model;
 

@@ -5,12 +5,12 @@ ghost use Rattle.port_core.specs.Call.{Obeys, Meets, starts, pulls, arrives, can
 ghost use Rattle.stage_out.specs.OutLogics.{room_of, port_state, Turned, QueuesLast, ServesFirst, IsOut, Begins};
 ghost use Rattle.stage_out.specs.Moves.{out_moves, out_picks};
 
+use crate::balancing::Balancing;
 use crate::machines::OutMachines;
 use elem_core::elem::Elem;
 use elem_core::why::{Cause, Decider, NoMemory};
 use port_core::acts::Acts;
 use port_core::pick_log::PickLog;
-use stage_balance::balancing::Balancing;
 use std::alloc::Global;
 use stream_model::kind::Kind;
 

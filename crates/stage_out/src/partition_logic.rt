@@ -5,9 +5,9 @@ ghost use Rattle.elem_core.specs.declared.item.Item.TheVariants as item;
 ghost use Rattle.port_core.specs.declared.act.Act.TheVariants as act;
 ghost use Rattle.port_core.specs.Call.{Obeys, Meets, starts, pulls, arrives, cancels};
 ghost use Rattle.stream_model.specs.declared.kind.TheConstants.{MAX_FAN};
-ghost use Rattle.stage_fans.specs.declared.outs.OutputState.TheVariants.{Quiet, Asks, Gone};
-ghost use Rattle.stage_fans.specs.Seats.{room_for};
-ghost use Rattle.stage_fans.specs.Outs.{at_open};
+ghost use Rattle.stage_core.specs.declared.outs.OutputState.TheVariants.{Quiet, Asks, Gone};
+ghost use Rattle.stage_core.specs.Seats.{room_for};
+ghost use Rattle.stage_core.specs.OpenOuts.{at_open};
 ghost use Rattle.stage_out.specs.PartitionStates.{port_state, Turned, Parts, pull_by, waits_by, moved_on, moving_acts, TookFor, Noted, AskedOf, Dealt, Served, EndedFor, struck, PassedOver, Lost, with_asks, with_given, blaming, begun};
 
 use elem_core::count::one_more;
@@ -16,7 +16,7 @@ use elem_core::function::{FnEnd, MapFn};
 use elem_core::why::{Cause, NoMemory, Why};
 use port_core::act::Act;
 use port_core::acts::Acts;
-use stage_fans::outs::{OutputState, complete_open, fail_open, quiet_outs};
+use stage_core::outs::{OutputState, complete_open, fail_open, quiet_outs};
 use std::alloc::{AllocError, Global};
 use std::marker::Model;
 

@@ -16,9 +16,9 @@ use Rattle.stage_core.specs.declared.phase.Phase.TheVariants.{New, Open}
 use Rattle.stage_dropping.specs.Droppings as dropping
 use Rattle.stage_dropping.specs.Droppings.{DropFresh, DropPortState, DropsAs}
 use Rattle.stage_dropping.proofs.DropNodes as drops
-use Rattle.stage_recover.specs.Recoverings as recover
-use Rattle.stage_recover.specs.Recoverings.{RecoverFresh, RecoverPortState, RecoversAs}
-use Rattle.stage_recover.proofs.RecoverNodes as recovers
+use Rattle.stage_dropping.specs.Recoverings as recover
+use Rattle.stage_dropping.specs.Recoverings.{RecoverFresh, RecoverPortState, RecoversAs}
+use Rattle.stage_dropping.proofs.RecoverNodes as recovers
 use Rattle.stage_switch.specs.States as switch
 use Rattle.stage_switch.specs.Handling.{ValvePortState, ValveAs, TripPortState, TripAs}
 use Rattle.stage_switch.proofs.Handling as switches

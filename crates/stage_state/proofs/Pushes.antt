@@ -12,9 +12,9 @@ use Rattle.port_core.specs.declared.view.OutView.{OutView}
 use Rattle.port_core.specs.declared.view.OutView.TheVariants as outlet
 use Rattle.stream_model.specs.Machine.{going, broken, Run}
 use Rattle.stream_model.specs.Linear.{Book, Stage, Work, step, linear}
-use Rattle.stage_law.specs.Held.{Held, owing, shut}
-use Rattle.stage_law.specs.Turn.{Emits, FewIn, TurnAt}
-use Rattle.stage_law.proofs.Lagging.{few_nothing}
+use Rattle.stage_core.specs.Held.{Held, owing, shut}
+use Rattle.stage_core.specs.Turn.{Emits, FewIn, TurnAt}
+use Rattle.stage_core.proofs.Lagging.{few_nothing}
 use Rattle.stage_core.specs.declared.phase.Phase.{Phase}
 use Rattle.stage_core.specs.declared.phase.Phase.TheVariants.{Open}
 use Rattle.stage_keeping.specs.declared.ending.StateEnd.{StateEnd}

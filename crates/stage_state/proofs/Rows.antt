@@ -12,11 +12,11 @@ use Rattle.port_core.specs.Call.{Call, starts, CallAllowed}
 use Rattle.stream_model.specs.Outlook.{End, unended}
 use Rattle.stream_model.specs.Machine.{State, going, Run, Machine, run}
 use Rattle.stream_model.specs.Linear.{Stage, Work}
-use Rattle.stream_picture.specs.OneWay.{holds_at_end}
-use Rattle.stage_law.specs.Held.{owing}
-use Rattle.stage_law.specs.Law.{ends_by, Law}
-use Rattle.stage_law.specs.OwnPorts.{OwnRests}
-use Rattle.stage_law.proofs.OwnRows.{waiting_rests, idle_rests, closed_rests}
+use Rattle.stream_model.specs.OneWay.{holds_at_end}
+use Rattle.stage_core.specs.Held.{owing}
+use Rattle.stage_core.specs.Law.{ends_by, Law}
+use Rattle.stage_core.specs.OwnPorts.{OwnRests}
+use Rattle.stage_core.proofs.OwnRows.{waiting_rests, idle_rests, closed_rests}
 use Rattle.stage_linear.proofs.Rows.{may_come, closed_ports}
 use Rattle.stage_core.specs.declared.phase.Phase.{Phase}
 use Rattle.stage_core.specs.declared.phase.Phase.TheVariants.{New, Open, Closed}

@@ -5,7 +5,7 @@ use Rattle.elem_core.specs.declared.why.Decider.{Decider}
 use Rattle.port_core.specs.View.{View, unpulled_ports}
 use Rattle.stream_model.specs.declared.kind.Kind.{Kind}
 use Rattle.stage_dropping.specs.Droppings.{DropFresh, DropPortState, DropsAs}
-use Rattle.stage_recover.specs.Recoverings.{RecoverFresh, RecoverPortState, RecoversAs}
+use Rattle.stage_dropping.specs.Recoverings.{RecoverFresh, RecoverPortState, RecoversAs}
 use Rattle.stage_switch.specs.Handling.{ValveFresh, ValvePortState, ValveAs, TripFresh, TripPortState, TripAs}
 use Rattle.stage_state.specs.MachineNodes.{MachineFresh, MachinePortState, MachineLaw}
 use Rattle.stage_state.specs.declared.logic.StateLogic.{StateLogic}

@@ -12,9 +12,9 @@ use Rattle.stream_model.specs.declared.kind.Kind.TheVariants.{Buffer, RecoverNum
 use Rattle.stream_model.specs.declared.kind.Policy.TheVariants.{Backpressure}
 use Rattle.stage_core.specs.declared.phase.Phase.{Phase}
 use Rattle.stage_dropping.specs.Droppings as dropping
-use Rattle.stage_recover.specs.Recoverings as recover
-use Rattle.kill_core.specs.declared.end.SwitchEnd.{SwitchEnd}
-use Rattle.kill_core.specs.declared.order.Order.TheVariants.{Shutdown, Abort}
+use Rattle.stage_dropping.specs.Recoverings as recover
+use Rattle.stage_switch.specs.declared.end.SwitchEnd.{SwitchEnd}
+use Rattle.stage_switch.specs.declared.order.Order.TheVariants.{Shutdown, Abort}
 use Rattle.stage_switch.specs.States.{IsUnused, new_valve_of, new_trip_of}
 use Rattle.stage_switch.specs.States as switch
 use Rattle.stage_state.specs.declared.logic.StateLogic.{StateLogic}

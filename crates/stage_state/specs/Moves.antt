@@ -1,7 +1,7 @@
 -- What stages with state choose, and their seats at kill switches. A stage that chooses keeps a log of its moves.
 use Rattle.std.specs.Prelude.{ℕ, List, [], Option, Some, None}
 use Rattle.std.specs.Option.{unwrap_or}
-use Rattle.kill_core.specs.Public.{SeatState}
+use Rattle.stage_switch.specs.Public.{SeatState}
 use Rattle.stage_state.specs.declared.logic.StateLogic.{StateLogic}
 use Rattle.stage_state.specs.declared.logic.StateLogic.TheVariants.{Machine, Dropping, Recovering, Obeying, Tripping}
 

@@ -5,8 +5,8 @@ use Rattle.port_core.specs.declared.view.InView.{InView}
 use Rattle.port_core.specs.declared.view.OutView.{OutView}
 use Rattle.stream_model.specs.Machine.{going, Run}
 use Rattle.stream_model.specs.Linear.{Stage}
-use Rattle.stream_picture.specs.Rests.{IsShut, BufferRests}
-use Rattle.stage_law.specs.OwnPorts.{own_input, own_output}
+use Rattle.stream_model.specs.Rests.{IsShut, BufferRests}
+use Rattle.stage_core.specs.OwnPorts.{own_input, own_output}
 
 -- how a buffer begins: it owes nothing
 abbrev pub begin_buffer : Stage → Run Stage Tree

@@ -15,10 +15,10 @@ use Rattle.stream_model.specs.declared.kind.Kind.TheVariants.{Grouped, Fold, Red
 use Rattle.stream_model.specs.declared.kind.Policy.TheVariants.{Backpressure}
 use Rattle.stream_model.specs.Machine.{State, going, done, broken, Machine}
 use Rattle.stream_model.specs.Linear.{Book, Work, Stage, scanning, linear, begin_work, work_of}
-use Rattle.stream_picture.specs.OneWay.{holds_at_end}
-use Rattle.stage_law.specs.Held.{Held, owing, shut}
-use Rattle.stage_law.specs.Row.{BothClosed}
-use Rattle.stage_law.specs.Turn.{TurnAt}
+use Rattle.stream_model.specs.OneWay.{holds_at_end}
+use Rattle.stage_core.specs.Held.{Held, owing, shut}
+use Rattle.stage_core.specs.Row.{BothClosed}
+use Rattle.stage_core.specs.Turn.{TurnAt}
 use Rattle.stage_core.specs.declared.phase.Phase.{Phase}
 use Rattle.stage_core.specs.declared.phase.Phase.TheVariants.{New, Open, Closed}
 use Rattle.stage_keeping.specs.Endings.{state_by}

@@ -5,7 +5,7 @@ use Rattle.port_core.specs.ListFunction.{ListFunction}
 use Rattle.stream_model.specs.Outlook.{End}
 use Rattle.stream_model.specs.Machine.{Given}
 use Rattle.stream_model.specs.Substreams.{begin_subs}
-use Rattle.stage_law.specs.Held.{owing}
+use Rattle.stage_core.specs.Held.{owing}
 use Rattle.stage_sub.specs.KeptSubs.{Keeps}
 use Rattle.stage_sub.specs.Joined.{untag}
 use Rattle.stage_sub.specs.States.{Logic, Owes, begun, Ready}

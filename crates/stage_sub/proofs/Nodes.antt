@@ -1,6 +1,6 @@
 -- Each call of a stage with substreams keeps the law of its output and of its moves.
 use Rattle.std.specs.Prelude.{Result, OnOk, option_to_list}
-use Rattle.stage_law.specs.Fans.{untagged}
+use Rattle.stage_core.specs.Fans.{untagged}
 use Rattle.std.specs.Option.{unwrap_or}
 use Rattle.std.proofs.Common.{◌≡◌, ◌≢◌, ℕ, zero, suc, ◌+◌, Bool, true, false, inl, inr, List, [], ◌∷◌, ◌++◌, length, take, Option, Some, None, Ok, Err, refl, sym, ap, ◌∙◌, subst, append_assoc, append-nil}
 use Rattle.std.proofs.lemmas.List.{map-append, length-append}
@@ -27,11 +27,11 @@ use Rattle.stream_model.specs.Machine.{State, going, done, broken, Run, Finish, 
 use Rattle.stream_model.specs.Outlook.{End, unended, ended, failed}
 use Rattle.stream_model.specs.Substreams.{Opening, Subs, substreams}
 use Rattle.stream_model.proofs.MachineLaws.{run-append}
-use Rattle.stage_law.specs.Held.{told, Held, owing, shut}
-use Rattle.stage_law.specs.Law.{TookAs, GaveAs, ends_by, Law}
-use Rattle.stage_law.specs.Turn.{TurnAt}
-use Rattle.stage_law.proofs.Calls.{new_law, call_law}
-use Rattle.stage_law.proofs.Ports.{in_unended, may_open}
+use Rattle.stage_core.specs.Held.{told, Held, owing, shut}
+use Rattle.stage_core.specs.Law.{TookAs, GaveAs, ends_by, Law}
+use Rattle.stage_core.specs.Turn.{TurnAt}
+use Rattle.stage_core.proofs.Calls.{new_law, call_law}
+use Rattle.stage_core.proofs.Ports.{in_unended, may_open}
 use Rattle.stage_core.specs.declared.phase.Phase.{Phase}
 use Rattle.stage_core.specs.declared.phase.Phase.TheVariants.{New, Open, Closed}
 use Rattle.chain_core.specs.Means.{Means}

@@ -1,6 +1,6 @@
 -- An element that came to substreams is one step of the stage's machine.
 use Rattle.std.specs.Prelude.{Result, option_to_list}
-use Rattle.stage_law.specs.Fans.{untagged}
+use Rattle.stage_core.specs.Fans.{untagged}
 use Rattle.std.proofs.Common.{◌≡◌, ℕ, ◌+◌, ◌≤◌, Bool, true, false, inl, inr, List, [], ◌∷◌, length, Option, Some, None, Ok, Err, refl, sym, ap, ◌∙◌, subst, arith}
 use Rattle.std.proofs.lemmas.Option.{same_Some}
 use Rattle.elem_core.specs.Tree.{Tree}
@@ -20,9 +20,9 @@ use Rattle.stream_model.specs.Outlook.{End, unended, failed}
 use Rattle.stream_model.specs.Machine.{State, going, broken, Run, Machine, Given, feed}
 use Rattle.stream_model.specs.FanIn.{Tagged}
 use Rattle.stream_model.specs.Substreams.{Sub, Subs, Opening, Fault, arranged, trouble, news, blame, cause_of, sub_run, sub_step, substreams}
-use Rattle.stage_law.specs.Held.{told, Held, owing, shut}
-use Rattle.stage_law.specs.Turn.{last_held, Emits, TurnAt}
-use Rattle.stage_law.proofs.Lagging.{few_nothing}
+use Rattle.stage_core.specs.Held.{told, Held, owing, shut}
+use Rattle.stage_core.specs.Turn.{last_held, Emits, TurnAt}
+use Rattle.stage_core.proofs.Lagging.{few_nothing}
 use Rattle.stage_core.specs.declared.phase.Phase.{Phase}
 use Rattle.stage_core.specs.declared.phase.Phase.TheVariants.{New, Open}
 use Rattle.chain_core.specs.Means.{Means}

@@ -1,6 +1,6 @@
 -- What a stage with substreams knows of its ports: where it is open, and that it has nothing to do there.
 use Rattle.std.specs.Prelude.{slice_index_or}
-use Rattle.stage_law.specs.Fans.{untagged}
+use Rattle.stage_core.specs.Fans.{untagged}
 use Rattle.std.proofs.Common.{◌≡◌, ◌⊎◌, inl, inr, Bool, true, false, List, [], ◌∷◌, ◌++◌, refl, sym, ap, ◌∙◌, subst, append-nil}
 use Rattle.elem_core.specs.Tree.{Tree}
 use Rattle.elem_core.specs.declared.item.Item.{Item}
@@ -15,10 +15,10 @@ use Rattle.stream_model.specs.FanIn.{Tagged}
 use Rattle.stream_model.specs.Machine.{State, going, Run, Machine, run, Given}
 use Rattle.stream_model.specs.Outlook.{End, unended}
 use Rattle.stream_model.specs.Substreams.{Subs}
-use Rattle.stage_law.specs.Held.{Held, owing, shut}
-use Rattle.stage_law.specs.Law.{ends_by, Law}
-use Rattle.stage_law.specs.OwnPorts.{OwnRests}
-use Rattle.stage_law.proofs.OwnRows.{waiting_rests, idle_rests, closed_rests}
+use Rattle.stage_core.specs.Held.{Held, owing, shut}
+use Rattle.stage_core.specs.Law.{ends_by, Law}
+use Rattle.stage_core.specs.OwnPorts.{OwnRests}
+use Rattle.stage_core.proofs.OwnRows.{waiting_rests, idle_rests, closed_rests}
 use Rattle.stage_core.proofs.OneOnes.{at_first, first_port}
 use Rattle.stage_linear.proofs.Rows.{may_come, closed_ports}
 use Rattle.stage_core.specs.declared.phase.Phase.{Phase}

@@ -1,6 +1,6 @@
 -- What a stage with substreams gave is what the model lets it: joined by `concat`, and joined by `merge` by its moves.
 use Rattle.std.proofs.Common.{◌≡◌, ℕ, ◌≤◌, Bool, List, length, take, Some, refl, sym, ap, ◌∙◌, subst, arith}
-use Rattle.stage_law.specs.Fans.{untagged}
+use Rattle.stage_core.specs.Fans.{untagged}
 use Rattle.std.proofs.lemmas.List.{length-map, take-map}
 use Rattle.elem_core.specs.Prefix.{IsPrefix}
 use Rattle.elem_core.specs.Tree.{Tree}
@@ -13,7 +13,7 @@ use Rattle.stream_model.specs.FanIn.{Tagged, merge_of, Finds}
 use Rattle.stream_model.specs.Machine.{Run, Given, run, close, Fails, Stands}
 use Rattle.stream_model.specs.Outlook.{End, unended, ended, failed}
 use Rattle.stream_model.specs.Substreams.{Opening, Subs, substreams, begin_subs, by_sub, sub_count, MergedStands}
-use Rattle.stage_law.proofs.Whole.{stage_stands}
+use Rattle.stage_core.proofs.Whole.{stage_stands}
 use Rattle.stage_sub.specs.Joined.{untag, joined_machine}
 use Rattle.stage_sub.specs.KeptSubs.{opening_of}
 use Rattle.stage_sub.specs.Handling.{ports_given, ready_of, TellsMachine}

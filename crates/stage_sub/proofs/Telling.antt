@@ -3,8 +3,8 @@ use Rattle.std.proofs.Common.{◌≡◌, List, [], ◌∷◌, ◌++◌, refl, sy
 use Rattle.elem_core.specs.Tree.{Tree}
 use Rattle.elem_core.specs.declared.item.Item.{Item}
 use Rattle.stream_model.specs.Outlook.{End, unended, ended, failed}
-use Rattle.stage_law.specs.Held.{told}
-use Rattle.stage_law.proofs.Told.{told-append}
+use Rattle.stage_core.specs.Held.{told}
+use Rattle.stage_core.proofs.Told.{told-append}
 
 pub told_lists : (l k : List Tree) (e d : End) → told l e ≡ told k d → l ≡ k
 told_lists [] [] e d h = refl

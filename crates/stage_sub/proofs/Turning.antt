@@ -1,6 +1,6 @@
 -- The start, an ask and the end of the input, as steps of the stage's machine.
 use Rattle.std.proofs.Common.{◌≡◌, ℕ, Bool, true, false, inl, inr, List, [], ◌∷◌, ◌++◌, Option, Some, None, refl, sym, ap, ◌∙◌, subst, arith, append-nil}
-use Rattle.stage_law.specs.Fans.{untagged}
+use Rattle.stage_core.specs.Fans.{untagged}
 use Rattle.std.specs.Prelude.{⊤, IsTrue}
 use Rattle.std.proofs.lemmas.List.{map-append}
 use Rattle.elem_core.specs.Tree.{Tree}
@@ -19,8 +19,8 @@ use Rattle.stream_model.specs.Outlook.{End, unended, ended, failed}
 use Rattle.stream_model.specs.Machine.{State, going, done, Run, Finish, adds, refuses, Machine, Given, is_going}
 use Rattle.stream_model.specs.FanIn.{Tagged}
 use Rattle.stream_model.specs.Substreams.{Sub, Subs, Fault, end_all, trouble, news, why_of, blame_end, sub_finish, substreams}
-use Rattle.stage_law.specs.Held.{told, Held, owing, shut, sealed_by, after}
-use Rattle.stage_law.specs.Turn.{Emits, TurnAt}
+use Rattle.stage_core.specs.Held.{told, Held, owing, shut, sealed_by, after}
+use Rattle.stage_core.specs.Turn.{Emits, TurnAt}
 use Rattle.stage_core.specs.declared.phase.Phase.{Phase}
 use Rattle.stage_core.specs.declared.phase.Phase.TheVariants.{New, Open, Closed}
 use Rattle.chain_core.specs.Means.{Means}

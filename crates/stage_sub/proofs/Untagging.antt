@@ -1,6 +1,6 @@
 -- The machine of substreams, with the numbers of its outputs' substreams and without.
 use Rattle.std.proofs.Common.{◌≡◌, ℕ, ◌-◌, ◌≤◌, IsTrue, List, [], ◌∷◌, length, take, refl, sym, ap, ◌∙◌, subst}
-use Rattle.stage_law.specs.Fans.{untagged}
+use Rattle.stage_core.specs.Fans.{untagged}
 use Rattle.std.proofs.lemmas.List.{map-append, length-map, take-map}
 use Rattle.elem_core.specs.Prefix.{IsPrefix}
 use Rattle.elem_core.proofs.Prefixes.{prefix_take, prefix_is_take, prefix_refl, prefix_trans}

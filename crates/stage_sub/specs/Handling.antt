@@ -15,8 +15,8 @@ use Rattle.stream_model.specs.FanIn.{Tagged}
 use Rattle.stream_model.specs.Machine.{going, Run, Machine, Given, run, close}
 use Rattle.stream_model.specs.Outlook.{End}
 use Rattle.stream_model.specs.Substreams.{Subs, Opening, substreams}
-use Rattle.stage_law.specs.Held.{Held, owing}
-use Rattle.stage_law.specs.Law.{Law}
+use Rattle.stage_core.specs.Held.{Held, owing}
+use Rattle.stage_core.specs.Law.{Law}
 use Rattle.stage_core.specs.declared.phase.Phase.TheVariants.{New, Closed}
 use Rattle.chain_core.specs.Means.{Means}
 use Rattle.stage_sub.specs.declared.opening.OpenBy.TheVariants.{Before, Behind, Key}

@@ -1,6 +1,6 @@
 -- The machine of substreams as one over elements: the numbers of its outputs' substreams left out.
 use Rattle.std.specs.Prelude.{List, map}
-use Rattle.stage_law.specs.Fans.{untagged}
+use Rattle.stage_core.specs.Fans.{untagged}
 use Rattle.elem_core.specs.Tree.{Tree}
 use Rattle.stream_model.specs.Outlook.{End}
 use Rattle.stream_model.specs.Machine.{Run, Finish, adds, refuses, Machine, Given}

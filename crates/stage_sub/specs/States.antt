@@ -1,6 +1,6 @@
 -- The state of a stage that splits, what it still owes, and its port state: what it knows of its ports.
 use Rattle.std.specs.Prelude.{◌≡◌, ◌≢◌, ◌⊎◌, ◌<◌, ⊤, ℕ, Bool, true, false, List, [], ◌∷◌, ◌++◌, length, Option, Some, None, option_to_list}
-use Rattle.stage_law.specs.Fans.{untagged}
+use Rattle.stage_core.specs.Fans.{untagged}
 use Rattle.elem_core.specs.Tree.{Tree}
 use Rattle.elem_core.specs.declared.why.Cause.{Cause}
 use Rattle.port_core.specs.declared.view.InView.{InView}
@@ -17,9 +17,9 @@ use Rattle.stream_model.specs.Outlook.{End}
 use Rattle.stream_model.specs.Machine.{State, going, done, Machine, Given}
 use Rattle.stream_model.specs.FanIn.{Tagged}
 use Rattle.stream_model.specs.Substreams.{Subs, substreams}
-use Rattle.stage_law.specs.Held.{told, Held, owing, shut}
-use Rattle.stage_law.specs.Row.{BothClosed}
-use Rattle.stage_law.specs.Turn.{TurnAt}
+use Rattle.stage_core.specs.Held.{told, Held, owing, shut}
+use Rattle.stage_core.specs.Row.{BothClosed}
+use Rattle.stage_core.specs.Turn.{TurnAt}
 use Rattle.stage_core.specs.declared.phase.Phase.{Phase}
 use Rattle.stage_core.specs.declared.phase.Phase.TheVariants.{New, Open, Closed}
 use Rattle.chain_core.specs.Means.{Means}

@@ -1,6 +1,6 @@
 // Laws of the stages with substreams: each function has no body, and its contract is the law.
 ghost use Rattle.std.specs.Prelude.{◌≡◌, ◌≢◌, ℕ, true, List, Option, Some};
-ghost use Rattle.stage_law.specs.Fans.{untagged};
+ghost use Rattle.stage_core.specs.Fans.{untagged};
 ghost use Rattle.elem_core.specs.Tree.{Tree};
 ghost use Rattle.elem_core.specs.declared.item.Item.{Item};
 ghost use Rattle.port_core.specs.ListFunction.{ListFunction};
@@ -11,8 +11,8 @@ ghost use Rattle.stream_model.specs.FanIn.{Tagged};
 ghost use Rattle.stream_model.specs.Machine.{Run, Given, Stands};
 ghost use Rattle.stream_model.specs.Outlook.{End};
 ghost use Rattle.stream_model.specs.Substreams.{Subs, substreams, begin_subs, MergedStands};
-ghost use Rattle.stage_law.specs.Held.{owing};
-ghost use Rattle.stage_law.specs.OwnPorts.{OwnRests};
+ghost use Rattle.stage_core.specs.Held.{owing};
+ghost use Rattle.stage_core.specs.OwnPorts.{OwnRests};
 ghost use Rattle.stage_core.specs.declared.phase.Phase.TheVariants.{New, Open};
 ghost use Rattle.stage_sub.specs.Joined.{untag, joined_machine};
 ghost use Rattle.stage_sub.specs.KeptSubs.{opening_of};

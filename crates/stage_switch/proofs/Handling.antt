@@ -21,11 +21,11 @@ use Rattle.stage_core.proofs.OneOnes.{given_one, brought_one, one_input, at_firs
 use Rattle.stream_model.specs.Outlook.{unended}
 use Rattle.stream_model.specs.Machine.{going}
 use Rattle.stream_model.specs.Linear.{Stage, passing, linear, begin_work}
-use Rattle.stage_law.specs.Held.{Held, owing}
-use Rattle.stage_law.specs.Law.{TookAs, GaveAs, Law}
-use Rattle.stage_law.proofs.Calls.{new_law, call_law}
-use Rattle.stage_fans.specs.PortsLaws.{InPortsLaw}
-use Rattle.stage_fans.proofs.Histories.{in_node, ins_seen, ins_acted, begun}
+use Rattle.stage_core.specs.Held.{Held, owing}
+use Rattle.stage_core.specs.Law.{TookAs, GaveAs, Law}
+use Rattle.stage_core.proofs.Calls.{new_law, call_law}
+use Rattle.stage_core.specs.PortsLaws.{InPortsLaw}
+use Rattle.stage_core.proofs.Histories.{in_node, ins_seen, ins_acted, begun}
 use Rattle.stage_core.specs.declared.phase.Phase.{Phase}
 use Rattle.stage_core.specs.declared.phase.Phase.TheVariants.{New, Open, Closed}
 use Rattle.stage_switch.specs.Valves.{ValveHeld, passes, ValveTurnAt, ValveKeeps, ValveLaw}

@@ -1,4 +1,9 @@
+pub mod Totals
+pub mod Keeps
+pub mod Gathering
 pub mod ValveTurns
 pub mod Rows
 pub mod Handling
 pub mod Outlooks
+pub mod Shown
+pub mod Nodes

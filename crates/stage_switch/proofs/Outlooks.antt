@@ -8,9 +8,9 @@ use Rattle.elem_core.specs.declared.item.Item.{Item}
 use Rattle.elem_core.specs.declared.why.Decider.{Decider}
 use Rattle.elem_core.proofs.Prefixes.{prefix_length}
 use Rattle.port_core.specs.View.{View}
-use Rattle.kill_core.specs.declared.order.Order.{Order}
-use Rattle.kill_core.specs.declared.order.Order.TheVariants.{Shutdown, Abort}
-use Rattle.kill_core.specs.Public.{IsSeatOf}
+use Rattle.stage_switch.specs.declared.order.Order.{Order}
+use Rattle.stage_switch.specs.declared.order.Order.TheVariants.{Shutdown, Abort}
+use Rattle.stage_switch.specs.Public.{IsSeatOf}
 use Rattle.stream_model.specs.declared.kind.Kind.TheVariants as kind
 use Rattle.stream_model.specs.Graph.{Graph}
 use Rattle.stream_model.specs.Node.{World, node_outlook}
@@ -19,7 +19,7 @@ use Rattle.stream_model.specs.FanIn.{Inflow, AllAgree}
 use Rattle.stream_model.specs.Linear.{passing, linear, begin_work}
 use Rattle.stream_model.specs.Picks.{Acted, untouched, completed, aborted, acted, ValveStands, valve_fits, acted_outlook, valve_outlook}
 use Rattle.stream_model.proofs.PickTraces.{agrees_prefix, valve_trace}
-use Rattle.stage_law.proofs.Whole.{stage_agrees}
+use Rattle.stage_core.proofs.Whole.{stage_agrees}
 use Rattle.stage_core.specs.declared.phase.Phase.{Phase}
 use Rattle.stage_core.specs.declared.phase.Phase.TheVariants.{New, Open, Closed}
 use Rattle.stage_switch.specs.Valves.{did, GaveUpTo, ValveKeeps, ValveStandsOf}

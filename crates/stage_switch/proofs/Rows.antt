@@ -15,15 +15,15 @@ use Rattle.stream_model.specs.Outlook.{End}
 use Rattle.stream_model.specs.FanIn.{Inflow}
 use Rattle.stage_core.specs.declared.phase.Phase.{Phase}
 use Rattle.stage_core.specs.declared.phase.Phase.TheVariants.{New, Open, Closed}
-use Rattle.stage_law.specs.Row.{BothClosed}
+use Rattle.stage_core.specs.Row.{BothClosed}
 use Rattle.stream_model.specs.Machine.{going, Run}
 use Rattle.elem_core.specs.declared.why.Decider.{Decider}
 use Rattle.stream_model.specs.Linear.{Book, Stage, passing, linear, begin_work}
-use Rattle.stage_law.specs.Law.{Law}
-use Rattle.stage_law.specs.OwnPorts.{OwnRests}
-use Rattle.stage_law.proofs.OwnRows.{waiting_rests, idle_rests, closed_rests as own_closed}
-use Rattle.kill_core.specs.declared.order.Order.{Order}
-use Rattle.kill_core.specs.Public.{SwitchState, SeatState}
+use Rattle.stage_core.specs.Law.{Law}
+use Rattle.stage_core.specs.OwnPorts.{OwnRests}
+use Rattle.stage_core.proofs.OwnRows.{waiting_rests, idle_rests, closed_rests as own_closed}
+use Rattle.stage_switch.specs.declared.order.Order.{Order}
+use Rattle.stage_switch.specs.Public.{SwitchState, SeatState}
 use Rattle.stage_switch.specs.Valves.{passes, ValveKeeps, RestsAt, ValveRests, PassedAll}
 use Rattle.stage_switch.specs.States.{IsUnused, Valve, Unmoved, valve_port_state, passing_port_state, valve_held_in, new_valve_of, Trip, trip_held_in, trip_stage, new_trip_of}
 use Rattle.stage_switch.specs.Handling.{ValveFresh, ValvePortState, ValveAs, TripFresh, TripPortState, TripAs}

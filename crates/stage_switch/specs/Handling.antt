@@ -5,15 +5,15 @@ use Rattle.elem_core.specs.Prefix.{IsPrefix}
 use Rattle.elem_core.specs.Items.{elements}
 use Rattle.elem_core.specs.declared.item.Item.{Item}
 use Rattle.elem_core.specs.declared.why.Decider.{Decider}
-use Rattle.kill_core.specs.declared.order.Order.{Order}
-use Rattle.kill_core.specs.declared.order.Order.TheVariants.{Shutdown, Abort}
+use Rattle.stage_switch.specs.declared.order.Order.{Order}
+use Rattle.stage_switch.specs.declared.order.Order.TheVariants.{Shutdown, Abort}
 use Rattle.stream_model.specs.declared.kind.Kind.{Kind}
 use Rattle.stream_model.specs.declared.kind.Kind.TheVariants.{TripShutdown, TripAbort}
 use Rattle.port_core.specs.View.{View, in_at, out_at}
 use Rattle.stream_model.specs.Linear.{Book, passing, linear, begin_work}
-use Rattle.stage_law.specs.Law.{Law}
+use Rattle.stage_core.specs.Law.{Law}
 use Rattle.stage_core.specs.declared.phase.Phase.TheVariants.{New}
-use Rattle.stage_fans.specs.PortsLaws.{InPortsLaw}
+use Rattle.stage_core.specs.PortsLaws.{InPortsLaw}
 use Rattle.stage_switch.specs.Valves.{ValveKeeps}
 use Rattle.stage_switch.specs.States.{Valve, IsValve, Unmoved, valve_port_state, valve_held, Trip, IsTrip, trip_port_state, trip_held}
 

@@ -2,9 +2,9 @@
 use Rattle.std.specs.Prelude.{◌≡◌, ◌≢◌, ◌+◌, ◌≤◌, Bool, true, false, ℕ, List, [], ◌∷◌, Option, Some, None, IfSome, ⊤}
 use Rattle.elem_core.specs.declared.item.Item.TheVariants as item
 use Rattle.elem_core.specs.declared.why.Decider.{Decider}
-use Rattle.kill_core.specs.declared.order.Order.{Order}
-use Rattle.kill_core.specs.declared.order.Order.TheVariants.{Shutdown, Abort}
-use Rattle.kill_core.specs.Public.{SwitchState, SeatState, IsSeatOf, AnswersOrder}
+use Rattle.stage_switch.specs.declared.order.Order.{Order}
+use Rattle.stage_switch.specs.declared.order.Order.TheVariants.{Shutdown, Abort}
+use Rattle.stage_switch.specs.Public.{SwitchState, SeatState, IsSeatOf, AnswersOrder}
 use Rattle.port_core.specs.declared.act.Act.{Act}
 use Rattle.port_core.specs.declared.act.Act.TheVariants.{Complete, FailOut, Cancel}
 use Rattle.port_core.specs.declared.view.InView.{InView}
@@ -17,9 +17,9 @@ use Rattle.port_core.specs.Call.{Call, starts, pulls, arrives, cancels, given_on
 use Rattle.stream_model.specs.Machine.{going}
 use Rattle.stream_model.specs.Linear.{Book, Stage, passing, linear}
 use Rattle.stream_model.specs.Picks.{Acted, untouched, completed, aborted, acted}
-use Rattle.stage_law.specs.Held.{Held, owing, shut}
-use Rattle.stage_law.specs.Row.{BothClosed}
-use Rattle.stage_law.specs.Turn.{TurnAt}
+use Rattle.stage_core.specs.Held.{Held, owing, shut}
+use Rattle.stage_core.specs.Row.{BothClosed}
+use Rattle.stage_core.specs.Turn.{TurnAt}
 use Rattle.stage_core.specs.declared.phase.Phase.{Phase}
 use Rattle.stage_core.specs.declared.phase.Phase.TheVariants.{New, Open, Closed}
 use Rattle.stage_switch.specs.Valves as valve

@@ -12,12 +12,12 @@ use Rattle.stream_model.specs.Picks.{Acted, untouched, completed, aborted, Valve
 use Rattle.port_core.specs.declared.view.InView.{InView}
 use Rattle.port_core.specs.declared.view.OutView.{OutView}
 use Rattle.port_core.specs.View.{View, in_at, out_at}
-use Rattle.stream_picture.specs.OneWay.{as_it_is}
-use Rattle.stream_picture.specs.Rests.{IsShut, StageRests}
-use Rattle.stage_law.specs.OwnPorts.{own_input, own_output}
+use Rattle.stream_model.specs.OneWay.{as_it_is}
+use Rattle.stream_model.specs.Rests.{IsShut, StageRests}
+use Rattle.stage_core.specs.OwnPorts.{own_input, own_output}
 use Rattle.port_core.specs.Call.{Call, cancels}
-use Rattle.stage_law.specs.Held.{told, end_items}
-use Rattle.stage_law.specs.Inflows.{coming, joined, PortsLaw}
+use Rattle.stage_core.specs.Held.{told, end_items}
+use Rattle.stage_core.specs.Inflows.{coming, joined, PortsLaw}
 
 -- between two calls: so many elements passed, and no order came; or its output is closed, and it did this
 pub data ValveHeld : Type 0 where

@@ -5,12 +5,12 @@ ghost use Rattle.port_core.specs.Call.{Obeys, Meets, starts, pulls, arrives, can
 ghost use Rattle.stage_core.specs.declared.phase.Phase.TheVariants.{New, Open};
 ghost use Rattle.stage_switch.specs.States.{IsUnused, IsTrip, trip_port_state, new_trip_of, SeatStepped, TripTurned};
 
+use crate::end::SwitchEnd;
+use crate::order::Order;
+use crate::seat::SwitchSeat;
 use elem_core::count::one_more;
 use elem_core::elem::Elem;
 use elem_core::why::{Cause, NoMemory};
-use kill_core::end::SwitchEnd;
-use kill_core::order::Order;
-use kill_core::seat::SwitchSeat;
 use port_core::act::Act;
 use port_core::acts::Acts;
 use stage_core::phase::Phase;

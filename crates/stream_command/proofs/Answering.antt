@@ -3,18 +3,18 @@ use Rattle.std.proofs.Common.{◌≡◌, ◌≢◌, ℕ, ◌<◌, List, ◌⊎�
 use Rattle.std.specs.Prelude.{Option, Some, None, IsTrue, ◌↔◌}
 use Rattle.stream_io.specs.Counts.{Rose, Grew, GrewAtMost}
 use Rattle.stream_io.specs.State.{FolderState}
-use Rattle.run_files.proofs.Counts.{quiet_same}
+use Rattle.stream_io.proofs.Counts.{quiet_same}
 use Rattle.run_report.specs.Answer.{Answer}
 use Rattle.run_report.specs.declared.outcome.Status.{Status}
 use Rattle.run_report.specs.declared.outcome.Status.TheVariants as status
-use Rattle.command_words.specs.Asking.{Asked, asked_of}
-use Rattle.generator.specs.Generated.{Generates, StopsGenerating}
-use Rattle.generator.specs.Texts.{lines_file, blueprint_file}
-use Rattle.stream_top.specs.Outcome.{Blank, EndedBefore, CausesBefore, SinksOf, RoseNowhere, RanWithoutFault}
-use Rattle.file_text.specs.Text.{text_limit}
-use Rattle.file_text.proofs.Quiets.{read_none}
+use Rattle.run_report.specs.Asking.{Asked, asked_of}
+use Rattle.run_report.specs.Generated.{Generates, StopsGenerating}
+use Rattle.run_report.specs.Texts.{lines_file, blueprint_file}
+use Rattle.stream_command.specs.Outcome.{Blank, EndedBefore, CausesBefore, SinksOf, RoseNowhere, RanWithoutFault}
+use Rattle.stream_io.specs.Text.{text_limit}
+use Rattle.stream_io.proofs.Quiets.{read_none}
 use Rattle.stream_command.specs.Answers.{AnswersCommand, AnswersTo, RunsFile, StopsBefore, IsValidFor}
-use Rattle.stream_top.specs.Asked.{Plugged}
+use Rattle.stream_command.specs.Asked.{Plugged}
 
 none_some : (c : Asked) (o : Option Asked) → o ≡ None → o ≡ Some c → ⊥
 none_some c o e f = cc

@@ -5,11 +5,11 @@ use Rattle.stream_io.specs.State.{FolderState}
 use Rattle.run_report.specs.Answer.{Answer}
 use Rattle.run_report.specs.declared.outcome.Status.{Status}
 use Rattle.run_report.specs.declared.outcome.Status.TheVariants as status
-use Rattle.command_words.specs.Asking.{Asked}
-use Rattle.generator.specs.Generated.{Generates, MissesInputFile, FailsAtFile, StopsGenerating}
-use Rattle.stream_top.specs.Outcome.{Blank, Told, Causes, SinksOf, IsValid, RoseNowhere, RanWithoutFault}
-use Rattle.file_text.specs.Text.{text_limit}
-use Rattle.stream_top.specs.Asked.{Plugged}
+use Rattle.run_report.specs.Asking.{Asked}
+use Rattle.run_report.specs.Generated.{Generates, MissesInputFile, FailsAtFile, StopsGenerating}
+use Rattle.stream_command.specs.Outcome.{Blank, Told, Causes, SinksOf, IsValid, RoseNowhere, RanWithoutFault}
+use Rattle.stream_io.specs.Text.{text_limit}
+use Rattle.stream_command.specs.Asked.{Plugged}
 
 -- no command: nothing is touched. Want of memory may be told in place of the usage.
 pub record IsNoCommand (a : Answer) (old new : FolderState) : Type 0 where

@@ -1,11 +1,11 @@
--- What stream_top says of plugs, of an answer and of a folder, for those above, who then name this crate alone.
+-- What stream_command says of plugs, of an answer and of a folder, for those above, who then name this crate alone.
 use Rattle.run_report.specs.Answer.{Answer}
 use Rattle.run_report.specs.declared.outcome.Status.{Status}
 use Rattle.stream_io.specs.State.{FolderState}
-use Rattle.stream_top.specs.Asked as asked
-use Rattle.stream_top.specs.Calls as calls
-use Rattle.stream_top.specs.Outcome as outcome
-use Rattle.stream_top.specs.declared.top.RunEnd.{RunEnd}
+use Rattle.stream_command.specs.Asked as asked
+use Rattle.stream_command.specs.RunCalls as calls
+use Rattle.stream_command.specs.Outcome as outcome
+use Rattle.stream_command.specs.declared.top.RunEnd.{RunEnd}
 
 -- the heads of the plugs that are handed in, and their book
 abbrev pub HandedPlugs : Type 0

@@ -1,3 +1,10 @@
+pub mod Asked
+pub mod Outcome
+pub mod AfterRun
+pub mod RunCalls
+pub mod Texts
+pub mod RunReceipts
 pub mod Answers
 pub mod Calls
 pub mod Receipts
+pub mod Heads

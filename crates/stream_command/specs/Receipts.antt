@@ -1,15 +1,15 @@
 -- The receipt of the command's run.
 use Rattle.std.specs.Prelude.{◌≡◌, ℕ, ◌⊎◌, IsTrue, List, Option, Some, None}
-use Rattle.command_words.specs.Asking.{Asked}
+use Rattle.run_report.specs.Asking.{Asked}
 use Rattle.dispatcher.specs.declared.ran.Ran.{Ran}
-use Rattle.generator.specs.Generated.{Generates}
+use Rattle.run_report.specs.Generated.{Generates}
 use Rattle.run_report.specs.Answer.{Answer}
 use Rattle.run_report.specs.declared.outcome.Status.{Status}
 use Rattle.run_report.specs.declared.outcome.Status.TheVariants as status
 use Rattle.stream_io.specs.State.{FolderState}
-use Rattle.stream_top.specs.Outcome.{Blank}
-use Rattle.stream_top.specs.Receipts.{Receipts, RanFile}
-use Rattle.stream_top.specs.Asked.{Plugged}
+use Rattle.stream_command.specs.Outcome.{Blank}
+use Rattle.stream_command.specs.RunReceipts.{Receipts, RanFile}
+use Rattle.stream_command.specs.Asked.{Plugged}
 
 -- as of the run of a file; where files are generated a failed write may end the call before the run, and then nothing is told of one
 abbrev pub ReceiptsBy : Option ℕ → Status → Answer → ℕ → Option Ran → Type 0

@@ -1,8 +1,18 @@
-//! The command: its words are read, files are generated where they ask for it, the file is run, and the report is written.
+//! The whole call: the command's words, the run of the file that they name, the report, and the plugs that the program ships.
+//!
+//! - `answer`, `sure`, `top`: The run of a file: its blueprint is read and run, and the report is written.
+//! - `run`: The command: its words are read, files are generated where they ask for it, the file is run, and the report is written.
+//! - `laws`, `shipped_run`: The whole call with the plugs that the program ships.
 #![tactic(auto)]
 
+mod answer;
+pub mod laws;
 pub mod run;
+pub mod shipped_run;
+pub mod sure;
+pub mod top;
 
-pub use stream_top::outcome::Status;
-pub use stream_top::sure::run_surely;
-pub use stream_top::top::{RunEnd, end_before_run};
+pub use crate::sure::run_surely;
+pub use crate::top::{RunEnd, end_before_run};
+pub use run_report::outcome;
+pub use run_report::outcome::Status;

@@ -3,33 +3,33 @@ ghost use Rattle.std.specs.Prelude.{◌≡◌, [], ◌<◌, ◌≤◌, ◌⊎◌
 ghost use Rattle.std.specs.List.{All};
 ghost use Rattle.elem_core.specs.declared.count.TheConstants.{MOST_COUNT};
 ghost use Rattle.stream_io.specs.Counts.{GrewAtMost};
-ghost use Rattle.command_words.specs.Asking.{Asked, asked_of};
-ghost use Rattle.command_words.specs.Commands.{asked};
-ghost use Rattle.stream_top.specs.Calls.{answer_of};
-ghost use Rattle.stream_top.specs.Outcome.{RoseNowhere, RanWithoutFault};
-ghost use Rattle.file_text.specs.Text.{text_limit};
+ghost use Rattle.run_report.specs.Asking.{Asked, asked_of};
+ghost use Rattle.run_report.specs.Commands.{asked};
+ghost use Rattle.stream_command.specs.RunCalls.{answer_of};
+ghost use Rattle.stream_command.specs.Outcome.{RoseNowhere, RanWithoutFault};
+ghost use Rattle.stream_io.specs.Text.{text_limit};
 ghost use Rattle.run_report.specs.Report.{report_of, code_of};
 ghost use Rattle.stream_io.specs.Putting.{Puts, PutsPart};
 ghost use Rattle.stream_command.specs.Answers.{AnswersCommand, AnswersTo, RunsFile, IsValidFor};
 ghost use Rattle.stream_command.specs.Receipts.{ReceiptsOf, ReceiptsFor, IslandsOf, IslandsFor};
-ghost use Rattle.stream_top.specs.Receipts.{Receipts, RanFile};
+ghost use Rattle.stream_command.specs.RunReceipts.{Receipts, RanFile};
 ghost use Rattle.plug_logic.specs.Gives.{listed};
 ghost use Rattle.stage_linear.specs.Plugs.{Is};
-ghost use Rattle.plug_board.specs.Handed.{GivesAsListed};
-ghost use Rattle.stream_top.specs.Asked.{plugged_by};
+ghost use Rattle.materializer.specs.HandedPlugs.{GivesAsListed};
+ghost use Rattle.stream_command.specs.Asked.{plugged_by};
 
-use command_words::command::{Command, WordsEnd, read_words};
+use crate::top::{RunEnd, end_before_run, run_file};
 use elem_core::line::Line;
-use generator::generate::{GenerateEnd, generate};
 use plug_logic::book::PlugBook;
 use plug_logic::logic::Logic;
 use plug_logic::plug::Plug;
+use run_report::command::{Command, WordsEnd, read_words};
+use run_report::generate::{GenerateEnd, generate};
 use run_report::outcome::Status;
 use std::alloc::Global;
 use std::sync::Wait;
 use std::thread::Threads;
 use stream_io::outside::{Drain, Folder};
-use stream_top::top::{RunEnd, end_before_run, run_file};
 
 /// Reads the command's words, generates the files that they ask for, reads the blueprint of the file that they name and lets as many workers run it as they say, and writes the report to the console.
 pub fn run_streams<R: Threads + Wait + Sync, F: Folder, C: Drain, B: PlugBook + Send>(

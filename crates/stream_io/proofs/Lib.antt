@@ -4,3 +4,11 @@ pub mod Lines
 pub mod Tallies
 pub mod NamedFiles
 pub mod Puttings
+pub mod Counts
+pub mod OpenHandles
+pub mod Lists
+pub mod Closings
+pub mod Openings
+pub mod Stoppings
+pub mod Quiets
+pub mod Texts

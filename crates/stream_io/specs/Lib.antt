@@ -7,3 +7,9 @@ pub mod Tally
 pub mod TallyLink
 pub mod Files
 pub mod Putting
+pub mod Quiet
+pub mod Names
+pub mod Opening
+pub mod Stopping
+pub mod Closing
+pub mod Text

@@ -6,8 +6,8 @@ use std::alloc::{AllocError, Global};
 use std::process::ExitCode;
 use std::rt::Env;
 use std::{env, io};
+use stream_command::shipped_run::run_shipped;
 use stream_io::real::{DirFolder, StdConsole};
-use stream_shipped::run::run_shipped;
 
 /// The exit code where the words cannot be read for want of memory.
 const NO_MEMORY: u8 = 9;

@@ -3,7 +3,7 @@ use Rattle.std.proofs.Common.{◌≡◌, ℕ, vec_len, length, Result, Ok, Err, 
 use Rattle.std.specs.declared.alloc.AllocError.{AllocError}
 use Rattle.std.specs.declared.alloc.Global.{Global}
 use Rattle.std.specs.declared.vec.Vec.{Vec}
-use Rattle.blue_core.specs.declared.blueprint.Blueprint.{Blueprint}
+use Rattle.stream_model.specs.declared.blueprint.Blueprint.{Blueprint}
 use Rattle.workbench_draw.specs.Drawing.{IsDrawingOf, drawing_text}
 use Rattle.workbench_draw.specs.declared.draw.Drawing.{Drawing}
 

@@ -5,17 +5,17 @@ ghost use Rattle.blue_check.specs.Checked.{checked_blueprint};
 ghost use Rattle.workbench_draw.specs.Drawing.{IsDrawingOf, drawing_head, drawing_text};
 
 use crate::lines::{Blamed, island_lines, node_lines, other_lines, wire_lines};
+use crate::place::place_of;
 use crate::types::types_of;
 use blue_check::checked::Checked;
 use blue_check::fault::CheckFault;
-use blue_core::blueprint::Blueprint;
+use blue_check::islands::islands;
+use blue_check::plan::IslandPlan;
 use elem_core::elem_type::ElemType;
 use elem_core::line::Line;
 use elem_core::why::NoMemory;
 use std::alloc::Global;
-use traversal::islands::islands;
-use traversal::plan::IslandPlan;
-use workbench_faults::place::place_of;
+use stream_model::blueprint::Blueprint;
 
 /// The lines of a drawing.
 #[derive(Drop)]

@@ -1,18 +1,18 @@
 // The lines of a drawing: one for each node, each wire, each island and each order of a switch.
 ghost use Rattle.std.specs.Prelude.{◌≡◌, IfOk, length, vec_len};
 
+use crate::message::put_number;
+use crate::place::{FaultPlace, Sort};
 use blue_check::detail::put_type;
-use blue_core::blueprint::{Blueprint, ChainDecl, Node, Step, WireDecl};
+use blue_check::plan::IslandPlan;
+use blue_lang::kinds::{write_decider, write_kind};
 use blue_names::ports::{input_ports, output_ports};
-use blue_spell::kinds::{write_decider, write_kind};
 use elem_core::elem_type::ElemType;
 use elem_core::line::Line;
 use elem_core::why::{Decider, NoMemory};
 use std::alloc::Global;
+use stream_model::blueprint::{Blueprint, ChainDecl, Node, Step, WireDecl};
 use stream_model::kind::Kind;
-use traversal::plan::IslandPlan;
-use workbench_faults::message::put_number;
-use workbench_faults::place::{FaultPlace, Sort};
 
 /// A place that is at fault, and what is said of it.
 #[derive(Clone, Copy)]

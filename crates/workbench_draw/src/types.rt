@@ -2,7 +2,6 @@
 ghost use Rattle.blue_names.specs.Links.{AreInRange};
 
 use blue_check::checked::Checked;
-use blue_core::blueprint::{ChainDecl, Node};
 use blue_names::links::{NumberedWire, links_of};
 use blue_names::outs::outs_of;
 use blue_names::ports::targets_of;
@@ -11,8 +10,9 @@ use blue_types::net::{Net, type_on};
 use blue_types::rounds::settle_types;
 use elem_core::elem_type::ElemType;
 use elem_core::why::NoMemory;
-use plug_core::heads::shipped_heads;
 use std::alloc::Global;
+use stream_model::blueprint::{ChainDecl, Node};
+use stream_model::heads::shipped_heads;
 
 /// The type on each wire of a net of so many nodes, where it is settled.
 fn types_in(

@@ -1,11 +1,11 @@
 -- Answers to words.
 use Rattle.std.proofs.Common.{◌≡◌, ◌⊎◌, inl, inr, ℕ, List, Some}
 use Rattle.stream_io.specs.State.{FolderState}
-use Rattle.workbench_words.specs.Task.{Asks, row_in}
-use Rattle.workbench_words.specs.declared.task.Task.{Task}
-use Rattle.workbench_answers.specs.Rows.{PrintsRow, row_text}
-use Rattle.workbench_answers.specs.declared.answer.Answer.{Answer}
-use Rattle.workbench_answers.specs.declared.answer.Ending.TheVariants as ending
+use Rattle.workbench_top.specs.Task.{Asks, row_in}
+use Rattle.workbench_top.specs.declared.task.Task.{Task}
+use Rattle.workbench_top.specs.Rows.{PrintsRow, row_text}
+use Rattle.workbench_top.specs.declared.answer.Answer.{Answer}
+use Rattle.workbench_top.specs.declared.answer.Ending.TheVariants as ending
 use Rattle.workbench_top.specs.Call.{AnswersTask, AnswersNothing, AnswersWords}
 
 -- words that ask for a task

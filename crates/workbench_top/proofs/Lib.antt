@@ -1,1 +1,3 @@
+mod Saying
+mod Parting
 mod Answering

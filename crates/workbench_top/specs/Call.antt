@@ -2,15 +2,15 @@
 use Rattle.std.specs.Prelude.{◌≡◌, ℕ, ◌⊎◌, ◌++◌, IsTrue, false, List, [], Some, None, codes}
 use Rattle.std.specs.Option.{option_map}
 use Rattle.stream_io.specs.State.{FolderState, DrainState, SameFiles}
-use Rattle.file_text.specs.Text.{text_of_file, StaysMissing, FailsToRead}
+use Rattle.stream_io.specs.Text.{text_of_file, StaysMissing, FailsToRead}
 use Rattle.stream_io.specs.Putting.{Puts}
-use Rattle.workbench_words.specs.Task.{Asks, is_task, row_in}
-use Rattle.workbench_words.specs.declared.task.Task.{Task}
-use Rattle.workbench_words.specs.declared.task.TaskKind.TheVariants.{Explain}
-use Rattle.workbench_answers.specs.Answer.{AnswersText, code_of}
-use Rattle.workbench_answers.specs.Rows.{PrintsRow, row_text}
-use Rattle.workbench_answers.specs.declared.answer.Answer.{Answer}
-use Rattle.workbench_answers.specs.declared.answer.Ending.TheVariants as ending
+use Rattle.workbench_top.specs.Task.{Asks, is_task, row_in}
+use Rattle.workbench_top.specs.declared.task.Task.{Task}
+use Rattle.workbench_top.specs.declared.task.TaskKind.TheVariants.{Explain}
+use Rattle.workbench_top.specs.Answer.{AnswersText, code_of}
+use Rattle.workbench_top.specs.Rows.{PrintsRow, row_text}
+use Rattle.workbench_top.specs.declared.answer.Answer.{Answer}
+use Rattle.workbench_top.specs.declared.answer.Ending.TheVariants as ending
 
 -- the answer to a task is that to its work on the text of its file, in a folder that tells its files
 pub record AnswersFile (t : Task) (old : FolderState) (a : Answer) : Type 0 where

@@ -1,1 +1,4 @@
+pub mod Task
+pub mod Answer
+pub mod Rows
 pub mod Call

@@ -1,5 +1,21 @@
-//! The workbench: its words are read, then the blueprint's file, and what is wanted of it is put on the console.
+//! The workbench's call: its words, its answers and their explanations.
+//!
+//! - `task`, `word_texts`: The words of the workbench: which command, on which file, with which numbers.
+//! - `explain`, `reasons`, `scene`, `sinks`, `statuses`, `wires`: A report of a run in words: how it ended, what each file holds, who is to blame, and which node waits for which.
+//! - `answer`, `rows`, `texts`: What the workbench answers to each of its works, on the text of a blueprint's file, and to a row.
+//! - `report`, `top`: The workbench: its words are read, then the blueprint's file, and what is wanted of it is put on the console.
 #![tactic(auto)]
 
+pub mod answer;
+pub mod explain;
+mod reasons;
 mod report;
+pub mod rows;
+mod scene;
+mod sinks;
+mod statuses;
+pub mod task;
+pub mod texts;
 pub mod top;
+mod wires;
+mod word_texts;

@@ -1,21 +1,21 @@
 // A call of the workbench.
 ghost use Rattle.std.specs.Prelude.{◌≡◌, ◌⊎◌, IfOk, None};
 ghost use Rattle.stream_io.specs.State.{SameFiles};
-ghost use Rattle.workbench_words.specs.Task.{Asks, TaskEnds, row_in};
-ghost use Rattle.workbench_answers.specs.Answer.{AnswersText};
+ghost use Rattle.workbench_top.specs.Task.{Asks, TaskEnds, row_in};
+ghost use Rattle.workbench_top.specs.Answer.{AnswersText};
 ghost use Rattle.workbench_top.specs.Call.{AnswersTask, AnswersNothing, AnswersWords, IsAnswerPut, IsMissing, Works, missing_text};
 
+use crate::answer::{Answer, Ending, code};
 use crate::report::{ReportEnd, read_report};
+use crate::rows::answer_row;
+use crate::task::{Task, TaskEnd, TaskKind, read_row, read_words};
+use crate::texts::{check_text, count_text, draw_text, explain_text, format_text};
 use elem_core::line::Line;
 use elem_core::why::NoMemory;
-use file_text::text::{ReadEnd, read_file};
 use std::alloc::Global;
 use stream_io::outside::{Drain, Folder, Source};
 use stream_io::put::put_all;
-use workbench_answers::answer::{Answer, Ending, code};
-use workbench_answers::rows::answer_row;
-use workbench_answers::texts::{check_text, count_text, draw_text, explain_text, format_text};
-use workbench_words::task::{Task, TaskEnd, TaskKind, read_row, read_words};
+use stream_io::text::{ReadEnd, read_file};
 
 /// The answer that tells these words.
 fn telling(alloc: Global, ending: Ending, words: &[u8]) -> Answer

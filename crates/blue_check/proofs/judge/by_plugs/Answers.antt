@@ -1,6 +1,6 @@
 use Rattle.std.proofs.Common.{sym, ◌∙◌}
 use Rattle.std.specs.Option.{option_or}
-use Rattle.blue_rules.specs.Links.{wires_of}
+use Rattle.blue_names.specs.RuleLinks.{wires_of}
 use Rattle.blue_names.specs.Links.{wires_of_links}
 use Rattle.blue_check.specs.Fitness.{names_fault, ports_fault, plugs_fault, sizes_fault, types_fault}
 use Rattle.blue_check.proofs.Verdicts.{judged_first, answer_next}

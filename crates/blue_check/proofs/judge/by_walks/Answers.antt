@@ -1,7 +1,7 @@
 use Rattle.std.proofs.Common.{ℕ, Option, refl, inr, subst, sym}
 use Rattle.std.specs.Option.{IfSome, IfNone}
 use Rattle.blue_names.specs.Links.{wires_of_links}
-use Rattle.blue_rules.specs.Paths.{IsFirstClosed, HasNoClosedWalk}
+use Rattle.blue_names.specs.Paths.{IsFirstClosed, HasNoClosedWalk}
 use Rattle.blue_check.proofs.judge.by_walks.Goals as goal
 
 pub returns-in_ok-numbered-in-Some : goal.returns-in_ok-numbered-in-Some

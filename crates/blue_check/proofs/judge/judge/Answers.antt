@@ -1,8 +1,8 @@
 use Rattle.std.proofs.Common.{ℕ, List, IfOk, subst}
-use Rattle.blue_core.specs.declared.blueprint.ChainDecl.{ChainDecl}
-use Rattle.blue_core.specs.declared.blueprint.Node.{Node}
-use Rattle.blue_core.specs.declared.blueprint.WireDecl.{WireDecl}
-use Rattle.blue_rules.specs.Links.{wires_of}
+use Rattle.stream_model.specs.declared.blueprint.ChainDecl.{ChainDecl}
+use Rattle.stream_model.specs.declared.blueprint.Node.{Node}
+use Rattle.stream_model.specs.declared.blueprint.WireDecl.{WireDecl}
+use Rattle.blue_names.specs.RuleLinks.{wires_of}
 use Rattle.blue_check.specs.Fitness.{early_of}
 use Rattle.blue_check.specs.Judging.{IsJudged}
 use Rattle.blue_check.proofs.judge.judge.Goals as goal

@@ -1,6 +1,6 @@
 use Rattle.std.proofs.Common.{◌≡◌, List, IfOk, subst}
-use Rattle.blue_core.specs.declared.blueprint.ChainDecl.{ChainDecl}
-use Rattle.plug_core.specs.declared.head.PlugHead.{PlugHead}
+use Rattle.stream_model.specs.declared.blueprint.ChainDecl.{ChainDecl}
+use Rattle.stream_model.specs.declared.head.PlugHead.{PlugHead}
 use Rattle.blue_names.specs.Links.{wires_of_links}
 use Rattle.blue_check.specs.Fitness.{types_fault}
 use Rattle.blue_check.proofs.rules.types_fault.Goals as goal

@@ -1,4 +1,4 @@
-use Rattle.blue_spell.proofs.Spacing.{spaced_behind}
+use Rattle.blue_lang.proofs.Spacing.{spaced_behind}
 use Rattle.blue_lang.proofs.print.print_decided.Goals as goal
 
 pub returns : goal.returns

@@ -1,5 +1,5 @@
 use Rattle.std.proofs.Common.{◌≡◌, ◌++◌, drop}
-use Rattle.blue_spell.specs.Spaced.{spaced}
+use Rattle.blue_lang.specs.Spaced.{spaced}
 use Rattle.blue_lang.specs.Canonical.{later_words}
 use Rattle.blue_lang.proofs.print.print_later.Given as goal
 

@@ -1,5 +1,5 @@
 use Rattle.std.proofs.Common.{◌≡◌, ◌++◌, map, take}
-use Rattle.blue_rules.specs.Names.{called}
+use Rattle.blue_names.specs.Names.{called}
 use Rattle.blue_names.specs.Claims.{claim_of}
 use Rattle.blue_names.proofs.claims.add_switches.Given as goal
 

@@ -1,5 +1,5 @@
 use Rattle.std.proofs.Common.{◌≡◌, ◌++◌, map, drop}
-use Rattle.blue_rules.specs.Names.{plugs_of_nodes}
+use Rattle.blue_names.specs.Names.{plugs_of_nodes}
 use Rattle.blue_names.specs.Claims.{claim_of}
 use Rattle.blue_names.proofs.claims.add_uses.Given as goal
 

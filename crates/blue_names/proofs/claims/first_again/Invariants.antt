@@ -1,5 +1,5 @@
 use Rattle.std.proofs.Common.{map, drop}
-use Rattle.blue_rules.specs.Names.{opens, first_again}
+use Rattle.blue_names.specs.Names.{opens, first_again}
 use Rattle.blue_names.specs.Claims.{claim_of}
 use Rattle.blue_names.proofs.ClaimTables.{Going}
 use Rattle.blue_names.proofs.claims.first_again.Given as goal

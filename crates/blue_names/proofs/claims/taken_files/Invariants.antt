@@ -1,5 +1,5 @@
 use Rattle.std.proofs.Common.{map, take}
-use Rattle.blue_rules.specs.Names.{opens}
+use Rattle.blue_names.specs.Names.{opens}
 use Rattle.blue_names.specs.Claims.{Knows}
 use Rattle.blue_names.proofs.claims.taken_files.Given as goal
 

@@ -1,5 +1,5 @@
 use Rattle.std.proofs.Common.{◌≡◌, map, take}
-use Rattle.blue_rules.specs.Links.{wires_of}
+use Rattle.blue_names.specs.RuleLinks.{wires_of}
 use Rattle.blue_names.specs.Links.{wires_of_links}
 use Rattle.blue_names.proofs.links.links_of.Given as goal
 

@@ -1,7 +1,7 @@
 use Rattle.std.proofs.Common.{◌≡◌, ℕ, ◌+◌, List, drop, length}
-use Rattle.blue_rules.specs.First.{first_from, when}
+use Rattle.blue_names.specs.First.{first_from, when}
 use Rattle.blue_names.specs.Table.{Numbers}
-use Rattle.blue_rules.specs.Names.{unknown_at, unknown_end, unknown_plug_at, plug_of}
+use Rattle.blue_names.specs.Names.{unknown_at, unknown_end, unknown_plug_at, plug_of}
 use Rattle.blue_names.proofs.names.unknown_in_wires.Given as goal
 
 abbrev pub invariant-loop-wire : goal.invariant-loop-wire

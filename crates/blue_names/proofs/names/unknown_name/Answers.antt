@@ -1,8 +1,8 @@
 use Rattle.std.proofs.Common.{◌≡◌, ◌∙◌, ap, subst, map, IfOk}
 use Rattle.std.proofs.lemmas.List.{map-id}
 use Rattle.std.specs.Option.{option_or, option_map}
-use Rattle.blue_rules.specs.First.{first_from}
-use Rattle.blue_rules.specs.Names.{unknown_end}
+use Rattle.blue_names.specs.First.{first_from}
+use Rattle.blue_names.specs.Names.{unknown_end}
 use Rattle.blue_names.specs.Table.{Numbers}
 use Rattle.blue_names.proofs.names.unknown_name.Goals as goal
 

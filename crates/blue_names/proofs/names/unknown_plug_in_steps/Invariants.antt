@@ -1,7 +1,7 @@
 use Rattle.std.proofs.Common.{◌≡◌, ℕ, ◌+◌, List, drop, length}
-use Rattle.blue_rules.specs.First.{first_from, when}
+use Rattle.blue_names.specs.First.{first_from, when}
 use Rattle.blue_names.specs.Table.{Numbers}
-use Rattle.blue_rules.specs.Names.{unknown_plug_at, unknown_in_steps, plug_of}
+use Rattle.blue_names.specs.Names.{unknown_plug_at, unknown_in_steps, plug_of}
 use Rattle.blue_names.proofs.names.unknown_plug_in_steps.Given as goal
 
 abbrev pub invariant-loop-step : goal.invariant-loop-step

@@ -1,5 +1,5 @@
 use Rattle.std.proofs.Common.{is_none, arith}
-use Rattle.blue_rules.specs.First.{when}
+use Rattle.blue_names.specs.First.{when}
 use Rattle.blue_names.specs.Wiring.{found_in}
 use Rattle.blue_names.proofs.OpenPorts.{first_from_count}
 use Rattle.blue_names.proofs.ports.open_among.Goals as goal

@@ -1,6 +1,6 @@
 use Rattle.std.proofs.Common.{◌≡◌, ◌-◌, is_none}
 use Rattle.stream_model.specs.Composed.{count_from}
-use Rattle.blue_rules.specs.First.{first_from, when}
+use Rattle.blue_names.specs.First.{first_from, when}
 use Rattle.blue_names.specs.Wiring.{found_in}
 use Rattle.blue_names.proofs.ports.open_among.Given as goal
 

@@ -1,7 +1,7 @@
 use Rattle.std.proofs.Common.{◌≡◌, ◌||◌, drop}
 use Rattle.std.specs.Prelude.{slice_get}
-use Rattle.blue_rules.specs.First.{first_from, when}
-use Rattle.blue_rules.specs.Ports.{port_missing, lacks_output, lacks_input}
+use Rattle.blue_names.specs.First.{first_from, when}
+use Rattle.blue_names.specs.Ports.{port_missing, lacks_output, lacks_input}
 use Rattle.blue_names.specs.Links.{wires_of_links}
 use Rattle.blue_names.proofs.ports.port_missing.Given as goal
 

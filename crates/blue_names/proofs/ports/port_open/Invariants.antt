@@ -1,8 +1,8 @@
 use Rattle.std.proofs.Common.{◌≡◌, List, drop}
 use Rattle.std.specs.Option.{option_or}
 use Rattle.stream_model.specs.Graph.{Edge}
-use Rattle.blue_rules.specs.First.{first_from}
-use Rattle.blue_rules.specs.Ports.{port_open, open_input, open_output}
+use Rattle.blue_names.specs.First.{first_from}
+use Rattle.blue_names.specs.Ports.{port_open, open_input, open_output}
 use Rattle.blue_names.specs.Wiring.{FindsWires, FindsSources}
 use Rattle.blue_names.proofs.ports.port_open.Given as goal
 

@@ -1,7 +1,7 @@
 use Rattle.std.proofs.Common.{◌≡◌, ◌||◌, not, drop}
 use Rattle.stream_model.specs.Graph.{find_wire, find_source}
-use Rattle.blue_rules.specs.First.{first_from, when}
-use Rattle.blue_rules.specs.Ports.{port_twice, is_port_number}
+use Rattle.blue_names.specs.First.{first_from, when}
+use Rattle.blue_names.specs.Ports.{port_twice, is_port_number}
 use Rattle.blue_names.specs.Links.{wires_of_links}
 use Rattle.blue_names.proofs.ports.port_twice.Given as goal
 

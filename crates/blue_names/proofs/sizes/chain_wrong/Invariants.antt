@@ -1,7 +1,7 @@
 use Rattle.std.proofs.Common.{◌≡◌, ℕ, ◌+◌, List, drop, length, not}
 use Rattle.std.specs.List.{list_all}
-use Rattle.blue_rules.specs.First.{first_from, when}
-use Rattle.blue_rules.specs.Sizes.{sizes_fit, lane_fits}
+use Rattle.blue_names.specs.First.{first_from, when}
+use Rattle.blue_names.specs.Sizes.{sizes_fit, lane_fits}
 use Rattle.blue_names.proofs.sizes.chain_wrong.Given as goal
 
 abbrev pub invariant-loop-i : goal.invariant-loop-i

@@ -1,7 +1,7 @@
 use Rattle.std.proofs.Common.{◌≡◌, ◌∙◌, ℕ, List, sym, subst}
 use Rattle.std.specs.Option.{option_or}
 use Rattle.elem_core.specs.Values.{same_text}
-use Rattle.blue_rules.specs.First.{when}
+use Rattle.blue_names.specs.First.{when}
 use Rattle.blue_names.specs.Table.{number_in}
 use Rattle.blue_names.proofs.NameTables.{noted_free, noted_again}
 use Rattle.blue_names.proofs.table.note_name.Goals as goal

@@ -1,7 +1,7 @@
 use Rattle.std.proofs.Common.{◌+◌, ◌-◌, ◌∙◌, ap, sym}
 use Rattle.std.specs.Option.{option_or}
 use Rattle.stream_model.specs.Composed.{count_from}
-use Rattle.blue_rules.specs.Rounds.{arrivals, first_typed}
+use Rattle.blue_names.specs.Rounds.{arrivals, first_typed}
 use Rattle.blue_names.specs.Links.{wires_of_links}
 use Rattle.blue_names.proofs.OpenPorts.{count_from_here}
 use Rattle.blue_types.specs.Net.{type_at}

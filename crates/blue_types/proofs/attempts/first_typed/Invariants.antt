@@ -1,6 +1,6 @@
 use Rattle.std.proofs.Common.{◌≡◌, ◌-◌}
 use Rattle.stream_model.specs.Composed.{count_from}
-use Rattle.blue_rules.specs.Rounds.{arrivals, first_typed}
+use Rattle.blue_names.specs.Rounds.{arrivals, first_typed}
 use Rattle.blue_names.specs.Links.{wires_of_links}
 use Rattle.blue_types.specs.Net.{type_at}
 use Rattle.blue_types.proofs.attempts.first_typed.Given as goal

@@ -1,8 +1,8 @@
 use Rattle.std.proofs.Common.{◌≡◌, Option, Some, IfOk, refl, subst, sym, ◌∙◌}
 use Rattle.std.specs.Prelude.{slice_get}
 use Rattle.elem_core.specs.Sort.{Sort}
-use Rattle.blue_core.specs.declared.blueprint.Node.{Node}
-use Rattle.blue_rules.specs.Rounds.{clash_with, type_on}
+use Rattle.stream_model.specs.declared.blueprint.Node.{Node}
+use Rattle.blue_names.specs.Rounds.{clash_with, type_on}
 use Rattle.blue_names.specs.Links.{wire_of_link, wires_of_links}
 use Rattle.blue_types.specs.Net.{type_at}
 use Rattle.blue_types.proofs.clashes.clash_on.Goals as goal

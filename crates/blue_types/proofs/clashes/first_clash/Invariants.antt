@@ -1,6 +1,6 @@
 use Rattle.std.proofs.Common.{◌≡◌, drop}
-use Rattle.blue_rules.specs.First.{first_from}
-use Rattle.blue_rules.specs.Rounds.{clash_on}
+use Rattle.blue_names.specs.First.{first_from}
+use Rattle.blue_names.specs.Rounds.{clash_on}
 use Rattle.blue_names.specs.Links.{wires_of_links}
 use Rattle.blue_types.specs.Net.{type_at}
 use Rattle.blue_types.proofs.clashes.first_clash.Given as goal

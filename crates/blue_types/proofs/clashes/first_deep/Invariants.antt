@@ -1,7 +1,7 @@
 use Rattle.std.proofs.Common.{◌≡◌, ℕ, drop, Option, Some}
-use Rattle.blue_core.specs.declared.blueprint.Node.{Node}
-use Rattle.blue_rules.specs.First.{first_from, when}
-use Rattle.blue_rules.specs.Rounds.{attempt_at, is_deep}
+use Rattle.stream_model.specs.declared.blueprint.Node.{Node}
+use Rattle.blue_names.specs.First.{first_from, when}
+use Rattle.blue_names.specs.Rounds.{attempt_at, is_deep}
 use Rattle.blue_names.specs.Links.{wires_of_links}
 use Rattle.blue_types.specs.Net.{type_at}
 use Rattle.blue_types.proofs.clashes.first_deep.Given as goal

@@ -1,8 +1,8 @@
 use Rattle.std.proofs.Common.{◌≡◌, ℕ, Option, Some, IfOk, subst}
 use mathlib.Core.Path.{fun_ext}
 use Rattle.elem_core.specs.Sort.{Sort}
-use Rattle.blue_rules.specs.First.{first_from, when}
-use Rattle.blue_rules.specs.Rounds.{attempt_at, is_deep}
+use Rattle.blue_names.specs.First.{first_from, when}
+use Rattle.blue_names.specs.Rounds.{attempt_at, is_deep}
 use Rattle.blue_names.specs.Links.{wires_of_links}
 use Rattle.blue_types.proofs.clashes.too_deep.Goals as goal
 

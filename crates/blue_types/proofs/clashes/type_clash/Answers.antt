@@ -1,8 +1,8 @@
 use Rattle.std.proofs.Common.{◌≡◌, ℕ, Option, IfOk, subst}
 use mathlib.Core.Path.{fun_ext}
 use Rattle.elem_core.specs.Sort.{Sort}
-use Rattle.blue_rules.specs.First.{first_from}
-use Rattle.blue_rules.specs.Rounds.{clash_on}
+use Rattle.blue_names.specs.First.{first_from}
+use Rattle.blue_names.specs.Rounds.{clash_on}
 use Rattle.blue_names.specs.Links.{wires_of_links}
 use Rattle.blue_types.proofs.clashes.type_clash.Goals as goal
 

@@ -1,5 +1,5 @@
 use Rattle.std.proofs.Common.{◌∙◌, ap}
-use Rattle.blue_rules.specs.StageTypes.{steps_in}
+use Rattle.blue_names.specs.StageTypes.{steps_in}
 use Rattle.blue_types.proofs.Named.{named_at, named_none}
 use Rattle.blue_types.proofs.library.chain_named.Goals as goal
 

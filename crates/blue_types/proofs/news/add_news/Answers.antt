@@ -1,5 +1,5 @@
 use Rattle.std.proofs.Common.{◌≡◌, ◌<◌, ◌++◌, [], ◌∷◌, Some, length, refl, subst, sym, ◌∙◌}
-use Rattle.blue_rules.specs.Rounds.{attempt_at, fixes}
+use Rattle.blue_names.specs.Rounds.{attempt_at, fixes}
 use Rattle.blue_names.specs.Links.{wires_of_links}
 use Rattle.blue_types.specs.Net.{type_at}
 use Rattle.blue_types.specs.News.{AreNews, AreBelow}

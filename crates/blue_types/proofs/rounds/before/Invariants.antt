@@ -1,5 +1,5 @@
 use Rattle.std.proofs.Common.{◌≡◌, map, take}
-use Rattle.blue_rules.specs.StageTypes.{source_type}
+use Rattle.blue_names.specs.StageTypes.{source_type}
 use Rattle.blue_types.proofs.rounds.before.Given as goal
 
 abbrev pub invariant-loop-node : goal.invariant-loop-node

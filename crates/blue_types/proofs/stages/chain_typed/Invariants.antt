@@ -1,5 +1,5 @@
 use Rattle.std.proofs.Common.{◌≡◌, drop}
-use Rattle.blue_rules.specs.StageTypes.{chain_typed}
+use Rattle.blue_names.specs.StageTypes.{chain_typed}
 use Rattle.blue_types.proofs.stages.chain_typed.Given as goal
 
 abbrev pub invariant-loop-step : goal.invariant-loop-step

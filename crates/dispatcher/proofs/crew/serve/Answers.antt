@@ -1,7 +1,7 @@
 -- The goals of `crew::serve` that the search leaves.
 use Rattle.std.proofs.Common.{◌≡◌, ap, sym, subst, ◌∙◌, Some, slice_get, map}
-use Rattle.unit_budget.specs.Public.{budget_id}
-use Rattle.turn_table.specs.Public.{handed_in}
+use Rattle.dispatcher.specs.PublicBudget.{budget_id}
+use Rattle.dispatcher.specs.PublicTurns.{handed_in}
 use Rattle.dispatcher.specs.Places.{Belongs}
 use Rattle.dispatcher.proofs.Lists.{fits_keep}
 use Rattle.dispatcher.proofs.crew.serve.Goals as goal

@@ -1,5 +1,5 @@
 -- The loop of `crew::wake_each`.
-use Rattle.turn_table.specs.Public.{IsFree}
+use Rattle.dispatcher.specs.PublicTurns.{IsFree}
 use Rattle.dispatcher.proofs.crew.wake_each.Given as goal
 
 abbrev pub invariant-loop-id : goal.invariant-loop-id

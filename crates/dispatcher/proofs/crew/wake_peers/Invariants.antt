@@ -1,6 +1,6 @@
 -- The loop of `crew::wake_peers`.
 use Rattle.std.proofs.Common.{◌≡◌}
-use Rattle.turn_table.specs.Public.{IsSeatOf, held_turns}
+use Rattle.dispatcher.specs.PublicTurns.{IsSeatOf, held_turns}
 use Rattle.dispatcher.proofs.crew.wake_peers.Given as goal
 
 abbrev pub invariant-loop-i : goal.invariant-loop-i

@@ -5,7 +5,7 @@ use denote.Exit.{no}
 use denote.Param.{param}
 use denote.Param.Send.{sendable, param_sync, arg_sync}
 use Rattle.std.proofs.alloc.Global.TheSendSync as heap
-use Rattle.turn_table.specs.Public.{IsFree}
+use Rattle.dispatcher.specs.PublicTurns.{IsFree}
 use Rattle.dispatcher.specs.contracts.origin.PlaceOrigin as origin
 use Rattle.dispatcher.proofs.Crossing.{place_send, turns_sync, budget_sync, list_sync, shares_sync}
 use Rattle.dispatcher.proofs.crew.work_all.Goals as goal

@@ -1,8 +1,8 @@
 -- The goals of `run::run` that the search leaves.
 use Rattle.std.proofs.Common.{arith, sym, subst}
-use Rattle.rounds.specs.Bodies.{AllOf, EachOf, BrokeOff}
-use Rattle.rounds.specs.Crossings.{AreCrossings, AllJoined, FirstEvent}
-use Rattle.rounds.proofs.Each.{each_on, broke_after}
+use Rattle.lane_core.specs.Bodies.{AllOf, EachOf, BrokeOff}
+use Rattle.lane_core.specs.Crossings.{AreCrossings, AllJoined, FirstEvent}
+use Rattle.lane_core.proofs.Each.{each_on, broke_after}
 use Rattle.dispatcher.specs.Broken.{WholeOrBroken}
 use Rattle.dispatcher.proofs.Lists.{taken_whole}
 use Rattle.dispatcher.proofs.Taking.{went_goes, went_keeps, either_met, whole_broke, crossings_either, not_false}

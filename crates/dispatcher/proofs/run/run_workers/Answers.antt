@@ -1,7 +1,7 @@
 -- The goals of `run::run_workers` that the search leaves.
 use Rattle.std.proofs.Common.{arith, ap, ◌∙◌, length}
 use Rattle.std.proofs.lemmas.List.Elements.{All-same}
-use Rattle.unit_budget.specs.Public.{budget_id}
+use Rattle.dispatcher.specs.PublicBudget.{budget_id}
 use Rattle.dispatcher.specs.Places.{Belongs}
 use Rattle.dispatcher.proofs.run.run_workers.Goals as goal
 

@@ -2,7 +2,7 @@
 use Rattle.std.proofs.Common.{arith, sym, subst}
 use Rattle.std.specs.List.{All}
 use Rattle.std.proofs.lemmas.List.Elements.{All-push, All-same}
-use Rattle.turn_table.specs.Public.{IsFree}
+use Rattle.dispatcher.specs.PublicTurns.{IsFree}
 use Rattle.dispatcher.proofs.Lists.{taken_whole}
 use Rattle.dispatcher.proofs.run.take_turns.Goals as goal
 

@@ -2,7 +2,7 @@
 use Rattle.std.proofs.Common.{rules, ◌≡◌, ◌++◌, ◌∷◌, [], arith, ap, sym, ◌∙◌, map, length}
 use Rattle.std.proofs.lemmas.List.Elements.{All-push, All-same}
 use Rattle.std.specs.Vec.Iter.{into_iter_items}
-use Rattle.unit_budget.specs.Public.{budget_id}
+use Rattle.dispatcher.specs.PublicBudget.{budget_id}
 use Rattle.dispatcher.specs.Places.{Belongs, body_start}
 use Rattle.dispatcher.proofs.Lists.{next_of, map_snoc, app_next, passed_all}
 use Rattle.dispatcher.proofs.taken.place_all.Goals as goal

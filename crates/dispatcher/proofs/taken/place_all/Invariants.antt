@@ -2,7 +2,7 @@
 use Rattle.std.proofs.Common.{◌≡◌, ◌+◌, ◌++◌, map, length, vec_len, vec_capacity}
 use Rattle.std.specs.List.{All}
 use Rattle.std.specs.Vec.Iter.{into_iter_items, into_iter_len}
-use Rattle.unit_budget.specs.Public.{budget_id, seat_id, used_by, budget_parts, limit_of, HasNoClaim}
+use Rattle.dispatcher.specs.PublicBudget.{budget_id, seat_id, used_by, budget_parts, limit_of, HasNoClaim}
 use Rattle.dispatcher.specs.Places.{Belongs, body_start}
 use Rattle.dispatcher.proofs.taken.place_all.Given as goal
 

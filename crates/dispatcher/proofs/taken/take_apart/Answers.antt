@@ -3,8 +3,8 @@ use Rattle.std.proofs.Common.{rules, ◌≡◌, ◌++◌, ◌∷◌, [], arith, 
 use Rattle.std.specs.List.{sum_by}
 use Rattle.std.proofs.lemmas.List.Sums.{sum_by_push}
 use Rattle.std.specs.Vec.Iter.{into_iter_items}
-use Rattle.unit_budget.specs.Rule.{share}
-use Rattle.rounds.specs.Bodies.{EachOf}
+use Rattle.dispatcher.specs.Rule.{share}
+use Rattle.lane_core.specs.Bodies.{EachOf}
 use Rattle.dispatcher.specs.Places.{BodyWentOn, WentOrBroke, body_start}
 use Rattle.dispatcher.proofs.Lists.{each_grown, map_snoc, app_next, passed_all}
 use Rattle.dispatcher.proofs.Taking.{stands_either}

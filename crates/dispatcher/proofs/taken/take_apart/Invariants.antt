@@ -2,8 +2,8 @@
 use Rattle.std.proofs.Common.{◌≡◌, ◌≤◌, ◌<◌, ◌+◌, ◌++◌, false, map, length, vec_len, vec_capacity}
 use Rattle.std.specs.List.{sum_by}
 use Rattle.std.specs.Vec.Iter.{into_iter_items, into_iter_len}
-use Rattle.unit_budget.specs.Public.{budget_id, seat_id, used_by, budget_parts, limit_of, HasNoClaim}
-use Rattle.rounds.specs.Bodies.{EachOf}
+use Rattle.dispatcher.specs.PublicBudget.{budget_id, seat_id, used_by, budget_parts, limit_of, HasNoClaim}
+use Rattle.lane_core.specs.Bodies.{EachOf}
 use Rattle.dispatcher.specs.Places.{BodyWentOn, WentOrBroke, body_start}
 use Rattle.dispatcher.proofs.taken.take_apart.Given as goal
 

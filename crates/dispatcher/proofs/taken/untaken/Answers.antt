@@ -1,6 +1,6 @@
 -- The goal of `taken::untaken` that the search leaves.
 use Rattle.std.proofs.Common.{sym}
-use Rattle.rounds.proofs.Each.{sum_none}
+use Rattle.lane_core.proofs.Each.{sum_none}
 use Rattle.dispatcher.proofs.taken.untaken.Goals as goal
 
 pub returns-clause-spent : goal.returns-clause-spent

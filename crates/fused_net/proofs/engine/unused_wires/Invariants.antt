@@ -1,6 +1,6 @@
 -- The loop of `engine::unused_wires`.
 use Rattle.std.proofs.Common.{◌≡◌, replicate, vec_len, vec_capacity}
-use Rattle.wire_core.specs.Cell.{new_cell}
+use Rattle.port_core.specs.Cell.{new_cell}
 use Rattle.fused_net.proofs.engine.unused_wires.Given as goal
 
 abbrev pub invariant-loop-i : goal.invariant-loop-i

@@ -1,7 +1,7 @@
 -- The goals of `island::assemble` that the search leaves.
 use Rattle.std.proofs.Common.{◌∙◌, ℕ, [], length, replicate, sym, ap}
 use Rattle.port_core.specs.Ring.{Ring}
-use Rattle.wire_core.specs.Cell.{new_cell}
+use Rattle.port_core.specs.Cell.{new_cell}
 use Rattle.interpreter.proofs.Tables.{rows_count, rows_wiring, rows_sized}
 use Rattle.interpreter.proofs.Islands.{same_count, all_fresh, ends_many, parts_wired}
 use Rattle.interpreter.proofs.island.assemble.Goals as goal

@@ -1,8 +1,8 @@
 -- The goals of `table::mark` that the search leaves.
 use Rattle.std.proofs.Common.{◌≡◌, ◌∙◌, ◌<◌, sym, rules, length}
 use Rattle.std.proofs.lemmas.List.{length-map}
-use Rattle.island_boundary.specs.declared.output.OutputBoundary.{OutputBoundary}
-use Rattle.island_boundary.specs.declared.input.IslandInput.{IslandInput}
+use Rattle.island_body.specs.declared.output.OutputBoundary.{OutputBoundary}
+use Rattle.island_body.specs.declared.input.IslandInput.{IslandInput}
 use Rattle.island_body.proofs.Lists.{get_here, map_at}
 use Rattle.island_body.proofs.Marking.{row_there, whole_table, mark_in_at, mark_out_at}
 use Rattle.island_body.proofs.table.mark.Goals as goal

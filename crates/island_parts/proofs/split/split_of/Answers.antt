@@ -5,7 +5,7 @@ use Rattle.std.proofs.lemmas.List.{length-map}
 use Rattle.blue_names.specs.Links.{AreInRange, wires_of_links}
 use Rattle.interpreter.specs.declared.parts.Link.{Link}
 use Rattle.interpreter.specs.declared.parts.Place.{Place}
-use Rattle.traversal.specs.Plan.{lanes_from}
+use Rattle.blue_check.specs.Plan.{lanes_from}
 use Rattle.scatter.specs.Shares.{of_home, items_at, AreEmptyFor}
 use Rattle.island_parts.specs.Split.{IsSpace}
 use Rattle.island_parts.specs.Whole.{whole_places, whole_links, lanes_in, at_ranks, own_links, link_home}

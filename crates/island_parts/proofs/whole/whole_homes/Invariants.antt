@@ -1,6 +1,6 @@
 -- The loops of `whole::whole_homes`.
 use Rattle.std.proofs.Common.{◌≡◌, ◌++◌, map, drop}
-use Rattle.traversal.specs.declared.plan.LanePlan.{LanePlan}
+use Rattle.blue_check.specs.declared.plan.LanePlan.{LanePlan}
 use Rattle.island_parts.proofs.whole.whole_homes.Given as goal
 
 -- with what is left they are all

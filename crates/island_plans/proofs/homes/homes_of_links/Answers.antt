@@ -4,7 +4,7 @@ use Rattle.std.specs.Prelude.{is_none}
 use Rattle.std.specs.List.{filter}
 use Rattle.std.proofs.lemmas.List.Elements.{All-filter, All-same}
 use Rattle.blue_names.specs.declared.links.NumberedWire.{NumberedWire}
-use Rattle.traversal.proofs.Planning.{labels_below}
+use Rattle.blue_check.proofs.Planning.{labels_below}
 use Rattle.island_plans.proofs.Numbered.{labels_read, numbered_homes}
 use Rattle.island_plans.proofs.homes.homes_of_links.Goals as goal
 

@@ -2,21 +2,21 @@
 use Rattle.std.proofs.Common.{◌≡◌, ◌∙◌, ◌+◌, ◌<◌, ℕ, List, length, map, vec_len, vec_capacity, ap, sym, subst, rules, arith}
 use Rattle.std.specs.List.{All}
 use Rattle.stream_model.specs.Graph.{Edge}
-use Rattle.blue_core.specs.declared.blueprint.Blueprint.{Blueprint}
-use Rattle.blue_core.specs.declared.blueprint.ChainDecl.{ChainDecl}
-use Rattle.blue_core.specs.declared.blueprint.Node.{Node}
-use Rattle.blue_core.specs.declared.blueprint.WireDecl.{WireDecl}
+use Rattle.stream_model.specs.declared.blueprint.Blueprint.{Blueprint}
+use Rattle.stream_model.specs.declared.blueprint.ChainDecl.{ChainDecl}
+use Rattle.stream_model.specs.declared.blueprint.Node.{Node}
+use Rattle.stream_model.specs.declared.blueprint.WireDecl.{WireDecl}
 use Rattle.blue_names.specs.declared.links.NumberedWire.{NumberedWire}
 use Rattle.blue_names.specs.Links.{AreInRange, wires_of_links}
 use Rattle.blue_check.specs.Wires.{blueprint_wires}
-use Rattle.blue_rules.specs.Links.{wires_of}
+use Rattle.blue_names.specs.RuleLinks.{wires_of}
 use Rattle.interpreter.specs.declared.parts.Place.{Place}
-use Rattle.traversal.specs.Plan.{lanes_from}
+use Rattle.blue_check.specs.Plan.{lanes_from}
 use Rattle.island_parts.specs.Split.{IsSplit}
 use Rattle.materializer.specs.Fit.{CanRun}
 use Rattle.materializer.specs.Graphs.{graph_chain, chains_of}
-use Rattle.plug_board.specs.Handed.{HasPlugs, ArePlugged}
-use Rattle.switch_board.specs.Board.{IsBoard, AreAtSwitches, AreHanded, seat_of_end}
+use Rattle.materializer.specs.HandedPlugs.{HasPlugs, ArePlugged}
+use Rattle.materializer.specs.Board.{IsBoard, AreAtSwitches, AreHanded, seat_of_end}
 use Rattle.materializer.specs.Planned.{ArePlanned, places_from, planned_seat}
 use Rattle.materializer.proofs.Fitting.{few_link_ports, all_sized}
 use Rattle.island_plans.specs.Ends.{AreEndHomes}

@@ -3,9 +3,9 @@ use Rattle.std.proofs.Common.{◌≡◌, ◌∙◌, ◌<◌, ℕ, ap, length, ma
 use Rattle.std.specs.List.{All}
 use Rattle.std.proofs.lemmas.List.{length-map}
 use Rattle.blue_check.specs.Wires.{blueprint_wires}
-use Rattle.lane_ends.specs.Ends.{CanAllBeMade, AreRising, AreAllEnds}
+use Rattle.island_plans.specs.LaneEnds.{CanAllBeMade, AreRising, AreAllEnds}
 use Rattle.island_plans.specs.Ends.{wire_home}
-use Rattle.island_bodies.specs.Making.{IsRoomForBodies}
+use Rattle.island_plans.specs.Making.{IsRoomForBodies}
 use Rattle.island_runs.proofs.prepare.prepare.Goals as goal
 
 pub ends_of-requires-clause-can : goal.ends_of-requires-clause-can

@@ -1,6 +1,6 @@
 -- The goals of `run::begin` that the search leaves.
 use Rattle.std.proofs.Common.{◌≡◌, ◌∙◌, ap, map, length, sym, subst, arith}
-use Rattle.lane_ends.specs.Ends.{AreRising}
+use Rattle.island_plans.specs.LaneEnds.{AreRising}
 use Rattle.island_runs.proofs.Preparing.{same_ends, same_tables, same_peers, same_room}
 use Rattle.island_runs.proofs.run.begin.Goals as goal
 

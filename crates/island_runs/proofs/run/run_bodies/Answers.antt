@@ -2,7 +2,7 @@
 use Rattle.std.proofs.Common.{◌∙◌, sym, subst}
 use denote.Exit.{no}
 use denote.Param.Send.{param_send, arg_send}
-use Rattle.rounds.specs.Crossings.{AreCrossings}
+use Rattle.lane_core.specs.Crossings.{AreCrossings}
 use Rattle.island_body.proofs.Sending.{body_send}
 use Rattle.island_body.specs.Meeting.{BodiesMayMeet}
 use Rattle.island_runs.proofs.Running.{have_run, have_broken, receipt_of}

@@ -3,17 +3,17 @@ use Rattle.std.proofs.Common.{◌≡◌, ◌∙◌, ℕ, List, ap, map, length, 
 use Rattle.std.proofs.lemmas.List.{length-map}
 use Rattle.std.specs.Vec.{with_items}
 use Rattle.blue_check.specs.Wires.{blueprint_wires}
-use Rattle.blue_core.specs.declared.blueprint.Node as blue
+use Rattle.stream_model.specs.declared.blueprint.Node as blue
 use Rattle.stream_model.specs.declared.outcome.WireCount.{WireCount}
-use Rattle.run_account.specs.Pictures.{picture_counts}
+use Rattle.run_laws.specs.Pictures.{picture_counts}
 use Rattle.materializer.specs.Graphs.{graph_of}
-use Rattle.traversal.specs.Plan.{lanes_from}
-use Rattle.lane_ends.specs.Ends.{AreRising}
+use Rattle.blue_check.specs.Plan.{lanes_from}
+use Rattle.island_plans.specs.LaneEnds.{AreRising}
 use Rattle.nodes.specs.Nodes.{node_seat}
-use Rattle.island_bodies.specs.Asked.{LieThere, AreAsked, AreNoted, AreWithin}
+use Rattle.island_plans.specs.Asked.{LieThere, AreAsked, AreNoted, AreWithin}
 use Rattle.bodies_run.specs.Counts.{lane_demand, told_from}
 use Rattle.bodies_run.specs.Leaving.{account_in}
-use Rattle.bodies_leave.specs.Whole.{whole_of}
+use Rattle.island_runs.specs.Whole.{whole_of}
 use Rattle.island_runs.proofs.Preparing.{told_many}
 use Rattle.island_runs.proofs.Running.{came_back}
 use Rattle.island_runs.proofs.Stopping.{left_seats, leaves, kept}

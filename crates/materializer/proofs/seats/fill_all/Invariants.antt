@@ -2,7 +2,7 @@
 use Rattle.std.proofs.Common.{◌≡◌, ◌+◌, ◌≤◌, List, ◌++◌, length, map, vec_len, vec_capacity}
 use Rattle.std.specs.Vec.Iter.{into_iter_items, into_iter_len}
 use Rattle.stream_model.specs.Graph as graph
-use Rattle.blue_core.specs.declared.blueprint.Node.{Node}
+use Rattle.stream_model.specs.declared.blueprint.Node.{Node}
 use Rattle.materializer.specs.Planned.{ArePlanned, planned_seat, reads_in, writes_in}
 use Rattle.materializer.specs.Seats.{place_seat}
 use Rattle.materializer.proofs.SeatLoops.{FillsRest}

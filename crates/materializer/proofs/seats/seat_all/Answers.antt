@@ -3,9 +3,9 @@ use Rattle.std.proofs.Common.{◌≡◌, ◌∙◌, ◌++◌, length, map, ap, s
 use Rattle.std.specs.List.{list_all}
 use Rattle.std.specs.Vec.Iter.{into_iter_items, into_iter_len}
 use Rattle.interpreter.proofs.Tables.{none_left, len_next}
-use Rattle.blue_rules.specs.Sizes.{sizes_fit}
-use Rattle.plug_board.specs.Handed.{ArePlugged}
-use Rattle.switch_board.specs.Board.{AreHanded, seat_of_end}
+use Rattle.blue_names.specs.Sizes.{sizes_fit}
+use Rattle.materializer.specs.HandedPlugs.{ArePlugged}
+use Rattle.materializer.specs.Board.{AreHanded, seat_of_end}
 use Rattle.materializer.specs.Graphs.{graph_chain}
 use Rattle.materializer.specs.Planned.{planned_seat}
 use Rattle.materializer.proofs.Plugs.{plugs_left, plug_next}

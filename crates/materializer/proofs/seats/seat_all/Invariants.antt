@@ -2,11 +2,11 @@
 use Rattle.std.proofs.Common.{◌≡◌, true, List, ◌++◌, length, map}
 use Rattle.std.specs.List.{list_all}
 use Rattle.std.specs.Vec.Iter.{into_iter_items, into_iter_len}
-use Rattle.blue_rules.specs.Sizes.{sizes_fit}
+use Rattle.blue_names.specs.Sizes.{sizes_fit}
 use Rattle.materializer.specs.Graphs.{graph_chain}
 use Rattle.materializer.specs.Planned.{ArePlanned, planned_seat}
-use Rattle.plug_board.specs.Handed.{ArePlugged}
-use Rattle.switch_board.specs.Board.{AreHanded, seat_of_end}
+use Rattle.materializer.specs.HandedPlugs.{ArePlugged}
+use Rattle.materializer.specs.Board.{AreHanded, seat_of_end}
 use Rattle.materializer.proofs.seats.seat_all.Given as goal
 
 -- the sizes of the nodes that are left fit, and behind the seats that there are they complete all;

@@ -1,7 +1,7 @@
 -- The goal of `seats::stand` that the search leaves.
 use Rattle.std.proofs.Common.{◌∙◌, map, subst}
-use Rattle.blue_rules.specs.Names.{plug_of}
-use Rattle.plug_board.specs.Handed.{IsPlugged}
+use Rattle.blue_names.specs.Names.{plug_of}
+use Rattle.materializer.specs.HandedPlugs.{IsPlugged}
 use Rattle.materializer.specs.Graphs.{graph_chain}
 use Rattle.materializer.proofs.Plugs.{plug_is}
 use Rattle.materializer.proofs.seats.stand.Goals as goal

@@ -1,6 +1,6 @@
 -- The goal of `seats::unplugged` that the search leaves.
 use Rattle.std.proofs.Common.{map, Some, subst}
-use Rattle.switch_board.specs.Board.{switch_of, IsHandedAt}
+use Rattle.materializer.specs.Board.{switch_of, IsHandedAt}
 use Rattle.materializer.specs.Graphs.{graph_chain}
 use Rattle.materializer.proofs.Switches.{plans_at_switch}
 use Rattle.materializer.proofs.seats.unplugged.Goals as goal

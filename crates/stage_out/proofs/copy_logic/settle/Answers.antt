@@ -1,7 +1,7 @@
 use Rattle.std.specs.Prelude.{slice_index_or}
 use Rattle.std.proofs.Common.{◌<◌, length, arith}
 use Rattle.std.proofs.lemmas.List.Edits.{map_over_more}
-use Rattle.stage_fans.specs.declared.outs.OutputState.TheVariants.{Quiet}
+use Rattle.stage_core.specs.declared.outs.OutputState.TheVariants.{Quiet}
 use Rattle.stage_out.specs.Copies.{served_one}
 use Rattle.stage_out.proofs.Wants.{at_within}
 use Rattle.stage_out.proofs.copy_logic.settle.Goals as goal

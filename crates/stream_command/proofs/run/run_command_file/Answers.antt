@@ -1,5 +1,5 @@
 -- The goal of `run::run_command_file` that the search leaves.
-use Rattle.stream_top.specs.Asked.{plugged_by}
+use Rattle.stream_command.specs.Asked.{plugged_by}
 use Rattle.stream_command.proofs.Answering.{runs_as}
 use Rattle.stream_command.proofs.run.run_command_file.Goals as goal
 

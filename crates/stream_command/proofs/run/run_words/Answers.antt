@@ -1,7 +1,7 @@
 -- The goals of `run::run_words` that the search leaves.
-use Rattle.command_words.specs.Commands.{asked}
-use Rattle.stream_top.specs.Calls.{answer_of}
-use Rattle.stream_top.specs.Asked.{plugged_by}
+use Rattle.run_report.specs.Commands.{asked}
+use Rattle.stream_command.specs.RunCalls.{answer_of}
+use Rattle.stream_command.specs.Asked.{plugged_by}
 use Rattle.stream_command.proofs.Answering.{as_asked, completes, reads_little}
 use Rattle.stream_command.proofs.run.run_words.Goals as goal
 

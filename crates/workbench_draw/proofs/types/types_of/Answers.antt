@@ -1,5 +1,5 @@
 use Rattle.std.proofs.Common.{arith}
-use Rattle.traversal.proofs.Ranges.{in_range_checked}
+use Rattle.blue_check.proofs.Ranges.{in_range_checked}
 use Rattle.workbench_draw.proofs.types.types_of.Goals as goal
 
 pub types_in-requires : goal.types_in-requires

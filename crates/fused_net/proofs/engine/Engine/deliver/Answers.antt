@@ -2,7 +2,7 @@
 use Rattle.std.proofs.Common.{inl, inr, true, false, refl, sym, subst}
 use Rattle.port_core.specs.Wire.{nothing, cancel, arrived, end_item}
 use Rattle.port_core.specs.declared.conn.Event.{Event}
-use Rattle.wire_core.specs.Cell.{Tells}
+use Rattle.port_core.specs.Cell.{Tells}
 use Rattle.fused_net.specs.Net.{wire_at}
 use Rattle.fused_net.proofs.Delivering.{brings_elem, told_brought, told_brings, told_end}
 use Rattle.fused_net.proofs.engine.Engine.deliver.Goals as goal

@@ -1,7 +1,7 @@
 -- The goals of `body::Body::new` that the search leaves.
 use Rattle.std.proofs.Common.{List, ◌∙◌, subst, arith}
-use Rattle.island_boundary.specs.declared.output.OutputBoundary.{OutputBoundary}
-use Rattle.island_boundary.specs.declared.input.IslandInput.{IslandInput}
+use Rattle.island_body.specs.declared.output.OutputBoundary.{OutputBoundary}
+use Rattle.island_body.specs.declared.input.IslandInput.{IslandInput}
 use Rattle.island_body.specs.Ends.{in_wires, out_wires, IsTable}
 use Rattle.island_body.specs.Lasting.{goes_on}
 use Rattle.island_body.proofs.body.Body.new.Goals as goal

@@ -2,8 +2,8 @@
 use Rattle.std.proofs.Common.{◌∙◌, ap, arith}
 use Rattle.fused_net.proofs.Keeping.{on_err}
 use Rattle.std.specs.declared.vec.Vec.{Vec}
-use Rattle.island_boundary.specs.declared.output.OutputBoundary.{OutputBoundary}
-use Rattle.island_boundary.specs.declared.input.IslandInput.{IslandInput}
+use Rattle.island_body.specs.declared.output.OutputBoundary.{OutputBoundary}
+use Rattle.island_body.specs.declared.input.IslandInput.{IslandInput}
 use Rattle.island_body.specs.Ends.{all_taken, all_finds}
 use Rattle.island_body.specs.Lasting.{goes_on, goes_breaks}
 use Rattle.island_body.proofs.Looking.{keeps_looks_same, keeps_looks_on}

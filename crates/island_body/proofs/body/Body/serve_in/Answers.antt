@@ -2,7 +2,7 @@
 use Rattle.std.proofs.Common.{refl, ap, arith}
 use Rattle.std.specs.Prelude.{length}
 use Rattle.interpreter.specs.Boundary.{way_in}
-use Rattle.island_boundary.specs.Beside.{in_node}
+use Rattle.island_body.specs.Beside.{in_node}
 use Rattle.island_body.proofs.Lists.{taken_set}
 use Rattle.island_body.proofs.Standing.{goes_of, in_done}
 use Rattle.island_body.proofs.Acting.{at_index, in_serves, in_goes}

@@ -1,7 +1,7 @@
 -- The goals of `body::Body::serve_out` that the search leaves.
 use Rattle.std.proofs.Common.{refl, arith}
 use Rattle.interpreter.specs.Boundary.{way_out}
-use Rattle.island_boundary.specs.Beside.{out_node}
+use Rattle.island_body.specs.Beside.{out_node}
 use Rattle.island_body.proofs.Lists.{finds_set}
 use Rattle.island_body.proofs.Standing.{goes_of, out_done}
 use Rattle.island_body.proofs.Acting.{at_index, out_serves, out_goes}

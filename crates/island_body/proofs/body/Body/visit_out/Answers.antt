@@ -2,15 +2,15 @@
 use Rattle.std.proofs.Common.{◌≡◌, refl, arith, length-set}
 use Rattle.std.specs.Prelude.{length}
 use Rattle.interpreter.specs.Boundary.{way_out}
-use Rattle.island_boundary.specs.Beside.{out_node}
+use Rattle.island_body.specs.Beside.{out_node}
 use Rattle.island_body.proofs.Lists.{finds_set}
 use Rattle.island_body.proofs.Standing.{goes_of, out_done, served_but}
 use Rattle.island_body.proofs.Acting.{at_index, out_serves, out_goes, done_as, found_none_here}
 use Rattle.fused_net.proofs.Reading.{get_set_other}
 use Rattle.std.specs.Prelude.{ℕ}
-use Rattle.island_boundary.specs.Sending.{VisitIs, unit_of}
-use Rattle.island_boundary.specs.declared.found.Found.{Found}
-use Rattle.island_boundary.specs.declared.found.Found.TheVariants.{Nothing, Demand, Cancelled}
+use Rattle.island_body.specs.Sending.{VisitIs, unit_of}
+use Rattle.island_body.specs.declared.found.Found.{Found}
+use Rattle.island_body.specs.declared.found.Found.TheVariants.{Nothing, Demand, Cancelled}
 use Rattle.island_body.proofs.Looking.{only_out_here, saw_all_here}
 use Rattle.island_body.proofs.Telling.{wakes_looked_out}
 use Rattle.island_body.proofs.body.Body.visit_out.Goals as goal

@@ -1,10 +1,10 @@
 -- The goals of `plans::Plans::fill` that the search leaves.
 use Rattle.std.proofs.Common.{◌≡◌, ◌∙◌, ℕ, length, map, ap, sym, subst, arith}
-use Rattle.blue_core.specs.declared.blueprint.Node.{Node}
+use Rattle.stream_model.specs.declared.blueprint.Node.{Node}
 use Rattle.blue_check.specs.Wires.{blueprint_wires}
-use Rattle.switch_board.specs.Board.{AreAtSwitches}
+use Rattle.materializer.specs.Board.{AreAtSwitches}
 use Rattle.interpreter.specs.Parts.{AreParts}
-use Rattle.traversal.specs.Plan.{lanes_from}
+use Rattle.blue_check.specs.Plan.{lanes_from}
 use Rattle.scatter.specs.Shares.{of_home}
 use Rattle.island_parts.specs.Split.{IsReady}
 use Rattle.island_parts.specs.Whole.{own_links, whole_homes, whole_links, whole_seats}

@@ -1,6 +1,6 @@
 use Rattle.std.proofs.Common.{ap, ◌∙◌}
 use Rattle.elem_core.specs.declared.item.Item.TheVariants as item
-use Rattle.stage_boundary.proofs.Leaves.{leaves_got}
+use Rattle.nodes.proofs.Leaves.{leaves_got}
 use Rattle.nodes.proofs.Dispatching.{writing_handles, leaving_handles}
 use Rattle.nodes.proofs.node.IslandNode.push_rest.Goals as goal
 

@@ -1,6 +1,6 @@
 use Rattle.std.proofs.Common.{ap, ◌∙◌}
-use Rattle.stage_boundary.proofs.Enters.{starts_entering}
-use Rattle.stage_boundary.proofs.Leaves.{starts_leaving}
+use Rattle.nodes.proofs.Enters.{starts_entering}
+use Rattle.nodes.proofs.Leaves.{starts_leaving}
 use Rattle.nodes.proofs.Dispatching.{entering_starts, leaving_starts}
 use Rattle.nodes.proofs.node.IslandNodeStage.start.Goals as goal
 

@@ -1,6 +1,6 @@
 use Rattle.std.proofs.Common.{◌≡◌, ◌≤◌, ◌++◌, ◌+◌, length, drop}
 use Rattle.port_core.specs.declared.act.Act.TheVariants.{Push}
-use Rattle.stage_fans.specs.Outs.{at_open}
+use Rattle.stage_core.specs.OpenOuts.{at_open}
 use Rattle.stage_out.specs.Copies.{push_to}
 use Rattle.stage_out.proofs.copy_logic.CopyLogic.give_copies.Given as goal
 

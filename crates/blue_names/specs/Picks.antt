@@ -1,0 +1,57 @@
+-- Which blueprints make moves that a run has to record.
+use Rattle.std.specs.Prelude.{Bool, true, false, List}
+use Rattle.std.specs.List.{list_any}
+use Rattle.stream_model.specs.declared.kind.Kind.{Kind}
+use Rattle.stream_model.specs.declared.kind.Joining.{Joining}
+use Rattle.stream_model.specs.declared.kind.Joining.TheVariants as joining
+use Rattle.stream_model.specs.Linear.{Role, reads_lines, gives_range, gives_nothing, gives_failure, works, trips, plugs_in, buffers, recovers, obeys, groups_by, splits_when, splits_after, merges, concats, interleaves, merges_sorted, zips, broadcasts, balances, partitions, unzips, sinks, role_of}
+use Rattle.stream_model.specs.declared.kind.Policy.{Policy}
+use Rattle.stream_model.specs.declared.kind.Policy.TheVariants.{Backpressure, DropHead, DropTail, DropBuffer, DropNew, Fail}
+use Rattle.stream_model.specs.declared.blueprint.Node.{Node}
+
+-- a buffer that does not hold its input back, and substreams whose outputs come together as they are
+abbrev pub may_drop : Policy → Bool
+may_drop Backpressure = false
+may_drop DropHead = true
+may_drop DropTail = true
+may_drop DropBuffer = true
+may_drop DropNew = true
+may_drop Fail = true
+
+abbrev pub is_merged : Joining → Bool
+is_merged joining.Merge = true
+is_merged joining.Concat = false
+
+-- a role whose moves depend on what comes first
+abbrev pub picks_by : Role → Bool
+picks_by (reads_lines name) = false
+picks_by (gives_range low high) = false
+picks_by (gives_nothing b) = false
+picks_by (gives_failure b) = false
+picks_by (works w) = false
+picks_by (trips order name n) = false
+picks_by (plugs_in name) = false
+picks_by (buffers n p) = may_drop p
+picks_by (recovers t) = true
+picks_by (obeys name) = true
+picks_by (groups_by n f chain) = true
+picks_by (splits_when p chain j) = is_merged j
+picks_by (splits_after p chain j) = is_merged j
+picks_by (merges n) = true
+picks_by (concats n) = false
+picks_by (interleaves n s) = false
+picks_by merges_sorted = false
+picks_by zips = false
+picks_by (broadcasts n) = false
+picks_by (balances n) = true
+picks_by (partitions n f) = false
+picks_by unzips = false
+picks_by (sinks file keeps) = false
+
+-- a kind whose moves do
+abbrev pub picks : Kind → Bool
+picks k = picks_by (role_of k)
+
+-- some node does
+abbrev pub needs_picks : List Node → Bool
+needs_picks nodes = list_any (λ n. picks n.kind) nodes

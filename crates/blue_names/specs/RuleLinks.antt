@@ -1,0 +1,22 @@
+-- A blueprint's wires by the numbers of their nodes.
+use Rattle.std.specs.Prelude.{ℕ, ◌+◌, if◌then◌else◌, List, [], ◌∷◌, map, unwrap_or, Option, Some, None}
+use Rattle.elem_core.specs.Values.{same_text}
+use Rattle.stream_model.specs.Graph.{Edge}
+use Rattle.stream_model.specs.declared.blueprint.Node.{Node}
+use Rattle.stream_model.specs.declared.blueprint.WireDecl.{WireDecl}
+
+-- the number of the first of these names that is this one, where they are numbered from n
+abbrev pub number_from : List ℕ → ℕ → List (List ℕ) → Option ℕ
+number_from name n [] = None
+number_from name n (x ∷ xs) = if same_text name x then Some n else number_from name (n + 1) xs
+
+-- the number of the node of that name; no rule that numbers serve is asked where there is none
+abbrev pub node_number : List ℕ → List Node → ℕ
+node_number name nodes = unwrap_or (number_from name 0 (map (λ n. n.name) nodes)) 0
+
+-- a wire by the numbers of its nodes
+abbrev pub wire_of : List Node → WireDecl → Edge
+wire_of nodes w = record { from = node_number w.from nodes; output = w.output; to = node_number w.to nodes; input = w.input; lane = w.lane }
+
+abbrev pub wires_of : List Node → List WireDecl → List Edge
+wires_of nodes ws = map (wire_of nodes) ws

@@ -1,0 +1,212 @@
+-- What comes of a type at a stage, at a chain and at each kind of node.
+use Rattle.std.specs.Prelude.{ℕ, nat_le, if◌then◌else◌, List, [], ◌∷◌, Option, Some, None}
+use Rattle.std.specs.Option.{option_map}
+use Rattle.elem_core.specs.Sort.{Sort, num_type, text_type, seq_type, pair_type, nesting, same_sort}
+use Rattle.elem_core.specs.Values.{same_text}
+use Rattle.stream_model.specs.declared.kind.Base.{Base}
+use Rattle.stream_model.specs.declared.kind.Base.TheVariants as base
+use Rattle.stream_model.specs.declared.kind.Kind.{Kind}
+use Rattle.stream_model.specs.declared.kind.Kind.TheVariants.{Lines, Range, Empty, Failed, Map, Filter, FilterNot, TakeWhile, DropWhile, Take, Drop, Limit, Grouped, MapConcat, Fold, Scan, Reduce, Buffer, RecoverNum, RecoverText, Valve, TripShutdown, TripAbort, Plug, GroupBy, SplitWhen, SplitAfter, Merge, Concat, Interleave, MergeSorted, Zip, Broadcast, Balance, Partition, Unzip, ToLines, Head, Last, Ignore}
+use Rattle.stream_model.specs.Linear.{Role, reads_lines, gives_range, gives_nothing, gives_failure, works, trips, plugs_in, buffers, recovers, obeys, groups_by, splits_when, splits_after, merges, concats, interleaves, merges_sorted, zips, broadcasts, balances, partitions, unzips, sinks, role_of}
+use Rattle.stream_model.specs.declared.blueprint.Step.{Step}
+use Rattle.stream_model.specs.declared.blueprint.ChainDecl.{ChainDecl}
+use Rattle.stream_model.specs.declared.head.PlugHead.{PlugHead}
+use Rattle.blue_names.specs.declared.typed.TheConstants.{MAX_NESTING}
+use Rattle.blue_names.specs.declared.typed.Typed.{Typed}
+use Rattle.blue_names.specs.declared.typed.Typed.TheVariants.{Gives, Clashes, TooDeep}
+use Rattle.blue_names.specs.declared.want.Want.{Want}
+use Rattle.blue_names.specs.declared.want.Want.TheVariants.{Is, AnyPair}
+use Rattle.blue_names.specs.FnTypes.{suits, map_want, map_fixed, map_gives, pred_want, expand_want, expand_fixed, expand_gives, fold_want, fold_fixed, fold_gives, reduce_want, reduce_fixed, reduce_gives}
+
+-- a type that does not nest too deep
+abbrev pub limited : Sort → Typed
+limited t = if nat_le (nesting t) MAX_NESTING then Gives t else TooDeep
+
+-- what follows where the type is wanted, and else a clash
+abbrev pub clash_or : Option Want → Sort → Typed → Typed
+clash_or None t r = r
+clash_or (Some w) t r = if suits w t then r else Clashes t w
+
+-- the first of these that has that name
+abbrev pub named : {X : Type 0} → (X → List ℕ) → List ℕ → List X → Option X
+named text name [] = None
+named text name (x ∷ xs) = if same_text name (text x) then Some x else named text name xs
+
+-- the plug of that name
+abbrev pub plug_named : List ℕ → List PlugHead → Option PlugHead
+plug_named name plugs = named (λ p. p.name) name plugs
+
+abbrev pub steps_in : Option ChainDecl → List Step
+steps_in None = []
+steps_in (Some c) = c.steps.items
+
+-- the steps of the chain of that name
+abbrev pub chain_named : List ℕ → List ChainDecl → List Step
+chain_named name chains = steps_in (named (λ c. c.name) name chains)
+
+-- what a plug wants, and what it gives
+abbrev pub plug_want : Option PlugHead → Option Want
+plug_want (Some p) = Some (Is p.input)
+plug_want None = None
+
+abbrev pub plug_gives : Option PlugHead → Sort → Sort
+plug_gives (Some p) t = p.output
+plug_gives None t = t
+
+abbrev pub plug_fixed : Option PlugHead → Option Sort
+plug_fixed (Some p) = Some p.output
+plug_fixed None = None
+
+-- the types of the sources that give none
+abbrev pub base_type : Base → Sort
+base_type base.Num = num_type
+base_type base.Text = text_type
+
+-- the type of a source
+abbrev source_type_by : Role → Option Sort
+source_type_by (reads_lines name) = Some text_type
+source_type_by (gives_range low high) = Some num_type
+source_type_by (gives_nothing b) = Some (base_type b)
+source_type_by (gives_failure b) = Some (base_type b)
+source_type_by (works w) = None
+source_type_by (trips order name n) = None
+source_type_by (plugs_in name) = None
+source_type_by (buffers n p) = None
+source_type_by (recovers t) = None
+source_type_by (obeys name) = None
+source_type_by (groups_by n f chain) = None
+source_type_by (splits_when p chain j) = None
+source_type_by (splits_after p chain j) = None
+source_type_by (merges n) = None
+source_type_by (concats n) = None
+source_type_by (interleaves n s) = None
+source_type_by merges_sorted = None
+source_type_by zips = None
+source_type_by (broadcasts n) = None
+source_type_by (balances n) = None
+source_type_by (partitions n f) = None
+source_type_by unzips = None
+source_type_by (sinks file keeps) = None
+
+abbrev pub source_type : Kind → Option Sort
+source_type k = source_type_by (role_of k)
+
+-- how a stage by its own function treats types: what it wants, what it gives whatever it takes, and what it gives for a type
+-- that it takes
+pub record Typing : Type 0 where
+  pub want : Option Want
+  pub fixed : Option Sort
+  pub gives : Sort → Sort
+
+-- one that gives the type that it takes, and that wants this
+abbrev wanting : Option Want → Typing
+wanting w = record { want = w; fixed = None; gives = λ t. t }
+
+module _ (plugs : List PlugHead) where
+  -- each kind by its own function; a kind that has none takes every type and gives it
+  abbrev pub typing_of : Kind → Typing
+  typing_of (Lines file) = wanting None
+  typing_of (Range low high) = wanting None
+  typing_of (Empty b) = wanting None
+  typing_of (Failed b) = wanting None
+  typing_of (Map g) = record { want = map_want g; fixed = map_fixed g; gives = map_gives g }
+  typing_of (Filter p) = wanting (Some (pred_want p))
+  typing_of (FilterNot p) = wanting (Some (pred_want p))
+  typing_of (TakeWhile p) = wanting (Some (pred_want p))
+  typing_of (DropWhile p) = wanting (Some (pred_want p))
+  typing_of (Take n) = wanting None
+  typing_of (Drop n) = wanting None
+  typing_of (Limit n) = wanting None
+  typing_of (Grouped n) = record { want = None; fixed = None; gives = seq_type }
+  typing_of (MapConcat x) = record { want = expand_want x; fixed = expand_fixed x; gives = expand_gives x }
+  typing_of (Fold o) = record { want = fold_want o; fixed = fold_fixed o; gives = fold_gives o }
+  typing_of (Scan o) = record { want = fold_want o; fixed = fold_fixed o; gives = fold_gives o }
+  typing_of (Reduce r) = record { want = reduce_want r; fixed = reduce_fixed r; gives = reduce_gives r }
+  typing_of (Buffer n p) = wanting None
+  typing_of (RecoverNum k) = record { want = Some (Is num_type); fixed = Some num_type; gives = λ t. num_type }
+  typing_of (RecoverText l) = record { want = Some (Is text_type); fixed = Some text_type; gives = λ t. text_type }
+  typing_of (Valve name) = wanting None
+  typing_of (TripShutdown name n) = wanting None
+  typing_of (TripAbort name n) = wanting None
+  typing_of (Plug name) = let p = plug_named name plugs in record { want = plug_want p; fixed = plug_fixed p; gives = plug_gives p }
+  typing_of (GroupBy n f name) = wanting None
+  typing_of (SplitWhen p name j) = wanting None
+  typing_of (SplitAfter p name j) = wanting None
+  typing_of (Merge n) = wanting None
+  typing_of (Concat n) = wanting None
+  typing_of (Interleave n s) = wanting None
+  typing_of MergeSorted = wanting None
+  typing_of Zip = wanting None
+  typing_of (Broadcast n) = wanting None
+  typing_of (Balance n) = wanting None
+  typing_of (Partition n f) = wanting None
+  typing_of Unzip = wanting (Some AnyPair)
+  typing_of (ToLines file) = wanting None
+  typing_of (Head file) = wanting None
+  typing_of (Last file) = wanting None
+  typing_of Ignore = wanting None
+
+  -- what the function of a stage wants
+  abbrev pub stage_want : Kind → Option Want
+  stage_want k = (typing_of k).want
+
+  -- what a stage gives for a type that it takes
+  abbrev pub stage_gives : Kind → Sort → Sort
+  stage_gives k t = (typing_of k).gives t
+
+  -- what a kind gives whatever it takes
+  abbrev pub fixed_type : Kind → Option Sort
+  fixed_type k = (typing_of k).fixed
+
+  -- a stage by its own function
+  abbrev pub step_typed : Kind → Sort → Typed
+  step_typed k t = clash_or (stage_want k) t (limited (stage_gives k t))
+
+  -- the steps of a chain one after another, up to the first that does not give
+  abbrev pub and_then : Typed → (Sort → Typed) → Typed
+  and_then (Gives t) g = g t
+  and_then r g = r
+
+  abbrev pub chain_typed : List Step → Sort → Typed
+  chain_typed [] t = Gives t
+  chain_typed (s ∷ ss) t = and_then (step_typed s.kind t) (chain_typed ss)
+
+  -- a chain's type, where the type of the key does not nest too deep
+  abbrev pub keyed : Sort → Typed → Typed
+  keyed key (Gives t) = if nat_le (nesting key) MAX_NESTING then Gives t else TooDeep
+  keyed key r = r
+
+  -- the part that a number names
+  abbrev pub parted : Sort → Sort → Typed
+  parted part t = if same_sort num_type part then Gives t else Clashes part (Is num_type)
+
+  module _ (chains : List ChainDecl) where
+    -- what comes of a type at a node of this role, where this comes of it by the node's own function
+    abbrev pub typed_by : Role → Sort → Typed → Typed
+    typed_by (reads_lines name) t alone = alone
+    typed_by (gives_range low high) t alone = alone
+    typed_by (gives_nothing b) t alone = alone
+    typed_by (gives_failure b) t alone = alone
+    typed_by (works w) t alone = alone
+    typed_by (trips order name n) t alone = alone
+    typed_by (plugs_in name) t alone = alone
+    typed_by (buffers n p) t alone = alone
+    typed_by (recovers tree) t alone = alone
+    typed_by (obeys name) t alone = alone
+    typed_by (groups_by n g name) t alone = clash_or (map_want g) t (keyed (map_gives g t) (chain_typed (chain_named name chains) t))
+    typed_by (splits_when p name j) t alone = clash_or (Some (pred_want p)) t (chain_typed (chain_named name chains) t)
+    typed_by (splits_after p name j) t alone = clash_or (Some (pred_want p)) t (chain_typed (chain_named name chains) t)
+    typed_by (merges n) t alone = alone
+    typed_by (concats n) t alone = alone
+    typed_by (interleaves n s) t alone = alone
+    typed_by merges_sorted t alone = alone
+    typed_by zips t alone = alone
+    typed_by (broadcasts n) t alone = alone
+    typed_by (balances n) t alone = alone
+    typed_by (partitions n g) t alone = clash_or (map_want g) t (parted (map_gives g t) t)
+    typed_by unzips t alone = alone
+    typed_by (sinks file keeps) t alone = alone
+
+    -- what comes of a type at a node with one input; at a sink and at a fan the type as it is
+    abbrev pub stage_typed : Kind → Sort → Typed
+    stage_typed k t = typed_by (role_of k) t (step_typed k t)

@@ -1,5 +1,0 @@
-use Rattle.blue_walks.proofs.Joining.{AreOwn}
-use Rattle.blue_walks.proofs.classes.own_members.Given as goal
-
-abbrev pub invariant-loop-i : goal.invariant-loop-i
-invariant-loop-i l = AreOwn l.rows.items l.i

@@ -1,6 +1,0 @@
-use Rattle.std.proofs.Common.{◌≡◌, vec_len, take}
-use Rattle.blue_walks.proofs.Joining.{Relabels}
-use Rattle.blue_walks.proofs.classes.relabel.Given as goal
-
-abbrev pub invariant-loop-node : goal.invariant-loop-node
-invariant-loop-node l = (vec_len l.labels ≡ vec_len l.initial.labels) × Relabels l.initial.labels.items l.labels.items (take l.node-index l.nodes) l.from l.to

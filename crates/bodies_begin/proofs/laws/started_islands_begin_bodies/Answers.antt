@@ -1,6 +1,0 @@
--- Islands of a blueprint that have started are fit to be bodies.
-use Rattle.bodies_begin.proofs.Starting.{can_begin}
-use Rattle.bodies_begin.proofs.laws.started_islands_begin_bodies.Goals as goal
-
-pub returns : goal.returns
-returns g c = λ b ss ds f started e tables peers few filled all ends blank others. can_begin g.S.Source.state g.D.Drain.state g.B.PlugBook.lists b ss ds f filled started all few e ends tables blank peers others

@@ -1,7 +1,0 @@
-use Rattle.blue_check.specs.Wires.{blueprint_wires}
-use Rattle.materializer.specs.Graphs.{graph_of}
-use Rattle.bodies_leave.proofs.Spending.{spent}
-use Rattle.bodies_leave.proofs.laws.bodies_spent_what_was_sent.Goals as goal
-
-pub returns : goal.returns
-returns g c = λ b homes count nodes crossings begun now all m goes keep. spent g.S.Source.state g.D.Drain.state g.B.PlugBook.lists (graph_of b) homes count (blueprint_wires b) nodes crossings begun now m goes keep all

@@ -1,6 +1,0 @@
-use Rattle.std.proofs.Common.{rules}
-use Rattle.command_words.proofs.Texts.{utf8_text}
-use Rattle.command_words.proofs.parts.text_of.Goals as goal
-
-pub returns-in-Err-clause-err : goal.returns-in-Err-clause-err
-returns-in-Err-clause-err c = absurd (c.in-Err.ensures.cases.0 (utf8_text c.args.word.now (search rules)))

@@ -1,4 +1,0 @@
-pub mod Asking
-pub mod Commands
-pub mod Parts
-pub mod Shape

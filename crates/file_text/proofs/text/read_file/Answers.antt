@@ -1,9 +1,0 @@
-use Rattle.file_text.proofs.Quiets.{file_read}
-use Rattle.file_text.proofs.text.read_file.Goals as goal
-
-pub returns-in-Ok-read-clause-ok : goal.returns-in-Ok-read-clause-ok
-returns-in-Ok-read-clause-ok g c =
-    let opened = c.in-Ok.ensures in
-    let read = c.in-Ok-read.ensures in
-    let closed = c.close_in.ensures in
-    file_read _ _ _ _ _ _ _ opened.opened opened.files opened.faults opened.no_refusal read.name read.no_fault read.text closed.closed closed.files

@@ -1,8 +1,0 @@
--- The loop of `peers::takers`.
-use Rattle.std.proofs.Common.{◌≡◌, map, take}
-use Rattle.traversal.specs.declared.plan.LanePlan.{LanePlan}
-use Rattle.island_bodies.proofs.peers.takers.Given as goal
-
--- those of the lanes so far
-abbrev pub invariant-loop-lane : goal.invariant-loop-lane
-invariant-loop-lane l = l.all.items ≡ map (λ (l : LanePlan). l.to) (take l.lane-index l.lanes)

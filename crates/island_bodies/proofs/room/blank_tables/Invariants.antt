@@ -1,7 +1,0 @@
--- The loop of `room::blank_tables`.
-use Rattle.island_bodies.proofs.Tables.{TablesTo}
-use Rattle.island_bodies.proofs.room.blank_tables.Given as goal
-
--- the tables of the islands so far
-abbrev pub invariant-loop-count : goal.invariant-loop-count
-invariant-loop-count l = TablesTo l.counts l.count-index l.tables.items

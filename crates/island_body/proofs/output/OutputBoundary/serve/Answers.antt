@@ -1,0 +1,18 @@
+-- The goals of `boundary::OutputBoundary::serve` that the search leaves.
+use Rattle.std.proofs.Common.{◌≡◌, ℕ, false, rules}
+use Rattle.lane_core.specs.Ends.{saw_cancel}
+use Rattle.interpreter.specs.Boundary.{Leaves, way_out, cell_out}
+use Rattle.island_body.proofs.Serving.{serves_asked}
+use Rattle.island_body.proofs.output.OutputBoundary.serve.Goals as goal
+
+pub returns-clause-serves : goal.returns-clause-serves
+returns-clause-serves g c =
+    let i = c.send_one.new.island in
+    let u : ℕ = c.send_one.new.self.wire in
+    let zero_is : saw_cancel c.args.self.now.lane ≡ 0 = search rules in
+    let whole : c.send_one.new.island.broken ≡ false = search rules in
+    let leaves : Leaves c.send_one.new.island c.send_one.new.self.wire = search rules in
+    let cell : cell_out c.send_one.new.island c.send_one.new.self.wire ≡ cell_out c.args.island.now c.args.self.now.wire = search rules in
+    let keeps = c.laws.ensures whole in
+    serves_asked c.send_one.new.self.lane c.send_one.new.island c.send_one.new.self.wire c.came_out.ensures (keeps.laws.wired.to_within (way_out c.send_one.new.island c.send_one.new.self.wire) leaves.place) c.send_one.ensures.keeps
+    (λ e. let l = c.requires.serves.left (rw cell at e) in cc) c.ask.new.island c.ask.ensures.keeps c.ask.ensures.got c.ask.ensures.left

@@ -1,0 +1,217 @@
+// The end of a lane at which what enters an island is handed on.
+ghost use Rattle.std.specs.Prelude.{◌≡◌, ◌≢◌, ◌⊎◌, ◌↔◌, ◌≤◌, ◌<◌, ◌+◌, ◌++◌, [], ◌∷◌, true, false, cond, length, IsTrue};
+ghost use Rattle.elem_core.specs.declared.item.Item.{Item};
+ghost use Rattle.fused_net.specs.Costs.{Uses};
+ghost use Rattle.port_core.specs.declared.view.OutView.TheVariants as outlet;
+ghost use Rattle.lane_core.specs.Lane.{ends};
+ghost use Rattle.lane_core.specs.Ends.{taken_items, asked_in_all, ask_calls, has_cancelled, found_sent, told_sent, IsSameIn};
+ghost use Rattle.lane_core.specs.Boundary.{given, waits, is_over, state, BoundaryKeeps};
+ghost use Rattle.lane_core.specs.declared.state.State.TheVariants.{Flowing, Closed, Cancelled};
+ghost use Rattle.port_core.specs.View.{output_closed};
+ghost use Rattle.interpreter.specs.BoundaryPlaces.{wanted_at, moved_at};
+ghost use Rattle.interpreter.specs.declared.given.Wanted.TheVariants as wanted;
+ghost use Rattle.interpreter.specs.Boundary.{Enters, way_in, cell_in, with_net};
+ghost use Rattle.island_body.specs.Beside.{Beside, in_node};
+ghost use Rattle.island_body.specs.Feeding.{act_of, Feeds, HasGiven, IsFed};
+
+use elem_core::item::Item;
+use interpreter::given::Wanted;
+use interpreter::island::Island;
+use lane_core::boundary::{InputBoundary, Passed};
+use lane_core::state::State;
+use plug_logic::book::PlugBook;
+use plug_logic::logic::Logic;
+use stream_io::outside::{Drain, Source};
+
+/// The end of a lane that takes, and the number of the wire that the lane is. What it takes is handed on to its island where the
+/// stage there is asked. Rule: Akka Streams 2.6 reference, chapter on asynchronous boundaries.
+#[derive(Drop)]
+pub struct IslandInput {
+    /// The number of the wire that the lane is.
+    pub wire: u32,
+    /// The end of the lane that takes, with its buffer.
+    pub boundary: InputBoundary,
+}
+
+impl IslandInput {
+    /// The input of wire `wire` at this boundary of its lane. It takes no memory.
+    pub fn new(wire: u32, boundary: InputBoundary) -> IslandInput
+        ensures { (result.wire ≡ wire) × (result.boundary ≡ boundary) }
+    {
+        IslandInput { wire, boundary }
+    }
+
+    /// What its boundary keeps between any two calls. It does nothing.
+    pub fn keeps(&self)
+        ensures { BoundaryKeeps self.now.boundary }
+    {
+        self.boundary.keeps();
+    }
+
+    /// Takes the next item off the lane, where one was sent and no end was taken; false comes exactly where none was. Nothing is
+    /// handed on by it. It takes no memory.
+    pub fn look(&mut self) -> bool
+        ensures wire { (self.new.wire ≡ self.old.wire) × IsSameIn self.old.boundary.lane self.new.boundary.lane × (asked_in_all self.new.boundary.lane ≡ asked_in_all self.old.boundary.lane) × (ask_calls self.new.boundary.lane ≡ ask_calls self.old.boundary.lane) × (has_cancelled self.new.boundary.lane ≡ has_cancelled self.old.boundary.lane) }
+        ensures given { (given self.new.boundary ≡ given self.old.boundary) × (state self.new.boundary ≡ state self.old.boundary) }
+        ensures still { result ≡ false → waits self.new.boundary ≡ waits self.old.boundary }
+        ensures took { result ≡ true → (is_over self.old.boundary ≡ false) × ((x : Item) × ((taken_items self.new.boundary.lane ≡ taken_items self.old.boundary.lane ++ x ∷ []) × (is_over self.new.boundary ≡ ends x))) }
+        ensures none { result ≡ false → (taken_items self.new.boundary.lane ≡ taken_items self.old.boundary.lane) × ((is_over self.old.boundary ≡ true) ⊎ ((found_sent self.new.boundary.lane ≡ length (taken_items self.new.boundary.lane)) × (told_sent self.old.boundary.lane ≤ found_sent self.new.boundary.lane))) }
+        ensures over { result ≡ false → is_over self.new.boundary ≡ is_over self.old.boundary }
+        ensures told { told_sent self.new.boundary.lane ≡ told_sent self.old.boundary.lane }
+    {
+        self.boundary.look()
+    }
+
+    // Whether it still hands on what it takes.
+    fn flows(&self) -> bool
+        ensures { IsTrue result ↔ (state self.now.boundary ≡ Flowing) }
+    {
+        match self.boundary.state() {
+            State::Flowing => true,
+            State::Closed | State::Cancelled => false,
+        }
+    }
+
+    // Hands on the next item: an element only where the stage is asked, an end behind the elements also where it is not. True comes
+    // exactly where the lane was asked for more.
+    fn hand_on<S: Source, D: Drain, L: Logic, B: PlugBook>(
+        &mut self,
+        island: &mut Island<S, D, L, B>,
+        asked: bool,
+    ) -> bool
+        requires whole { island.old.broken ≡ false }
+        requires enters { Enters island.old self.old.wire }
+        requires feeds { Feeds self.old.boundary island.old self.old.wire }
+        requires flows { state self.old.boundary ≡ Flowing }
+        requires live { (cell_in island.old self.old.wire).wire.out ≢ outlet.Cancelled }
+        requires asked { asked ≡ true → wanted_at (cell_in island.old self.old.wire) ≡ wanted.Asked }
+        ensures feeds { Feeds self.new.boundary island.new self.new.wire }
+        ensures live { (cell_in island.new self.new.wire).wire.out ≢ outlet.Cancelled }
+        ensures wire { (self.new.wire ≡ self.old.wire) × IsSameIn self.old.boundary.lane self.new.boundary.lane × (taken_items self.new.boundary.lane ≡ taken_items self.old.boundary.lane) × (has_cancelled self.new.boundary.lane ≡ has_cancelled self.old.boundary.lane) }
+        ensures asks { ask_calls self.new.boundary.lane ≡ ask_calls self.old.boundary.lane + cond result 1 0 }
+        ensures known { (found_sent self.new.boundary.lane ≡ found_sent self.old.boundary.lane) × (told_sent self.new.boundary.lane ≡ told_sent self.old.boundary.lane) × (is_over self.new.boundary ≡ is_over self.old.boundary) }
+        ensures asked { asked ≡ true → HasGiven self.new.boundary island.new self.new.wire }
+        ensures ended { asked ≡ false → state self.new.boundary ≡ Flowing → (self.new ≡ self.old) × (island.new ≡ island.old) × (waits self.new.boundary ≡ [] → taken_items self.new.boundary.lane ≡ given self.new.boundary) }
+        ensures uses { Uses island.old.net island.new.net 0 }
+        ensures beside { Beside (way_in island.old self.old.wire) (in_node island.old self.old.wire) island.old island.new }
+    {
+        island.laws();
+        match self.boundary.next(asked) {
+            None => false,
+            Some(Passed { item, asks }) => {
+                give(island, self.wire, item);
+                asks
+            }
+        }
+    }
+
+    // Hands on an end that waits where no element does. Then nothing is left to do where nothing was but this. True comes exactly
+    // where the lane was asked for more.
+    fn hand_on_end<S: Source, D: Drain, L: Logic, B: PlugBook>(
+        &mut self,
+        island: &mut Island<S, D, L, B>,
+    ) -> bool
+        requires whole { island.old.broken ≡ false }
+        requires enters { Enters island.old self.old.wire }
+        requires feeds { Feeds self.old.boundary island.old self.old.wire }
+        requires live { (cell_in island.old self.old.wire).wire.out ≢ outlet.Cancelled }
+        requires asked { HasGiven self.old.boundary island.old self.old.wire }
+        ensures feeds { Feeds self.new.boundary island.new self.new.wire }
+        ensures fed { IsFed self.new.boundary island.new self.new.wire }
+        ensures wire { (self.new.wire ≡ self.old.wire) × IsSameIn self.old.boundary.lane self.new.boundary.lane × (taken_items self.new.boundary.lane ≡ taken_items self.old.boundary.lane) × (has_cancelled self.new.boundary.lane ≡ has_cancelled self.old.boundary.lane) }
+        ensures asks { ask_calls self.new.boundary.lane ≡ ask_calls self.old.boundary.lane + cond result 1 0 }
+        ensures known { (found_sent self.new.boundary.lane ≡ found_sent self.old.boundary.lane) × (told_sent self.new.boundary.lane ≡ told_sent self.old.boundary.lane) × (is_over self.new.boundary ≡ is_over self.old.boundary) }
+        ensures uses { Uses island.old.net island.new.net 0 }
+        ensures beside { Beside (way_in island.old self.old.wire) (in_node island.old self.old.wire) island.old island.new }
+    {
+        if self.flows() {
+            self.hand_on(island, false)
+        } else {
+            false
+        }
+    }
+
+    /// Hands on what its island asks for: one element where the stage there is asked, and an end that waits behind no element also where
+    /// it is not. A cancel of its connection cancels the lane. Then nothing is left to do before something comes off the lane, or
+    /// to the stage. True comes exactly where the lane was asked for more or cancelled, so that the other end has to be woken.
+    /// It takes no memory.
+    pub fn serve<S: Source, D: Drain, L: Logic, B: PlugBook>(
+        &mut self,
+        island: &mut Island<S, D, L, B>,
+    ) -> bool
+        requires whole { island.old.broken ≡ false }
+        requires enters { Enters island.old self.old.wire }
+        requires feeds { Feeds self.old.boundary island.old self.old.wire }
+        ensures feeds { Feeds self.new.boundary island.new self.new.wire }
+        ensures fed { IsFed self.new.boundary island.new self.new.wire }
+        ensures wire { (self.new.wire ≡ self.old.wire) × IsSameIn self.old.boundary.lane self.new.boundary.lane × (taken_items self.new.boundary.lane ≡ taken_items self.old.boundary.lane) }
+        ensures least { (ask_calls self.old.boundary.lane ≤ ask_calls self.new.boundary.lane) × (has_cancelled self.old.boundary.lane ≤ has_cancelled self.new.boundary.lane) }
+        ensures told { result ≡ true → (ask_calls self.old.boundary.lane < ask_calls self.new.boundary.lane) ⊎ (has_cancelled self.old.boundary.lane < has_cancelled self.new.boundary.lane) }
+        ensures quiet { result ≡ false → (ask_calls self.new.boundary.lane ≡ ask_calls self.old.boundary.lane) × (asked_in_all self.new.boundary.lane ≡ asked_in_all self.old.boundary.lane) × (has_cancelled self.new.boundary.lane ≡ has_cancelled self.old.boundary.lane) }
+        ensures known { (found_sent self.new.boundary.lane ≡ found_sent self.old.boundary.lane) × (told_sent self.new.boundary.lane ≡ told_sent self.old.boundary.lane) × (is_over self.new.boundary ≡ is_over self.old.boundary) }
+        ensures uses { Uses island.old.net island.new.net 0 }
+        ensures beside { Beside (way_in island.old self.old.wire) (in_node island.old self.old.wire) island.old island.new }
+    {
+        self.boundary.keeps();
+        let told = self.serve_now(island);
+        self.boundary.keeps();
+        told
+    }
+
+    // The same, of which the count of what was asked is told by the calls that asked.
+    fn serve_now<S: Source, D: Drain, L: Logic, B: PlugBook>(
+        &mut self,
+        island: &mut Island<S, D, L, B>,
+    ) -> bool
+        requires whole { island.old.broken ≡ false }
+        requires enters { Enters island.old self.old.wire }
+        requires feeds { Feeds self.old.boundary island.old self.old.wire }
+        requires keeps { BoundaryKeeps self.old.boundary }
+        ensures feeds { Feeds self.new.boundary island.new self.new.wire }
+        ensures fed { IsFed self.new.boundary island.new self.new.wire }
+        ensures wire { (self.new.wire ≡ self.old.wire) × IsSameIn self.old.boundary.lane self.new.boundary.lane × (taken_items self.new.boundary.lane ≡ taken_items self.old.boundary.lane) }
+        ensures least { (ask_calls self.old.boundary.lane ≤ ask_calls self.new.boundary.lane) × (has_cancelled self.old.boundary.lane ≤ has_cancelled self.new.boundary.lane) }
+        ensures told { result ≡ true → (ask_calls self.old.boundary.lane < ask_calls self.new.boundary.lane) ⊎ (has_cancelled self.old.boundary.lane < has_cancelled self.new.boundary.lane) }
+        ensures quiet { result ≡ false → (ask_calls self.new.boundary.lane ≡ ask_calls self.old.boundary.lane) × (has_cancelled self.new.boundary.lane ≡ has_cancelled self.old.boundary.lane) }
+        ensures known { (found_sent self.new.boundary.lane ≡ found_sent self.old.boundary.lane) × (told_sent self.new.boundary.lane ≡ told_sent self.old.boundary.lane) × (is_over self.new.boundary ≡ is_over self.old.boundary) }
+        ensures uses { Uses island.old.net island.new.net 0 }
+        ensures beside { Beside (way_in island.old self.old.wire) (in_node island.old self.old.wire) island.old island.new }
+    {
+        if !self.flows() {
+            return false;
+        }
+        island.laws();
+        match island.wanted(self.wire) {
+            Wanted::Cancelled => {
+                self.boundary.cancel();
+                true
+            }
+            Wanted::Asked => {
+                let first = self.hand_on(island, true);
+                let second = self.hand_on_end(island);
+                first || second
+            }
+            Wanted::Quiet => self.hand_on_end(island),
+        }
+    }
+}
+
+// The stage at which the lane that is wire `wire` comes in hands an item on.
+fn give<S: Source, D: Drain, L: Logic, B: PlugBook>(
+    island: &mut Island<S, D, L, B>,
+    wire: u32,
+    item: Item,
+)
+    requires whole { island.old.broken ≡ false }
+    requires enters { Enters island.old wire }
+    requires asked { ends item ≡ false → wanted_at (cell_in island.old wire) ≡ wanted.Asked }
+    requires live { output_closed (cell_in island.old wire).wire.out ≡ false }
+    ensures after { island.new ≡ with_net island.old (moved_at island.old.net (way_in island.old wire) (act_of item)) }
+    ensures uses { Uses island.old.net island.new.net 0 }
+{
+    match item {
+        Item::Elem(e) => island.push_in(wire, e),
+        Item::Ended => island.end_in(wire, None),
+        Item::Failed(cause) => island.end_in(wire, Some(cause)),
+    }
+}

@@ -1,4 +1,0 @@
-pub mod Sending
-pub mod Beside
-pub mod Serving
-pub mod Feeding

@@ -1,8 +1,0 @@
-use Rattle.island_ends.proofs.Behind.{homes_same, homes_behind}
-use Rattle.island_ends.proofs.laws.homes_by_others.Goals as goal
-
-pub returns-clause-same : goal.returns-clause-same
-returns-clause-same g c = homes_same
-
-pub returns-clause-all : goal.returns-clause-all
-returns-clause-all g c = homes_behind

@@ -1,4 +1,0 @@
-//! Several islands are started, or all of them are taken apart.
-#![tactic(auto)]
-
-pub mod start;

@@ -1,6 +1,0 @@
-use Rattle.std.proofs.Common.{rules}
-use Rattle.kill_core.proofs.Keeps.{gives}
-use Rattle.kill_core.proofs.switch.Switch.give.Goals as goal
-
-pub compare_exchange-found-requires : goal.compare_exchange-found-requires
-compare_exchange-found-requires c = (search rules, search rules, rw c.number.ensures (gives _ _ _ _ _ c.requires.1))

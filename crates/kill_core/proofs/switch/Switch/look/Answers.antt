@@ -1,6 +1,0 @@
-use Rattle.std.proofs.Common.{rules, arith}
-use Rattle.kill_core.proofs.Keeps.{looks}
-use Rattle.kill_core.proofs.switch.Switch.look.Goals as goal
-
-pub load-requires : goal.load-requires
-load-requires c = let part = c.seat.invariant.1 in (search rules, search rules, looks _ _ _ _ (omega arith))

@@ -1,2 +1,0 @@
-mod Lying
-pub mod Making

@@ -1,7 +1,0 @@
--- The loop of `ends::crossings_of`.
-use Rattle.lane_ends.proofs.Making.{Crosses}
-use Rattle.lane_ends.proofs.ends.crossings_of.Given as goal
-
--- where the ends of the lanes so far lie
-abbrev pub invariant-loop-n : goal.invariant-loop-n
-invariant-loop-n l = Crosses l.lanes l.outs l.ins l.n l.crossings.items

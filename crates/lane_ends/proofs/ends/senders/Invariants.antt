@@ -1,8 +1,0 @@
--- The loop of `ends::senders`.
-use Rattle.std.proofs.Common.{◌≡◌, map, take}
-use Rattle.traversal.specs.declared.plan.LanePlan.{LanePlan}
-use Rattle.lane_ends.proofs.ends.senders.Given as goal
-
--- those of the lanes so far
-abbrev pub invariant-loop-lane : goal.invariant-loop-lane
-invariant-loop-lane l = l.homes.items ≡ map (λ (l : LanePlan). l.from) (take l.lane-index l.lanes)

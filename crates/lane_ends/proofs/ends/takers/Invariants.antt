@@ -1,8 +1,0 @@
--- The loop of `ends::takers`.
-use Rattle.std.proofs.Common.{◌≡◌, map, take}
-use Rattle.traversal.specs.declared.plan.LanePlan.{LanePlan}
-use Rattle.lane_ends.proofs.ends.takers.Given as goal
-
--- those of the lanes so far
-abbrev pub invariant-loop-lane : goal.invariant-loop-lane
-invariant-loop-lane l = l.homes.items ≡ map (λ (l : LanePlan). l.to) (take l.lane-index l.lanes)

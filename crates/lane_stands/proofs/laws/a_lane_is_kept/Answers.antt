@@ -1,5 +1,0 @@
-use Rattle.lane_stands.proofs.Lanes.{lane_keeps}
-use Rattle.lane_stands.proofs.laws.a_lane_is_kept.Goals as goal
-
-pub returns : goal.returns
-returns g c o b i j u s t l e k h serves feeds = lane_keeps g.S.Source.state g.D.Drain.state g.B.PlugBook.lists o b i j u s t l e k h serves feeds

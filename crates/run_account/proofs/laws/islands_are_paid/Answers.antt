@@ -1,5 +1,0 @@
-use Rattle.run_account.proofs.Units.{all_paid}
-use Rattle.run_account.proofs.laws.islands_are_paid.Goals as goal
-
-pub returns : goal.returns
-returns g c = λ graph nets s asked cost islands covers settled owned lanes. all_paid g.S.Stage.port_state g.S.Stage.law g.S.Stage.asking g.S.Stage.moves graph nets s asked cost islands covers settled owned lanes

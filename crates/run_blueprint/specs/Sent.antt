@@ -1,0 +1,35 @@
+-- What was sent on a wire, by its type.
+use Rattle.std.specs.Prelude.{◌≡◌, ℕ, Bool, true, false, List, [], ◌∷◌}
+use Rattle.elem_core.specs.Tree.{Tree}
+use Rattle.elem_core.specs.declared.item.Item.{Item}
+use Rattle.stream_model.specs.Graph.{Graph, Edge}
+use Rattle.stream_model.specs.Node.{World}
+use Rattle.stream_model.specs.Outlook.{Outlook, Entry, End, unended, ended, failed}
+use Rattle.stage_core.specs.Held.{told}
+use Rattle.stream_model.specs.declared.blueprint.ChainDecl.{ChainDecl}
+use Rattle.stream_model.specs.declared.blueprint.Node.{Node}
+use Rattle.stream_model.specs.declared.head.PlugHead.{PlugHead}
+use Rattle.run_blueprint.specs.Checked.{CarriesType}
+use Rattle.run_blueprint.specs.Types.{AllTyped}
+
+-- what has passed, as all that may pass: a list that stands so
+abbrev fails_by : End → List Entry
+fails_by unended = []
+fails_by ended = []
+fails_by (failed c) = record { cause = c; low = 0 } ∷ []
+
+abbrev ends_by : End → Bool
+ends_by unended = false
+ends_by ended = true
+ends_by (failed c) = false
+
+abbrev pub exact : List Tree → End → Outlook
+exact l e = record { list = l; ends = ends_by e; fails = fails_by e }
+
+-- the items are elements of the type that is settled for the wire, and how it stands
+pub record SendsItsType (plugs : List PlugHead) (chains : List ChainDecl) (nodes : List Node) (g : Graph) (w : World) (i : ℕ) (v : Edge) (sent : List Item) : Type 0 where
+  pub carries : CarriesType plugs chains nodes g w i v
+  pub list : List Tree
+  pub end : End
+  pub is : sent ≡ told list end
+  pub typed : AllTyped carries.type list

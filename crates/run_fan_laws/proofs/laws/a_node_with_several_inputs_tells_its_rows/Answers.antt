@@ -1,5 +1,0 @@
-use Rattle.run_fan_laws.proofs.InPictures.{in_picture}
-use Rattle.run_fan_laws.proofs.laws.a_node_with_several_inputs_tells_its_rows.Goals as goal
-
-pub returns : goal.returns
-returns c = in_picture

@@ -1,0 +1,165 @@
+-- The rows of a stage with several inputs in a picture, by its kind.
+use Rattle.std.proofs.Common.{◌≡◌, ◌≢◌, ℕ, ◌⊎◌, inl, inr, Bool, true, false, List, [], ◌∷◌, map, Option, Some, None, refl, sym, ap, subst, ◌∙◌}
+use Rattle.elem_core.specs.Tree.{Tree}
+use Rattle.elem_core.specs.declared.why.Decider.{Decider}
+use Rattle.port_core.specs.View as port
+use Rattle.port_core.specs.declared.view.InView.{InView}
+use Rattle.port_core.specs.declared.view.InView.TheVariants.{Idle, Pulled, Finished, Cancelled}
+use Rattle.stream_model.specs.declared.kind.Kind.{Kind}
+use Rattle.stream_model.specs.declared.kind.Kind.TheVariants.{Merge, Concat, Interleave, MergeSorted, Zip}
+use Rattle.stream_model.specs.FanIn.{Inflow}
+use Rattle.stream_model.specs.Graph.{Graph}
+use Rattle.stream_model.specs.Graph as graph
+use Rattle.stream_model.specs.Node.{World}
+use Rattle.stream_model.specs.Outlook.{End}
+use Rattle.stream_model.specs.OneWay.{is_sink}
+use Rattle.stream_model.specs.View as picture
+use Rattle.stream_model.specs.View.{EachWire}
+use Rattle.stream_model.specs.Lawful.{RowLawful, MergeLawful}
+use Rattle.stream_model.specs.Rests.{IsShut, RowRests, MergeRests, ConcatRests, InterleaveRests, SortedRests, ZipRests}
+use Rattle.stage_core.specs.Fans.{FanKeeps}
+use Rattle.stage_core.specs.Held.{told}
+use Rattle.stage_core.specs.OwnPorts.{own_output}
+use Rattle.stage_core.specs.Zips.{ZipKeeps}
+use Rattle.stage_core.specs.declared.phase.Phase.{Phase}
+use Rattle.stage_core.specs.declared.phase.Phase.TheVariants.{New, Open, Closed}
+use Rattle.stage_in.specs.declared.logic.InLogic.{InLogic}
+use Rattle.stage_in.specs.declared.logic.InLogic.TheVariants as logic
+use Rattle.stage_in.specs.Kinds.{taking_by, sorting}
+use Rattle.stage_in.specs.Logics.{Begins, TakesAs, InPortState, InLaw}
+use Rattle.stage_in.specs.Moves.{in_moves, TellsMoves}
+use Rattle.stage_core.specs.Merges.{MergeKeeps}
+use Rattle.stage_merge.specs.Mergings as merging
+use Rattle.stage_core.specs.OwnRows.{own_inputs, FanRests}
+use Rattle.stage_in.specs.OwnRows.{TakingRests}
+use Rattle.stage_in.specs.Pairings.{Pairing, inlet_view, port_state_by}
+use Rattle.stage_core.specs.Seats.{InsClosed}
+use Rattle.stage_in.specs.Sortings as sorted
+use Rattle.stage_in.specs.Takings as taking
+use Rattle.stage_in.specs.Zippings as zipping
+use Rattle.stage_in.proofs.Nodes.{logic_rests}
+use Rattle.run_laws.specs.KindLaws.{PictureLaws}
+use Rattle.run_laws.specs.Ports.{InPort, OutPort, EachPort, InStands, OutStands, InRests, OutRests, gots_of}
+use Rattle.run_laws.proofs.Coming.{elements_told}
+use Rattle.run_laws.proofs.Histories.{list_of_told}
+use Rattle.run_laws.specs.Unmoved.{NoAsking, never_ends}
+use Rattle.run_laws.proofs.Flows.{Flows, law_flows}
+use Rattle.run_laws.proofs.Orders.{Views, Wires}
+use Rattle.run_laws.proofs.InRows.{InView_of, InMoments, one_list, concat_lawful, interleave_lawful, sorted_lawful, zip_lawful}
+use Rattle.run_laws.proofs.Transport.{own_in, own_out, each, shuts, out_shuts, merge_rests, concat_rests, interleave_rests, sorted_rests, zip_rests}
+use Rattle.run_laws.proofs.MergeRows.{merge_lawful}
+
+-- ---- what the stage shows of its ports
+
+ins_same : (is : List InPort) (fs : List Inflow) → Flows (Views is) (gots_of is) fs → own_inputs (Views is) fs ≡ map own_in is
+ins_same [] [] w = refl
+ins_same [] (f ∷ fs) w = absurd w
+ins_same (i ∷ is) [] w = absurd w
+ins_same (i ∷ is) (f ∷ fs) w = rw (ins_same is fs w.1, w.0.0, elements_told f.list f.end, list_of_told f.list f.end) refl
+
+pub out_same : (o : OutPort) (g : List Tree) (e : End) → o.sent ≡ told g e → own_output o.view g ≡ own_out o
+out_same o g e h = rw (h, elements_told g e, list_of_told g e) refl
+
+module _ (P : List picture.SeenWire → picture.SeenWire → Type 0) (is : List InPort) (o : OutPort) (ri : EachPort InRests is) (ro : OutRests o) where
+  fan_moved : (fs : List Inflow) (g : List Tree) (e : End) → Flows (Views is) (gots_of is) fs → o.sent ≡ told g e → (P (map own_in is) (own_out o) → P (Wires is) o.wire) → FanRests P (InView_of is o) fs g
+      → (EachWire IsShut (Wires is) × EachWire IsShut (o.wire ∷ [])) ⊎ P (Wires is) o.wire
+  fan_moved fs g e w t move (inl h) =
+      inl (each IsShut IsShut shuts is ri (subst (λ (vs : List picture.SeenWire). EachWire IsShut vs) (ins_same is fs w) h.0), (out_shuts o ro (subst IsShut (out_same o g e t) h.1.0), tt))
+  fan_moved fs g e w t move (inr h) = inr (move (subst (λ (v : picture.SeenWire). P (map own_in is) v) (out_same o g e t) (subst (λ (vs : List picture.SeenWire). P vs (own_output o.view g)) (ins_same is fs w) h)))
+
+-- ---- one that has closed its ports
+
+all_closed : (is : List InPort) → EachPort InRests is → InsClosed (Views is) → EachWire IsShut (Wires is)
+all_closed [] r c = tt
+all_closed (i ∷ is) r c = (r.0.shut c.0, all_closed is r.1 c.1)
+
+-- an open zip has cancelled no input
+not_left : (x : InView) (h : Option Tree) (b : Bool) → x ≡ inlet_view (record { held = h; over = b }) → x ≢ Cancelled
+not_left x h true e = λ l. let z : Finished ≡ Cancelled = sym e ∙ l in cc
+not_left x None false e = λ l. let z : Pulled ≡ Cancelled = sym e ∙ l in cc
+not_left x (Some t) false e = λ l. let z : Idle ≡ Cancelled = sym e ∙ l in cc
+
+none_left : (is : List InPort) (l : Pairing) → Views is ≡ inlet_view l.left ∷ inlet_view l.right ∷ [] → EachPort (λ i. i.view ≢ Cancelled) is
+none_left [] l e = cc
+none_left (i ∷ []) l e = cc
+none_left (i ∷ j ∷ k ∷ is) l e = cc
+none_left (i ∷ j ∷ []) l e =
+    let a : i.view ≡ inlet_view l.left = cc in
+    let b : j.view ≡ inlet_view l.right = cc in
+    (not_left i.view l.left.held l.left.over a, (not_left j.view l.right.held l.right.over b, tt))
+
+-- ---- by kinds
+
+module _ (g : Graph) (w : World) (k : ℕ) (d : Decider) (is : List InPort) (o : OutPort) where
+  abbrev Row : InLogic → Type 0
+  Row now = InPortState now (InView_of is o)
+
+  abbrev Law : InLogic → InLogic → Type 0
+  Law first now = InLaw first now (InView_of is o) (gots_of is) (o.sent ∷ [])
+
+  lawful_by : (kd : Kind) (first now : InLogic) → TakesAs kd first → TellsMoves w k now → Law first now → EachPort InStands is → OutStands o → InMoments first now is o → RowLawful g w k kd d (Wires is) (o.wire ∷ [])
+  lawful_by (Concat n) (logic.Taking f) (logic.Taking l) t tells law s so m = concat_lawful f l is o law s so t.0 t.1 m
+  lawful_by (Interleave n c) (logic.Taking f) (logic.Taking l) t tells law s so m = interleave_lawful f l is o law s so c t.1 m
+  lawful_by MergeSorted (logic.Sorting f) (logic.Sorting l) t tells law s so m = sorted_lawful f l o is law s so m
+  lawful_by Zip (logic.Zipping f) (logic.Zipping l) t tells law s so m = zip_lawful f l o is law s so m
+  lawful_by (Merge n) (logic.Merging f) (logic.Merging l) t tells law s so m = subst (λ ms. MergeLawful ms (Wires is) o.wire) (sym (tells l.log.moves refl)) (merge_lawful f l is o law s so m)
+  lawful_by (Concat n) (logic.Taking f) now t tells law s so m = absurd law.same
+  lawful_by (Interleave n c) (logic.Taking f) now t tells law s so m = absurd law.same
+  lawful_by MergeSorted (logic.Sorting f) now t tells law s so m = absurd law.same
+  lawful_by Zip (logic.Zipping f) now t tells law s so m = absurd law.same
+  lawful_by (Merge n) (logic.Merging f) now t tells law s so m = absurd law.same
+  lawful_by kd first now t tells law s so m = absurd t
+
+  abbrev Stays : Kind → Type 0
+  Stays kd = (EachWire IsShut (Wires is) × EachWire IsShut (o.wire ∷ [])) ⊎ RowRests g w k kd d (Wires is) (o.wire ∷ [])
+
+  module _ (ri : EachPort InRests is) (ro : OutRests o) where
+    zip_stays : (f l : Pairing) (p : Phase) → l.phase ≡ p → Row (logic.Zipping l) → port_state_by zipping.Sound p l (InView_of is o) → Law (logic.Zipping f) (logic.Zipping l) → EachPort InStands is → OutStands o
+        → (EachWire IsShut (Wires is) × EachWire IsShut (o.wire ∷ [])) ⊎ ZipRests (Wires is) o.wire
+    zip_stays f l New e r at law s so = absurd (r.started e)
+    zip_stays f l Closed e r at law s so = inl (all_closed is ri at.0, (ro.shut at.1, tt))
+    zip_stays f l Open e r at law s so =
+        fan_moved ZipRests is o ri ro law.by.law.ins law.by.law.out_list law.by.law.out_end (law_flows (ZipKeeps (zipping.held l)) (InView_of is o) (gots_of is) (o.sent ∷ []) law.by) (one_list o.sent law.by.given law.by.gave_is ∙ law.by.law.gave_is)
+        (zip_rests is o ri ro so (none_left is l (ap (λ (v : port.View). v.ins) at.0)) s) (logic_rests (logic.Zipping f) (logic.Zipping l) (InView_of is o) (gots_of is) (o.sent ∷ []) r.started r.ports law)
+
+    taking_stays : (f l : taking.Taking) (P : List picture.SeenWire → picture.SeenWire → Type 0) → TakingRests l.segment ≡ P → Row (logic.Taking l) → Law (logic.Taking f) (logic.Taking l) → (P (map own_in is) (own_out o) → P (Wires is) o.wire)
+        → (EachWire IsShut (Wires is) × EachWire IsShut (o.wire ∷ [])) ⊎ P (Wires is) o.wire
+    taking_stays f l P by r law move =
+        fan_moved P is o ri ro law.by.law.ins law.by.law.out_list law.by.law.out_end (law_flows (FanKeeps (taking_by f.segment) (taking.place_of f) (taking.held l)) (InView_of is o) (gots_of is) (o.sent ∷ []) law.by) (one_list o.sent law.by.given law.by.gave_is ∙ law.by.law.gave_is)
+        move (subst (λ (Q : List picture.SeenWire → picture.SeenWire → Type 0). FanRests Q (InView_of is o) law.by.law.ins law.by.law.out_list) by (logic_rests (logic.Taking f) (logic.Taking l) (InView_of is o) (gots_of is) (o.sent ∷ []) r.started r.ports law))
+
+    stays_by : (kd : Kind) (first now : InLogic) → TakesAs kd first → Row now → Law first now → EachPort InStands is → OutStands o → Stays kd
+    stays_by (Concat n) (logic.Taking f) (logic.Taking l) t r law s so = taking_stays f l ConcatRests (ap TakingRests (law.same ∙ t.0)) r law (concat_rests is o ri ro)
+    stays_by (Interleave n c) (logic.Taking f) (logic.Taking l) t r law s so = taking_stays f l InterleaveRests (ap TakingRests (law.same ∙ t.0)) r law (interleave_rests is o ri ro)
+    stays_by MergeSorted (logic.Sorting f) (logic.Sorting l) t r law s so =
+        fan_moved SortedRests is o ri ro law.by.law.ins law.by.law.out_list law.by.law.out_end (law_flows (FanKeeps sorting sorted.nowhere (sorted.held l)) (InView_of is o) (gots_of is) (o.sent ∷ []) law.by) (one_list o.sent law.by.given law.by.gave_is ∙ law.by.law.gave_is)
+        (sorted_rests is o ri ro) (logic_rests (logic.Sorting f) (logic.Sorting l) (InView_of is o) (gots_of is) (o.sent ∷ []) r.started r.ports law)
+    stays_by Zip (logic.Zipping f) (logic.Zipping l) t r law s so = zip_stays f l l.phase refl r r.ports law s so
+    stays_by (Merge n) (logic.Merging f) (logic.Merging l) t r law s so =
+        fan_moved MergeRests is o ri ro law.by.law.ins law.by.law.out_list law.by.law.out_end (law_flows (MergeKeeps (merging.held l)) (InView_of is o) (gots_of is) (o.sent ∷ []) law.by) (one_list o.sent law.by.given law.by.gave_is ∙ law.by.law.gave_is)
+        (merge_rests is o ri ro) (logic_rests (logic.Merging f) (logic.Merging l) (InView_of is o) (gots_of is) (o.sent ∷ []) r.started r.ports law)
+    stays_by (Concat n) (logic.Taking f) now t r law s so = absurd law.same
+    stays_by (Interleave n c) (logic.Taking f) now t r law s so = absurd law.same
+    stays_by MergeSorted (logic.Sorting f) now t r law s so = absurd law.same
+    stays_by Zip (logic.Zipping f) now t r law s so = absurd law.same
+    stays_by (Merge n) (logic.Merging f) now t r law s so = absurd law.same
+    stays_by kd first now t r law s so = absurd t
+
+no_sink : (kd : Kind) (first : InLogic) → TakesAs kd first → is_sink kd ≡ false
+no_sink (Concat n) (logic.Taking f) t = refl
+no_sink (Interleave n c) (logic.Taking f) t = refl
+no_sink MergeSorted (logic.Sorting f) t = refl
+no_sink Zip (logic.Zipping f) t = refl
+no_sink (Merge n) (logic.Merging f) t = refl
+no_sink kd first t = absurd t
+
+module _ (g : Graph) (w : World) (k : ℕ) (n : graph.Node) where
+  pub in_picture : (first now : InLogic) (is : List InPort) (os : List OutPort) → Begins k n.kind n.decider first → TellsMoves w k now → InPortState now (record { ins = Views is; outs = map (λ (o : OutPort). o.view) os })
+      → InLaw first now (record { ins = Views is; outs = map (λ (o : OutPort). o.view) os }) (gots_of is) (map (λ (o : OutPort). o.sent) os) → PictureLaws InPortState InLaw NoAsking in_moves never_ends g w k n first now is os
+  in_picture first now is [] b tells r law = let none = law.by.gave_is in absurd cc
+  in_picture first now is (o ∷ p ∷ os) b tells r law = let more = law.by.gave_is in absurd cc
+  in_picture first now is (o ∷ []) b tells r law = record {
+    lawful = λ s so m. lawful_by g w k n.decider is o n.kind first now b.takes tells law s so.0 m;
+    rests = λ s so ri ro. stays_by g w k n.decider is o ri ro.0 n.kind first now b.takes r law s so.0;
+    matches = λ sink ri. let no = no_sink n.kind first b.takes in let z : true ≡ false = sym sink ∙ no in absurd cc;
+  }

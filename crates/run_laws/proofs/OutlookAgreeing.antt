@@ -1,0 +1,53 @@
+-- What was sent on every wire of a run agrees with the outlook of that wire, and so does what every node took.
+use Rattle.std.proofs.Common.{◌≡◌, ◌≢◌, ℕ, ◌<◌, true, List, length}
+use Rattle.std.specs.Prelude.{slice_get, Some}
+use Rattle.stream_model.specs.Graph.{Graph, Edge}
+use Rattle.stream_model.specs.Outlook.{Outlook}
+use Rattle.stream_model.specs.declared.kind.Kind.TheVariants as kind
+use Rattle.stream_model.specs.Fits.{moves_fit, inputs}
+use Rattle.stream_model.specs.Graph as graph
+use Rattle.stream_model.specs.Node.{World}
+use Rattle.stream_model.specs.Composed.{inputs_of, count_from, ports_of, next, composed, IsRanked}
+use Rattle.stream_io.specs.State.{SourceState, DrainState}
+use Rattle.nodes.specs.declared.node.IslandNode.{IslandNode}
+use Rattle.nodes.specs.declared.node.IslandNode.TheVariants.{Reading}
+use Rattle.nodes.specs.Nodes.{node_port_state, node_law, node_asking, node_moves}
+use Rattle.run_laws.specs.Account.{Account, took}
+use Rattle.run_laws.specs.Items.{AllMayPass, AgreesWith}
+use Rattle.run_laws.proofs.Agreeing.{every_wire, every_input, gives_by, all_fit}
+use Rattle.run_laws.specs.Made.{FirstOf}
+use Rattle.run_laws.specs.Runs.{IsRun}
+use Rattle.run_laws.specs.Telling.{TellsNode, TellsMoves, TellsPicks, WorldTells}
+use Rattle.run_laws.proofs.AnyKind.{node_laws}
+
+module _ {S D L B : Type 0} (sources : S → SourceState) (drains : D → DrainState) (g : Graph) (w : World) (a : Account (IslandNode S D L B)) (run : IsRun sources drains w.book g a) (tells : WorldTells sources g w a) (rank : ℕ → ℕ) (ranked : IsRanked g rank) where
+  -- what the world tells of each node
+  told : (k : ℕ) (n : graph.Node) (first now : IslandNode S D L B) → slice_get g.nodes k ≡ Some n → a.firsts k ≡ Some first → a.nodes k ≡ Some now → TellsNode sources w n first now × TellsMoves w k now
+  told k n first now e f x = (tells.files k n first now e f x, tells.picks k now x)
+
+  pub every_wire_of : (i : ℕ) → i < length g.wires → AgreesWith (composed g w i) (a.near i).wire.sent
+  every_wire_of = every_wire node_port_state (node_law sources drains w.book) node_asking node_moves (FirstOf sources g.chains) (λ v k n first now. TellsNode sources v n first now × TellsMoves v k now) g w
+      (λ k n first now v took gave made each many law. node_laws sources drains g w k n first now v took gave made each many law) a run.joined run.keeps run.made told rank ranked
+
+  pub every_input_of : (k : ℕ) (n : graph.Node) → slice_get g.nodes k ≡ Some n → AllMayPass (ports_of g w (composed g w) k (count_from 0 (inputs_of n.kind))) (took g a k n)
+  every_input_of = every_input node_port_state (node_law sources drains w.book) node_asking node_moves (FirstOf sources g.chains) (λ v k n first now. TellsNode sources v n first now × TellsMoves v k now) g w
+      (λ k n first now v took gave made each many law. node_laws sources drains g w k n first now v took gave made each many law) a run.joined run.keeps run.made told rank ranked
+
+  -- the moves of every stage fit what may come in there
+  pub every_move_fits : (k : ℕ) (n : graph.Node) → slice_get g.nodes k ≡ Some n → moves_fit g w k n.kind (inputs g w k n) ≡ true
+  every_move_fits = all_fit node_port_state (node_law sources drains w.book) node_asking node_moves (FirstOf sources g.chains) (λ v k n first now. TellsNode sources v n first now × TellsMoves v k now) g w
+      (λ k n first now v took gave made each many law. node_laws sources drains g w k n first now v took gave made each many law) a run.joined run.keeps run.made told rank ranked
+
+-- what the world tells of a node that is no source of lines
+no_lines : {S D L B : Type 0} (sources : S → SourceState) (w : World) (n : graph.Node) (first now : IslandNode S D L B) → ((name : List ℕ) → n.kind ≢ kind.Lines name) → TellsNode sources w n first now
+no_lines sources w n (Reading first) (Reading now) other = λ name is. absurd (other name is)
+no_lines sources w n _ _ other = tt
+
+module _ {S D L B : Type 0} (sources : S → SourceState) (drains : D → DrainState) (g : Graph) (w : World) (a : Account (IslandNode S D L B)) (run : IsRun sources drains w.book g a) (chose : TellsPicks w a) where
+  -- what was sent on a wire from a node that is no source of lines, by any outlooks with which what came to it agrees
+  pub given_of : (sent : ℕ → Outlook) (j : ℕ) (v : Edge) (n : graph.Node) → slice_get g.wires j ≡ Some v → slice_get g.nodes v.from ≡ Some n → ((name : List ℕ) → n.kind ≢ kind.Lines name)
+      → ((u : ℕ) (x : Edge) → slice_get g.wires u ≡ Some x → x.to ≡ v.from → AgreesWith (sent u) (a.near u).wire.sent) → AgreesWith (next g w sent j) (a.near j).wire.sent
+  given_of sent j v n vi ni other b =
+      gives_by node_port_state (node_law sources drains w.book) node_asking node_moves (FirstOf sources g.chains) (λ x k m first now. TellsNode sources x m first now × TellsMoves x k now) g w
+      (λ k m first now view took gave made told many law. node_laws sources drains g w k m first now view took gave made told many law) a run.joined run.keeps run.made sent j v n vi ni
+      (λ first now fi xi. (no_lines sources w n first now other, chose v.from now xi)) b

@@ -1,0 +1,262 @@
+-- A row of a picture that rests, proved once over a stage's own ports, is a row of the picture's wires: a wire shows what the
+-- port shows, or it is a lane, which may be read as idling.
+use Rattle.std.proofs.Common.{◌≡◌, ◌≢◌, ◌⊎◌, inl, inr, ℕ, ◌+◌, ◌≤◌, true, false, List, [], ◌∷◌, map, None, refl, sym, subst, ◌∙◌, arith}
+use Rattle.port_core.specs.declared.view.InView.{InView}
+use Rattle.port_core.specs.declared.view.InView.TheVariants.{Idle, Pulled, Finished, Cancelled}
+use Rattle.port_core.specs.declared.view.OutView.{OutView}
+use Rattle.port_core.specs.declared.view.OutView.TheVariants as outlet
+use Rattle.elem_core.specs.Items.{elements}
+use Rattle.stream_model.specs.View.{EachWire, SomeWire}
+use Rattle.stream_model.specs.View as picture
+use Rattle.stream_model.specs.Rests.{
+  Waits,
+  IsShut,
+  IsLane,
+  Idles,
+  IsAsked,
+  IsUnasked,
+  IdlesOrShut,
+  WaitsIdlesOrShut,
+  FirstOpenWaits,
+  OneWaits,
+  IsOrLane,
+  ZipInput,
+  MergeRests,
+  ConcatRests,
+  InterleaveRests,
+  SortedRests,
+  ZipRests,
+  BroadcastRests,
+  BalanceRests,
+  PartitionRests,
+}
+use Rattle.port_core.specs.View.{input_closed, output_closed}
+use Rattle.stage_core.specs.OwnPorts.{is_waiting, is_asked}
+use Rattle.stage_core.specs.Row.{InClosed, OutClosed}
+use Rattle.run_laws.specs.Items.{list_of}
+use Rattle.run_laws.specs.Ports.{InPort, OutPort, EachPort, InStands, OutStands, InRests, OutRests}
+
+-- a node's own ports as wires, each read as no lane
+abbrev pub own_in : InPort → picture.SeenWire
+own_in i = record { wire = 0; sent = elements i.got; asked = is_waiting i.view; shut = input_closed i.view; lane = None; list = list_of i.got }
+
+abbrev pub own_out : OutPort → picture.SeenWire
+own_out o = record { wire = 0; sent = elements o.sent; asked = is_asked o.view; shut = output_closed o.view; lane = None; list = list_of o.sent }
+
+waiting_is : (x : InView) → is_waiting x ≡ true → x ≡ Pulled
+waiting_is Pulled e = refl
+waiting_is Idle e = cc
+waiting_is Finished e = cc
+waiting_is Cancelled e = cc
+
+idle_is : (x : InView) → is_waiting x ≡ false → input_closed x ≡ false → x ≡ Idle
+idle_is Idle a b = refl
+idle_is Pulled a b = cc
+idle_is Finished a b = cc
+idle_is Cancelled a b = cc
+
+closed_is : (x : InView) → input_closed x ≡ true → InClosed x
+closed_is Finished e = tt
+closed_is Cancelled e = tt
+closed_is Idle e = absurd cc
+closed_is Pulled e = absurd cc
+
+over_is : (x : InView) → input_closed x ≡ true → x ≢ Cancelled → x ≡ Finished
+over_is Finished e n = refl
+over_is Cancelled e n = absurd (n refl)
+over_is Idle e n = cc
+over_is Pulled e n = cc
+
+asked_is : (y : OutView) → is_asked y ≡ true → y ≡ outlet.Available
+asked_is outlet.Available e = refl
+asked_is outlet.Unpulled e = cc
+asked_is outlet.Closed e = cc
+asked_is outlet.Cancelled e = cc
+
+unasked_is : (y : OutView) → is_asked y ≡ false → output_closed y ≡ false → y ≡ outlet.Unpulled
+unasked_is outlet.Unpulled a b = refl
+unasked_is outlet.Available a b = cc
+unasked_is outlet.Closed a b = cc
+unasked_is outlet.Cancelled a b = cc
+
+out_closed_is : (y : OutView) → output_closed y ≡ true → OutClosed y
+out_closed_is outlet.Closed e = tt
+out_closed_is outlet.Cancelled e = tt
+out_closed_is outlet.Unpulled e = absurd cc
+out_closed_is outlet.Available e = absurd cc
+
+module _ (i : InPort) (r : InRests i) where
+  waits : Waits (own_in i) → Waits i.wire
+  waits h = (r.waits (waiting_is i.view h.0)).0
+
+  waits_sent : Waits (own_in i) → i.wire.sent ≡ elements i.got
+  waits_sent h = (r.waits (waiting_is i.view h.0)).1
+
+  pub shuts : IsShut (own_in i) → IsShut i.wire
+  shuts h = r.shut (closed_is i.view h)
+
+  idles : Idles (own_in i) → Idles i.wire
+  idles (inl l) = absurd cc
+  idles (inr h) = elim (r.idles (idle_is i.view h.0 h.1)) [ inl l ↦ inl l | inr o ↦ inr o.0 ]
+
+  idle_sent : Idles (own_in i) → IsLane i.wire ⊎ (i.wire.sent ≡ elements i.got)
+  idle_sent (inl l) = absurd cc
+  idle_sent (inr h) = elim (r.idles (idle_is i.view h.0 h.1)) [ inl l ↦ inl l | inr o ↦ inr o.1 ]
+
+  quiet : IdlesOrShut (own_in i) → IdlesOrShut i.wire
+  quiet (inl h) = inl (idles h)
+  quiet (inr h) = inr (shuts h)
+
+  any : WaitsIdlesOrShut (own_in i) → WaitsIdlesOrShut i.wire
+  any (inl h) = inl (waits h)
+  any (inr (inl h)) = inr (inl (idles h))
+  any (inr (inr h)) = inr (inr (shuts h))
+
+module _ (o : OutPort) (r : OutRests o) where
+  asked : IsAsked (own_out o) → IsAsked o.wire
+  asked h = r.asked (asked_is o.view h.0)
+
+  unasked : IsUnasked (own_out o) → IsUnasked o.wire
+  unasked h = r.unasked (unasked_is o.view h.0 h.1)
+
+  pub out_shuts : IsShut (own_out o) → IsShut o.wire
+  out_shuts h = r.shut (out_closed_is o.view h)
+
+-- ---- over lists
+
+pub each : (P Q : picture.SeenWire → Type 0) → ((i : InPort) → InRests i → P (own_in i) → Q i.wire) → (is : List InPort) → EachPort InRests is → EachWire P (map own_in is) → EachWire Q (map (λ (i : InPort). i.wire) is)
+each P Q f [] r h = tt
+each P Q f (i ∷ is) r h = (f i r.0 h.0, each P Q f is r.1 h.1)
+
+some : (P Q : picture.SeenWire → Type 0) → ((i : InPort) → InRests i → P (own_in i) → Q i.wire) → (is : List InPort) → EachPort InRests is → SomeWire P (map own_in is) → SomeWire Q (map (λ (i : InPort). i.wire) is)
+some P Q f [] r h = h
+some P Q f (i ∷ is) r (inl h) = inl (f i r.0 h)
+some P Q f (i ∷ is) r (inr h) = inr (some P Q f is r.1 h)
+
+pub each_out : (P Q : picture.SeenWire → Type 0) → ((o : OutPort) → OutStands o → OutRests o → P (own_out o) → Q o.wire) → (os : List OutPort) → EachPort OutStands os → EachPort OutRests os → EachWire P (map own_out os) → EachWire Q (map (λ (o : OutPort). o.wire) os)
+each_out P Q f [] s r h = tt
+each_out P Q f (o ∷ os) s r h = (f o s.0 r.0 h.0, each_out P Q f os s.1 r.1 h.1)
+
+some_out : (P Q : picture.SeenWire → Type 0) → ((o : OutPort) → OutRests o → P (own_out o) → Q o.wire) → (os : List OutPort) → EachPort OutRests os → SomeWire P (map own_out os) → SomeWire Q (map (λ (o : OutPort). o.wire) os)
+some_out P Q f [] r h = h
+some_out P Q f (o ∷ os) r (inl h) = inl (f o r.0 h)
+some_out P Q f (o ∷ os) r (inr h) = inr (some_out P Q f os r.1 h)
+
+first_open : (is : List InPort) → EachPort InRests is → FirstOpenWaits (map own_in is) → FirstOpenWaits (map (λ (i : InPort). i.wire) is)
+first_open [] r h = h
+first_open (i ∷ is) r (inl h) = inl (waits i r.0 h.0, each IdlesOrShut IdlesOrShut quiet is r.1 h.1)
+first_open (i ∷ is) r (inr h) = inr (shuts i r.0 h.0, first_open is r.1 h.1)
+
+one_waits : (is : List InPort) → EachPort InRests is → OneWaits (map own_in is) → OneWaits (map (λ (i : InPort). i.wire) is)
+one_waits [] r h = h
+one_waits (i ∷ is) r (inl h) = inl (waits i r.0 h.0, each IdlesOrShut IdlesOrShut quiet is r.1 h.1)
+one_waits (i ∷ is) r (inr h) = inr (quiet i r.0 h.0, one_waits is r.1 h.1)
+
+-- ---- the rows
+
+module _ (is : List InPort) (o : OutPort) (r : EachPort InRests is) (ro : OutRests o) where
+  pub concat_rests : ConcatRests (map own_in is) (own_out o) → ConcatRests (map (λ (i : InPort). i.wire) is) o.wire
+  concat_rests (inl h) = inl (asked o ro h.0, first_open is r h.1)
+  concat_rests (inr h) = inr (unasked o ro h.0, each IdlesOrShut IdlesOrShut quiet is r h.1)
+
+  pub interleave_rests : InterleaveRests (map own_in is) (own_out o) → InterleaveRests (map (λ (i : InPort). i.wire) is) o.wire
+  interleave_rests (inl h) = inl (asked o ro h.0, one_waits is r h.1)
+  interleave_rests (inr h) = inr (unasked o ro h.0, each IdlesOrShut IdlesOrShut quiet is r h.1)
+
+  waits_or_shut : (i : InPort) → InRests i → Waits (own_in i) ⊎ IsShut (own_in i) → Waits i.wire ⊎ IsShut i.wire
+  waits_or_shut i q (inl h) = inl (waits i q h)
+  waits_or_shut i q (inr h) = inr (shuts i q h)
+
+  pub merge_rests : MergeRests (map own_in is) (own_out o) → MergeRests (map (λ (i : InPort). i.wire) is) o.wire
+  merge_rests (inl h) = inl (asked o ro h.0, some Waits Waits waits is r h.1, each (λ i. Waits i ⊎ IsShut i) (λ i. Waits i ⊎ IsShut i) waits_or_shut is r h.2)
+  merge_rests (inr h) = inr (unasked o ro h.0, each WaitsIdlesOrShut WaitsIdlesOrShut any is r h.1)
+
+  pub sorted_rests : SortedRests (map own_in is) (own_out o) → SortedRests (map (λ (i : InPort). i.wire) is) o.wire
+  sorted_rests (inl h) = inl (asked o ro h.0, some Waits Waits waits is r h.1)
+  sorted_rests (inr h) = inr (unasked o ro h.0, each WaitsIdlesOrShut WaitsIdlesOrShut any is r h.1)
+
+  -- what an input was sent, beyond what it waits for
+  open_or_lane : (n : ℕ) → (i : InPort) → i.view ≢ Cancelled → InStands i → InRests i → IdlesOrShut (own_in i) → IsOrLane (own_in i) n → IsOrLane i.wire n
+  open_or_lane n i ne s q h m =
+      let came = s.came in
+      let some = m.0 in
+      (omega (arith, came, some), by h (other m.1))
+    where
+      other : IsLane (own_in i) ⊎ (elements i.got ≡ n) → elements i.got ≡ n
+      other (inl l) = absurd cc
+      other (inr e) = e
+
+      same : elements i.got ≡ n → IsLane i.wire ⊎ (i.wire.sent ≡ elements i.got) → IsLane i.wire ⊎ (i.wire.sent ≡ n)
+      same e (inl l) = inl l
+      same e (inr f) = inr (f ∙ e)
+
+      by : IdlesOrShut (own_in i) → elements i.got ≡ n → IsLane i.wire ⊎ (i.wire.sent ≡ n)
+      by (inl x) e = same e (idle_sent i q x)
+      by (inr x) e = same e (q.over_sent (over_is i.view x ne))
+
+  zip_input : (n : ℕ) → n ≡ elements o.sent → (i : InPort) → i.view ≢ Cancelled → InStands i → InRests i → ZipInput (elements o.sent) (own_in i) → ZipInput n i.wire
+  zip_input n e i ne s q (inl h) = inl (waits i q h.0, waits_sent i q h.0 ∙ (h.1 ∙ sym e))
+  zip_input n e i ne s q (inr h) = inr (quiet i q h.0, open_or_lane (n + 1) i ne s q h.0 (subst (λ m. IsOrLane (own_in i) (m + 1)) (sym e) h.1))
+
+  zip_inputs : (n : ℕ) → n ≡ elements o.sent → (js : List InPort) → EachPort (λ i. i.view ≢ Cancelled) js → EachPort InStands js → EachPort InRests js → EachWire (ZipInput (elements o.sent)) (map own_in js) → EachWire (ZipInput n) (map (λ (i : InPort). i.wire) js)
+  zip_inputs n e [] ne s q h = tt
+  zip_inputs n e (i ∷ js) ne s q h = (zip_input n e i ne.0 s.0 q.0 h.0, zip_inputs n e js ne.1 s.1 q.1 h.1)
+
+  zip_waits : (n : ℕ) → n ≡ elements o.sent → (i : InPort) → InRests i → Waits (own_in i) × (elements i.got ≡ elements o.sent) → Waits i.wire × (i.wire.sent ≡ n)
+  zip_waits n e i q h = (waits i q h.0, waits_sent i q h.0 ∙ (h.1 ∙ sym e))
+
+  pub zip_rests : OutStands o → EachPort (λ i. i.view ≢ Cancelled) is → EachPort InStands is → ZipRests (map own_in is) (own_out o) → ZipRests (map (λ (i : InPort). i.wire) is) o.wire
+  zip_rests so ne s h = (zip_inputs o.wire.sent so.count is ne s r h.0, by h.1)
+    where
+      by : (IsAsked (own_out o) × SomeWire (λ i. Waits i × (i.sent ≡ elements o.sent)) (map own_in is)) ⊎ IsUnasked (own_out o)
+          → (IsAsked o.wire × SomeWire (λ i. Waits i × (i.sent ≡ o.wire.sent)) (map (λ (i : InPort). i.wire) is)) ⊎ IsUnasked o.wire
+      by (inl x) = inl (asked o ro x.0, some (λ i. Waits i × (i.sent ≡ elements o.sent)) (λ i. Waits i × (i.sent ≡ o.wire.sent)) (zip_waits o.wire.sent so.count) is r x.1)
+      by (inr x) = inr (unasked o ro x)
+
+module _ (i : InPort) (os : List OutPort) (s : InStands i) (r : InRests i) (ss : EachPort OutStands os) (ro : EachPort OutRests os) where
+  open_asked : (o : OutPort) → OutStands o → OutRests o → IsShut (own_out o) ⊎ IsAsked (own_out o) → IsShut o.wire ⊎ IsAsked o.wire
+  open_asked o t q (inl h) = inl (out_shuts o q h)
+  open_asked o t q (inr h) = inr (asked o q h)
+
+  copied : Waits (own_in i) → (o : OutPort) → OutStands o → OutRests o → IsShut (own_out o) ⊎ (elements o.sent ≡ elements i.got) → IsShut o.wire ⊎ (o.wire.sent ≡ i.wire.sent)
+  copied w o t q (inl h) = inl (out_shuts o q h)
+  copied w o t q (inr h) = inr (t.count ∙ (h ∙ sym (waits_sent i r w)))
+
+  copied_some : Idles (own_in i) → (o : OutPort) → OutStands o → OutRests o → IsShut (own_out o) ⊎ ((elements o.sent ≤ elements i.got) × (IsLane (own_in i) ⊎ (elements o.sent ≡ elements i.got))) → IsShut o.wire ⊎ ((o.wire.sent ≤ i.wire.sent) × (IsLane i.wire ⊎ (o.wire.sent ≡ i.wire.sent)))
+  copied_some w o t q (inl h) = inl (out_shuts o q h)
+  copied_some w o t q (inr h) =
+      let count = t.count in
+      let few = h.0 in
+      let came = s.came in
+      inr (omega (arith, count, few, came), by h.1 (idle_sent i r w))
+    where
+      by : IsLane (own_in i) ⊎ (elements o.sent ≡ elements i.got) → IsLane i.wire ⊎ (i.wire.sent ≡ elements i.got) → IsLane i.wire ⊎ (o.wire.sent ≡ i.wire.sent)
+      by a (inl l) = inl l
+      by (inl l) (inr e) = absurd cc
+      by (inr a) (inr e) = inr (t.count ∙ (a ∙ sym e))
+
+  pub broadcast_rests : BroadcastRests (own_in i) (map own_out os) → BroadcastRests i.wire (map (λ (o : OutPort). o.wire) os)
+  broadcast_rests (inl h) = inl (each_out (λ o. IsShut o ⊎ IsAsked o) (λ o. IsShut o ⊎ IsAsked o) open_asked os ss ro h.0, waits i r h.1, each_out (λ o. IsShut o ⊎ (o.sent ≡ elements i.got)) (λ o. IsShut o ⊎ (o.sent ≡ i.wire.sent)) (copied h.1) os ss ro h.2)
+  broadcast_rests (inr h) =
+      inr (
+        some_out IsUnasked IsUnasked unasked os ro h.0,
+        idles i r h.1,
+        each_out (λ o. IsShut o ⊎ ((o.sent ≤ elements i.got) × (IsLane (own_in i) ⊎ (o.sent ≡ elements i.got)))) (λ o. IsShut o ⊎ ((o.sent ≤ i.wire.sent) × (IsLane i.wire ⊎ (o.sent ≡ i.wire.sent)))) (copied_some h.1) os ss ro h.2,
+      )
+
+  pub partition_rests : PartitionRests (own_in i) (map own_out os) → PartitionRests i.wire (map (λ (o : OutPort). o.wire) os)
+  partition_rests (inl h) = inl (waits i r h)
+  partition_rests (inr h) = inr (some_out IsUnasked IsUnasked unasked os ro h.0, quiet i r h.1)
+
+  shut_or_unasked : (o : OutPort) → OutStands o → OutRests o → IsShut (own_out o) ⊎ IsUnasked (own_out o) → IsShut o.wire ⊎ IsUnasked o.wire
+  shut_or_unasked o t q (inl h) = inl (out_shuts o q h)
+  shut_or_unasked o t q (inr h) = inr (unasked o q h)
+
+  pub balance_rests : BalanceRests (own_in i) (map own_out os) → BalanceRests i.wire (map (λ (o : OutPort). o.wire) os)
+  balance_rests (inl h) = inl (some_out IsAsked IsAsked asked os ro h.0, waits i r h.1)
+  balance_rests (inr h) =
+      inr (
+        some_out IsUnasked IsUnasked unasked os ro h.0,
+        each_out (λ o. IsShut o ⊎ IsUnasked o) (λ o. IsShut o ⊎ IsUnasked o) shut_or_unasked os ss ro h.1,
+        any i r h.2,
+      )

@@ -1,0 +1,17 @@
+pub mod Items
+pub mod Ends
+pub mod Quiet
+pub mod Account
+pub mod Seats
+pub mod Units
+pub mod Ports
+pub mod Wires
+pub mod Pictures
+pub mod KindLaws
+pub mod Unmoved
+pub mod Made
+pub mod Runs
+pub mod Telling
+pub mod Sinks
+pub mod Reads
+pub mod Picture

@@ -1,0 +1,65 @@
+-- What a world tells of a run: its input files, by the sources of its nodes at the start and as they are now, and what its stages
+-- chose. And what the seats of its nodes at kill switches tell, once each switch was settled.
+use Rattle.std.specs.Prelude.{◌≡◌, ℕ, IsTrue, List, [], Option, Some, None, slice_get, ⊤}
+use Rattle.stage_switch.specs.Public.{SeatState}
+use Rattle.stream_model.specs.declared.kind.Kind.TheVariants as kind
+use Rattle.stream_model.specs.Graph.{Graph}
+use Rattle.stream_model.specs.Graph as graph
+use Rattle.stream_model.specs.Linear.{Book}
+use Rattle.stream_model.specs.Node.{World}
+use Rattle.stream_model.specs.Sources.{File}
+use Rattle.stream_io.specs.Counts.{Rose}
+use Rattle.stream_io.specs.State.{SourceState}
+use Rattle.run_laws.specs.Account.{Account}
+use Rattle.nodes.specs.declared.node.IslandNode.{IslandNode}
+use Rattle.nodes.specs.declared.node.IslandNode.TheVariants.{Reading}
+use Rattle.nodes.specs.Nodes.{node_picks, node_moves, node_seat}
+use Rattle.stage_switch.specs.Settling.{AllSettled, kinds_of}
+
+-- the file's bytes are told; so many of them were handed out by now; and it tells a fault where the count of failed reads rose
+pub record TellsFile (first now : SourceState) (f : File) : Type 0 where
+  pub bytes : first.whole ≡ Some f.bytes
+  pub read : f.read ≡ now.given
+  pub faulted : Rose first.faults now.faults → IsTrue f.faulted
+
+module _ {S D L B : Type 0} where
+  -- the moves of node k, where it is a stage whose kind chooses
+  abbrev pub TellsMoves : World → ℕ → IslandNode S D L B → Type 0
+  TellsMoves w k now = (moves : List ℕ) → node_picks now ≡ Some moves → w.moves k ≡ moves
+
+  -- the moves of all stages whose kinds choose
+  abbrev pub TellsPicks : World → Account (IslandNode S D L B) → Type 0
+  TellsPicks w a = (k : ℕ) (now : IslandNode S D L B) → a.nodes k ≡ Some now → TellsMoves w k now
+
+-- the moves of a node, where there is one
+abbrev pub moves_at : {S D L B : Type 0} → Option (IslandNode S D L B) → List ℕ
+moves_at None = []
+moves_at (Some x) = node_moves x
+
+-- the seat of a node at a kill switch, where there is a node, and it is a valve or a trip
+abbrev pub seat_at : {S D L B : Type 0} → Option (IslandNode S D L B) → Option SeatState
+seat_at None = None
+seat_at (Some x) = node_seat x
+
+-- the seats of the valves and trips of a run were settled, at each switch that one of them names
+abbrev pub AreSettled : {S D L B : Type 0} → Graph → Account (IslandNode S D L B) → Type 0
+AreSettled g a = AllSettled (kinds_of g) (λ k. seat_at (a.nodes k))
+
+-- the world with these plugs and files in which each node has made the moves of the account's
+abbrev pub chosen_world : {S D L B : Type 0} → Book → (List ℕ → File) → Account (IslandNode S D L B) → World
+chosen_world book file a = record { book = book; file = file; moves = λ k. moves_at (a.nodes k) }
+
+module _ {S D L B : Type 0} (sources : S → SourceState) where
+  -- a source's file, by its name
+  abbrev pub TellsNode : World → graph.Node → IslandNode S D L B → IslandNode S D L B → Type 0
+  TellsNode w n (Reading first) (Reading now) = (name : List ℕ) → n.kind ≡ kind.Lines name → TellsFile (sources first.reader.source) (sources now.reader.source) (w.file name)
+  TellsNode w n _ _ = ⊤
+
+  -- the files of all nodes
+  abbrev pub TellsFiles : Graph → World → Account (IslandNode S D L B) → Type 0
+  TellsFiles g w a = (k : ℕ) (n : graph.Node) (first now : IslandNode S D L B) → slice_get g.nodes k ≡ Some n → a.firsts k ≡ Some first → a.nodes k ≡ Some now → TellsNode w n first now
+
+  -- the files of all nodes, and what they chose
+  pub record WorldTells (g : Graph) (w : World) (a : Account (IslandNode S D L B)) : Type 0 where
+    pub files : TellsFiles g w a
+    pub picks : TellsPicks w a

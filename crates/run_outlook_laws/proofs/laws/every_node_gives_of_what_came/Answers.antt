@@ -1,9 +1,0 @@
-use Rattle.run_outlook_laws.proofs.Agreeing.{given_of}
-use Rattle.run_outlook_laws.proofs.AgreeingSources.{source_texts}
-use Rattle.run_outlook_laws.proofs.laws.every_node_gives_of_what_came.Goals as goal
-
-pub returns : goal.returns
-returns g c = record {
-  lines = λ graph a run. source_texts g.S.Source.state g.D.Drain.state g.B.PlugBook.lists graph a run;
-  others = λ graph w a run chose. given_of g.S.Source.state g.D.Drain.state graph w a run chose;
-}

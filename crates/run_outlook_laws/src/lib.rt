@@ -1,4 +1,0 @@
-//! What a run of an island gives, in the words of the model.
-#![tactic(auto)]
-
-pub mod laws;

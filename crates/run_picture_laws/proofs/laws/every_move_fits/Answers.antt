@@ -1,5 +1,0 @@
-use Rattle.run_picture_laws.proofs.Pictures.{fits}
-use Rattle.run_picture_laws.proofs.laws.every_move_fits.Goals as goal
-
-pub returns : goal.returns
-returns g c = λ graph w rank a run settled tells ranked. fits g.S.Source.state g.D.Drain.state graph w a run settled rank tells ranked

@@ -1,9 +1,0 @@
-use Rattle.stream_model.specs.Composed.{composed}
-use Rattle.run_picture_laws.proofs.Pictures.{all_pass, lawful}
-use Rattle.run_picture_laws.proofs.laws.every_picture_is_lawful.Goals as goal
-
-pub returns-clause-any : goal.returns-clause-any
-returns-clause-any g c = λ graph w a outlook run settled chose. lawful g.S.Source.state g.D.Drain.state graph w a run chose outlook settled
-
-pub returns-clause-composed : goal.returns-clause-composed
-returns-clause-composed g c = λ graph w rank a run settled tells ranked. lawful g.S.Source.state g.D.Drain.state graph w a run tells.picks (composed graph w) settled (all_pass g.S.Source.state g.D.Drain.state graph w a run rank tells ranked)

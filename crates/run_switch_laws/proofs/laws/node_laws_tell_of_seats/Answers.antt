@@ -1,8 +1,0 @@
-use Rattle.run_switch_laws.proofs.Nodes.{valve_tells, trip_tells}
-use Rattle.run_switch_laws.proofs.laws.node_laws_tell_of_seats.Goals as goal
-
-pub returns-clause-valve : goal.returns-clause-valve
-returns-clause-valve c = valve_tells
-
-pub returns-clause-trip : goal.returns-clause-trip
-returns-clause-trip c = trip_tells

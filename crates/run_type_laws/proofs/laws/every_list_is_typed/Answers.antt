@@ -1,5 +1,0 @@
-use Rattle.run_type_laws.proofs.Carrying.{every_wire_carries}
-use Rattle.run_type_laws.proofs.laws.every_list_is_typed.Goals as goal
-
-pub returns : goal.returns
-returns c = λ plugs chains nodes g w rank passes keeps ranked. every_wire_carries plugs chains nodes g w rank ranked passes keeps

@@ -1,5 +1,0 @@
-use Rattle.run_type_laws.proofs.Fit.{fit_passes}
-use Rattle.run_type_laws.proofs.laws.fit_blueprints_pass_the_rules.Goals as goal
-
-pub returns : goal.returns
-returns c = fit_passes

@@ -1,3 +1,0 @@
-pub mod Outs
-pub mod Balances
-pub mod Balancings

@@ -1,4 +1,0 @@
-pub mod Histories
-pub mod Enters
-pub mod Leaves
-pub mod Passive

@@ -1,4 +1,0 @@
-pub mod Seats
-pub mod OwnRows
-pub mod PortsLaws
-pub mod Outs

@@ -1,5 +1,0 @@
-use Rattle.stage_law.proofs.OwnRows.{waiting_rests}
-use Rattle.stage_law.proofs.laws.a_stage_that_waits_rests.Goals as goal
-
-pub returns : goal.returns
-returns c = λ m start holds. waiting_rests m start holds

@@ -1,9 +1,0 @@
-use Rattle.stage_law.proofs.Calls.{stands_later}
-use Rattle.stage_law.proofs.OutTurns.{outs_call}
-use Rattle.stage_law.proofs.laws.outputs_keep_the_law.Goals as goal
-
-pub returns-clause-call : goal.returns-clause-call
-returns-clause-call c = outs_call 0
-
-pub returns-clause-closed : goal.returns-clause-closed
-returns-clause-closed c = stands_later

@@ -1,2 +1,0 @@
-pub mod RecoverTurns
-pub mod RecoverNodes

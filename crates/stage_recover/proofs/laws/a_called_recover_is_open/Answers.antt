@@ -1,5 +1,0 @@
-use Rattle.stage_recover.proofs.RecoverNodes.{called_open}
-use Rattle.stage_recover.proofs.laws.a_called_recover_is_open.Goals as goal
-
-pub returns : goal.returns
-returns c = called_open

@@ -1,2 +1,0 @@
-pub mod Recovers
-pub mod Recoverings

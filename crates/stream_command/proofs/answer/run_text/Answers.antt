@@ -1,0 +1,11 @@
+-- The goal of `answer::run_text` that the search leaves.
+use Rattle.std.proofs.Common.{inr}
+use Rattle.stream_command.specs.Asked.{plugged_by}
+use Rattle.stream_command.proofs.Receipts.{of_text}
+use Rattle.stream_command.proofs.answer.run_text.Goals as goal
+
+pub returns-in-Ok-clause-told : goal.returns-in-Ok-clause-told
+returns-in-Ok-clause-told g c = λ tells. inr (c.in-Ok.b, (c.in-Ok.ensures.ok, c.run_parsed.ensures.told tells))
+
+pub returns-in-Ok-clause-islands : goal.returns-in-Ok-clause-islands
+returns-in-Ok-clause-islands g c = of_text (plugged_by g.B.PlugBook.lists c.args.plugs.items) c.args.text.now c.in-Ok.b c.args.taken.now c.run_parsed.result.ran c.in-Ok.ensures.ok c.run_parsed.ensures.islands

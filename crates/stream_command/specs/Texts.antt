@@ -1,0 +1,49 @@
+-- What a text comes to: it is refused, or the blueprint that it says is unfit or run.
+use Rattle.std.specs.Prelude.{◌≡◌, ℕ, ◌⊎◌, List, Option, Some}
+use Rattle.stream_io.specs.State.{FolderState}
+use Rattle.stream_model.specs.declared.blueprint.Blueprint.{Blueprint}
+use Rattle.blue_lang.specs.Blueprints as language
+use Rattle.blue_lang.specs.Plain.{plain}
+use Rattle.blue_check.specs.Fitness.{IsFit, IsFirstFault}
+use Rattle.stream_io.specs.Quiet.{Quiet}
+use Rattle.run_report.specs.Answer.{Answer}
+use Rattle.run_report.specs.declared.outcome.Status.{Status}
+use Rattle.run_report.specs.declared.outcome.Status.TheVariants as status
+use Rattle.stream_command.specs.Outcome.{RanNothing, EndedRun, RunCauses}
+use Rattle.stream_command.specs.Asked.{Plugged}
+
+-- a blueprint that is not fit, or memory was wanting
+abbrev pub NotFit : Plugged → Status → Answer → Blueprint → List (List ℕ) → FolderState → FolderState → Type 0
+NotFit p (status.Unfit f) a b taken old new = RanNothing old new a × IsFirstFault b p.heads taken f
+NotFit p status.NoMemory a b taken old new = RanNothing old new a
+NotFit p _ a b taken old new = ⊥
+
+-- it is not fit, or it was run
+abbrev pub EndedParsed : Plugged → Status → Answer → Blueprint → List (List ℕ) → Option (List ℕ) → ℕ → FolderState → FolderState → Type 0
+EndedParsed p s a b taken trace turns old new = NotFit p s a b taken old new ⊎ (IsFit b p.heads taken × EndedRun p s a b trace turns old new)
+
+-- a text that says no blueprint, or memory was wanting
+abbrev pub NotSaid : Status → Answer → List ℕ → FolderState → FolderState → Type 0
+NotSaid (status.Refused f) a text old new = RanNothing old new a × (language.text_fault text ≡ Some f)
+NotSaid status.NoMemory a text old new = RanNothing old new a
+NotSaid _ a text old new = ⊥
+
+abbrev pub EndedText : Plugged → Status → Answer → List ℕ → List (List ℕ) → Option (List ℕ) → ℕ → FolderState → FolderState → Type 0
+EndedText p s a text taken trace turns old new = NotSaid s a text old new ⊎ ((b : Blueprint) × (language.Says text (plain b) × EndedParsed p s a b taken trace turns old new))
+
+-- no count rose
+pub record AllQuiet (old new : FolderState) : Type 0 where
+  pub refusals : Quiet old.refusals new.refusals
+  pub rfaults : Quiet old.rfaults new.rfaults
+  pub wfaults : Quiet old.wfaults new.wfaults
+
+-- the statuses of calls that read their text and ran nothing
+abbrev pub CausesQuiet : Status → FolderState → FolderState → Type 0
+CausesQuiet (status.Refused f) old new = AllQuiet old new
+CausesQuiet (status.Unfit f) old new = AllQuiet old new
+CausesQuiet status.NoMemory old new = AllQuiet old new
+CausesQuiet _ old new = ⊥
+
+-- which counts rose
+abbrev pub CausesText : Plugged → Status → Answer → List (List ℕ) → Option (List ℕ) → FolderState → FolderState → Type 0
+CausesText p s a taken trace old new = CausesQuiet s old new ⊎ ((b : Blueprint) × (IsFit b p.heads taken × RunCauses p s a b trace old new))

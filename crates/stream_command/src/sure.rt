@@ -1,0 +1,43 @@
+// The run of a file over a folder of which no call fails.
+ghost use Rattle.std.specs.Prelude.{◌<◌, ◌≤◌, IsTrue};
+ghost use Rattle.std.specs.List.{All};
+ghost use Rattle.std.specs.Option.{option_copied};
+ghost use Rattle.elem_core.specs.declared.count.TheConstants.{MOST_COUNT};
+ghost use Rattle.stream_command.specs.RunCalls.{answer_of};
+ghost use Rattle.stream_command.specs.Outcome.{IsValid, Told, RanWithoutFault};
+ghost use Rattle.materializer.specs.HandedPlugs.{GivesAsListed};
+ghost use Rattle.stream_command.specs.Asked.{plugged_by};
+
+use crate::top::{RunEnd, run_file};
+use elem_core::line::Line;
+use plug_logic::book::PlugBook;
+use plug_logic::logic::Logic;
+use plug_logic::plug::Plug;
+use std::alloc::Global;
+use std::sync::Wait;
+use std::thread::Threads;
+use stream_io::outside::{Drain, Folder};
+use stream_io::sure::SureFolder;
+
+/// The same over a folder whose counts never rise: it answers as `run_file` does (`told`), and a valid text and inputs give a run, and no write of it failed, or memory was wanting (`runs`). So no answer of a run is hidden behind a fault that did not happen.
+pub fn run_surely<R: Threads + Wait + Sync, C: Drain, L: Logic + Send, B: PlugBook + Send>(
+    rt: &R,
+    alloc: Global,
+    file: &Line,
+    trace: Option<&Line>,
+    workers: u32,
+    turns: u32,
+    folder: &mut SureFolder,
+    console: &mut C,
+    plugs: Vec<Plug<L>>,
+) -> RunEnd
+    requires listed { All (GivesAsListed L.gives B.lists) plugs.items }
+    requires workers { (0 < workers) × (workers ≤ 64) }
+    requires turns { turns ≤ MOST_COUNT }
+    ensures told { IsTrue (⟦<SureFolder as Folder>⟧.state folder.old).tells → Told (plugged_by B.lists plugs.items) (answer_of result) (record { file = file.now; trace = option_copied trace.entry; turns = turns }) (⟦<SureFolder as Folder>⟧.state folder.old) (⟦<SureFolder as Folder>⟧.state folder.new) }
+    ensures runs { IsTrue (⟦<SureFolder as Folder>⟧.state folder.old).tells → IsValid (plugged_by B.lists plugs.items) file.now (option_copied trace.entry) (⟦<SureFolder as Folder>⟧.state folder.old) → RanWithoutFault result.status }
+{
+    run_file::<R, SureFolder, C, L, B>(
+        rt, alloc, file, trace, workers, turns, folder, console, plugs,
+    )
+}

@@ -1,0 +1,75 @@
+-- Counts that follow one another, and files that no step changed.
+use Rattle.std.proofs.Common.{◌≡◌, ℕ, ◌+◌, ◌≤◌, List, inl, inr, sym, ap, ◌∙◌, subst, arith}
+use Rattle.std.specs.Prelude.{Option, Some, None, IfSome, IsSome, IsTrue}
+use Rattle.std.specs.Option.{option_map}
+use Rattle.stream_io.specs.Counts.{Grew, GrewAtMost}
+use Rattle.stream_io.specs.State.{FolderState, SourceState, SameFiles, SameFaults, SameRefusals, OpensSource, ClosesSource}
+use Rattle.stream_io.proofs.Counts.{grew_same, grew_two, quiet_same, quiet_two, same_name}
+use Rattle.stream_io.specs.Text.{text_limit, text_of_file, ReadsFile, StaysQuiet}
+
+-- a folder whose files no step changed tells them behind it as before
+pub tells_behind : (s t : FolderState) → SameFiles s t → IsTrue s.tells → IsTrue t.tells
+tells_behind s t same h = subst (λ b. IsTrue b) (sym same.telling) h
+
+pub tells_before : (s t : FolderState) → SameFiles s t → IsTrue t.tells → IsTrue s.tells
+tells_before s t same h = subst (λ b. IsTrue b) same.telling h
+
+-- files that two steps in a row leave alone are left alone
+pub files_two : (s t u : FolderState) → SameFiles s t → SameFiles t u → SameFiles s u
+files_two s t u p q = record {
+  telling = q.telling ∙ p.telling;
+  files = λ h n. q.files (tells_behind s t p h) n ∙ p.files h n;
+}
+
+-- a whole that is told gives its text
+text_told : (o w : Option (List ℕ)) (text : List ℕ) → w ≡ o → IsSome o → IfSome w (λ b. text ≡ text_of_file b) → option_map text_of_file o ≡ Some text
+text_told None w text e h p = cc
+text_told (Some b) w text e h p = ap Some (sym (subst (λ o. IfSome o (λ b. text ≡ text_of_file b)) e p))
+
+-- what the opening, the reading and the closing of a file leave alone
+pub closed_quiet : (s t u : FolderState) (h : SourceState) → SameFiles s t → SameFaults s t → SameRefusals s t → h.faults ≡ 0 → ClosesSource t u h → SameFiles t u → StaysQuiet s u
+closed_quiet s t u h files faults refusals none closed same = record {
+  files = files_two s t u files same;
+  refusals = quiet_two _ _ _ (quiet_same _ _ refusals) (quiet_same _ _ closed.refusals);
+  rfaults = λ n. elim (same_name n h.name) [
+    | inl e ↦ (let grew = grew_two _ _ _ 0 0 (grew_same _ _ (faults.rfaults n)) (subst (λ m. Grew (t.rfaults m) 0 (u.rfaults m)) (sym e) (subst (λ k. Grew (t.rfaults h.name) k (u.rfaults h.name)) none closed.rfaults)) in grew)
+    | inr differs ↦ grew_same _ _ (closed.other_rfaults n differs ∙ faults.rfaults n)
+  ];
+  wfaults = quiet_two _ _ _ (quiet_same _ _ faults.wfaults) (quiet_same _ _ closed.wfaults);
+}
+
+-- ---- how many bytes of a file were read
+
+pub read_none : (old new n : ℕ) → new ≡ old → GrewAtMost old n new
+read_none old new n e = record { stays = omega (arith, e); most = λ h. omega (arith, e) }
+
+pub read_most : (old mid n new : ℕ) → mid ≡ old → (k : ℕ) → k ≤ n → Grew mid k new → GrewAtMost old n new
+read_most old mid n new e k few g = record {
+  stays = omega (arith, e, g.stays);
+  most = λ h. let more : new ≡ mid + k = g.grew h in omega (arith, e, few, more);
+}
+
+-- more of it is not read later
+pub most_later : (old mid new n : ℕ) → GrewAtMost old n mid → Grew mid 0 new → GrewAtMost old n new
+most_later old mid new n p q = record {
+  stays = omega (arith, p.stays, q.stays);
+  most = λ h. let same : new ≡ mid + 0 = q.grew h in let few : mid ≤ old + n = p.most (omega (arith, h, same)) in omega (arith, same, few);
+}
+
+-- of the file that was opened, read so far and closed
+pub closed_most : (s t u : FolderState) (name : List ℕ) (h h' : SourceState) → OpensSource s name h → SameFaults s t → h'.name ≡ h.name → h'.given ≤ text_limit → ClosesSource t u h' → GrewAtMost (s.read name) text_limit (u.read name)
+closed_most s t u name h h' opened faults same few closed =
+    let is : h'.name ≡ name = same ∙ opened.name_is in
+    read_most (s.read name) (t.read name) text_limit (u.read name) (faults.read name) h'.given few (subst (λ n. Grew (t.read n) h'.given (u.read n)) is closed.read)
+
+pub file_read : (s t u : FolderState) (name text : List ℕ) (h h' : SourceState) → OpensSource s name h → SameFiles s t → SameFaults s t → SameRefusals s t → h'.name ≡ h.name → h'.faults ≡ h.faults → IfSome h.whole (λ w. text ≡ text_of_file w) → ClosesSource t u h' → SameFiles t u → ReadsFile s u name text
+file_read s t u name text h h' opened files faults refusals same_name same_faults bytes closed same =
+    let quiet = closed_quiet s t u h' files faults refusals (same_faults ∙ opened.faults) closed same in
+    record {
+      files = quiet.files;
+      text_is = λ tells. text_told (s.file name) h.whole text (opened.whole tells) (opened.there tells) bytes;
+      read = λ n differs. closed.other_read n (λ e. differs (e ∙ same_name ∙ opened.name_is)) ∙ faults.read n;
+      refusals = quiet.refusals;
+      rfaults = quiet.rfaults;
+      wfaults = quiet.wfaults;
+    }

@@ -1,0 +1,215 @@
+-- A picture that rests: no node has anything to do.
+use Rattle.std.specs.Prelude.{◌≡◌, ℕ, ◌+◌, ◌<◌, ◌≤◌, Bool, true, false, ◌⊎◌, List, [], ◌∷◌, take, slice_get, Option, Some, None, is_some}
+use Rattle.stream_model.specs.declared.kind.Kind.{Kind}
+use Rattle.elem_core.specs.declared.why.Decider.{Decider}
+use Rattle.stream_model.specs.declared.kind.Policy.TheVariants.{Backpressure}
+use Rattle.stream_model.specs.Outlook.{Outlook}
+use Rattle.stream_model.specs.declared.kind.Policy.{Policy}
+use Rattle.stream_model.specs.declared.outcome.WireCount.{WireCount}
+use Rattle.stream_model.specs.Linear.{Role, reads_lines, gives_range, gives_nothing, gives_failure, works, trips, plugs_in, buffers, recovers, obeys, groups_by, splits_when, splits_after, merges, concats, interleaves, merges_sorted, zips, broadcasts, balances, partitions, unzips, sinks, role_of}
+use Rattle.stream_model.specs.Graph.{Graph, Node}
+use Rattle.stream_model.specs.Node.{World}
+use Rattle.stream_model.specs.Picks.{buffered, empty_buffer, nothing_held}
+use Rattle.stream_model.specs.OneWay.{OneWay, one_way_by, is_sink}
+use Rattle.stream_model.specs.View.{SeenWire, EachWire, SomeWire, ins, outs}
+
+-- how the wire stands for the node at its end
+abbrev pub Waits : SeenWire → Type 0
+Waits v = (v.asked ≡ true) × (v.shut ≡ false)
+
+-- either end has closed it
+abbrev pub IsShut : SeenWire → Type 0
+IsShut v = v.shut ≡ true
+
+-- the wire is a lane
+abbrev pub IsLane : SeenWire → Type 0
+IsLane v = is_some v.lane ≡ true
+
+-- a lane may be read so in every state
+abbrev pub Idles : SeenWire → Type 0
+Idles v = IsLane v ⊎ ((v.asked ≡ false) × (v.shut ≡ false))
+
+-- how the wire stands for the node at its beginning
+abbrev pub IsAsked : SeenWire → Type 0
+IsAsked v = (v.asked ≡ true) × (v.shut ≡ false)
+
+-- open, and not asked
+abbrev pub IsUnasked : SeenWire → Type 0
+IsUnasked v = (v.asked ≡ false) × (v.shut ≡ false)
+
+-- it idles, or it is shut
+abbrev pub IdlesOrShut : SeenWire → Type 0
+IdlesOrShut v = Idles v ⊎ IsShut v
+
+-- it waits, idles or is shut
+abbrev pub WaitsIdlesOrShut : SeenWire → Type 0
+WaitsIdlesOrShut v = Waits v ⊎ Idles v ⊎ IsShut v
+
+-- the number that a fused wire has, and a lane has at least
+abbrev pub IsOrLane : SeenWire → ℕ → Type 0
+IsOrLane v n = (n ≤ v.sent) × (IsLane v ⊎ (v.sent ≡ n))
+
+-- the first input that is not used up waits, and the later ones idle or are shut
+abbrev pub FirstOpenWaits : List SeenWire → Type 0
+FirstOpenWaits [] = ⊥
+FirstOpenWaits (v ∷ vs) = (Waits v × EachWire IdlesOrShut vs) ⊎ (IsShut v × FirstOpenWaits vs)
+
+-- one input waits, and the others idle or are shut
+abbrev pub OneWaits : List SeenWire → Type 0
+OneWaits [] = ⊥
+OneWaits (v ∷ vs) = (Waits v × EachWire IdlesOrShut vs) ⊎ (IdlesOrShut v × OneWaits vs)
+
+-- an input of a zip that gave n pairs
+abbrev pub ZipInput : ℕ → SeenWire → Type 0
+ZipInput n v = (Waits v × (v.sent ≡ n)) ⊎ (IdlesOrShut v × IsOrLane v (n + 1))
+
+-- every output that is not shut is asked
+abbrev pub AllOpenAsked : List SeenWire → Type 0
+AllOpenAsked outs = EachWire (λ o. IsShut o ⊎ IsAsked o) outs
+
+-- the outputs of a broadcast or an unzip, whose input waits or not
+abbrev pub CopiesAll : SeenWire → List SeenWire → Type 0
+CopiesAll i outs = EachWire (λ o. IsShut o ⊎ (o.sent ≡ i.sent)) outs
+
+-- each open output has at most what came, and all of it where the input is fused
+abbrev pub CopiesSome : SeenWire → List SeenWire → Type 0
+CopiesSome i outs = EachWire (λ o. IsShut o ⊎ ((o.sent ≤ i.sent) × (IsLane i ⊎ (o.sent ≡ i.sent)))) outs
+
+-- ---- the rows. Where a row has several parts, one of them holds
+
+abbrev pub OneToOne : (SeenWire → SeenWire → Type 0) → List SeenWire → List SeenWire → Type 0
+OneToOne P (i ∷ []) (o ∷ []) = P i o
+OneToOne P _ _ = ⊥
+
+-- a node with several inputs and one output
+abbrev pub ManyToOne : (List SeenWire → SeenWire → Type 0) → List SeenWire → List SeenWire → Type 0
+ManyToOne P is (o ∷ []) = P is o
+ManyToOne P is _ = ⊥
+
+-- a node with one input and several outputs
+abbrev pub OneToMany : (SeenWire → List SeenWire → Type 0) → List SeenWire → List SeenWire → Type 0
+OneToMany P (i ∷ []) os = P i os
+OneToMany P _ os = ⊥
+
+-- a stage that gives `given` of the elements that it was sent, and may hold outputs at the end of its input
+abbrev pub StageRests : OneWay → SeenWire → SeenWire → Type 0
+StageRests s i o =
+    (IsAsked o × Waits i × (o.sent ≡ s.given (take i.sent i.list)))
+    ⊎ (IsUnasked o × Idles i)
+    ⊎ ((s.holds ≡ true) × IsUnasked o × IsShut i)
+
+-- a buffer of n that holds its input back
+abbrev pub BufferRests : ℕ → SeenWire → SeenWire → Type 0
+BufferRests n i o =
+    (IsAsked o × Waits i × (i.sent ≡ o.sent))
+    ⊎ (IsUnasked o × Waits i × (i.sent < o.sent + n))
+    ⊎ (IsUnasked o × Idles i × IsOrLane i (o.sent + n))
+    ⊎ (IsUnasked o × IsShut i)
+
+-- a buffer that drops: where it is asked it holds nothing
+abbrev pub DroppingRests : Bool → SeenWire → SeenWire → Type 0
+DroppingRests empty i o = (Waits i × (IsAsked o → empty ≡ true)) ⊎ (IsShut i × IsUnasked o)
+
+-- a merge
+abbrev pub MergeRests : List SeenWire → SeenWire → Type 0
+MergeRests is o =
+    (IsAsked o × SomeWire Waits is × EachWire (λ i. Waits i ⊎ IsShut i) is)
+    ⊎ (IsUnasked o × EachWire WaitsIdlesOrShut is)
+
+-- a concat
+abbrev pub ConcatRests : List SeenWire → SeenWire → Type 0
+ConcatRests is o = (IsAsked o × FirstOpenWaits is) ⊎ (IsUnasked o × EachWire IdlesOrShut is)
+
+-- an interleave
+abbrev pub InterleaveRests : List SeenWire → SeenWire → Type 0
+InterleaveRests is o = (IsAsked o × OneWaits is) ⊎ (IsUnasked o × EachWire IdlesOrShut is)
+
+-- a merge_sorted
+abbrev pub SortedRests : List SeenWire → SeenWire → Type 0
+SortedRests is o = (IsAsked o × SomeWire Waits is) ⊎ (IsUnasked o × EachWire WaitsIdlesOrShut is)
+
+-- a zip
+abbrev pub ZipRests : List SeenWire → SeenWire → Type 0
+ZipRests is o =
+    EachWire (ZipInput o.sent) is
+    × ((IsAsked o × SomeWire (λ i. Waits i × (i.sent ≡ o.sent)) is) ⊎ IsUnasked o)
+
+-- a broadcast or an unzip
+abbrev pub BroadcastRests : SeenWire → List SeenWire → Type 0
+BroadcastRests i os =
+    (AllOpenAsked os × Waits i × CopiesAll i os)
+    ⊎ (SomeWire IsUnasked os × Idles i × CopiesSome i os)
+
+-- a balance
+abbrev pub BalanceRests : SeenWire → List SeenWire → Type 0
+BalanceRests i os =
+    (SomeWire IsAsked os × Waits i)
+    ⊎ (SomeWire IsUnasked os × EachWire (λ o. IsShut o ⊎ IsUnasked o) os × WaitsIdlesOrShut i)
+
+-- a partition
+abbrev pub PartitionRests : SeenWire → List SeenWire → Type 0
+PartitionRests i os = Waits i ⊎ (SomeWire IsUnasked os × IdlesOrShut i)
+
+-- a sink waits for its input
+abbrev pub SinkRests : List SeenWire → Type 0
+SinkRests (i ∷ []) = Waits i
+SinkRests _ = ⊥
+
+-- a source is not asked
+abbrev pub SourceRests : List SeenWire → Type 0
+SourceRests (o ∷ []) = IsUnasked o
+SourceRests _ = ⊥
+
+module _ (g : Graph) (w : World) where
+  -- a stage with one input and one output, or a sink
+  abbrev pub stage_rests : Option OneWay → List SeenWire → List SeenWire → Type 0
+  stage_rests None is os = SinkRests is
+  stage_rests (Some s) is os = OneToOne (StageRests s) is os
+
+  -- a buffer by its policy
+  abbrev pub dropping_rests : ℕ → ℕ → Policy → List SeenWire → List SeenWire → Type 0
+  dropping_rests node n Backpressure is os = OneToOne (BufferRests n) is os
+  dropping_rests node n p is os = OneToOne (λ i o. DroppingRests (nothing_held (buffered p n (w.moves node) i.list empty_buffer).held) i o) is os
+
+  -- the row of node `node`, which has this role
+  abbrev pub RoleRests : ℕ → Role → Decider → List SeenWire → List SeenWire → Type 0
+  RoleRests node (reads_lines name) d is os = SourceRests os
+  RoleRests node (gives_range low high) d is os = SourceRests os
+  RoleRests node (gives_nothing b) d is os = SourceRests os
+  RoleRests node (gives_failure b) d is os = SourceRests os
+  RoleRests node (works v) d is os = stage_rests (one_way_by g w node (works v) d) is os
+  RoleRests node (trips order name n) d is os = stage_rests (one_way_by g w node (trips order name n) d) is os
+  RoleRests node (plugs_in name) d is os = stage_rests (one_way_by g w node (plugs_in name) d) is os
+  RoleRests node (buffers n p) d is os = dropping_rests node n p is os
+  RoleRests node (recovers t) d is os = stage_rests (one_way_by g w node (recovers t) d) is os
+  RoleRests node (obeys name) d is os = stage_rests (one_way_by g w node (obeys name) d) is os
+  RoleRests node (groups_by n f chain) d is os = stage_rests (one_way_by g w node (groups_by n f chain) d) is os
+  RoleRests node (splits_when p chain j) d is os = stage_rests (one_way_by g w node (splits_when p chain j) d) is os
+  RoleRests node (splits_after p chain j) d is os = stage_rests (one_way_by g w node (splits_after p chain j) d) is os
+  RoleRests node (merges n) d is os = ManyToOne MergeRests is os
+  RoleRests node (concats n) d is os = ManyToOne ConcatRests is os
+  RoleRests node (interleaves n s) d is os = ManyToOne InterleaveRests is os
+  RoleRests node merges_sorted d is os = ManyToOne SortedRests is os
+  RoleRests node zips d is os = ManyToOne ZipRests is os
+  RoleRests node (broadcasts n) d is os = OneToMany BroadcastRests is os
+  RoleRests node (balances n) d is os = OneToMany BalanceRests is os
+  RoleRests node (partitions n f) d is os = OneToMany PartitionRests is os
+  RoleRests node unzips d is os = OneToMany BroadcastRests is os
+  RoleRests node (sinks file keeps) d is os = SinkRests is
+
+  -- and which is of this kind
+  abbrev pub RowRests : ℕ → Kind → Decider → List SeenWire → List SeenWire → Type 0
+  RowRests node k d is os = RoleRests node (role_of k) d is os
+
+  -- each node has all its wires shut, or meets its row
+  abbrev pub Rests : List WireCount → (ℕ → Outlook) → Type 0
+  Rests counts outlook =
+      (node : ℕ) (n : Node) → slice_get g.nodes node ≡ Some n
+      → (EachWire IsShut (ins g counts outlook node n.kind) × EachWire IsShut (outs g counts outlook node n.kind))
+      ⊎ RowRests node n.kind n.decider (ins g counts outlook node n.kind) (outs g counts outlook node n.kind)
+
+  -- a sink's input is shut exactly where the sink has ended
+  abbrev pub SinksMatch : List WireCount → (ℕ → Outlook) → (ℕ → Bool) → Type 0
+  SinksMatch counts outlook ended =
+      (node : ℕ) (n : Node) → slice_get g.nodes node ≡ Some n → is_sink n.kind ≡ true
+      → EachWire (λ i. i.shut ≡ ended node) (ins g counts outlook node n.kind)

@@ -1,4 +1,0 @@
-pub mod Exits
-pub mod Views
-pub mod Polytrees
-pub mod StalledRows

@@ -1,8 +1,0 @@
-use Rattle.stream_picture.proofs.StalledRows.{lawful, rests}
-use Rattle.stream_picture.proofs.laws.a_drop_may_stall.Goals as goal
-
-pub returns-clause-rests : goal.returns-clause-rests
-returns-clause-rests c = rests
-
-pub returns-clause-lawful : goal.returns-clause-lawful
-returns-clause-lawful c = lawful

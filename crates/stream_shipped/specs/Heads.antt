@@ -1,7 +1,0 @@
--- The plugs that the program hands in, with their book.
-use Rattle.plug_core.specs.Heads.{shipped_heads}
-use Rattle.plug_logic.specs.Shipped.{shipped_book}
-use Rattle.stream_command.specs.Calls.{HandedPlugs}
-
-abbrev pub shipped_plugs : HandedPlugs
-shipped_plugs = record { heads = shipped_heads; book = shipped_book }

@@ -1,8 +1,0 @@
-use Rattle.std.proofs.Common.{take}
-use Rattle.blue_names.specs.Links.{wires_of_links}
-use Rattle.blue_walks.specs.Classes.{AreListed}
-use Rattle.traversal.specs.Labels.{AreLabels}
-use Rattle.traversal.proofs.classes.labels_of.Given as goal
-
-abbrev pub invariant-loop-link : goal.invariant-loop-link
-invariant-loop-link l = record { labels : AreLabels (wires_of_links (take l.link-index l.links)) l.count l.labels.items; listed : AreListed l.labels.items l.members.items }

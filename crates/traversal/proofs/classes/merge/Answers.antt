@@ -1,5 +1,0 @@
-use Rattle.traversal.proofs.Linking.{AreMerged-same}
-use Rattle.traversal.proofs.classes.merge.Goals as goal
-
-pub returns-then-one-other-clause-joined : goal.returns-then-one-other-clause-joined
-returns-then-one-other-clause-joined c = AreMerged-same c.args.labels.now.items c.args.one c.args.other c.if-one-other.true

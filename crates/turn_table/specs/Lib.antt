@@ -1,4 +1,0 @@
-pub mod Sums
-pub mod Table
-pub mod Public
-pub mod Lent

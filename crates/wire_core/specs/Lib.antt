@@ -1,5 +1,0 @@
-pub mod Cell
-pub mod Counts
-pub mod Marks
-pub mod Reading
-pub mod Closes

@@ -1,5 +1,0 @@
-// One wire of an island: its connection, what its two ends know of it, and its histories.
-#![tactic(auto)]
-
-pub mod laws;
-pub mod wire;

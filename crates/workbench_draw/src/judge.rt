@@ -1,0 +1,80 @@
+// Whether a text says a blueprint that can be run.
+ghost use Rattle.std.specs.Prelude.{◌≡◌, ◌∷◌, [], IfOk, IfErr};
+ghost use Rattle.blue_check.specs.Checked.{checked_blueprint};
+ghost use Rattle.blue_lang.specs.Plain.{plain};
+ghost use Rattle.blue_lang.specs.Blueprints.{Says};
+ghost use Rattle.stream_model.specs.Heads.{shipped_heads};
+ghost use Rattle.workbench_draw.specs.Judging.{IsFitText, IsUnready};
+
+use blue_check::check::{CheckEnd, check};
+use blue_check::checked::Checked;
+use blue_check::fault::CheckFault;
+use blue_lang::parse::{ParseEnd, parse};
+use blue_words::fault::BlueFault;
+use elem_core::line::Line;
+use elem_core::why::NoMemory;
+use std::alloc::Global;
+use stream_model::blueprint::Blueprint;
+use stream_model::head::PlugHead;
+use stream_model::heads::shipped_heads;
+
+/// Why a text says no blueprint that can be run.
+#[derive(Drop)]
+pub enum Unready {
+    /// The text has a fault; it is the first.
+    Refused(BlueFault),
+    /// The blueprint breaks a rule; it is the first, at its least place.
+    Unfit(CheckFault),
+    /// Memory was refused.
+    NoMemory,
+}
+
+/// The files that are taken: the blueprint's own.
+fn taken_of(alloc: Global, file: &Line) -> Result<Vec<Line>, NoMemory>
+    ensures { IfOk result (λ taken. taken.items ≡ file.now ∷ []) }
+{
+    let mut taken = Vec::new(alloc);
+    taken.push(file.copy(alloc)?)?;
+    Ok(taken)
+}
+
+/// Checks the blueprint that a text says.
+fn check_said(
+    alloc: Global,
+    text: &[u8],
+    heads: &[PlugHead],
+    taken: &[Line],
+    file: &Line,
+    b: Blueprint,
+) -> Result<Checked, Unready>
+    requires says { Says text.now (plain b) }
+    requires heads { heads.now ≡ shipped_heads }
+    requires taken { taken.now ≡ file.now ∷ [] }
+    ensures fit { IfOk result (λ c. IsFitText text.now file.now (checked_blueprint c)) }
+    ensures unready { IfErr result (IsUnready text.now file.now) }
+{
+    match check(alloc, b, heads, taken) {
+        Ok(checked) => Ok(checked),
+        Err(CheckEnd::Fault(fault)) => Err(Unready::Unfit(fault)),
+        Err(CheckEnd::NoMemory) => Err(Unready::NoMemory),
+    }
+}
+
+/// The checked blueprint of the text of that name's file, with the plugs of `streams`, or why there is none: the first fault of the
+/// text, or the first rule that the blueprint breaks. Want of memory may come in the place of each.
+pub fn judge_text(alloc: Global, text: &[u8], file: &Line) -> Result<Checked, Unready>
+    ensures fit { IfOk result (λ c. IsFitText text.now file.now (checked_blueprint c)) }
+    ensures unready { IfErr result (IsUnready text.now file.now) }
+{
+    let Ok(taken) = taken_of(alloc, file) else {
+        return Err(Unready::NoMemory);
+    };
+    let Ok(heads) = shipped_heads(alloc) else {
+        return Err(Unready::NoMemory);
+    };
+    match parse(alloc, text) {
+        Ok(b) => check_said(alloc, text, &heads, &taken, file, b),
+        Err(ParseEnd::Fault(fault)) => Err(Unready::Refused(fault)),
+        Err(ParseEnd::NoMemory) => Err(Unready::NoMemory),
+    }
+}

@@ -1,0 +1,171 @@
+// Where the place of a fault is declared.
+use blue_check::fault::CheckFault;
+use blue_names::claims::{file_of, plug_of};
+use blue_names::spot::Spot;
+use blue_names::table::Named;
+use elem_core::line::Line;
+use stream_model::blueprint::{Blueprint, Node, WireDecl};
+use stream_model::kind::Kind;
+
+/// What a line declares.
+#[derive(Clone, Copy, PartialEq, Eq)]
+pub enum Sort {
+    Switch,
+    Chain,
+    Node,
+    Wire,
+}
+
+/// A declaration: which of its sort, from 0.
+#[derive(Clone, Copy, PartialEq, Eq)]
+pub struct FaultPlace {
+    /// What is declared.
+    pub sort: Sort,
+    /// Which one.
+    pub number: usize,
+}
+
+impl FaultPlace {
+    /// The declaration of that sort and number.
+    pub fn of(sort: Sort, number: usize) -> FaultPlace {
+        FaultPlace { sort, number }
+    }
+}
+
+/// The first of that name, from a number on.
+fn named<T: Named>(items: &[T], name: &Line, from: usize) -> Option<usize> {
+    for i in from..items.len() {
+        if *items[i].name() == *name {
+            return Some(i);
+        }
+    }
+    None
+}
+
+/// The second of that name.
+fn named_again<T: Named>(items: &[T], name: &Line) -> Option<usize> {
+    let first = named(items, name, 0)?;
+    named(items, name, first.saturating_add(1))
+}
+
+/// The first node of that file, from a number on.
+fn filed(nodes: &[Node], file: &Line, from: usize) -> Option<usize> {
+    for i in from..nodes.len() {
+        if let Some(name) = file_of(&nodes[i].kind) {
+            if *name == *file {
+                return Some(i);
+            }
+        }
+    }
+    None
+}
+
+/// The node that wants a file again, where the blueprint's own file is taken.
+fn filed_again(nodes: &[Node], file: &Line, own: &Line) -> Option<usize> {
+    let first = filed(nodes, file, 0)?;
+    if *file == *own {
+        Some(first)
+    } else {
+        filed(nodes, file, first.saturating_add(1))
+    }
+}
+
+/// The lesser of two numbers, where both are there.
+fn least(first: Option<usize>, second: Option<usize>) -> Option<usize> {
+    match (first, second) {
+        (Some(a), Some(b)) => Some(a.min(b)),
+        (Some(a), None) => Some(a),
+        (None, b) => b,
+    }
+}
+
+/// Where a name or a file is told again.
+fn told_again(b: &Blueprint, name: &Line, own: &Line) -> Option<FaultPlace> {
+    if let Some(i) = named_again(&b.switches, name) {
+        return Some(FaultPlace::of(Sort::Switch, i));
+    }
+    if let Some(i) = named_again(&b.chains, name) {
+        return Some(FaultPlace::of(Sort::Chain, i));
+    }
+    let again = least(
+        named_again(&b.nodes, name),
+        filed_again(&b.nodes, name, own),
+    );
+    again.map(|i| FaultPlace::of(Sort::Node, i))
+}
+
+/// Whether a kind names a switch or a chain of this name that is not declared.
+fn misses(b: &Blueprint, kind: &Kind, name: &Line) -> bool {
+    match kind {
+        Kind::Valve(switch) | Kind::TripShutdown(switch, _) | Kind::TripAbort(switch, _) => {
+            *switch == *name && named(&b.switches, name, 0).is_none()
+        }
+        Kind::GroupBy(_, _, chain) | Kind::SplitWhen(_, chain, _) | Kind::SplitAfter(_, chain, _) =>
+            { *chain == *name && named(&b.chains, name, 0).is_none() }
+        _ => false,
+    }
+}
+
+/// The first wire that names a node of this name.
+fn wired(wires: &[WireDecl], name: &Line) -> Option<usize> {
+    for i in 0..wires.len() {
+        if wires[i].from == *name || wires[i].to == *name {
+            return Some(i);
+        }
+    }
+    None
+}
+
+/// Where a name is used that is not declared.
+fn used(b: &Blueprint, name: &Line) -> Option<FaultPlace> {
+    for i in 0..b.nodes.len() {
+        if misses(b, &b.nodes[i].kind, name) {
+            return Some(FaultPlace::of(Sort::Node, i));
+        }
+    }
+    wired(&b.wires, name).map(|i| FaultPlace::of(Sort::Wire, i))
+}
+
+/// The first node of that plug, from a number on.
+fn plugged(nodes: &[Node], plug: &Line, from: usize) -> Option<usize> {
+    for i in from..nodes.len() {
+        if let Some(name) = plug_of(&nodes[i].kind) {
+            if *name == *plug {
+                return Some(i);
+            }
+        }
+    }
+    None
+}
+
+/// The second node of that plug.
+fn plugged_again(nodes: &[Node], plug: &Line) -> Option<usize> {
+    let first = plugged(nodes, plug, 0)?;
+    plugged(nodes, plug, first.saturating_add(1))
+}
+
+/// The place of a size.
+fn sized(spot: Spot) -> FaultPlace {
+    match spot {
+        Spot::Node(i) => FaultPlace::of(Sort::Node, i as usize),
+        Spot::Wire(i) => FaultPlace::of(Sort::Wire, i as usize),
+        Spot::Chain(i) => FaultPlace::of(Sort::Chain, i as usize),
+    }
+}
+
+/// Where the place of a fault of a blueprint is declared, if it is. `own` is the blueprint's own file.
+pub fn place_of(b: &Blueprint, own: &Line, fault: &CheckFault) -> Option<FaultPlace> {
+    let node = match fault {
+        CheckFault::TwoNames(name) => return told_again(b, name, own),
+        CheckFault::NoSuchName(name) => return used(b, name),
+        CheckFault::NoSuchPort(i)
+        | CheckFault::PortTwice(i)
+        | CheckFault::TypeClash(i, _, _)
+        | CheckFault::ClosedWalk(i) => return Some(FaultPlace::of(Sort::Wire, *i as usize)),
+        CheckFault::BadSize(spot) => return Some(sized(*spot)),
+        CheckFault::PortOpen(name, _, _) | CheckFault::TooDeep(name) => named(&b.nodes, name, 0),
+        CheckFault::NoSuchPlug(name) => plugged(&b.nodes, name, 0),
+        CheckFault::PlugTwice(name) => plugged_again(&b.nodes, name),
+    };
+    node.map(|i| FaultPlace::of(Sort::Node, i))
+}

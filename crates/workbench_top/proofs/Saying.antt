@@ -1,0 +1,46 @@
+-- Answers on a text that says a blueprint which breaks no rule.
+use Rattle.std.proofs.Common.{◌≡◌, ◌≤◌, ◌⊎◌, ◌∙◌, inl, inr, ℕ, List, [], length, sym, subst}
+use Rattle.blue_lang.proofs.Roundtrip.{canonical_says}
+use Rattle.blue_lang.specs.Blueprints.{Says}
+use Rattle.blue_lang.specs.Canonical.{canonical}
+use Rattle.blue_lang.specs.Plain.{PlainBlueprint}
+use Rattle.stream_model.specs.declared.blueprint.Blueprint.{Blueprint}
+use Rattle.workbench_draw.specs.Judging.{IsFitText}
+use Rattle.workbench_draw.specs.Drawing.{IsDrawingOf}
+use Rattle.workbench_draw.specs.Turns.{Suffices}
+use Rattle.workbench_top.specs.Answer.{Checks, Counts, DrawsFit}
+use Rattle.workbench_top.specs.Rows.{SaysRow}
+use Rattle.workbench_top.specs.declared.answer.Answer.{Answer}
+use Rattle.workbench_top.specs.declared.answer.Ending.TheVariants as ending
+
+-- nothing is said and told
+pub passes : (text file : List ℕ) (b : Blueprint) (a : Answer) → IsFitText text file b → a.ending ≡ ending.Done → a.said.items ≡ [] → a.told.items ≡ [] → Checks text file a
+passes text file b a fit done said told = inl (record { ending = done; blueprint = b; fit = fit; said = said; told = told })
+
+-- a drawing is said
+pub draws_fit : (text file drawing : List ℕ) (b : Blueprint) (a : Answer) → IsFitText text file b → a.ending ≡ ending.Done → a.said.items ≡ drawing → IsDrawingOf b drawing → DrawsFit text file a
+draws_fit text file drawing b a fit done said draws = record { ending = done; blueprint = b; fit = fit; said = subst (λ t. IsDrawingOf b t) (sym said) draws }
+
+-- the units are said
+pub says_units : (text file counts units : List ℕ) (b : Blueprint) (a : Answer) → IsFitText text file b → a.ending ≡ ending.Done → a.said.items ≡ units → Suffices b counts units → Counts text file counts a
+says_units text file counts units b a fit done said suffices = inl (record { ending = done; blueprint = b; fit = fit; said = subst (λ t. Suffices b counts t) (sym said) suffices })
+
+-- no units are said
+pub misses : (text file counts : List ℕ) (b : Blueprint) (a : Answer) → IsFitText text file b → (a.ending ≡ ending.Words) ⊎ (a.ending ≡ ending.NoMemory) → (a.ending ≡ ending.Words → a.said.items ≡ []) → Counts text file counts a
+misses text file counts b a fit ends said = elim ends [
+  | inl words ↦ inr (inl (record { ending = words; blueprint = b; fit = fit; said = said words }))
+  | inr memory ↦ inr (inr (inr memory))
+]
+
+-- the canonical text of a row's blueprint is said, and is read again as that blueprint
+pub says_row : (text said : List ℕ) (b : PlainBlueprint) (a : Answer) → Says text b → a.ending ≡ ending.Done → a.said.items ≡ said → a.told.items ≡ [] → said ≡ canonical b → length said ≤ 1048576 → SaysRow text a
+says_row text said b a says done same told is short =
+    let whole : a.said.items ≡ canonical b = same ∙ is in
+    record {
+      ending = done;
+      blueprint = b;
+      says = says;
+      said = whole;
+      told = told;
+      again = subst (λ t. Says t b) (sym whole) (canonical_says text b says (subst (λ t. length t ≤ 1048576) is short));
+    }

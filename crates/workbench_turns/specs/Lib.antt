@@ -1,3 +1,0 @@
-pub mod Carried
-pub mod Turns
-pub mod Units

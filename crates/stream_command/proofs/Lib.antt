@@ -5,3 +5,4 @@ pub mod Receipts
 pub mod Plugs
 pub mod Answering
 pub mod Types
+pub mod SinkFiles

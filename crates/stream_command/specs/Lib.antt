@@ -8,3 +8,4 @@ pub mod Answers
 pub mod Calls
 pub mod Receipts
 pub mod Heads
+pub mod Headline

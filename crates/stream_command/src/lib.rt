@@ -3,9 +3,11 @@
 //! - `answer`, `sure`, `top`: The run of a file: its blueprint is read and run, and the report is written.
 //! - `run`: The command: its words are read, files are generated where they ask for it, the file is run, and the report is written.
 //! - `laws`, `shipped_run`: The whole call with the plugs that the program ships.
+//! - `headline`: What the sinks' files hold after a call, in three short laws.
 #![tactic(auto)]
 
 mod answer;
+pub mod headline;
 pub mod laws;
 pub mod run;
 pub mod shipped_run;

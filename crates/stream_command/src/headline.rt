@@ -1,0 +1,30 @@
+// What the sinks' files hold after a call, in three short laws: each function has no body, and its contract is the law. Each follows
+// from `told` of `run_file` alone, and `run_streams` hands that on in its clause `answers`.
+ghost use Rattle.std.specs.Prelude.{◌≡◌, ◌≢◌, [], false, IsTrue};
+ghost use Rattle.blue_names.specs.Picks.{needs_picks};
+ghost use Rattle.run_report.specs.Answer.{Answer};
+ghost use Rattle.stream_io.specs.State.{FolderState};
+ghost use Rattle.stream_model.specs.declared.blueprint.Blueprint.{Blueprint};
+ghost use Rattle.stream_command.specs.Asked.{AskedRun, Plugged};
+ghost use Rattle.stream_command.specs.Headline.{WholeFiles, EndedFiles};
+ghost use Rattle.stream_command.specs.Outcome.{SaysFile, Told};
+
+use run_report::outcome::Status;
+
+/// Where a call answers Done and the folder tells its files, each sink's file holds exactly the text of the list that the blueprint's
+/// list functions give of the input files, by the plugs that were handed in and the moves that were answered.
+pub fn done_means_whole_files()
+    ensures { (p : Plugged) (a : Answer) (c : AskedRun) (old new : FolderState) → Told p a c old new → a.status ≡ Status.Done → IsTrue new.tells → WholeFiles p a.picks c old new }
+{}
+
+/// Where no kind of the blueprint chooses, the same is said without moves: the input files and the plugs alone tell the text.
+pub fn done_without_choice_means_whole_files()
+    ensures { (p : Plugged) (a : Answer) (c : AskedRun) (old new : FolderState) (b : Blueprint) → Told p a c old new → a.status ≡ Status.Done → IsTrue new.tells
+        → SaysFile old c.file b → needs_picks b.nodes.items ≡ false → WholeFiles p [] c old new }
+{}
+
+/// Whatever the status of a call that answers some sink, each sink that ended has such a file; and the file of each that failed holds
+/// the text of a first part of that list, at least as long as its outlook guarantees.
+pub fn each_end_tells_its_file()
+    ensures { (p : Plugged) (a : Answer) (c : AskedRun) (old new : FolderState) → Told p a c old new → IsTrue new.tells → a.sinks ≢ [] → EndedFiles p a c old new }
+{}

@@ -24,6 +24,8 @@ mod plug_calls;
 #[cfg(test)]
 mod plug_rows;
 #[cfg(test)]
+mod processes;
+#[cfg(test)]
 mod real_folder;
 #[cfg(test)]
 mod sure_run;

@@ -9,3 +9,4 @@ pub mod Calls
 pub mod Receipts
 pub mod Heads
 pub mod Headline
+pub mod Process

@@ -3,55 +3,25 @@
 
 mod streams;
 
-use elem_core::line::Line;
-use std::alloc::{AllocError, Global};
+use process_words::words::words_of;
 use std::process::ExitCode;
-use std::rt::Env;
-use std::{env, io};
 use stream_io::real::{DirFolder, StdConsole};
 use streams::{Input, WriterDrain};
-use workbench_top::top::run_workbench;
+use workbench_top::process::call_workbench;
 
-/// The exit code where the words cannot be read for want of memory.
-const NO_MEMORY: u8 = 9;
-
-/// The line of a word; a word that is no line is the empty line, which no command has.
-fn line_of(alloc: Global, word: &str) -> Result<Line, AllocError> {
-    let mut bytes = Vec::new(alloc);
-    if Line::can_hold(word.as_bytes()) {
-        bytes.extend_from_slice(word.as_bytes())?;
-    }
-    Ok(Line::of(bytes))
-}
-
-/// The command's words, without the program's name.
-fn words_of<R: Env + AllocGlobal>(rt: &R) -> io::Result<Vec<Line>> {
-    let mut words = Vec::new(rt.alloc());
-    let mut is_name = true;
-    for word in env::args(rt)? {
-        if !is_name {
-            words.push(line_of(rt.alloc(), word.as_str())?)?;
-        }
-        is_name = false;
-    }
-    Ok(words)
-}
-
-fn main(rt: HostRuntime) -> io::Result<ExitCode> {
-    let Ok(words) = words_of(&rt) else {
-        return Ok(ExitCode::from(NO_MEMORY));
-    };
-    let mut folder = DirFolder::new(rt.alloc(), rt.clone()?);
-    let mut console = StdConsole::new(rt.clone()?);
+fn main(rt: HostRuntime) -> ExitCode {
+    let alloc = rt.alloc();
+    let words = words_of(&rt, alloc);
     let mut input = Input::new(rt.stdin());
-    let mut told = WriterDrain::new(rt.stderr());
-    let code = run_workbench(
-        rt.alloc(),
-        &words,
+    let mut folder = DirFolder::new(alloc, rt);
+    let mut console = StdConsole::new(rt);
+    let mut faults = WriterDrain::new(rt.stderr());
+    call_workbench(
+        alloc,
+        words,
         &mut input,
         &mut folder,
         &mut console,
-        &mut told,
-    );
-    Ok(ExitCode::from(code))
+        &mut faults,
+    )
 }

@@ -2,3 +2,4 @@ pub mod Task
 pub mod Answer
 pub mod Rows
 pub mod Call
+pub mod Process

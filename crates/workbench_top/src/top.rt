@@ -144,7 +144,7 @@ fn answer_words<S: Source, F: Folder>(
 }
 
 /// Puts an answer, and gives the exit code: 8 where a write failed.
-fn put_answer<C: Drain, D: Drain>(answer: &Answer, console: &mut C, faults: &mut D) -> u8
+pub(crate) fn put_answer<C: Drain, D: Drain>(answer: &Answer, console: &mut C, faults: &mut D) -> u8
     ensures { IsAnswerPut answer.now (C.state console.old) (C.state console.new) (D.state faults.old) (D.state faults.new) result }
 {
     if put_all(console, &answer.said).is_err() || put_all(faults, &answer.told).is_err() {

@@ -1,0 +1,118 @@
+// What the programs call: the words of a process, and the exit code. The folder of a run that is done is the real one.
+ghost use Rattle.std.specs.Io.{WritesAtMost};
+
+use process_words::words::words_of;
+use std::alloc::Global;
+use std::env::FillError;
+use std::fs;
+use std::process::ExitCode;
+use std::rt::Env;
+use std::sync::Wait;
+use std::test::Fail;
+use std::thread::Threads;
+use stream_command::process::call_shipped;
+use stream_io::mem_drain::MemDrain;
+use stream_io::outside::Folder;
+use stream_io::real::DirFolder;
+
+const USAGE: &[u8] = b"usage: streams (FILE | --gen N) [--workers N] [--turns N] [--trace FILE]\n";
+
+// The words of a process that was started with them.
+#[derive(Drop)]
+struct Started<'a> {
+    words: &'a [&'a [u8]],
+}
+
+impl Env for Started<'_> {
+    fn arg(&self, i: usize, buf: &mut [u8]) -> Result<usize, FillError> {
+        let Some(word) = self.words.get(i) else {
+            return Err(FillError::NotPresent);
+        };
+        if word.len() > buf.len() {
+            return Err(FillError::TooLong);
+        }
+        buf[..word.len()].copy_from_slice(word);
+        Ok(word.len())
+    }
+
+    fn var(&self, _name: &str, _buf: &mut [u8]) -> Result<usize, FillError> {
+        Err(FillError::NotPresent)
+    }
+
+    fn var_at(&self, _i: usize, _buf: &mut [u8]) -> Result<usize, FillError> {
+        Err(FillError::NotPresent)
+    }
+}
+
+// What a process with these words says, and whether it ends with this code.
+fn says<R: Threads + Wait + Sync, F: Folder>(
+    rt: &R,
+    alloc: Global,
+    folder: &mut F,
+    words: &[&[u8]],
+    code: u8,
+) -> Result<(bool, Vec<u8>), Fail> {
+    let words = words_of(&Started { words }, alloc);
+    let mut console = MemDrain::new(alloc, Vec::new(alloc), 7, 1000)?;
+    let ended = call_shipped(rt, alloc, words, folder, &mut console);
+    Ok((
+        ended == ExitCode::from(code),
+        Vec::from_slice(alloc, console.bytes())?,
+    ))
+}
+
+#[test]
+fn words_that_are_no_text_are_no_command(rt: HostRuntime) -> Result<(), Fail> {
+    let alloc = rt.alloc();
+    let mut folder = DirFolder::new(alloc, rt.clone()?);
+    let mut long = Vec::new(alloc);
+    long.resize(65_537, b'a')?;
+    for word in [b"\xff".as_slice(), b"--trace=\xff", b"a\nb", &long] {
+        let (ended, said) = says(&rt, alloc, &mut folder, &[b"streams", word], 1)?;
+        assert!(rt; ended);
+        assert_eq!(rt; said.as_slice(), USAGE);
+    }
+    Ok(())
+}
+
+#[test]
+fn all_words_are_read(rt: HostRuntime) -> Result<(), Fail> {
+    let alloc = rt.alloc();
+    let mut long = Vec::new(alloc);
+    long.resize(1000, b'\xff')?;
+    let words = words_of(
+        &Started {
+            words: &[b"streams", b"", &long, b"--gen"],
+        },
+        alloc,
+    )?;
+    assert_eq!(rt; words.len(), 4);
+    assert_eq!(rt; words[0].as_slice(), b"streams".as_slice());
+    assert!(rt; words[1].is_empty());
+    assert_eq!(rt; words[2].as_slice(), long.as_slice());
+    assert_eq!(rt; words[3].as_slice(), b"--gen".as_slice());
+    Ok(())
+}
+
+#[test]
+fn a_generated_run_fills_the_real_folder(rt: HostRuntime) -> Result<(), Fail> {
+    let alloc = rt.alloc();
+    let mut folder = DirFolder::new(alloc, rt.clone()?);
+    let words = [b"streams".as_slice(), b"--gen", b"4"];
+    let (ended, said) = says(&rt, alloc, &mut folder, &words, 0)?;
+    assert!(rt; ended);
+    assert_eq!(rt;
+        said.as_slice(),
+        b"done\nsink even ended 2\nsink sum ended 1\n".as_slice()
+    );
+    for (name, text) in [
+        ("gen.txt", b"923\n842\n761\n680\n".as_slice()),
+        ("gen.even", b"842\n680\n"),
+        ("gen.sum", b"3206\n"),
+    ] {
+        assert_eq!(rt; fs::read(&rt, name)?.as_slice(), text);
+        fs::remove_file(&rt, name)?;
+    }
+    fs::remove_file(&rt, "gen.blue")?;
+    Ok(())
+}

@@ -4,8 +4,10 @@ use crate::plug_calls::{add, call};
 use once_cell::race::OnceBool;
 use plug_logic::plug::Plug;
 use plug_samples::meets::Meets;
-use std::sync::Arc;
+use std::alloc::Global;
+use std::sync::{Arc, Wait};
 use std::test::Fail;
+use std::thread::Threads;
 
 const APART: &str =
     "streams 1\nsource a range 1 1\nsource b range 1 1\nstage l plug left\nstage r plug right\nsink x lines x.txt\nsink y lines y.txt\nwire a.0 -> l.0\nwire b.0 -> r.0\nwire l.0 -> x.0\nwire r.0 -> y.0\n";
@@ -19,8 +21,13 @@ const BEHIND_A_FOLD: &str =
     "streams 1\nsource a range 1 3000000\nstage f fold sum\nstage c broadcast 2\nstage l plug left\nstage r plug right\nsink x lines x.txt\nsink y lines y.txt\nwire a.0 -> f.0\nwire f.0 -> c.0\nwire c.0 -> l.0 async\nwire c.1 -> r.0 async\nwire l.0 -> x.0\nwire r.0 -> y.0\n";
 
 // Whether two plugs of this blueprint meet at so many workers, each of which waits for the other.
-fn meet_in(rt: &HostRuntime, text: &str, workers: &str, line: &str) -> Result<bool, Fail> {
-    let alloc = rt.alloc();
+fn meet_in<R: Threads + Wait + Sync>(
+    rt: &R,
+    alloc: Global,
+    text: &str,
+    workers: &str,
+    line: &str,
+) -> Result<bool, Fail> {
     let left = Arc::new(alloc, OnceBool::new())?;
     let right = Arc::new(alloc, OnceBool::new())?;
     let left_met = Arc::new(alloc, OnceBool::new())?;
@@ -42,7 +49,7 @@ fn meet_in(rt: &HostRuntime, text: &str, workers: &str, line: &str) -> Result<bo
 
 #[test]
 fn two_plugs_meet(rt: HostRuntime) -> Result<(), Fail> {
-    let met = meet_in(&rt, APART, "2", "1\n")?;
+    let met = meet_in(&rt, rt.alloc(), APART, "2", "1\n")?;
     assert!(rt; met);
     Ok(())
 }
@@ -50,7 +57,7 @@ fn two_plugs_meet(rt: HostRuntime) -> Result<(), Fail> {
 #[test]
 fn two_plugs_meet_behind_lanes(rt: HostRuntime) -> Result<(), Fail> {
     for workers in ["2", "4", "64"] {
-        let met = meet_in(&rt, BEHIND_LANES, workers, "1\n")?;
+        let met = meet_in(&rt, rt.alloc(), BEHIND_LANES, workers, "1\n")?;
         assert!(rt; met);
     }
     Ok(())
@@ -59,7 +66,7 @@ fn two_plugs_meet_behind_lanes(rt: HostRuntime) -> Result<(), Fail> {
 #[test]
 fn two_plugs_meet_behind_a_fold(rt: HostRuntime) -> Result<(), Fail> {
     for workers in ["2", "64"] {
-        let met = meet_in(&rt, BEHIND_A_FOLD, workers, "4500001500000\n")?;
+        let met = meet_in(&rt, rt.alloc(), BEHIND_A_FOLD, workers, "4500001500000\n")?;
         assert!(rt; met);
     }
     Ok(())

@@ -36,7 +36,7 @@ fn sure_calls_run(rt: HostRuntime) -> Result<(), Fail> {
         Vec::new(alloc),
     );
     assert_eq!(rt; end.code, 0);
-    assert!(rt; matches!(end.status, Status::Done));
+    assert!(rt; matches!(&end.status, Status::Done));
     assert_eq!(rt; end.sinks.len(), 1);
     let sink = &end.sinks[0];
     assert_eq!(rt; sink.name.bytes(), b"out".as_slice());

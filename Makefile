@@ -1,6 +1,6 @@
 # `make help` lists the words. Nothing is needed but the Rattle kit, whose command is `rt`.
 
-.PHONY: build blueprint example proved picture test listed cases help
+.PHONY: build blueprint example proved picture test listed cases definitions help
 
 # Proves and builds ./streams. Both programs are built from the lowest crate up; what is proved is kept for `make test` too.
 build:
@@ -52,7 +52,11 @@ cases:
 	tools/example_cases >> crates/rows/data/book.txt
 	echo "$$(cat crates/rows/data/*.txt | grep -c '^case ') passed, 0 failed" > crates/rows/stdout
 
-# Compares the pages with the cases, the crates and the names that they speak of; .ci/run does so too.
+# Writes the last part of docs/DEFINITIONS.md anew, from the comments above the definitions.
+definitions:
+	tools/definitions --write
+
+# Compares the pages with the cases, the definitions, the crates and the names that they speak of; .ci/run does so too.
 listed:
 	@tools/pages_stand
 
@@ -66,3 +70,4 @@ help:
 	@echo "make picture FILE=log.blue          draws a blueprint of this folder as picture.svg, by ./blueprint and dot"
 	@echo "make test                           the gate: every proof, must-fail edit, test and program, and pages beside what they speak of"
 	@echo "make cases                          writes the cases of the pages anew; make listed compares them"
+	@echo "make definitions                    writes the rows of docs/DEFINITIONS.md anew, from the comments of specs/; make listed compares them"

@@ -55,7 +55,7 @@ use Rattle.stream_command.specs.AfterRun.{AfterRun, sink_ends, told_end, told_en
 use Rattle.stream_command.specs.Asked.{Plugged, AskedRun}
 use Rattle.stream_io.specs.Text.{text_limit, text_of_file, ReadsFile}
 use Rattle.stream_command.specs.Outcome.{taken_files, SaysFile, SaysFit, Blank, RanNothing, RanTo, FallsShort, SinksWrote, SomeCountRose, SomeWriteFailed, GaveUp, LacksInput, LacksOutput, IsAbsent, EndedRun, EndedBefore, Told, Causes, CausesBefore, QuietButAll, QuietAmong, RunCauses, SinksOf, MissesFile}
-use Rattle.stream_command.specs.Texts.{NotFit, EndedParsed, NotSaid, EndedText, AllQuiet, CausesQuiet, CausesText}
+use Rattle.stream_command.specs.Texts.{NotFit, EndedParsed, NotSaid, EndedText, AllQuiet, CausesQuiet, CausesFit, CausesParsed, CausesText}
 use Rattle.stream_io.proofs.Quiets.{tells_before, files_two, most_later}
 
 -- ---- the ends of sinks
@@ -775,14 +775,29 @@ module _ (plugged : Plugged) (a : Answer) (c : AskedRun) (old mid new : FolderSt
   told_text (inl h) = inl (not_said a.status h)
   told_text (inr h) = told_parsed h.0 h.1.0 h.1.1
 
+-- what was read since that file was, and the file itself
+reads_since : (file : List ℕ) (names : List (List ℕ)) (old mid new : List ℕ → ℕ) → ((n : List ℕ) → n ≢ file → mid n ≡ old n) → QuietButAll names mid new → QuietButAll (file ∷ names) old new
+reads_since file names old mid new same quiet n never =
+    grew_from (old n) (mid n) (new n) 0 (same n (λ e. never (0, omega arith, sym e)))
+    (quiet n (λ c. let at : c.0 < length names = c.1 in never (suc c.0, omega (arith, at), c.2)))
+
 module _ (plugged : Plugged) (old mid new : FolderState) (file t : List ℕ) (r : ReadsFile old mid file t) where
-  all_quiet : AllQuiet mid new → AllQuiet old new
-  all_quiet q = record { refusals = quiet_two _ _ _ r.refusals q.refusals; rfaults = quiet_two _ _ _ r.rfaults q.rfaults; wfaults = quiet_two _ _ _ r.wfaults q.wfaults }
+  refusals_since : AllQuiet mid new → Quiet old.refusals new.refusals
+  refusals_since q = quiet_two _ _ _ r.refusals q.refusals
+
+  rfaults_since : AllQuiet mid new → Quiet old.rfaults new.rfaults
+  rfaults_since q = quiet_two _ _ _ r.rfaults q.rfaults
+
+  wfaults_since : AllQuiet mid new → Quiet old.wfaults new.wfaults
+  wfaults_since q = quiet_two _ _ _ r.wfaults q.wfaults
+
+  only_file : AllQuiet mid new → QuietButAll (file ∷ []) old.read new.read
+  only_file q = reads_since file [] old.read mid.read new.read r.read (λ n never. q.read n)
 
   quiet_before : (s : Status) → CausesQuiet s mid new → CausesBefore s file old new
-  quiet_before (status.Refused f) h = let q = all_quiet h in (q.refusals, q.rfaults, q.wfaults)
-  quiet_before (status.Unfit f) h = let q = all_quiet h in (q.refusals, q.rfaults, q.wfaults)
-  quiet_before status.NoMemory h = let q = all_quiet h in (q.refusals, q.rfaults, q.wfaults)
+  quiet_before (status.Refused f) h = (refusals_since h, rfaults_since h, wfaults_since h, only_file h)
+  quiet_before (status.Unfit f) h = (refusals_since h, rfaults_since h, wfaults_since h, only_file h)
+  quiet_before status.NoMemory h = (refusals_since h, rfaults_since h, wfaults_since h)
   quiet_before status.Done h = absurd h
   quiet_before status.StreamFailed h = absurd h
   quiet_before status.Stalled h = absurd h
@@ -793,9 +808,15 @@ module _ (plugged : Plugged) (old mid new : FolderState) (file t : List ℕ) (r 
   quiet_before (status.Missing n) h = absurd h
 
   -- which counts the call raised
-  pub causes_text : (s : Status) (a : Answer) (trace : Option (List ℕ)) → CausesText plugged s a (taken_files file trace) trace mid new → Causes plugged s a file trace old new
+  pub causes_text : (s : Status) (a : Answer) (trace : Option (List ℕ)) → CausesText plugged s a t (taken_files file trace) trace mid new → Causes plugged s a file trace old new
   causes_text s a trace (inl h) = inl (quiet_before s h)
-  causes_text s a trace (inr h) = inr (h.0, (h.1.0, causes_later plugged old mid new file t r h.0 trace h.1.0 a s h.1.1))
+  causes_text s a trace (inr h) = inr (record {
+    blueprint = h.0;
+    says = λ tells. says_read old mid file t h.0 tells r h.1.0;
+    fit = h.1.1.fit;
+    reads = reads_since file (inputs_of_nodes h.0.nodes.items) old.read mid.read new.read r.read h.1.1.reads;
+    causes = causes_later plugged old mid new file t r h.0 trace h.1.1.fit a s h.1.1.causes;
+  })
 
 -- what is said of the counts before a run, by the status
 pub causes_before : (plugged : Plugged) (s t : Status) (a : Answer) (file : List ℕ) (trace : Option (List ℕ)) (old new : FolderState) → s ≡ t → CausesBefore t file old new → Causes plugged s a file trace old new
@@ -804,7 +825,7 @@ causes_before plugged s t a file trace old new e h = inl (subst (λ x. CausesBef
 -- ---- statuses before a run
 
 quiet_here : (s : FolderState) → AllQuiet s s
-quiet_here s = record { refusals = λ n. grew_same _ _ refl; rfaults = λ n. grew_same _ _ refl; wfaults = λ n. grew_same _ _ refl }
+quiet_here s = record { refusals = λ n. grew_same _ _ refl; rfaults = λ n. grew_same _ _ refl; wfaults = λ n. grew_same _ _ refl; read = λ n. grew_same _ _ refl }
 
 nothing_here : (s : FolderState) (a : Answer) → Blank a → RanNothing s s a
 nothing_here s a b = record { files = record { telling = refl; files = λ h n. refl }; blank = b }
@@ -819,8 +840,17 @@ pub unfit_told : (plugged : Plugged) (s : FolderState) (a : Answer) (b : Bluepri
 unfit_told plugged s a b taken trace turns f is blank first = inl (unfit_by plugged s a b taken f is blank first)
 
 -- a blueprint that was found fit is the one that was parsed
-pub causes_parsed : (plugged : Plugged) (s : Status) (a : Answer) (b c : Blueprint) (taken : List (List ℕ)) (trace : Option (List ℕ)) (old new : FolderState) → IsFit b plugged.heads taken → c ≡ b → RunCauses plugged s a c trace old new → CausesText plugged s a taken trace old new
-causes_parsed plugged s a b c taken trace old new fit same h = inr (b, (fit, subst (λ x. RunCauses plugged s a x trace old new) same h))
+pub causes_parsed : (plugged : Plugged) (s : Status) (a : Answer) (b c : Blueprint) (taken : List (List ℕ)) (trace : Option (List ℕ)) (old new : FolderState) → IsFit b plugged.heads taken → c ≡ b → QuietButAll (inputs_of_nodes c.nodes.items) old.read new.read → RunCauses plugged s a c trace old new → CausesParsed plugged s a b taken trace old new
+causes_parsed plugged s a b c taken trace old new fit same reads h = inr (record {
+  fit = fit;
+  reads = subst (λ x. QuietButAll (inputs_of_nodes x.nodes.items) old.read new.read) same reads;
+  causes = subst (λ x. RunCauses plugged s a x trace old new) same h;
+})
+
+-- it is the one that the text says
+pub causes_said : (plugged : Plugged) (s : Status) (a : Answer) (text : List ℕ) (b : Blueprint) (taken : List (List ℕ)) (trace : Option (List ℕ)) (old new : FolderState) → language.Says text (plain b) → CausesParsed plugged s a b taken trace old new → CausesText plugged s a text taken trace old new
+causes_said plugged s a text b taken trace old new says (inl h) = inl h
+causes_said plugged s a text b taken trace old new says (inr h) = inr (b, (says, h))
 
 -- the trace's file is taken, so it is none of the blueprint's
 pub apart_of : (plugged : Plugged) (b c : Blueprint) (taken : List (List ℕ)) (trace : Option (List ℕ)) → IsFit b plugged.heads taken → c ≡ b → ((t : List ℕ) → trace ≡ Some t → Contains taken t) → IsApart c trace

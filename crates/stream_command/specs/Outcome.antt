@@ -194,19 +194,28 @@ RunCauses p status.NoMemory a b trace old new = Quiet old.refusals new.refusals 
 RunCauses p status.WriteFault a b trace old new = Quiet old.refusals new.refusals × QuietButAll (inputs_of_nodes b.nodes.items) old.rfaults new.rfaults × SomeCountRose old new b trace × QuietButAll (written_files b trace) old.wfaults new.wfaults × SinksWrote p old new b a
 RunCauses p _ a b trace old new = Quiet old.refusals new.refusals × QuietButAll (inputs_of_nodes b.nodes.items) old.rfaults new.rfaults × Quiet old.wfaults new.wfaults × SinksWrote p old new b a
 
--- what a call raised before a run
+-- what a call raised before a run; where the text was refused or is unfit, no other file was read
 abbrev pub CausesBefore : Status → List ℕ → FolderState → FolderState → Type 0
 CausesBefore (status.Missing n) file old new = (n ≡ file) × IsAbsent old new n × QuietBut n old.refusals new.refusals × Quiet old.rfaults new.rfaults × Quiet old.wfaults new.wfaults
 CausesBefore status.ReadFault file old new = Quiet old.refusals new.refusals × (Rose (old.rfaults file) (new.rfaults file) × QuietBut file old.rfaults new.rfaults) × Quiet old.wfaults new.wfaults
-CausesBefore (status.Refused f) file old new = Quiet old.refusals new.refusals × Quiet old.rfaults new.rfaults × Quiet old.wfaults new.wfaults
-CausesBefore (status.Unfit f) file old new = Quiet old.refusals new.refusals × Quiet old.rfaults new.rfaults × Quiet old.wfaults new.wfaults
+CausesBefore (status.Refused f) file old new = Quiet old.refusals new.refusals × Quiet old.rfaults new.rfaults × Quiet old.wfaults new.wfaults × QuietButAll (file ∷ []) old.read new.read
+CausesBefore (status.Unfit f) file old new = Quiet old.refusals new.refusals × Quiet old.rfaults new.rfaults × Quiet old.wfaults new.wfaults × QuietButAll (file ∷ []) old.read new.read
 CausesBefore status.NoMemory file old new = Quiet old.refusals new.refusals × Quiet old.rfaults new.rfaults × Quiet old.wfaults new.wfaults
 CausesBefore _ file old new = ⊥
 
--- Which counts rose, whether the folder tells its files or not: before a run, or in the run of a blueprint that is fit where the
--- command's own file and that of the trace are taken, so that its files are other ones.
+-- A blueprint was run that is fit where the command's own file and that of the trace are taken, so that its files are other ones. It is
+-- the one that the command's file says, wherever the folder told its files before. No file was read but the command's and those that
+-- its sources name, and the run raised these counts.
+pub record CausedRun (p : Plugged) (s : Status) (a : Answer) (file : List ℕ) (trace : Option (List ℕ)) (old new : FolderState) : Type 0 where
+  pub blueprint : Blueprint
+  pub says : IsTrue old.tells → SaysFile old file blueprint
+  pub fit : IsFit blueprint p.heads (taken_files file trace)
+  pub reads : QuietButAll (file ∷ inputs_of_nodes blueprint.nodes.items) old.read new.read
+  pub causes : RunCauses p s a blueprint trace old new
+
+-- Which counts rose, whether the folder tells its files or not: before a run, or in the run of a blueprint.
 abbrev pub Causes : Plugged → Status → Answer → List ℕ → Option (List ℕ) → FolderState → FolderState → Type 0
-Causes p s a file trace old new = CausesBefore s file old new ⊎ ((b : Blueprint) × (IsFit b p.heads (taken_files file trace) × RunCauses p s a b trace old new))
+Causes p s a file trace old new = CausesBefore s file old new ⊎ CausedRun p s a file trace old new
 
 -- what a status comes with; only where a trace is wanted a failed write may be no sink's
 abbrev pub SinksOf : Status → Answer → Option (List ℕ) → Type 0

@@ -9,7 +9,8 @@ use Rattle.stream_io.specs.Quiet.{Quiet}
 use Rattle.run_report.specs.Answer.{Answer}
 use Rattle.run_report.specs.declared.outcome.Status.{Status}
 use Rattle.run_report.specs.declared.outcome.Status.TheVariants as status
-use Rattle.stream_command.specs.Outcome.{RanNothing, EndedRun, RunCauses}
+use Rattle.materializer.specs.Files.{inputs_of_nodes}
+use Rattle.stream_command.specs.Outcome.{RanNothing, EndedRun, RunCauses, QuietButAll}
 use Rattle.stream_command.specs.Asked.{Plugged}
 
 -- a blueprint that is not fit, or memory was wanting
@@ -31,11 +32,12 @@ NotSaid _ a text old new = ⊥
 abbrev pub EndedText : Plugged → Status → Answer → List ℕ → List (List ℕ) → Option (List ℕ) → ℕ → FolderState → FolderState → Type 0
 EndedText p s a text taken trace turns old new = NotSaid s a text old new ⊎ ((b : Blueprint) × (language.Says text (plain b) × EndedParsed p s a b taken trace turns old new))
 
--- no count rose
+-- no count rose, and nothing was read
 pub record AllQuiet (old new : FolderState) : Type 0 where
   pub refusals : Quiet old.refusals new.refusals
   pub rfaults : Quiet old.rfaults new.rfaults
   pub wfaults : Quiet old.wfaults new.wfaults
+  pub read : Quiet old.read new.read
 
 -- the statuses of calls that read their text and ran nothing
 abbrev pub CausesQuiet : Status → FolderState → FolderState → Type 0
@@ -44,6 +46,15 @@ CausesQuiet (status.Unfit f) old new = AllQuiet old new
 CausesQuiet status.NoMemory old new = AllQuiet old new
 CausesQuiet _ old new = ⊥
 
--- which counts rose
-abbrev pub CausesText : Plugged → Status → Answer → List (List ℕ) → Option (List ℕ) → FolderState → FolderState → Type 0
-CausesText p s a taken trace old new = CausesQuiet s old new ⊎ ((b : Blueprint) × (IsFit b p.heads taken × RunCauses p s a b trace old new))
+-- the blueprint was run, which is fit where these files are taken; of its inputs alone more was read, and these counts rose
+pub record CausesFit (p : Plugged) (s : Status) (a : Answer) (b : Blueprint) (taken : List (List ℕ)) (trace : Option (List ℕ)) (old new : FolderState) : Type 0 where
+  pub fit : IsFit b p.heads taken
+  pub reads : QuietButAll (inputs_of_nodes b.nodes.items) old.read new.read
+  pub causes : RunCauses p s a b trace old new
+
+-- which counts rose, of a blueprint and of a text
+abbrev pub CausesParsed : Plugged → Status → Answer → Blueprint → List (List ℕ) → Option (List ℕ) → FolderState → FolderState → Type 0
+CausesParsed p s a b taken trace old new = CausesQuiet s old new ⊎ CausesFit p s a b taken trace old new
+
+abbrev pub CausesText : Plugged → Status → Answer → List ℕ → List (List ℕ) → Option (List ℕ) → FolderState → FolderState → Type 0
+CausesText p s a text taken trace old new = CausesQuiet s old new ⊎ ((b : Blueprint) × (language.Says text (plain b) × CausesFit p s a b taken trace old new))

@@ -16,7 +16,7 @@ ghost use Rattle.stream_command.specs.Outcome.{taken_files, Blank, EndedRun, Tol
 ghost use Rattle.stream_io.specs.Text.{text_limit};
 ghost use Rattle.run_blueprint.specs.Receipt.{HasIslands};
 ghost use Rattle.stream_command.specs.RunReceipts.{Receipts, RanIslands, RanText, RanFile};
-ghost use Rattle.stream_command.specs.Texts.{EndedParsed, EndedText, CausesText};
+ghost use Rattle.stream_command.specs.Texts.{EndedParsed, EndedText, CausesParsed, CausesText};
 ghost use Rattle.materializer.specs.HandedPlugs.{GivesAsListed, HasPlugs};
 ghost use Rattle.stream_command.specs.Asked.{plugged_by};
 
@@ -305,7 +305,7 @@ fn run_parsed<R: Threads + Wait + Sync, F: Folder, L: Logic + Send, B: PlugBook 
     requires turns { turns ≤ MOST_COUNT }
     ensures told { IsTrue (F.state folder.old).tells → EndedParsed (plugged_by B.lists plugs.items) result.status (of_outcome result) b taken.now trace turns (F.state folder.old) (F.state folder.new) }
     ensures tells { IsTrue (F.state folder.new).tells → IsTrue (F.state folder.old).tells }
-    ensures causes { CausesText (plugged_by B.lists plugs.items) result.status (of_outcome result) taken.now trace (F.state folder.old) (F.state folder.new) }
+    ensures causes { CausesParsed (plugged_by B.lists plugs.items) result.status (of_outcome result) b taken.now trace (F.state folder.old) (F.state folder.new) }
     ensures sinks { SinksOf result.status (of_outcome result) trace }
     ensures detail { result.detail.items ≡ detail_of result.status }
     ensures reads { QuietAmong taken.now (F.state folder.old).read (F.state folder.new).read }
@@ -343,7 +343,7 @@ fn run_text<R: Threads + Wait + Sync, F: Folder, L: Logic + Send, B: PlugBook + 
     requires turns { turns ≤ MOST_COUNT }
     ensures told { IsTrue (F.state folder.old).tells → EndedText (plugged_by B.lists plugs.items) result.status (of_outcome result) text.now taken.now trace turns (F.state folder.old) (F.state folder.new) }
     ensures tells { IsTrue (F.state folder.new).tells → IsTrue (F.state folder.old).tells }
-    ensures causes { CausesText (plugged_by B.lists plugs.items) result.status (of_outcome result) taken.now trace (F.state folder.old) (F.state folder.new) }
+    ensures causes { CausesText (plugged_by B.lists plugs.items) result.status (of_outcome result) text.now taken.now trace (F.state folder.old) (F.state folder.new) }
     ensures sinks { SinksOf result.status (of_outcome result) trace }
     ensures detail { result.detail.items ≡ detail_of result.status }
     ensures reads { QuietAmong taken.now (F.state folder.old).read (F.state folder.new).read }

@@ -43,7 +43,8 @@ returns-in-Ok-read_file-clause-causes g c =
     let trace = option_copied c.args.trace in
     let taken = c.deref-in-Ok-read_file.ensures.value ∙ c.in-Ok.ensures.taken in
     causes_text plugged (g.F.Folder.state c.args.folder.now) mid new c.args.file.now c.in-Ok-read_file.text.items c.in-Ok-read_file.ensures.ok s a trace
-    (subst (λ y. CausesText plugged s a y trace mid new) taken (subst (λ z. CausesText plugged s a c.deref-in-Ok-read_file.result.now z mid new) c.in-Ok.ensures.trace c.run_text.ensures.causes))
+    (subst (λ x. CausesText plugged s a x (taken_files c.args.file.now trace) trace mid new) c.deref.ensures.value
+    (subst (λ y. CausesText plugged s a c.deref.result.now y trace mid new) taken (subst (λ z. CausesText plugged s a c.deref.result.now c.deref-in-Ok-read_file.result.now z mid new) c.in-Ok.ensures.trace c.run_text.ensures.causes)))
 
 pub returns-in-Ok-read_file-clause-sinks : goal.returns-in-Ok-read_file-clause-sinks
 returns-in-Ok-read_file-clause-sinks g c = sinks_text c.run_text.result.status (of_outcome c.run_text.result) _ _ c.in-Ok.ensures.trace c.run_text.ensures.sinks

@@ -3,6 +3,8 @@ use Rattle.std.proofs.Common.{◌≡◌, ◌≢◌, ℕ, ◌<◌, ◌⊎◌, inl
 use Rattle.std.specs.Prelude.{slice_get}
 use Rattle.elem_core.specs.Tree.{Tree, text}
 use Rattle.elem_core.specs.Items.{elements}
+use Rattle.elem_core.specs.Prefix.{IsPrefix}
+use Rattle.elem_core.proofs.Prefixes.{prefix_refl}
 use Rattle.elem_core.specs.declared.item.Item.{Item}
 use Rattle.stream_model.specs.declared.kind.Kind.{Kind}
 use Rattle.stream_model.specs.declared.kind.Kind.TheVariants.{Lines}
@@ -16,7 +18,7 @@ use Rattle.stream_model.specs.Outlook.{Outlook, End}
 use Rattle.stream_model.proofs.Compositions.{slice_get-below}
 use Rattle.stage_core.specs.Held.{told}
 use Rattle.stream_model.specs.Shape.{sent_at}
-use Rattle.run_laws.specs.Items.{list_of, end_of_items, AgreesWith}
+use Rattle.run_laws.specs.Items.{list_of, end_of_items, AgreesWith, WithinOutlook}
 use Rattle.run_laws.specs.Reads.{GivesTexts}
 use Rattle.run_laws.proofs.Coming.{elements_told}
 use Rattle.run_laws.proofs.Histories.{list_of_told, standing_told}
@@ -46,8 +48,11 @@ pub record IsTold (items : List Item) : Type 0 where
   is : items ≡ told list end
 
 -- as all that may pass
-agrees_exactly : (items : List Item) → IsTold items → AgreesWith (exact (list_of items) (end_of_items items)) items
+pub agrees_exactly : (items : List Item) → IsTold items → AgreesWith (exact (list_of items) (end_of_items items)) items
 agrees_exactly items t = record { list = t.list; end = t.end; is = t.is; agrees = rw (t.is, list_of_told t.list t.end, standing_told t.list t.end) (exact_agrees t.list t.end) }
+
+pub passes_exactly : (items : List Item) → IsTold items → WithinOutlook (exact (list_of items) (end_of_items items)) items
+passes_exactly items t = record { list = t.list; end = t.end; is = t.is; part = subst (IsPrefix t.list) (sym (ap list_of t.is ∙ list_of_told t.list t.end)) (prefix_refl t.list) }
 
 -- a source of lines, or none
 is_lines : (k : Kind) → ((name : List ℕ) × (k ≡ Lines name)) ⊎ ((name : List ℕ) → k ≢ Lines name)
@@ -90,13 +95,13 @@ module _ (book : Book) (b : Blueprint) (wires : List WireCount) (picks : List Pi
   abbrev ends : ℕ → End
   ends u = end_of_items (items u)
 
-  counted : (i : ℕ) (v : Edge) → slice_get (blueprint_wires b) i ≡ Some v → sent_at wires i ≡ length (lists i)
+  pub counted : (i : ℕ) (v : Edge) → slice_get (blueprint_wires b) i ≡ Some v → sent_at wires i ≡ length (lists i)
   counted i v at =
       let s = told_there i v at in
       let list : lists i ≡ s.list = ap list_of s.is ∙ list_of_told s.list s.end in
       counts i v at ∙ ap elements s.is ∙ elements_told s.list s.end ∙ ap length (sym list)
 
-  pub carries : WiresCarry book b wires picks
+  abbrev pub carries : WiresCarry book b wires picks
   carries = record {
     lists = lists;
     ends = ends;

@@ -60,9 +60,9 @@ use Rattle.stream_io.specs.Names.{drain_names}
 use Rattle.run_blueprint.specs.Checked.{PassesRules}
 use Rattle.run_blueprint.specs.Plugs.{KeepsPlugTypes}
 use Rattle.run_blueprint.specs.Sent.{SendsItsType}
-use Rattle.run_blueprint.specs.Carrying.{WiresCarry}
+use Rattle.run_blueprint.specs.Carrying.{WiresCarry, PictureStands, as_passed}
 use Rattle.run_blueprint.specs.Choosing.{picked}
-use Rattle.run_blueprint.proofs.Carried.{unread, told_sent, carries}
+use Rattle.run_blueprint.proofs.Carried.{IsTold, unread, passes_exactly, told_sent, carries}
 use Rattle.run_blueprint.specs.Drawing.{Drawn, IsSource, WasRead, IsWorldOf, DrawsFirst}
 use Rattle.island_runs.specs.Leaving.{Moment, RunLeaves, HasAsMany}
 use Rattle.run_blueprint.specs.Opening.{Opens}
@@ -222,6 +222,14 @@ module _ {S D : Type 0} (L B : Type 0) (sources : S → SourceState) (drains : D
   RestsLaw = (g : Graph) (w : World) (rank : ℕ → ℕ) (a : Account (IslandNode S D L B)) → IsRun sources drains w.book g a → IsStill g a
       → WorldTells sources g w a → IsRanked g rank → Rests g w (pictures.picture_counts a g) (composed g w)
 
+  abbrev LawfulByLaw : Type 0
+  LawfulByLaw = (g : Graph) (w : World) (a : Account (IslandNode S D L B)) (outlook : ℕ → Outlook) → IsRun sources drains w.book g a → AreSettled g a → TellsPicks w a
+      → pictures.AllPass a g outlook → IsLawful g w (pictures.picture_counts a g) outlook
+
+  abbrev RestsByLaw : Type 0
+  RestsByLaw = (g : Graph) (w : World) (a : Account (IslandNode S D L B)) (outlook : ℕ → Outlook) → IsRun sources drains w.book g a → IsStill g a → TellsPicks w a
+      → pictures.AllPass a g outlook → Rests g w (pictures.picture_counts a g) outlook
+
   abbrev MovesLaw : Type 0
   MovesLaw = (g : Graph) (w : World) (rank : ℕ → ℕ) (a : Account (IslandNode S D L B)) → IsRun sources drains w.book g a → AreSettled g a
       → WorldTells sources g w a → IsRanked g rank → Fits g w
@@ -273,7 +281,9 @@ module _ {S D : Type 0} (L B : Type 0) (sources : S → SourceState) (drains : D
     pub rest : RestLaw
     pub reads : ReadsLaw
     pub lawful : LawfulLaw
+    pub lawful_by : LawfulByLaw
     pub rests : RestsLaw
+    pub rests_by : RestsByLaw
     pub moves : MovesLaw
     pub match : MatchLaw
     pub ignorer : IgnorerThere
@@ -413,6 +423,88 @@ module _ {S D L B : Type 0} (sources : S → SourceState) (drains : D → DrainS
   abbrev drawn : Drawn
   drawn = drawn_of sources left last
 
+  -- what the nodes chose
+  abbrev moved : ℕ → List ℕ
+  moved = made_moves sources drains book handles b can ss ds left last between old mid opens
+
+  -- a world with these moves tells what the stages chose
+  told_moves : TellsPicks (unread book moved) left
+  told_moves = chosen_told book (unread book moved).file left
+
+  -- what was sent on each wire is a list, and how it stands
+  sent_list : (i : ℕ) (v : Edge) → slice_get (blueprint_wires b) i ≡ Some v → IsTold (left.near i).wire.sent
+  sent_list i v at =
+      let ranks = laws.ranked b can.plugs can.taken can.fit in
+      told_sent g ranks.0 ranks.1 (unread book moved) (λ u. (left.near u).wire.sent) (λ k x here. let n = run.joined.source k x here in (n.0, n.1)) (laws.texts g left run) (laws.gives g (unread book moved) left run told_moves) i v at
+
+  -- it is of its type where the plugs keep to theirs
+  abbrev carried : WiresCarry book b st.wires.items drawn.picks
+  carried =
+      carries book b st.wires.items drawn.picks moved (λ u. (left.near u).wire.sent) wire_count_at sent_list
+      (λ plugs taken fit keeps i v at.
+      let by = laws.ranked b plugs taken fit in
+      laws.types plugs b.chains.items nodes g (unread book moved) by.0 left run told_moves (laws.fits b plugs taken g fit refl refl refl) keeps by.1 i v at)
+      (λ w is has sent j v n at from other came. laws.gives g w left (run_at w is) (picks_told sources drains book handles b can ss ds left last between old mid opens w has) sent j v n at from other came)
+
+  -- the picture of the run
+  abbrev picture : List WireCount
+  picture = pictures.picture_counts left g
+
+  all_pass : pictures.AllPass left g (as_passed carried)
+  all_pass u below = let v = place_of (blueprint_wires b) u below in passes_exactly (left.near u).wire.sent (sent_list u v.0 v.1)
+
+  picture_wired : IsWired g picture
+  picture_wired =
+      let joined = run.joined in
+      record {
+        target = joined.target;
+        source = joined.source;
+        counted = λ i v at.
+            let within : i < length (blueprint_wires b) = place_within (blueprint_wires b) i v at in
+            let count : length picture ≡ length (blueprint_wires b) = counts_many left 0 (blueprint_wires b) in
+            place_of picture i (omega (arith, within, count));
+      }
+
+  -- a sink's input is shut exactly where the sink has ended
+  matched : IsTrue st.at_rest → (w : World) (outlook : ℕ → Outlook) → SinksMatch g w st.wires.items outlook (has_ended_at st.end.sinks.items)
+  matched rest w outlook k n at is =
+      let m = unmapped_at graph_node nodes k n at in
+      let shape : oneway.is_sink m.0.kind ≡ true = ap (λ (x : graph.Node). oneway.is_sink x.kind) (sym m.1.1) ∙ is in
+      let below : k < length last = subst (λ j. k < j) (as_many sources drains book handles b ss ds left last between old mid opens) (place_within nodes k m.0 m.1.0) in
+      let x = place_of last k below in
+      let stand = stand_there k (is_sink m.0) (stand_in x.0) (profile k m.0 x.0 m.1.0 x.1).stand (sink_shape m.0.kind shape) in
+      let by_place : has_ended_at (filter_map stand_in last) k ≡ has_ended stand.0.2 =
+      ended_along 0 nodes last (as_many sources drains book handles b ss ds left last between old mid opens) (λ i y z p q. subst (λ j. StandsAt j (is_sink y) (stand_in z)) (omega arith) (profile i y z p q).stand) k k x.0 stand.0 (omega arith) x.1 stand.1.0 in
+      let ended : ended_there (left.nodes k) ≡ has_ended_at st.end.sinks.items k =
+      ended_as (left.nodes k) x.0 stand.0 (between.node_at k ∙ x.1) stand.1.0 ∙ sym by_place ∙ ap (λ (y : List SinkStand). has_ended_at y k) (sym (l.sinks ∙ sinks_filtered last)) in
+      subst (λ (c : List WireCount). EachWire (λ i. i.shut ≡ has_ended_at st.end.sinks.items k) (ins g c outlook k n.kind)) (sym wires_are)
+      (subst (λ (e : Bool). EachWire (λ i. i.shut ≡ e) (ins g picture outlook k n.kind)) ended
+      (laws.match g w left outlook run (still rest) k n at is))
+
+  -- in a polytree every sink has ended where no event was left
+  ending : IsPolytree (wiring (blueprint_wires b)) → IsTrue st.at_rest → list_any (λ (s : SinkStand). is_unended s.2) st.end.sinks.items ≡ false
+  ending tree rest =
+      none_unended st.end.sinks.items (λ i s at.
+      let h = sink_here i s at in
+      let n : slice_get g.nodes h.is.to ≡ Some (graph_node h.node) = subst (λ j. slice_get g.nodes j ≡ Some (graph_node h.node)) (sym h.to) (mapped_at graph_node nodes s.0 h.node h.at) in
+      let over : ended_there (left.nodes h.is.to) ≡ true =
+      laws.trees g (unread book moved) picture (as_passed carried) picture_wired (laws.rests_by g (unread book moved) left (as_passed carried) run (still rest) told_moves all_pass) (tree_by_wires g tree)
+      (λ k. ended_there (left.nodes k)) (laws.match g (unread book moved) left (as_passed carried) run (still rest)) h.wire h.is (graph_node h.node) h.there n h.shape in
+      ended_goes s.2 (sym h.ended ∙ ap (λ (k : ℕ). ended_there (left.nodes k)) (sym h.to) ∙ over))
+
+  -- the picture by what passed
+  pictured : PictureStands book b st.end.sinks.items drawn.picks st.wires.items st.at_rest
+  pictured = record {
+    carries = carried;
+    lawful = λ w is has.
+        subst (λ (c : List WireCount). IsLawful g w c (as_passed carried)) (sym wires_are)
+        (laws.lawful_by g w left (as_passed carried) (run_at w is) settled (picks_told sources drains book handles b can ss ds left last between old mid opens w has) all_pass);
+    rest = λ rest w is has.
+        subst (λ (c : List WireCount). Rests g w c (as_passed carried)) (sym wires_are)
+        (laws.rests_by g w left (as_passed carried) (run_at w is) (still rest) (picks_told sources drains book handles b can ss ds left last between old mid opens w has) all_pass);
+    matching = λ rest w. matched rest w (as_passed carried);
+  }
+
   -- the stand of a sink of lines, by its place among the stands
   stand_of : (i : ℕ) (s : SinkStand) (n : blue.Node) (file : List ℕ) → slice_get st.end.sinks.items i ≡ Some s → slice_get nodes s.0 ≡ Some n → output_of n.kind ≡ Some file → (f : ASink s.0 file) × (s ≡ (s.0, f.now.count, f.now.end))
   stand_of i s n file at here shape =
@@ -506,34 +598,6 @@ module _ {S D L B : Type 0} (sources : S → SourceState) (drains : D → DrainS
               (ignorer_told sources drains book g left run u v wire w (sent_agrees u v wire w is_world) s.0 (graph_node n) at_graph shape to there.0 now there.1.1));
         }
 
-    -- the picture of the run
-    abbrev picture : List WireCount
-    picture = pictures.picture_counts left g
-
-    picture_wired : IsWired g picture
-    picture_wired =
-        let joined = run.joined in
-        record {
-          target = joined.target;
-          source = joined.source;
-          counted = λ i v at.
-              let within : i < length (blueprint_wires b) = place_within (blueprint_wires b) i v at in
-              let count : length picture ≡ length (blueprint_wires b) = counts_many left 0 (blueprint_wires b) in
-              place_of picture i (omega (arith, within, count));
-        }
-
-    -- in a polytree every sink has ended where no event was left
-    ending : IsPolytree (wiring (blueprint_wires b)) → IsTrue st.at_rest → list_any (λ (s : SinkStand). is_unended s.2) st.end.sinks.items ≡ false
-    ending tree rest =
-        let ranked = laws.ranked b can.plugs can.taken can.fit in
-        none_unended st.end.sinks.items (λ i s at.
-        let h = sink_here i s at in
-        let n : slice_get g.nodes h.is.to ≡ Some (graph_node h.node) = subst (λ j. slice_get g.nodes j ≡ Some (graph_node h.node)) (sym h.to) (mapped_at graph_node nodes s.0 h.node h.at) in
-        let over : ended_there (left.nodes h.is.to) ≡ true =
-        laws.trees g world picture (composed g world) picture_wired (laws.rests g world ranked.0 left (run_at world has_files.book_is) (still rest) (world_tells world has_files) ranked.1) (tree_by_wires g tree)
-        (λ k. ended_there (left.nodes k)) (laws.match g world left (composed g world) run (still rest)) h.wire h.is (graph_node h.node) h.there n h.shape in
-        ended_goes s.2 (sym h.ended ∙ ap (λ (k : ℕ). ended_there (left.nodes k)) (sym h.to) ∙ over))
-
     needed : (w : World) → IsWorldOf book nodes drawn w → count_needed g st.wires.items ≤ need g (composed g w)
     needed w is =
         need_more (blueprint_wires b) 0 (sent_at st.wires.items) (λ i. length (composed g w i).list) (λ k lt.
@@ -568,19 +632,7 @@ module _ {S D L B : Type 0} (sources : S → SourceState) (drains : D → DrainS
               rw (d.drawn_bytes, d.given, d.faulted) told;
           lawful = λ w is. subst (λ (c : List WireCount). IsLawful g w c (composed g w)) (sym wires_are) (laws.lawful g w ranked.0 left (run_at w is.book_is) settled (world_tells w is) ranked.1);
           rest = λ rest w is. subst (λ (c : List WireCount). Rests g w c (composed g w)) (sym wires_are) (laws.rests g w ranked.0 left (run_at w is.book_is) (still rest) (world_tells w is) ranked.1);
-          matching = λ rest w k n at is.
-              let m = unmapped_at graph_node nodes k n at in
-              let shape : oneway.is_sink m.0.kind ≡ true = ap (λ (x : graph.Node). oneway.is_sink x.kind) (sym m.1.1) ∙ is in
-              let below : k < length last = subst (λ j. k < j) (as_many sources drains book handles b ss ds left last between old mid opens) (place_within nodes k m.0 m.1.0) in
-              let x = place_of last k below in
-              let stand = stand_there k (is_sink m.0) (stand_in x.0) (profile k m.0 x.0 m.1.0 x.1).stand (sink_shape m.0.kind shape) in
-              let by_place : has_ended_at (filter_map stand_in last) k ≡ has_ended stand.0.2 =
-              ended_along 0 nodes last (as_many sources drains book handles b ss ds left last between old mid opens) (λ i y z p q. subst (λ j. StandsAt j (is_sink y) (stand_in z)) (omega arith) (profile i y z p q).stand) k k x.0 stand.0 (omega arith) x.1 stand.1.0 in
-              let ended : ended_there (left.nodes k) ≡ has_ended_at st.end.sinks.items k =
-              ended_as (left.nodes k) x.0 stand.0 (between.node_at k ∙ x.1) stand.1.0 ∙ sym by_place ∙ ap (λ (y : List SinkStand). has_ended_at y k) (sym (l.sinks ∙ sinks_filtered last)) in
-              subst (λ (c : List WireCount). EachWire (λ i. i.shut ≡ has_ended_at st.end.sinks.items k) (ins g c (composed g w) k n.kind)) (sym wires_are)
-              (subst (λ (e : Bool). EachWire (λ i. i.shut ≡ e) (ins g (pictures.picture_counts left g) (composed g w) k n.kind)) ended
-              (laws.match g w left (composed g w) run (still rest) k n at is));
+          matching = λ rest w. matched rest w (composed g w);
         }
 
   calm_output : ((i : ℕ) (s : SinkStand) → slice_get st.end.sinks.items i ≡ Some s → is_write_fault s.2 ≡ false) → (n : List ℕ) → Contains (outputs_of_nodes nodes) n → Grew (old.wfaults n) 0 (new.wfaults n)
@@ -611,22 +663,6 @@ module _ {S D L B : Type 0} (sources : S → SourceState) (drains : D → DrainS
     | inl c ↦ (calm_output none n c)
     | inr never ↦ (calm_other calm n never)
   ]
-
-  -- what the nodes chose
-  abbrev moved : ℕ → List ℕ
-  moved = made_moves sources drains book handles b can ss ds left last between old mid opens
-
-  -- what passed each wire is a list, of its type where the plugs keep to theirs
-  carried : WiresCarry book b st.wires.items drawn.picks
-  carried =
-      let ranks = laws.ranked b can.plugs can.taken can.fit in
-      let chosen = chosen_told book (unread book moved).file left in
-      carries book b st.wires.items drawn.picks moved (λ u. (left.near u).wire.sent) wire_count_at
-      (told_sent g ranks.0 ranks.1 (unread book moved) (λ u. (left.near u).wire.sent) (λ i v at. let n = run.joined.source i v at in (n.0, n.1)) (laws.texts g left run) (laws.gives g (unread book moved) left run chosen))
-      (λ plugs taken fit keeps i v at.
-      let by = laws.ranked b plugs taken fit in
-      laws.types plugs b.chains.items nodes g (unread book moved) by.0 left run chosen (laws.fits b plugs taken g fit refl refl refl) keeps by.1 i v at)
-      (λ w is has sent j v n at from other came. laws.gives g w left (run_at w is) (picks_told sources drains book handles b can ss ds left last between old mid opens w has) sent j v n at from other came)
 
   -- the trace, as it was left where none of the sinks' drains has its name
   abbrev Traced : RunResult → Type 0
@@ -673,6 +709,7 @@ module _ {S D L B : Type 0} (sources : S → SourceState) (drains : D → DrainS
     within = rw used l.within;
     spent = λ h. used ∙ l.spent (sym rest ∙ h);
     pays = rw (wires, used) pays;
-    carries = rw (wires, chosen, l.picks) carried;
+    picture = rw (sinks, wires, chosen, l.picks, rest) pictured;
+    ending = rw (sinks, rest) ending;
     wired = λ some. sinks_wired (subst (λ (x : List SinkStand). 1 ≤ length x) sinks some);
   }

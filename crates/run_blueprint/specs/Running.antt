@@ -27,7 +27,7 @@ use Rattle.materializer.specs.Files.{output_of, inputs_of_nodes, outputs_of_node
 use Rattle.stream_io.specs.Quiet.{Quiet}
 use Rattle.stream_io.specs.Opening.{GivesUp}
 use Rattle.interpreter.specs.Picks.{Pick, pick_of}
-use Rattle.run_blueprint.specs.Carrying.{WiresCarry}
+use Rattle.run_blueprint.specs.Carrying.{PictureStands}
 use Rattle.run_blueprint.specs.Choosing.{pick_places, picked}
 use Rattle.run_blueprint.specs.Drawing.{Drawn, IsSource, WasRead, WereRead, IsWorldOf, DrawsFirst}
 use Rattle.run_blueprint.specs.Sending.{SentOn}
@@ -97,7 +97,8 @@ pub record SomeWriteRose (old new : FolderState) (b : Blueprint) : Type 0 where
 
 -- What is told of a run where the folder told its files before it, and how its counts rose. There is a list of moves for each
 -- stage whose kind chooses, in order of nodes, and no other; the trace's file, where one is wanted, holds the text of these moves, or
--- a first part where a write to it failed.
+-- a first part where a write to it failed. Whatever the folder tells, the units are within the budget and pay for what passed, the picture
+-- stands by what passed, and where no event was left every sink of a polytree has ended.
 pub record Runs (book : Book) (old new : FolderState) (b : Blueprint) (trace : Option (List ℕ)) (budget : ℕ) (ran : RunResult) : Type 0 where
   pub sinks_are : map (λ (s : SinkStand). s.0) ran.sinks.items ≡ sink_places 0 b.nodes.items
   pub picks_are : picked (map pick_of ran.picks.items) ≡ pick_places 0 b.nodes.items
@@ -114,7 +115,8 @@ pub record Runs (book : Book) (old new : FolderState) (b : Blueprint) (trace : O
   pub within : ran.used ≤ budget
   pub spent : ran.at_rest ≡ false → ran.used ≡ budget
   pub pays : Pays b ran.wires.items ran.used
-  pub carries : WiresCarry book b ran.wires.items (map pick_of ran.picks.items)
+  pub picture : PictureStands book b ran.sinks.items (map pick_of ran.picks.items) ran.wires.items ran.at_rest
+  pub ending : IsPolytree (wiring (blueprint_wires b)) → IsTrue ran.at_rest → list_any (λ s. is_unended s.2) ran.sinks.items ≡ false
   pub wired : 1 ≤ length ran.sinks.items → 1 ≤ length (blueprint_wires b)
 
 -- A source of a run in which memory was wanting: its file was there with these bytes, so many of them were read, and at most one

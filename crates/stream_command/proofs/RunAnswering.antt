@@ -11,6 +11,7 @@ use Rattle.blue_words.specs.declared.fault.BlueKind.TheVariants.{TooLong}
 use Rattle.stream_model.specs.declared.outcome.WireCount.{WireCount}
 use Rattle.stream_model.specs.declared.outcome.EndState.{EndState}
 use Rattle.stream_model.specs.declared.outcome.EndState.TheVariants as state
+use Rattle.stream_model.specs.Linear.{Book}
 use Rattle.stream_model.specs.Node.{World}
 use Rattle.stream_model.specs.Outlook.{Outlook, Entry, failed, Allows, Agrees}
 use Rattle.elem_core.specs.Tree.{Tree}
@@ -34,7 +35,7 @@ use Rattle.materializer.specs.Files.{source_file, output_of, is_sink, sinks_of_n
 use Rattle.stream_io.specs.Quiet.{Quiet, QuietBut}
 use Rattle.stream_io.specs.Opening.{MissesInput, RefusesOutput, Empties}
 use Rattle.interpreter.specs.Picks.{Pick, pick_of}
-use Rattle.run_blueprint.specs.Carrying.{WiresCarry}
+use Rattle.run_blueprint.specs.Carrying.{WiresCarry, PictureStands}
 use Rattle.run_blueprint.specs.Choosing.{pick_places, picked}
 use Rattle.run_blueprint.specs.Drawing.{Drawn, IsSource, WasRead, IsWorldOf}
 use Rattle.run_blueprint.specs.Stands.{SinkStand, sink_places, is_write_fault, is_unended, is_failed}
@@ -54,7 +55,7 @@ use Rattle.run_report.specs.declared.outcome.Status.TheVariants as status
 use Rattle.stream_command.specs.AfterRun.{AfterRun, sink_ends, told_end, told_ends, is_ended, all_ended, some_failed, some_unended, some_fault, is_stalled, no_event_left}
 use Rattle.stream_command.specs.Asked.{Plugged, AskedRun}
 use Rattle.stream_io.specs.Text.{text_limit, text_of_file, ReadsFile}
-use Rattle.stream_command.specs.Outcome.{taken_files, SaysFile, SaysFit, Blank, RanNothing, RanTo, FallsShort, SinksWrote, SomeCountRose, SomeWriteFailed, GaveUp, LacksInput, LacksOutput, IsAbsent, EndedRun, EndedBefore, Told, Causes, CausesBefore, QuietButAll, QuietAmong, RunCauses, SinksOf, MissesFile}
+use Rattle.stream_command.specs.Outcome.{taken_files, SaysFile, SaysFit, Blank, RanNothing, RanTo, FallsShort, SinksWrote, UsedUp, SomeCountRose, SomeWriteFailed, GaveUp, LacksInput, LacksOutput, IsAbsent, EndedRun, EndedBefore, Told, Causes, CausesBefore, QuietButAll, QuietAmong, RunCauses, SinksOf, MissesFile}
 use Rattle.stream_command.specs.Texts.{NotFit, EndedParsed, NotSaid, EndedText, AllQuiet, CausesQuiet, CausesFit, CausesParsed, CausesText}
 use Rattle.stream_io.proofs.Quiets.{tells_before, files_two, most_later}
 
@@ -225,6 +226,9 @@ module _ (plugged : Plugged) (old new : FolderState) (b : Blueprint) (trace : Op
     needed = l.needed;
   }
 
+pub picture_less : (book : Book) (b : Blueprint) (stands : List SinkStand) (picks : List Pick) (wires : List WireCount) (less rest : Bool) → (IsTrue less → IsTrue rest) → PictureStands book b stands picks wires rest → PictureStands book b stands picks wires less
+picture_less book b stands picks wires less rest more p = record { carries = p.carries; lawful = p.lawful; rest = λ h. p.rest (more h); matching = λ h. p.matching (more h) }
+
 -- ---- the end of a run
 
 -- the files of the sinks, and that of the trace, are those that are written
@@ -326,8 +330,12 @@ module _ (plugged : Plugged) (b : Blueprint) (trace : Option (List ℕ)) (ran : 
   pays : Pays b a.wires a.used
   pays = subst (λ (u : ℕ). Pays b a.wires u) (sym after.used) (subst (λ (w : List WireCount). Pays b w ran.used) (sym after.wires) runs.pays)
 
+  -- the picture stands by what passed, as the answer tells it
+  pictured : PictureStands plugged.book b stands a.picks a.wires (no_event_left a turns)
+  pictured = picture_less plugged.book b stands a.picks a.wires (no_event_left a turns) ran.at_rest over_rests (rw (after.wires, after.picks) runs.picture)
+
   carries : WiresCarry plugged.book b a.wires a.picks
-  carries = rw (after.wires, after.picks) runs.carries
+  carries = pictured.carries
 
   picks_are : picked a.picks ≡ pick_places 0 b.nodes.items
   picks_are = ap picked after.picks ∙ runs.picks_are
@@ -339,6 +347,21 @@ module _ (plugged : Plugged) (b : Blueprint) (trace : Option (List ℕ)) (ran : 
       let most : a.used + length (blueprint_wires b) ≤ count_needed (graph_of b) a.wires = pays.most in
       omega (arith, wired, most)
 
+  -- in a polytree every sink has ended where no event was left
+  tree_ends : IsPolytree (wiring (blueprint_wires b)) → ran.at_rest ≡ true → some_unended a.sinks ≡ false
+  tree_ends tree e = unended_told ∙ runs.ending tree e
+
+  tree_spent : (rest : Bool) → ran.at_rest ≡ rest → IsPolytree (wiring (blueprint_wires b)) → some_unended a.sinks ≡ true → a.used ≡ turns
+  tree_spent false e tree some = spent e
+  tree_spent true e tree some = absurd (not_both_bools (some_unended a.sinks) some (tree_ends tree e))
+
+  within : a.used ≤ turns
+  within = subst (λ n. n ≤ turns) (sym after.used) runs.within
+
+  -- the units were used up where a sink goes on and an event was left
+  used_up : list_any (λ (s : SinkStand). is_unended s.2) stands ≡ true → ran.at_rest ≡ false → UsedUp b turns a
+  used_up unended rest = record { used = spent rest; count = subst (λ (u : ℕ). u < count_needed (graph_of b) a.wires) (spent rest) (below_count (some_there stands unended)) }
+
   module _ (tells : IsTrue old.tells) where
     leaves_at : LeavesFiles plugged.book old new b trace stands a.picks a.wires ran.at_rest
     leaves_at = subst (λ (p : List Pick). LeavesFiles plugged.book old new b trace stands p a.wires ran.at_rest) (sym after.picks)
@@ -349,10 +372,6 @@ module _ (plugged : Plugged) (b : Blueprint) (trace : Option (List ℕ)) (ran : 
         let count : a.used < count_needed (graph_of b) a.wires = below_count some in
         let most : count_needed (graph_of b) a.wires ≤ need (graph_of b) (composed (graph_of b) w) = leaves_at.needed w is in
         omega (arith, count, most)
-
-    tree_spent : (rest : Bool) → ran.at_rest ≡ rest → IsPolytree (wiring (blueprint_wires b)) → some_unended a.sinks ≡ true → a.used ≡ turns
-    tree_spent false e tree some = spent e
-    tree_spent true e tree some = absurd (not_both_bools (some_unended a.sinks) some (unended_told ∙ leaves_at.ending tree e))
 
     tree_enough : IsPolytree (wiring (blueprint_wires b)) → (w : World) → IsWorldOf plugged.book b.nodes.items leaves_at.drawn w → need (graph_of b) (composed (graph_of b) w) ≤ turns
         → (i : ℕ) (s : SinkStand) (n : Node) (file : List ℕ) → slice_get stands i ≡ Some s → slice_get b.nodes.items s.0 ≡ Some n → output_of n.kind ≡ Some file
@@ -374,7 +393,7 @@ module _ (plugged : Plugged) (b : Blueprint) (trace : Option (List ℕ)) (ran : 
       picks_are = picks_are;
       leaves = leaves_less plugged old new b trace stands a.picks a.wires (no_event_left a turns) ran.at_rest over_rests leaves_at;
       writes = runs.writes;
-      within = subst (λ n. n ≤ turns) (sym after.used) runs.within;
+      within = within;
       pays = pays;
       carries = carries;
       ending = tree_spent ran.at_rest refl;
@@ -395,7 +414,7 @@ module _ (plugged : Plugged) (b : Blueprint) (trace : Option (List ℕ)) (ran : 
   told_by : (f u d rest : Bool) → fault ≡ f → list_any (λ (s : SinkStand). is_unended s.2) stands ≡ u → list_any (λ (s : SinkStand). is_failed s.2) stands ≡ d → ran.at_rest ≡ rest → IsTrue old.tells
       → EndedRun plugged (if f then status.WriteFault else (if u then (if rest then status.Stalled else status.OutOfTurns) else (if d then status.StreamFailed else status.Done))) a b trace turns old new
   told_by true u d rest p q r s tells = (ran_to tells, some_failure ran.trace_failed refl p, some_rose ran.trace_failed refl p)
-  told_by false true d true p q r s tells = (ran_to tells, trace_whole p, (λ tree. not_both_bools (some_unended a.sinks) (unended_told ∙ q) (unended_told ∙ (leaves_at tells).ending tree s)), fault_told ∙ no_sink_fault p, unended_told ∙ q)
+  told_by false true d true p q r s tells = (ran_to tells, trace_whole p, (λ tree. not_both_bools (some_unended a.sinks) (unended_told ∙ q) (tree_ends tree s)), fault_told ∙ no_sink_fault p, unended_told ∙ q)
   told_by false true d false p q r s tells = (ran_to tells, trace_whole p, short tells q s, fault_told ∙ no_sink_fault p, unended_told ∙ q)
   told_by false false true rest p q r s tells = (ran_to tells, trace_whole p, fault_told ∙ no_sink_fault p, unended_told ∙ q, failed_told ∙ r)
   told_by false false false rest p q r s tells = (ran_to tells, trace_whole p, all_done a.sinks (fault_told ∙ no_sink_fault p) (unended_told ∙ q) (failed_told ∙ r))
@@ -404,19 +423,20 @@ module _ (plugged : Plugged) (b : Blueprint) (trace : Option (List ℕ)) (ran : 
   pub run_told : IsTrue old.tells → EndedRun plugged a.status a b trace turns old new
   run_told tells = subst (λ x. EndedRun plugged x a b trace turns old new) (sym after.status) (told_by fault (list_any (λ (s : SinkStand). is_unended s.2) stands) (list_any (λ (s : SinkStand). is_failed s.2) stands) ran.at_rest refl refl refl refl tells)
 
-  wrote : SinksWrote plugged old new b a
-  wrote = record { stands = stands; stands_are = runs.sinks_are; sinks = told; picks_are = picks_are; writes = runs.writes; carries = carries }
+  wrote : SinksWrote plugged old new b turns a
+  wrote = record { stands = stands; stands_are = runs.sinks_are; sinks = told; picks_are = picks_are; writes = runs.writes; within = within; pays = pays; picture = pictured; ending = tree_spent ran.at_rest refl }
 
-  causes_by : (f u d rest : Bool) → fault ≡ f → RunCauses plugged (if f then status.WriteFault else (if u then (if rest then status.Stalled else status.OutOfTurns) else (if d then status.StreamFailed else status.Done))) a b trace old new
-  causes_by true u d rest p = (runs.refusals, runs.reads, some_rose ran.trace_failed refl p, other_counts b trace old.wfaults new.wfaults runs.other_writes, wrote)
-  causes_by false true d true p = (runs.refusals, runs.reads, no_rise p, wrote)
-  causes_by false true d false p = (runs.refusals, runs.reads, no_rise p, wrote)
-  causes_by false false true rest p = (runs.refusals, runs.reads, no_rise p, wrote)
-  causes_by false false false rest p = (runs.refusals, runs.reads, no_rise p, wrote)
+  causes_by : (f u d rest : Bool) → fault ≡ f → list_any (λ (s : SinkStand). is_unended s.2) stands ≡ u → ran.at_rest ≡ rest
+      → RunCauses plugged (if f then status.WriteFault else (if u then (if rest then status.Stalled else status.OutOfTurns) else (if d then status.StreamFailed else status.Done))) a b trace turns old new
+  causes_by true u d rest p q r = (runs.refusals, runs.reads, some_rose ran.trace_failed refl p, other_counts b trace old.wfaults new.wfaults runs.other_writes, wrote)
+  causes_by false true d true p q r = (runs.refusals, runs.reads, no_rise p, wrote, λ tree. not_both_bools (some_unended a.sinks) (unended_told ∙ q) (tree_ends tree r))
+  causes_by false true d false p q r = (runs.refusals, runs.reads, no_rise p, wrote, used_up q r)
+  causes_by false false true rest p q r = (runs.refusals, runs.reads, no_rise p, wrote)
+  causes_by false false false rest p q r = (runs.refusals, runs.reads, no_rise p, wrote)
 
-  -- which counts a run raised
-  pub run_causes : RunCauses plugged a.status a b trace old new
-  run_causes = subst (λ x. RunCauses plugged x a b trace old new) (sym after.status) (causes_by fault (list_any (λ (s : SinkStand). is_unended s.2) stands) (list_any (λ (s : SinkStand). is_failed s.2) stands) ran.at_rest refl)
+  -- which counts a run raised, and what is told of it
+  pub run_causes : RunCauses plugged a.status a b trace turns old new
+  run_causes = subst (λ x. RunCauses plugged x a b trace turns old new) (sym after.status) (causes_by fault (list_any (λ (s : SinkStand). is_unended s.2) stands) (list_any (λ (s : SinkStand). is_failed s.2) stands) ran.at_rest refl refl refl)
 
   sinks_by : (f u d rest : Bool) → fault ≡ f → list_any (λ (s : SinkStand). is_unended s.2) stands ≡ u → list_any (λ (s : SinkStand). is_failed s.2) stands ≡ d
       → SinksOf (if f then status.WriteFault else (if u then (if rest then status.Stalled else status.OutOfTurns) else (if d then status.StreamFailed else status.Done))) a trace
@@ -473,13 +493,13 @@ at_middle (x ∷ xs) after n = let h = at_middle xs after n in (suc h.0, h.1)
 in_place : (names before after : List (List ℕ)) (n : List ℕ) → names ≡ before ++ n ∷ after → Contains names n
 in_place names before after n e = let at = at_middle before after n in contains_at names at.0 n (ap (λ (l : List (List ℕ)). slice_get l at.0) e ∙ at.1)
 
-pub missing_causes : (plugged : Plugged) (old new : FolderState) (b : Blueprint) (trace : Option (List ℕ)) (n : List ℕ) (s : Status) (a : Answer) → (MissesInput old new (inputs_of_nodes b.nodes.items) n) ⊎ (RefusesOutput old new (inputs_of_nodes b.nodes.items) (written_files b trace) n) → s ≡ status.Missing n → RunCauses plugged s a b trace old new
-missing_causes plugged old new b trace n s a (inl h) is = subst (λ x. RunCauses plugged x a b trace old new) (sym is) (inl (in_place (inputs_of_nodes b.nodes.items) h.before h.after n h.place, h.why), h.refusals, h.rfaults, h.wfaults)
-missing_causes plugged old new b trace n s a (inr h) is = subst (λ x. RunCauses plugged x a b trace old new) (sym is) (inr (in_place (written_files b trace) h.before h.after n h.place, h.rose), h.refusals, h.rfaults, h.wfaults)
+pub missing_causes : (plugged : Plugged) (old new : FolderState) (b : Blueprint) (trace : Option (List ℕ)) (turns : ℕ) (n : List ℕ) (s : Status) (a : Answer) → (MissesInput old new (inputs_of_nodes b.nodes.items) n) ⊎ (RefusesOutput old new (inputs_of_nodes b.nodes.items) (written_files b trace) n) → s ≡ status.Missing n → RunCauses plugged s a b trace turns old new
+missing_causes plugged old new b trace turns n s a (inl h) is = subst (λ x. RunCauses plugged x a b trace turns old new) (sym is) (inl (in_place (inputs_of_nodes b.nodes.items) h.before h.after n h.place, h.why), h.refusals, h.rfaults, h.wfaults)
+missing_causes plugged old new b trace turns n s a (inr h) is = subst (λ x. RunCauses plugged x a b trace turns old new) (sym is) (inr (in_place (written_files b trace) h.before h.after n h.place, h.rose), h.refusals, h.rfaults, h.wfaults)
 
-pub wanted_causes : (plugged : Plugged) (old new : FolderState) (b : Blueprint) (trace : Option (List ℕ)) (s : Status) (a : Answer) → Wants plugged.book old new b trace → s ≡ status.NoMemory → RunCauses plugged s a b trace old new
-wanted_causes plugged old new b trace s a (inl h) is = subst (λ x. RunCauses plugged x a b trace old new) (sym is) (h.refusals, (λ n never. h.rfaults n), (λ n never. h.wfaults n))
-wanted_causes plugged old new b trace s a (inr h) is = subst (λ x. RunCauses plugged x a b trace old new) (sym is) (h.refusals, h.reads, h.other_writes)
+pub wanted_causes : (plugged : Plugged) (old new : FolderState) (b : Blueprint) (trace : Option (List ℕ)) (turns : ℕ) (s : Status) (a : Answer) → Wants plugged.book old new b trace → s ≡ status.NoMemory → RunCauses plugged s a b trace turns old new
+wanted_causes plugged old new b trace turns s a (inl h) is = subst (λ x. RunCauses plugged x a b trace turns old new) (sym is) (h.refusals, (λ n never. h.rfaults n), (λ n never. h.wfaults n))
+wanted_causes plugged old new b trace turns s a (inr h) is = subst (λ x. RunCauses plugged x a b trace turns old new) (sym is) (h.refusals, h.reads, h.other_writes)
 
 -- ---- the text of the blueprint
 
@@ -698,28 +718,31 @@ module _ (plugged : Plugged) (old mid new : FolderState) (file t : List ℕ) (r 
     run_later status.Usage e = e
 
 -- what rose in the run rose in the call
-module _ (plugged : Plugged) (old mid new : FolderState) (file t : List ℕ) (r : ReadsFile old mid file t) (b : Blueprint) (trace : Option (List ℕ)) (fit : IsFit b plugged.heads (taken_files file trace)) (a : Answer) where
-  wrote_later : SinksWrote plugged mid new b a → SinksWrote plugged old new b a
+module _ (plugged : Plugged) (old mid new : FolderState) (file t : List ℕ) (r : ReadsFile old mid file t) (b : Blueprint) (trace : Option (List ℕ)) (fit : IsFit b plugged.heads (taken_files file trace)) (turns : ℕ) (a : Answer) where
+  wrote_later : SinksWrote plugged mid new b turns a → SinksWrote plugged old new b turns a
   wrote_later w = record {
     stands = w.stands;
     stands_are = w.stands_are;
     sinks = w.sinks;
     picks_are = w.picks_are;
     writes = λ i s n f at here shape. writes_later s.2 (old.wfaults f) (mid.wfaults f) (new.wfaults f) (r.wfaults f) (w.writes i s n f at here shape);
-    carries = w.carries;
+    within = w.within;
+    pays = w.pays;
+    picture = w.picture;
+    ending = w.ending;
   }
 
   misses_later : (n : List ℕ) → MissesFile mid new b trace n → MissesFile old new b trace n
   misses_later n (inl h) = inl (h.0, absent_later old mid new n r.files r.refusals h.1)
   misses_later n (inr h) = inr (h.0, rose_later (old.refusals n) (mid.refusals n) (new.refusals n) (r.refusals n) h.1)
 
-  causes_later : (s : Status) → RunCauses plugged s a b trace mid new → RunCauses plugged s a b trace old new
+  causes_later : (s : Status) → RunCauses plugged s a b trace turns mid new → RunCauses plugged s a b trace turns old new
   causes_later (status.Missing n) c = (misses_later n c.0, quiet_but_later n _ _ _ r.refusals c.1, quiet_two _ _ _ r.rfaults c.2, quiet_two _ _ _ r.wfaults c.3)
   causes_later status.WriteFault c = (quiet_two _ _ _ r.refusals c.0, quiet_all_later _ _ _ _ r.rfaults c.1, some_rose_later old mid new b trace r.wfaults c.2, quiet_all_later _ _ _ _ r.wfaults c.3, wrote_later c.4)
   causes_later status.Done c = (quiet_two _ _ _ r.refusals c.0, quiet_all_later _ _ _ _ r.rfaults c.1, quiet_two _ _ _ r.wfaults c.2, wrote_later c.3)
   causes_later status.StreamFailed c = (quiet_two _ _ _ r.refusals c.0, quiet_all_later _ _ _ _ r.rfaults c.1, quiet_two _ _ _ r.wfaults c.2, wrote_later c.3)
-  causes_later status.Stalled c = (quiet_two _ _ _ r.refusals c.0, quiet_all_later _ _ _ _ r.rfaults c.1, quiet_two _ _ _ r.wfaults c.2, wrote_later c.3)
-  causes_later status.OutOfTurns c = (quiet_two _ _ _ r.refusals c.0, quiet_all_later _ _ _ _ r.rfaults c.1, quiet_two _ _ _ r.wfaults c.2, wrote_later c.3)
+  causes_later status.Stalled c = (quiet_two _ _ _ r.refusals c.0, quiet_all_later _ _ _ _ r.rfaults c.1, quiet_two _ _ _ r.wfaults c.2, wrote_later c.3, c.4)
+  causes_later status.OutOfTurns c = (quiet_two _ _ _ r.refusals c.0, quiet_all_later _ _ _ _ r.rfaults c.1, quiet_two _ _ _ r.wfaults c.2, wrote_later c.3, c.4)
   causes_later status.NoMemory c = (quiet_two _ _ _ r.refusals c.0, quiet_all_later _ _ _ _ r.rfaults c.1, quiet_all_later _ _ _ _ r.wfaults c.2)
   causes_later status.Usage c = c
   causes_later status.ReadFault c = c
@@ -808,19 +831,19 @@ module _ (plugged : Plugged) (old mid new : FolderState) (file t : List ℕ) (r 
   quiet_before (status.Missing n) h = absurd h
 
   -- which counts the call raised
-  pub causes_text : (s : Status) (a : Answer) (trace : Option (List ℕ)) → CausesText plugged s a t (taken_files file trace) trace mid new → Causes plugged s a file trace old new
-  causes_text s a trace (inl h) = inl (quiet_before s h)
-  causes_text s a trace (inr h) = inr (record {
+  pub causes_text : (s : Status) (a : Answer) (trace : Option (List ℕ)) (turns : ℕ) → CausesText plugged s a t (taken_files file trace) trace turns mid new → Causes plugged s a file trace turns old new
+  causes_text s a trace turns (inl h) = inl (quiet_before s h)
+  causes_text s a trace turns (inr h) = inr (record {
     blueprint = h.0;
     says = λ tells. says_read old mid file t h.0 tells r h.1.0;
     fit = h.1.1.fit;
     reads = reads_since file (inputs_of_nodes h.0.nodes.items) old.read mid.read new.read r.read h.1.1.reads;
-    causes = causes_later plugged old mid new file t r h.0 trace h.1.1.fit a s h.1.1.causes;
+    causes = causes_later plugged old mid new file t r h.0 trace h.1.1.fit turns a s h.1.1.causes;
   })
 
 -- what is said of the counts before a run, by the status
-pub causes_before : (plugged : Plugged) (s t : Status) (a : Answer) (file : List ℕ) (trace : Option (List ℕ)) (old new : FolderState) → s ≡ t → CausesBefore t file old new → Causes plugged s a file trace old new
-causes_before plugged s t a file trace old new e h = inl (subst (λ x. CausesBefore x file old new) (sym e) h)
+pub causes_before : (plugged : Plugged) (s t : Status) (a : Answer) (file : List ℕ) (trace : Option (List ℕ)) (turns : ℕ) (old new : FolderState) → s ≡ t → CausesBefore t file old new → Causes plugged s a file trace turns old new
+causes_before plugged s t a file trace turns old new e h = inl (subst (λ x. CausesBefore x file old new) (sym e) h)
 
 -- ---- statuses before a run
 
@@ -840,17 +863,18 @@ pub unfit_told : (plugged : Plugged) (s : FolderState) (a : Answer) (b : Bluepri
 unfit_told plugged s a b taken trace turns f is blank first = inl (unfit_by plugged s a b taken f is blank first)
 
 -- a blueprint that was found fit is the one that was parsed
-pub causes_parsed : (plugged : Plugged) (s : Status) (a : Answer) (b c : Blueprint) (taken : List (List ℕ)) (trace : Option (List ℕ)) (old new : FolderState) → IsFit b plugged.heads taken → c ≡ b → QuietButAll (inputs_of_nodes c.nodes.items) old.read new.read → RunCauses plugged s a c trace old new → CausesParsed plugged s a b taken trace old new
-causes_parsed plugged s a b c taken trace old new fit same reads h = inr (record {
+pub causes_parsed : (plugged : Plugged) (s : Status) (a : Answer) (b c : Blueprint) (taken : List (List ℕ)) (trace : Option (List ℕ)) (turns : ℕ) (old new : FolderState) → IsFit b plugged.heads taken → c ≡ b → QuietButAll (inputs_of_nodes c.nodes.items) old.read new.read → RunCauses plugged s a c trace turns old new
+    → CausesParsed plugged s a b taken trace turns old new
+causes_parsed plugged s a b c taken trace turns old new fit same reads h = inr (record {
   fit = fit;
   reads = subst (λ x. QuietButAll (inputs_of_nodes x.nodes.items) old.read new.read) same reads;
-  causes = subst (λ x. RunCauses plugged s a x trace old new) same h;
+  causes = subst (λ x. RunCauses plugged s a x trace turns old new) same h;
 })
 
 -- it is the one that the text says
-pub causes_said : (plugged : Plugged) (s : Status) (a : Answer) (text : List ℕ) (b : Blueprint) (taken : List (List ℕ)) (trace : Option (List ℕ)) (old new : FolderState) → language.Says text (plain b) → CausesParsed plugged s a b taken trace old new → CausesText plugged s a text taken trace old new
-causes_said plugged s a text b taken trace old new says (inl h) = inl h
-causes_said plugged s a text b taken trace old new says (inr h) = inr (b, (says, h))
+pub causes_said : (plugged : Plugged) (s : Status) (a : Answer) (text : List ℕ) (b : Blueprint) (taken : List (List ℕ)) (trace : Option (List ℕ)) (turns : ℕ) (old new : FolderState) → language.Says text (plain b) → CausesParsed plugged s a b taken trace turns old new → CausesText plugged s a text taken trace turns old new
+causes_said plugged s a text b taken trace turns old new says (inl h) = inl h
+causes_said plugged s a text b taken trace turns old new says (inr h) = inr (b, (says, h))
 
 -- the trace's file is taken, so it is none of the blueprint's
 pub apart_of : (plugged : Plugged) (b c : Blueprint) (taken : List (List ℕ)) (trace : Option (List ℕ)) → IsFit b plugged.heads taken → c ≡ b → ((t : List ℕ) → trace ≡ Some t → Contains taken t) → IsApart c trace

@@ -22,7 +22,7 @@ pub record RunsFile (p : Plugged) (file : List ℕ) (trace : Option (List ℕ)) 
   pub tells : IsTrue new.tells → IsTrue old.tells
   pub told : IsTrue old.tells → Told p a (record { file = file; trace = trace; turns = turns }) old new
   pub complete : IsTrue old.tells → IsValid p file trace old → RoseNowhere old new → RanWithoutFault a.status
-  pub causes : Causes p a.status a file trace old new
+  pub causes : Causes p a.status a file trace turns old new
   pub sinks : SinksOf a.status a trace
   pub no_usage : a.status ≡ status.Usage → ⊥
   pub reads : GrewAtMost (old.read file) text_limit (new.read file)

@@ -19,7 +19,7 @@ use Rattle.materializer.specs.Files.{output_of, inputs_of_nodes, outputs_of_node
 use Rattle.materializer.specs.Graphs.{graph_of, graph_node}
 use Rattle.stream_io.specs.Quiet.{Quiet, QuietBut}
 use Rattle.stream_io.specs.Opening.{Empties}
-use Rattle.run_blueprint.specs.Carrying.{WiresCarry}
+use Rattle.run_blueprint.specs.Carrying.{WiresCarry, PictureStands}
 use Rattle.run_blueprint.specs.Choosing.{pick_places, picked}
 use Rattle.run_blueprint.specs.Drawing.{Drawn, IsWorldOf}
 use Rattle.run_blueprint.specs.Stands.{SinkStand, sink_places}
@@ -171,28 +171,39 @@ QuietAmong names old new = (n : List ℕ) → Contains names n → Grew (old n) 
 abbrev pub MissesFile : FolderState → FolderState → Blueprint → Option (List ℕ) → List ℕ → Type 0
 MissesFile old new b trace n = (Contains (inputs_of_nodes b.nodes.items) n × IsAbsent old new n) ⊎ (Contains (written_files b trace) n × Rose (old.refusals n) (new.refusals n))
 
--- The sinks of a run stand so, and the count of failed writes of a sink's file rose exactly where that sink stands at a failed
--- write. There is a list of moves for each stage whose kind chooses, and each wire carried only elements of its type, also where the
--- folder tells nothing.
-pub record SinksWrote (p : Plugged) (old new : FolderState) (b : Blueprint) (a : Answer) : Type 0 where
+-- What is told of a run whatever the folder tells. Its sinks stand so, and the count of failed writes of a sink's file rose exactly where
+-- that sink stands at a failed write. There is a list of moves for each stage whose kind chooses. The units were within the turns and
+-- pay for what passed the wires; each wire carried only elements of its type, and the picture stands by what passed: it is lawful, and
+-- where no event was left it rests. In a polytree a sink has not ended only where the units were used up.
+pub record SinksWrote (p : Plugged) (old new : FolderState) (b : Blueprint) (turns : ℕ) (a : Answer) : Type 0 where
   pub stands : List SinkStand
   pub stands_are : map (λ (s : SinkStand). s.0) stands ≡ sink_places 0 b.nodes.items
   pub sinks : a.sinks ≡ told_ends b.nodes.items stands
   pub picks_are : picked a.picks ≡ pick_places 0 b.nodes.items
   pub writes : (i : ℕ) (s : SinkStand) (n : Node) (file : List ℕ) → slice_get stands i ≡ Some s → slice_get b.nodes.items s.0 ≡ Some n → output_of n.kind ≡ Some file → FailedWritesOf s.2 (old.wfaults file) (new.wfaults file)
-  pub carries : WiresCarry p.book b a.wires a.picks
+  pub within : a.used ≤ turns
+  pub pays : Pays b a.wires a.used
+  pub picture : PictureStands p.book b stands a.picks a.wires (no_event_left a turns)
+  pub ending : IsPolytree (wiring (blueprint_wires b)) → some_unended a.sinks ≡ true → a.used ≡ turns
+
+-- the units were used up, and were fewer than the count over what was sent
+pub record UsedUp (b : Blueprint) (turns : ℕ) (a : Answer) : Type 0 where
+  pub used : a.used ≡ turns
+  pub count : turns < count_needed (graph_of b) a.wires
 
 -- which counts a run raised: of failed reads at most those of its inputs, and of failed writes those of its outputs, each exactly
--- where its sink stands at a failed write, and that of the trace's file
-abbrev pub RunCauses : Plugged → Status → Answer → Blueprint → Option (List ℕ) → FolderState → FolderState → Type 0
-RunCauses p status.Usage a b trace old new = ⊥
-RunCauses p status.ReadFault a b trace old new = ⊥
-RunCauses p (status.Refused f) a b trace old new = ⊥
-RunCauses p (status.Unfit f) a b trace old new = ⊥
-RunCauses p (status.Missing n) a b trace old new = MissesFile old new b trace n × QuietBut n old.refusals new.refusals × Quiet old.rfaults new.rfaults × Quiet old.wfaults new.wfaults
-RunCauses p status.NoMemory a b trace old new = Quiet old.refusals new.refusals × QuietButAll (inputs_of_nodes b.nodes.items) old.rfaults new.rfaults × QuietButAll (outputs_of_nodes b.nodes.items) old.wfaults new.wfaults
-RunCauses p status.WriteFault a b trace old new = Quiet old.refusals new.refusals × QuietButAll (inputs_of_nodes b.nodes.items) old.rfaults new.rfaults × SomeCountRose old new b trace × QuietButAll (written_files b trace) old.wfaults new.wfaults × SinksWrote p old new b a
-RunCauses p _ a b trace old new = Quiet old.refusals new.refusals × QuietButAll (inputs_of_nodes b.nodes.items) old.rfaults new.rfaults × Quiet old.wfaults new.wfaults × SinksWrote p old new b a
+-- where its sink stands at a failed write, and that of the trace's file; and what is told of the run. A polytree never stalls.
+abbrev pub RunCauses : Plugged → Status → Answer → Blueprint → Option (List ℕ) → ℕ → FolderState → FolderState → Type 0
+RunCauses p status.Usage a b trace turns old new = ⊥
+RunCauses p status.ReadFault a b trace turns old new = ⊥
+RunCauses p (status.Refused f) a b trace turns old new = ⊥
+RunCauses p (status.Unfit f) a b trace turns old new = ⊥
+RunCauses p (status.Missing n) a b trace turns old new = MissesFile old new b trace n × QuietBut n old.refusals new.refusals × Quiet old.rfaults new.rfaults × Quiet old.wfaults new.wfaults
+RunCauses p status.NoMemory a b trace turns old new = Quiet old.refusals new.refusals × QuietButAll (inputs_of_nodes b.nodes.items) old.rfaults new.rfaults × QuietButAll (outputs_of_nodes b.nodes.items) old.wfaults new.wfaults
+RunCauses p status.WriteFault a b trace turns old new = Quiet old.refusals new.refusals × QuietButAll (inputs_of_nodes b.nodes.items) old.rfaults new.rfaults × SomeCountRose old new b trace × QuietButAll (written_files b trace) old.wfaults new.wfaults × SinksWrote p old new b turns a
+RunCauses p status.Stalled a b trace turns old new = Quiet old.refusals new.refusals × QuietButAll (inputs_of_nodes b.nodes.items) old.rfaults new.rfaults × Quiet old.wfaults new.wfaults × SinksWrote p old new b turns a × (IsPolytree (wiring (blueprint_wires b)) → ⊥)
+RunCauses p status.OutOfTurns a b trace turns old new = Quiet old.refusals new.refusals × QuietButAll (inputs_of_nodes b.nodes.items) old.rfaults new.rfaults × Quiet old.wfaults new.wfaults × SinksWrote p old new b turns a × UsedUp b turns a
+RunCauses p _ a b trace turns old new = Quiet old.refusals new.refusals × QuietButAll (inputs_of_nodes b.nodes.items) old.rfaults new.rfaults × Quiet old.wfaults new.wfaults × SinksWrote p old new b turns a
 
 -- what a call raised before a run; where the text was refused or is unfit, no other file was read
 abbrev pub CausesBefore : Status → List ℕ → FolderState → FolderState → Type 0
@@ -206,16 +217,16 @@ CausesBefore _ file old new = ⊥
 -- A blueprint was run that is fit where the command's own file and that of the trace are taken, so that its files are other ones. It is
 -- the one that the command's file says, wherever the folder told its files before. No file was read but the command's and those that
 -- its sources name, and the run raised these counts.
-pub record CausedRun (p : Plugged) (s : Status) (a : Answer) (file : List ℕ) (trace : Option (List ℕ)) (old new : FolderState) : Type 0 where
+pub record CausedRun (p : Plugged) (s : Status) (a : Answer) (file : List ℕ) (trace : Option (List ℕ)) (turns : ℕ) (old new : FolderState) : Type 0 where
   pub blueprint : Blueprint
   pub says : IsTrue old.tells → SaysFile old file blueprint
   pub fit : IsFit blueprint p.heads (taken_files file trace)
   pub reads : QuietButAll (file ∷ inputs_of_nodes blueprint.nodes.items) old.read new.read
-  pub causes : RunCauses p s a blueprint trace old new
+  pub causes : RunCauses p s a blueprint trace turns old new
 
 -- Which counts rose, whether the folder tells its files or not: before a run, or in the run of a blueprint.
-abbrev pub Causes : Plugged → Status → Answer → List ℕ → Option (List ℕ) → FolderState → FolderState → Type 0
-Causes p s a file trace old new = CausesBefore s file old new ⊎ CausedRun p s a file trace old new
+abbrev pub Causes : Plugged → Status → Answer → List ℕ → Option (List ℕ) → ℕ → FolderState → FolderState → Type 0
+Causes p s a file trace turns old new = CausesBefore s file old new ⊎ CausedRun p s a file trace turns old new
 
 -- what a status comes with; only where a trace is wanted a failed write may be no sink's
 abbrev pub SinksOf : Status → Answer → Option (List ℕ) → Type 0

@@ -47,14 +47,14 @@ CausesQuiet status.NoMemory old new = AllQuiet old new
 CausesQuiet _ old new = ⊥
 
 -- the blueprint was run, which is fit where these files are taken; of its inputs alone more was read, and these counts rose
-pub record CausesFit (p : Plugged) (s : Status) (a : Answer) (b : Blueprint) (taken : List (List ℕ)) (trace : Option (List ℕ)) (old new : FolderState) : Type 0 where
+pub record CausesFit (p : Plugged) (s : Status) (a : Answer) (b : Blueprint) (taken : List (List ℕ)) (trace : Option (List ℕ)) (turns : ℕ) (old new : FolderState) : Type 0 where
   pub fit : IsFit b p.heads taken
   pub reads : QuietButAll (inputs_of_nodes b.nodes.items) old.read new.read
-  pub causes : RunCauses p s a b trace old new
+  pub causes : RunCauses p s a b trace turns old new
 
 -- which counts rose, of a blueprint and of a text
-abbrev pub CausesParsed : Plugged → Status → Answer → Blueprint → List (List ℕ) → Option (List ℕ) → FolderState → FolderState → Type 0
-CausesParsed p s a b taken trace old new = CausesQuiet s old new ⊎ CausesFit p s a b taken trace old new
+abbrev pub CausesParsed : Plugged → Status → Answer → Blueprint → List (List ℕ) → Option (List ℕ) → ℕ → FolderState → FolderState → Type 0
+CausesParsed p s a b taken trace turns old new = CausesQuiet s old new ⊎ CausesFit p s a b taken trace turns old new
 
-abbrev pub CausesText : Plugged → Status → Answer → List ℕ → List (List ℕ) → Option (List ℕ) → FolderState → FolderState → Type 0
-CausesText p s a text taken trace old new = CausesQuiet s old new ⊎ ((b : Blueprint) × (language.Says text (plain b) × CausesFit p s a b taken trace old new))
+abbrev pub CausesText : Plugged → Status → Answer → List ℕ → List (List ℕ) → Option (List ℕ) → ℕ → FolderState → FolderState → Type 0
+CausesText p s a text taken trace turns old new = CausesQuiet s old new ⊎ ((b : Blueprint) × (language.Says text (plain b) × CausesFit p s a b taken trace turns old new))

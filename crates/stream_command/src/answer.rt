@@ -229,7 +229,7 @@ fn run_fit<R: Threads + Wait + Sync, F: Folder, L: Logic + Send, B: PlugBook + S
     requires turns { turns ≤ MOST_COUNT }
     ensures told { IsTrue (F.state folder.old).tells → EndedRun (plugged_by B.lists plugs.items) result.status (of_outcome result) b trace turns (F.state folder.old) (F.state folder.new) }
     ensures tells { IsTrue (F.state folder.new).tells → IsTrue (F.state folder.old).tells }
-    ensures causes { RunCauses (plugged_by B.lists plugs.items) result.status (of_outcome result) b trace (F.state folder.old) (F.state folder.new) }
+    ensures causes { RunCauses (plugged_by B.lists plugs.items) result.status (of_outcome result) b trace turns (F.state folder.old) (F.state folder.new) }
     ensures sinks { SinksOf result.status (of_outcome result) trace }
     ensures detail { result.detail.items ≡ detail_of result.status }
     ensures reads { QuietButAll (inputs_of_nodes b.nodes.items) (F.state folder.old).read (F.state folder.new).read }
@@ -267,7 +267,7 @@ fn run_checked<R: Threads + Wait + Sync, F: Folder, L: Logic + Send, B: PlugBook
     requires turns { turns ≤ MOST_COUNT }
     ensures told { IsTrue (F.state folder.old).tells → EndedRun (plugged_by B.lists plugs.items) result.status (of_outcome result) (checked_blueprint checked) trace turns (F.state folder.old) (F.state folder.new) }
     ensures tells { IsTrue (F.state folder.new).tells → IsTrue (F.state folder.old).tells }
-    ensures causes { RunCauses (plugged_by B.lists plugs.items) result.status (of_outcome result) (checked_blueprint checked) trace (F.state folder.old) (F.state folder.new) }
+    ensures causes { RunCauses (plugged_by B.lists plugs.items) result.status (of_outcome result) (checked_blueprint checked) trace turns (F.state folder.old) (F.state folder.new) }
     ensures sinks { SinksOf result.status (of_outcome result) trace }
     ensures detail { result.detail.items ≡ detail_of result.status }
     ensures reads { QuietButAll (inputs_of_nodes (checked_blueprint checked).nodes.items) (F.state folder.old).read (F.state folder.new).read }
@@ -305,7 +305,7 @@ fn run_parsed<R: Threads + Wait + Sync, F: Folder, L: Logic + Send, B: PlugBook 
     requires turns { turns ≤ MOST_COUNT }
     ensures told { IsTrue (F.state folder.old).tells → EndedParsed (plugged_by B.lists plugs.items) result.status (of_outcome result) b taken.now trace turns (F.state folder.old) (F.state folder.new) }
     ensures tells { IsTrue (F.state folder.new).tells → IsTrue (F.state folder.old).tells }
-    ensures causes { CausesParsed (plugged_by B.lists plugs.items) result.status (of_outcome result) b taken.now trace (F.state folder.old) (F.state folder.new) }
+    ensures causes { CausesParsed (plugged_by B.lists plugs.items) result.status (of_outcome result) b taken.now trace turns (F.state folder.old) (F.state folder.new) }
     ensures sinks { SinksOf result.status (of_outcome result) trace }
     ensures detail { result.detail.items ≡ detail_of result.status }
     ensures reads { QuietAmong taken.now (F.state folder.old).read (F.state folder.new).read }
@@ -343,7 +343,7 @@ fn run_text<R: Threads + Wait + Sync, F: Folder, L: Logic + Send, B: PlugBook + 
     requires turns { turns ≤ MOST_COUNT }
     ensures told { IsTrue (F.state folder.old).tells → EndedText (plugged_by B.lists plugs.items) result.status (of_outcome result) text.now taken.now trace turns (F.state folder.old) (F.state folder.new) }
     ensures tells { IsTrue (F.state folder.new).tells → IsTrue (F.state folder.old).tells }
-    ensures causes { CausesText (plugged_by B.lists plugs.items) result.status (of_outcome result) text.now taken.now trace (F.state folder.old) (F.state folder.new) }
+    ensures causes { CausesText (plugged_by B.lists plugs.items) result.status (of_outcome result) text.now taken.now trace turns (F.state folder.old) (F.state folder.new) }
     ensures sinks { SinksOf result.status (of_outcome result) trace }
     ensures detail { result.detail.items ≡ detail_of result.status }
     ensures reads { QuietAmong taken.now (F.state folder.old).read (F.state folder.new).read }
@@ -418,7 +418,7 @@ pub fn run_file<R: Threads + Wait + Sync, F: Folder, L: Logic + Send, B: PlugBoo
     requires workers { (0 < workers) × (workers ≤ 64) }
     requires turns { turns ≤ MOST_COUNT }
     ensures told { IsTrue (F.state folder.old).tells → Told (plugged_by B.lists plugs.items) (of_outcome result) (record { file = file.now; trace = option_copied trace.entry; turns = turns }) (F.state folder.old) (F.state folder.new) }
-    ensures causes { Causes (plugged_by B.lists plugs.items) result.status (of_outcome result) file.now (option_copied trace.entry) (F.state folder.old) (F.state folder.new) }
+    ensures causes { Causes (plugged_by B.lists plugs.items) result.status (of_outcome result) file.now (option_copied trace.entry) turns (F.state folder.old) (F.state folder.new) }
     ensures sinks { SinksOf result.status (of_outcome result) (option_copied trace.entry) }
     ensures no_usage { result.status ≡ Status.Usage → ⊥ }
     ensures tells { IsTrue (F.state folder.new).tells → IsTrue (F.state folder.old).tells }

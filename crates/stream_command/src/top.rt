@@ -64,8 +64,8 @@ pub fn run_file<R: Threads + Wait + Sync, F: Folder, C: Drain, L: Logic + Send, 
     // A valid text and inputs and no fault give a run, or memory was wanting.
     ensures complete { IsTrue (F.state folder.old).tells → IsValid (plugged_by B.lists plugs.items) file.now (option_copied trace.entry) (F.state folder.old) → RoseNowhere (F.state folder.old) (F.state folder.new) → RanWithoutFault result.status }
 
-    // Which counts rose, whether it tells them or not.
-    ensures causes { Causes (plugged_by B.lists plugs.items) result.status (answer_of result) file.now (option_copied trace.entry) (F.state folder.old) (F.state folder.new) }
+    // Which counts rose, and what the units and the picture of the run are, whether it tells them or not.
+    ensures causes { Causes (plugged_by B.lists plugs.items) result.status (answer_of result) file.now (option_copied trace.entry) turns (F.state folder.old) (F.state folder.new) }
     ensures sinks { SinksOf result.status (answer_of result) (option_copied trace.entry) }
 
     // After a run, and only there, there is a receipt, of so many workers and as many islands as the blueprint of the file has.

@@ -42,9 +42,9 @@ returns-in-Ok-read_file-clause-causes g c =
     let s = c.run_text.result.status in
     let trace = option_copied c.args.trace in
     let taken = c.deref-in-Ok-read_file.ensures.value ∙ c.in-Ok.ensures.taken in
-    causes_text plugged (g.F.Folder.state c.args.folder.now) mid new c.args.file.now c.in-Ok-read_file.text.items c.in-Ok-read_file.ensures.ok s a trace
-    (subst (λ x. CausesText plugged s a x (taken_files c.args.file.now trace) trace mid new) c.deref.ensures.value
-    (subst (λ y. CausesText plugged s a c.deref.result.now y trace mid new) taken (subst (λ z. CausesText plugged s a c.deref.result.now c.deref-in-Ok-read_file.result.now z mid new) c.in-Ok.ensures.trace c.run_text.ensures.causes)))
+    causes_text plugged (g.F.Folder.state c.args.folder.now) mid new c.args.file.now c.in-Ok-read_file.text.items c.in-Ok-read_file.ensures.ok s a trace c.args.turns
+    (subst (λ x. CausesText plugged s a x (taken_files c.args.file.now trace) trace c.args.turns mid new) c.deref.ensures.value
+    (subst (λ y. CausesText plugged s a c.deref.result.now y trace c.args.turns mid new) taken (subst (λ z. CausesText plugged s a c.deref.result.now c.deref-in-Ok-read_file.result.now z c.args.turns mid new) c.in-Ok.ensures.trace c.run_text.ensures.causes)))
 
 pub returns-in-Ok-read_file-clause-sinks : goal.returns-in-Ok-read_file-clause-sinks
 returns-in-Ok-read_file-clause-sinks g c = sinks_text c.run_text.result.status (of_outcome c.run_text.result) _ _ c.in-Ok.ensures.trace c.run_text.ensures.sinks
@@ -70,19 +70,19 @@ pub returns-in-Err-Missing-clause-causes : goal.returns-in-Err-Missing-clause-ca
 returns-in-Err-Missing-clause-causes g c =
     let h = c.in-Err-Missing.ensures.missing (ap Err c.in-Err-Missing.field-0-is) in
     let made = c.without_run-in-Err-Missing in
-    causes_before (plugged_by g.B.PlugBook.lists c.args.plugs.items) made.result.status (status.Missing c.args.file.now) (of_outcome made.result) c.args.file.now (option_copied c.args.trace) _ _
+    causes_before (plugged_by g.B.PlugBook.lists c.args.plugs.items) made.result.status (status.Missing c.args.file.now) (of_outcome made.result) c.args.file.now (option_copied c.args.trace) c.args.turns _ _
     (made.ensures.status ∙ ap status.Missing c.in-Ok.ensures.file) (refl, h.why, h.refusals, h.rfaults, h.wfaults)
 
 pub returns-in-Err-Fault-clause-causes : goal.returns-in-Err-Fault-clause-causes
 returns-in-Err-Fault-clause-causes g c =
     let h = c.in-Err-Fault.ensures.fault (ap Err c.in-Err-Fault.field-0-is) in
     let made = c.without_run-in-Err-Fault in
-    causes_before (plugged_by g.B.PlugBook.lists c.args.plugs.items) made.result.status status.ReadFault (of_outcome made.result) c.args.file.now (option_copied c.args.trace) _ _
+    causes_before (plugged_by g.B.PlugBook.lists c.args.plugs.items) made.result.status status.ReadFault (of_outcome made.result) c.args.file.now (option_copied c.args.trace) c.args.turns _ _
     made.ensures.status (h.refusals, (h.rose, h.rfaults), h.wfaults)
 
 pub returns-clause-causes : goal.returns-clause-causes
 returns-clause-causes g c =
     let h = c.in-Err-NoMemory.ensures.no_memory (ap Err c.in-Err-NoMemory.field-0-is) in
     let made = c.without_run-in-Err-NoMemory in
-    causes_before (plugged_by g.B.PlugBook.lists c.args.plugs.items) made.result.status status.NoMemory (of_outcome made.result) c.args.file.now (option_copied c.args.trace) _ _
+    causes_before (plugged_by g.B.PlugBook.lists c.args.plugs.items) made.result.status status.NoMemory (of_outcome made.result) c.args.file.now (option_copied c.args.trace) c.args.turns _ _
     made.ensures.status (h.refusals, h.rfaults, h.wfaults)

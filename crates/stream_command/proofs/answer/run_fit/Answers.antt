@@ -42,7 +42,7 @@ returns-in-Err-MissingInput-clause-tells g c =
 pub returns-in-Err-MissingInput-clause-causes : goal.returns-in-Err-MissingInput-clause-causes
 returns-in-Err-MissingInput-clause-causes g c =
     let e = c.in-Err-MissingInput in
-    missing_causes (plugged_by g.B.PlugBook.lists c.args.plugs.items) _ _ c.args.b c.args.trace e.name c.without_run-in-Err-MissingInput.result.status (of_outcome c.without_run-in-Err-MissingInput.result) (inl (e.ensures.no_input e.name (ap Err e.field-0-is))) c.without_run-in-Err-MissingInput.ensures.status
+    missing_causes (plugged_by g.B.PlugBook.lists c.args.plugs.items) _ _ c.args.b c.args.trace c.args.turns e.name c.without_run-in-Err-MissingInput.result.status (of_outcome c.without_run-in-Err-MissingInput.result) (inl (e.ensures.no_input e.name (ap Err e.field-0-is))) c.without_run-in-Err-MissingInput.ensures.status
 
 pub returns-in-Err-MissingOutput-clause-told : goal.returns-in-Err-MissingOutput-clause-told
 returns-in-Err-MissingOutput-clause-told g c =
@@ -58,7 +58,7 @@ returns-in-Err-MissingOutput-clause-tells g c =
 pub returns-in-Err-MissingOutput-clause-causes : goal.returns-in-Err-MissingOutput-clause-causes
 returns-in-Err-MissingOutput-clause-causes g c =
     let e = c.in-Err-MissingOutput in
-    missing_causes (plugged_by g.B.PlugBook.lists c.args.plugs.items) _ _ c.args.b c.args.trace e.name c.without_run-in-Err-MissingOutput.result.status (of_outcome c.without_run-in-Err-MissingOutput.result) (inr (e.ensures.no_output e.name (ap Err e.field-0-is))) c.without_run-in-Err-MissingOutput.ensures.status
+    missing_causes (plugged_by g.B.PlugBook.lists c.args.plugs.items) _ _ c.args.b c.args.trace c.args.turns e.name c.without_run-in-Err-MissingOutput.result.status (of_outcome c.without_run-in-Err-MissingOutput.result) (inr (e.ensures.no_output e.name (ap Err e.field-0-is))) c.without_run-in-Err-MissingOutput.ensures.status
 
 pub returns-in-Ok-run-clause-reads : goal.returns-in-Ok-run-clause-reads
 returns-in-Ok-run-clause-reads g c = c.in-Ok-run.ensures.ran.other_draws
@@ -88,7 +88,7 @@ pub returns-clause-causes : goal.returns-clause-causes
 returns-clause-causes g c =
     let e = c.in-Err-NoMemory in
     let made = c.without_run-in-Err-NoMemory in
-    wanted_causes (plugged_by g.B.PlugBook.lists c.args.plugs.items) _ _ c.args.b c.args.trace made.result.status (of_outcome made.result) (e.ensures.no_memory (ap Err e.field-0-is)) made.ensures.status
+    wanted_causes (plugged_by g.B.PlugBook.lists c.args.plugs.items) _ _ c.args.b c.args.trace c.args.turns made.result.status (of_outcome made.result) (e.ensures.no_memory (ap Err e.field-0-is)) made.ensures.status
 
 pub returns-clause-reads : goal.returns-clause-reads
 returns-clause-reads g c =

@@ -12,7 +12,7 @@ pub returns-in-Ok-check-clause-causes : goal.returns-in-Ok-check-clause-causes
 returns-in-Ok-check-clause-causes g c =
     let heads = c.deref-2.ensures.value ∙ c.in-Ok.ensures ∙ ap (map (λ p. p.head)) c.deref.ensures.value in
     let fit = subst (λ h. IsFit c.args.b h c.args.taken.now) heads c.in-Ok-check.ensures.fit in
-    causes_parsed (plugged_by g.B.PlugBook.lists c.args.plugs.items) c.run_checked.result.status (of_outcome c.run_checked.result) c.args.b (checked_blueprint c.in-Ok-check.checked) c.args.taken.now c.args.trace _ _ fit c.in-Ok-check.ensures.blueprint c.run_checked.ensures.reads c.run_checked.ensures.causes
+    causes_parsed (plugged_by g.B.PlugBook.lists c.args.plugs.items) c.run_checked.result.status (of_outcome c.run_checked.result) c.args.b (checked_blueprint c.in-Ok-check.checked) c.args.taken.now c.args.trace c.args.turns _ _ fit c.in-Ok-check.ensures.blueprint c.run_checked.ensures.reads c.run_checked.ensures.causes
 
 pub returns-in-Ok-check-clause-reads : goal.returns-in-Ok-check-clause-reads
 returns-in-Ok-check-clause-reads g c =

@@ -11,7 +11,7 @@ returns-in-Ok-clause-told g c = λ tells. inr (c.in-Ok.b, (c.in-Ok.ensures.ok, c
 
 pub returns-in-Ok-clause-causes : goal.returns-in-Ok-clause-causes
 returns-in-Ok-clause-causes g c =
-    causes_said (plugged_by g.B.PlugBook.lists c.args.plugs.items) c.run_parsed.result.status (of_outcome c.run_parsed.result) c.args.text.now c.in-Ok.b c.args.taken.now c.args.trace _ _ c.in-Ok.ensures.ok c.run_parsed.ensures.causes
+    causes_said (plugged_by g.B.PlugBook.lists c.args.plugs.items) c.run_parsed.result.status (of_outcome c.run_parsed.result) c.args.text.now c.in-Ok.b c.args.taken.now c.args.trace c.args.turns _ _ c.in-Ok.ensures.ok c.run_parsed.ensures.causes
 
 pub returns-in-Ok-clause-islands : goal.returns-in-Ok-clause-islands
 returns-in-Ok-clause-islands g c = of_text (plugged_by g.B.PlugBook.lists c.args.plugs.items) c.args.text.now c.in-Ok.b c.args.taken.now c.run_parsed.result.ran c.in-Ok.ensures.ok c.run_parsed.ensures.islands

@@ -1,5 +1,5 @@
 -- What passed the wires of a run, by what was sent on each.
-use Rattle.std.proofs.Common.{◌≡◌, ◌≢◌, ℕ, ◌<◌, ◌⊎◌, inl, inr, false, List, [], length, map, Some, refl, sym, ap, subst, ◌∙◌}
+use Rattle.std.proofs.Common.{◌≡◌, ◌≢◌, ℕ, ◌<◌, ◌≤◌, ◌⊎◌, inl, inr, true, false, List, [], length, map, Some, refl, sym, ap, subst, ◌∙◌}
 use Rattle.std.specs.Prelude.{slice_get}
 use Rattle.elem_core.specs.Tree.{Tree, text}
 use Rattle.elem_core.specs.Items.{elements}
@@ -7,14 +7,14 @@ use Rattle.elem_core.specs.Prefix.{IsPrefix}
 use Rattle.elem_core.proofs.Prefixes.{prefix_refl}
 use Rattle.elem_core.specs.declared.item.Item.{Item}
 use Rattle.stream_model.specs.declared.kind.Kind.{Kind}
-use Rattle.stream_model.specs.declared.kind.Kind.TheVariants.{Lines}
+use Rattle.stream_model.specs.declared.kind.Kind.TheVariants.{Lines, ToLines}
 use Rattle.stream_model.specs.declared.outcome.WireCount.{WireCount}
 use Rattle.stream_model.specs.Composed.{next, IsRanked}
 use Rattle.stream_model.specs.Graph.{Graph, Edge}
 use Rattle.stream_model.specs.Graph as graph
 use Rattle.stream_model.specs.Linear.{Book}
 use Rattle.stream_model.specs.Node.{World}
-use Rattle.stream_model.specs.Outlook.{Outlook, End}
+use Rattle.stream_model.specs.Outlook.{Outlook, End, unended}
 use Rattle.stream_model.proofs.Compositions.{slice_get-below}
 use Rattle.stage_core.specs.Held.{told}
 use Rattle.stream_model.specs.Shape.{sent_at}
@@ -23,6 +23,7 @@ use Rattle.run_laws.specs.Reads.{GivesTexts}
 use Rattle.run_laws.proofs.Coming.{elements_told}
 use Rattle.run_laws.proofs.Histories.{list_of_told, standing_told}
 use Rattle.stream_model.specs.declared.blueprint.Blueprint.{Blueprint}
+use Rattle.stream_model.specs.declared.blueprint.Node.{Node}
 use Rattle.stream_model.specs.declared.head.PlugHead.{PlugHead}
 use Rattle.blue_check.specs.Fitness.{IsFit}
 use Rattle.blue_check.specs.Wires.{blueprint_wires}
@@ -33,7 +34,8 @@ use Rattle.run_blueprint.specs.Types.{AllTyped}
 use Rattle.run_blueprint.proofs.TypeSending.{exact_agrees}
 use Rattle.run_blueprint.proofs.Settling.{all_by_rank}
 use Rattle.interpreter.specs.Picks.{Pick}
-use Rattle.run_blueprint.specs.Carrying.{WiresCarry}
+use Rattle.run_blueprint.specs.Carrying.{WiresCarry, ShutBy, OverBy, AskedBy}
+use Rattle.run_blueprint.specs.Stands.{SinkStand}
 use Rattle.run_blueprint.specs.Choosing.{HasPicks}
 use Rattle.run_blueprint.proofs.Places.{mapped_at, place_of}
 
@@ -82,13 +84,23 @@ module _ (g : Graph) (rank : ℕ → ℕ) (ranked : IsRanked g rank) (w : World)
   pub told_sent : (i : ℕ) (v : Edge) → slice_get g.wires i ≡ Some v → IsTold (items i)
   told_sent i v at = all_by_rank rank (length g.wires) (λ u. IsTold (items u)) told_by i (slice_get-below g.wires i v at)
 
+-- how a wire stands on which these items were sent
+pub record Stood (v : Edge) (c : WireCount) (items : List Item) : Type 0 where
+  pub over : (end_of_items items ≡ unended → ⊥) → c.shut ≡ true
+  pub asks : (s : ℕ) → v.lane ≡ Some s → c.asked ≡ false → s ≤ c.sent
+
 -- ---- what passed
 
-module _ (book : Book) (b : Blueprint) (wires : List WireCount) (picks : List Pick) (moves : ℕ → List ℕ) (items : ℕ → List Item) (counts : (u : ℕ) (v : Edge) → slice_get (blueprint_wires b) u ≡ Some v → sent_at wires u ≡ elements (items u))
+module _ (book : Book) (b : Blueprint) (stands : List SinkStand) (wires : List WireCount) (picks : List Pick) (moves : ℕ → List ℕ) (items : ℕ → List Item) (counts : (u : ℕ) (v : Edge) → slice_get (blueprint_wires b) u ≡ Some v → sent_at wires u ≡ elements (items u))
     (told_there : (i : ℕ) (v : Edge) → slice_get (blueprint_wires b) i ≡ Some v → IsTold (items i))
     (sends : (plugs : List PlugHead) (taken : List (List ℕ)) → IsFit b plugs taken → KeepsPlugTypes plugs book → (i : ℕ) (v : Edge) → slice_get (blueprint_wires b) i ≡ Some v → SendsItsType plugs b.chains.items b.nodes.items (graph_of b) (unread book moves) i v (items i))
     (gives : (w : World) → w.book ≡ book → HasPicks picks w → (sent : ℕ → Outlook) (j : ℕ) (v : Edge) (n : graph.Node) → slice_get (blueprint_wires b) j ≡ Some v → slice_get (graph_of b).nodes v.from ≡ Some n → ((name : List ℕ) → n.kind ≢ Lines name)
-    → ((u : ℕ) (x : Edge) → slice_get (blueprint_wires b) u ≡ Some x → x.to ≡ v.from → AgreesWith (sent u) (items u)) → AgreesWith (next (graph_of b) w sent j) (items j)) where
+    → ((u : ℕ) (x : Edge) → slice_get (blueprint_wires b) u ≡ Some x → x.to ≡ v.from → AgreesWith (sent u) (items u)) → AgreesWith (next (graph_of b) w sent j) (items j))
+    (stood : (i : ℕ) (v : Edge) (c : WireCount) → slice_get (blueprint_wires b) i ≡ Some v → slice_get wires i ≡ Some c → Stood v c (items i))
+    (sinks : (k : ℕ) (s : SinkStand) (i : ℕ) (v : Edge) (c : WireCount) → slice_get stands k ≡ Some s → slice_get (blueprint_wires b) i ≡ Some v → v.to ≡ s.0 → slice_get wires i ≡ Some c
+    → ShutBy s.2 v.lane c.shut × OverBy s.2 v.lane c.shut (end_of_items (items i)))
+    (writers : (k : ℕ) (s : SinkStand) (n : Node) (file : List ℕ) (i : ℕ) (v : Edge) (c : WireCount) → slice_get stands k ≡ Some s → slice_get b.nodes.items s.0 ≡ Some n → n.kind ≡ ToLines file
+    → slice_get (blueprint_wires b) i ≡ Some v → v.to ≡ s.0 → slice_get wires i ≡ Some c → AskedBy s.2 v.lane s.1 c) where
   abbrev lists : ℕ → List Tree
   lists u = list_of (items u)
 
@@ -101,7 +113,7 @@ module _ (book : Book) (b : Blueprint) (wires : List WireCount) (picks : List Pi
       let list : lists i ≡ s.list = ap list_of s.is ∙ list_of_told s.list s.end in
       counts i v at ∙ ap elements s.is ∙ elements_told s.list s.end ∙ ap length (sym list)
 
-  abbrev pub carries : WiresCarry book b wires picks
+  abbrev pub carries : WiresCarry book b stands wires picks
   carries = record {
     lists = lists;
     ends = ends;
@@ -113,4 +125,8 @@ module _ (book : Book) (b : Blueprint) (wires : List WireCount) (picks : List Pi
     given = λ w same has j v n at is other.
         let a = gives w same has (λ u. exact (lists u) (ends u)) j v (graph_node n) at (mapped_at graph_node b.nodes.items v.from n is) other (λ u x ux to. agrees_exactly (items u) (told_there u x ux)) in
         rw (a.is, list_of_told a.list a.end, standing_told a.list a.end) a.agrees;
+    shut_is = λ i v c at is. (stood i v c at is).over;
+    lane_asks = λ i v c s at is. (stood i v c at is).asks s;
+    sink_shut = sinks;
+    sink_asked = writers;
   }

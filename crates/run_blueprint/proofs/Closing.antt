@@ -36,7 +36,7 @@ use Rattle.nodes.specs.declared.node.IslandNode.{IslandNode}
 use Rattle.nodes.specs.declared.node.IslandNode.TheVariants as node
 use Rattle.interpreter.specs.Picks.{pick_of}
 use Rattle.run_laws.specs.Account.{Account, IsStill, took}
-use Rattle.run_laws.specs.Items.{AgreesWith}
+use Rattle.run_laws.specs.Items.{end_of_items, AgreesWith}
 use Rattle.run_laws.specs.Pictures as pictures
 use Rattle.run_laws.specs.Ports.{wire_count}
 use Rattle.run_laws.proofs.Coming.{elements_told}
@@ -60,7 +60,7 @@ use Rattle.stream_io.specs.Names.{drain_names}
 use Rattle.run_blueprint.specs.Checked.{PassesRules}
 use Rattle.run_blueprint.specs.Plugs.{KeepsPlugTypes}
 use Rattle.run_blueprint.specs.Sent.{SendsItsType}
-use Rattle.run_blueprint.specs.Carrying.{WiresCarry, PictureStands, as_passed}
+use Rattle.run_blueprint.specs.Carrying.{WiresCarry, PictureStands, ShutBy, OverBy, AskedBy, as_passed}
 use Rattle.run_blueprint.specs.Choosing.{picked}
 use Rattle.run_blueprint.proofs.Carried.{IsTold, unread, passes_exactly, told_sent, carries}
 use Rattle.run_blueprint.specs.Drawing.{Drawn, IsSource, WasRead, IsWorldOf, DrawsFirst}
@@ -81,6 +81,7 @@ use Rattle.run_blueprint.proofs.Places.{contains_at, contained_at, mapped_at, un
 use Rattle.run_blueprint.proofs.Profiles.{some_one, stand_in, writer_there, sinks_filtered, StandsAt, Profile, ended_along}
 use Rattle.run_blueprint.proofs.Handles.{IsSinkInto, HandleLaws, fault_kind, writer_kind, SourceFacts, SinkFacts, source_facts, sink_facts, profiles, as_many, stands_are}
 use Rattle.run_blueprint.proofs.Sending.{sink_sent, sink_rests, ignorer_told}
+use Rattle.run_blueprint.proofs.SinkWires.{ended_shut, lane_asked, sink_shut, sink_asked}
 use Rattle.run_blueprint.proofs.Shuts.{Shuts}
 use Rattle.run_blueprint.proofs.Traces.{unlisted, lone_of, calm_trace}
 use Rattle.run_blueprint.proofs.Shutting.{TakenApart, unwritten, read_grew, faults_grew, writes_grew, file_held, other_files, other_reads, other_writes, other_draws, refused, tells_old, readers_many, writers_many}
@@ -89,12 +90,14 @@ use Rattle.stream_model.specs.Linear.{Book}
 
 -- ---- the wires' counts
 
--- the count of a wire in a picture is what was sent at its output
-sent_there : {N : Type 0} (a : Account N) (g : Graph) (u : ℕ) (v : Edge) → slice_get g.wires u ≡ Some v → sent_at (pictures.picture_counts a g) u ≡ elements (a.near u).wire.sent
-sent_there a g u v at =
+-- how a wire of a picture stands, of which the count is what was sent at its output
+count_there : {N : Type 0} (a : Account N) (g : Graph) (u : ℕ) (v : Edge) → slice_get g.wires u ≡ Some v → slice_get (pictures.picture_counts a g) u ≡ Some (wire_count v.lane (a.near u) (a.asked u))
+count_there a g u v at =
     let place : 0 + u ≡ u = omega arith in
-    let there : slice_get (pictures.picture_counts a g) u ≡ Some (wire_count v.lane (a.near u) (a.asked u)) = subst (λ (k : ℕ). slice_get (pictures.picture_counts a g) u ≡ Some (wire_count v.lane (a.near k) (a.asked k))) place (counts_at a 0 g.wires u v at) in
-    ap (λ (o : Option WireCount). elim o as (λ _. ℕ) [ Some c ↦ c.sent | None ↦ 0 ]) there
+    subst (λ (k : ℕ). slice_get (pictures.picture_counts a g) u ≡ Some (wire_count v.lane (a.near k) (a.asked k))) place (counts_at a 0 g.wires u v at)
+
+sent_there : {N : Type 0} (a : Account N) (g : Graph) (u : ℕ) (v : Edge) → slice_get g.wires u ≡ Some v → sent_at (pictures.picture_counts a g) u ≡ elements (a.near u).wire.sent
+sent_there a g u v at = ap (λ (o : Option WireCount). elim o as (λ _. ℕ) [ Some c ↦ c.sent | None ↦ 0 ]) (count_there a g u v at)
 
 -- a picture has a count for each wire
 counts_many : {N : Type 0} (a : Account N) (i : ℕ) (vs : List Edge) → length (pictures.counts_from a i vs) ≡ length vs
@@ -173,6 +176,14 @@ sink_input (kind.Head f) e = omega arith
 sink_input (kind.Last f) e = omega arith
 sink_input kind.Ignore e = omega arith
 sink_input _ e = absurd cc
+
+-- just one
+sink_one : (k : Kind) → oneway.is_sink k ≡ true → inputs_of k ≡ 1
+sink_one (kind.ToLines f) e = refl
+sink_one (kind.Head f) e = refl
+sink_one (kind.Last f) e = refl
+sink_one kind.Ignore e = refl
+sink_one _ e = absurd cc
 
 ended_goes : (e : EndState) → has_ended e ≡ true → is_unended e ≡ false
 ended_goes Ended h = refl
@@ -369,6 +380,9 @@ module _ {S D L B : Type 0} (sources : S → SourceState) (drains : D → DrainS
   wire_count_at : (u : ℕ) (v : Edge) → slice_get (blueprint_wires b) u ≡ Some v → sent_at st.wires.items u ≡ elements (left.near u).wire.sent
   wire_count_at u v at = ap (λ (c : List WireCount). sent_at c u) wires_are ∙ sent_there left g u v at
 
+  wire_at : (u : ℕ) (v : Edge) (c : WireCount) → slice_get (blueprint_wires b) u ≡ Some v → slice_get st.wires.items u ≡ Some c → c ≡ wire_count v.lane (left.near u) (left.asked u)
+  wire_at u v c at is = some_one c (wire_count v.lane (left.near u) (left.asked u)) (sym is ∙ ap (λ (l : List WireCount). slice_get l u) wires_are ∙ count_there left g u v at)
+
   -- the units are tied to what passed
   pays : Pays b st.wires.items st.used
   pays = record {
@@ -383,6 +397,9 @@ module _ {S D L B : Type 0} (sources : S → SourceState) (drains : D → DrainS
     at : slice_get nodes s.0 ≡ Some node
     shape : oneway.is_sink node.kind ≡ true
     ended : ended_there (left.nodes s.0) ≡ has_ended s.2
+    now : IslandNode S D L B
+    now_at : left.nodes s.0 ≡ Some now
+    stands : stand_in now ≡ Some s
     wire : ℕ
     is : Edge
     there : slice_get (blueprint_wires b) wire ≡ Some is
@@ -406,6 +423,9 @@ module _ {S D L B : Type 0} (sources : S → SourceState) (drains : D → DrainS
         at = here;
         shape = shape;
         ended = ended_as (left.nodes s.0) from.1.0 s (between.node_at s.0 ∙ found) from.1.1.1;
+        now = from.1.0;
+        now_at = between.node_at s.0 ∙ found;
+        stands = from.1.1.1;
         wire = input.0;
         is = wire.wire;
         there = wire.at;
@@ -437,14 +457,48 @@ module _ {S D L B : Type 0} (sources : S → SourceState) (drains : D → DrainS
       let ranks = laws.ranked b can.plugs can.taken can.fit in
       told_sent g ranks.0 ranks.1 (unread book moved) (λ u. (left.near u).wire.sent) (λ k x here. let n = run.joined.source k x here in (n.0, n.1)) (laws.texts g left run) (laws.gives g (unread book moved) left run told_moves) i v at
 
+  -- the stand of a sink of lines, by its place among the stands
+  stand_of : (i : ℕ) (s : SinkStand) (n : blue.Node) (file : List ℕ) → slice_get st.end.sinks.items i ≡ Some s → slice_get nodes s.0 ≡ Some n → output_of n.kind ≡ Some file → (f : ASink s.0 file) × (s ≡ (s.0, f.now.count, f.now.end))
+  stand_of i s n file at here shape =
+      let among : slice_get (filter_map stand_in last) i ≡ Some s = subst (λ (x : List SinkStand). slice_get x i ≡ Some s) (l.sinks ∙ sinks_filtered last) at in
+      let from = unfiltered_at stand_in last i s among in
+      let below : from.0 < length nodes = subst (λ m. from.0 < m) (sym (as_many sources drains book handles b ss ds left last between old mid opens)) (place_within last from.0 from.1.0 from.1.1.0) in
+      let m = place_of nodes from.0 below in
+      let place : s.0 ≡ from.0 = no_stand from.0 (is_sink m.0) (stand_in from.1.0) s (profile from.0 m.0 from.1.0 m.1 from.1.1.0).stand from.1.1.1 in
+      let there : slice_get last s.0 ≡ Some from.1.0 = subst (λ j. slice_get last j ≡ Some from.1.0) (sym place) from.1.1.0 in
+      let f = sink_at s.0 file (record { node = n; at = here; file_is = shape }) in
+      let is : from.1.0 ≡ node.Writing f.now = place_one last s.0 from.1.0 (node.Writing f.now) there f.at in
+      let told : stand_in {S = S} {D = D} {L = L} {B = B} (node.Writing f.now) ≡ Some s = ap stand_in (sym is) ∙ from.1.1.1 in
+      let same : (f.now.node, f.now.count, f.now.end) ≡ s = some_one (f.now.node, f.now.count, f.now.end) s told in
+      (f, sym same ∙ ap (λ (j : ℕ). (j, f.now.count, f.now.end)) f.place)
+
+  -- how the wire of a sink stands, by how the sink does
+  sink_stood : (i : ℕ) (s : SinkStand) (u : ℕ) (v : Edge) (c : WireCount) → slice_get st.end.sinks.items i ≡ Some s → slice_get (blueprint_wires b) u ≡ Some v → v.to ≡ s.0 → slice_get st.wires.items u ≡ Some c
+      → ShutBy s.2 v.lane c.shut × OverBy s.2 v.lane c.shut (end_of_items (left.near u).wire.sent)
+  sink_stood i s u v c at wire to is =
+      let h = sink_here i s at in
+      let one : inputs_of h.node.kind ≡ 1 = sink_one h.node.kind h.shape in
+      rw (wire_at u v c wire is) (sink_shut sources drains book g left run u v wire s.0 (graph_node h.node) h.now (mapped_at graph_node nodes s.0 h.node h.at) one to h.now_at s h.stands)
+
+  writer_stood : (i : ℕ) (s : SinkStand) (n : blue.Node) (file : List ℕ) (u : ℕ) (v : Edge) (c : WireCount) → slice_get st.end.sinks.items i ≡ Some s → slice_get nodes s.0 ≡ Some n → n.kind ≡ kind.ToLines file
+      → slice_get (blueprint_wires b) u ≡ Some v → v.to ≡ s.0 → slice_get st.wires.items u ≡ Some c → AskedBy s.2 v.lane s.1 c
+  writer_stood i s n file u v c at here shape wire to is =
+      let found = stand_of i s n file at here (ap output_of shape) in
+      let f = found.0 in
+      let asked : AskedBy f.now.end v.lane f.now.count (wire_count v.lane (left.near u) (left.asked u)) =
+      sink_asked sources drains book g left run u v wire s.0 (graph_node n) file f.first f.now (mapped_at graph_node nodes s.0 n here) shape to f.there in
+      subst (λ (t : SinkStand). AskedBy t.2 v.lane t.1 c) (sym found.1) (rw (wire_at u v c wire is) asked)
+
   -- it is of its type where the plugs keep to theirs
-  abbrev carried : WiresCarry book b st.wires.items drawn.picks
+  abbrev carried : WiresCarry book b st.end.sinks.items st.wires.items drawn.picks
   carried =
-      carries book b st.wires.items drawn.picks moved (λ u. (left.near u).wire.sent) wire_count_at sent_list
+      carries book b st.end.sinks.items st.wires.items drawn.picks moved (λ u. (left.near u).wire.sent) wire_count_at sent_list
       (λ plugs taken fit keeps i v at.
       let by = laws.ranked b plugs taken fit in
       laws.types plugs b.chains.items nodes g (unread book moved) by.0 left run told_moves (laws.fits b plugs taken g fit refl refl refl) keeps by.1 i v at)
       (λ w is has sent j v n at from other came. laws.gives g w left (run_at w is) (picks_told sources drains book handles b can ss ds left last between old mid opens w has) sent j v n at from other came)
+      (λ u v c at is. rw (wire_at u v c at is) (record { over = ended_shut sources drains book g left run u v at; asks = lane_asked sources drains book g left run u v at }))
+      sink_stood writer_stood
 
   -- the picture of the run
   abbrev picture : List WireCount
@@ -504,21 +558,6 @@ module _ {S D L B : Type 0} (sources : S → SourceState) (drains : D → DrainS
         (laws.rests_by g w left (as_passed carried) (run_at w is) (still rest) (picks_told sources drains book handles b can ss ds left last between old mid opens w has) all_pass);
     matching = λ rest w. matched rest w (as_passed carried);
   }
-
-  -- the stand of a sink of lines, by its place among the stands
-  stand_of : (i : ℕ) (s : SinkStand) (n : blue.Node) (file : List ℕ) → slice_get st.end.sinks.items i ≡ Some s → slice_get nodes s.0 ≡ Some n → output_of n.kind ≡ Some file → (f : ASink s.0 file) × (s ≡ (s.0, f.now.count, f.now.end))
-  stand_of i s n file at here shape =
-      let among : slice_get (filter_map stand_in last) i ≡ Some s = subst (λ (x : List SinkStand). slice_get x i ≡ Some s) (l.sinks ∙ sinks_filtered last) at in
-      let from = unfiltered_at stand_in last i s among in
-      let below : from.0 < length nodes = subst (λ m. from.0 < m) (sym (as_many sources drains book handles b ss ds left last between old mid opens)) (place_within last from.0 from.1.0 from.1.1.0) in
-      let m = place_of nodes from.0 below in
-      let place : s.0 ≡ from.0 = no_stand from.0 (is_sink m.0) (stand_in from.1.0) s (profile from.0 m.0 from.1.0 m.1 from.1.1.0).stand from.1.1.1 in
-      let there : slice_get last s.0 ≡ Some from.1.0 = subst (λ j. slice_get last j ≡ Some from.1.0) (sym place) from.1.1.0 in
-      let f = sink_at s.0 file (record { node = n; at = here; file_is = shape }) in
-      let is : from.1.0 ≡ node.Writing f.now = place_one last s.0 from.1.0 (node.Writing f.now) there f.at in
-      let told : stand_in {S = S} {D = D} {L = L} {B = B} (node.Writing f.now) ≡ Some s = ap stand_in (sym is) ∙ from.1.1.1 in
-      let same : (f.now.node, f.now.count, f.now.end) ≡ s = some_one (f.now.node, f.now.count, f.now.end) s told in
-      (f, sym same ∙ ap (λ (j : ℕ). (j, f.now.count, f.now.end)) f.place)
 
   module _ (tells_was : IsTrue old.tells) where
     abbrev Drew : Type 0

@@ -28,6 +28,8 @@ pub mod Traces
 pub mod Shutting
 pub mod Units
 pub mod Sending
+pub mod EndShuts
+pub mod SinkWires
 pub mod Worlds
 pub mod Choosing
 pub mod Carried

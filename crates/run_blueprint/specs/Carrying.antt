@@ -1,14 +1,16 @@
--- What passed the wires of a run, whatever the folder tells of its files.
-use Rattle.std.specs.Prelude.{◌≡◌, ◌≢◌, ℕ, Bool, IsTrue, List, length, slice_get, Option, Some}
+-- What passed the wires of a run, and how they stand, whatever the folder tells of its files.
+use Rattle.std.specs.Prelude.{◌≡◌, ◌≢◌, ℕ, ◌+◌, ◌≤◌, Bool, true, false, if◌then◌else◌, IsTrue, List, length, slice_get, Option, None, Some, ⊤}
 use Rattle.elem_core.specs.Sort.{Sort}
 use Rattle.elem_core.specs.Tree.{Tree}
-use Rattle.stream_model.specs.declared.kind.Kind.TheVariants.{Lines}
+use Rattle.stream_model.specs.declared.kind.Kind.TheVariants.{Lines, ToLines}
 use Rattle.stream_model.specs.declared.outcome.WireCount.{WireCount}
+use Rattle.stream_model.specs.declared.outcome.EndState.{EndState}
+use Rattle.stream_model.specs.declared.outcome.EndState.TheVariants.{Ended, Failed, Unended, WriteFault}
 use Rattle.stream_model.specs.Composed.{next}
 use Rattle.stream_model.specs.Graph.{Edge}
 use Rattle.stream_model.specs.Node.{World}
 use Rattle.stream_model.specs.Lawful.{IsLawful}
-use Rattle.stream_model.specs.Outlook.{Outlook, End, Agrees}
+use Rattle.stream_model.specs.Outlook.{Outlook, End, unended, Agrees}
 use Rattle.stream_model.specs.Rests.{Rests, SinksMatch}
 use Rattle.stream_model.specs.Shape.{sent_at}
 use Rattle.stream_model.specs.declared.blueprint.Blueprint.{Blueprint}
@@ -30,10 +32,39 @@ use Rattle.run_blueprint.specs.Plugs.{KeepsPlugTypes}
 abbrev pub settled_type : Blueprint → List PlugHead → Edge → Option Sort
 settled_type b plugs v = wire_type plugs b.chains.items b.nodes.items (graph_of b) v
 
+-- The wire of a sink is shut where the sink has ended or a write of it failed, but for a lane, through which the sink's cancel may be
+-- on its way; and where the sink failed, also a lane.
+abbrev pub ShutBy : EndState → Option ℕ → Bool → Type 0
+ShutBy Unended lane shut = ⊤
+ShutBy Ended None shut = shut ≡ true
+ShutBy Ended (Some s) shut = ⊤
+ShutBy (Failed c) lane shut = shut ≡ true
+ShutBy WriteFault None shut = shut ≡ true
+ShutBy WriteFault (Some s) shut = ⊤
+
+-- where the wire of a sink that goes on is shut, and is no lane, its end was sent
+abbrev pub OverBy : EndState → Option ℕ → Bool → End → Type 0
+OverBy Unended None shut e = shut ≡ true → e ≢ unended
+OverBy Unended (Some s) shut e = ⊤
+OverBy Ended lane shut e = ⊤
+OverBy (Failed c) lane shut e = ⊤
+OverBy WriteFault lane shut e = ⊤
+
+-- On the wire of a sink that goes on and wrote `count` lines, where it is open and no lane, an element is asked for exactly where all
+-- that was sent was written; else one is on its way.
+abbrev pub AskedBy : EndState → Option ℕ → ℕ → WireCount → Type 0
+AskedBy Unended None count c = c.shut ≡ false → c.sent ≡ (if c.asked then count else count + 1)
+AskedBy Unended (Some s) count c = ⊤
+AskedBy Ended lane count c = ⊤
+AskedBy (Failed d) lane count c = ⊤
+AskedBy WriteFault lane count c = ⊤
+
 -- On each wire a list passed, and it stands so: as many elements as the picture counts (`counted`), all of the type that the
 -- check settles for the wire (`typed`). What a node gave that is no source of lines agrees with what it gives of the lists that
--- passed on its inputs, by every world that has what the stages chose (`given`).
-pub record WiresCarry (book : Book) (b : Blueprint) (wires : List WireCount) (picks : List Pick) : Type 0 where
+-- passed on its inputs, by every world that has what the stages chose (`given`). A wire on which an end was sent is shut (`shut_is`);
+-- a lane is not asked only where as many elements were sent as it has places (`lane_asks`); and the wire of a sink stands by how the
+-- sink does (`sink_shut`, `sink_asked`).
+pub record WiresCarry (book : Book) (b : Blueprint) (stands : List SinkStand) (wires : List WireCount) (picks : List Pick) : Type 0 where
   pub lists : ℕ → List Tree
   pub ends : ℕ → End
   pub counted : (i : ℕ) (v : Edge) → slice_get (blueprint_wires b) i ≡ Some v → sent_at wires i ≡ length (lists i)
@@ -41,16 +72,22 @@ pub record WiresCarry (book : Book) (b : Blueprint) (wires : List WireCount) (pi
       → (t : Sort) × ((settled_type b plugs v ≡ Some t) × AllTyped t (lists i))
   pub given : (w : World) → w.book ≡ book → HasPicks picks w → (j : ℕ) (v : Edge) (n : Node) → slice_get (blueprint_wires b) j ≡ Some v → slice_get b.nodes.items v.from ≡ Some n → ((name : List ℕ) → n.kind ≢ Lines name)
       → Agrees (next (graph_of b) w (λ u. exact (lists u) (ends u)) j) (lists j) (ends j)
+  pub shut_is : (i : ℕ) (v : Edge) (c : WireCount) → slice_get (blueprint_wires b) i ≡ Some v → slice_get wires i ≡ Some c → ends i ≢ unended → c.shut ≡ true
+  pub lane_asks : (i : ℕ) (v : Edge) (c : WireCount) (s : ℕ) → slice_get (blueprint_wires b) i ≡ Some v → slice_get wires i ≡ Some c → v.lane ≡ Some s → c.asked ≡ false → s ≤ c.sent
+  pub sink_shut : (k : ℕ) (s : SinkStand) (i : ℕ) (v : Edge) (c : WireCount) → slice_get stands k ≡ Some s → slice_get (blueprint_wires b) i ≡ Some v → v.to ≡ s.0 → slice_get wires i ≡ Some c
+      → ShutBy s.2 v.lane c.shut × OverBy s.2 v.lane c.shut (ends i)
+  pub sink_asked : (k : ℕ) (s : SinkStand) (n : Node) (file : List ℕ) (i : ℕ) (v : Edge) (c : WireCount) → slice_get stands k ≡ Some s → slice_get b.nodes.items s.0 ≡ Some n → n.kind ≡ ToLines file
+      → slice_get (blueprint_wires b) i ≡ Some v → v.to ≡ s.0 → slice_get wires i ≡ Some c → AskedBy s.2 v.lane s.1 c
 
 -- what passed each wire, as all that may pass it
-abbrev pub as_passed : {book : Book} → {b : Blueprint} → {wires : List WireCount} → {picks : List Pick} → WiresCarry book b wires picks → ℕ → Outlook
+abbrev pub as_passed : {book : Book} → {b : Blueprint} → {stands : List SinkStand} → {wires : List WireCount} → {picks : List Pick} → WiresCarry book b stands wires picks → ℕ → Outlook
 as_passed c u = exact (c.lists u) (c.ends u)
 
 -- The picture of a run by what passed its wires, whatever the folder tells of its files. By every world that has the plugs of the run
 -- and what its stages chose it is lawful, and where no event was left it rests; then a sink's input is shut exactly where the sink has
 -- ended.
 pub record PictureStands (book : Book) (b : Blueprint) (sinks : List SinkStand) (picks : List Pick) (wires : List WireCount) (at_rest : Bool) : Type 0 where
-  pub carries : WiresCarry book b wires picks
+  pub carries : WiresCarry book b sinks wires picks
   pub lawful : (w : World) → w.book ≡ book → HasPicks picks w → IsLawful (graph_of b) w wires (as_passed carries)
   pub rest : IsTrue at_rest → (w : World) → w.book ≡ book → HasPicks picks w → Rests (graph_of b) w wires (as_passed carries)
   pub matching : IsTrue at_rest → (w : World) → SinksMatch (graph_of b) w wires (as_passed carries) (has_ended_at sinks)

@@ -334,7 +334,7 @@ module _ (plugged : Plugged) (b : Blueprint) (trace : Option (List ℕ)) (ran : 
   pictured : PictureStands plugged.book b stands a.picks a.wires (no_event_left a turns)
   pictured = picture_less plugged.book b stands a.picks a.wires (no_event_left a turns) ran.at_rest over_rests (rw (after.wires, after.picks) runs.picture)
 
-  carries : WiresCarry plugged.book b a.wires a.picks
+  carries : WiresCarry plugged.book b stands a.wires a.picks
   carries = pictured.carries
 
   picks_are : picked a.picks ≡ pick_places 0 b.nodes.items

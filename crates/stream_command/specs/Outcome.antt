@@ -1,5 +1,5 @@
 -- What a call answers and what it leaves, status by status.
-use Rattle.std.specs.Prelude.{◌≡◌, ℕ, ◌<◌, ◌≤◌, ◌⊎◌, true, false, IsSome, List, [], ◌∷◌, ◌++◌, map, slice_get, Option, Some, None, ⊤}
+use Rattle.std.specs.Prelude.{◌≡◌, ℕ, ◌<◌, ◌≤◌, ◌⊎◌, true, false, IsTrue, IsSome, List, [], ◌∷◌, ◌++◌, map, slice_get, Option, Some, None, ⊤}
 use Rattle.std.specs.Option.{option_to_list}
 use Rattle.std.specs.List.{All, Contains}
 use Rattle.stream_model.specs.declared.outcome.EndState.TheVariants as state
@@ -62,7 +62,8 @@ pub record RanNothing (old new : FolderState) (a : Answer) : Type 0 where
 -- The blueprint was run, by so many units at most, and its sinks stand so; the files are left as a run leaves them. No event was
 -- left where it stalled or used fewer units. There is a list of moves for each stage whose kind chooses, in order of nodes, and no
 -- other, by which the sinks and the picture are told; where no kind chooses there is none, and all of it is told by the input files
--- alone. The units pay for what passed the wires, and each wire carried only elements of its type. In a polytree a sink has not ended only
+-- alone. The units pay for what passed the wires, each wire carried only elements of its type, and it stands by what was sent on it and by how
+-- its sink stands. In a polytree a sink has not ended only
 -- where the units were used up; and where they suffice for all that may pass, each sink of whose outlook no failure is part has
 -- ended, unless a write to its file failed.
 pub record RanTo (p : Plugged) (old new : FolderState) (b : Blueprint) (trace : Option (List ℕ)) (turns : ℕ) (a : Answer) : Type 0 where
@@ -74,7 +75,7 @@ pub record RanTo (p : Plugged) (old new : FolderState) (b : Blueprint) (trace : 
   pub writes : (i : ℕ) (s : SinkStand) (n : Node) (file : List ℕ) → slice_get stands i ≡ Some s → slice_get b.nodes.items s.0 ≡ Some n → output_of n.kind ≡ Some file → FailedWritesOf s.2 (old.wfaults file) (new.wfaults file)
   pub within : a.used ≤ turns
   pub pays : Pays b a.wires a.used
-  pub carries : WiresCarry p.book b a.wires a.picks
+  pub carries : WiresCarry p.book b stands a.wires a.picks
   pub ending : IsPolytree (wiring (blueprint_wires b)) → some_unended a.sinks ≡ true → a.used ≡ turns
   pub enough : IsPolytree (wiring (blueprint_wires b)) → (w : World) → IsWorldOf p.book b.nodes.items leaves.drawn w → need (graph_of b) (composed (graph_of b) w) ≤ turns
       → (i : ℕ) (s : SinkStand) (n : Node) (file : List ℕ) → slice_get stands i ≡ Some s → slice_get b.nodes.items s.0 ≡ Some n → output_of n.kind ≡ Some file
@@ -173,8 +174,8 @@ MissesFile old new b trace n = (Contains (inputs_of_nodes b.nodes.items) n × Is
 
 -- What is told of a run whatever the folder tells. Its sinks stand so, and the count of failed writes of a sink's file rose exactly where
 -- that sink stands at a failed write. There is a list of moves for each stage whose kind chooses. The units were within the turns and
--- pay for what passed the wires; each wire carried only elements of its type, and the picture stands by what passed: it is lawful, and
--- where no event was left it rests. In a polytree a sink has not ended only where the units were used up.
+-- pay for what passed the wires; each wire carried only elements of its type and stands by what was sent on it and by how its sink
+-- stands, and the picture stands by what passed: it is lawful, and where no event was left it rests. In a polytree a sink has not ended only where the units were used up.
 pub record SinksWrote (p : Plugged) (old new : FolderState) (b : Blueprint) (turns : ℕ) (a : Answer) : Type 0 where
   pub stands : List SinkStand
   pub stands_are : map (λ (s : SinkStand). s.0) stands ≡ sink_places 0 b.nodes.items

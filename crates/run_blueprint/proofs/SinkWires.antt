@@ -1,0 +1,236 @@
+-- How the wires of a run stand at any moment: of those on which an end was sent, of lanes, and of the wire of a sink by how it stands.
+use Rattle.std.specs.Prelude.{slice_get, slice_index_or, if◌then◌else◌}
+use Rattle.std.proofs.Common.{◌≡◌, ℕ, zero, suc, ◌+◌, ◌≤◌, Bool, true, false, not, List, [], ◌∷◌, length, Option, None, Some, refl, sym, ap, ◌∙◌, subst, arith}
+use Rattle.elem_core.specs.Tree.{Tree}
+use Rattle.elem_core.specs.Items.{elements}
+use Rattle.elem_core.specs.declared.item.Item.{Item}
+use Rattle.port_core.specs.Cell.{WireState}
+use Rattle.port_core.specs.Decoding.{is_open}
+use Rattle.port_core.specs.Joint.{IsSound}
+use Rattle.port_core.specs.Marks.{IsMarked}
+use Rattle.port_core.specs.Reading.{inp_of, got_of}
+use Rattle.port_core.specs.View.{View}
+use Rattle.port_core.specs.declared.view.InView.{InView}
+use Rattle.port_core.specs.declared.view.InView.TheVariants.{Idle, Pulled, Finished, Cancelled}
+use Rattle.port_core.specs.declared.view.OutView.{OutView}
+use Rattle.stage_core.specs.Held.{told}
+use Rattle.stage_core.specs.Law.{TookAs}
+use Rattle.stage_core.specs.Row.{InClosed}
+use Rattle.stream_io.specs.State.{SourceState, DrainState}
+use Rattle.stream_model.specs.declared.kind.Kind.TheVariants as kind
+use Rattle.stream_model.specs.declared.outcome.EndState.{EndState}
+use Rattle.stream_model.specs.declared.outcome.EndState.TheVariants.{Ended, Failed, Unended, WriteFault}
+use Rattle.stream_model.specs.Composed.{inputs_of}
+use Rattle.stream_model.specs.Graph.{Graph, Edge, find_wire}
+use Rattle.stream_model.specs.Graph as graph
+use Rattle.stream_model.specs.Linear.{Book}
+use Rattle.stream_model.specs.Outlook.{End, unended}
+use Rattle.stream_model.proofs.Compositions.{slice_get-below}
+use Rattle.nodes.specs.declared.node.IslandNode.{IslandNode}
+use Rattle.nodes.specs.declared.node.IslandNode.TheVariants as node
+use Rattle.nodes.specs.declared.sink.Writes.{Writes}
+use Rattle.nodes.specs.declared.sink.Writes.TheVariants.{Each, First, Last}
+use Rattle.nodes.specs.Ignoring.{ignore_port_state_in}
+use Rattle.nodes.specs.Kinds.{writes_of}
+use Rattle.nodes.specs.Nodes.{node_port_state, node_law, node_asking, node_moves}
+use Rattle.nodes.specs.Ports.{OneInOf}
+use Rattle.nodes.specs.Sink.{Sink, sink_port_state_in, SinkStandsAs, WritesOf, WritesEach, SinkLaw}
+use Rattle.run_laws.specs.Account.{Account, knows, took, gave, WireKeeps, NodeKeeps}
+use Rattle.run_laws.specs.Items.{end_of_items}
+use Rattle.run_laws.specs.KindLaws.{IsHistoryOf}
+use Rattle.run_laws.specs.Made.{FirstWriting}
+use Rattle.run_laws.specs.Ports.{wire_count}
+use Rattle.run_laws.specs.Runs.{IsRun}
+use Rattle.run_laws.specs.Sinks.{IsSinkAt}
+use Rattle.run_laws.proofs.Coming.{elements_told}
+use Rattle.run_laws.proofs.Drawing.{in_there}
+use Rattle.run_laws.proofs.Hearing.{node_hears}
+use Rattle.run_laws.proofs.Marks.{lane_least, lane_over}
+use Rattle.run_laws.proofs.Nodes.{kept_as, one_input, read_one}
+use Rattle.run_laws.proofs.Resting.{in_shut}
+use Rattle.run_blueprint.specs.Carrying.{ShutBy, OverBy, AskedBy}
+use Rattle.run_blueprint.specs.Stands.{SinkStand}
+use Rattle.run_blueprint.proofs.EndShuts.{end_shuts, waits_over, waits_marked}
+use Rattle.run_blueprint.proofs.Profiles.{some_one, stand_in}
+
+-- ---- what a sink knows of its input, by how it stands
+
+abbrev Sees : EndState → InView → Type 0
+Sees Unended i = i ≡ Pulled
+Sees Ended i = InClosed i
+Sees (Failed c) i = i ≡ Finished
+Sees WriteFault i = InClosed i
+
+writer_sees : (b : Bool) (e : EndState) (i : InView) (outs : List OutView) → OneInOf (sink_port_state_in b e) (i ∷ []) outs → Sees e i
+writer_sees true Unended Pulled [] r = refl
+writer_sees true Ended Finished [] r = tt
+writer_sees true Ended Cancelled [] r = tt
+writer_sees true (Failed c) Finished [] r = refl
+writer_sees true WriteFault Finished [] r = tt
+writer_sees true WriteFault Cancelled [] r = tt
+writer_sees _ e i [] r = absurd r
+writer_sees _ e i (y ∷ outs) r = absurd r
+
+ignorer_sees : (b : Bool) (e : EndState) (i : InView) (outs : List OutView) → OneInOf (ignore_port_state_in b e) (i ∷ []) outs → Sees e i
+ignorer_sees true Unended Pulled [] r = refl
+ignorer_sees true Ended Finished [] r = tt
+ignorer_sees true (Failed c) Finished [] r = refl
+ignorer_sees _ e i [] r = absurd r
+ignorer_sees _ e i (y ∷ outs) r = absurd r
+
+sink_sees : {S D L B : Type 0} (now : IslandNode S D L B) (s : SinkStand) (v : View) (i : InView) → stand_in now ≡ Some s → node_port_state now v → v.ins ≡ i ∷ [] → Sees s.2 i
+sink_sees (node.Writing x) s v i is r ins =
+    let row : OneInOf (sink_port_state_in x.started x.end) (i ∷ []) v.outs = subst (λ (l : List InView). OneInOf (sink_port_state_in x.started x.end) l v.outs) ins r in
+    subst (λ (e : EndState). Sees e i) (ap (λ (t : SinkStand). t.2) (some_one (x.node, x.count, x.end) s is)) (writer_sees x.started x.end i v.outs row)
+sink_sees (node.Ignoring x) s v i is r ins =
+    let row : OneInOf (ignore_port_state_in x.started x.end) (i ∷ []) v.outs = subst (λ (l : List InView). OneInOf (ignore_port_state_in x.started x.end) l v.outs) ins r in
+    subst (λ (e : EndState). Sees e i) (ap (λ (t : SinkStand). t.2) (some_one (x.node, 0, x.end) s is)) (ignorer_sees x.started x.end i v.outs row)
+sink_sees (node.Reading x) s v i is r ins = absurd cc
+sink_sees (node.Making x) s v i is r ins = absurd cc
+sink_sees (node.Linear x) s v i is r ins = absurd cc
+sink_sees (node.State x) s v i is r ins = absurd cc
+sink_sees (node.Sub x) s v i is r ins = absurd cc
+sink_sees (node.FanIn x) s v i is r ins = absurd cc
+sink_sees (node.FanOut x) s v i is r ins = absurd cc
+sink_sees (node.Entering x) s v i is r ins = absurd cc
+sink_sees (node.Leaving x) s v i is r ins = absurd cc
+
+some_index : (l : List InView) (p : ℕ) (x y : InView) → slice_get l p ≡ Some x → slice_index_or l p y ≡ x
+some_index [] p x y e = cc
+some_index (i ∷ l) zero x y e = cc
+some_index (i ∷ l) (suc p) x y e = some_index l p x y e
+
+goes_unended : (i : InView) (e : End) → i ≡ Pulled → TookAs i e → e ≡ unended
+goes_unended Pulled e is seen = seen
+goes_unended Idle e is seen = cc
+goes_unended Finished e is seen = cc
+goes_unended Cancelled e is seen = cc
+
+heads_same : (x y : List Item) → x ∷ [] ≡ y ∷ [] → x ≡ y
+heads_same x y e = cc
+
+-- ---- the wire, by the connections at its ends
+
+module _ (near far : WireState) (asked : ℕ) (p q : Bool) (sn : IsSound near.wire p) (sf : IsSound far.wire q) where
+  shut_by : (e : EndState) (lane : Option ℕ) → WireKeeps lane near far asked → Sees e far.wire.inp → ShutBy e lane (not (is_open near.wire.conn))
+  shut_by Unended lane k h = tt
+  shut_by Ended None k h = rw (sym k) (in_shut far.wire q sf h)
+  shut_by Ended (Some s) k h = tt
+  shut_by (Failed c) None k h = rw (sym k) (in_shut far.wire q sf (subst InClosed (sym h) tt))
+  shut_by (Failed c) (Some s) k h = lane_over s near far k.out k.inp k.out_keeps k.in_keeps k.met p q sn sf h
+  shut_by WriteFault None k h = rw (sym k) (in_shut far.wire q sf h)
+  shut_by WriteFault (Some s) k h = tt
+
+  over_by : (e : EndState) (lane : Option ℕ) → WireKeeps lane near far asked → (l : List Tree) (f : End) → near.wire.got ≡ told l f → TookAs near.wire.inp f → Sees e far.wire.inp → OverBy e lane (not (is_open near.wire.conn)) (end_of_items near.wire.sent)
+  over_by Unended None k l f is seen h = λ shut none.
+      let waits : near.wire.inp ≡ Pulled = subst (λ (c : WireState). c.wire.inp ≡ Pulled) k h in
+      waits_over near.wire p sn l f is (goes_unended near.wire.inp f waits seen) waits shut none
+  over_by Unended (Some s) k l f is seen h = tt
+  over_by Ended lane k l f is seen h = tt
+  over_by (Failed c) lane k l f is seen h = tt
+  over_by WriteFault lane k l f is seen h = tt
+
+  asked_by : (e : EndState) (lane : Option ℕ) (count : ℕ) → WireKeeps lane near far asked → IsMarked near → Sees e far.wire.inp → (e ≡ Unended → elements far.wire.got ≡ count) → AskedBy e lane count (wire_count lane near asked)
+  asked_by Unended None count k m h wrote = λ none.
+      let waits : near.wire.inp ≡ Pulled = subst (λ (c : WireState). c.wire.inp ≡ Pulled) k h in
+      let all : elements near.wire.got ≡ count = subst (λ (c : WireState). elements c.wire.got ≡ count) k (wrote refl) in
+      subst (λ (n : ℕ). elements near.wire.sent ≡ (if near.asked then n else n + 1)) all (waits_marked near p m sn waits none)
+  asked_by Unended (Some s) count k m h wrote = tt
+  asked_by Ended lane count k m h wrote = tt
+  asked_by (Failed c) lane count k m h wrote = tt
+  asked_by WriteFault lane count k m h wrote = tt
+
+  asks_by : (lane : Option ℕ) (s : ℕ) → WireKeeps lane near far asked → lane ≡ Some s → (wire_count lane near asked).asked ≡ false → s ≤ elements near.wire.sent
+  asks_by None s k is unasked = cc
+  asks_by (Some z) s k is unasked =
+      let size : z ≡ s = some_one z s is in
+      let least : z ≤ elements near.wire.sent = lane_least z near far k.out k.inp k.out_keeps k.in_keeps k.met (rw k.asked_is unasked) in
+      omega (arith, size, least)
+
+-- how many elements came to a sink that goes on and writes each
+each_wrote : (m : Writes) (n count : ℕ) (kept : Option Tree) (e : EndState) (old new : DrainState) (l : List Tree) (f : End) (wrote : List Tree) → m ≡ Each → e ≡ Unended → WritesOf m n kept e l f wrote → SinkStandsAs e old new wrote count → length l ≡ count
+each_wrote Each n count kept Unended old new l f wrote each goes w s = ap length (sym w.0) ∙ sym s.count
+each_wrote First n count kept Unended old new l f wrote each goes w s = cc
+each_wrote Last n count kept Unended old new l f wrote each goes w s = cc
+each_wrote m n count kept Ended old new l f wrote each goes w s = cc
+each_wrote m n count kept (Failed c) old new l f wrote each goes w s = cc
+each_wrote m n count kept WriteFault old new l f wrote each goes w s = cc
+
+-- ---- a wire of a run
+
+module _ {S D L B : Type 0} (sources : S → SourceState) (drains : D → DrainState) (book : Book) (g : Graph) (a : Account (IslandNode S D L B)) (run : IsRun sources drains book g a) (u : ℕ) (v : Edge) (at : slice_get g.wires u ≡ Some v) where
+  near_sound : (q : _) × IsSound (a.near u).wire q
+  near_sound = run.keeps.near_sound u (slice_get-below g.wires u v at)
+
+  far_sound : (q : _) × IsSound (a.far u).wire q
+  far_sound = run.keeps.far_sound u (slice_get-below g.wires u v at)
+
+  keeps : WireKeeps v.lane (a.near u) (a.far u) (a.asked u)
+  keeps = run.keeps.wires u v at
+
+  -- what came at its input end is a list and its end, as is known there
+  came_far : (l : List Tree) × (e : End) × ((a.far u).wire.got ≡ told l e) × TookAs (a.far u).wire.inp e
+  came_far =
+      let t = run.joined.target u v at in
+      let none : 0 + v.input ≡ v.input = omega arith in
+      let kept = run.keeps.each_node v.to t.0 t.1 in
+      let got = in_there g got_of a.far v.to 0 (inputs_of t.0.kind) v.input u t.2 (rw none t.3) in
+      let inp = in_there g inp_of a.far v.to 0 (inputs_of t.0.kind) v.input u t.2 (rw none t.3) in
+      let h : IsHistoryOf (slice_index_or (knows g a v.to t.0).ins v.input Cancelled) (a.far u).wire.got =
+      node_hears sources drains book g.chains v.to t.0 kept.first kept.now (knows g a v.to t.0) (took g a v.to t.0) (gave g a v.to t.0) (run.made v.to t.0 kept.first t.1 kept.first_at) kept.law_holds v.input (a.far u).wire.got got in
+      let seen : TookAs (a.far u).wire.inp h.end = subst (λ (x : InView). TookAs x h.end) (some_index (knows g a v.to t.0).ins v.input (a.far u).wire.inp Cancelled inp) h.as_seen in
+      (h.list, h.end, h.is, seen)
+
+  came_by : (lane : Option ℕ) → WireKeeps lane (a.near u) (a.far u) (a.asked u) → (l : List Tree) × (e : End) × ((a.near u).wire.got ≡ told l e) × TookAs (a.near u).wire.inp e
+  came_by None k = let c = came_far in (c.0, c.1, subst (λ (x : WireState). x.wire.got ≡ told c.0 c.1) k c.2, subst (λ (x : WireState). TookAs x.wire.inp c.1) k c.3)
+  came_by (Some s) k = (k.out_keeps.came_list, k.out_keeps.came_end, k.out_keeps.came_is, k.out_keeps.came_as)
+
+  -- at its output end
+  came_near : (l : List Tree) × (e : End) × ((a.near u).wire.got ≡ told l e) × TookAs (a.near u).wire.inp e
+  came_near = came_by v.lane keeps
+
+  -- where an end was sent it is shut
+  pub ended_shut : (end_of_items (a.near u).wire.sent ≡ unended → ⊥) → (wire_count v.lane (a.near u) (a.asked u)).shut ≡ true
+  ended_shut over = let c = came_near in end_shuts (a.near u).wire near_sound.0 near_sound.1 c.0 c.1 c.2 c.3 over
+
+  -- a lane that is not asked
+  pub lane_asked : (s : ℕ) → v.lane ≡ Some s → (wire_count v.lane (a.near u) (a.asked u)).asked ≡ false → s ≤ elements (a.near u).wire.sent
+  lane_asked s is unasked = asks_by (a.near u) (a.far u) (a.asked u) near_sound.0 far_sound.0 near_sound.1 far_sound.1 v.lane s keeps is unasked
+
+  -- the wire of a sink
+  module _ (k : ℕ) (n : graph.Node) (now : IslandNode S D L B) (ni : slice_get g.nodes k ≡ Some n) (one : inputs_of n.kind ≡ 1) (to : v.to ≡ k) (here : a.nodes k ≡ Some now) where
+    found : find_wire k 0 g.wires ≡ Some u
+    found = one_input g run.joined k n u v ni one at to
+
+    sees : (s : SinkStand) → stand_in now ≡ Some s → Sees s.2 (a.far u).wire.inp
+    sees s is =
+        let kept = run.keeps.each_node k n ni in
+        let same : kept.now ≡ now = some_one kept.now now (sym kept.now_at ∙ here) in
+        let row : node_port_state now (knows g a k n) = subst (λ (x : IslandNode S D L B). node_port_state x (knows g a k n)) same kept.port_state_holds in
+        sink_sees now s (knows g a k n) (a.far u).wire.inp is row (read_one g inp_of a.far k (inputs_of n.kind) u one found)
+
+    pub sink_shut : (s : SinkStand) → stand_in now ≡ Some s → ShutBy s.2 v.lane (wire_count v.lane (a.near u) (a.asked u)).shut × OverBy s.2 v.lane (wire_count v.lane (a.near u) (a.asked u)).shut (end_of_items (a.near u).wire.sent)
+    sink_shut s is =
+        let c = came_near in (
+          shut_by (a.near u) (a.far u) (a.asked u) near_sound.0 far_sound.0 near_sound.1 far_sound.1 s.2 v.lane keeps (sees s is),
+          over_by (a.near u) (a.far u) (a.asked u) near_sound.0 far_sound.0 near_sound.1 far_sound.1 s.2 v.lane keeps c.0 c.1 c.2 c.3 (sees s is),
+        )
+
+  -- of a sink of lines
+  module _ (k : ℕ) (n : graph.Node) (file : List ℕ) (first now : Sink D) (ni : slice_get g.nodes k ≡ Some n) (shape : n.kind ≡ kind.ToLines file) (to : v.to ≡ k) (there : IsSinkAt a k first now) where
+    wrote_all : now.end ≡ Unended → elements (a.far u).wire.got ≡ now.count
+    wrote_all goes =
+        let kept = kept_as node_port_state (node_law sources drains book) node_asking node_moves g a run.keeps k n (node.Writing first) (node.Writing now) ni there.at_first there.at_last in
+        let law : SinkLaw drains first now (knows g a k n) (took g a k n) (gave g a k n) = kept.law_holds in
+        let its : FirstWriting k n.kind first = run.made k n (node.Writing first) ni there.at_first in
+        let one : inputs_of n.kind ≡ 1 = ap inputs_of shape in
+        let came : took g a k n ≡ (a.far u).wire.got ∷ [] = read_one g got_of a.far k (inputs_of n.kind) u one (one_input g run.joined k n u v ni one at to) in
+        let got : (a.far u).wire.got ≡ told law.elems law.in_end = heads_same (a.far u).wire.got (told law.elems law.in_end) (sym came ∙ law.took_is) in
+        let each : now.writes ≡ Each = law.writes_same ∙ its.writes ∙ ap writes_of shape in
+        ap elements got ∙ elements_told law.elems law.in_end
+        ∙ each_wrote now.writes now.node now.count now.kept now.end (drains first.drain) (drains now.drain) law.elems law.in_end law.wrote each goes law.writes law.stands
+
+    pub sink_asked : AskedBy now.end v.lane now.count (wire_count v.lane (a.near u) (a.asked u))
+    sink_asked =
+        let view = sees k n (node.Writing now) ni (ap inputs_of shape) to there.at_last (now.node, now.count, now.end) refl in
+        asked_by (a.near u) (a.far u) (a.asked u) near_sound.0 far_sound.0 near_sound.1 far_sound.1 now.end v.lane now.count keeps (run.keeps.near_marked u (slice_get-below g.wires u v at)) view wrote_all

@@ -44,21 +44,19 @@ impl Env for Started<'_> {
     }
 }
 
-// What a process with these words says, and whether it ends with this code.
-fn says<R: Threads + Wait + Sync, F: Folder>(
+// Whether a process with these words says this text, and ends with this code.
+fn tells<R: Threads + Wait + Sync, F: Folder>(
     rt: &R,
     alloc: Global,
     folder: &mut F,
     words: &[&[u8]],
     code: u8,
-) -> Result<(bool, Vec<u8>), Fail> {
+    text: &[u8],
+) -> Result<bool, Fail> {
     let words = words_of(&Started { words }, alloc);
     let mut console = MemDrain::new(alloc, Vec::new(alloc), 7, 1000)?;
     let ended = call_shipped(rt, alloc, words, folder, &mut console);
-    Ok((
-        ended == ExitCode::from(code),
-        Vec::from_slice(alloc, console.bytes())?,
-    ))
+    Ok(ended == ExitCode::from(code) && console.bytes() == text)
 }
 
 #[test]
@@ -68,11 +66,20 @@ fn words_that_are_no_text_are_no_command(rt: HostRuntime) -> Result<(), Fail> {
     let mut long = Vec::new(alloc);
     long.resize(65_537, b'a')?;
     for word in [b"\xff".as_slice(), b"--trace=\xff", b"a\nb", &long] {
-        let (ended, said) = says(&rt, alloc, &mut folder, &[b"streams", word], 1)?;
-        assert!(rt; ended);
-        assert_eq!(rt; said.as_slice(), USAGE);
+        assert!(rt; tells(&rt, alloc, &mut folder, &[b"streams", word], 1, USAGE)?);
     }
     Ok(())
+}
+
+// Whether these are the words that are wanted, and no others.
+fn are(words: &[Vec<u8>], wanted: &[&[u8]]) -> bool {
+    for i in 0..wanted.len() {
+        match words.get(i) {
+            Some(word) if word.as_slice() == wanted[i] => {}
+            _ => return false,
+        }
+    }
+    words.len() == wanted.len()
 }
 
 #[test]
@@ -80,18 +87,17 @@ fn all_words_are_read(rt: HostRuntime) -> Result<(), Fail> {
     let alloc = rt.alloc();
     let mut long = Vec::new(alloc);
     long.resize(1000, b'\xff')?;
-    let words = words_of(
-        &Started {
-            words: &[b"streams", b"", &long, b"--gen"],
-        },
-        alloc,
-    )?;
-    assert_eq!(rt; words.len(), 4);
-    assert_eq!(rt; words[0].as_slice(), b"streams".as_slice());
-    assert!(rt; words[1].is_empty());
-    assert_eq!(rt; words[2].as_slice(), long.as_slice());
-    assert_eq!(rt; words[3].as_slice(), b"--gen".as_slice());
+    let wanted = [b"streams".as_slice(), b"", &long, b"--gen"];
+    let words = words_of(&Started { words: &wanted }, alloc)?;
+    assert!(rt; are(&words, &wanted));
     Ok(())
+}
+
+// Whether a file holds this text. It is removed.
+fn held(rt: &HostRuntime, name: &str, text: &[u8]) -> Result<bool, Fail> {
+    let is_held = fs::read(rt, name)?.as_slice() == text;
+    fs::remove_file(rt, name)?;
+    Ok(is_held)
 }
 
 #[test]
@@ -99,19 +105,14 @@ fn a_generated_run_fills_the_real_folder(rt: HostRuntime) -> Result<(), Fail> {
     let alloc = rt.alloc();
     let mut folder = DirFolder::new(alloc, rt.clone()?);
     let words = [b"streams".as_slice(), b"--gen", b"4"];
-    let (ended, said) = says(&rt, alloc, &mut folder, &words, 0)?;
-    assert!(rt; ended);
-    assert_eq!(rt;
-        said.as_slice(),
-        b"done\nsink even ended 2\nsink sum ended 1\n".as_slice()
-    );
+    let told = b"done\nsink even ended 2\nsink sum ended 1\n";
+    assert!(rt; tells(&rt, alloc, &mut folder, &words, 0, told)?);
     for (name, text) in [
         ("gen.txt", b"923\n842\n761\n680\n".as_slice()),
         ("gen.even", b"842\n680\n"),
         ("gen.sum", b"3206\n"),
     ] {
-        assert_eq!(rt; fs::read(&rt, name)?.as_slice(), text);
-        fs::remove_file(&rt, name)?;
+        assert!(rt; held(&rt, name, text)?);
     }
     fs::remove_file(&rt, "gen.blue")?;
     Ok(())

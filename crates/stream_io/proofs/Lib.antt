@@ -12,3 +12,6 @@ pub mod Openings
 pub mod Stoppings
 pub mod Quiets
 pub mod Texts
+pub mod Answering
+pub mod Drawings
+pub mod HandleOpenings

@@ -1,12 +1,12 @@
 -- The lines of bytes, by the first place of an LF.
-use Rattle.std.proofs.Common.{◌≡◌, ◌≢◌, ℕ, suc, ◌+◌, ◌<◌, ◌≤◌, Bool, true, false, List, [], ◌∷◌, ◌++◌, length, take, drop, eqb, cond, IsSome, zero, refl, sym, ap, ◌∙◌, subst, arith, append_assoc, length-append, unwrap_or}
+use Rattle.std.proofs.Common.{◌≡◌, ◌≢◌, ℕ, suc, ◌+◌, ◌<◌, ◌≤◌, Bool, true, false, List, [], ◌∷◌, ◌++◌, length, take, drop, eqb, cond, IsSome, zero, refl, sym, ap, ◌∙◌, subst, arith, append_assoc, length-append, unwrap_or, inr}
 use Rattle.std.proofs.lemmas.Bool.Decides.{nat_tests}
 use Rattle.std.proofs.lemmas.List.{take-append-drop, drop_more, append-nil, take-append-le, append_cancel_left}
 use Rattle.std.proofs.lemmas.List.Elements.{All-head, All-tail}
 use Rattle.elem_core.specs.Line.{has_no_lf}
 use Rattle.elem_core.specs.Text.{lines, add_byte}
 use Rattle.stream_io.specs.State.{SourceState}
-use Rattle.stream_io.specs.Reading.{NoEnd, rest, LineEndsAt, AtEnd, TooLong, FirstTooLong}
+use Rattle.stream_io.specs.Reading.{NoEnd, rest, LineEndsAt, AtEnd, TooLong, FirstTooLong, Draws}
 
 abbrev not_lf : ℕ → Type 0
 not_lf b = b ≢ 10
@@ -102,3 +102,10 @@ lines-unended o f n k fk nk line left same ends told some is none =
     let d = drop f.given (unwrap_or f.whole []) in
     let empty : d ≡ [] = append_cancel_left fk d [] (ends.left told ∙ sym (append-nil fk)) in
     ap lines (sym left ∙ ends.left told) ∙ lines-last fk ends.no_end some ∙ sym (rw (none, is, same, empty) refl)
+
+-- and it is drawn
+pub drawn-unended : (o f n : SourceState) (k fk nk line : List ℕ) → rest f fk ≡ rest o k → n ≡ f → AtEnd f fk → IsSome f.whole → fk ≢ [] → line ≡ fk → nk ≡ [] → Draws (rest o k) line (rest n nk)
+drawn-unended o f n k fk nk line left same ends told some is none =
+    let d = drop f.given (unwrap_or f.whole []) in
+    let empty : d ≡ [] = append_cancel_left fk d [] (ends.left told ∙ sym (append-nil fk)) in
+    inr (sym left ∙ ends.left told ∙ sym is, (λ e. some (sym is ∙ e)), rw (none, same, empty) refl)

@@ -90,6 +90,16 @@ impl<S: Source> LineReader<S> {
         }
     }
 
+    /// Whether it keeps no whole line, so that the next draw reads, and such a read may wait. It takes no memory.
+    pub fn is_drained(&mut self) -> bool
+        ensures { self.new ≡ self.old }
+    {
+        if !self.source.may_wait() {
+            return false;
+        }
+        self.find_end().is_none()
+    }
+
     /// The source, which handed out what was read. It takes no memory.
     pub fn into_source(self) -> S
         ensures { result ≡ self.source }

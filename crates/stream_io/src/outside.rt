@@ -48,6 +48,11 @@ pub trait Source: Drop {
         ensures never_falls { (state self.old).faults ≤ (state self.new).faults }
         ensures name { (state self.new).name ≡ (state self.old).name }
         ensures whole { (state self.new).whole ≡ (state self.old).whole };
+
+    /// Whether a read may wait until someone writes, as that of a pipe does. A hint, on which no clause rests (own).
+    fn may_wait(&self) -> bool {
+        false
+    }
 }
 
 /// A drain that takes bytes and keeps them in order.

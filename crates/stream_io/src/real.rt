@@ -20,6 +20,8 @@ pub struct DirSource<F> {
     name: Line,
     spare: Box<Tally>,
     file: F,
+    // Whether it is no plain file, so that a read may wait.
+    waits: bool,
     given: u64,
     faults: u64,
 }
@@ -36,6 +38,10 @@ impl<F: Read + Drop> Source for DirSource<F> {
         }
         self.faults = self.faults.saturating_add(1);
         Err(Failed)
+    }
+
+    fn may_wait(&self) -> bool {
+        self.waits
     }
 }
 
@@ -62,11 +68,12 @@ impl<F: Write + Drop> Drain for DirSink<F> {
     }
 }
 
-// Which file of the system a file is.
+// Which file of the system a file is, and whether it is a plain one.
 #[derive(Drop, Clone, Copy, PartialEq, Eq)]
 struct FileIdentity {
     device: u64,
     inode: u64,
+    plain: bool,
 }
 
 // A name under which a file was opened.
@@ -122,6 +129,7 @@ fn place_of<F: OpenFile>(file: &F) -> Option<FileIdentity> {
     Some(FileIdentity {
         device: about.dev(),
         inode: about.ino(),
+        plain: about.is_file(),
     })
 }
 
@@ -191,6 +199,7 @@ where
             name: own,
             spare,
             file,
+            waits: !place.plain,
             given: 0,
             faults: 0,
         })

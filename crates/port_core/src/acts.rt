@@ -11,6 +11,8 @@ use std::marker::Model;
 #[derive(Drop)]
 pub struct Acts {
     items: Vec<Act>,
+    // How many sources may wait at their next ask.
+    drained: u32,
 }
 
 impl Model for Acts {
@@ -32,7 +34,27 @@ impl Acts {
         ensures { IfOk result (λ a. a ≡ record { room = room; items = [] }) }
     {
         let items = Vec::with_capacity(alloc, room as usize)?;
-        Ok(Acts { items })
+        Ok(Acts { items, drained: 0 })
+    }
+
+    /// Notes that a source may wait at its next ask, as it has given all that it read. A hint for whoever runs the handlers.
+    pub fn note_drained(&mut self)
+        ensures { self.new ≡ self.old }
+    {
+        self.drained = self.drained.saturating_add(1);
+    }
+
+    /// Notes that a source of which that was noted keeps something again, or gives nothing any more.
+    pub fn note_filled(&mut self)
+        ensures { self.new ≡ self.old }
+    {
+        self.drained = self.drained.saturating_sub(1);
+    }
+
+    /// Whether some source may wait at its next ask.
+    #[inline(always)]
+    pub fn any_drained(&self) -> bool {
+        self.drained > 0
     }
 
     /// Puts an action last, in constant time. It takes no memory.

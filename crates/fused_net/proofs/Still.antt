@@ -423,6 +423,14 @@ module _ {N : Type 0} (passive : N → Bool) where
   pub untouched_next : (b c : Bool) (w : ℕ) (old net new : Net N) → b ≡ c → Takes old w net → Untouched passive (touched b w) net new → Untouched passive (touched c w) old new
   untouched_next b c w old net new e t u = untouched_taken (touched c w) old net new w t (untouched_as b c w net new e u)
 
+  -- who looks at a wire of which no passive node heard has the more to look at
+  untouched_more : (b : Bool) (w : ℕ) (old new : Net N) → Untouched passive (touched b w) old new → Untouched passive (touched true w) old new
+  untouched_more true w old new u = u
+  untouched_more false w old new u = record { outs = λ k e p. u.outs k tt p; ins = λ k e p. u.ins k tt p; nodes = λ k n e p o. u.nodes k n tt p o }
+
+  pub untouched_stop : (b : Bool) (w : ℕ) (old net new : Net N) → Takes old w net → Untouched passive (touched b w) net new → Untouched passive (touched true w) old new
+  untouched_stop b w old net new t u = untouched_taken (touched true w) old net new w t (untouched_more b w net new u)
+
   -- a node is passive as it was before it did what it wants done
   pub acts_passive : (net v new : Net N) (n : ℕ) (acts : List Act) (x : N) (b : Bool) → v ≡ net → new ≡ acted_all net n acts → n < length net.nodes → x ≡ get_or v.nodes n x → b ≡ passive x → AtNode new n (λ y. b ≡ passive y)
   acts_passive net v new n acts x b e is h at known y yi =

@@ -125,6 +125,14 @@ fn call<S: Stage>(
     }
 }
 
+// Whether `advance` stops behind an event: where a passive node heard of it, or a source may wait at its next ask.
+#[inline(always)]
+fn is_to_stop(heard: bool, drained: bool) -> bool
+    ensures { result ≡ false → heard ≡ false }
+{
+    heard || drained
+}
+
 impl<S: Stage> Engine<S> {
     /// Joins nodes that were not started by wires on which nothing happened, with an empty ring for them. `ends` has the ports at
     /// the ends of each wire, and `ports` the wires of each node. It takes no memory.
@@ -552,8 +560,8 @@ impl<S: Stage> Engine<S> {
     }
 
     /// Handles events as `execute` does, but stops behind one that a passive node has heard of, and says on which wire that was: so
-    /// whoever acts for the passive nodes has to look at that wire alone. Fewer than `limit` without such a wire only where no event
-    /// is left.
+    /// whoever acts for the passive nodes has to look at that wire alone. It stops behind any other event too where a source may wait at
+    /// its next ask. Fewer than `limit` without such a wire only where no event is left.
     // Out of line, so that its registers are its own.
     #[inline(never)]
     pub fn advance(
@@ -585,7 +593,8 @@ impl<S: Stage> Engine<S> {
             let Some(w) = self.next() else {
                 return Ok(Advance { used, heard: None });
             };
-            if self.handle(alloc, w, acts)? {
+            let heard = self.handle(alloc, w, acts)?;
+            if is_to_stop(heard, acts.any_drained()) {
                 return Ok(Advance {
                     used: used + 1,
                     heard: Some(w),

@@ -679,6 +679,27 @@ impl<S: Stage> Engine<S> {
         self.queue.is_empty()
     }
 
+    // Whether wire w was asked, and the node at its output may wait for a read.
+    fn waits_at(&self, w: usize) -> bool {
+        let (Some(wire), Some(ends)) = (self.wires.get(w), self.ends.get(w)) else {
+            return false;
+        };
+        match self.nodes.get(ends.from as usize) {
+            Some(node) => wire.is_asked() && node.may_wait(),
+            None => false,
+        }
+    }
+
+    /// Whether a node was asked that may wait for a read then. A hint, on which no clause rests. It takes no memory.
+    pub fn may_wait(&self) -> bool {
+        for w in 0..self.wires.len() {
+            if self.waits_at(w) {
+                return true;
+            }
+        }
+        false
+    }
+
     /// The most events that were chased for one that waited for its turn: handled at once, since a handler that had just been called
     /// asked for them or gave them. It takes no memory.
     pub fn longest_chase(&self) -> u32

@@ -238,6 +238,16 @@ impl<S: Source, D: Drain, L: Logic, B: PlugBook> Island<S, D, L, B> {
         self.engine.is_at_rest()
     }
 
+    /// Whether a source in it may wait for a read where it is asked next. It takes no memory.
+    pub fn may_wait(&self) -> bool {
+        self.acts.any_drained()
+    }
+
+    /// Whether one of these was asked. It takes no memory.
+    pub fn waits(&self) -> bool {
+        self.may_wait() && self.engine.may_wait()
+    }
+
     /// The most events that were chased for one that waited for its turn: handled at once, since a handler that had just been called
     /// asked for them or gave them. It takes no memory.
     pub fn longest_chase(&self) -> u32

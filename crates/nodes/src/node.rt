@@ -308,4 +308,11 @@ impl<S: Source, D: Drain, L: Logic, B: PlugBook> Stage for IslandNode<S, D, L, B
     fn is_passive(&self) -> bool {
         matches!(self, IslandNode::Entering(_) | IslandNode::Leaving(_))
     }
+
+    fn may_wait(&self) -> bool {
+        match self {
+            IslandNode::Reading(source) => source.may_wait(),
+            _ => false,
+        }
+    }
 }

@@ -141,4 +141,9 @@ pub trait Stage: Drop {
     /// Whether it is passive.
     fn is_passive(&self) -> bool
         ensures { result ≡ passive self.now };
+
+    /// Whether it may wait for a read where it is asked next. A hint, on which no clause rests. It takes no memory.
+    fn may_wait(&self) -> bool {
+        false
+    }
 }

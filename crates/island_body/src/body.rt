@@ -1,5 +1,5 @@
 // The body of an island.
-ghost use Rattle.std.specs.Prelude.{◌≡◌, ◌+◌, ◌<◌, ◌≤◌, [], ℕ, true, false, None, Some, IsTrue, ◌↔◌, map, IfOk, OnOk, OnErr, length, slice_get, replicate, vec_len};
+ghost use Rattle.std.specs.Prelude.{◌≡◌, ◌+◌, ◌<◌, ◌≤◌, ◌⊎◌, [], ℕ, true, false, None, Some, IsTrue, ◌↔◌, map, IfOk, OnOk, OnErr, length, slice_get, replicate, vec_len};
 ghost use Rattle.elem_core.specs.declared.count.TheConstants.{MOST_COUNT};
 ghost use Rattle.fused_net.specs.Costs.{Uses, total_cost};
 ghost use Rattle.lane_core.specs.Ends.{asked_in_all};
@@ -369,8 +369,8 @@ impl<S: Source, D: Drain, L: Logic, B: PlugBook> Body<S, D, L, B> {
     }
 
     // Handles the events of the island, and lets each end of a lane that hears of one do what it has to do, until so many units were
-    // used.
-    fn run(&mut self, alloc: Global, used: u32, limit: u32) -> Result<u32, NoMemory>
+    // used, or until it is to pause, where it may.
+    fn run(&mut self, alloc: Global, used: u32, limit: u32, pausing: bool) -> Result<u32, NoMemory>
         requires less { used ≤ limit }
         requires few { self.old.island.used + limit ≤ MOST_COUNT + used }
         requires stands { BodyStands self.old }
@@ -385,11 +385,14 @@ impl<S: Source, D: Drain, L: Logic, B: PlugBook> Body<S, D, L, B> {
         ensures none { IfOk result (λ count. count ≡ used → used < limit → (self.new ≡ self.old) × (self.old.island.net.queue ≡ [])) }
         ensures looks { OnOk result (KeepsLooks self.old self.new) }
         ensures wakes { OnOk result (WakesOn self.old self.new) }
-        ensures rest { IfOk result (λ count. count < limit → self.new.island.net.queue ≡ []) }
+        ensures rest { IfOk result (λ count. count < limit → (pausing ≡ false) ⊎ (is_pending self.new ≡ false) → self.new.island.net.queue ≡ []) }
         ensures breaks { OnErr result (BodyBreaks S.state D.state B.lists self.old self.new) }
     {
         let mut count = used;
         loop {
+            if self.is_to_pause(pausing, count - used) {
+                return Ok(count);
+            }
             let heard = self.step(alloc, limit - count)?;
             count += heard.used;
             match heard.heard {
@@ -397,6 +400,18 @@ impl<S: Source, D: Drain, L: Logic, B: PlugBook> Body<S, D, L, B> {
                 Some(w) => self.serve_at(w),
             }
         }
+    }
+
+    // Whether a turn that may pause is to end behind so many events: the next one may wait for a read, and a peer has something to hear of
+    // before.
+    fn is_to_pause(&self, pausing: bool, some: u32) -> bool
+        ensures { result ≡ true → (pausing ≡ true) × ((0 < some) × (is_pending self.now ≡ true)) }
+    {
+        pausing
+            && some > 0
+            && !self.peers.woken().is_empty()
+            && self.island.waits()
+            && self.is_pending()
     }
 
     // Handles events of the island, up to one of which the stage at an end of a lane has heard.
@@ -438,10 +453,43 @@ impl<S: Source, D: Drain, L: Logic, B: PlugBook> Body<S, D, L, B> {
         ensures wakes { OnOk result (Wakes self.old self.new) }
         ensures breaks { OnErr result (BodyBreaks S.state D.state B.lists self.old self.new) }
     {
+        self.turn_by(alloc, limit, false)
+    }
+
+    /// The same, but for that it ends before its limit where an event is left that may wait for a read, and it sent something to other
+    /// islands: so these hear of it before the wait. It is to take its next turn behind them.
+    pub fn take_part(&mut self, alloc: Global, limit: u32) -> Result<u32, NoMemory>
+        requires keeps { BodyKeeps S.state D.state B.lists self.old }
+        requires few { self.old.spent + limit ≤ MOST_COUNT }
+        ensures keeps { OnOk result (BodyKeeps S.state D.state B.lists self.new) }
+        ensures goes { OnOk result (BodyGoes self.old self.new) }
+        ensures spent { IfOk result (λ used. self.new.spent ≡ self.old.spent + used) }
+        ensures within { IfOk result (λ used. used ≤ limit) }
+        ensures idle { IfOk result (λ used. used ≡ 0 → 1 ≤ limit → IsIdle self.old self.new) }
+        ensures found { IfOk result (λ used. used < limit → is_pending self.new ≡ false → HasLooked self.old self.new) }
+        ensures wakes { OnOk result (Wakes self.old self.new) }
+        ensures breaks { OnErr result (BodyBreaks S.state D.state B.lists self.old self.new) }
+    {
+        self.turn_by(alloc, limit, true)
+    }
+
+    // Takes a turn, and pauses in it or not.
+    fn turn_by(&mut self, alloc: Global, limit: u32, pausing: bool) -> Result<u32, NoMemory>
+        requires keeps { BodyKeeps S.state D.state B.lists self.old }
+        requires few { self.old.spent + limit ≤ MOST_COUNT }
+        ensures keeps { OnOk result (BodyKeeps S.state D.state B.lists self.new) }
+        ensures goes { OnOk result (BodyGoes self.old self.new) }
+        ensures spent { IfOk result (λ used. self.new.spent ≡ self.old.spent + used) }
+        ensures within { IfOk result (λ used. used ≤ limit) }
+        ensures idle { IfOk result (λ used. used ≡ 0 → 1 ≤ limit → IsIdle self.old self.new) }
+        ensures found { IfOk result (λ used. used < limit → (pausing ≡ false) ⊎ (is_pending self.new ≡ false) → HasLooked self.old self.new) }
+        ensures wakes { OnOk result (Wakes self.old self.new) }
+        ensures breaks { OnErr result (BodyBreaks S.state D.state B.lists self.old self.new) }
+    {
         self.peers.clear();
         let taken = self.take_all(limit);
         let found = self.visit_all(taken, limit);
-        let used = self.run(alloc, found, limit)?;
+        let used = self.run(alloc, found, limit, pausing)?;
         self.island.laws();
         self.spent += used;
         Ok(used)

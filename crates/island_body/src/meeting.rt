@@ -55,7 +55,11 @@ impl<S: Source, D: Drain, L: Logic, B: PlugBook> Turning for Body<S, D, L, B> {
     ghost spent = { λ b. b.spent };
 
     fn turn(&mut self, alloc: Global, limit: u32) -> Result<u32, NoMemory> {
-        self.take_turn(alloc, limit)
+        self.take_part(alloc, limit)
+    }
+
+    fn may_wait(&self) -> bool {
+        self.island.may_wait()
     }
 
     fn has_event(&self) -> bool {

@@ -52,7 +52,29 @@ fn portion(left: u32) -> u32
     if left < TURN_UNITS { left } else { TURN_UNITS }
 }
 
-// A turn of each body, in order.
+// One body's turn, where it does not wait for a read.
+fn quiet_turn<B: Turning>(
+    alloc: Global,
+    bodies: &mut [B],
+    k: usize,
+    left: u32,
+) -> Result<u32, NoMemory>
+    requires there { k < length bodies.old }
+    requires keeps { AllOf B.keeps bodies.old }
+    requires few { sum_by B.spent bodies.old + left ≤ MOST_COUNT }
+    ensures keeps { OnOk result (AllOf B.keeps bodies.new) }
+    ensures goes { OnOk result (EachOf B.goes bodies.old bodies.new) }
+    ensures spent { IfOk result (λ used. sum_by B.spent bodies.new ≡ sum_by B.spent bodies.old + used) }
+    ensures within { IfOk result (λ used. used ≤ left) }
+    ensures broke { OnErr result (BrokeOff B.keeps B.goes B.breaks bodies.old bodies.new) }
+{
+    if bodies[k].may_wait() {
+        return Ok(0);
+    }
+    turn_at(alloc, bodies, k, portion(left))
+}
+
+// A turn of each body that does not wait for a read, in order.
 fn round<B: Turning>(alloc: Global, bodies: &mut [B], left: u32) -> Result<u32, NoMemory>
     requires keeps { AllOf B.keeps bodies.old }
     requires few { sum_by B.spent bodies.old + left ≤ MOST_COUNT }
@@ -64,14 +86,13 @@ fn round<B: Turning>(alloc: Global, bodies: &mut [B], left: u32) -> Result<u32, 
 {
     let mut used = 0;
     for k in 0..bodies.len() {
-        let limit = portion(left - used);
-        used += turn_at(alloc, bodies, k, limit)?;
+        used += quiet_turn(alloc, bodies, k, left - used)?;
     }
     Ok(used)
 }
 
-// Rounds until one uses no unit.
-fn rounds<B: Turning>(alloc: Global, bodies: &mut [B], left: u32) -> Result<u32, NoMemory>
+// Rounds until one uses no unit: then whatever was read has gone as far as it can go by turns that do not wait.
+fn quiet_rounds<B: Turning>(alloc: Global, bodies: &mut [B], left: u32) -> Result<u32, NoMemory>
     requires keeps { AllOf B.keeps bodies.old }
     requires few { sum_by B.spent bodies.old + left ≤ MOST_COUNT }
     ensures keeps { OnOk result (AllOf B.keeps bodies.new) }
@@ -84,6 +105,69 @@ fn rounds<B: Turning>(alloc: Global, bodies: &mut [B], left: u32) -> Result<u32,
     let mut last = 1;
     while last > 0 && used < left {
         last = round(alloc, bodies, left - used)?;
+        used += last;
+    }
+    Ok(used)
+}
+
+// One body's turn, where it may wait for a read, and rounds behind it.
+fn waiting_turn<B: Turning>(
+    alloc: Global,
+    bodies: &mut [B],
+    k: usize,
+    left: u32,
+) -> Result<u32, NoMemory>
+    requires there { k < length bodies.old }
+    requires keeps { AllOf B.keeps bodies.old }
+    requires few { sum_by B.spent bodies.old + left ≤ MOST_COUNT }
+    ensures keeps { OnOk result (AllOf B.keeps bodies.new) }
+    ensures goes { OnOk result (EachOf B.goes bodies.old bodies.new) }
+    ensures spent { IfOk result (λ used. sum_by B.spent bodies.new ≡ sum_by B.spent bodies.old + used) }
+    ensures within { IfOk result (λ used. used ≤ left) }
+    ensures broke { OnErr result (BrokeOff B.keeps B.goes B.breaks bodies.old bodies.new) }
+{
+    if !bodies[k].may_wait() {
+        return Ok(0);
+    }
+    let used = turn_at(alloc, bodies, k, portion(left))?;
+    if used == 0 {
+        return Ok(0);
+    }
+    let more = quiet_rounds(alloc, bodies, left - used)?;
+    Ok(used + more)
+}
+
+// A turn of each body that may wait for a read, in order.
+fn waiting_round<B: Turning>(alloc: Global, bodies: &mut [B], left: u32) -> Result<u32, NoMemory>
+    requires keeps { AllOf B.keeps bodies.old }
+    requires few { sum_by B.spent bodies.old + left ≤ MOST_COUNT }
+    ensures keeps { OnOk result (AllOf B.keeps bodies.new) }
+    ensures goes { OnOk result (EachOf B.goes bodies.old bodies.new) }
+    ensures spent { IfOk result (λ used. sum_by B.spent bodies.new ≡ sum_by B.spent bodies.old + used) }
+    ensures within { IfOk result (λ used. used ≤ left) }
+    ensures broke { OnErr result (BrokeOff B.keeps B.goes B.breaks bodies.old bodies.new) }
+{
+    let mut used = 0;
+    for k in 0..bodies.len() {
+        used += waiting_turn(alloc, bodies, k, left - used)?;
+    }
+    Ok(used)
+}
+
+// Rounds until one uses no unit. A body whose turn may wait for a read takes it only where no other has anything to do.
+fn rounds<B: Turning>(alloc: Global, bodies: &mut [B], left: u32) -> Result<u32, NoMemory>
+    requires keeps { AllOf B.keeps bodies.old }
+    requires few { sum_by B.spent bodies.old + left ≤ MOST_COUNT }
+    ensures keeps { OnOk result (AllOf B.keeps bodies.new) }
+    ensures goes { OnOk result (EachOf B.goes bodies.old bodies.new) }
+    ensures spent { IfOk result (λ used. sum_by B.spent bodies.new ≡ sum_by B.spent bodies.old + used) }
+    ensures within { IfOk result (λ used. used ≤ left) }
+    ensures broke { OnErr result (BrokeOff B.keeps B.goes B.breaks bodies.old bodies.new) }
+{
+    let mut used = quiet_rounds(alloc, bodies, left)?;
+    let mut last = 1;
+    while last > 0 && used < left {
+        last = waiting_round(alloc, bodies, left - used)?;
         used += last;
     }
     Ok(used)
@@ -219,9 +303,9 @@ fn run_on<B: Turning>(
 }
 
 /// Goes on with bodies that used `before` units in earlier turns, until none has an event or `budget` units are used in all: rounds of
-/// turns in order, each of at most `TURN_UNITS` units, until one uses none; then the ends of the lanes are brought together, and where
-/// a body has an event, it takes a turn at once and rounds follow. After `NoMemory` one body broke off, all others are whole, and the
-/// ends of all lanes are brought together too.
+/// turns in order, each of at most `TURN_UNITS` units, until one uses none, where a body whose turn may wait comes behind all that have
+/// anything to do; then the ends of the lanes are brought together, and where a body has an event, it takes a turn at once and rounds
+/// follow. After `NoMemory` one body broke off, all others are whole, and the ends of all lanes are brought together too.
 pub fn go_on<B: Turning>(
     alloc: Global,
     bodies: &mut [B],

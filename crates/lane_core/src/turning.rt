@@ -28,8 +28,9 @@ pub trait Turning: Meet {
 
     ghost spent: { Self → ℕ };
 
-    /// Takes a turn of at most `limit` units, and answers how many it used. After `NoMemory` the body's lane ends are still met, but
-    /// it takes no turn any more.
+    /// Takes a turn of at most `limit` units, and answers how many it used. It may end sooner where what it would do next may wait, as
+    /// for a read, and others have something to hear of first. After `NoMemory` the body's lane ends are still met, but it takes no turn
+    /// any more.
     fn turn(&mut self, alloc: Global, limit: u32) -> Result<u32, NoMemory>
         requires keeps { keeps self.old }
         requires few { spent self.old + limit ≤ MOST_COUNT }
@@ -39,6 +40,10 @@ pub trait Turning: Meet {
         ensures within { IfOk result (λ used. used ≤ limit) }
         ensures idle { IfOk result (λ used. used ≡ 0 → 1 ≤ limit → idle self.old self.new) }
         ensures breaks { OnErr result (breaks self.old self.new) };
+
+    /// Whether its next turn may wait, as for a read: others are to have their turns first. A hint, on which no clause rests. It takes no
+    /// memory.
+    fn may_wait(&self) -> bool;
 
     /// Whether an event is pending in its ring. It takes no memory.
     fn has_event(&self) -> bool

@@ -3,7 +3,7 @@ use Rattle.lane_core.proofs.Each.{each_on, broke_after, on_err}
 use Rattle.lane_core.proofs.run.round.Goals as goal
 
 pub returns-in_err-used-clause-broke : goal.returns-in_err-used-clause-broke
-returns-in_err-used-clause-broke g c = on_err c.from_residual.result (broke_after g.B.Turning.keeps g.B.Turning.goes g.B.Turning.breaks g.met.B.Turning.goes_on g.met.B.Turning.goes_breaks c.args.bodies.now c.loop-k.bodies c.turn_at.new.bodies c.loop-k.invariant.goes c.in_err-used.ensures.broke)
+returns-in_err-used-clause-broke g c = on_err c.from_residual.result (broke_after g.B.Turning.keeps g.B.Turning.goes g.B.Turning.breaks g.met.B.Turning.goes_on g.met.B.Turning.goes_breaks c.args.bodies.now c.loop-k.bodies c.quiet_turn.new.bodies c.loop-k.invariant.goes c.in_err-used.ensures.broke)
 
 pub loop-k-preserved : goal.loop-k-preserved
 loop-k-preserved g c =
@@ -14,5 +14,5 @@ loop-k-preserved g c =
       keeps = e.keeps;
       goes = each_on t.goes t.goes t.goes g.met.B.Turning.goes_on _ _ _ i.goes e.goes;
       spent = let a = e.spent in let b = i.spent in omega (arith, a, b);
-      within = let a = e.within in let b = c.portion-limit.ensures.within in let d = i.within in omega (arith, a, b, d);
+      within = let a = e.within in let d = i.within in omega (arith, a, d);
     }

@@ -1,5 +1,5 @@
 -- The goals of `body::Body::run` that the search leaves.
-use Rattle.std.proofs.Common.{◌∙◌, ap, arith}
+use Rattle.std.proofs.Common.{◌≡◌, ◌∙◌, ap, sym, inl, inr, true, false, arith}
 use Rattle.fused_net.proofs.Keeping.{on_err}
 use Rattle.std.specs.declared.vec.Vec.{Vec}
 use Rattle.island_body.specs.declared.output.OutputBoundary.{OutputBoundary}
@@ -46,3 +46,17 @@ pub returns-in-None-clause-wakes : goal.returns-in-None-clause-wakes
 returns-in-None-clause-wakes g c =
     let e = c.in_ok-heard.ensures in
     wakes_on _ _ _ c.loop-heard.invariant.wakes (wakes_same _ _ e.lanes.0 e.lanes.1 e.lanes.4)
+
+pub returns-then-branch-clause-none : goal.returns-then-branch-clause-none
+returns-then-branch-clause-none g c = λ z less.
+    let s = c.is_to_pause.ensures c.if-branch.true in
+    let some = s.1.0 in
+    absurd (omega (arith, z, some))
+
+pub returns-then-branch-clause-rest : goal.returns-then-branch-clause-rest
+returns-then-branch-clause-rest g c = λ less calm.
+    let s = c.is_to_pause.ensures c.if-branch.true in
+    elim calm [
+      | inl no ↦ absurd (let t : true ≡ false = sym s.0 ∙ no in cc)
+      | inr no ↦ absurd (let t : true ≡ false = sym s.1.1 ∙ no in cc)
+    ]

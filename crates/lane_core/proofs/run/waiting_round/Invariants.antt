@@ -1,0 +1,13 @@
+-- The loop of `run::waiting_round`.
+use Rattle.std.proofs.Common.{◌≡◌, ◌≤◌, ◌+◌}
+use Rattle.std.specs.List.{sum_by}
+use Rattle.lane_core.specs.Bodies.{AllOf, EachOf}
+use Rattle.lane_core.proofs.run.waiting_round.Given as goal
+
+abbrev pub invariant-loop-k : goal.invariant-loop-k
+invariant-loop-k g l = record {
+  keeps : AllOf g.B.Turning.keeps l.bodies;
+  goes : EachOf g.B.Turning.goes l.fn.bodies l.bodies;
+  spent : sum_by g.B.Turning.spent l.bodies ≡ sum_by g.B.Turning.spent l.fn.bodies + l.used;
+  within : l.used ≤ l.left;
+}

@@ -51,8 +51,10 @@ impl<B: Turning> Kept for TablePlace<B> {
 pub struct Came {
     /// Whether it used some unit.
     pub told: bool,
-    /// Whether it used up what it claimed, and that was some.
+    /// Whether it used up what it claimed, and that was some, or an event is left.
     pub again: bool,
+    /// Whether its next turn may wait for a read.
+    pub waits: bool,
     /// Whether it used so many units that what it woke is worth another worker.
     pub long: bool,
     /// Whether memory was wanting.
@@ -93,13 +95,23 @@ impl<B: Turning> TablePlace<B> {
         }
     }
 
-    /// One turn of at most 1000 units, all of which the budget has. After a turn in which memory was wanting there is none. Where its
-    /// last turn lasted, another worker is called first for what else is on the list.
+    /// One turn of at most 1000 units, all of which the budget has. After a turn in which memory was wanting there is none, nor where it
+    /// may wait for a read and an island is on the list whose turn does not: it is to come again then. Where its last turn lasted, another
+    /// worker is called first for what else is on the list.
     pub fn turn(&mut self, alloc: Global, budget: &Budget, list: &ReadyList) -> Came
         requires belongs { Belongs (budget_id budget.now) budget.now.limit self.old }
         requires few { budget.now.limit ≤ MOST_COUNT }
         ensures same { self.new ≡ self.old }
     {
+        if self.body.may_wait() && list.has_quiet() {
+            return Came {
+                told: false,
+                again: true,
+                waits: true,
+                long: false,
+                broke: false,
+            };
+        }
         if self.slow {
             list.call_for_more();
         }
@@ -118,6 +130,7 @@ impl<B: Turning> TablePlace<B> {
             return Came {
                 told: false,
                 again: false,
+                waits: false,
                 long: false,
                 broke: false,
             };
@@ -129,7 +142,8 @@ impl<B: Turning> TablePlace<B> {
                 self.used += used;
                 Came {
                     told: used > 0,
-                    again: granted > 0 && used as u64 == granted,
+                    again: granted > 0 && (used as u64 == granted || self.body.has_event()),
+                    waits: self.body.may_wait(),
                     long: used >= LONG,
                     broke: false,
                 }
@@ -140,6 +154,7 @@ impl<B: Turning> TablePlace<B> {
                 Came {
                     told: false,
                     again: false,
+                    waits: false,
                     long: false,
                     broke: true,
                 }

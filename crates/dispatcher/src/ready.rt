@@ -12,6 +12,14 @@
 // sees 0, and who lowers `busy` to 0 rings for all. Who leaves for want of memory may leave islands behind: it rings for one, and who
 // waits looks at the list before it looks at `busy`.
 //
+// The list has two queues. Who looks for an island looks at the one first, and then at the other, where those are whose turns may wait
+// for a read. A look in vain found the one empty at a moment, and the other at a later one. What was put on the one between the two was
+// put by a worker that is busy, and looks later itself: so what is said above holds of both. So a worker waits for a read only where, as
+// it looked, no island was there whose turn does not; and what an island sent in a turn that ended before a read has gone on, as far as
+// workers are there, before that read begins. An island that a peer woke lies in the one queue, as the peer's worker cannot know whether
+// its turn may wait: who takes it, and finds so, puts it on the other, where another island is on the one. So it is moved once at most
+// for each time that it was put.
+//
 // Rings. Who rings makes something true first (an island is on the list, nobody is busy, nobody watches), and then looks whether any
 // worker is asleep. Who sleeps raises `asleep` first, then reads how often the bell was rung, and then looks whether any of these is
 // true. Where the one did not see that the other is asleep, the other's look lies behind, and it does not sleep. Where it did, it rings:
@@ -46,6 +54,8 @@ use std::time::Duration;
 #[derive(Drop)]
 pub struct ReadyList {
     queue: ArrayQueue<u32, Global>,
+    // Those whose turns may wait for a read: they are taken where no other is ready.
+    later: ArrayQueue<u32, Global>,
     pub(crate) count: u32,
     // How many workers are busy.
     busy: AtomicU64,
@@ -81,6 +91,7 @@ impl ReadyList {
     {
         Ok(ReadyList {
             queue: ArrayQueue::new(alloc, count as usize)?,
+            later: ArrayQueue::new(alloc, count as usize)?,
             count,
             busy: AtomicU64::new(0),
             asleep: AtomicU64::new(0),
@@ -91,17 +102,35 @@ impl ReadyList {
         })
     }
 
-    /// Takes an island off the list. A worker is busy when it does so.
+    /// Takes an island off the list, one whose turn may wait for a read where no other is there. A worker is busy when it does so.
     pub fn take<R: Wait>(&self, rt: &R) -> Option<u32>
         ensures { IfSome result (λ id. id < self.now.count) }
     {
-        let id = self.queue.pop(rt)?;
+        let id = match self.queue.pop(rt) {
+            Some(id) => id,
+            None => self.later.pop(rt)?,
+        };
         if id < self.count { Some(id) } else { None }
     }
 
     /// Puts an island on the list. One that finds it full is left to the caller's thread.
     pub fn put<R: Wait>(&self, rt: &R, id: u32) {
         let _ = self.queue.push(rt, id);
+    }
+
+    /// Puts one on the list whose turn may wait for a read: where another is ready, that one is taken first.
+    pub fn put_later<R: Wait>(&self, rt: &R, id: u32) {
+        let _ = self.later.push(rt, id);
+    }
+
+    /// Whether an island is on the list whose turn does not wait for a read, as far as was known when it was put there.
+    pub fn has_quiet(&self) -> bool {
+        !self.queue.is_empty()
+    }
+
+    // Whether no island is on the list.
+    fn is_empty(&self) -> bool {
+        self.queue.is_empty() && self.later.is_empty()
     }
 
     /// Wakes a worker, if one sleeps.
@@ -113,7 +142,7 @@ impl ReadyList {
 
     /// The same where an island is on the list: a worker calls this before a turn that may last.
     pub fn call_for_more(&self) {
-        if !self.queue.is_empty() {
+        if !self.is_empty() {
             self.call_one();
         }
     }
@@ -175,7 +204,7 @@ impl ReadyList {
 
     // One look.
     fn look(&self) -> Sight {
-        if !self.queue.is_empty() {
+        if !self.is_empty() {
             return Sight::Island;
         }
         if self.busy.load(Ordering::SeqCst) == 0 {

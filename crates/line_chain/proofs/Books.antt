@@ -11,13 +11,19 @@ use Rattle.stream_model.specs.Outlook.{End, unended, ended, failed}
 use Rattle.stream_model.specs.Machine.{State, going, done, broken, Run, Given, run, close, close_at, finish_at, feed}
 use Rattle.stream_model.specs.Linear.{Book, Stage, Work, mapping, filtering, taking, taking_while, dropping, dropping_while, passing, limiting, grouping, expanding, folding, scanning, reducing, heading, lasting, numbering, plugged, Reaction, gives, ends, blames, breaks, on_value, on_test, on_number, reaction, restarted, decided, reacts, finish_of, begin_work, linear}
 use Rattle.stream_model.specs.Substreams.{Chain, through}
+use Rattle.stage_linear.specs.declared.task.LinearWork.{LinearWork}
+use Rattle.stage_linear.specs.declared.task.LinearWork.TheVariants as task
+use Rattle.stage_linear.specs.Tasks as tasks
+use Rattle.stage_keeping.specs.declared.keeping.StateWork.{StateWork}
+use Rattle.stage_keeping.specs.declared.keeping.StateWork.TheVariants as kept
+use Rattle.stage_keeping.specs.Keeping as keeping
 use Rattle.chain_core.specs.LineChains.{chain_step, given_with, list_function}
-use Rattle.line_chain.specs.Kinds.{begun}
 use Rattle.line_chain.specs.Line.{no_plugs}
+use Rattle.line_chain.specs.Steps.{work_in}
 use Rattle.line_chain.specs.Chains.{starts_of}
 use Rattle.line_chain.specs.declared.step.LineStep.{LineStep}
-use Rattle.line_chain.specs.declared.kind.StepKind.{StepKind}
-use Rattle.line_chain.specs.declared.kind.StepKind.TheVariants as step_kind
+use Rattle.line_chain.specs.declared.work.StepWork.{StepWork}
+use Rattle.line_chain.specs.declared.work.StepWork.TheVariants as step_work
 
 -- it is no plug
 abbrev pub Own : Work → Type 0
@@ -199,28 +205,54 @@ same_through book (s ∷ ss) l e h =
     same_close book y.gave y.state e (own_run s l h.0) ∙ ap (λ (x : Run Stage Tree). close (linear book passing) x e) (same_run book s l h.0) in
     same_through book ss (close (linear no_plugs passing) y e).list (close (linear no_plugs passing) y e).end h.1 ∙ ap (λ (x : Given Tree). through book ss x.list x.end) g
 
-own_begin : (node : ℕ) (d : Decider) (k : StepKind) → OwnState (begin_work node d (begun k)).state
-own_begin node d (step_kind.Map f) = tt
-own_begin node d (step_kind.Filter p) = tt
-own_begin node d (step_kind.FilterNot p) = tt
-own_begin node d (step_kind.Take zero) = tt
-own_begin node d (step_kind.Take (suc n)) = tt
-own_begin node d (step_kind.TakeWhile p) = tt
-own_begin node d (step_kind.Drop n) = tt
-own_begin node d (step_kind.DropWhile p) = tt
-own_begin node d (step_kind.Limit n) = tt
-own_begin node d (step_kind.Expand x) = tt
-own_begin node d (step_kind.Group n) = tt
-own_begin node d (step_kind.Fold o) = tt
-own_begin node d (step_kind.Scan o) = tt
-own_begin node d (step_kind.Reduce r) = tt
-own_begin node d step_kind.Pass = tt
-own_begin node d step_kind.First = tt
-own_begin node d step_kind.Last = tt
+own_task : (t : LinearWork) → Own (tasks.work_in t)
+own_task (task.Map f) = tt
+own_task (task.Filter p) = tt
+own_task (task.FilterNot p) = tt
+own_task (task.Take n) = tt
+own_task (task.TakeWhile p) = tt
+own_task (task.Drop n) = tt
+own_task (task.DropWhile p true) = tt
+own_task (task.DropWhile p false) = tt
+own_task (task.Limit n) = tt
+own_task (task.Expand x) = tt
+
+own_kept : (k : StateWork) → Own (keeping.work_in k)
+own_kept (kept.Group n held) = tt
+own_kept (kept.Fold o a) = tt
+own_kept (kept.Reduce r a) = tt
+own_kept (kept.Scan o a) = tt
+
+own_work : (w : StepWork) → Own (work_in w)
+own_work (step_work.Plain t) = own_task t
+own_work (step_work.Keeps k) = own_kept k
+own_work step_work.Passes = tt
+own_work step_work.First = tt
+own_work (step_work.Last e) = tt
+
+own_begin : (node : ℕ) (d : Decider) (w : Work) → Own w → OwnState (begin_work node d w).state
+own_begin node d (taking zero) h = tt
+own_begin node d (taking (suc n)) h = h
+own_begin node d (mapping f) h = h
+own_begin node d (filtering p b) h = h
+own_begin node d (taking_while p) h = h
+own_begin node d (dropping n) h = h
+own_begin node d (dropping_while p) h = h
+own_begin node d passing h = h
+own_begin node d (limiting n) h = h
+own_begin node d (grouping n held) h = h
+own_begin node d (expanding x) h = h
+own_begin node d (folding o a) h = h
+own_begin node d (scanning o a) h = h
+own_begin node d (reducing r a) h = h
+own_begin node d heading h = h
+own_begin node d (lasting a) h = h
+own_begin node d (numbering n f i) h = h
+own_begin node d (plugged name taken) h = absurd h
 
 own_starts : (steps : List LineStep) → OwnChain (starts_of steps)
 own_starts [] = tt
-own_starts (s ∷ ss) = (own_begin s.node s.decider s.kind, own_starts ss)
+own_starts (s ∷ ss) = (own_begin s.node s.decider (work_in s.start) (own_work s.start), own_starts ss)
 
 -- the steps give the same by every book
 pub same_by_books : (steps : List LineStep) (book : Book) → Same (list_function no_plugs (starts_of steps)) (list_function book (starts_of steps))

@@ -1,4 +1,5 @@
 pub mod Replies
+pub mod Starts
 pub mod Running
 pub mod Books
 pub mod Lines

@@ -1,4 +1,3 @@
 pub mod Line
-pub mod Kinds
 pub mod Steps
 pub mod Chains

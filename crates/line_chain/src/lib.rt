@@ -2,8 +2,6 @@
 #![tactic(auto)]
 
 pub mod batch;
-pub mod copies;
-pub mod kind;
 pub mod line;
 pub mod step;
 pub mod work;

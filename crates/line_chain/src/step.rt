@@ -3,11 +3,9 @@ ghost use Rattle.stage_keeping.specs.declared.ending.StateEnd.TheVariants.{Lasti
 ghost use Rattle.stream_model.specs.Linear.{begin_work};
 ghost use Rattle.stream_model.specs.Machine.{run};
 ghost use Rattle.stream_model.specs.Outlook.{ended};
-ghost use Rattle.line_chain.specs.Kinds.{begun};
 ghost use Rattle.line_chain.specs.Steps.{work_in, machine, end_of, start_of, state_of, now_of, replied, given_before, failed_step, decided_step, StepFeeds, Began, StepCloses, Ran};
 
 use crate::batch::Batch;
-use crate::kind::StepKind;
 use crate::work::StepWork;
 use elem_core::count::one_more;
 use elem_core::elem::Elem;
@@ -21,24 +19,25 @@ pub struct LineStep {
     // The node of the chain.
     pub node: u32,
     pub decider: Decider,
-    // What it does, from its start.
-    pub kind: StepKind,
+    // The work that it begins with.
+    pub start: StepWork,
     // What it gives before any element, where it has not yet.
     pub owed: Option<Elem>,
     // How many elements it took.
     pub taken: u64,
+    // How far its work has come.
     pub work: StepWork,
     // Whether it has ended or failed by its own doing.
     pub ending: StateEnd,
 }
 
-// Dropped by a call, as its kind and its work are.
+// Dropped by a call, as its work is.
 impl Drop for LineStep {
     fn drop(self) {
         let LineStep {
             node: _,
             decider: _,
-            kind: _,
+            start: _,
             owed: _,
             taken: _,
             work: _,
@@ -48,23 +47,23 @@ impl Drop for LineStep {
 }
 
 impl LineStep {
-    /// A step that has taken nothing.
+    /// A step that has taken nothing, and begins with this work.
     pub fn begin(
         alloc: Global,
         node: u32,
         decider: Decider,
-        kind: StepKind,
+        start: StepWork,
     ) -> Result<LineStep, NoMemory>
-        ensures starts { IfOk result (λ s. start_of s ≡ begin_work node decider (begun kind)) }
-        ensures now { IfOk result (λ s. now_of s ≡ begin_work node decider (begun kind)) }
+        ensures starts { IfOk result (λ s. start_of s ≡ begin_work node decider (work_in start)) }
+        ensures now { IfOk result (λ s. now_of s ≡ begin_work node decider (work_in start)) }
     {
-        let owed = kind.first(alloc)?;
-        let work = kind.begin(alloc)?;
-        let ending = kind.ending();
+        let owed = start.first(alloc)?;
+        let work = start.copy(alloc)?;
+        let ending = start.ending();
         Ok(LineStep {
             node,
             decider,
-            kind,
+            start,
             owed,
             taken: 0,
             work,
@@ -77,8 +76,8 @@ impl LineStep {
         ensures starts { IfOk result (λ s. start_of s ≡ start_of self.now) }
         ensures now { IfOk result (λ s. now_of s ≡ start_of self.now) }
     {
-        let kind = self.kind.copy(alloc)?;
-        let step = LineStep::begin(alloc, self.node, self.decider, kind)?;
+        let start = self.start.copy(alloc)?;
+        let step = LineStep::begin(alloc, self.node, self.decider, start)?;
         Ok(step)
     }
 

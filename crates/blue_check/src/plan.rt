@@ -20,7 +20,7 @@ pub struct IslandPlan {
 }
 
 /// One lane.
-#[derive(Clone, Copy, PartialEq, Eq, Debug)]
+#[derive(Clone, Copy)]
 pub struct LanePlan {
     /// The number of its wire.
     pub wire: u32,

@@ -22,7 +22,7 @@ use stream_model::limit::{
 };
 
 /// Why a text gave no blueprint.
-#[derive(Clone, Copy, PartialEq, Eq)]
+#[derive(Clone, Copy)]
 pub enum ParseEnd {
     /// The text has a fault; it is the first.
     Fault(BlueFault),

@@ -13,7 +13,7 @@ use std::alloc::Global;
 use stream_model::blueprint::{Node, WireDecl};
 
 /// A wire by the numbers of its nodes.
-#[derive(Clone, Copy, PartialEq, Eq)]
+#[derive(Clone, Copy)]
 pub struct NumberedWire {
     /// The number of the node whose output it is.
     pub from: usize,

@@ -156,7 +156,7 @@ fn is_port_number(i: usize, found: Option<usize>) -> bool
 }
 
 /// A port without a wire.
-#[derive(Clone, Copy, PartialEq, Eq)]
+#[derive(Clone, Copy)]
 pub struct OpenPort {
     /// The number of its node.
     pub node: usize,

@@ -1,5 +1,5 @@
 /// The place of a size that is out of its limits: a node, a wire or a chain, by its number.
-#[derive(Clone, Copy, PartialEq, Eq)]
+#[derive(Clone, Copy)]
 pub enum Spot {
     /// A node.
     Node(u32),

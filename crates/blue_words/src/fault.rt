@@ -5,7 +5,7 @@ ghost use Rattle.blue_words.specs.Fault.{number_of_kind};
 use std::alloc::AllocError;
 
 /// What is wrong with a text.
-#[derive(Clone, Copy, PartialEq, Eq)]
+#[derive(Clone, Copy)]
 pub enum BlueKind {
     /// The first line that says something is not the version line, or no line says something.
     BadVersion,
@@ -22,7 +22,7 @@ pub enum BlueKind {
 }
 
 /// The first fault of a text: what it is, and in which line, from 1; 0 where no line is to blame.
-#[derive(Clone, Copy, PartialEq, Eq)]
+#[derive(Clone, Copy)]
 pub struct BlueFault {
     /// What is wrong.
     pub kind: BlueKind,
@@ -31,7 +31,7 @@ pub struct BlueFault {
 }
 
 /// Why no value was read of the words of a line.
-#[derive(Clone, Copy, PartialEq, Eq)]
+#[derive(Clone, Copy)]
 pub enum FormEnd {
     /// The words have not the form.
     BadLine,

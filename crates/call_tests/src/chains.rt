@@ -86,10 +86,20 @@ fn run<C: Chain>(alloc: Global, chain: &C, given: bool) -> Result<(ChainStep, us
 fn chains_run_through_their_bound(rt: HostRuntime) -> Result<(), Fail> {
     let first = First { open: true };
     let wanting = Wanting { open: true };
-    assert!(rt; run(rt.alloc(), &first, false)? == (ChainStep::Go, 0));
-    assert!(rt; run(rt.alloc(), &first, true)? == (ChainStep::Closed, 1));
-    assert!(rt; run(rt.alloc(), &wanting, false)? == (ChainStep::Failed(Why::EmptySink), 0));
-    assert!(rt; run(rt.alloc(), &wanting, true)? == (ChainStep::Failed(Why::LimitReached), 0));
+    assert!(rt; matches!(run(rt.alloc(), &first, false)?, (ChainStep::Go, 0)));
+    assert!(rt; matches!(run(rt.alloc(), &first, true)?, (ChainStep::Closed, 1)));
+    assert!(rt;
+        matches!(
+            run(rt.alloc(), &wanting, false)?,
+            (ChainStep::Failed(Why::EmptySink), 0)
+        )
+    );
+    assert!(rt;
+        matches!(
+            run(rt.alloc(), &wanting, true)?,
+            (ChainStep::Failed(Why::LimitReached), 0)
+        )
+    );
     Ok(())
 }
 

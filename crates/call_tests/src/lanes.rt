@@ -78,7 +78,7 @@ fn a_lane_of_one(rt: HostRuntime) -> Result<(), Fail> {
 fn a_cancel_is_seen(rt: HostRuntime) -> Result<(), Fail> {
     let (mut out, mut inp) = lane(rt.alloc(), 1024)?;
     inp.cancel();
-    assert!(rt; out.room() == Room::Cancelled);
+    assert!(rt; matches!(out.room(), Room::Cancelled));
     Ok(())
 }
 

@@ -41,7 +41,7 @@ fn sure_calls_run(rt: HostRuntime) -> Result<(), Fail> {
     let sink = &end.sinks[0];
     assert_eq!(rt; sink.name.bytes(), b"out".as_slice());
     assert_eq!(rt; sink.count, 2);
-    assert!(rt; sink.end == EndState::Ended);
+    assert!(rt; matches!(sink.end, EndState::Ended));
     assert_eq!(rt; console.written(), 22);
     Ok(())
 }

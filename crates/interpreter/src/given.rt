@@ -3,7 +3,7 @@ use elem_core::elem::Elem;
 use elem_core::why::Cause;
 
 /// What the stage at which a lane comes in was asked.
-#[derive(Clone, Copy, PartialEq, Eq, Debug)]
+#[derive(Clone, Copy)]
 pub enum Wanted {
     /// Nothing that was not answered.
     Quiet,

@@ -30,7 +30,7 @@ use stream_model::kind::Kind;
 
 /// A wire of an island, by its number in the blueprint, from an output to an input; `from` and `to` are places among the
 /// island's nodes. Akka calls this a `Connection`, with its `id` and its owners.
-#[derive(Clone, Copy, PartialEq, Eq, Debug)]
+#[derive(Clone, Copy)]
 pub struct Link {
     /// The number of the wire in the blueprint.
     pub wire: u32,
@@ -88,7 +88,7 @@ pub struct Parts<S: Source, D: Drain, L: Logic, B: PlugBook> {
 }
 
 /// What is known of a place before its work holds its handle.
-#[derive(Clone, Copy, PartialEq, Eq, Debug)]
+#[derive(Clone, Copy)]
 pub struct Place {
     /// The number of its node.
     pub node: u32,

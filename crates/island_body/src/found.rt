@@ -1,5 +1,5 @@
 /// What a look at a lane's output end finds.
-#[derive(Clone, Copy, PartialEq, Eq, Debug)]
+#[derive(Clone, Copy)]
 pub enum Found {
     /// Nothing that was not known.
     Nothing,

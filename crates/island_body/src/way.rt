@@ -1,5 +1,5 @@
 /// Which end of a lane stands at a connection, by its place among the ends of its island.
-#[derive(Clone, Copy, PartialEq, Eq, Debug)]
+#[derive(Clone, Copy)]
 pub enum Way {
     /// None: both its stages are nodes of the blueprint.
     Inner,

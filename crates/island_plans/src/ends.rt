@@ -14,7 +14,7 @@ use std::alloc::Global;
 use stream_model::blueprint::Node;
 
 /// A list of an island's end in which some of its nodes leave one item each, in order.
-#[derive(Clone, Copy, PartialEq, Eq, Debug)]
+#[derive(Clone, Copy)]
 pub enum EndList {
     /// How its sinks stand.
     Sinks,

@@ -1,7 +1,7 @@
 // The lanes between bodies.
 
 /// A lane: the body of its output end and the end's place there, and the body of its input end and that end's place.
-#[derive(Clone, Copy, PartialEq, Eq)]
+#[derive(Clone, Copy)]
 pub struct Crossing {
     /// The body that sends.
     pub from: u32,

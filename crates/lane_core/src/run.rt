@@ -15,7 +15,7 @@ use std::alloc::Global;
 pub const TURN_UNITS: u32 = 1000;
 
 /// How a run in rounds ended.
-#[derive(Clone, Copy, PartialEq, Eq)]
+#[derive(Clone, Copy)]
 pub struct RoundsEnd {
     /// The units that all bodies used.
     pub used: u32,

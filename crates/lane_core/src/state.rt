@@ -1,5 +1,5 @@
 /// What an input boundary does with what it takes off its lane.
-#[derive(Clone, Copy, PartialEq, Eq)]
+#[derive(Clone, Copy)]
 pub enum State {
     /// It hands it on.
     Flowing,

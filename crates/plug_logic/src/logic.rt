@@ -7,7 +7,7 @@ use elem_core::elems::Elems;
 use std::alloc::Global;
 
 /// What a logic comes to with a call.
-#[derive(Clone, Copy, PartialEq, Eq, Debug)]
+#[derive(Clone, Copy)]
 pub enum Verdict {
     /// It goes on. Behind `on_end`: the stage completes once all outputs were emitted.
     Go,

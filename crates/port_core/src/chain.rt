@@ -8,7 +8,7 @@ use elem_core::why::{NoMemory, Why};
 use std::alloc::Global;
 
 /// How a chain stands after a call.
-#[derive(Clone, Copy, PartialEq, Eq)]
+#[derive(Clone, Copy)]
 pub enum ChainStep {
     /// It goes on; after the end of its input, it gave what the end adds.
     Go,

@@ -1,6 +1,6 @@
 /// What a stage knows of one of its inputs. The other end's closing counts once it was delivered to the stage. Rule: Akka
 /// Streams 2.6 reference.
-#[derive(Clone, Copy, PartialEq, Eq)]
+#[derive(Clone, Copy)]
 pub enum InView {
     /// It was not pulled since the last element.
     Idle,
@@ -14,7 +14,7 @@ pub enum InView {
 
 /// What a stage knows of one of its outputs. The other end's cancel counts once it was delivered to the stage. Rule: Akka
 /// Streams 2.6 reference.
-#[derive(Clone, Copy, PartialEq, Eq)]
+#[derive(Clone, Copy)]
 pub enum OutView {
     /// The other end has not pulled.
     Unpulled,

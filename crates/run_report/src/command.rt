@@ -17,7 +17,7 @@ use elem_core::line::Line;
 use std::alloc::{AllocError, Global};
 
 /// Why the words ask for nothing.
-#[derive(Debug, Drop, Clone, Copy, PartialEq, Eq)]
+#[derive(Drop, Clone, Copy)]
 pub enum WordsEnd {
     /// They are no command.
     Usage,

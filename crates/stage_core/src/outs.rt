@@ -10,7 +10,7 @@ use port_core::acts::Acts;
 use std::alloc::Global;
 
 /// How an output stands.
-#[derive(Clone, Copy, PartialEq, Eq, Debug)]
+#[derive(Clone, Copy, PartialEq, Eq)]
 pub enum OutputState {
     /// Nobody asks.
     Quiet,

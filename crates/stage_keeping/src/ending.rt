@@ -1,7 +1,7 @@
 use elem_core::why::Cause;
 
 /// How the input of a stage stands that still owes outputs.
-#[derive(Clone, Copy, PartialEq, Eq)]
+#[derive(Clone, Copy)]
 pub enum StateEnd {
     /// It has not ended.
     Lasting,

@@ -1,7 +1,7 @@
 // Orders.
 
 /// What a kill switch orders. Rule: Akka Streams 2.6 reference.
-#[derive(Clone, Copy, PartialEq, Eq, Debug)]
+#[derive(Clone, Copy)]
 pub enum Order {
     /// The valves of the switch complete their outputs and cancel their inputs.
     Shutdown,

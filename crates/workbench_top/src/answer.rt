@@ -5,7 +5,7 @@ ghost use Rattle.workbench_top.specs.Answer.{code_of};
 use std::alloc::Global;
 
 /// How a call of the workbench ended.
-#[derive(Clone, Copy, PartialEq, Eq)]
+#[derive(Clone, Copy)]
 pub enum Ending {
     /// What was wanted is said.
     Done,

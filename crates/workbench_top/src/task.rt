@@ -12,7 +12,7 @@ use elem_core::line::Line;
 use std::alloc::{AllocError, Global};
 
 /// What is to be done with a blueprint.
-#[derive(Clone, Copy, PartialEq, Eq)]
+#[derive(Clone, Copy)]
 pub enum TaskKind {
     /// Its first fault is told.
     Check,

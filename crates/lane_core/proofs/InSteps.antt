@@ -83,6 +83,7 @@ asks size id k me hand bound small live s h wide at lt =
             held_one = sb.held_one;
             cancel_one = sb.cancel_one;
             open_end = sb.open_end;
+            end_last = sb.end_last;
             used = omega (arith, used);
             bound = omega (arith, num, bound, el);
           }
@@ -131,7 +132,7 @@ cancels size id me gets sends small live s h wide at lt =
       got_rule size id 0 (bit_or (slice_index s.words 0) 1) s h v w c.taken c.hand c.asked c.asks 1 s.homes at gets (omega arith) (omega arith) (omega (arith, no)) (λ one. refl) (λ number mark. let few = new_le number mark c.asked 1 in omega (arith, few, no))
           (words_0 s.words (c.asked * 2 + c.cancel) (length c.sent) (bit_or (slice_index s.words 0) 1) h.words ∙ ap (λ (n : ℕ). words_of n (length c.sent)) wd)
           h.wide
-          record { order = r.order; hand_one = r.hand_one; held_one = r.held_one; cancel_one = omega arith; open_end = r.open_end; used = r.used; bound = r.bound }
+          record { order = r.order; hand_one = r.hand_one; held_one = r.held_one; cancel_one = omega arith; open_end = r.open_end; end_last = r.end_last; used = r.used; bound = r.bound }
           record { waiting = h.stored.waiting; free = h.stored.free }
           record {
             items = f.items;

@@ -1,5 +1,5 @@
 -- Lists of items, and places in a ring.
-use Rattle.std.proofs.Common.{◌≡◌, ◌≢◌, ◌⊎◌, inl, inr, ⊎_elim, ℕ, zero, suc, ◌+◌, ◌%◌, ◌<◌, ◌≤◌, List, [], ◌∷◌, ◌++◌, length, set, replicate, map, Option, Some, None, slice_get, refl, sym, ap, ◌∙◌, subst, arith, append_assoc, lt_of_not-le}
+use Rattle.std.proofs.Common.{◌≡◌, ◌≢◌, ◌⊎◌, inl, inr, ⊎_elim, ℕ, zero, suc, ◌+◌, ◌%◌, ◌<◌, ◌≤◌, List, [], ◌∷◌, ◌++◌, length, set, take, replicate, map, Option, Some, None, slice_get, refl, sym, ap, ◌∙◌, subst, arith, append_assoc, lt_of_not-le}
 use mathlib.Core.Option.{some, some-ne-none, some-injective}
 use native.Mathlib.Decide.{dec_le}
 use lib.ListN.{get_elem?}
@@ -95,3 +95,13 @@ weight_le (Failed c) = omega arith
 pub elements_le : (xs : List Item) → elements xs ≤ length xs
 elements_le [] = omega arith
 elements_le (x ∷ xs) = let e = elements_le xs in let w = weight_le x in let f = elements_first x xs in omega (arith, e, w, f)
+
+-- behind elements alone, an item that is put last leaves the elements in front
+pub put_last : (l : List Item) (x : Item) (n : ℕ) → length l ≤ elements l → n ≡ length l + weight x → elements (take n (l ++ x ∷ [])) ≡ n
+put_last [] (Elem e) n full is = ap (λ (k : ℕ). elements (take k (Elem e ∷ []))) is ∙ sym is
+put_last [] Ended n full is = ap (λ (k : ℕ). elements (take k (Ended ∷ []))) is ∙ sym is
+put_last [] (Failed c) n full is = ap (λ (k : ℕ). elements (take k (Failed c ∷ []))) is ∙ sym is
+put_last (Elem e ∷ l) x zero full is = absurd (omega (arith, is))
+put_last (Elem e ∷ l) x (suc n) full is = let r = put_last l x n (omega (arith, full)) (omega (arith, is)) in omega (arith, r)
+put_last (Ended ∷ l) x n full is = let less = elements_le l in absurd (omega (arith, full, less))
+put_last (Failed c ∷ l) x n full is = let less = elements_le l in absurd (omega (arith, full, less))

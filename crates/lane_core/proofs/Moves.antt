@@ -1,5 +1,5 @@
 -- What a step does to the core of a lane and to its places.
-use Rattle.std.proofs.Common.{◌≡◌, ◌≢◌, ℕ, suc, ◌+◌, ◌%◌, ◌<◌, ◌≤◌, List, [], ◌∷◌, ◌++◌, length, set, Option, Some, None, Bool, true, false, cond, ◌&&◌, ◌==◌, eq-eqb, slice_get, refl, sym, ap, ◌∙◌, subst, arith, length-append, length-set}
+use Rattle.std.proofs.Common.{◌≡◌, ◌≢◌, ℕ, suc, ◌+◌, ◌%◌, ◌<◌, ◌≤◌, List, [], ◌∷◌, ◌++◌, length, set, take, Option, Some, None, Bool, true, false, cond, ◌&&◌, ◌==◌, eq-eqb, slice_get, refl, sym, ap, ◌∙◌, subst, arith, length-append, length-set}
 use Rattle.std.proofs.lemmas.List.{append-nil}
 use Rattle.std.proofs.Math.Nat.{add-mod_right}
 use Rattle.std.proofs.lemmas.Nat.{mod_below}
@@ -15,7 +15,7 @@ use Rattle.elem_core.proofs.Prefixes.{prefix_append, prefix_trans, prefix_length
 use Rattle.elem_core.specs.declared.item.Item.{Item}
 use Rattle.lane_core.specs.declared.sight.Sight.{Sight}
 use Rattle.lane_core.specs.Lane.{weight, LaneCore, Sound, Stored, SightFits, is_new, empty_hand}
-use Rattle.lane_core.proofs.Lists.{prefix_more, some_at, get_front, get_last, set_apart, elements_first, elements-append, weight_le, elements_le}
+use Rattle.lane_core.proofs.Lists.{prefix_more, some_at, get_front, get_last, set_apart, elements_first, elements-append, weight_le, elements_le, put_last}
 
 abbrev pub Homes : Type 0
 Homes = List (maybe.Option (Option Item))
@@ -73,7 +73,7 @@ later_got c taken hand asked asks cancel j u more again once frozen pays ne f = 
   told_finds = let k = f.told_finds in omega (arith, k);
   closed = λ e. let k = f.cancel in f.closed e ∙ sym (frozen (omega (arith, e, k)));
   told_closed = λ e. let k = f.told_cancel in f.told_closed e ∙ sym (frozen (omega (arith, e, k)));
-  sends = λ e. let g = f.sends e in let k = g.3 in let p = pays u.number u.cancel in (g.0, g.1, g.2, omega (arith, k, p));
+  sends = λ e. let g = f.sends e in let k = g.3 in let p = pays u.number u.cancel in (g.0, g.1, g.2, omega (arith, k, p), g.4);
   gets = λ e. absurd (ne (f.gets e).0);
 }
 
@@ -95,6 +95,7 @@ sound_back size c s = record {
   held_one = s.held_one;
   cancel_one = s.cancel_one;
   open_end = s.open_end;
+  end_last = s.end_last;
   used = s.used;
   bound = let b = s.bound in omega (arith, b, elements-append c.taken c.hand);
 }
@@ -167,6 +168,7 @@ lift size c homes is lt s st =
         held_one = s.held_one;
         cancel_one = s.cancel_one;
         open_end = s.open_end;
+        end_last = s.end_last;
         used = s.used;
         bound = s.bound;
       },
@@ -210,12 +212,15 @@ sound_sent size c x one room s =
     let e = elements-append c.sent (x ∷ []) in
     let w = elements_first x [] in
     let l = length-append c.sent (x ∷ []) in
-    let o = s.open_end in record {
+    let o = s.open_end in
+    let few = elements_le c.sent in
+    let count : elements (c.sent ++ x ∷ []) ≡ length c.sent + weight x = omega (arith, e, w, o, one, few) in record {
       order = prefix_trans s.order (prefix_append c.sent (x ∷ []));
       hand_one = s.hand_one;
       held_one = weight_le x;
       cancel_one = s.cancel_one;
       open_end = omega (arith, e, w, l, o, one);
+      end_last = ap (λ (n : ℕ). elements (take n (c.sent ++ x ∷ []))) count ∙ put_last c.sent x (length c.sent + weight x) (omega (arith, o, one)) refl ∙ sym count;
       used = omega (arith, e, w, room);
       bound = s.bound;
     }

@@ -24,6 +24,7 @@ opens size = record {
     held_one = omega arith;
     cancel_one = omega arith;
     open_end = omega arith;
+    end_last = refl;
     used = omega arith;
     bound = omega arith;
   };
@@ -47,7 +48,7 @@ opens size = record {
       told_finds = omega arith;
       closed = λ k. absurd (omega (arith, k));
       told_closed = λ k. absurd (omega (arith, k));
-      sends = λ _. (refl, refl, refl, omega arith);
+      sends = λ _. (refl, refl, refl, omega arith, omega arith);
       gets = λ _. (refl, refl, refl, refl, refl, refl);
     }
     one (suc j) v e = absurd (some-ne-none v (sym e))
@@ -142,7 +143,7 @@ parts size id v sends gets s h at = record {
   core = record h.core { sender = length s.views };
   words = h.words;
   wide = h.wide;
-  sound = let r = h.sound in record { order = r.order; hand_one = r.hand_one; held_one = r.held_one; cancel_one = r.cancel_one; open_end = r.open_end; used = r.used; bound = r.bound };
+  sound = let r = h.sound in record { order = r.order; hand_one = r.hand_one; held_one = r.held_one; cancel_one = r.cancel_one; open_end = r.open_end; end_last = r.end_last; used = r.used; bound = r.bound };
   stored = record { waiting = h.stored.waiting; free = h.stored.free };
   each = λ j u e. ⊎_elim (λ t. olds j u t.1) (λ t. subst (SightFits (record h.core { sender = length s.views }) j) t.1 (new j (t.0 ∙ length-set s.views id (input_sight v)))) (at_end (set s.views id (input_sight v)) (output_end v) u j e);
 }
@@ -162,7 +163,7 @@ parts size id v sends gets s h at = record {
           told_finds = f.told_finds;
           closed = f.closed;
           told_closed = f.told_closed;
-          sends = λ _. (here, m.1, m.2, m.3);
+          sends = λ _. (here, m.1, m.2, m.3, m.4);
           gets = λ e. absurd (true≢false (sym e));
         }
 

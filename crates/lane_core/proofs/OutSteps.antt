@@ -11,7 +11,7 @@ use Rattle.elem_core.specs.declared.item.Item.{Item}
 use Rattle.elem_core.specs.declared.item.Item.TheVariants.{Elem, Ended, Failed}
 use Rattle.lane_core.specs.declared.sight.Sight.{Sight}
 use Rattle.lane_core.specs.Lane.{weight, Sound, Stored, SightFits, IsLaneState, is_new, words_of, sat, saw_asked, sent_one}
-use Rattle.lane_core.proofs.Lists.{views_after}
+use Rattle.lane_core.proofs.Lists.{views_after, elements_first, elements-append}
 use Rattle.lane_core.proofs.Moves.{Homes, nothing_new, with_sent, later_sent, fits_ring, order_le, hold, fill, sound_sent}
 use Rattle.lane_core.proofs.Words.{St, words_1, stays, same_0}
 
@@ -34,6 +34,7 @@ sees size id me sends gets s h wide at lt =
     let news : is_new v.number v.cancel (n / 2) (n % 2) ≡ is_new v.number v.cancel c.asked c.cancel = λ i. is_new v.number v.cancel (half i) (rem i) in
     let none_left : is_new (n / 2) (n % 2) c.asked c.cancel ≡ 0 = (λ i. is_new (half i) (rem i) c.asked c.cancel) ∙ nothing_new c.asked c.cancel in
     let paid = mine.3 in
+    let few = mine.4 in
     let w = record v { number = n / 2; cancel = n % 2; finds = v.finds + is_new v.number v.cancel (n / 2) (n % 2); looks = v.looks + 1 } in (
       w,
       keeps,
@@ -50,7 +51,7 @@ sees size id me sends gets s h wide at lt =
         told_finds = f.told_finds;
         closed = λ _. half;
         told_closed = f.told_closed;
-        sends = λ _. (mine.0, mine.1, mine.2, omega (arith, news, none_left, paid));
+        sends = λ _. (mine.0, mine.1, mine.2, omega (arith, news, none_left, paid), omega (arith, few, half, fn));
         gets = λ e. absurd (true≢false (sym e ∙ gets));
       },
       (refl, omega (arith, half, fn), omega (arith, rem, fc), omega (arith, half, tn), omega (arith, rem, tc)),
@@ -82,6 +83,7 @@ sits size id me sends gets empty no_slots no_hand s h wide at lt =
           held_one = omega arith;
           cancel_one = r.cancel_one;
           open_end = omega (arith, none_sent);
+          end_last = r.end_last;
           used = r.used;
           bound = r.bound;
         };
@@ -99,7 +101,7 @@ sits size id me sends gets empty no_slots no_hand s h wide at lt =
               told_finds = f.told_finds;
               closed = f.closed;
               told_closed = f.told_closed;
-              sends = λ _. (mine.0, mine.1, refl, mine.3);
+              sends = λ _. (mine.0, mine.1, refl, mine.3, mine.4);
               gets = λ e. absurd (true≢false (sym e ∙ gets));
             }
             (λ j u ne e. seated j u (λ k. ne (k ∙ sym mine.0)) (h.each j u e));
@@ -130,14 +132,16 @@ one_more n h = omega (arith, h)
 
 -- what the rule says after an item was sent
 pub sent_rule : (size id : ℕ) (s : St) (h : IsLaneState size s) (v : Sight) (x : Item) (homes : Homes) → get_elem? s.views id ≡ some v → v.sends ≡ true → v.gets ≡ false → length homes ≡ size + 1
-    → length h.core.sent + 1 < 2 ^ 64 → Sound size (with_sent h.core (x ∷ []) (weight x)) → Stored (size + 1) (with_sent h.core (x ∷ []) (weight x)) homes
+    → length h.core.sent + 1 < 2 ^ 64 → elements v.items + weight x ≤ v.number → Sound size (with_sent h.core (x ∷ []) (weight x)) → Stored (size + 1) (with_sent h.core (x ∷ []) (weight x)) homes
     → IsLaneState size record { words = set s.words 16 ((slice_index s.words 16 + 1) % 2 ^ 64); homes = homes; views = set s.views id (record v { items = v.items ++ x ∷ []; slots = weight x }) }
-sent_rule size id s h v x homes at sends gets wide small sound stored =
+sent_rule size id s h v x homes at sends gets wide small few sound stored =
     let c = h.core in
     let f = h.each id v at in
     let mine = f.sends sends in
     let long = length-append c.sent (x ∷ []) in
     let sw : (slice_index s.words 16 + 1) % 2 ^ 64 ≡ length (c.sent ++ x ∷ []) = ap (λ (ws : List ℕ). (slice_index ws 16 + 1) % 2 ^ 64) h.words ∙ one_more (length c.sent) small ∙ sym long in
+    let count = elements-append v.items (x ∷ []) in
+    let one = elements_first x [] in
     let same : v.items ++ x ∷ [] ≡ c.sent ++ x ∷ [] = ap (λ (l : List Item). l ++ x ∷ []) mine.1 in
     let fk = f.known in record {
       core = with_sent c (x ∷ []) (weight x);
@@ -158,7 +162,7 @@ sent_rule size id s h v x homes at sends gets wide small sound stored =
             told_finds = f.told_finds;
             closed = f.closed;
             told_closed = f.told_closed;
-            sends = λ _. (mine.0, same, refl, mine.3);
+            sends = λ _. (mine.0, same, refl, mine.3, omega (arith, few, count, one));
             gets = λ e. absurd (true≢false (sym e ∙ gets));
           }
           (λ j u ne e. later_sent c (x ∷ []) (weight x) j u (λ k. ne (k ∙ sym mine.0)) (h.each j u e));
@@ -184,7 +188,7 @@ sends_end size id v x end ready s h at =
     let r3 = ready.3 in
     let r4 = ready.4 in
     let o = h.sound.open_end in
-    sent_rule size id s h v x (set s.homes (length v.items % (size + 1)) (some (Some x))) at ready.0 ready.1 (length-set s.homes (length v.items % (size + 1)) (some (Some x)) ∙ h.wide) (omega (arith, o, one, el, r3, r4)) (sound_sent size c x one (omega (arith, el, fn, r3)) h.sound)
+    sent_rule size id s h v x (set s.homes (length v.items % (size + 1)) (some (Some x))) at ready.0 ready.1 (length-set s.homes (length v.items % (size + 1)) (some (Some x)) ∙ h.wide) (omega (arith, o, one, el, r3, r4)) r3 (sound_sent size c x one (omega (arith, el, fn, r3)) h.sound)
     (subst (λ (k : ℕ × ℕ). Stored (size + 1) (with_sent c (x ∷ []) k.0) (set s.homes k.1 (some (Some x)))) (λ i. (sym end i, sym k_is i)) (fill size c s.homes x one h.wide (omega (arith, le)) (omega (arith, ring, one)) h.stored))
 
 pub sends_elem : (size id : ℕ) (v : Sight) (x : Item) → weight x ≡ 1 → Filled size id v x
@@ -216,7 +220,7 @@ sends_elem size id v x elem ready s h at =
       (tt, subst (λ k. get_elem? homes1 k ≡ some (some None)) next_is held.0),
       sent_rule size id s h v x (set homes1 ((length v.items + 1) % (size + 1)) none) at ready.0 ready.1
           (length-set homes1 ((length v.items + 1) % (size + 1)) none ∙ length-set s.homes (length v.items % (size + 1)) (some (Some x)) ∙ h.wide)
-          (omega (arith, o, one, el, r3, r4)) sound
+          (omega (arith, o, one, el, r3, r4)) r3 sound
           (subst (λ (k : ℕ × ℕ). Stored (size + 1) (with_sent c (x ∷ []) k.0) (set homes1 k.1 none)) (λ i. (sym elem i, next_is i)) held.1),
     )
 

@@ -1,5 +1,5 @@
 -- The rule of a lane's table, and what each step tells.
-use Rattle.std.specs.Prelude.{◌≡◌, ◌⊎◌, ℕ, zero, suc, ◌+◌, ◌*◌, ◌/◌, ◌%◌, ◌<◌, ◌≤◌, List, [], ◌∷◌, ◌++◌, length, replicate, Bool, true, false, cond, ◌&&◌, ◌==◌, Option, Some, None, slice_get}
+use Rattle.std.specs.Prelude.{◌≡◌, ◌⊎◌, ℕ, zero, suc, ◌+◌, ◌*◌, ◌/◌, ◌%◌, ◌<◌, ◌≤◌, List, [], ◌∷◌, ◌++◌, length, take, replicate, Bool, true, false, cond, ◌&&◌, ◌==◌, Option, Some, None, slice_get}
 use Rattle.std.specs.Option.{option_to_list}
 use mathlib.Core.Option.{some}
 use mathlib.Core.Option as maybe
@@ -45,14 +45,15 @@ pub record LaneCore : Type 0 where
   pub sender : ℕ
   pub receiver : ℕ
 
--- taken and in hand is the beginning of what was sent, of which only the last may be an end; no more elements are sent than were
--- asked for, and no more asked for than were taken and have a place
+-- taken and in hand is the beginning of what was sent, of which only the last may be an end: the first items are elements, as many as
+-- there are elements; no more elements are sent than were asked for, and no more asked for than were taken and have a place
 pub record Sound (size : ℕ) (c : LaneCore) : Type 0 where
   pub order : IsPrefix (c.taken ++ c.hand) c.sent
   pub hand_one : length c.hand ≤ 1
   pub held_one : c.held ≤ 1
   pub cancel_one : c.cancel ≤ 1
   pub open_end : length c.sent + c.held ≤ elements c.sent + 1
+  pub end_last : elements (take (elements c.sent) c.sent) ≡ elements c.sent
   pub used : elements c.sent ≤ c.asked
   pub bound : c.asked ≤ elements c.taken + size
 
@@ -61,7 +62,7 @@ pub record Stored (n : ℕ) (c : LaneCore) (homes : List (maybe.Option (Option I
   pub waiting : (p : ℕ) → length c.taken + length c.hand ≤ p → p < length c.sent → get_elem? homes (p % n) ≡ some (some (slice_get c.sent p))
   pub free : (p : ℕ) → length c.sent + c.held ≤ p → p < length c.taken + n → get_elem? homes (p % n) ≡ some (some None)
 
--- What the seat of that number knows is so. The output end has found new demand or a cancel at most once for each ask and for the
+-- What the seat of that number knows is so. The output end has sent no more elements than it has seen asked for, and has found new demand or a cancel at most once for each ask and for the
 -- cancel, and less often than that while there is something new to find.
 pub record SightFits (c : LaneCore) (j : ℕ) (v : Sight) : Type 0 where
   pub items : IsPrefix v.items c.sent
@@ -75,7 +76,7 @@ pub record SightFits (c : LaneCore) (j : ℕ) (v : Sight) : Type 0 where
   pub told_finds : v.told_finds ≤ c.asks + c.cancel
   pub closed : v.cancel ≡ 1 → v.number ≡ c.asked
   pub told_closed : v.told_cancel ≡ 1 → v.told_number ≡ c.asked
-  pub sends : v.sends ≡ true → (j ≡ c.sender) × (v.items ≡ c.sent) × (v.slots ≡ c.held) × (v.finds + is_new v.number v.cancel c.asked c.cancel ≤ c.asks + c.cancel)
+  pub sends : v.sends ≡ true → (j ≡ c.sender) × (v.items ≡ c.sent) × (v.slots ≡ c.held) × (v.finds + is_new v.number v.cancel c.asked c.cancel ≤ c.asks + c.cancel) × (elements v.items ≤ v.number)
   pub gets : v.gets ≡ true → (j ≡ c.receiver) × (v.items ≡ c.taken ++ c.hand) × (v.slots ≡ length c.hand) × (v.number ≡ c.asked) × (v.cancel ≡ c.cancel) × (v.asks ≡ c.asks)
 
 -- the rule of a lane of that size: there is such a core behind its words, places and seats

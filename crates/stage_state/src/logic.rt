@@ -96,7 +96,7 @@ impl StateLogic {
         })
     }
 
-    /// The run begins.
+    /// The run begins. Only a valve takes memory, for the move that it may have to note; where that is refused, it is as before.
     pub fn start(&mut self, acts: &mut Acts) -> Result<(), NoMemory>
         requires new { phase_of self.old ≡ New }
         requires meets { Meets starts (port_state self.old) }
@@ -106,6 +106,7 @@ impl StateLogic {
         ensures ports { OnOk result (Obeys starts (port_state self.old) (port_state self.new) acts.new.items) }
         ensures gives { OnOk result (Turned starts self.old acts.new.items self.new) }
         ensures room { acts.new.room ≡ acts.old.room }
+        ensures refused { OnErr result (Chooses self.old → (self.new ≡ self.old) × (acts.new ≡ acts.old)) }
     {
         match self {
             StateLogic::Machine(logic) => logic.start(acts),
@@ -143,7 +144,7 @@ impl StateLogic {
         }
     }
 
-    /// The output was asked. Only a buffer that drops takes memory; where that is refused, it is as before.
+    /// The output was asked. Only a buffer that drops and a valve take memory; where that is refused, each is as before.
     pub fn on_pull(&mut self, port: u8, acts: &mut Acts) -> Result<(), NoMemory>
         requires open { phase_of self.old ≡ Open }
         requires port { port ≡ 0 }
@@ -165,7 +166,7 @@ impl StateLogic {
         }
     }
 
-    /// The input has ended. A stage that chooses takes no memory.
+    /// The input has ended. Of the stages that choose only a valve takes memory; where that is refused, it is as before.
     pub fn on_finish(&mut self, alloc: Global, port: u8, acts: &mut Acts) -> Result<(), NoMemory>
         requires open { phase_of self.old ≡ Open }
         requires port { port ≡ 0 }
@@ -176,6 +177,7 @@ impl StateLogic {
         ensures ports { OnOk result (Obeys (arrives 0 item.Ended) (port_state self.old) (port_state self.new) acts.new.items) }
         ensures gives { OnOk result (Turned (arrives 0 item.Ended) self.old acts.new.items self.new) }
         ensures room { acts.new.room ≡ acts.old.room }
+        ensures refused { OnErr result (Chooses self.old → (self.new ≡ self.old) × (acts.new ≡ acts.old)) }
     {
         match self {
             StateLogic::Machine(logic) => logic.on_finish(alloc, port, acts),
@@ -186,7 +188,7 @@ impl StateLogic {
         }
     }
 
-    /// The input has failed. Only a recover takes memory; where that is refused, it is as before.
+    /// The input has failed. Only a recover and a valve take memory; where that is refused, each is as before.
     pub fn on_fail(&mut self, port: u8, cause: Cause, acts: &mut Acts) -> Result<(), NoMemory>
         requires open { phase_of self.old ≡ Open }
         requires port { port ≡ 0 }
@@ -208,7 +210,7 @@ impl StateLogic {
         }
     }
 
-    /// The output was cancelled.
+    /// The output was cancelled. Only a valve takes memory; where that is refused, it is as before.
     pub fn on_cancel(&mut self, port: u8, acts: &mut Acts) -> Result<(), NoMemory>
         requires open { phase_of self.old ≡ Open }
         requires port { port ≡ 0 }
@@ -219,6 +221,7 @@ impl StateLogic {
         ensures ports { OnOk result (Obeys (cancels 0) (port_state self.old) (port_state self.new) acts.new.items) }
         ensures gives { OnOk result (Turned (cancels 0) self.old acts.new.items self.new) }
         ensures room { acts.new.room ≡ acts.old.room }
+        ensures refused { OnErr result (Chooses self.old → (self.new ≡ self.old) × (acts.new ≡ acts.old)) }
     {
         match self {
             StateLogic::Machine(logic) => logic.on_cancel(port, acts),

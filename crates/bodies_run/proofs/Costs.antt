@@ -27,7 +27,7 @@ use Rattle.island_body.specs.declared.body.Body.{Body}
 use Rattle.bodies_run.specs.Bodies.{net_of, IsCrossingOf, AreLanes, AskedAre}
 use Rattle.bodies_run.proofs.Lanes.{kept_here, asked_here}
 use Rattle.bodies_run.proofs.Nets.{stood}
-use Rattle.bodies_run.proofs.Sums.{add_up, when_same, same_hit, other_hit, map_get, by_sum, add_le, add_both, none_up, only_one, sum_first, over, over_add, lane_there, over_one, over_all}
+use Rattle.bodies_run.proofs.Sums.{add_up, when_same, same_hit, other_hit, map_get, by_sum, add_le, add_both, none_up, only_one, sum_first, over, over_add, lane_there, over_one, over_all, over_once, over_each}
 use Rattle.stream_model.specs.Linear.{Book}
 
 -- the items that an input end took, where its lane is wire u, and the finds of an output end
@@ -63,13 +63,19 @@ module _ {S D L B : Type 0} where
       let first : sum_below (λ k. F (net_of (b ∷ bs) k)) (suc (length bs)) ≡ F b.island.net + sum_below (λ k. F (net_of bs k)) (length bs) = sum_first (λ k. F (net_of (b ∷ bs) k)) (length bs) in
       omega (arith, rest, first)
 
-  pub asks_paid : (sources : S → SourceState) (drains : D → DrainState) (book : Book) (now : List (Body S D L B)) → AllOf (BodyKeeps sources drains book) now → sum_below (λ k. all_asks (net_of now k)) (length now) ≤ sum_by (λ (b : Body S D L B). b.spent) now
+  -- what a body took off its lanes and found at them
+  abbrev pub at_lanes : Body S D L B → ℕ
+  at_lanes b = all_taken b.ins.items + all_finds b.outs.items
+
+  pub asks_paid : (sources : S → SourceState) (drains : D → DrainState) (book : Book) (now : List (Body S D L B)) → AllOf (BodyKeeps sources drains book) now
+      → sum_below (λ k. all_asks (net_of now k)) (length now) + add_up at_lanes now ≤ sum_by (λ (b : Body S D L B). b.spent) now
   asks_paid sources drains book now keep =
       let spent = by_sum (λ (b : Body S D L B). b.spent) now in
       let nets : add_up (λ (b : Body S D L B). all_asks b.island.net) now ≡ sum_below (λ k. all_asks (net_of now k)) (length now) = by_nets all_asks now in
-      let most : add_up (λ (b : Body S D L B). all_asks b.island.net) now ≤ add_up (λ (b : Body S D L B). b.spent) now = add_le (λ (b : Body S D L B). all_asks b.island.net) (λ (b : Body S D L B). b.spent) now (λ k b at.
-      let a = (keep k b at).laws.asks in let u = (keep k b at).used_less in omega (arith, a, u)) in
-      omega (arith, spent, nets, most)
+      let both : add_up (λ (b : Body S D L B). all_asks b.island.net + at_lanes b) now ≡ add_up (λ (b : Body S D L B). all_asks b.island.net) now + add_up at_lanes now = add_both (λ (b : Body S D L B). all_asks b.island.net) at_lanes now in
+      let most : add_up (λ (b : Body S D L B). all_asks b.island.net + at_lanes b) now ≤ add_up (λ (b : Body S D L B). b.spent) now = add_le (λ (b : Body S D L B). all_asks b.island.net + at_lanes b) (λ (b : Body S D L B). b.spent) now (λ k b at.
+      let a = (keep k b at).laws.asks in let u = (keep k b at).charged in omega (arith, a, u)) in
+      omega (arith, spent, nets, both, most)
 
   abbrev took_in : ℕ → Body S D L B → ℕ
   took_in u b = add_up (took_at u) b.ins.items
@@ -115,6 +121,30 @@ module _ {S D L B : Type 0} where
         let both : over ws (cost_at now) (length ws) ≡ over ws (λ u. add_up (took_in u) now) (length ws) + over ws (λ u. add_up (found_in u) now) (length ws) = over_add ws (λ u. add_up (took_in u) now) (λ u. add_up (found_in u) now) (length ws) in
         let is : over_lanes g (cost_at now) ≡ over ws (cost_at now) (length ws) = ap (λ (z : List Edge). over z (cost_at now) (length z)) same in
         omega (arith, spent, most, one, two, nets, ins, outs, both, is)
+
+    -- ---- and what the lanes cost was spent beside the asks
+
+    ins_under : over ws (λ u. add_up (took_in u) now) (length ws) ≤ add_up (λ (b : Body S D L B). all_taken b.ins.items) now
+    ins_under = over_each ws (λ (b : Body S D L B). all_taken b.ins.items) took_in (length ws) now (λ b.
+        let all : over ws (λ u. took_in u b) (length ws) ≤ add_up took_of b.ins.items = over_each ws took_of took_at (length ws) b.ins.items (λ x. over_once ws x.wire (took_of x) (length ws)) in
+        let is = taken_up b.ins.items in
+        omega (arith, all, is))
+
+    outs_under : over ws (λ u. add_up (found_in u) now) (length ws) ≤ add_up (λ (b : Body S D L B). all_finds b.outs.items) now
+    outs_under = over_each ws (λ (b : Body S D L B). all_finds b.outs.items) found_in (length ws) now (λ b.
+        let all : over ws (λ u. found_in u b) (length ws) ≤ add_up found_of b.outs.items = over_each ws found_of found_at (length ws) b.outs.items (λ o. over_once ws o.wire (found_of o) (length ws)) in
+        let is = finds_up b.outs.items in
+        omega (arith, all, is))
+
+    pub spent_under : sum_below (λ k. all_asks (net_of now k)) (length now) + over_lanes g (cost_at now) ≤ sum_by (λ (b : Body S D L B). b.spent) now
+    spent_under =
+        let asks = asks_paid sources drains book now keep in
+        let two : add_up (λ (b : Body S D L B). all_taken b.ins.items + all_finds b.outs.items) now ≡ add_up (λ (b : Body S D L B). all_taken b.ins.items) now + add_up (λ (b : Body S D L B). all_finds b.outs.items) now = add_both (λ (b : Body S D L B). all_taken b.ins.items) (λ (b : Body S D L B). all_finds b.outs.items) now in
+        let ins = ins_under in
+        let outs = outs_under in
+        let both : over ws (cost_at now) (length ws) ≡ over ws (λ u. add_up (took_in u) now) (length ws) + over ws (λ u. add_up (found_in u) now) (length ws) = over_add ws (λ u. add_up (took_in u) now) (λ u. add_up (found_in u) now) (length ws) in
+        let is : over_lanes g (cost_at now) ≡ over ws (cost_at now) (length ws) = ap (λ (z : List Edge). over z (cost_at now) (length z)) same in
+        omega (arith, asks, two, ins, outs, both, is)
 
     -- ---- and of each lane only its own two ends cost anything
 

@@ -20,14 +20,10 @@ use Rattle.island_body.specs.Keeping.{BodyKeeps, BodyGoes}
 use Rattle.island_body.specs.Meeting.{BodiesJoined}
 use Rattle.island_body.specs.declared.body.Body.{Body}
 use Rattle.bodies_run.specs.Bodies.{net_of, AreLanes, AskedAre, AreBodiesOf}
-use Rattle.bodies_run.proofs.Costs.{cost_at, spent_over, asks_paid, lanes_cost}
+use Rattle.bodies_run.proofs.Costs.{cost_at, spent_over, spent_under, lanes_cost}
 use Rattle.bodies_run.proofs.Lanes.{lanes_on}
 use Rattle.bodies_run.proofs.Nets.{Went, went, stood, all_settled, nets_cover, nets_owned}
 use Rattle.stream_model.specs.Linear.{Book}
-
-module _ {S D L B : Type 0} (sources : S → SourceState) (drains : D → DrainState) (book : Book) where
-  pub asks : (count : ℕ) (now : List (Body S D L B)) → length now ≡ count → AllOf (BodyKeeps sources drains book) now → sum_below (λ b. all_asks (net_of now b)) count ≤ sum_by (λ (b : Body S D L B). b.spent) now
-  asks count now many keep = subst (λ (n : ℕ). sum_below (λ b. all_asks (net_of now b)) n ≤ sum_by (λ (b : Body S D L B). b.spent) now) many (asks_paid sources drains book now keep)
 
 module _ {S D L B : Type 0} (sources : S → SourceState) (drains : D → DrainState) (book : Book) (g : Graph) (homes : List ℕ) (count : ℕ) (ws : List Edge) (nodes : List (Seated S D L B)) (crossings : List Crossing) (begun now : List (Body S D L B))
     (m : AreBodiesOf sources drains book g homes count ws nodes crossings begun) (goes : EachOf BodyGoes begun now) (keep : AllOf (BodyKeeps sources drains book) now) (all : ℕ → ℕ) (asked_are : AskedAre now crossings all) (all_joined : AllJoined BodiesJoined now crossings) where
@@ -43,8 +39,12 @@ module _ {S D L B : Type 0} (sources : S → SourceState) (drains : D → DrainS
   most : sum_by (λ (b : Body S D L B). b.spent) now ≤ sum_below (λ b. total_cost (net_of now b)) count + over_lanes g (cost_at now)
   most = subst (λ (n : ℕ). sum_by (λ (b : Body S D L B). b.spent) now ≤ sum_below (λ b. total_cost (net_of now b)) n + over_lanes g (cost_at now)) (goes.count ∙ m.begun_are.many) (spent_over sources drains book g homes count ws nodes m.seated m.graph.wires_are now keep crossings lanes)
 
-  pub costs : (cost : ℕ → ℕ) × (LanesCost g (net_of now) (seats_by_islands homes ws) all cost × (sum_by (λ (b : Body S D L B). b.spent) now ≤ sum_below (λ b. total_cost (net_of now b)) count + over_lanes g cost))
-  costs = (cost_at now, (cost_there, most))
+  least : sum_below (λ b. all_asks (net_of now b)) count + over_lanes g (cost_at now) ≤ sum_by (λ (b : Body S D L B). b.spent) now
+  least = subst (λ (n : ℕ). sum_below (λ b. all_asks (net_of now b)) n + over_lanes g (cost_at now) ≤ sum_by (λ (b : Body S D L B). b.spent) now) (goes.count ∙ m.begun_are.many) (spent_under sources drains book g homes count ws nodes m.seated m.graph.wires_are now keep crossings lanes)
+
+  pub costs : (cost : ℕ → ℕ)
+      × (LanesCost g (net_of now) (seats_by_islands homes ws) all cost × ((sum_by (λ (b : Body S D L B). b.spent) now ≤ sum_below (λ b. total_cost (net_of now b)) count + over_lanes g cost) × (sum_below (λ b. all_asks (net_of now b)) count + over_lanes g cost ≤ sum_by (λ (b : Body S D L B). b.spent) now)))
+  costs = (cost_at now, (cost_there, (most, least)))
 
   pub paid : sum_by (λ (b : Body S D L B). b.spent) now + length g.wires ≤ count_needed g (picture_counts (joined_account (net_of now) (seats_by_islands homes ws) all) g)
   paid =

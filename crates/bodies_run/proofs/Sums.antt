@@ -1,8 +1,9 @@
 -- Sums over lists, and how they are spread over the lanes.
 use Rattle.std.specs.Prelude.{slice_get, Option}
 use Rattle.std.specs.List.{sum_by}
-use Rattle.std.proofs.Common.{◌≡◌, ◌≢◌, ℕ, zero, suc, ◌+◌, ◌<◌, ◌≤◌, List, [], ◌∷◌, None, Some, map, refl, ap, ◌∙◌, arith}
+use Rattle.std.proofs.Common.{◌≡◌, ◌≢◌, ℕ, zero, suc, ◌+◌, ◌<◌, ◌≤◌, List, [], ◌∷◌, None, Some, map, refl, sym, ap, ◌∙◌, arith}
 use Rattle.std.proofs.lemmas.List.Sums.{sum_by-cons}
+use native.Mathlib.Decide.{ℕ_discrete}
 use Rattle.stream_model.specs.Graph.{Edge}
 use Rattle.fused_net.specs.Costs.{sum_below}
 use Rattle.fused_net.proofs.Sums.{sum_has}
@@ -114,5 +115,50 @@ over_all ws f h n [] le = omega arith
 over_all ws f h n (x ∷ xs) le =
     let here : f x ≤ over ws (λ u. h u x) n = le 0 x refl in
     let rest : add_up f xs ≤ over ws (λ u. add_up (h u) xs) n = over_all ws f h n xs (λ k y e. le (suc k) y e) in
+    let both : over ws (λ u. h u x + add_up (h u) xs) n ≡ over ws (λ u. h u x) n + over ws (λ u. add_up (h u) xs) n = over_add ws (λ u. h u x) (λ u. add_up (h u) xs) n in
+    omega (arith, here, rest, both)
+
+-- ---- and the sum over all lanes is no more than what is spread over them
+
+lane_le : (o : Option ℕ) (m c : ℕ) → m ≤ c → if_lane o m ≤ c
+lane_le None m c le = omega arith
+lane_le (Some z) m c le = le
+
+lane_none : (o : Option ℕ) (m : ℕ) → m ≡ 0 → if_lane o m ≡ 0
+lane_none None m e = refl
+lane_none (Some z) m e = e
+
+-- one that is spread over the lanes is nothing before its own
+over_before : (ws : List Edge) (w c n : ℕ) → n ≤ w → over ws (λ u. when_same w u c) n ≡ 0
+over_before ws w c zero le = refl
+over_before ws w c (suc n) le =
+    let rest : over ws (λ u. when_same w u c) n ≡ 0 = over_before ws w c n (omega (arith, le)) in
+    let here : if_lane (lane_at ws n) (when_same w n c) ≡ 0 = lane_none (lane_at ws n) (when_same w n c) (other_hit w n c (λ e. absurd (omega (arith, le, e)))) in
+    omega (arith, rest, here)
+
+pub over_once : (ws : List Edge) (w c n : ℕ) → over ws (λ u. when_same w u c) n ≤ c
+over_once ws w c zero = omega arith
+over_once ws w c (suc n) = elim (ℕ_discrete w n) [
+  | yes e ↦
+      let rest : over ws (λ u. when_same w u c) n ≡ 0 = over_before ws w c n (omega (arith, e)) in
+      let same : when_same w n c ≡ c = ap (λ (k : ℕ). when_same w k c) (sym e) ∙ same_hit w c in
+      let here : if_lane (lane_at ws n) (when_same w n c) ≤ c = lane_le (lane_at ws n) (when_same w n c) c (omega (arith, same)) in
+      omega (arith, rest, here)
+  | no ne ↦
+      let rest : over ws (λ u. when_same w u c) n ≤ c = over_once ws w c n in
+      let here : if_lane (lane_at ws n) (when_same w n c) ≡ 0 = lane_none (lane_at ws n) (when_same w n c) (other_hit w n c ne) in
+      omega (arith, rest, here)
+]
+
+over_nothing : (ws : List Edge) (n : ℕ) → over ws (λ u. 0) n ≡ 0
+over_nothing ws zero = refl
+over_nothing ws (suc n) = let rest : over ws (λ u. 0) n ≡ 0 = over_nothing ws n in let here : if_lane (lane_at ws n) 0 ≡ 0 = lane_none (lane_at ws n) 0 refl in omega (arith, rest, here)
+
+-- and so are all of a list, of which each is
+pub over_each : {X : Type 0} (ws : List Edge) (f : X → ℕ) (h : ℕ → X → ℕ) (n : ℕ) (xs : List X) → ((x : X) → over ws (λ u. h u x) n ≤ f x) → over ws (λ u. add_up (h u) xs) n ≤ add_up f xs
+over_each ws f h n [] le = let none : over ws (λ u. 0) n ≡ 0 = over_nothing ws n in omega (arith, none)
+over_each ws f h n (x ∷ xs) le =
+    let here : over ws (λ u. h u x) n ≤ f x = le x in
+    let rest : over ws (λ u. add_up (h u) xs) n ≤ add_up f xs = over_each ws f h n xs le in
     let both : over ws (λ u. h u x + add_up (h u) xs) n ≡ over ws (λ u. h u x) n + over ws (λ u. add_up (h u) xs) n = over_add ws (λ u. h u x) (λ u. add_up (h u) xs) n in
     omega (arith, here, rest, both)

@@ -81,15 +81,14 @@ pub fn their_lanes_rest<S: Source, D: Drain, L: Logic, B: PlugBook>()
         → LanesRest g (net_of now) (seats_by_islands homes ws) all }
 {}
 
-/// What bodies spent: `cost` is what was taken off each lane, with the finds of new demand or a cancel there, and the events of all nets
-/// and these costs are at least what was spent (`costs`). So all that was spent is below the count of the blueprint's wires over what
-/// they were sent, by one for each wire (`paid`). The asks that came to outputs are no more than what was spent (`asks`).
+/// What bodies spent: `cost` is what was taken off each lane, with the finds of new demand or a cancel there. What was spent is at most
+/// the events of all nets and these costs, and at least the asks that came to outputs and these costs (`costs`). So all that was spent is
+/// below the count of the blueprint's wires over what they were sent, by one for each wire (`paid`).
 pub fn bodies_are_paid<S: Source, D: Drain, L: Logic, B: PlugBook>()
     ensures costs { (g : Graph) (homes : List ℕ) (count : ℕ) (ws : List Edge) (nodes : List (Seated S D L B)) (crossings : List Crossing) (begun now : List (Body S D L B)) (all : ℕ → ℕ) → AreBodiesOf S.state D.state B.lists g homes count ws nodes crossings begun → EachOf BodyGoes begun now → AllOf (BodyKeeps S.state D.state B.lists) now → AskedAre now crossings all → AllJoined BodiesJoined now crossings
-        → (cost : ℕ → ℕ) × (LanesCost g (net_of now) (seats_by_islands homes ws) all cost × (sum_by (λ b. b.spent) now ≤ sum_below (λ b. total_cost (net_of now b)) count + over_lanes g cost)) }
+        → (cost : ℕ → ℕ) × (LanesCost g (net_of now) (seats_by_islands homes ws) all cost × ((sum_by (λ b. b.spent) now ≤ sum_below (λ b. total_cost (net_of now b)) count + over_lanes g cost) × (sum_below (λ b. all_asks (net_of now b)) count + over_lanes g cost ≤ sum_by (λ b. b.spent) now))) }
     ensures paid { (g : Graph) (homes : List ℕ) (count : ℕ) (ws : List Edge) (nodes : List (Seated S D L B)) (crossings : List Crossing) (begun now : List (Body S D L B)) (all : ℕ → ℕ) → AreBodiesOf S.state D.state B.lists g homes count ws nodes crossings begun → EachOf BodyGoes begun now → AllOf (BodyKeeps S.state D.state B.lists) now → AskedAre now crossings all → AllJoined BodiesJoined now crossings
         → sum_by (λ b. b.spent) now + length g.wires ≤ count_needed g (picture_counts (joined_account (net_of now) (seats_by_islands homes ws) all) g) }
-    ensures asks { (count : ℕ) (now : List (Body S D L B)) → length now ≡ count → AllOf (BodyKeeps S.state D.state B.lists) now → sum_below (λ b. all_asks (net_of now b)) count ≤ sum_by (λ b. b.spent) now }
 {}
 
 /// Where memory was wanting, each body that broke off had a last moment between two events, and each other one is at such a moment

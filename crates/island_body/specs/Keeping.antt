@@ -42,18 +42,22 @@ module _ {S D L B : Type 0} where
     pub apart : AreApart b.island (in_wires b.ins.items) (out_wires b.outs.items)
     pub table : IsTable b.island (in_wires b.ins.items) (out_wires b.outs.items) b.ways.items
 
-  -- A body between two turns: its island keeps its laws, no end of a lane has anything to do, and each unit was paid.
+  -- A body between two turns: its island keeps its laws, and no end of a lane has anything to do. Each event of its island, each item
+  -- that it took and each find of demand or of a cancel took a unit, and each unit was paid.
   pub record BodyKeeps (sources : S → SourceState) (drains : D → DrainState) (book : Book) (b : Body S D L B) : Type 0 where
     pub laws : IslandKeeps sources drains book b.island.net b.island.used
     pub stands : BodyStands b
     pub served : AllDone b.island b.ins.items b.outs.items
-    pub used_less : b.island.used ≤ b.spent
+    pub charged : b.island.used + (all_taken b.ins.items + all_finds b.outs.items) ≤ b.spent
     pub paid : b.spent ≤ cost_of b
 
-  -- An island that has started, and ends of lanes that stand there: each at a stage and at a connection of its own, as at the start.
+  -- An island that has started, and ends of lanes that stand there: each at a stage and at a connection of its own, as at the start. No
+  -- item was taken, and neither demand nor a cancel was found.
   pub record BodyBegins (i : Kept S D L B) (ins : List IslandInput) (outs : List OutputBoundary) : Type 0 where
     pub whole : i.broken ≡ false
     pub unused : i.used ≡ 0
+    pub untaken : all_taken ins ≡ 0
+    pub unfound : all_finds outs ≡ 0
     pub stand : AllStand i ins outs
     pub apart : AreApart i (in_wires ins) (out_wires outs)
     pub differ : (j k u v : ℕ) → slice_get (in_wires ins) j ≡ Some u → slice_get (out_wires outs) k ≡ Some v → way_in i u ≢ way_out i v

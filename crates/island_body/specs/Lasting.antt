@@ -223,7 +223,7 @@ module _ {S D L B : Type 0} where
           table = rw (m.island, m.ways, lanes.ins_wires, lanes.outs_wires) k.stands.table;
         };
         served = rw m.island (done_met a c a.island m k.served);
-        used_less = rw (m.island, m.spent) k.used_less;
+        charged = rw (m.island, m.spent, taken_is, finds_is) k.charged;
         paid = rw (m.island, m.spent, taken_is, finds_is) k.paid;
       }
 

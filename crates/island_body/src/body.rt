@@ -150,6 +150,7 @@ impl<S: Source, D: Drain, L: Logic, B: PlugBook> Body<S, D, L, B> {
         ensures stands { BodyStands self.new }
         ensures served { AllServed None (length self.new.ins.items) 0 self.new.island self.new.ins.items self.new.outs.items }
         ensures goes { BodyGoes self.old self.new }
+        ensures costs { (all_taken self.new.ins.items ≡ all_taken self.old.ins.items) × (all_finds self.new.outs.items ≡ all_finds self.old.outs.items) }
         ensures rest { (self.new.island.used ≡ self.old.island.used) × (self.new.spent ≡ self.old.spent) }
         ensures peers { (self.new.peers.ins ≡ self.old.peers.ins) × (self.new.peers.outs ≡ self.old.peers.outs) }
     {
@@ -165,6 +166,7 @@ impl<S: Source, D: Drain, L: Logic, B: PlugBook> Body<S, D, L, B> {
         ensures stands { BodyStands self.new }
         ensures served { AllDone self.new.island self.new.ins.items self.new.outs.items }
         ensures goes { BodyGoes self.old self.new }
+        ensures costs { (all_taken self.new.ins.items ≡ all_taken self.old.ins.items) × (all_finds self.new.outs.items ≡ all_finds self.old.outs.items) }
         ensures rest { (self.new.island.used ≡ self.old.island.used) × (self.new.spent ≡ self.old.spent) }
         ensures peers { (self.new.peers.ins ≡ self.old.peers.ins) × (self.new.peers.outs ≡ self.old.peers.outs) }
     {

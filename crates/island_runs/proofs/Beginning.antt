@@ -1,6 +1,6 @@
 -- The ends of lanes at an island that has started: nothing has passed at either, and each stands at its stage.
 use Rattle.std.specs.Prelude.{slice_get}
-use Rattle.std.proofs.Common.{◌≡◌, ◌≢◌, ℕ, zero, suc, ◌<◌, ◌⊎◌, inl, inr, List, [], ◌∷◌, ◌++◌, map, Some, refl, sym, ap, ◌∙◌, ⊎_elim, arith}
+use Rattle.std.proofs.Common.{◌≡◌, ◌≢◌, ℕ, zero, suc, ◌<◌, ◌⊎◌, inl, inr, List, [], ◌∷◌, ◌++◌, length, map, Some, refl, sym, ap, ◌∙◌, ⊎_elim, arith}
 use Rattle.stream_io.specs.State.{SourceState, DrainState}
 use Rattle.stream_model.specs.Graph.{Edge}
 use Rattle.port_core.specs.Marks.{wanted}
@@ -10,6 +10,7 @@ use Rattle.interpreter.specs.declared.parts.Parts.{Parts}
 use Rattle.interpreter.specs.declared.parts.Seated.{Seated}
 use Rattle.blue_check.specs.Plan.{lanes_from}
 use Rattle.scatter.specs.Shares.{items_at}
+use Rattle.lane_core.specs.Ends.{taken_items, finds}
 use Rattle.island_body.specs.Beside.{in_node, out_node}
 use Rattle.island_body.specs.Sending.{has_end}
 use Rattle.island_body.specs.Serving.{Serves}
@@ -21,7 +22,7 @@ use Rattle.island_parts.specs.Starts.{HasStarted}
 use Rattle.island_plans.specs.LaneEnds.{AreEnds, AreAllEnds}
 use Rattle.island_plans.specs.declared.lane_ends.AllEnds.{AllEnds}
 use Rattle.blue_check.specs.declared.plan.LanePlan.{LanePlan}
-use Rattle.island_body.specs.Ends.{in_wires, out_wires, InputEndStands, OutputEndStands, AllStand, AreApart}
+use Rattle.island_body.specs.Ends.{in_wires, out_wires, all_taken, all_finds, InputEndStands, OutputEndStands, AllStand, AreApart}
 use Rattle.island_body.specs.Keeping.{BodyBegins}
 use Rattle.island_runs.proofs.Lanes.{in_end, out_end, its_parts, comes_at, goes_at, not_out}
 use Rattle.island_runs.proofs.Stages.{some_same, only, ins_one, outs_one, none_both, ways_differ}
@@ -38,6 +39,15 @@ order zero zero ne = absurd (ne refl)
 order zero (suc k) ne = inl (omega arith)
 order (suc j) zero ne = inr (omega arith)
 order (suc j) (suc k) ne = ⊎_elim (λ (l : j < k). inl (omega (arith, l))) (λ (l : k < j). inr (omega (arith, l))) (order j k (λ e. ne (ap suc e)))
+
+-- nothing was taken by input ends none of which took anything, and nothing found by output ends
+none_taken : (xs : List IslandInput) → ((p : ℕ) (y : IslandInput) → slice_get xs p ≡ Some y → length (taken_items y.boundary.lane) ≡ 0) → all_taken xs ≡ 0
+none_taken [] h = refl
+none_taken (x ∷ xs) h = let here : length (taken_items x.boundary.lane) ≡ 0 = h 0 x refl in let rest : all_taken xs ≡ 0 = none_taken xs (λ p y at. h (suc p) y at) in omega (arith, here, rest)
+
+none_found : (xs : List OutputBoundary) → ((p : ℕ) (o : OutputBoundary) → slice_get xs p ≡ Some o → finds o.lane ≡ 0) → all_finds xs ≡ 0
+none_found [] h = refl
+none_found (x ∷ xs) h = let here : finds x.lane ≡ 0 = h 0 x refl in let rest : all_finds xs ≡ 0 = none_found xs (λ p y at. h (suc p) y at) in omega (arith, here, rest)
 
 module _ {S D L B : Type 0} where
   -- an output end at which nothing has passed, where nothing has passed at its stage
@@ -132,4 +142,4 @@ module _ {S D L B : Type 0} where
         (not_out sources drains book homes count ws nodes k x i a nodes_are links_are h _ c.link c.at c.comes) (ap (way_in i) y.1.1 ∙ (same ∙ ap (way_out i) (sym z.1.1)))
 
     pub begins : BodyBegins i ins outs
-    begins = record { whole = h.whole; unused = h.unused; stand = stand; apart = apart; differ = differ }
+    begins = record { whole = h.whole; unused = h.unused; untaken = none_taken ins (λ p y at. ap length (in_end homes ws count e all k p y at).ends.none_taken); unfound = none_found outs (λ p o at. (out_end homes ws count e all k p o at).ends.none_found); stand = stand; apart = apart; differ = differ }

@@ -24,7 +24,7 @@ use Rattle.materializer.specs.Graphs.{graph_of, chains_of}
 use Rattle.materializer.specs.Seats.{AreSeats, place_seat}
 use Rattle.bodies_run.specs.Leaving.{AreLeft, of_lists}
 use Rattle.bodies_run.proofs.Alone.{run_alone, still_alone, counts_alone}
-use Rattle.bodies_run.specs.Counts.{all_sent}
+use Rattle.bodies_run.specs.Counts.{all_sent, taken_off}
 use Rattle.island_runs.specs.Whole.{IsLeftBy}
 use Rattle.stage_switch.specs.Settling.{AllSettled}
 use Rattle.materializer.specs.Board.{AreAtSwitches, numbered_from, seat_in}
@@ -67,7 +67,7 @@ module _ {S D L B : Type 0} (sources : S → SourceState) (drains : D → DrainS
   -- bodies that were taken apart between two events, where the seats that their nodes left were settled
   pub leaves : (budget : ℕ) (s : Stopped S D) (e : IslandEnd S D) (near : ℕ → WireState) → (s.at_rest ≡ true → IsStill (graph_of b) acc) → IsLeftBy (blueprint_wires b) near last e → s.end ≡ record e { seats = s.end.seats }
       → AllSettled (map (λ (n : blue.Node). n.kind) b.nodes.items) (seat_in (map node_seat last)) → s.wires.items ≡ picture_counts acc (graph_of b) → s.used ≤ budget → (s.at_rest ≡ false → s.used ≡ budget)
-      → all_sent (picture_counts acc (graph_of b)) ≤ s.used → s.used + length (blueprint_wires b) ≤ count_needed (graph_of b) (picture_counts acc (graph_of b)) → RunLeaves L B sources drains book b ss ds budget s
+      → all_sent (picture_counts acc (graph_of b)) + taken_off (blueprint_wires b) (picture_counts acc (graph_of b)) ≤ s.used → s.used + length (blueprint_wires b) ≤ count_needed (graph_of b) (picture_counts acc (graph_of b)) → RunLeaves L B sources drains book b ss ds budget s
   leaves budget s e near still l same_end settled wires within spent least most = record {
     account = alone;
     nodes = last;
@@ -81,7 +81,7 @@ module _ {S D L B : Type 0} (sources : S → SourceState) (drains : D → DrainS
     writers = ap (λ (x : IslandEnd S D). x.writers.items) same_end ∙ l.writers;
     within = within;
     spent = spent;
-    least = subst (λ (cs : List WireCount). all_sent cs ≤ s.used) (sym same) least;
+    least = subst (λ (cs : List WireCount). all_sent cs + taken_off (blueprint_wires b) cs ≤ s.used) (sym same) least;
     most = subst (λ (cs : List WireCount). s.used + length (blueprint_wires b) ≤ count_needed (graph_of b) cs) (sym same) most;
   }
 

@@ -20,7 +20,7 @@ use Rattle.run_laws.specs.Runs.{IsRun}
 use Rattle.run_laws.specs.Telling.{AreSettled}
 use Rattle.materializer.specs.Graphs.{graph_of, chains_of}
 use Rattle.materializer.specs.Seats.{AreSeats}
-use Rattle.bodies_run.specs.Counts.{all_sent}
+use Rattle.bodies_run.specs.Counts.{all_sent, taken_off}
 use Rattle.island_runs.specs.declared.run.Stopped.{Stopped}
 use Rattle.island_runs.specs.declared.run.Broken.{Broken}
 use Rattle.island_runs.specs.declared.run.Broken.TheVariants.{Unmade, Within}
@@ -40,7 +40,7 @@ pub record Moment {S D L B : Type 0} (sources : S → SourceState) (drains : D �
 
 -- The run was one of so many units at most, and was taken apart. No event is left where it says so, and else all units were used. The
 -- seats of its valves and trips were settled.
--- At least so many were used as elements were pushed, and one less at least for each wire than its part of the count over what was
+-- At least so many were used as elements were pushed and were taken off lanes, and one less at least for each wire than its part of the count over what was
 -- sent.
 pub record RunLeaves {S D : Type 0} (L B : Type 0) (sources : S → SourceState) (drains : D → DrainState) (book : Book) (b : Blueprint) (ss : List S) (ds : List D) (budget : ℕ) (s : Stopped S D) : Type 0 where
   pub account : Account (IslandNode S D L B)
@@ -55,7 +55,7 @@ pub record RunLeaves {S D : Type 0} (L B : Type 0) (sources : S → SourceState)
   pub writers : s.end.writers.items ≡ writers_of nodes
   pub within : s.used ≤ budget
   pub spent : s.at_rest ≡ false → s.used ≡ budget
-  pub least : all_sent (picture_counts account (graph_of b)) ≤ s.used
+  pub least : all_sent (picture_counts account (graph_of b)) + taken_off (blueprint_wires b) (picture_counts account (graph_of b)) ≤ s.used
   pub most : s.used + length (blueprint_wires b) ≤ count_needed (graph_of b) (picture_counts account (graph_of b))
 
 -- The run is one in which memory was wanting, and was taken apart. Since a last moment between two events each of its nodes has kept

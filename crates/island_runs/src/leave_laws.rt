@@ -1,5 +1,5 @@
 // Laws of what the bodies of a blueprint leave: each function has no body, and its contract is the law.
-ghost use Rattle.std.specs.Prelude.{◌≡◌, ℕ, List, map, ◌≤◌, length};
+ghost use Rattle.std.specs.Prelude.{◌≡◌, ℕ, ◌+◌, List, map, ◌≤◌, length};
 ghost use Rattle.stream_model.specs.declared.blueprint.Blueprint.{Blueprint};
 ghost use Rattle.blue_check.specs.Wires.{blueprint_wires};
 ghost use Rattle.nodes.specs.declared.node.IslandNode.{IslandNode};
@@ -7,6 +7,7 @@ ghost use Rattle.interpreter.specs.Island.{readers_of, writers_of};
 ghost use Rattle.interpreter.specs.declared.island.IslandEnd.{IslandEnd};
 ghost use Rattle.interpreter.specs.declared.parts.Seated.{Seated};
 ghost use Rattle.lane_core.specs.Bodies.{AllOf, EachOf};
+ghost use Rattle.lane_core.specs.Crossings.{AllJoined};
 ghost use Rattle.lane_core.specs.declared.crossing.Crossing.{Crossing};
 ghost use Rattle.dispatcher.specs.Broken.{WholeOrBroken};
 ghost use Rattle.island_parts.specs.Ends.{AreEndsOf, AreHomesOf, AreHandlesOf, IsWholeEnd};
@@ -14,6 +15,7 @@ ghost use Rattle.island_parts.specs.declared.room.EndHomes.{EndHomes};
 ghost use Rattle.island_plans.specs.Ends.{AreEndHomes};
 ghost use Rattle.bodies_run.specs.Islands.{AreBroughtBack};
 ghost use Rattle.island_body.specs.Keeping.{BodyKeeps, BodyGoes, BodyBreaks};
+ghost use Rattle.island_body.specs.Meeting.{BodiesJoined};
 ghost use Rattle.island_body.specs.declared.body.Body.{Body};
 ghost use Rattle.bodies_run.specs.Bodies.{net_of, AreBodiesOf, AreLastOf, AskedAre};
 ghost use Rattle.bodies_run.specs.Leaving.{account_in};
@@ -32,7 +34,7 @@ ghost use Rattle.blue_check.specs.Plan.{lanes_from};
 ghost use Rattle.blue_check.specs.declared.plan.LanePlan.{LanePlan};
 ghost use Rattle.island_plans.specs.LaneEnds.{AreRising};
 ghost use Rattle.island_plans.specs.Asked.{LieThere, AreAsked, AreNoted, AreWithin};
-ghost use Rattle.bodies_run.specs.Counts.{told_from, lane_demand, all_sent};
+ghost use Rattle.bodies_run.specs.Counts.{told_from, lane_demand, all_sent, taken_off};
 
 use plug_logic::book::PlugBook;
 use plug_logic::logic::Logic;
@@ -84,8 +86,9 @@ pub fn noted_counts_are_the_picture<S: Source, D: Drain, L: Logic, B: PlugBook>(
         → counts ≡ picture_counts (account_in homes (blueprint_wires b) now (lane_demand (lanes_from homes 0 (blueprint_wires b)) all)) (graph_of b) }
 {}
 
-/// Each element that was pushed on a wire took a unit that the bodies spent, that of the ask before it.
+/// Each element that was pushed on a wire took a unit that the bodies spent, that of the ask before it, and each that was taken off a
+/// lane another: all that were sent there were, but for as many at most as the lane has places.
 pub fn bodies_spent_what_was_sent<S: Source, D: Drain, L: Logic, B: PlugBook>()
-    ensures { (b : Blueprint) (homes : List ℕ) (count : ℕ) (nodes : List (Seated S D L B)) (crossings : List Crossing) (begun now : List (Body S D L B)) (all : ℕ → ℕ) → AreBodiesOf S.state D.state B.lists (graph_of b) homes count (blueprint_wires b) nodes crossings begun → EachOf BodyGoes begun now → AllOf (BodyKeeps S.state D.state B.lists) now
-        → all_sent (picture_counts (account_in homes (blueprint_wires b) now all) (graph_of b)) ≤ sum_by (λ b. b.spent) now }
+    ensures { (b : Blueprint) (homes : List ℕ) (count : ℕ) (nodes : List (Seated S D L B)) (crossings : List Crossing) (begun now : List (Body S D L B)) (all : ℕ → ℕ) → AreBodiesOf S.state D.state B.lists (graph_of b) homes count (blueprint_wires b) nodes crossings begun → EachOf BodyGoes begun now → AllOf (BodyKeeps S.state D.state B.lists) now → AskedAre now crossings all → AllJoined BodiesJoined now crossings
+        → all_sent (picture_counts (account_in homes (blueprint_wires b) now all) (graph_of b)) + taken_off (blueprint_wires b) (picture_counts (account_in homes (blueprint_wires b) now all) (graph_of b)) ≤ sum_by (λ b. b.spent) now }
 {}

@@ -70,7 +70,7 @@ use Rattle.run_blueprint.specs.Tracing.{IsApart, Traces}
 use Rattle.run_blueprint.specs.Sending.{SentOn}
 use Rattle.run_blueprint.specs.Running.{SinkLeaves, IgnoreLeaves, LeavesFiles, FailedWritesOf, Runs}
 use Rattle.run_blueprint.specs.Stands.{SinkStand, has_ended_at, is_write_fault, is_unended}
-use Rattle.bodies_run.specs.Counts.{all_sent}
+use Rattle.bodies_run.specs.Counts.{all_sent, taken_off}
 use Rattle.run_blueprint.specs.Units.{Pays}
 use Rattle.island_runs.specs.declared.run.Stopped.{Stopped}
 use Rattle.run_blueprint.specs.declared.run.RunResult.{RunResult}
@@ -387,7 +387,7 @@ module _ {S D L B : Type 0} (sources : S → SourceState) (drains : D → DrainS
   pays : Pays b st.wires.items st.used
   pays = record {
     counted = ap length wires_are ∙ counts_many left 0 (blueprint_wires b);
-    least = subst (λ (c : List WireCount). all_sent c ≤ st.used) (sym wires_are) l.least;
+    least = subst (λ (c : List WireCount). all_sent c + taken_off (blueprint_wires b) c ≤ st.used) (sym wires_are) l.least;
     most = subst (λ (c : List WireCount). st.used + length (blueprint_wires b) ≤ count_needed g c) (sym wires_are) l.most;
   }
 

@@ -1,7 +1,10 @@
 -- What a lane costs, by what is kept of its ends.
+use Rattle.std.specs.Prelude.{if◌then◌else◌}
 use Rattle.std.proofs.Common.{◌≤◌, ◌<◌, ◌+◌, ◌*◌, ℕ, Bool, true, false, List, [], ◌∷◌, length, ap, ◌∙◌, arith}
 use Rattle.elem_core.specs.Tree.{Tree}
 use Rattle.elem_core.specs.Items.{elements}
+use Rattle.elem_core.specs.declared.item.Item.{Item}
+use Rattle.elem_core.specs.declared.item.Item.TheVariants as item
 use Rattle.elem_core.proofs.Prefixes.{prefix_trans, prefix_length}
 use Rattle.port_core.specs.Connection.{ConnStep, quiet, pulled, ready, pushed}
 use Rattle.port_core.specs.Joint.{IsSound}
@@ -11,6 +14,7 @@ use Rattle.port_core.specs.declared.view.InView.TheVariants.{Idle, Pulled, Finis
 use Rattle.port_core.specs.declared.view.OutView.{OutView}
 use Rattle.port_core.specs.declared.view.OutView.TheVariants as outlet
 use Rattle.port_core.specs.Cell.{WireState}
+use Rattle.port_core.specs.Marks.{wanted}
 use Rattle.port_core.specs.Counts.{ready_bit, free_bit, extra, spent}
 use Rattle.stream_model.specs.Outlook.{End, unended, ended, failed}
 use Rattle.stage_core.specs.Held.{told}
@@ -54,6 +58,27 @@ ends_once [] unended = omega arith
 ends_once [] ended = omega arith
 ends_once [] (failed c) = omega arith
 ends_once (t ∷ l) e = let r = ends_once l e in omega (arith, r)
+
+-- no more elements than items
+few_elements : (l : List Item) → elements l ≤ length l
+few_elements [] = omega arith
+few_elements (item.Elem t ∷ l) = let r = few_elements l in omega (arith, r)
+few_elements (item.Ended ∷ l) = let r = few_elements l in omega (arith, r)
+few_elements (item.Failed c ∷ l) = let r = few_elements l in omega (arith, r)
+
+few_wanted : (n : ℕ) (b : Bool) → n ≤ (if b then n + 1 else n)
+few_wanted n true = omega arith
+few_wanted n false = omega arith
+
+-- of a lane, what was sent and not taken has a place
+pub taken_most : (s : ℕ) (near far : WireState) (asked : ℕ) (k : LaneKeeps s near far asked) → elements near.wire.sent ≤ length k.inp.taken + s
+taken_most s near far asked k =
+    let some : elements near.wire.sent ≤ wanted near = few_wanted (elements near.wire.sent) near.asked in
+    let wants = k.out_keeps.wants in
+    let seen = k.met.seen in
+    let bound = k.met.bound in
+    let few = few_elements k.inp.taken in
+    omega (arith, some, wants, seen, bound, few)
 
 module _ (s : ℕ) (near far : WireState) (p q : Bool) (asked : ℕ) (sn : IsSound near.wire p) (sf : IsSound far.wire q) (k : LaneKeeps s near far asked) where
   -- no more was taken than was sent, and no more was pushed on than was taken

@@ -117,7 +117,7 @@ returns-clause-leaves g c = λ b ss ds begun budget r.
     let left_by = run.nodes b m.homes m.count m.nodes crossings begun now all back.0 back.1.0 m.bodies_are r.went r.keep back.1.1 in
     let at = kept g.S.Source.state g.D.Drain.state g.B.PlugBook.lists b ss ds m.nodes m.seats (sym m.bodies_are.graph.each_node) account back.0 left_by is_run c.args.remains.board m.at_switches in
     let settled = c.settle.ensures (map (λ (n : blue.Node). n.kind) b.nodes.items) (map node_seat back.0) m.board_is at (left_seats ws account.near back.0 c.join_ends-end.result left) in
-    let spent = c.bodies_spent_what_was_sent.ensures b m.homes m.count m.nodes crossings begun now all m.bodies_are r.went r.keep in
+    let spent = c.bodies_spent_what_was_sent.ensures b m.homes m.count m.nodes crossings begun now all m.bodies_are r.went r.keep are r.joined in
     let most = run.most b m.homes m.count m.nodes crossings begun now all m.bodies_are r.went r.keep are r.joined in
     leaves g.S.Source.state g.D.Drain.state g.B.PlugBook.lists b ss ds m.nodes m.seats (sym m.bodies_are.graph.each_node) account back.0 left_by is_run budget
     (record { end = record c.join_ends-end.result { seats = c.new.result }; wires = with_items c.counts_of-wires.result c.note_asked.new.counts; used = c.args.used; at_rest = c.args.at_rest; ran = c.args.ran }) c.join_ends-end.result account.near

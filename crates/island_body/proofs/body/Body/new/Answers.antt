@@ -20,7 +20,7 @@ returns-clause-keeps g c =
       laws = c.laws.ensures s.stands.whole;
       stands = record { whole = s.stands.whole; stand = s.stands.stand; apart = s.stands.apart; table = s.stands.table };
       served = s.served;
-      used_less = let a = s.rest.0 in let b = r.0 in let d = c.requires.begins.unused in omega (arith, a, b, d);
+      charged = let a = s.rest.0 in let b = r.0 in let d = c.requires.begins.unused in let i = c.serve_ins.ensures.costs in let o = s.costs in let t = i.0 in let f = i.1 in let u = o.0 in let v = o.1 in let x = c.requires.begins.untaken in let y = c.requires.begins.unfound in omega (arith, a, b, d, t, f, u, v, x, y);
       paid = let a = s.rest.1 in let b = r.1 in omega (arith, a, b);
     }
 

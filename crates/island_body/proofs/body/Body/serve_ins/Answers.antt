@@ -6,7 +6,7 @@ use Rattle.island_body.proofs.Standing.{served_none, served_next_in}
 use Rattle.island_body.proofs.body.Body.serve_ins.Goals as goal
 
 pub loop-k-init : goal.loop-k-init
-loop-k-init g c = record { stands = c.requires.stands; served = served_none _ _ _; ends = refl; goes = goes_still _; peers = (refl, refl); rest = (refl, refl) }
+loop-k-init g c = record { stands = c.requires.stands; served = served_none _ _ _; ends = refl; goes = goes_still _; peers = (refl, refl); costs = (refl, refl); rest = (refl, refl) }
 
 pub loop-k-preserved : goal.loop-k-preserved
 loop-k-preserved g c =
@@ -18,6 +18,7 @@ loop-k-preserved g c =
       ends = t.count.0 ∙ i.ends;
       goes = goes_on _ _ _ i.goes t.goes;
       peers = (t.peers.0 ∙ i.peers.0, t.peers.1 ∙ i.peers.1);
+      costs = (t.costs.0 ∙ i.costs.0, t.costs.1 ∙ i.costs.1);
       rest = (t.rest.0 ∙ i.rest.0, t.rest.1 ∙ i.rest.1);
     }
 

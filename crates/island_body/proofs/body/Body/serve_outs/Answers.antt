@@ -15,6 +15,7 @@ loop-k-preserved g c =
       ends = t.count.1 ∙ i.ends;
       goes = goes_on _ _ _ i.goes t.goes;
       peers = (t.peers.0 ∙ i.peers.0, t.peers.1 ∙ i.peers.1);
+      costs = (t.costs.0 ∙ i.costs.0, t.costs.1 ∙ i.costs.1);
       rest = (t.rest.0 ∙ i.rest.0, t.rest.1 ∙ i.rest.1);
     }
 

@@ -35,7 +35,7 @@ module _ {S D L B : Type 0} (sources : S → SourceState) (drains : D → DrainS
   node_picture (Making first) (Making x) is os f t r law = source_picture L B sources drains g w k n (Making first) (Making x) x.phase is os (maker_rows g w n.kind f.is_maker) r
   node_picture (Linear first) (Linear x) is os f t r law = linear_picture L B sources drains g w k n first x is os f r law
   node_picture (State first) (State x) is os f t r law = state_picture L B sources drains g w k n first x is os f t r law
-  node_picture (Sub first) (Sub x) is os f t r law = sub_picture L B sources drains g w k n first x is os f r law
+  node_picture (Sub first) (Sub x) is os f t r law = sub_picture L B sources drains g w k n first x is os f t r law
   node_picture (FanIn first) (FanIn x) is os f t r law = fan_in_picture sources drains g w k n first x is os (in_picture g w k n first x is os f.begins t r law)
   node_picture (FanOut first) (FanOut x) is os f t r law = fan_out_picture sources drains g w k n first x is os (out_picture g w k n first x is os f.begins t r law)
   node_picture (Writing first) (Writing x) is os f t r law =

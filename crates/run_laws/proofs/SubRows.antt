@@ -1,8 +1,9 @@
 -- What a stage with substreams gives of its law for a picture. Its machine gives as many elements as the one that joins its
 -- substreams: the numbers of its outputs' substreams are left out there.
-use Rattle.std.proofs.Common.{◌≡◌, ◌≢◌, ◌⊎◌, inl, inr, ℕ, ◌-◌, ◌<◌, ◌≤◌, Bool, true, false, List, [], ◌∷◌, length, take, map, refl, sym, ap, ◌∙◌, subst}
+use Rattle.std.proofs.Common.{◌≡◌, ◌≢◌, ◌⊎◌, inl, inr, ℕ, ◌-◌, ◌<◌, ◌≤◌, Bool, true, false, List, [], ◌∷◌, length, take, map, Some, refl, sym, ap, ◌∙◌, subst}
 use Rattle.std.proofs.lemmas.List.{length-map}
 use Rattle.elem_core.specs.Tree.{Tree}
+use Rattle.elem_core.specs.Items.{elements}
 use Rattle.elem_core.specs.declared.item.Item.{Item}
 use Rattle.port_core.specs.View.{View, in_at, out_at}
 use Rattle.port_core.specs.declared.view.InView.{InView}
@@ -10,6 +11,8 @@ use Rattle.port_core.specs.declared.view.InView.TheVariants.{Idle, Pulled, Finis
 use Rattle.port_core.specs.declared.view.OutView.{OutView}
 use Rattle.port_core.specs.declared.view.OutView.TheVariants.{Unpulled, Available}
 use Rattle.stream_io.specs.State.{SourceState, DrainState}
+use Rattle.stream_model.specs.declared.kind.Joining.{Joining}
+use Rattle.stream_model.specs.declared.kind.Joining.TheVariants as joining
 use Rattle.stream_model.specs.FanIn.{Tagged}
 use Rattle.stream_model.specs.Graph.{Graph, steps_of}
 use Rattle.stream_model.specs.Graph as graph
@@ -17,7 +20,7 @@ use Rattle.stream_model.specs.Machine.{Run, Machine, Given, is_going, run, close
 use Rattle.stream_model.specs.Node.{World, chain_of}
 use Rattle.stream_model.specs.Outlook.{End, ended}
 use Rattle.stream_model.specs.Substreams.{Opening, Subs, substreams, begin_subs}
-use Rattle.stream_model.specs.Lawful.{StageLawful}
+use Rattle.stream_model.specs.Lawful.{StageLawful, SubsLawful}
 use Rattle.stream_model.specs.OneWay.{OneWay, of_machine}
 use Rattle.stream_model.specs.Rests.{IsShut, StageRests, RowRests}
 use Rattle.stream_model.specs.View.{EachWire, demand, wanted}
@@ -30,7 +33,7 @@ use Rattle.chain_core.specs.LineChains.{list_function}
 use Rattle.stage_sub.specs.Joined.{untag, joined_machine}
 use Rattle.stage_sub.specs.KeptSubs.{opening_of}
 use Rattle.stage_sub.specs.States.{Logic, port_state_in}
-use Rattle.stage_sub.specs.Handling.{SubPortState, SubLaw, TellsMachine}
+use Rattle.stage_sub.specs.Handling.{SubPortState, SubLaw, TellsMachine, new_log}
 use Rattle.stage_sub.proofs.Rows.{waiting_gave}
 use Rattle.stage_sub.proofs.Untagging.{run_untag, closed_untag}
 use Rattle.line_chain.specs.Line.{Line, line_whole, line_rest, line_is_open}
@@ -40,7 +43,8 @@ use Rattle.nodes.specs.Nodes.{node_port_state, node_law, node_asking, node_moves
 use Rattle.run_laws.specs.KindLaws.{Moments, PictureLaws}
 use Rattle.run_laws.specs.Ports.{InPort, OutPort, InStands, OutStands, InRests, OutRests}
 use Rattle.run_laws.specs.Made.{FirstSub, chain_name}
-use Rattle.run_laws.proofs.Subs.{SubFirst, sub_first, yields_of, tells_of}
+use Rattle.run_laws.proofs.Coming.{elements_told}
+use Rattle.run_laws.proofs.Subs.{SubFirst, sub_first, yields_of, tells_of, logs_on}
 use Rattle.run_laws.specs.Picture.{sink_ended}
 use Rattle.run_laws.proofs.MachineRows.{stage_given, stage_asked, waited_rests, idles}
 use Rattle.run_laws.proofs.OnePorts.{one_same, began, given_one, reached, not_both}
@@ -159,7 +163,7 @@ module _ {S D : Type 0} (L B : Type 0) (sources : S → SourceState) (drains : D
         subst (λ (q : Opening). StageRests (of_machine (substreams yields q) (begin_subs yields k) true) i o) (ap (λ (x : Logic Line). opening_of x.how) f.is)
         (alike_rests _ _ (joined_alike yields (opening_of first.how) (begin_subs yields k)) i o h)
 
-    module _ (x : Logic Line) (i : InPort) (o : OutPort) (r : SubPortState line_rest line_is_open x (record { ins = i.view ∷ []; outs = o.view ∷ [] }))
+    module _ (x : Logic Line) (told_moves : (ms : List ℕ) → x.moves ≡ Some ms → w.moves k ≡ ms) (i : InPort) (o : OutPort) (r : SubPortState line_rest line_is_open x (record { ins = i.view ∷ []; outs = o.view ∷ [] }))
         (law : SubLaw line_rest line_is_open line_whole first x (record { ins = i.view ∷ []; outs = o.view ∷ [] }) (i.got ∷ []) (o.sent ∷ [])) where
       its : TellsMachine line_rest line_is_open (list_function w.book (chain_of k (steps_of (chain_name n.kind) g.chains))) yields (begin_subs yields k) first x (record { ins = i.view ∷ []; outs = o.view ∷ [] }) law.took_list law.gave_list
       its = tells_at x _ _ _ law
@@ -176,6 +180,14 @@ module _ {S D : Type 0} (L B : Type 0) (sources : S → SourceState) (drains : D
           let b = began e.had i.got i.want e.took_on e.one_more in
           let q = given_one e.given o.sent o.want e.gave_on (e.wants 0 s.0) in
           stage_asked m start i o si so at.in_list at.in_end at.took_is b.part q.0 (s.1 b.part q.0 b.is q.1.0) b.begins b.one_more q.1.1.1 some
+
+      -- it gave an element for each move
+      moves_by : (j : Joining) → first.moves ≡ new_log j → OutStands o → SubsLawful j (w.moves k) i.wire o.wire
+      moves_by joining.Merge m so =
+          let log = logs_on first.moves x.moves law.chooses m in
+          let gave_told = one_same o.sent law.gave_list law.gave_is ∙ its.law.gave_is in
+          so.count ∙ (ap elements gave_told ∙ (elements_told its.law.out_list its.law.out_end ∙ (sym (its.counts log.0 log.1) ∙ ap length (sym (told_moves log.0 log.1)))))
+      moves_by joining.Concat m so = tt
 
       abbrev Still : Type 0
       Still = (EachWire IsShut (i.wire ∷ []) × EachWire IsShut (o.wire ∷ [])) ⊎ RowRests g w k n.kind n.decider (i.wire ∷ []) (o.wire ∷ [])
@@ -194,15 +206,15 @@ module _ {S D : Type 0} (L B : Type 0) (sources : S → SourceState) (drains : D
         lawful = λ si so last. f.kind.lawful g w k n.decider (i.wire ∷ []) (o.wire ∷ []) (lawful_by i.wire o.wire (
           stage_given m start its.held i o at si.0 so.0,
           λ some. asked_then si.0 so.0 (last 0 (reached i si.0 some)) some,
-        ));
+        )) (moves_by f.join (ap (λ (l : Logic Line). l.moves) f.is) so.0);
         rests = λ si so ri ro. still si.0 so.0 ri.0 ro.0 (sub_ports x.phase x.over x.asked x.pending i.view o.view r.started r.ports);
         matches = λ sink ri. absurd (not_both f.kind.no_sink sink);
       }
 
-  pub sub_picture : (first x : Logic Line) (is : List InPort) (os : List OutPort) → FirstSub g.chains k n first → SubPortState line_rest line_is_open x (record { ins = map (λ (i : InPort). i.view) is; outs = map (λ (o : OutPort). o.view) os })
+  pub sub_picture : (first x : Logic Line) (is : List InPort) (os : List OutPort) → FirstSub g.chains k n first → ((ms : List ℕ) → x.moves ≡ Some ms → w.moves k ≡ ms) → SubPortState line_rest line_is_open x (record { ins = map (λ (i : InPort). i.view) is; outs = map (λ (o : OutPort). o.view) os })
       → SubLaw line_rest line_is_open line_whole first x (record { ins = map (λ (i : InPort). i.view) is; outs = map (λ (o : OutPort). o.view) os }) (map (λ (i : InPort). i.got) is) (map (λ (o : OutPort). o.sent) os) → Laws (Sub first) (Sub x) is os
-  sub_picture first x (i ∷ []) (o ∷ []) made r law = one_picture first made x i o r law
-  sub_picture first x [] os made r law = absurd r.ports
-  sub_picture first x (i ∷ []) [] made r law = absurd r.ports
-  sub_picture first x (i ∷ []) (o ∷ p ∷ os) made r law = absurd r.ports
-  sub_picture first x (i ∷ j ∷ is) os made r law = absurd r.ports
+  sub_picture first x (i ∷ []) (o ∷ []) made told_moves r law = one_picture first made x told_moves i o r law
+  sub_picture first x [] os made told_moves r law = absurd r.ports
+  sub_picture first x (i ∷ []) [] made told_moves r law = absurd r.ports
+  sub_picture first x (i ∷ []) (o ∷ p ∷ os) made told_moves r law = absurd r.ports
+  sub_picture first x (i ∷ j ∷ is) os made told_moves r law = absurd r.ports

@@ -24,7 +24,7 @@ use Rattle.stream_model.specs.Substreams.{Chain, Opening, by_key, before, behind
 use Rattle.stream_model.proofs.SubTraces.{concat_trace, merged_trace}
 use Rattle.stream_model.proofs.Agreeing.{sub_moves_fit}
 use Rattle.stream_model.specs.View as picture
-use Rattle.stream_model.specs.Lawful.{RowLawful, StageLawful}
+use Rattle.stream_model.specs.Lawful.{RowLawful, StageLawful, SubsLawful}
 use Rattle.stream_model.specs.OneWay.{of_machine, is_sink}
 use Rattle.stream_model.specs.Rests.{RowRests, StageRests, OneToOne}
 use Rattle.stage_core.specs.Held.{owing}
@@ -67,19 +67,19 @@ pub record IsSubKind (kd : Kind) (o : Opening) (j : Joining) : Type 0 where
   pub no_sink : is_sink kd ≡ false
   pub outlook : (g : Graph) (w : World) (k : ℕ) (d : Decider) (os : List Outlook) (p : ℕ) → node_outlook g w k kd d os p ≡ outlook_by j (yields_of g w k kd) k o (w.moves k) (head_of os)
   pub fits : (g : Graph) (w : World) (k : ℕ) (os : List Outlook) → moves_fit g w k kd os ≡ fits_by j (yields_of g w k kd) k o (w.moves k) (head_of os)
-  pub lawful : (g : Graph) (w : World) (k : ℕ) (d : Decider) (is os : List picture.SeenWire) → OneToOne (StageLawful (of_machine (substreams (yields_of g w k kd) o) (begin_subs (yields_of g w k kd) k) true)) is os → RowLawful g w k kd d is os
+  pub lawful : (g : Graph) (w : World) (k : ℕ) (d : Decider) (is os : List picture.SeenWire) → OneToOne (StageLawful (of_machine (substreams (yields_of g w k kd) o) (begin_subs (yields_of g w k kd) k) true)) is os → OneToOne (SubsLawful j (w.moves k)) is os → RowLawful g w k kd d is os
   pub rests : (g : Graph) (w : World) (k : ℕ) (d : Decider) (is os : List picture.SeenWire) → OneToOne (StageRests (of_machine (substreams (yields_of g w k kd) o) (begin_subs (yields_of g w k kd) k) true)) is os → RowRests g w k kd d is os
 
 group_kind : (n : ℕ) (f : MapFn) (name : List ℕ) → IsSubKind (GroupBy n f name) (by_key n f) Merge
-group_kind n f name = record { no_sink = refl; outlook = λ g w k d os p. refl; fits = λ g w k os. refl; lawful = λ g w k d is os r. r; rests = λ g w k d is os r. r }
+group_kind n f name = record { no_sink = refl; outlook = λ g w k d os p. refl; fits = λ g w k os. refl; lawful = λ g w k d is os r m. (r, m); rests = λ g w k d is os r. r }
 
 when_kind : (p : Pred) (name : List ℕ) (j : Joining) → IsSubKind (SplitWhen p name j) (before p) j
-when_kind p name Merge = record { no_sink = refl; outlook = λ g w k d os p. refl; fits = λ g w k os. refl; lawful = λ g w k d is os r. r; rests = λ g w k d is os r. r }
-when_kind p name Concat = record { no_sink = refl; outlook = λ g w k d os p. refl; fits = λ g w k os. refl; lawful = λ g w k d is os r. r; rests = λ g w k d is os r. r }
+when_kind p name Merge = record { no_sink = refl; outlook = λ g w k d os p. refl; fits = λ g w k os. refl; lawful = λ g w k d is os r m. (r, m); rests = λ g w k d is os r. r }
+when_kind p name Concat = record { no_sink = refl; outlook = λ g w k d os p. refl; fits = λ g w k os. refl; lawful = λ g w k d is os r m. (r, m); rests = λ g w k d is os r. r }
 
 after_kind : (p : Pred) (name : List ℕ) (j : Joining) → IsSubKind (SplitAfter p name j) (behind p) j
-after_kind p name Merge = record { no_sink = refl; outlook = λ g w k d os p. refl; fits = λ g w k os. refl; lawful = λ g w k d is os r. r; rests = λ g w k d is os r. r }
-after_kind p name Concat = record { no_sink = refl; outlook = λ g w k d os p. refl; fits = λ g w k os. refl; lawful = λ g w k d is os r. r; rests = λ g w k d is os r. r }
+after_kind p name Merge = record { no_sink = refl; outlook = λ g w k d os p. refl; fits = λ g w k os. refl; lawful = λ g w k d is os r m. (r, m); rests = λ g w k d is os r. r }
+after_kind p name Concat = record { no_sink = refl; outlook = λ g w k d os p. refl; fits = λ g w k os. refl; lawful = λ g w k d is os r m. (r, m); rests = λ g w k d is os r. r }
 
 -- a stage of such a kind at its start
 pub record SubFirst (k : ℕ) (kd : Kind) (chain : Line) (x : Logic Line) : Type 0 where
@@ -123,7 +123,7 @@ sub_hears chains k n first now v took gave made law = let f = sub_first k n.kind
 -- ---- in a run
 
 -- a log that was begun is kept
-logs_on : (first now : Option (List ℕ)) → ChoosesAs first now → first ≡ Some [] → (ms : List ℕ) × (now ≡ Some ms)
+pub logs_on : (first now : Option (List ℕ)) → ChoosesAs first now → first ≡ Some [] → (ms : List ℕ) × (now ≡ Some ms)
 logs_on (Some l) (Some ms) c e = (ms, refl)
 logs_on (Some l) None c e = absurd c
 logs_on None now c e = cc

@@ -5,6 +5,8 @@ use Rattle.stream_model.specs.declared.kind.Kind.{Kind}
 use Rattle.elem_core.specs.declared.function.MapFn.{MapFn}
 use Rattle.elem_core.specs.declared.why.Decider.{Decider}
 use Rattle.elem_core.specs.declared.why.Decider.TheVariants.{Stop}
+use Rattle.stream_model.specs.declared.kind.Joining.{Joining}
+use Rattle.stream_model.specs.declared.kind.Joining.TheVariants as joining
 use Rattle.stream_model.specs.declared.kind.Policy.{Policy}
 use Rattle.stream_model.specs.declared.kind.Policy.TheVariants.{Backpressure}
 use Rattle.stream_model.specs.declared.outcome.WireCount.{WireCount}
@@ -118,6 +120,11 @@ abbrev pub RecoverLawful : List ℕ → SeenWire → SeenWire → Type 0
 RecoverLawful (k ∷ []) i o = (k ≤ i.sent) × (o.sent ≤ k + 1)
 RecoverLawful _ i o = Unit {0}
 
+-- substreams that are joined by `merge` gave one element for each move
+abbrev pub SubsLawful : Joining → List ℕ → SeenWire → SeenWire → Type 0
+SubsLawful joining.Merge moves i o = o.sent ≡ length moves
+SubsLawful joining.Concat moves i o = Unit {0}
+
 module _ (g : Graph) (w : World) where
   -- a sink has no row
   abbrev stage_lawful : Option OneWay → List SeenWire → List SeenWire → Type 0
@@ -151,9 +158,9 @@ module _ (g : Graph) (w : World) where
   RoleLawful node (buffers n p) d is os = buffer_lawful node n p is os
   RoleLawful node (recovers t) d is os = stage_lawful (one_way_by g w node (recovers t) d) is os × OneToOne (RecoverLawful (w.moves node)) is os
   RoleLawful node (obeys name) d is os = stage_lawful (one_way_by g w node (obeys name) d) is os × OneToOne (ValveLawful (w.moves node)) is os
-  RoleLawful node (groups_by n f chain) d is os = stage_lawful (one_way_by g w node (groups_by n f chain) d) is os
-  RoleLawful node (splits_when p chain j) d is os = stage_lawful (one_way_by g w node (splits_when p chain j) d) is os
-  RoleLawful node (splits_after p chain j) d is os = stage_lawful (one_way_by g w node (splits_after p chain j) d) is os
+  RoleLawful node (groups_by n f chain) d is os = stage_lawful (one_way_by g w node (groups_by n f chain) d) is os × OneToOne (SubsLawful joining.Merge (w.moves node)) is os
+  RoleLawful node (splits_when p chain j) d is os = stage_lawful (one_way_by g w node (splits_when p chain j) d) is os × OneToOne (SubsLawful j (w.moves node)) is os
+  RoleLawful node (splits_after p chain j) d is os = stage_lawful (one_way_by g w node (splits_after p chain j) d) is os × OneToOne (SubsLawful j (w.moves node)) is os
   RoleLawful node (merges n) d is os = ManyToOne (MergeLawful (w.moves node)) is os
   RoleLawful node (concats n) d is os = ManyToOne ConcatLawful is os
   RoleLawful node (interleaves n s) d is os = ManyToOne InterleaveLawful is os

@@ -11,13 +11,13 @@ use Rattle.stream_model.specs.Outlook.{End, unended, ended, failed}
 use Rattle.stream_model.specs.Machine.{State, going, done, broken, Run, Given, run, close, close_at, finish_at, feed}
 use Rattle.stream_model.specs.Linear.{Book, Stage, Work, mapping, filtering, taking, taking_while, dropping, dropping_while, passing, limiting, grouping, expanding, folding, scanning, reducing, heading, lasting, numbering, plugged, Reaction, gives, ends, blames, breaks, on_value, on_test, on_number, reaction, restarted, decided, reacts, finish_of, begin_work, linear}
 use Rattle.stream_model.specs.Substreams.{Chain, through}
-use Rattle.stage_linear.specs.declared.task.LinearWork.{LinearWork}
-use Rattle.stage_linear.specs.declared.task.LinearWork.TheVariants as task
-use Rattle.stage_linear.specs.Tasks as tasks
-use Rattle.stage_keeping.specs.declared.keeping.StateWork.{StateWork}
-use Rattle.stage_keeping.specs.declared.keeping.StateWork.TheVariants as kept
-use Rattle.stage_keeping.specs.Keeping as keeping
-use Rattle.chain_core.specs.LineChains.{chain_step, given_with, list_function}
+use Rattle.step_work.specs.declared.task.LinearWork.{LinearWork}
+use Rattle.step_work.specs.declared.task.LinearWork.TheVariants as task
+use Rattle.step_work.specs.Tasks as tasks
+use Rattle.step_work.specs.declared.keeping.StateWork.{StateWork}
+use Rattle.step_work.specs.declared.keeping.StateWork.TheVariants as kept
+use Rattle.step_work.specs.Keeping as keeping
+use Rattle.step_work.specs.LineChains.{chain_step, given_with, list_function}
 use Rattle.line_chain.specs.Line.{no_plugs}
 use Rattle.line_chain.specs.Steps.{work_in}
 use Rattle.line_chain.specs.Chains.{starts_of}

@@ -13,9 +13,9 @@ use Rattle.stream_model.specs.Linear.{begin_work}
 use Rattle.stream_model.specs.Graph.{Step}
 use Rattle.stream_model.specs.Node.{chain_of}
 use Rattle.stream_model.specs.Substreams.{Chain, through}
-use Rattle.chain_core.specs.LineChains as chains
-use Rattle.chain_core.specs.LineChains.{end_step, is_unended, given_with, after, list_function}
-use Rattle.chain_core.proofs.LineChains.{fixed, line_pushed, line_finished}
+use Rattle.step_work.specs.LineChains as chains
+use Rattle.step_work.specs.LineChains.{end_step, is_unended, given_with, after, list_function}
+use Rattle.step_work.proofs.LineChains.{fixed, line_pushed, line_finished}
 use Rattle.line_chain.specs.Line.{no_plugs, model_step}
 use Rattle.line_chain.specs.Steps.{start_of, now_of}
 use Rattle.line_chain.specs.Chains.{starts_of, nows_of, RanAll}

@@ -4,10 +4,10 @@ use Rattle.elem_core.specs.Tree.{Tree}
 use Rattle.elem_core.specs.declared.why.Decider.{Decider}
 use Rattle.elem_core.specs.declared.why.Decider.TheVariants.{Stop, Resume, Restart}
 use Rattle.elem_core.specs.declared.why.Why.{Why}
-use Rattle.stage_linear.specs.declared.task.LinearReaction.{LinearReaction}
-use Rattle.stage_linear.specs.declared.task.LinearReaction.TheVariants.{Gives, GivesAll, Skips, EndsWith, EndsWithAll, Ends, Blames, Fails}
-use Rattle.stage_linear.specs.Tasks.{ReactedBy, Stays}
-use Rattle.stage_keeping.specs.Keeping.{stage_of}
+use Rattle.step_work.specs.declared.task.LinearReaction.{LinearReaction}
+use Rattle.step_work.specs.declared.task.LinearReaction.TheVariants.{Gives, GivesAll, Skips, EndsWith, EndsWithAll, Ends, Blames, Fails}
+use Rattle.step_work.specs.Tasks.{ReactedBy, Stays}
+use Rattle.step_work.specs.Keeping.{stage_of}
 use Rattle.stream_model.specs.Machine.{going}
 use Rattle.stream_model.specs.Linear.{Work, reacts, decided, restarted, first_of}
 use Rattle.line_chain.specs.Line.{no_plugs}

@@ -7,7 +7,7 @@ use Rattle.stream_model.specs.Outlook.{End, unended, ended, failed}
 use Rattle.stream_model.specs.Machine.{State, going, done, broken, Run, Finish, adds, refuses, Given, run, close, close_at, finish_at}
 use Rattle.stream_model.specs.Linear.{Stage}
 use Rattle.stream_model.specs.Substreams.{Chain, through}
-use Rattle.chain_core.specs.LineChains.{after, emptied}
+use Rattle.step_work.specs.LineChains.{after, emptied}
 use Rattle.line_chain.specs.Line.{no_plugs}
 use Rattle.line_chain.specs.Steps.{machine, start_of, now_of}
 use Rattle.line_chain.specs.Chains.{starts_of, nows_of, RanAt, RanAll}

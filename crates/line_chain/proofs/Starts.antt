@@ -4,16 +4,16 @@ use Rattle.std.specs.Prelude.{option_to_list}
 use Rattle.elem_core.specs.Tree.{Tree}
 use Rattle.elem_core.specs.declared.why.Decider.{Decider}
 use Rattle.stream_model.specs.Linear.{Work, mapping, filtering, taking, taking_while, dropping, dropping_while, passing, limiting, grouping, expanding, folding, scanning, reducing, heading, lasting, numbering, plugged, first_of, begin_work}
-use Rattle.stage_linear.specs.declared.task.LinearWork.{LinearWork}
-use Rattle.stage_linear.specs.declared.task.LinearWork.TheVariants.{Map, Filter, FilterNot, Take, TakeWhile, Drop, DropWhile, Limit, Expand}
-use Rattle.stage_linear.specs.Tasks as tasks
-use Rattle.stage_keeping.specs.declared.ending.StateEnd.{StateEnd}
-use Rattle.stage_keeping.specs.declared.ending.StateEnd.TheVariants as ending
-use Rattle.stage_keeping.specs.declared.keeping.StateWork.{StateWork}
-use Rattle.stage_keeping.specs.declared.keeping.StateWork.TheVariants.{Group, Fold, Reduce, Scan}
-use Rattle.stage_keeping.specs.Keeping as keeping
-use Rattle.stage_keeping.specs.Keeping.{stage_of}
-use Rattle.stage_keeping.specs.Endings.{state_by}
+use Rattle.step_work.specs.declared.task.LinearWork.{LinearWork}
+use Rattle.step_work.specs.declared.task.LinearWork.TheVariants.{Map, Filter, FilterNot, Take, TakeWhile, Drop, DropWhile, Limit, Expand}
+use Rattle.step_work.specs.Tasks as tasks
+use Rattle.step_work.specs.declared.ending.StateEnd.{StateEnd}
+use Rattle.step_work.specs.declared.ending.StateEnd.TheVariants as ending
+use Rattle.step_work.specs.declared.keeping.StateWork.{StateWork}
+use Rattle.step_work.specs.declared.keeping.StateWork.TheVariants.{Group, Fold, Reduce, Scan}
+use Rattle.step_work.specs.Keeping as keeping
+use Rattle.step_work.specs.Keeping.{stage_of}
+use Rattle.step_work.specs.Endings.{state_by}
 use Rattle.line_chain.specs.Steps.{begun_ending}
 
 -- a task gives nothing before any element

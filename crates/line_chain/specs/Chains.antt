@@ -3,7 +3,7 @@ use Rattle.std.specs.Prelude.{◌≡◌, ℕ, List, ◌++◌, map, Some, slice_g
 use Rattle.elem_core.specs.Tree.{Tree}
 use Rattle.stream_model.specs.Outlook.{End, unended}
 use Rattle.stream_model.specs.Substreams.{Chain, through}
-use Rattle.chain_core.specs.LineChains.{after}
+use Rattle.step_work.specs.LineChains.{after}
 use Rattle.line_chain.specs.Line.{no_plugs}
 use Rattle.line_chain.specs.Steps.{start_of, now_of, Ran}
 use Rattle.line_chain.specs.declared.step.LineStep.{LineStep}

@@ -6,7 +6,7 @@ use Rattle.stream_model.specs.Graph.{Step}
 use Rattle.stream_model.specs.Linear.{Book, go, work_of, passing}
 use Rattle.stream_model.specs.Node.{chain_of}
 use Rattle.stream_model.specs.Substreams.{Chain}
-use Rattle.chain_core.specs.LineChains.{list_function}
+use Rattle.step_work.specs.LineChains.{list_function}
 
 -- `callable` says that no call answered that the chain stopped, and that its input has not ended: it may be called
 pub record Line : Type 0 where

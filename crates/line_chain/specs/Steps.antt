@@ -4,19 +4,19 @@ use Rattle.elem_core.specs.Tree.{Tree}
 use Rattle.elem_core.specs.declared.why.Decider.{Decider}
 use Rattle.elem_core.specs.declared.why.Decider.TheVariants.{Stop, Resume, Restart}
 use Rattle.elem_core.specs.declared.why.Why.{Why}
-use Rattle.stage_linear.specs.declared.task.LinearReaction.{LinearReaction}
-use Rattle.stage_linear.specs.declared.task.LinearReaction.TheVariants.{Gives, GivesAll, Skips, EndsWith, EndsWithAll, Ends, Blames, Fails}
-use Rattle.stage_linear.specs.Tasks as tasks
-use Rattle.stage_keeping.specs.declared.ending.StateEnd.{StateEnd}
-use Rattle.stage_keeping.specs.declared.ending.StateEnd.TheVariants as ending
-use Rattle.stage_keeping.specs.Keeping as keeping
-use Rattle.stage_keeping.specs.Keeping.{stage_of}
-use Rattle.stage_keeping.specs.Endings.{state_by}
+use Rattle.step_work.specs.declared.task.LinearReaction.{LinearReaction}
+use Rattle.step_work.specs.declared.task.LinearReaction.TheVariants.{Gives, GivesAll, Skips, EndsWith, EndsWithAll, Ends, Blames, Fails}
+use Rattle.step_work.specs.Tasks as tasks
+use Rattle.step_work.specs.declared.ending.StateEnd.{StateEnd}
+use Rattle.step_work.specs.declared.ending.StateEnd.TheVariants as ending
+use Rattle.step_work.specs.Keeping as keeping
+use Rattle.step_work.specs.Keeping.{stage_of}
+use Rattle.step_work.specs.Endings.{state_by}
 use Rattle.stream_model.specs.Outlook.{End, unended, ended, failed}
 use Rattle.stream_model.specs.Machine.{State, going, done, broken, Run, Machine, run, close, close_at, feed}
 use Rattle.stream_model.specs.Linear.{Stage, Work, taking, passing, heading, lasting, work_of, linear, step, begin_work}
 use Rattle.stream_model.specs.declared.kind.Kind.{Kind}
-use Rattle.chain_core.specs.LineChains.{emptied}
+use Rattle.step_work.specs.LineChains.{emptied}
 use Rattle.line_chain.specs.Line.{no_plugs}
 use Rattle.line_chain.specs.declared.work.StepWork.{StepWork}
 use Rattle.line_chain.specs.declared.work.StepWork.TheVariants.{Plain, Keeps, Passes, First, Last}

@@ -1,5 +1,5 @@
 ghost use Rattle.std.specs.Prelude.{◌≡◌, ◌<◌, [], length, map, IfOk, OnOk};
-ghost use Rattle.chain_core.specs.LineChains.{end_step};
+ghost use Rattle.step_work.specs.LineChains.{end_step};
 ghost use Rattle.stream_model.specs.Node.{chain_of};
 ghost use Rattle.line_chain.specs.Line.{Line, line_whole, line_rest, line_is_open, model_step, IsLine};
 ghost use Rattle.line_chain.specs.Chains.{starts_of, nows_of, RanAt, RanAll};
@@ -12,10 +12,10 @@ use elem_core::elem::Elem;
 use elem_core::elems::Elems;
 use elem_core::why::NoMemory;
 use port_core::chain::{Chain, ChainStep};
-use stage_keeping::ending::StateEnd;
 use std::alloc::Global;
 use std::marker::Model;
 use std::mem;
+use step_work::ending::StateEnd;
 use stream_model::blueprint::Step;
 
 /// A chain of linear stages. A call runs the steps one after another: what one gives the next takes. It stands for a

@@ -1,5 +1,5 @@
 ghost use Rattle.std.specs.Prelude.{◌≡◌, [], None, IfOk, OnOk};
-ghost use Rattle.stage_keeping.specs.declared.ending.StateEnd.TheVariants.{Lasting};
+ghost use Rattle.step_work.specs.declared.ending.StateEnd.TheVariants.{Lasting};
 ghost use Rattle.stream_model.specs.Linear.{begin_work};
 ghost use Rattle.stream_model.specs.Machine.{run};
 ghost use Rattle.stream_model.specs.Outlook.{ended};
@@ -10,9 +10,9 @@ use crate::work::StepWork;
 use elem_core::count::one_more;
 use elem_core::elem::Elem;
 use elem_core::why::{Cause, Decider, NoMemory, Why};
-use stage_keeping::ending::StateEnd;
-use stage_linear::task::LinearReaction;
 use std::alloc::Global;
+use step_work::ending::StateEnd;
+use step_work::task::LinearReaction;
 
 /// A step of a chain as it runs. Rule: Akka Streams 2.6 reference.
 pub struct LineStep {

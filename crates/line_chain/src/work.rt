@@ -1,18 +1,18 @@
 ghost use Rattle.std.specs.Prelude.{◌≡◌, IfOk, option_to_list};
 ghost use Rattle.stream_model.specs.Linear.{first_of};
-ghost use Rattle.stage_keeping.specs.Keeping.{FinishesBy};
+ghost use Rattle.step_work.specs.Keeping.{FinishesBy};
 ghost use Rattle.elem_core.specs.declared.why.Decider.{Decider};
-ghost use Rattle.stage_linear.specs.Tasks as tasks;
-ghost use Rattle.stage_keeping.specs.Keeping as keepings;
+ghost use Rattle.step_work.specs.Tasks as tasks;
+ghost use Rattle.step_work.specs.Keeping as keepings;
 ghost use Rattle.line_chain.specs.Steps.{work_in, begun_ending, Replies, DoesStep};
 
 use elem_core::elem::Elem;
 use elem_core::why::{Decider, NoMemory, Why};
-use stage_keeping::ending::StateEnd;
-use stage_keeping::keeping;
-use stage_keeping::keeping::{StateWork, copy_kept};
-use stage_linear::copies::{copy_map, copy_pred};
-use stage_linear::task::{LinearReaction, LinearWork};
+use step_work::ending::StateEnd;
+use step_work::keeping;
+use step_work::keeping::{StateWork, copy_kept};
+use step_work::copies::{copy_map, copy_pred};
+use step_work::task::{LinearReaction, LinearWork};
 use std::alloc::{AllocError, Global};
 use stream_model::kind::Kind;
 

@@ -12,7 +12,7 @@ use Rattle.elem_core.proofs.line_buf.LineBuf.TheSendSync as line_buf
 use Rattle.elem_core.proofs.trace.Trace.TheSendSync as trace
 use Rattle.elem_core.proofs.why.Cause.TheSendSync as cause
 use Rattle.elem_core.proofs.why.Why.TheSendSync as why
-use Rattle.stage_linear.specs.contracts.task.LinearWork as task
+use Rattle.step_work.specs.contracts.task.LinearWork as task
 use Rattle.line_chain.specs.contracts.work.StepWork as step_work
 use Rattle.line_chain.specs.contracts.step.LineStep as line_step
 use Rattle.line_chain.specs.contracts.line.LineChain as chain

@@ -21,7 +21,7 @@ use Rattle.stage_core.specs.declared.phase.Phase.{Phase}
 use Rattle.stage_core.specs.declared.phase.Phase.TheVariants.{New, Open, Closed}
 use Rattle.stage_linear.specs.declared.course.Course.{Course}
 use Rattle.stage_linear.specs.declared.course.Course.TheVariants.{Waits, Idles, Leaves, Closes, Ends}
-use Rattle.stage_linear.specs.Tasks.{Spreads}
+use Rattle.step_work.specs.Tasks.{Spreads}
 use Rattle.stage_linear.specs.States.{Logic, held, held_in, port_state_in, Begins}
 use Rattle.stage_linear.specs.Handling.{LinearLaw}
 use Rattle.nodes.specs.Source.{lines_port_state_in}

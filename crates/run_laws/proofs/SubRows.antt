@@ -29,7 +29,7 @@ use Rattle.stage_core.specs.Law.{Law}
 use Rattle.stage_core.specs.Row.{InClosed, OutClosed}
 use Rattle.stage_core.specs.declared.phase.Phase.{Phase}
 use Rattle.stage_core.specs.declared.phase.Phase.TheVariants.{New, Open, Closed}
-use Rattle.chain_core.specs.LineChains.{list_function}
+use Rattle.step_work.specs.LineChains.{list_function}
 use Rattle.stage_sub.specs.Joined.{untag, joined_machine}
 use Rattle.stage_sub.specs.KeptSubs.{opening_of}
 use Rattle.stage_sub.specs.States.{Logic, port_state_in}

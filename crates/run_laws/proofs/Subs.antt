@@ -28,9 +28,9 @@ use Rattle.stream_model.specs.Lawful.{RowLawful, StageLawful, SubsLawful}
 use Rattle.stream_model.specs.OneWay.{of_machine, is_sink}
 use Rattle.stream_model.specs.Rests.{RowRests, StageRests, OneToOne}
 use Rattle.stage_core.specs.Held.{owing}
-use Rattle.chain_core.specs.Means.{Means}
-use Rattle.chain_core.specs.LineChains.{list_function}
-use Rattle.chain_core.proofs.LineChains.{chain_means}
+use Rattle.step_work.specs.Means.{Means}
+use Rattle.step_work.specs.LineChains.{list_function}
+use Rattle.step_work.proofs.LineChains.{chain_means}
 use Rattle.stage_sub.specs.declared.opening.OpenBy.{OpenBy}
 use Rattle.stage_sub.specs.declared.opening.OpenBy.TheVariants.{Before, Behind, Key}
 use Rattle.stage_sub.specs.KeptSubs.{opening_of}

@@ -27,7 +27,7 @@ use Rattle.stage_core.specs.Histories.{given_all, brought_by, AllEmpty}
 use Rattle.stage_core.proofs.OneOnes.{one_input}
 use Rattle.stage_core.specs.Law.{GaveAs}
 use Rattle.stage_core.specs.Inflows.{PortsLaw}
-use Rattle.stage_linear.proofs.Rows.{may_come, closed_ports}
+use Rattle.stage_core.proofs.OpenPorts.{may_come, closed_ports}
 use Rattle.stage_core.specs.declared.phase.Phase.{Phase}
 use Rattle.stage_core.specs.declared.phase.Phase.TheVariants.{New, Open, Closed}
 use Rattle.stage_core.specs.PortsLaws.{InPortsLaw}

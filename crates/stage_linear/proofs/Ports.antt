@@ -13,12 +13,12 @@ use Rattle.stream_model.specs.Machine.{Finish, adds, refuses}
 use Rattle.elem_core.specs.declared.why.Decider.{Decider}
 use Rattle.elem_core.specs.declared.why.Decider.TheVariants.{Stop, Resume, Restart}
 use Rattle.stream_model.specs.Linear.{Book, Stage, Work, mapping, filtering, taking, taking_while, dropping, dropping_while, passing, limiting, grouping, expanding, folding, scanning, reducing, heading, lasting, numbering, plugged, finish_of}
-use Rattle.stage_linear.specs.declared.task.LinearReaction.{LinearReaction}
-use Rattle.stage_linear.specs.declared.task.LinearReaction.TheVariants.{Gives, GivesAll, Skips, EndsWith, EndsWithAll, Ends, Blames, Fails}
+use Rattle.step_work.specs.declared.task.LinearReaction.{LinearReaction}
+use Rattle.step_work.specs.declared.task.LinearReaction.TheVariants.{Gives, GivesAll, Skips, EndsWith, EndsWithAll, Ends, Blames, Fails}
 use Rattle.stage_core.specs.declared.phase.Phase.TheVariants.{Open}
 use Rattle.stage_linear.specs.declared.course.Course.{Course}
 use Rattle.stage_linear.specs.declared.course.Course.TheVariants as course
-use Rattle.stage_linear.specs.Tasks.{HasMore, Spreads, ReactedBy}
+use Rattle.step_work.specs.Tasks.{HasMore, Spreads, ReactedBy}
 use Rattle.stage_linear.specs.Plugs.{StaysOn}
 use Rattle.port_core.specs.declared.act.Act.{Act}
 use Rattle.stage_linear.specs.Outcomes.{working, answered, answer_acts, CameTo}

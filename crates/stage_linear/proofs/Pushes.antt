@@ -22,9 +22,9 @@ use Rattle.stage_core.proofs.Lagging.{few_nothing}
 use Rattle.stage_core.specs.declared.phase.Phase.TheVariants.{New, Open}
 use Rattle.stage_linear.specs.declared.course.Course.{Course}
 use Rattle.stage_linear.specs.declared.course.Course.TheVariants as course
-use Rattle.stage_linear.specs.declared.task.LinearReaction.{LinearReaction}
-use Rattle.stage_linear.specs.declared.task.LinearReaction.TheVariants.{Gives, GivesAll, Skips, EndsWith, EndsWithAll, Ends, Blames, Fails}
-use Rattle.stage_linear.specs.Tasks.{HasMore, SameMachine, GoesOn, Spreads, Stays, ReactedBy}
+use Rattle.step_work.specs.declared.task.LinearReaction.{LinearReaction}
+use Rattle.step_work.specs.declared.task.LinearReaction.TheVariants.{Gives, GivesAll, Skips, EndsWith, EndsWithAll, Ends, Blames, Fails}
+use Rattle.step_work.specs.Tasks.{HasMore, SameMachine, GoesOn, Spreads, Stays, ReactedBy}
 use Rattle.port_core.specs.declared.act.Act.{Act}
 use Rattle.stage_linear.specs.Outcomes.{working, answered, answer_acts, CameTo}
 use Rattle.stage_linear.specs.States.{Logic, held, port_state, port_state_in, Turned}

@@ -1,23 +1,22 @@
 -- A linear stage that was started has nothing to do over its own ports.
 use Rattle.std.specs.Prelude.{slice_index_or}
-use Rattle.std.proofs.Common.{◌≡◌, zero, suc, Bool, ◌⊎◌, inl, inr, List, [], ◌∷◌, refl, sym, subst}
+use Rattle.std.proofs.Common.{◌≡◌, Bool, ◌⊎◌, inr, List, [], ◌∷◌, refl, sym, subst}
 use Rattle.elem_core.specs.Tree.{Tree}
 use Rattle.elem_core.specs.declared.item.Item.{Item}
-use Rattle.elem_core.specs.declared.item.Item.TheVariants as item
 use Rattle.port_core.specs.declared.view.InView.{InView}
 use Rattle.port_core.specs.declared.view.InView.TheVariants.{Idle, Pulled, Finished, Cancelled}
 use Rattle.port_core.specs.declared.view.OutView.{OutView}
 use Rattle.port_core.specs.declared.view.OutView.TheVariants as outlet
 use Rattle.port_core.specs.View.{View, in_at, out_at, OneOneOf, IsInOpen, IsOutOpen}
-use Rattle.port_core.specs.Call.{Call, starts, pulls, arrives, cancels, CallAllowed}
+use Rattle.port_core.specs.Call.{Call, starts, CallAllowed}
 use Rattle.stream_model.specs.Machine.{going, Run, Machine}
 use Rattle.stream_model.specs.Linear.{Book, Stage, Work}
 use Rattle.stage_core.specs.Law.{Law}
 use Rattle.stage_core.specs.OwnPorts.{OwnRests}
 use Rattle.stage_core.specs.Held.{owing}
-use Rattle.stage_core.specs.Row.{BothClosed}
 use Rattle.stream_model.specs.OneWay.{holds_at_end}
 use Rattle.stage_core.proofs.OwnRows.{waiting_rests, idle_rests, closed_rests}
+use Rattle.stage_core.proofs.OpenPorts.{may_come, closed_ports}
 use Rattle.stage_core.specs.declared.phase.Phase.{Phase}
 use Rattle.stage_core.specs.declared.phase.Phase.TheVariants.{New, Open, Closed}
 use Rattle.stage_linear.specs.declared.course.Course.{Course}
@@ -82,40 +81,10 @@ module _ (m : Machine Stage Tree) (start : Run Stage Tree) (took gave : List Ite
 
 -- ---- where a call may come, a stage that was started is open
 
-pub closed_ports : (x : InView) (y : OutView) → (IsInOpen x ⊎ IsOutOpen y) → BothClosed x y → ⊥
-closed_ports Finished outlet.Closed (inl h) r = h
-closed_ports Finished outlet.Closed (inr h) r = h
-closed_ports Finished outlet.Cancelled (inl h) r = h
-closed_ports Finished outlet.Cancelled (inr h) r = h
-closed_ports Cancelled outlet.Closed (inl h) r = h
-closed_ports Cancelled outlet.Closed (inr h) r = h
-closed_ports Cancelled outlet.Cancelled (inl h) r = h
-closed_ports Cancelled outlet.Cancelled (inr h) r = h
-closed_ports Finished outlet.Unpulled h r = r
-closed_ports Finished outlet.Available h r = r
-closed_ports Cancelled outlet.Unpulled h r = r
-closed_ports Cancelled outlet.Available h r = r
-closed_ports Idle y h r = r
-closed_ports Pulled y h r = r
-
 open_at : (p : Phase) (c : Course) (k : List Tree) (w : Work) (g : Bool) (x : InView) (y : OutView) → (p ≡ New → ⊥) → (IsInOpen x ⊎ IsOutOpen y) → port_state_in p c k w g x y → p ≡ Open
 open_at Open c k w g x y n h r = refl
 open_at New c k w g x y n h r = absurd (n refl)
 open_at Closed c k w g x y n h r = absurd (closed_ports x y h r)
-
--- some port of a stage with one input and one output is open, where a call may come
-pub may_come : (call : Call) (x : InView) (y : OutView) → (call ≡ starts → ⊥) → CallAllowed call (record { ins = x ∷ []; outs = y ∷ [] }) → IsInOpen x ⊎ IsOutOpen y
-may_come starts x y n h = absurd (n refl)
-may_come (pulls zero) x y n h = inr (rw h tt)
-may_come (pulls (suc j)) x y n h = cc
-may_come (arrives zero (item.Elem e)) x y n h = inl (rw h tt)
-may_come (arrives zero item.Ended) x y n h = inl h
-may_come (arrives zero (item.Failed c)) x y n h = inl h
-may_come (arrives (suc i) (item.Elem e)) x y n h = cc
-may_come (arrives (suc i) item.Ended) x y n h = absurd h
-may_come (arrives (suc i) (item.Failed c)) x y n h = absurd h
-may_come (cancels zero) x y n h = inr h
-may_come (cancels (suc j)) x y n h = absurd h
 
 open_lists : (p : Phase) (c : Course) (k : List Tree) (w : Work) (g : Bool) (call : Call) (xs : List InView) (ys : List OutView) → (p ≡ New → ⊥) → (call ≡ starts → ⊥) → CallAllowed call (record { ins = xs; outs = ys }) → OneOneOf (port_state_in p c k w g) xs ys → p ≡ Open
 open_lists p c k w g call (x ∷ []) (y ∷ []) n s h r = open_at p c k w g x y n (may_come call x y s h) r

@@ -2,11 +2,11 @@
 use Rattle.std.specs.Prelude.{◌≡◌, Bool, true, Result, Ok, Err, IfOk, Option, Some, None, IfSome}
 use Rattle.elem_core.specs.Tree.{Tree}
 use Rattle.stream_model.specs.Linear.{Book, Work}
-use Rattle.stage_linear.specs.declared.task.AtOnce.{AtOnce}
-use Rattle.stage_linear.specs.declared.task.LinearReaction.{LinearReaction}
-use Rattle.stage_linear.specs.declared.task.LinearReaction.TheVariants.{Gives, GivesAll, Skips, EndsWith, EndsWithAll, Ends, Blames, Fails}
+use Rattle.step_work.specs.declared.task.AtOnce.{AtOnce}
+use Rattle.step_work.specs.declared.task.LinearReaction.{LinearReaction}
+use Rattle.step_work.specs.declared.task.LinearReaction.TheVariants.{Gives, GivesAll, Skips, EndsWith, EndsWithAll, Ends, Blames, Fails}
 use Rattle.stage_linear.specs.Plugs.{StaysOn}
-use Rattle.stage_linear.specs.Tasks.{Reacted, ReactedBy, outcome_of}
+use Rattle.step_work.specs.Tasks.{Reacted, ReactedBy, outcome_of}
 
 pub at_book_if : {E : Type 0} (book : Book) (old : Work) (t : Tree) (new : Work) (r : Result LinearReaction E) → IfOk r (Reacted old t new) → IfOk r (ReactedBy book old t new)
 at_book_if book old t new (Ok o) h = h book

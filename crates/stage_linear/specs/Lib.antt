@@ -1,4 +1,3 @@
-pub mod Tasks
 pub mod Plugs
 pub mod Workers
 pub mod States

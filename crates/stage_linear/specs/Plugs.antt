@@ -4,10 +4,10 @@ use Rattle.elem_core.specs.Tree.{Tree}
 use Rattle.stream_model.specs.Machine.{adds, refuses}
 use Rattle.stream_model.specs.Linear.{Book, Stage, Work, plugged, blame_end, finish_of}
 use Rattle.plug_logic.specs.Gives.{Gives, listed}
-use Rattle.stage_linear.specs.declared.task.LinearReaction.{LinearReaction}
-use Rattle.stage_linear.specs.declared.task.LinearReaction.TheVariants as outcome
-use Rattle.stage_linear.specs.declared.task.LinearEnd.{LinearEnd}
-use Rattle.stage_linear.specs.declared.task.LinearEnd.TheVariants as last
+use Rattle.step_work.specs.declared.task.LinearReaction.{LinearReaction}
+use Rattle.step_work.specs.declared.task.LinearReaction.TheVariants as outcome
+use Rattle.step_work.specs.declared.task.LinearEnd.{LinearEnd}
+use Rattle.step_work.specs.declared.task.LinearEnd.TheVariants as last
 
 -- p is what q says behind these inputs
 pub record Is (p : Gives) (took : List Tree) (q : Gives) : Type 0 where

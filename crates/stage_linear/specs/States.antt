@@ -24,7 +24,7 @@ use Rattle.stage_core.specs.declared.phase.Phase.{Phase}
 use Rattle.stage_core.specs.declared.phase.Phase.TheVariants.{New, Open, Closed}
 use Rattle.stage_linear.specs.declared.course.Course.{Course}
 use Rattle.stage_linear.specs.declared.course.Course.TheVariants.{Waits, Idles, Leaves, Closes, Ends}
-use Rattle.stage_linear.specs.Tasks.{HasMore, Spreads}
+use Rattle.step_work.specs.Tasks.{HasMore, Spreads}
 
 -- where it stands, its stage in the model, the outputs that it holds, what it does next, and whether its plug, where it has
 -- one, may be called

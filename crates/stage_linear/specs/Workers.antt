@@ -1,9 +1,9 @@
 -- What does the work of a linear stage, in the words of the model.
 use Rattle.std.specs.Prelude.{◌≡◌, Bool, true}
 use Rattle.stream_model.specs.Linear.{Work}
-use Rattle.stage_linear.specs.Tasks.{work_in}
+use Rattle.step_work.specs.Tasks.{work_in}
 use Rattle.stage_linear.specs.Plugs.{plug_work, StaysOn}
-use Rattle.stage_linear.specs.declared.task.LinearReaction.{LinearReaction}
+use Rattle.step_work.specs.declared.task.LinearReaction.{LinearReaction}
 use Rattle.stage_linear.specs.declared.worker.Worker.{Worker}
 use Rattle.stage_linear.specs.declared.worker.Worker.TheVariants.{Plain, Plug}
 

@@ -10,12 +10,11 @@ ghost use Rattle.stage_linear.specs.declared.course.Course.TheVariants as course
 ghost use Rattle.stage_linear.specs.Outcomes.{answered, answer_acts, CameTo};
 ghost use Rattle.stage_linear.specs.Plugs.{Is};
 ghost use Rattle.stage_linear.specs.Pending.{spread, first_acts, leaving, leaving_acts, ended_with, ended_acts, ended_by, closed_acts, given_on_from, last_acts, behind_last, behind_last_acts, StaysReady};
-ghost use Rattle.stage_linear.specs.Tasks.{HasMore, outcome_of};
+ghost use Rattle.step_work.specs.Tasks.{HasMore, outcome_of};
 ghost use Rattle.stage_linear.specs.States.{Begins, port_state, Turned, HasTask, counted, skipped, decided_by, decided_acts, failing_acts};
 
 use crate::course::Course;
 use crate::plug::PlugTask;
-use crate::task::{AtOnce, LinearEnd, LinearReaction, LinearWork};
 use crate::worker::Worker;
 use elem_core::elem::{Elem, Form};
 use elem_core::elems::Elems;
@@ -29,6 +28,7 @@ use port_core::pick_log::PickLog;
 use stage_core::phase::Phase;
 use std::alloc::{AllocError, Global};
 use std::marker::Model;
+use step_work::task::{AtOnce, LinearEnd, LinearReaction, LinearWork};
 use stream_model::kind::Kind;
 
 /// The logic of a map, a filter, a filter_not, a take, a take_while, a drop, a drop_while, a limit, a map_concat or a plug. It

@@ -1,9 +1,8 @@
 ghost use Rattle.std.specs.Prelude.{◌≡◌, [], true, IfOk};
 ghost use Rattle.plug_logic.specs.Gives.{listed};
-ghost use Rattle.stage_linear.specs.Tasks.{ReactedBy};
+ghost use Rattle.step_work.specs.Tasks.{ReactedBy};
 ghost use Rattle.stage_linear.specs.Plugs.{Is, plug_work, StaysOn, WorkEndsAs};
 
-use crate::task::{LinearEnd, LinearReaction};
 use elem_core::elem::Elem;
 use elem_core::elems::Elems;
 use elem_core::line::Line;
@@ -13,6 +12,7 @@ use plug_logic::book::PlugBook;
 use plug_logic::logic::{Logic, Verdict};
 use std::alloc::{AllocError, Global};
 use std::marker::{Model, PhantomData};
+use step_work::task::{LinearEnd, LinearReaction};
 
 /// A plug in a stage. While it may be called, its logic gives what the book lists of its name, behind what it took.
 #[derive(Drop)]

@@ -1,16 +1,16 @@
 ghost use Rattle.std.specs.Prelude.{◌≡◌, [], IfOk, IfSome, IfNone};
-ghost use Rattle.stage_linear.specs.Tasks.{HasMore, ReactedBy, outcome_of};
+ghost use Rattle.step_work.specs.Tasks.{HasMore, ReactedBy, outcome_of};
 ghost use Rattle.stage_linear.specs.Plugs.{WorkEndsAs};
 ghost use Rattle.stage_linear.specs.Workers.{work_by, CanTake, GoesOnReady};
 
 use crate::plug::PlugTask;
-use crate::task::{AtOnce, LinearEnd, LinearReaction, LinearWork};
 use elem_core::elem::Elem;
 use elem_core::elems::Elems;
 use elem_core::why::NoMemory;
 use plug_logic::book::PlugBook;
 use plug_logic::logic::Logic;
 use std::alloc::Global;
+use step_work::task::{AtOnce, LinearEnd, LinearReaction, LinearWork};
 
 /// What does the work of a linear stage.
 pub enum Worker<L: Logic, B: PlugBook> {

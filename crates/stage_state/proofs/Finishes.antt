@@ -14,8 +14,8 @@ use Rattle.port_core.specs.Call.{arrives, seen, Obeys}
 use Rattle.stream_model.specs.Linear.{Work, Stage}
 use Rattle.stage_core.specs.declared.phase.Phase.{Phase}
 use Rattle.stage_core.specs.declared.phase.Phase.TheVariants.{Open}
-use Rattle.stage_keeping.specs.declared.ending.StateEnd.{StateEnd}
-use Rattle.stage_keeping.specs.declared.ending.StateEnd.TheVariants.{Lasting, Ended, Failed}
+use Rattle.step_work.specs.declared.ending.StateEnd.{StateEnd}
+use Rattle.step_work.specs.declared.ending.StateEnd.TheVariants.{Lasting, Ended, Failed}
 use Rattle.stage_state.specs.Outcomes.{working, finished, finish_acts}
 use Rattle.stage_state.specs.States.{Logic, IsKept, keep_port_state, port_state}
 

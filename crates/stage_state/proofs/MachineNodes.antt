@@ -23,9 +23,9 @@ use Rattle.stage_core.specs.Law.{TookAs, GaveAs, Law}
 use Rattle.stage_core.proofs.Calls.{new_law, call_law}
 use Rattle.stage_core.specs.declared.phase.Phase.{Phase}
 use Rattle.stage_core.specs.declared.phase.Phase.TheVariants.{New, Open, Closed}
-use Rattle.stage_keeping.specs.declared.ending.StateEnd.{StateEnd}
-use Rattle.stage_keeping.specs.declared.ending.StateEnd.TheVariants.{Lasting}
-use Rattle.stage_keeping.specs.Endings.{state_by}
+use Rattle.step_work.specs.declared.ending.StateEnd.{StateEnd}
+use Rattle.step_work.specs.declared.ending.StateEnd.TheVariants.{Lasting}
+use Rattle.step_work.specs.Endings.{state_by}
 use Rattle.stage_state.specs.States.{Logic, machine, machine_by, held, held_in, IsScan, Spare, keep_port_state, buffer_port_state, port_state_by, port_state, Turned}
 use Rattle.stage_state.specs.MachineNodes.{MachineFresh, MachinePortState, MachineLaw}
 

@@ -17,11 +17,11 @@ use Rattle.stage_core.specs.Turn.{Emits, FewIn, TurnAt}
 use Rattle.stage_core.proofs.Lagging.{few_nothing}
 use Rattle.stage_core.specs.declared.phase.Phase.{Phase}
 use Rattle.stage_core.specs.declared.phase.Phase.TheVariants.{Open}
-use Rattle.stage_keeping.specs.declared.ending.StateEnd.{StateEnd}
-use Rattle.stage_keeping.specs.declared.ending.StateEnd.TheVariants.{Lasting, Ended, Failed}
-use Rattle.stage_keeping.specs.declared.keeping.StateReaction.{StateReaction}
-use Rattle.stage_keeping.specs.declared.keeping.StateReaction.TheVariants.{Gives, Asks, Fails}
-use Rattle.stage_keeping.specs.Keeping.{stage_of, Reacted}
+use Rattle.step_work.specs.declared.ending.StateEnd.{StateEnd}
+use Rattle.step_work.specs.declared.ending.StateEnd.TheVariants.{Lasting, Ended, Failed}
+use Rattle.step_work.specs.declared.keeping.StateReaction.{StateReaction}
+use Rattle.step_work.specs.declared.keeping.StateReaction.TheVariants.{Gives, Asks, Fails}
+use Rattle.step_work.specs.Keeping.{stage_of, Reacted}
 use Rattle.stage_state.specs.Outcomes.{working, answered, answer_acts}
 use Rattle.stage_state.specs.States.{Logic, held, keep_port_state, port_state_by, port_state, Turned}
 

@@ -17,11 +17,11 @@ use Rattle.stage_core.specs.Held.{owing}
 use Rattle.stage_core.specs.Law.{ends_by, Law}
 use Rattle.stage_core.specs.OwnPorts.{OwnRests}
 use Rattle.stage_core.proofs.OwnRows.{waiting_rests, idle_rests, closed_rests}
-use Rattle.stage_linear.proofs.Rows.{may_come, closed_ports}
+use Rattle.stage_core.proofs.OpenPorts.{may_come, closed_ports}
 use Rattle.stage_core.specs.declared.phase.Phase.{Phase}
 use Rattle.stage_core.specs.declared.phase.Phase.TheVariants.{New, Open, Closed}
-use Rattle.stage_keeping.specs.declared.ending.StateEnd.{StateEnd}
-use Rattle.stage_keeping.specs.declared.ending.StateEnd.TheVariants.{Lasting, Ended, Failed}
+use Rattle.step_work.specs.declared.ending.StateEnd.{StateEnd}
+use Rattle.step_work.specs.declared.ending.StateEnd.TheVariants.{Lasting, Ended, Failed}
 use Rattle.stage_state.specs.Buffering.{buffer}
 use Rattle.stage_state.specs.Resting.{begin_buffer, BufferOwnRests}
 use Rattle.stage_state.specs.States.{Logic, held, held_in, keep_port_state, buffer_port_state, port_state_by, port_state}

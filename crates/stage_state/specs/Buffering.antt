@@ -3,8 +3,8 @@ use Rattle.std.specs.Prelude.{ℕ, Bool, true, false, [], ◌∷◌}
 use Rattle.elem_core.specs.Tree.{Tree}
 use Rattle.stream_model.specs.Machine.{going, adds, Machine}
 use Rattle.stream_model.specs.Linear.{Stage}
-use Rattle.stage_keeping.specs.declared.ending.StateEnd.{StateEnd}
-use Rattle.stage_keeping.specs.declared.ending.StateEnd.TheVariants.{Lasting, Ended}
+use Rattle.step_work.specs.declared.ending.StateEnd.{StateEnd}
+use Rattle.step_work.specs.declared.ending.StateEnd.TheVariants.{Lasting, Ended}
 
 -- a buffer of n
 abbrev pub buffer : ℕ → Machine Stage Tree

@@ -4,8 +4,8 @@ use Rattle.elem_core.specs.Tree.{Tree}
 use Rattle.port_core.specs.declared.act.Act.{Act}
 use Rattle.port_core.specs.declared.act.Act.TheVariants.{Pull, Complete}
 use Rattle.stage_core.specs.declared.phase.Phase.TheVariants.{Closed}
-use Rattle.stage_keeping.specs.declared.ending.StateEnd.{StateEnd}
-use Rattle.stage_keeping.specs.declared.ending.StateEnd.TheVariants.{Lasting, Ended, Failed}
+use Rattle.step_work.specs.declared.ending.StateEnd.{StateEnd}
+use Rattle.step_work.specs.declared.ending.StateEnd.TheVariants.{Lasting, Ended, Failed}
 use Rattle.stage_state.specs.States.{Logic}
 
 -- nothing is held

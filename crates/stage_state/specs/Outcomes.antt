@@ -7,10 +7,10 @@ use Rattle.port_core.specs.declared.act.Act.{Act}
 use Rattle.port_core.specs.declared.act.Act.TheVariants.{Pull, Push, Complete, FailOut, Cancel}
 use Rattle.stream_model.specs.Linear.{Work, Stage}
 use Rattle.stage_core.specs.declared.phase.Phase.TheVariants.{Closed}
-use Rattle.stage_keeping.specs.declared.ending.StateEnd.{StateEnd}
-use Rattle.stage_keeping.specs.declared.ending.StateEnd.TheVariants.{Lasting, Ended, Failed}
-use Rattle.stage_keeping.specs.declared.keeping.StateReaction.{StateReaction}
-use Rattle.stage_keeping.specs.declared.keeping.StateReaction.TheVariants.{Gives, Asks, Fails}
+use Rattle.step_work.specs.declared.ending.StateEnd.{StateEnd}
+use Rattle.step_work.specs.declared.ending.StateEnd.TheVariants.{Lasting, Ended, Failed}
+use Rattle.step_work.specs.declared.keeping.StateReaction.{StateReaction}
+use Rattle.step_work.specs.declared.keeping.StateReaction.TheVariants.{Gives, Asks, Fails}
 use Rattle.stage_state.specs.States.{Logic}
 
 -- the stage with this work

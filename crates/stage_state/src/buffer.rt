@@ -4,7 +4,7 @@ ghost use Rattle.port_core.specs.Call.{Obeys, Meets, starts, pulls, arrives, can
 ghost use Rattle.stream_model.specs.Linear.{passing};
 ghost use Rattle.elem_core.specs.declared.why.Decider.TheVariants.{Stop};
 ghost use Rattle.stage_core.specs.declared.phase.Phase.TheVariants.{New, Open, Closed};
-ghost use Rattle.stage_keeping.specs.declared.ending.StateEnd.TheVariants.{Lasting};
+ghost use Rattle.step_work.specs.declared.ending.StateEnd.TheVariants.{Lasting};
 ghost use Rattle.stage_state.specs.Holding.{is_none, HasRoom, gone_on, go_on_acts};
 ghost use Rattle.stage_state.specs.States.{port_state, Turned};
 
@@ -14,9 +14,9 @@ use elem_core::why::{Cause, NoMemory};
 use port_core::act::Act;
 use port_core::acts::Acts;
 use stage_core::phase::Phase;
-use stage_keeping::ending::StateEnd;
 use std::alloc::Global;
 use std::marker::Model;
+use step_work::ending::StateEnd;
 
 /// The logic of a buffer that holds its input back. It asks at its start, and while fewer elements are held than its size;
 /// behind the end of its input it gives what is held, and then completes; a failure drops what is held. All its memory is

@@ -3,8 +3,8 @@ ghost use Rattle.elem_core.specs.declared.item.Item.TheVariants as item;
 ghost use Rattle.port_core.specs.declared.act.Act.TheVariants.{FailOut};
 ghost use Rattle.port_core.specs.Call.{Obeys, Meets, starts, pulls, arrives, cancels};
 ghost use Rattle.stage_core.specs.declared.phase.Phase.TheVariants.{New, Open, Closed};
-ghost use Rattle.stage_keeping.specs.declared.ending.StateEnd.TheVariants.{Lasting};
-ghost use Rattle.stage_keeping.specs.Keeping.{work_in};
+ghost use Rattle.step_work.specs.declared.ending.StateEnd.TheVariants.{Lasting};
+ghost use Rattle.step_work.specs.Keeping.{work_in};
 ghost use Rattle.stage_state.specs.Outcomes.{answered, answer_acts, cause_at, finished, finish_acts, settled, settle_acts};
 ghost use Rattle.stage_state.specs.States.{port_state, Turned};
 
@@ -14,10 +14,10 @@ use elem_core::why::{Cause, Decider, NoMemory, Why};
 use port_core::act::Act;
 use port_core::acts::Acts;
 use stage_core::phase::Phase;
-use stage_keeping::ending::StateEnd;
-use stage_keeping::keeping::{StateReaction, StateWork};
 use std::alloc::Global;
 use std::marker::Model;
+use step_work::ending::StateEnd;
+use step_work::keeping::{StateReaction, StateWork};
 
 /// The logic of a grouped, a fold, a reduce or a scan. It asks its input when its output is asked, and again where an
 /// element gave nothing; what the end of its input brings it gives when asked, and then completes. A scan gives its zero at
@@ -43,7 +43,7 @@ impl Model for KeepLogic {
 
     ghost coded = { Prim.hlevel (codes, tree_coded) };
 
-    ghost use Rattle.stage_keeping.specs.Keeping.{work_in};
+    ghost use Rattle.step_work.specs.Keeping.{work_in};
 
     ghost view = { λ l. record { phase = l.phase; stage = record { node = l.node; decider = l.decider; taken = l.taken; work = work_in l.keeping }; pending = option_to_list l.pending; asked = l.asked; ending = l.ending; size = None } };
 }

@@ -5,7 +5,7 @@ ghost use Rattle.stage_core.specs.declared.phase.Phase.TheVariants.{New, Open};
 ghost use Rattle.stage_state.specs.declared.machine.Part.TheVariants.{Keep};
 ghost use Rattle.stream_model.specs.Linear.{scanning};
 ghost use Rattle.elem_core.specs.Values.{fold_zero};
-ghost use Rattle.stage_keeping.specs.Keeping.{work_in};
+ghost use Rattle.step_work.specs.Keeping.{work_in};
 ghost use Rattle.stage_state.specs.States.{Begins, IsMachine, new_keep, port_state, Turned};
 
 use crate::buffer::BufferLogic;
@@ -14,9 +14,9 @@ use elem_core::elem::Elem;
 use elem_core::function::FoldOp;
 use elem_core::why::{Cause, Decider, NoMemory};
 use port_core::acts::Acts;
-use stage_keeping::keeping::StateWork;
 use std::alloc::Global;
 use std::marker::Model;
+use step_work::keeping::StateWork;
 use stream_model::kind::{Kind, Policy};
 
 /// The logic of a grouped, a fold, a reduce, a scan, or a buffer that holds its input back: what it gives follows from what it

@@ -14,8 +14,8 @@ use Rattle.stream_model.specs.Machine.{Given}
 use Rattle.stream_model.specs.FanIn.{Tagged, tag}
 use Rattle.stream_model.specs.Substreams.{Sub, by_element, find_key, take_in, take_at, given_by, news, fault_of, trouble}
 use Rattle.port_core.specs.ListFunction.{ListFunction}
-use Rattle.chain_core.specs.Means.{Means}
-use Rattle.chain_core.specs.Slots.{MayCall, SlotHolds, Fed}
+use Rattle.step_work.specs.Means.{Means}
+use Rattle.step_work.specs.Slots.{MayCall, SlotHolds, Fed}
 use Rattle.stage_sub.specs.Groups.{MayCallAll, EachHolds}
 use Rattle.stage_sub.proofs.Models.{pick, first_of, trouble_fails, sub_fails, news_append, news_new, sub_calm, given_open}
 use Rattle.stage_sub.proofs.Lasts.{calm_slot}

@@ -7,7 +7,7 @@ use Rattle.stream_model.specs.Machine.{Given}
 use Rattle.stream_model.specs.FanIn.{Tagged}
 use Rattle.stream_model.specs.Substreams.{Sub, before, behind}
 use Rattle.port_core.specs.ListFunction.{ListFunction, Same}
-use Rattle.chain_core.specs.Means.{Means}
+use Rattle.step_work.specs.Means.{Means}
 use Rattle.stage_sub.specs.Splits.{Last, MayCallLast}
 use Rattle.stage_sub.specs.Groups.{MayCallAll, Within}
 use Rattle.stage_sub.specs.Subs.{Split, SubsTake}

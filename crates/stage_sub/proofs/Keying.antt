@@ -15,8 +15,8 @@ use Rattle.stream_model.specs.Machine.{Given}
 use Rattle.stream_model.specs.FanIn.{Tagged, tag}
 use Rattle.stream_model.specs.Substreams.{Sub, by_element, by_end, by_key, arranged, find_key, end_sub, end_all, take_at, given_by, news, trouble}
 use Rattle.port_core.specs.ListFunction.{ListFunction, Same}
-use Rattle.chain_core.specs.Means.{Means}
-use Rattle.chain_core.specs.Slots.{SlotHolds, Fed, Begun}
+use Rattle.step_work.specs.Means.{Means}
+use Rattle.step_work.specs.Slots.{SlotHolds, Fed, Begun}
 use Rattle.stage_sub.specs.Splits.{Last, LastTook, LastEnds}
 use Rattle.stage_sub.specs.Groups.{EachHolds, Grouped, Halfway, GroupEndsAt, EndsOne, Within}
 use Rattle.stage_sub.specs.Subs.{SubsReach, Arranges}

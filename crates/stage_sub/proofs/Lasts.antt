@@ -4,7 +4,7 @@ use Rattle.elem_core.specs.Tree.{Tree}
 use Rattle.stream_model.specs.FanIn.{Tagged, tag}
 use Rattle.port_core.specs.declared.chain.ChainStep.TheVariants.{Closed}
 use Rattle.port_core.specs.ListFunction.{ListFunction}
-use Rattle.chain_core.specs.Slots.{SlotHolds, Fed}
+use Rattle.step_work.specs.Slots.{SlotHolds, Fed}
 use Rattle.stage_sub.specs.Splits.{Last, Calm, LastTook, LastEnds, LastFeeds}
 
 module _ {C : Type 0} (rest : C → ListFunction) (is_open : C → Bool) where

@@ -11,7 +11,7 @@ use Rattle.stream_model.specs.Substreams.{Sub, Fault, by_element, by_end, end_su
 use Rattle.port_core.specs.declared.chain.ChainStep.{ChainStep}
 use Rattle.port_core.specs.declared.chain.ChainStep.TheVariants.{Go, Closed, Failed}
 use Rattle.port_core.specs.ListFunction.{ListFunction}
-use Rattle.chain_core.specs.Means.{ChainStandsAs, ChainEndsAs, Means}
+use Rattle.step_work.specs.Means.{ChainStandsAs, ChainEndsAs, Means}
 use Rattle.stage_sub.specs.Splits.{EndsSub, Calm}
 use Rattle.stage_sub.specs.Subs.{AllEnded}
 

@@ -34,7 +34,7 @@ use Rattle.stage_core.proofs.Calls.{new_law, call_law}
 use Rattle.stage_core.proofs.Ports.{in_unended, may_open}
 use Rattle.stage_core.specs.declared.phase.Phase.{Phase}
 use Rattle.stage_core.specs.declared.phase.Phase.TheVariants.{New, Open, Closed}
-use Rattle.chain_core.specs.Means.{Means}
+use Rattle.step_work.specs.Means.{Means}
 use Rattle.stage_sub.specs.Joined.{untag, joined_machine}
 use Rattle.stage_sub.specs.KeptSubs.{opening_of}
 use Rattle.stage_sub.specs.Moves.{port_in, noted, added, arising}

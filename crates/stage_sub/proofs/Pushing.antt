@@ -25,7 +25,7 @@ use Rattle.stage_core.specs.Turn.{last_held, Emits, TurnAt}
 use Rattle.stage_core.proofs.Lagging.{few_nothing}
 use Rattle.stage_core.specs.declared.phase.Phase.{Phase}
 use Rattle.stage_core.specs.declared.phase.Phase.TheVariants.{New, Open}
-use Rattle.chain_core.specs.Means.{Means}
+use Rattle.step_work.specs.Means.{Means}
 use Rattle.stage_sub.specs.Subs.{fault_in_model}
 use Rattle.stage_sub.specs.Joined.{untag, joined_machine}
 use Rattle.stage_sub.specs.KeptSubs.{KeptSubs, opening_of, Keeps, TakesBy}

@@ -20,7 +20,7 @@ use Rattle.stage_core.specs.Law.{ends_by, Law}
 use Rattle.stage_core.specs.OwnPorts.{OwnRests}
 use Rattle.stage_core.proofs.OwnRows.{waiting_rests, idle_rests, closed_rests}
 use Rattle.stage_core.proofs.OneOnes.{at_first, first_port}
-use Rattle.stage_linear.proofs.Rows.{may_come, closed_ports}
+use Rattle.stage_core.proofs.OpenPorts.{may_come, closed_ports}
 use Rattle.stage_core.specs.declared.phase.Phase.{Phase}
 use Rattle.stage_core.specs.declared.phase.Phase.TheVariants.{New, Open, Closed}
 use Rattle.stage_sub.specs.Handling.{SubFresh, SubPortState, GaveAll}

@@ -11,7 +11,7 @@ use Rattle.stream_model.specs.Machine.{Given}
 use Rattle.stream_model.specs.FanIn.{Tagged}
 use Rattle.stream_model.specs.Substreams.{Sub, Opening, before, behind, arranged, by_element, by_end, end_all, opened, trouble}
 use Rattle.port_core.specs.ListFunction.{ListFunction, Same}
-use Rattle.chain_core.specs.Means.{Means}
+use Rattle.step_work.specs.Means.{Means}
 use Rattle.stage_sub.specs.Splits.{Last, LastTook, LastEnds, LastGrows}
 use Rattle.stage_sub.specs.Subs.{grown, Split, SubsBecome, SubsTake}
 use Rattle.stage_sub.specs.declared.blame.Blame.{Blame}

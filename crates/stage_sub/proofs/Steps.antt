@@ -11,7 +11,7 @@ use Rattle.stream_model.specs.FanIn.{Tagged, tag}
 use Rattle.stream_model.specs.Substreams.{Sub, by_element, by_end, end_sub, end_all, take_in, take_last, last_open, opened, given_by, news, fault_of, trouble}
 use Rattle.port_core.specs.declared.chain.ChainStep.TheVariants.{Failed}
 use Rattle.port_core.specs.ListFunction.{ListFunction}
-use Rattle.chain_core.specs.Means.{Means}
+use Rattle.step_work.specs.Means.{Means}
 use Rattle.stage_sub.specs.Splits.{Last, LastTook, LastEnds, LastOpens, LastFeeds, LastGrows}
 use Rattle.stage_sub.specs.Subs.{AllEnded, grown, Split, SubsBecome}
 use Rattle.stage_sub.proofs.Models.{trouble_append, trouble_both, trouble_one, trouble_fails, news_append, news_one, news_new, done_append, end_done, end_append, open_append, open_done, take_append, sub_calm, sub_fails, end_calm, end_fails, given_open, given_end}

@@ -23,7 +23,7 @@ use Rattle.stage_core.specs.Held.{told, Held, owing, shut, sealed_by, after}
 use Rattle.stage_core.specs.Turn.{Emits, TurnAt}
 use Rattle.stage_core.specs.declared.phase.Phase.{Phase}
 use Rattle.stage_core.specs.declared.phase.Phase.TheVariants.{New, Open, Closed}
-use Rattle.chain_core.specs.Means.{Means}
+use Rattle.step_work.specs.Means.{Means}
 use Rattle.stage_sub.specs.Subs.{SubsReach, fault_in_model}
 use Rattle.stage_sub.specs.Joined.{untag_finish, joined_machine}
 use Rattle.stage_sub.specs.KeptSubs.{KeptSubs, opening_of, Keeps}

@@ -6,7 +6,7 @@ use Rattle.stream_model.specs.Machine.{Given}
 use Rattle.stream_model.specs.FanIn.{Tagged}
 use Rattle.stream_model.specs.Substreams.{Sub, find_key, end_all, trouble, news}
 use Rattle.port_core.specs.ListFunction.{ListFunction}
-use Rattle.chain_core.specs.Slots.{MayCall, SlotHolds}
+use Rattle.step_work.specs.Slots.{MayCall, SlotHolds}
 use Rattle.stage_sub.specs.Splits.{Last, LastTook, LastEnds}
 use Rattle.elem_core.specs.declared.why.Why.{Why}
 

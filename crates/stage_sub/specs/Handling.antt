@@ -18,7 +18,7 @@ use Rattle.stream_model.specs.Substreams.{Subs, Opening, substreams}
 use Rattle.stage_core.specs.Held.{Held, owing}
 use Rattle.stage_core.specs.Law.{Law}
 use Rattle.stage_core.specs.declared.phase.Phase.TheVariants.{New, Closed}
-use Rattle.chain_core.specs.Means.{Means}
+use Rattle.step_work.specs.Means.{Means}
 use Rattle.stage_sub.specs.declared.opening.OpenBy.TheVariants.{Before, Behind, Key}
 use Rattle.stage_sub.specs.Joined.{untag, joined_machine}
 use Rattle.stage_sub.specs.KeptSubs.{opening_of}

@@ -5,7 +5,7 @@ use Rattle.elem_core.specs.declared.why.Why.{Why}
 use Rattle.stream_model.specs.FanIn.{Tagged, tag}
 use Rattle.port_core.specs.declared.chain.ChainStep.TheVariants.{Go, Closed, Failed}
 use Rattle.port_core.specs.ListFunction.{ListFunction}
-use Rattle.chain_core.specs.Slots.{MayCall, SlotHolds}
+use Rattle.step_work.specs.Slots.{MayCall, SlotHolds}
 
 -- the end of a substream that took this list, by its list function: it adds this, or it had stopped; or it fails
 abbrev pub EndsSub : ListFunction → List Tree → Option Why → List Tree → Type 0

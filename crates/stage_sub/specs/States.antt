@@ -22,7 +22,7 @@ use Rattle.stage_core.specs.Row.{BothClosed}
 use Rattle.stage_core.specs.Turn.{TurnAt}
 use Rattle.stage_core.specs.declared.phase.Phase.{Phase}
 use Rattle.stage_core.specs.declared.phase.Phase.TheVariants.{New, Open, Closed}
-use Rattle.chain_core.specs.Means.{Means}
+use Rattle.step_work.specs.Means.{Means}
 use Rattle.stage_sub.specs.KeptSubs.{KeptSubs, opening_of, Keeps, MayCallKept}
 use Rattle.stage_sub.specs.Joined.{joined_machine}
 use Rattle.stage_sub.specs.Moves.{noted, port_in, first_output, arising}

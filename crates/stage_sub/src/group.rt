@@ -2,15 +2,15 @@ ghost use Rattle.std.specs.Prelude.{◌≡◌, ◌<◌, ◌+◌, ◌++◌, ◌�
 ghost use Rattle.elem_core.specs.Tree.{Tree};
 ghost use Rattle.elem_core.specs.declared.why.Why.{Why};
 ghost use Rattle.port_core.specs.ListFunction.{ListFunction, Same};
-ghost use Rattle.chain_core.specs.Slots.{SlotHolds, Fed, Begun};
+ghost use Rattle.step_work.specs.Slots.{SlotHolds, Fed, Begun};
 ghost use Rattle.stage_sub.specs.Groups.{MayCallAll};
 
-use chain_core::slot::{begin_slot, feed_slot};
 use elem_core::elem::Elem;
 use elem_core::elems::Elems;
 use elem_core::why::{NoMemory, Why};
 use port_core::chain::Chain;
 use std::alloc::Global;
+use step_work::slot::{begin_slot, feed_slot};
 
 /// One more element of the substream at place i.
 #[tactic(auto, using(crate::proofs::Groups::may_at, crate::proofs::Groups::may_set))]

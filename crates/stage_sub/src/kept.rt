@@ -4,7 +4,7 @@ ghost use Rattle.stream_model.specs.Outlook.{End};
 ghost use Rattle.stream_model.specs.Machine.{Given};
 ghost use Rattle.stream_model.specs.Substreams.{Sub, end_all};
 ghost use Rattle.port_core.specs.ListFunction.{ListFunction, Same};
-ghost use Rattle.chain_core.specs.Means.{Means};
+ghost use Rattle.step_work.specs.Means.{Means};
 ghost use Rattle.stage_sub.specs.Subs.{SubsReach};
 ghost use Rattle.stage_sub.specs.KeptSubs.{MayCallKept, Keeps, TakesBy};
 

@@ -5,7 +5,6 @@ ghost use Rattle.stage_sub.specs.Splits.{MayCallLast, LastTook, LastEnds, LastOp
 
 use crate::outputs::Outputs;
 use crate::scratch::clear;
-use chain_core::slot::{begin_slot, end_chain, feed_slot};
 use elem_core::count::one_more_small;
 use elem_core::elem::Elem;
 use elem_core::elems::Elems;
@@ -13,6 +12,7 @@ use elem_core::why::{NoMemory, Why};
 use port_core::chain::Chain;
 use std::alloc::Global;
 use std::marker::Model;
+use step_work::slot::{begin_slot, end_chain, feed_slot};
 
 /// The last substream of a stage that splits; all before it have ended.
 #[derive(Drop)]

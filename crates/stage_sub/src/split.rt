@@ -4,7 +4,7 @@ ghost use Rattle.stream_model.specs.Outlook.{End};
 ghost use Rattle.stream_model.specs.Machine.{Given};
 ghost use Rattle.stream_model.specs.Substreams.{Sub, before, behind, end_all, opened};
 ghost use Rattle.port_core.specs.ListFunction.{ListFunction, Same};
-ghost use Rattle.chain_core.specs.Means.{Means};
+ghost use Rattle.step_work.specs.Means.{Means};
 ghost use Rattle.stage_sub.specs.Splits.{MayCallLast};
 ghost use Rattle.stage_sub.specs.Subs.{grown, Split, SubsBecome, SubsTake};
 

@@ -6,7 +6,7 @@ ghost use Rattle.stream_model.specs.Outlook.{End};
 ghost use Rattle.stream_model.specs.Machine.{Given};
 ghost use Rattle.stream_model.specs.Substreams.{Sub, end_all};
 ghost use Rattle.stage_core.specs.declared.phase.Phase.TheVariants.{Open, Closed};
-ghost use Rattle.chain_core.specs.Means.{Means};
+ghost use Rattle.step_work.specs.Means.{Means};
 ghost use Rattle.stage_sub.specs.Subs.{SubsReach};
 ghost use Rattle.stage_sub.specs.KeptSubs.{Keeps, TakesBy};
 ghost use Rattle.stage_sub.specs.Moves.{port_in, first_output};

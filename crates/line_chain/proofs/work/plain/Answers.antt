@@ -1,4 +1,4 @@
-use Rattle.stage_linear.specs.Tasks as tasks
+use Rattle.step_work.specs.Tasks as tasks
 use Rattle.line_chain.specs.Line.{no_plugs}
 use Rattle.line_chain.proofs.Replies.{replies}
 use Rattle.line_chain.proofs.work.plain.Goals as goal

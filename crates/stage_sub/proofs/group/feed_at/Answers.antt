@@ -1,5 +1,5 @@
 use Rattle.std.proofs.Common.{refl, sym, ◌∙◌, subst}
-use Rattle.chain_core.specs.Slots.{MayCall, SlotHolds}
+use Rattle.step_work.specs.Slots.{MayCall, SlotHolds}
 use Rattle.stage_sub.proofs.Groups.{may_at, got, is_there}
 use Rattle.stage_sub.proofs.group.feed_at.Goals as goal
 

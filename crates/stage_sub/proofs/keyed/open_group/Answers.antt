@@ -5,7 +5,7 @@ use Rattle.elem_core.specs.Tree.{Tree}
 use Rattle.elem_core.specs.Order.{tree_cmp}
 use Rattle.stream_model.specs.FanIn.{tag}
 use Rattle.stage_sub.specs.Groups.{Within}
-use Rattle.chain_core.specs.Slots.{Begun}
+use Rattle.step_work.specs.Slots.{Begun}
 use Rattle.stage_sub.specs.Places.{place_at}
 use Rattle.stage_sub.proofs.Keying.{open_some_exit, open_none_exit, within_new}
 use Rattle.stage_sub.proofs.keyed.open_group.Goals as goal

@@ -1,5 +1,5 @@
 use Rattle.std.proofs.Common.{sym, subst, ◌∙◌}
-use Rattle.chain_core.specs.Slots.{MayCall}
+use Rattle.step_work.specs.Slots.{MayCall}
 use Rattle.stage_sub.proofs.Groups.{may_at, is_there}
 use Rattle.stage_sub.proofs.keyed.take_slot.Goals as goal
 

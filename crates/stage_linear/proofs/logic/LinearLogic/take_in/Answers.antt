@@ -3,7 +3,7 @@ use Rattle.std.proofs.Common.{◌≡◌, ◌∙◌, ap, subst}
 use Rattle.port_core.specs.ActList.{ActList}
 use Rattle.stage_linear.specs.Workers.{work_by, ready_by}
 use Rattle.stage_linear.specs.States.{Logic}
-use Rattle.stage_linear.specs.Tasks.{outcome_of}
+use Rattle.step_work.specs.Tasks.{outcome_of}
 use Rattle.stage_linear.specs.Outcomes.{working, answer_acts, CameTo}
 use Rattle.stage_linear.specs.Pending.{outputs_in}
 use Rattle.stage_linear.proofs.Workers.{stays_on}

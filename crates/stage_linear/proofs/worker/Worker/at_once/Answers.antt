@@ -1,4 +1,4 @@
-use Rattle.stage_linear.specs.Tasks.{work_in}
+use Rattle.step_work.specs.Tasks.{work_in}
 use Rattle.stage_linear.proofs.Workers.{at_book_said}
 use Rattle.stage_linear.proofs.worker.Worker.at_once.Goals as goal
 

@@ -3,7 +3,7 @@ use Rattle.port_core.specs.ActList.{ActList}
 use Rattle.port_core.specs.Call.{Meets, arrives}
 use Rattle.elem_core.specs.declared.item.Item.TheVariants as item
 use Rattle.stage_core.specs.declared.phase.Phase.TheVariants.{Open}
-use Rattle.stage_keeping.specs.Keeping.{work_in}
+use Rattle.step_work.specs.Keeping.{work_in}
 use Rattle.stage_state.specs.States.{Logic, port_state, Turned}
 use Rattle.stage_state.specs.Outcomes.{working, answer_acts}
 use Rattle.stage_state.specs.contracts.keep.KeepLogic.{the_view}

@@ -2,7 +2,7 @@ use Rattle.std.proofs.Common.{rules, ◌≡◌, ◌++◌, map, List, [], None}
 use Rattle.elem_core.specs.Tree.{Tree}
 use Rattle.stream_model.specs.FanIn.{tag}
 use Rattle.port_core.specs.ListFunction.{ListFunction}
-use Rattle.chain_core.specs.Slots.{SlotHolds, Fed}
+use Rattle.step_work.specs.Slots.{SlotHolds, Fed}
 use Rattle.stage_sub.proofs.Lasts.{last_feeds}
 use Rattle.stage_sub.proofs.last.LastSubstream.feed.Goals as goal
 

@@ -5,7 +5,7 @@ use Rattle.stream_model.specs.Outlook.{End}
 use Rattle.stream_model.specs.Machine.{Given}
 use Rattle.stream_model.specs.Substreams.{Sub}
 use Rattle.port_core.specs.ListFunction.{ListFunction, Same}
-use Rattle.chain_core.specs.Means.{Means}
+use Rattle.step_work.specs.Means.{Means}
 use Rattle.stage_sub.specs.KeptSubs.{Keeps, TakesBy}
 use Rattle.stage_sub.specs.States.{Logic}
 use Rattle.stage_sub.proofs.state.SubState.take_in.Goals as goal

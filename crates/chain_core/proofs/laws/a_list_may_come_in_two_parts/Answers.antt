@@ -1,5 +1,0 @@
-use Rattle.chain_core.proofs.LineChains.{through_append}
-use Rattle.chain_core.proofs.laws.a_list_may_come_in_two_parts.Goals as goal
-
-pub returns : goal.returns
-returns c = through_append

@@ -122,28 +122,45 @@ module _ (g : Graph) (w : World) (k : ℕ) (d : Decider) (is : List InPort) (o :
         fan_moved ZipRests is o ri ro law.by.law.ins law.by.law.out_list law.by.law.out_end (law_flows (ZipKeeps (zipping.held l)) (InView_of is o) (gots_of is) (o.sent ∷ []) law.by) (one_list o.sent law.by.given law.by.gave_is ∙ law.by.law.gave_is)
         (zip_rests is o ri ro so (none_left is l (ap (λ (v : port.View). v.ins) at.0)) s) (logic_rests (logic.Zipping f) (logic.Zipping l) (InView_of is o) (gots_of is) (o.sent ∷ []) r.started r.ports law)
 
+    -- one with two inputs
+    sorted_moved : (l : Pairing) → Views is ≡ inlet_view l.left ∷ inlet_view l.right ∷ [] → EachPort InStands is → OutStands o → SortedRests (map own_in is) (own_out o) → SortedRests (Wires is) o.wire
+    sorted_moved l at s so h = two is ri s (none_left is l at) h
+      where
+        two : (js : List InPort) → EachPort InRests js → EachPort InStands js → EachPort (λ i. i.view ≢ Cancelled) js → SortedRests (map own_in js) (own_out o) → SortedRests (Wires js) o.wire
+        two [] r s ne h = absurd h
+        two (i ∷ []) r s ne h = absurd h
+        two (i ∷ j ∷ []) r s ne h = sorted_rests i j o r ro so ne s h
+        two (i ∷ j ∷ k ∷ js) r s ne h = absurd h
+
+    sorted_stays : (f l : Pairing) (p : Phase) → l.phase ≡ p → Row (logic.Sorting l) → port_state_by sorted.Sound p l (InView_of is o) → Law (logic.Sorting f) (logic.Sorting l) → EachPort InStands is → OutStands o
+        → (EachWire IsShut (Wires is) × EachWire IsShut (o.wire ∷ [])) ⊎ SortedRests (Wires is) o.wire
+    sorted_stays f l New e r at law s so = absurd (r.started e)
+    sorted_stays f l Closed e r at law s so = inl (all_closed is ri at.0, (ro.shut at.1, tt))
+    sorted_stays f l Open e r at law s so =
+        fan_moved SortedRests is o ri ro law.by.law.ins law.by.law.out_list law.by.law.out_end (law_flows (FanKeeps sorting sorted.nowhere (sorted.held l)) (InView_of is o) (gots_of is) (o.sent ∷ []) law.by) (one_list o.sent law.by.given law.by.gave_is ∙ law.by.law.gave_is)
+        (sorted_moved l (ap (λ (v : port.View). v.ins) at.0) s so) (logic_rests (logic.Sorting f) (logic.Sorting l) (InView_of is o) (gots_of is) (o.sent ∷ []) r.started r.ports law)
+
     taking_stays : (f l : taking.Taking) (P : List picture.SeenWire → picture.SeenWire → Type 0) → TakingRests l.segment ≡ P → Row (logic.Taking l) → Law (logic.Taking f) (logic.Taking l) → (P (map own_in is) (own_out o) → P (Wires is) o.wire)
         → (EachWire IsShut (Wires is) × EachWire IsShut (o.wire ∷ [])) ⊎ P (Wires is) o.wire
     taking_stays f l P by r law move =
         fan_moved P is o ri ro law.by.law.ins law.by.law.out_list law.by.law.out_end (law_flows (FanKeeps (taking_by f.segment) (taking.place_of f) (taking.held l)) (InView_of is o) (gots_of is) (o.sent ∷ []) law.by) (one_list o.sent law.by.given law.by.gave_is ∙ law.by.law.gave_is)
         move (subst (λ (Q : List picture.SeenWire → picture.SeenWire → Type 0). FanRests Q (InView_of is o) law.by.law.ins law.by.law.out_list) by (logic_rests (logic.Taking f) (logic.Taking l) (InView_of is o) (gots_of is) (o.sent ∷ []) r.started r.ports law))
 
-    stays_by : (kd : Kind) (first now : InLogic) → TakesAs kd first → Row now → Law first now → EachPort InStands is → OutStands o → Stays kd
-    stays_by (Concat n) (logic.Taking f) (logic.Taking l) t r law s so = taking_stays f l ConcatRests (ap TakingRests (law.same ∙ t.0)) r law (concat_rests is o ri ro)
-    stays_by (Interleave n c) (logic.Taking f) (logic.Taking l) t r law s so = taking_stays f l InterleaveRests (ap TakingRests (law.same ∙ t.0)) r law (interleave_rests is o ri ro)
-    stays_by MergeSorted (logic.Sorting f) (logic.Sorting l) t r law s so =
-        fan_moved SortedRests is o ri ro law.by.law.ins law.by.law.out_list law.by.law.out_end (law_flows (FanKeeps sorting sorted.nowhere (sorted.held l)) (InView_of is o) (gots_of is) (o.sent ∷ []) law.by) (one_list o.sent law.by.given law.by.gave_is ∙ law.by.law.gave_is)
-        (sorted_rests is o ri ro) (logic_rests (logic.Sorting f) (logic.Sorting l) (InView_of is o) (gots_of is) (o.sent ∷ []) r.started r.ports law)
-    stays_by Zip (logic.Zipping f) (logic.Zipping l) t r law s so = zip_stays f l l.phase refl r r.ports law s so
-    stays_by (Merge n) (logic.Merging f) (logic.Merging l) t r law s so =
-        fan_moved MergeRests is o ri ro law.by.law.ins law.by.law.out_list law.by.law.out_end (law_flows (MergeKeeps (merging.held l)) (InView_of is o) (gots_of is) (o.sent ∷ []) law.by) (one_list o.sent law.by.given law.by.gave_is ∙ law.by.law.gave_is)
-        (merge_rests is o ri ro) (logic_rests (logic.Merging f) (logic.Merging l) (InView_of is o) (gots_of is) (o.sent ∷ []) r.started r.ports law)
-    stays_by (Concat n) (logic.Taking f) now t r law s so = absurd law.same
-    stays_by (Interleave n c) (logic.Taking f) now t r law s so = absurd law.same
-    stays_by MergeSorted (logic.Sorting f) now t r law s so = absurd law.same
-    stays_by Zip (logic.Zipping f) now t r law s so = absurd law.same
-    stays_by (Merge n) (logic.Merging f) now t r law s so = absurd law.same
-    stays_by kd first now t r law s so = absurd t
+    stays_by : (kd : Kind) (first now : InLogic) → TakesAs kd first → TellsMoves w k now → Row now → Law first now → EachPort InStands is → OutStands o → Stays kd
+    stays_by (Concat n) (logic.Taking f) (logic.Taking l) t tells r law s so = taking_stays f l ConcatRests (ap TakingRests (law.same ∙ t.0)) r law (concat_rests is o ri ro)
+    stays_by (Interleave n c) (logic.Taking f) (logic.Taking l) t tells r law s so = taking_stays f l InterleaveRests (ap TakingRests (law.same ∙ t.0)) r law (interleave_rests is o ri ro)
+    stays_by MergeSorted (logic.Sorting f) (logic.Sorting l) t tells r law s so = sorted_stays f l l.phase refl r r.ports law s so
+    stays_by Zip (logic.Zipping f) (logic.Zipping l) t tells r law s so = zip_stays f l l.phase refl r r.ports law s so
+    stays_by (Merge n) (logic.Merging f) (logic.Merging l) t tells r law s so =
+        subst (λ (ms : List ℕ). (EachWire IsShut (Wires is) × EachWire IsShut (o.wire ∷ [])) ⊎ MergeRests ms (Wires is) o.wire) (sym (tells l.log.moves refl))
+        (fan_moved (MergeRests l.log.moves) is o ri ro law.by.law.ins law.by.law.out_list law.by.law.out_end (law_flows (MergeKeeps (merging.held l)) (InView_of is o) (gots_of is) (o.sent ∷ []) law.by) (one_list o.sent law.by.given law.by.gave_is ∙ law.by.law.gave_is)
+        (merge_rests is o ri ro l.log.moves) (logic_rests (logic.Merging f) (logic.Merging l) (InView_of is o) (gots_of is) (o.sent ∷ []) r.started r.ports law))
+    stays_by (Concat n) (logic.Taking f) now t tells r law s so = absurd law.same
+    stays_by (Interleave n c) (logic.Taking f) now t tells r law s so = absurd law.same
+    stays_by MergeSorted (logic.Sorting f) now t tells r law s so = absurd law.same
+    stays_by Zip (logic.Zipping f) now t tells r law s so = absurd law.same
+    stays_by (Merge n) (logic.Merging f) now t tells r law s so = absurd law.same
+    stays_by kd first now t tells r law s so = absurd t
 
 no_sink : (kd : Kind) (first : InLogic) → TakesAs kd first → is_sink kd ≡ false
 no_sink (Concat n) (logic.Taking f) t = refl
@@ -160,6 +177,6 @@ module _ (g : Graph) (w : World) (k : ℕ) (n : graph.Node) where
   in_picture first now is (o ∷ p ∷ os) b tells r law = let more = law.by.gave_is in absurd cc
   in_picture first now is (o ∷ []) b tells r law = record {
     lawful = λ s so m. lawful_by g w k n.decider is o n.kind first now b.takes tells law s so.0 m;
-    rests = λ s so ri ro. stays_by g w k n.decider is o ri ro.0 n.kind first now b.takes r law s so.0;
+    rests = λ s so ri ro. stays_by g w k n.decider is o ri ro.0 n.kind first now b.takes tells r law s so.0;
     matches = λ sink ri. let no = no_sink n.kind first b.takes in let z : true ≡ false = sym sink ∙ no in absurd cc;
   }

@@ -1,9 +1,8 @@
 -- A merge in a picture: it gave an element for each of its moves, and of each input at most one more is asked for than its moves took there.
-use Rattle.std.specs.Prelude.{slice_get, slice_set, slice_index_or, cond, ◌==◌}
+use Rattle.std.specs.Prelude.{slice_index_or, cond, ◌==◌}
 use Rattle.std.proofs.Common.{◌≡◌, ℕ, zero, suc, ◌+◌, ◌<◌, ◌≤◌, ◌⊎◌, inl, inr, Bool, true, false, List, [], ◌∷◌, length, get_or, refl, sym, ap, subst, ◌∙◌, arith}
-use Rattle.std.proofs.lemmas.Bool.{cases_eq}
-use Rattle.std.proofs.lemmas.List.{length-map, get_or-set_same, get_or-set_other}
-use Rattle.std.proofs.lemmas.List.Sums.{sum_by-cons, sum_by-append}
+use Rattle.std.proofs.lemmas.List.{length-map}
+use Rattle.std.proofs.lemmas.List.Sums.{sum_by-append}
 use Rattle.elem_core.specs.Prefix.{IsPrefix}
 use Rattle.elem_core.specs.Tree.{Tree}
 use Rattle.elem_core.specs.Items.{elements}
@@ -14,10 +13,10 @@ use Rattle.port_core.specs.declared.view.InView.{InView}
 use Rattle.port_core.specs.declared.view.InView.TheVariants.{Pulled, Cancelled}
 use Rattle.stream_model.specs.FanIn.{Tagged, Inflow, merge_of, Finds}
 use Rattle.stream_model.specs.Picks.{count_of, MergeStands}
-use Rattle.stream_model.proofs.Fitting.{at_get, yes_one, no_one, count_le}
+use Rattle.stream_model.proofs.Fitting.{count_le}
 use Rattle.stream_model.proofs.MergeTraces.{length-merge_of}
 use Rattle.stream_model.specs.Lawful.{MergeLawful, MergeInputs}
-use Rattle.stage_core.specs.Merges.{MergeKeeps, Merged, lists_of, left_at, left_by}
+use Rattle.stage_core.specs.Merges.{MergeKeeps, Merged, lists_of, left_by}
 use Rattle.stage_core.proofs.MergeTurns.{merge_history_stands}
 use Rattle.stage_core.specs.declared.phase.Phase.{Phase}
 use Rattle.stage_core.specs.declared.phase.Phase.TheVariants.{New, Open, Closed}
@@ -25,6 +24,7 @@ use Rattle.stage_merge.specs.declared.merging.Queued.{Queued}
 use Rattle.stage_merge.specs.Mergings as merging
 use Rattle.stage_merge.specs.Mergings.{Merging, of_port, waiting, input_view, places}
 use Rattle.stage_merge.proofs.MergeNodes.{moves_held}
+use Rattle.stage_merge.proofs.MergeRests.{count_left}
 use Rattle.stage_in.specs.declared.logic.InLogic.{InLogic}
 use Rattle.stage_in.specs.declared.logic.InLogic.TheVariants as logic
 use Rattle.stage_in.specs.Logics.{InPortState, InLaw}
@@ -40,30 +40,7 @@ use Rattle.run_laws.proofs.InRows.{InView_of, InMoments, one_list, some_or_none}
 
 -- ---- how many moves an input has
 
--- as many as went out of what came there
-count_left : (moves : List ℕ) (ls : List (List Tree)) (n : ℕ) → Finds moves ls → count_of n moves + length (get_or (left_by moves ls) n []) ≡ length (get_or ls n [])
-count_left [] ls n f = omega arith
-count_left (i ∷ is) ls n f = by_place (cases_eq i n) (count_left is (slice_set ls i f.1) n f.3)
-  where
-    there : (i < length ls) × (get_or ls i [] ≡ f.0 ∷ f.1)
-    there = at_get ls i (f.0 ∷ f.1) [] f.2
-
-    step : count_of n (i ∷ is) ≡ cond (i == n) 1 0 + count_of n is
-    step = sum_by-cons (λ j. cond (j == n) 1 0) i is
-
-    by_place : (i ≡ n) ⊎ (i ≡ n → ⊥) → count_of n is + length (get_or (left_by is (slice_set ls i f.1)) n []) ≡ length (get_or (slice_set ls i f.1) n [])
-        → count_of n (i ∷ is) + length (get_or (left_by is (left_at i ls (slice_get ls i))) n []) ≡ length (get_or ls n [])
-    by_place (inl e) h =
-        let new : get_or (slice_set ls i f.1) n [] ≡ f.1 = ap (λ k. get_or (slice_set ls i f.1) k []) (sym e) ∙ get_or-set_same ls i f.1 [] there.0 in
-        let old : get_or ls n [] ≡ f.0 ∷ f.1 = ap (λ k. get_or ls k []) (sym e) ∙ there.1 in
-        let one = yes_one i n e in
-        rw (f.2, old) (let g : count_of n is + length (get_or (left_by is (slice_set ls i f.1)) n []) ≡ length f.1 = rw new at h in omega (arith, step, one, g))
-    by_place (inr e) h =
-        let new : get_or (slice_set ls i f.1) n [] ≡ get_or ls n [] = get_or-set_other ls i n f.1 [] (λ k. e (sym k)) in
-        let none = no_one i n e in
-        rw f.2 (let g : count_of n is + length (get_or (left_by is (slice_set ls i f.1)) n []) ≡ length (get_or ls n []) = rw new at h in omega (arith, step, none, g))
-
--- it only grows
+-- they only grow
 count_prefix : (n : ℕ) (a b : List ℕ) → IsPrefix a b → count_of n a ≤ count_of n b
 count_prefix n a b p =
     let all = ap (count_of n) p.is in

@@ -6,6 +6,7 @@ use Rattle.port_core.specs.declared.view.InView.TheVariants.{Idle, Pulled, Finis
 use Rattle.port_core.specs.declared.view.OutView.{OutView}
 use Rattle.port_core.specs.declared.view.OutView.TheVariants as outlet
 use Rattle.elem_core.specs.Items.{elements}
+use Rattle.stream_model.specs.Picks.{count_of}
 use Rattle.stream_model.specs.View.{EachWire, SomeWire}
 use Rattle.stream_model.specs.View as picture
 use Rattle.stream_model.specs.Rests.{
@@ -21,9 +22,13 @@ use Rattle.stream_model.specs.Rests.{
   OneWaits,
   IsOrLane,
   ZipInput,
+  MergeInput,
+  MergeWaits,
   MergeRests,
   ConcatRests,
   InterleaveRests,
+  SortedInput,
+  SortedStands,
   SortedRests,
   ZipRests,
   BroadcastRests,
@@ -167,13 +172,23 @@ module _ (is : List InPort) (o : OutPort) (r : EachPort InRests is) (ro : OutRes
   waits_or_shut i q (inl h) = inl (waits i q h)
   waits_or_shut i q (inr h) = inr (shuts i q h)
 
-  pub merge_rests : MergeRests (map own_in is) (own_out o) → MergeRests (map (λ (i : InPort). i.wire) is) o.wire
-  merge_rests (inl h) = inl (asked o ro h.0, some Waits Waits waits is r h.1, each (λ i. Waits i ⊎ IsShut i) (λ i. Waits i ⊎ IsShut i) waits_or_shut is r h.2)
-  merge_rests (inr h) = inr (unasked o ro h.0, each WaitsIdlesOrShut WaitsIdlesOrShut any is r h.1)
+  merge_input : (taken : ℕ) (i : InPort) → InRests i → MergeInput taken (own_in i) → MergeInput taken i.wire
+  merge_input taken i q (inl h) = inl (waits i q h)
+  merge_input taken i q (inr (inl h)) = inr (inl (shuts i q h))
+  merge_input taken i q (inr (inr (inl h))) = absurd cc
+  merge_input taken i q (inr (inr (inr h))) = elim (idle_sent i q h.0) [ inl l ↦ inr (inr (inl l)) | inr e ↦ inr (inr (inr (idles i q h.0, e ∙ h.1))) ]
 
-  pub sorted_rests : SortedRests (map own_in is) (own_out o) → SortedRests (map (λ (i : InPort). i.wire) is) o.wire
-  sorted_rests (inl h) = inl (asked o ro h.0, some Waits Waits waits is r h.1)
-  sorted_rests (inr h) = inr (unasked o ro h.0, each WaitsIdlesOrShut WaitsIdlesOrShut any is r h.1)
+  merge_waits : (moves : List ℕ) (n : ℕ) (js : List InPort) → EachPort InRests js → MergeWaits moves n (map own_in js) → MergeWaits moves n (map (λ (i : InPort). i.wire) js)
+  merge_waits moves n [] q h = tt
+  merge_waits moves n (i ∷ js) q h = (merge_input (count_of n moves) i q.0 h.0, merge_waits moves (n + 1) js q.1 h.1)
+
+  pub merge_rests : (moves : List ℕ) → MergeRests moves (map own_in is) (own_out o) → MergeRests moves (map (λ (i : InPort). i.wire) is) o.wire
+  merge_rests moves (inl h) = inl (asked o ro h.0, some Waits Waits waits is r h.1, each (λ i. Waits i ⊎ IsShut i) (λ i. Waits i ⊎ IsShut i) waits_or_shut is r h.2)
+  merge_rests moves (inr h) = inr (unasked o ro h.0, merge_waits moves 0 is r h.1)
+
+  sorted_stands : SortedStands (map own_in is) (own_out o) → SortedStands (map (λ (i : InPort). i.wire) is) o.wire
+  sorted_stands (inl h) = inl (asked o ro h.0, some Waits Waits waits is r h.1)
+  sorted_stands (inr h) = inr (unasked o ro h.0, each WaitsIdlesOrShut WaitsIdlesOrShut any is r h.1)
 
   -- what an input was sent, beyond what it waits for
   open_or_lane : (n : ℕ) → (i : InPort) → i.view ≢ Cancelled → InStands i → InRests i → IdlesOrShut (own_in i) → IsOrLane (own_in i) n → IsOrLane i.wire n
@@ -212,6 +227,43 @@ module _ (is : List InPort) (o : OutPort) (r : EachPort InRests is) (ro : OutRes
           → (IsAsked o.wire × SomeWire (λ i. Waits i × (i.sent ≡ o.wire.sent)) (map (λ (i : InPort). i.wire) is)) ⊎ IsUnasked o.wire
       by (inl x) = inl (asked o ro x.0, some (λ i. Waits i × (i.sent ≡ elements o.sent)) (λ i. Waits i × (i.sent ≡ o.wire.sent)) (zip_waits o.wire.sent so.count) is r x.1)
       by (inr x) = inr (unasked o ro x)
+
+-- what an input was sent that its node has not cancelled
+sent_or_lane : (i : InPort) (x : InView) → i.view ≡ x → x ≢ Cancelled → InRests i → IsLane i.wire ⊎ (i.wire.sent ≡ elements i.got)
+sent_or_lane i Pulled e ne q = inr (q.waits e).1
+sent_or_lane i Idle e ne q = elim (q.idles e) [ inl l ↦ inl l | inr o ↦ inr o.1 ]
+sent_or_lane i Finished e ne q = q.over_sent e
+sent_or_lane i Cancelled e ne q = absurd (ne refl)
+
+sorted_input : (i : InPort) → InRests i → (h : ℕ) → SortedInput (own_in i) h → SortedInput i.wire h
+sorted_input i q h (inl w) = inl (waits i q w.0, w.1)
+sorted_input i q h (inr (inl w)) =
+    let one = w.2 in
+    elim (q.idles (idle_is i.view w.0 w.1)) [ inl l ↦ inr (inr (inr l, omega (arith, one))) | inr e ↦ inr (inl (e.0.0, e.0.1, w.2)) ]
+sorted_input i q h (inr (inr w)) = inr (inr (by w.0, w.1))
+  where
+    by : IsShut (own_in i) ⊎ IsLane (own_in i) → IsShut i.wire ⊎ IsLane i.wire
+    by (inl s) = inl (shuts i q s)
+    by (inr l) = absurd cc
+
+module _ (i j : InPort) (o : OutPort) (r : EachPort InRests (i ∷ j ∷ [])) (ro : OutRests o) where
+  pub sorted_rests : OutStands o → EachPort (λ i. i.view ≢ Cancelled) (i ∷ j ∷ []) → EachPort InStands (i ∷ j ∷ []) → SortedRests (own_in i ∷ own_in j ∷ []) (own_out o) → SortedRests (i.wire ∷ j.wire ∷ []) o.wire
+  sorted_rests so ne s h =
+      let came = s.0.came in
+      let brought = s.1.0.came in
+      let count = so.count in
+      let few = h.1.4 in (
+        sorted_stands (i ∷ j ∷ []) o r ro h.0,
+        (h.1.0, h.1.1, sorted_input i r.0 h.1.0 h.1.2, sorted_input j r.1.0 h.1.1 h.1.3, omega (arith, came, brought, count, few), by h.1.5 (sent_or_lane i i.view refl ne.0 r.0) (sent_or_lane j j.view refl ne.1.0 r.1.0)),
+      )
+    where
+      by : IsLane (own_in i) ⊎ IsLane (own_in j) ⊎ (elements i.got + elements j.got ≡ elements o.sent + (h.1.0 + h.1.1)) → IsLane i.wire ⊎ (i.wire.sent ≡ elements i.got) → IsLane j.wire ⊎ (j.wire.sent ≡ elements j.got)
+          → IsLane i.wire ⊎ IsLane j.wire ⊎ (i.wire.sent + j.wire.sent ≡ o.wire.sent + (h.1.0 + h.1.1))
+      by all (inl l) b = inl l
+      by all (inr a) (inl l) = inr (inl l)
+      by (inl l) (inr a) (inr b) = absurd cc
+      by (inr (inl l)) (inr a) (inr b) = absurd cc
+      by (inr (inr e)) (inr a) (inr b) = let count = so.count in inr (inr (omega (arith, e, a, b, count)))
 
 module _ (i : InPort) (os : List OutPort) (s : InStands i) (r : InRests i) (ss : EachPort OutStands os) (ro : EachPort OutRests os) where
   open_asked : (o : OutPort) → OutStands o → OutRests o → IsShut (own_out o) ⊎ IsAsked (own_out o) → IsShut o.wire ⊎ IsAsked o.wire

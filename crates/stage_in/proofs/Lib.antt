@@ -8,6 +8,7 @@ pub mod Takes
 pub mod OnOks
 pub mod Zips
 pub mod Sorts
+pub mod SortedCounts
 pub mod Rests
 pub mod Histories
 pub mod Nodes

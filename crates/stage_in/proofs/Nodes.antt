@@ -120,7 +120,8 @@ rests_of P Sound l v ins g Closed e s r long at = closed_rests P v ins g r
 pub logic_rests : (first now : InLogic) (v : View) (took gave : List (List Item)) → IsStarted now → port_state now v → (law : InLaw first now v took gave) → FanRests (KindRests now) v law.by.law.ins law.by.law.out_list
 logic_rests (logic.Taking f) (logic.Taking l) v took gave s r law = taking_rests l v law.by.law.ins law.by.law.out_list r law.by.law.ports
 logic_rests (logic.Sorting f) (logic.Sorting l) v took gave s r law =
-    rests_of SortedRests sorted.Sound l v law.by.law.ins law.by.law.out_list l.phase refl s r law.by.law.ports (λ a b is e. sorting_rests l v a b law.by.law.out_list e r)
+    rests_of SortedRests sorted.Sound l v law.by.law.ins law.by.law.out_list l.phase refl s r law.by.law.ports
+    (λ a b is e. sorting_rests l v a b law.by.law.out_list law.by.law.out_end e r (subst (λ fs. FanKeeps sorting sorted.nowhere (sorted.held l) fs law.by.law.out_list law.by.law.out_end) is law.by.law.keeps))
 logic_rests (logic.Zipping f) (logic.Zipping l) v took gave s r law =
     rests_of ZipRests zipping.Sound l v law.by.law.ins law.by.law.out_list l.phase refl s r law.by.law.ports
     (λ a b is e. zipping_rests l v a b law.by.law.out_list law.by.law.out_end e r (subst (λ fs. ZipKeeps (zipping.held l) fs law.by.law.out_list law.by.law.out_end) is law.by.law.keeps))

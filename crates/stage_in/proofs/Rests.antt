@@ -7,11 +7,13 @@ use Rattle.port_core.specs.View as port
 use Rattle.stream_model.specs.Outlook.{End}
 use Rattle.stream_model.specs.FanIn.{Inflow, pairs}
 use Rattle.stream_model.specs.View.{EachWire}
-use Rattle.stream_model.specs.Rests.{IdlesOrShut, WaitsIdlesOrShut, FirstOpenWaits, OneWaits, SortedRests, ZipRests}
+use Rattle.stream_model.specs.Rests.{IdlesOrShut, WaitsIdlesOrShut, FirstOpenWaits, OneWaits, SortedInput, SortedStands, SortedRests, ZipRests}
 use Rattle.stage_core.specs.Zips.{ZipKeeps}
-use Rattle.stage_core.specs.OwnPorts.{own_input}
+use Rattle.stage_core.specs.Fans.{FanKeeps}
+use Rattle.stage_core.specs.OwnPorts.{own_input, own_output}
 use Rattle.stage_core.specs.declared.phase.Phase.TheVariants.{Open}
 use Rattle.stage_core.specs.Seats.{wish}
+use Rattle.stage_in.specs.Kinds.{sorting as sorting_order}
 use Rattle.stage_in.specs.Seats.{seat, seats}
 use Rattle.stage_in.specs.Pairings.{Pairing, inlet_view, pair_view, port_state_by}
 use Rattle.stage_in.specs.Sortings as sorting
@@ -23,6 +25,7 @@ use Rattle.stage_in.specs.OwnRows.{TakingRests}
 use Rattle.stage_core.proofs.Flags.{same, other}
 use Rattle.stage_core.proofs.Closings.{closed_rests}
 use Rattle.stage_in.proofs.Seats.{marked_before}
+use Rattle.stage_in.proofs.SortedCounts.{sorted_count}
 use Rattle.stage_in.proofs.Zips.{open_at, opened}
 
 -- ---- one input is asked, or none
@@ -97,21 +100,36 @@ inlet_idles None true l = inr (inr refl)
 inlet_idles (Some x) false l = inr (inl (inr (refl, refl)))
 inlet_idles (Some x) true l = inr (inr refl)
 
-sorted_parts : (h k : Option Tree) (o p q : Bool) (a b : Inflow) (g : List Tree) → sorting.Sound (open_at h k o p q) → FanRests SortedRests (pair_view (open_at h k o p q)) (a ∷ b ∷ []) g
-sorted_parts h k o p false a b g s = inr (inr ((refl, refl), (inlet_idles h o a.list, (inlet_idles k p b.list, tt))))
-sorted_parts None k false p true a b g s = inr (inl ((refl, refl), inl (refl, refl)))
-sorted_parts None None true false true a b g s = inr (inl ((refl, refl), inr (inl (refl, refl))))
+-- what waits of an input
+inlet_holds : (h : Option Tree) (o : Bool) (l : List Tree) → SortedInput (own_input (inlet_view (record { held = h; over = o })) l) (length (option_to_list h))
+inlet_holds None false l = inl ((refl, refl), refl)
+inlet_holds None true l = inr (inr (inl refl, omega arith))
+inlet_holds (Some x) false l = inr (inl (refl, refl, refl))
+inlet_holds (Some x) true l = inr (inr (inl refl, omega arith))
+
+sorted_parts : (h k : Option Tree) (o p q : Bool) (a b : Inflow) (g : List Tree) → sorting.Sound (open_at h k o p q)
+    → SortedStands (own_input (inlet_view (record { held = h; over = o })) a.list ∷ own_input (inlet_view (record { held = k; over = p })) b.list ∷ []) (own_output (wish q) g)
+sorted_parts h k o p false a b g s = inr ((refl, refl), (inlet_idles h o a.list, (inlet_idles k p b.list, tt)))
+sorted_parts None k false p true a b g s = inl ((refl, refl), inl (refl, refl))
+sorted_parts None None true false true a b g s = inl ((refl, refl), inr (inl (refl, refl)))
 sorted_parts None None true true true a b g s = let e = s.0 in cc
 sorted_parts None (Some y) true p true a b g s = let e = s.1 refl in cc
-sorted_parts (Some x) None o false true a b g s = inr (inl ((refl, refl), inr (inl (refl, refl))))
+sorted_parts (Some x) None o false true a b g s = inl ((refl, refl), inr (inl (refl, refl)))
 sorted_parts (Some x) None o true true a b g s = let e = s.1 refl in cc
 sorted_parts (Some x) (Some y) o p true a b g s = let e = s.1 refl in cc
 
-pub sorting_rests : (l : Pairing) (v : port.View) (a b : Inflow) (g : List Tree) → l.phase ≡ Open → sorting.port_state l v → FanRests SortedRests v (a ∷ b ∷ []) g
-sorting_rests l v a b g h r =
+sorted_open : (h k : Option Tree) (o p q : Bool) (a b : Inflow) (g : List Tree) → length a.list + length b.list ≡ length g + (length (option_to_list h) + length (option_to_list k)) → sorting.Sound (open_at h k o p q)
+    → FanRests SortedRests (pair_view (open_at h k o p q)) (a ∷ b ∷ []) g
+sorted_open h k o p q a b g count s =
+    inr (sorted_parts h k o p q a b g s, (length (option_to_list h), length (option_to_list k), inlet_holds h o a.list, inlet_holds k p b.list, omega (arith, count), inr (inr count)))
+
+pub sorting_rests : (l : Pairing) (v : port.View) (a b : Inflow) (g : List Tree) (f : End) → l.phase ≡ Open → sorting.port_state l v → FanKeeps sorting_order sorting.nowhere (sorting.held l) (a ∷ b ∷ []) g f → FanRests SortedRests v (a ∷ b ∷ []) g
+sorting_rests l v a b g f h r keeps =
     let s = subst (λ f. port_state_by sorting.Sound f l v) h r in
+    let open_keeps = subst (λ x. FanKeeps sorting_order sorting.nowhere (sorting.held_by x l) (a ∷ b ∷ []) g f) h keeps in
+    let count = sorted_count l a b g open_keeps.1 in
     subst (λ w. FanRests SortedRests w (a ∷ b ∷ []) g) (sym s.0)
-    (subst (λ x. sorting.Sound x → FanRests SortedRests (pair_view x) (a ∷ b ∷ []) g) (sym (opened l h)) (λ t. sorted_parts l.left.held l.right.held l.left.over l.right.over l.asked a b g t) s.1)
+    (subst (λ x. sorting.Sound x → FanRests SortedRests (pair_view x) (a ∷ b ∷ []) g) (sym (opened l h)) (λ t. sorted_open l.left.held l.right.held l.left.over l.right.over l.asked a b g count t) s.1)
 
 -- ---- zip
 

@@ -171,4 +171,4 @@ abbrev pub KindRests : InLogic → List SeenWire → SeenWire → Type 0
 KindRests (logic.Taking l) = TakingRests l.segment
 KindRests (logic.Sorting l) = SortedRests
 KindRests (logic.Zipping l) = ZipRests
-KindRests (logic.Merging l) = MergeRests
+KindRests (logic.Merging l) = MergeRests l.log.moves

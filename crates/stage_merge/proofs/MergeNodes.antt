@@ -56,8 +56,8 @@ called_fits l c v may r = by_phase l.core.phase r
 
 -- ---- between two calls
 
-pub logic_rests : (first now : Merging) (v : View) (took gave : List (List Item)) → MergePortState now v → (law : MergesAs first now v took gave) → FanRests MergeRests v law.by.law.ins law.by.law.out_list
-logic_rests first now v took gave r law = merge_rests now v law.by.law.ins law.by.law.out_list r.started r.ports law.by.law.ports
+pub logic_rests : (first now : Merging) (v : View) (took gave : List (List Item)) → MergePortState now v → (law : MergesAs first now v took gave) → FanRests (MergeRests now.log.moves) v law.by.law.ins law.by.law.out_list
+logic_rests first now v took gave r law = merge_rests now v law.by.law.ins law.by.law.out_list law.by.law.out_end r.started r.ports law.by.law.ports law.by.law.keeps
 
 -- ---- calls
 

@@ -1,32 +1,73 @@
 -- A merge that was started has nothing to do over its own ports; a new one may be started.
-use Rattle.std.specs.Prelude.{◌≢◌, ◌⊎◌, replicate}
-use Rattle.std.proofs.Common.{◌≡◌, ℕ, zero, suc, ◌+◌, ◌≤◌, inl, inr, Bool, true, false, List, [], ◌∷◌, length, refl, sym, ap, ◌∙◌, subst, arith}
-use Rattle.std.proofs.lemmas.List.{length-replicate}
+use Rattle.std.specs.Prelude.{◌≢◌, ◌⊎◌, replicate, slice_get, slice_set, cond, ◌==◌}
+use Rattle.std.proofs.Common.{◌≡◌, ℕ, zero, suc, ◌+◌, ◌<◌, ◌≤◌, inl, inr, Bool, true, false, List, [], ◌∷◌, length, get_or, refl, sym, ap, ◌∙◌, subst, arith}
+use Rattle.std.proofs.lemmas.Bool.{cases_eq}
+use Rattle.std.proofs.lemmas.List.{length-replicate, get_or-set_same, get_or-set_other}
+use Rattle.std.proofs.lemmas.List.Sums.{sum_by-cons}
 use Rattle.elem_core.specs.Tree.{Tree}
 use Rattle.port_core.specs.declared.view.OutView.TheVariants.{Unpulled}
 use Rattle.port_core.specs.View as port
-use Rattle.stream_model.specs.FanIn.{Inflow}
+use Rattle.stream_model.specs.FanIn.{Inflow, Finds}
+use Rattle.stream_model.specs.Outlook.{End}
+use Rattle.stream_model.specs.Picks.{count_of}
+use Rattle.stream_model.proofs.Fitting.{at_get, yes_one, no_one}
 use Rattle.stream_model.specs.View.{EachWire, SomeWire}
-use Rattle.stream_model.specs.Rests.{IsShut, Waits, WaitsIdlesOrShut, MergeRests}
+use Rattle.stream_model.specs.Rests.{IsShut, Waits, MergeInput, MergeWaits, MergeRests}
 use Rattle.stage_core.specs.Inflows.{nothing_came, untouched}
+use Rattle.stage_core.specs.Merges.{MergeKeeps, Merged, lists_of, left_at, left_by}
 use Rattle.stage_core.specs.OwnPorts.{own_input, own_output}
 use Rattle.stage_core.specs.declared.phase.Phase.{Phase}
 use Rattle.stage_core.specs.declared.phase.Phase.TheVariants.{New, Open, Closed}
 use Rattle.stage_merge.specs.declared.merging.Queued.{Queued}
 use Rattle.stage_core.specs.Seats.{wish}
 use Rattle.stage_core.specs.OwnRows.{own_inputs, FanRests}
-use Rattle.stage_merge.specs.Mergings.{Core, Merging, Begins, of_port, input_view, places, idles, waiting, open_count, Sound, Fresh, port_state_by, port_state}
+use Rattle.stage_merge.specs.Mergings.{Core, Merging, Begins, of_port, input_view, places, idles, waiting, open_count, Sound, Fresh, port_state_by, port_state, held_by, held}
 use Rattle.stage_core.proofs.Closings.{closed_rests}
 
-place_any : (b : Bool) (l u : List Tree) → WaitsIdlesOrShut (own_input (input_view b l) u)
-place_any true l u = inr (inr refl)
-place_any false [] u = inl (refl, refl)
-place_any false (t ∷ l) u = inr (inl (inr (refl, refl)))
+-- ---- how many moves an input has
 
-any_place : (n : ℕ) (bs : List Bool) (q : List Queued) (fs : List Inflow) → EachWire WaitsIdlesOrShut (own_inputs (places n bs q) fs)
-any_place n [] q fs = tt
-any_place n (b ∷ bs) q [] = tt
-any_place n (b ∷ bs) q (f ∷ fs) = (place_any b (of_port n q) f.list, any_place (n + 1) bs q fs)
+-- as many as went out of what came there
+pub count_left : (moves : List ℕ) (ls : List (List Tree)) (n : ℕ) → Finds moves ls → count_of n moves + length (get_or (left_by moves ls) n []) ≡ length (get_or ls n [])
+count_left [] ls n f = omega arith
+count_left (i ∷ is) ls n f = by_place (cases_eq i n) (count_left is (slice_set ls i f.1) n f.3)
+  where
+    there : (i < length ls) × (get_or ls i [] ≡ f.0 ∷ f.1)
+    there = at_get ls i (f.0 ∷ f.1) [] f.2
+
+    step : count_of n (i ∷ is) ≡ cond (i == n) 1 0 + count_of n is
+    step = sum_by-cons (λ j. cond (j == n) 1 0) i is
+
+    by_place : (i ≡ n) ⊎ (i ≡ n → ⊥) → count_of n is + length (get_or (left_by is (slice_set ls i f.1)) n []) ≡ length (get_or (slice_set ls i f.1) n [])
+        → count_of n (i ∷ is) + length (get_or (left_by is (left_at i ls (slice_get ls i))) n []) ≡ length (get_or ls n [])
+    by_place (inl e) h =
+        let new : get_or (slice_set ls i f.1) n [] ≡ f.1 = ap (λ k. get_or (slice_set ls i f.1) k []) (sym e) ∙ get_or-set_same ls i f.1 [] there.0 in
+        let old : get_or ls n [] ≡ f.0 ∷ f.1 = ap (λ k. get_or ls k []) (sym e) ∙ there.1 in
+        let one = yes_one i n e in
+        rw (f.2, old) (let g : count_of n is + length (get_or (left_by is (slice_set ls i f.1)) n []) ≡ length f.1 = rw new at h in omega (arith, step, one, g))
+    by_place (inr e) h =
+        let new : get_or (slice_set ls i f.1) n [] ≡ get_or ls n [] = get_or-set_other ls i n f.1 [] (λ k. e (sym k)) in
+        let none = no_one i n e in
+        rw f.2 (let g : count_of n is + length (get_or (left_by is (slice_set ls i f.1)) n []) ≡ length (get_or ls n []) = rw new at h in omega (arith, step, none, g))
+
+-- ---- what waits
+
+-- an input that is open and not asked has an element that its moves did not take
+place_waits : (taken : ℕ) (b : Bool) (l u : List Tree) → length l ≤ 1 → taken + length l ≡ length u → MergeInput taken (own_input (input_view b l) u)
+place_waits taken true l u one count = inr (inl refl)
+place_waits taken false [] u one count = inl (refl, refl)
+place_waits taken false (t ∷ l) u one count = inr (inr (inr (inr (refl, refl), omega (arith, one, count))))
+
+-- the inputs from number n on
+keep_places : (moves : List ℕ) (n : ℕ) (bs : List Bool) (q : List Queued) (fs : List Inflow) → ((k : ℕ) → length (of_port k q) ≤ 1) → ((k : ℕ) → count_of (n + k) moves + length (get_or (lists_of (waiting n bs q)) k []) ≡ length (get_or (lists_of fs) k []))
+    → MergeWaits moves n (own_inputs (places n bs q) fs)
+keep_places moves n [] q fs once count = tt
+keep_places moves n (b ∷ bs) q [] once count = tt
+keep_places moves n (b ∷ bs) q (f ∷ fs) once count =
+    let none : n + 0 ≡ n = omega arith in
+    let here : count_of n moves + length (of_port n q) ≡ length f.list = subst (λ (m : ℕ). count_of m moves + length (of_port n q) ≡ length f.list) none (count 0) in (
+      place_waits (count_of n moves) b (of_port n q) f.list (once n) here,
+      keep_places moves (n + 1) bs q fs once (λ k. let on : n + suc k ≡ (n + 1) + k = omega arith in subst (λ (m : ℕ). count_of m moves + length (get_or (lists_of (waiting (n + 1) bs q)) k []) ≡ length (get_or (lists_of fs) k [])) on (count (suc k))),
+    )
 
 all_wait : (n : ℕ) (bs : List Bool) (fs : List Inflow) → EachWire (λ i. Waits i ⊎ IsShut i) (own_inputs (places n bs []) fs)
 all_wait n [] fs = tt
@@ -40,10 +81,20 @@ some_wait n (b ∷ bs) [] h k = absurd (omega (arith, h))
 some_wait n (true ∷ bs) (f ∷ fs) h k = inr (some_wait (n + 1) bs fs (omega (arith, h)) k)
 some_wait n (false ∷ bs) (f ∷ fs) h k = inl (refl, refl)
 
-open_rests : (l : Core) (a : Bool) (ins : List Inflow) (g : List Tree) → l.asked ≡ a → Sound l → length ins ≡ length l.over
-    → MergeRests (own_inputs (places 0 l.over l.queue) ins) (own_output (wish a) g)
-open_rests l false ins g e s h = inr ((refl, refl), any_place 0 l.over l.queue ins)
-open_rests l true ins g e s h =
+all_places : (moves : List ℕ) (l : Core) (ins : List Inflow) (g : List Tree) → Sound l → Merged moves ins g (waiting 0 l.over l.queue) → MergeWaits moves 0 (own_inputs (places 0 l.over l.queue) ins)
+all_places moves l ins g s m = keep_places moves 0 l.over l.queue ins s.once count
+  where
+    count : (k : ℕ) → count_of (0 + k) moves + length (get_or (lists_of (waiting 0 l.over l.queue)) k []) ≡ length (get_or (lists_of ins) k [])
+    count k =
+        let none : 0 + k ≡ k = omega arith in
+        let here : count_of k moves + length (get_or (lists_of (waiting 0 l.over l.queue)) k []) ≡ length (get_or (lists_of ins) k []) =
+        subst (λ (ls : List (List Tree)). count_of k moves + length (get_or ls k []) ≡ length (get_or (lists_of ins) k [])) m.left (count_left moves (lists_of ins) k m.finds) in
+        subst (λ (j : ℕ). count_of j moves + length (get_or (lists_of (waiting 0 l.over l.queue)) k []) ≡ length (get_or (lists_of ins) k [])) (sym none) here
+
+open_rests : (moves : List ℕ) (l : Core) (a : Bool) (ins : List Inflow) (g : List Tree) → l.asked ≡ a → Sound l → length ins ≡ length l.over → Merged moves ins g (waiting 0 l.over l.queue)
+    → MergeRests moves (own_inputs (places 0 l.over l.queue) ins) (own_output (wish a) g)
+open_rests moves l false ins g e s h m = inr ((refl, refl), all_places moves l ins g s m)
+open_rests moves l true ins g e s h m =
     let q : l.queue ≡ [] = s.empty e in
     let c = s.count in
     let k = s.some q in
@@ -53,15 +104,16 @@ places_long : (n : ℕ) (bs : List Bool) (q : List Queued) → length (places n 
 places_long n [] q = refl
 places_long n (b ∷ bs) q = ap suc (places_long (n + 1) bs q)
 
-pub merge_rests : (l : Merging) (v : port.View) (ins : List Inflow) (g : List Tree) → l.core.phase ≢ New → port_state l v → length ins ≡ length v.ins → FanRests MergeRests v ins g
-merge_rests l v ins g n r h = by_phase l.core.phase refl r
+pub merge_rests : (l : Merging) (v : port.View) (ins : List Inflow) (g : List Tree) (end : End) → l.core.phase ≢ New → port_state l v → length ins ≡ length v.ins → MergeKeeps (held l) ins g end → FanRests (MergeRests l.log.moves) v ins g
+merge_rests l v ins g end n r h keeps = by_phase l.core.phase refl r
   where
-    by_phase : (f : Phase) → l.core.phase ≡ f → port_state_by f l.core v → FanRests MergeRests v ins g
+    by_phase : (f : Phase) → l.core.phase ≡ f → port_state_by f l.core v → FanRests (MergeRests l.log.moves) v ins g
     by_phase New e r = absurd (n e)
     by_phase Open e r =
         let long : length ins ≡ length l.core.over = h ∙ ap (λ (w : port.View). length w.ins) r.0 ∙ places_long 0 l.core.over l.core.queue in
-        subst (λ w. FanRests MergeRests w ins g) (sym r.0) (inr (open_rests l.core l.core.asked ins g refl r.1 long))
-    by_phase Closed e r = closed_rests MergeRests v ins g r
+        let open_keeps = subst (λ (x : Phase). MergeKeeps (held_by x l.log.moves l.core) ins g end) e keeps in
+        subst (λ w. FanRests (MergeRests l.log.moves) w ins g) (sym r.0) (inr (open_rests l.log.moves l.core l.core.asked ins g refl r.1 long open_keeps.1))
+    by_phase Closed e r = closed_rests (MergeRests l.log.moves) v ins g r
 
 all_open : (k : ℕ) → open_count (replicate k false) ≡ k
 all_open zero = refl

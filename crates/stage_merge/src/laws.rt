@@ -25,9 +25,10 @@ pub fn a_new_merge_may_start()
     ensures { (inputs : ℕ) (l : Merging) → 2 ≤ inputs → inputs ≤ MAX_FAN → Begins inputs l → MergeFresh l (unpulled_ins inputs) }
 {}
 
-/// Where its port state and its law hold, a merge that was started has closed all its ports, or has nothing to do.
+/// Where its port state and its law hold, a merge that was started has closed all its ports, or has nothing to do: where it is not asked,
+/// an element waits of each input that is open and that it does not ask.
 pub fn a_started_merge_rests()
-    ensures { (first now : Merging) (v : View) (took gave : List (List Item)) → MergePortState now v → (law : MergesAs first now v took gave) → FanRests MergeRests v law.by.law.ins law.by.law.out_list }
+    ensures { (first now : Merging) (v : View) (took gave : List (List Item)) → MergePortState now v → (law : MergesAs first now v took gave) → FanRests (MergeRests now.log.moves) v law.by.law.ins law.by.law.out_list }
 {}
 
 /// Where the port rules allow a call of a handler and the port state holds, a merge that was started is open, and the room that the

@@ -9,7 +9,7 @@ use Rattle.stream_model.specs.Graph.{Graph}
 use Rattle.stream_model.specs.Node.{World}
 use Rattle.stream_model.specs.OneWay.{OneWay, one_way}
 use Rattle.stream_model.specs.View.{SeenWire, SomeWire}
-use Rattle.stream_model.specs.Rests.{Waits, IsAsked, IsUnasked, FirstOpenWaits, OneWaits, OneToOne, ManyToOne, OneToMany, StageRests, BufferRests, DroppingRests, MergeRests, ConcatRests, InterleaveRests, SortedRests, ZipRests, BroadcastRests, BalanceRests, PartitionRests, SinkRests, SourceRests, RowRests, stage_rests, dropping_rests}
+use Rattle.stream_model.specs.Rests.{Waits, IsAsked, IsUnasked, FirstOpenWaits, OneWaits, OneToOne, ManyToOne, OneToMany, StageRests, BufferRests, DroppingRests, MergeRests, ConcatRests, InterleaveRests, SortedStands, SortedRests, ZipRests, BroadcastRests, BalanceRests, PartitionRests, SinkRests, SourceRests, RowRests, stage_rests, dropping_rests}
 
 -- some input waits, or some output is unasked
 abbrev pub Exit : List SeenWire → List SeenWire → Type 0
@@ -62,9 +62,9 @@ dropping_exit : (b : Bool) (i o : SeenWire) → DroppingRests b i o → Exit (i 
 dropping_exit b i o (inl h) = inl (inl h.0)
 dropping_exit b i o (inr h) = inr (inl h.1)
 
-merge_exit : (is : List SeenWire) (o : SeenWire) → MergeRests is o → Exit is (o ∷ [])
-merge_exit is o (inl h) = inl h.1
-merge_exit is o (inr h) = inr (inl h.0)
+merge_exit : (moves : List ℕ) (is : List SeenWire) (o : SeenWire) → MergeRests moves is o → Exit is (o ∷ [])
+merge_exit moves is o (inl h) = inl h.1
+merge_exit moves is o (inr h) = inr (inl h.0)
 
 concat_exit : (is : List SeenWire) (o : SeenWire) → ConcatRests is o → Exit is (o ∷ [])
 concat_exit is o (inl h) = inl (first_open is h.1)
@@ -74,9 +74,15 @@ interleave_exit : (is : List SeenWire) (o : SeenWire) → InterleaveRests is o �
 interleave_exit is o (inl h) = inl (one_waits is h.1)
 interleave_exit is o (inr h) = inr (inl h.0)
 
+sorted_stands : (is : List SeenWire) (o : SeenWire) → SortedStands is o → Exit is (o ∷ [])
+sorted_stands is o (inl h) = inl h.1
+sorted_stands is o (inr h) = inr (inl h.0)
+
 sorted_exit : (is : List SeenWire) (o : SeenWire) → SortedRests is o → Exit is (o ∷ [])
-sorted_exit is o (inl h) = inl h.1
-sorted_exit is o (inr h) = inr (inl h.0)
+sorted_exit [] o h = absurd h
+sorted_exit (a ∷ []) o h = absurd h
+sorted_exit (a ∷ b ∷ []) o h = sorted_stands (a ∷ b ∷ []) o h.0
+sorted_exit (a ∷ b ∷ c ∷ is) o h = absurd h
 
 zip_exit : (is : List SeenWire) (o : SeenWire) → ZipRests is o → Exit is (o ∷ [])
 zip_exit is o h = at h.1
@@ -123,7 +129,7 @@ module _ (g : Graph) (w : World) where
   row_exit node (Empty b) d is os h = source_exit is os h
   row_exit node (Failed b) d is os h = source_exit is os h
   row_exit node (Buffer n p) d is os h = any_buffer_exit node n p is os h
-  row_exit node (Merge n) d is os h = many_to_one MergeRests is os (merge_exit is) h
+  row_exit node (Merge n) d is os h = many_to_one (MergeRests (w.moves node)) is os (merge_exit (w.moves node) is) h
   row_exit node (Concat n) d is os h = many_to_one ConcatRests is os (concat_exit is) h
   row_exit node (Interleave n s) d is os h = many_to_one InterleaveRests is os (interleave_exit is) h
   row_exit node MergeSorted d is os h = many_to_one SortedRests is os (sorted_exit is) h

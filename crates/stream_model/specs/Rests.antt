@@ -9,7 +9,7 @@ use Rattle.stream_model.specs.declared.outcome.WireCount.{WireCount}
 use Rattle.stream_model.specs.Linear.{Role, reads_lines, gives_range, gives_nothing, gives_failure, works, trips, plugs_in, buffers, recovers, obeys, groups_by, splits_when, splits_after, merges, concats, interleaves, merges_sorted, zips, broadcasts, balances, partitions, unzips, sinks, role_of}
 use Rattle.stream_model.specs.Graph.{Graph, Node}
 use Rattle.stream_model.specs.Node.{World}
-use Rattle.stream_model.specs.Picks.{buffered, empty_buffer, nothing_held}
+use Rattle.stream_model.specs.Picks.{buffered, count_of, empty_buffer, nothing_held}
 use Rattle.stream_model.specs.OneWay.{OneWay, one_way_by, is_sink}
 use Rattle.stream_model.specs.View.{SeenWire, EachWire, SomeWire, ins, outs}
 
@@ -110,11 +110,20 @@ BufferRests n i o =
 abbrev pub DroppingRests : Bool → SeenWire → SeenWire → Type 0
 DroppingRests empty i o = (Waits i × (IsAsked o → empty ≡ true)) ⊎ (IsShut i × IsUnasked o)
 
--- a merge
-abbrev pub MergeRests : List SeenWire → SeenWire → Type 0
-MergeRests is o =
+-- an input of a merge, of which its moves took so many elements: one that is open and does not wait has one more, which waits in it
+abbrev pub MergeInput : ℕ → SeenWire → Type 0
+MergeInput taken v = Waits v ⊎ IsShut v ⊎ IsLane v ⊎ (Idles v × (v.sent ≡ taken + 1))
+
+-- its inputs from number n on
+abbrev pub MergeWaits : List ℕ → ℕ → List SeenWire → Type 0
+MergeWaits moves n [] = Unit {0}
+MergeWaits moves n (v ∷ vs) = MergeInput (count_of n moves) v × MergeWaits moves (n + 1) vs
+
+-- a merge, by its moves
+abbrev pub MergeRests : List ℕ → List SeenWire → SeenWire → Type 0
+MergeRests moves is o =
     (IsAsked o × SomeWire Waits is × EachWire (λ i. Waits i ⊎ IsShut i) is)
-    ⊎ (IsUnasked o × EachWire WaitsIdlesOrShut is)
+    ⊎ (IsUnasked o × MergeWaits moves 0 is)
 
 -- a concat
 abbrev pub ConcatRests : List SeenWire → SeenWire → Type 0
@@ -124,9 +133,26 @@ ConcatRests is o = (IsAsked o × FirstOpenWaits is) ⊎ (IsUnasked o × EachWire
 abbrev pub InterleaveRests : List SeenWire → SeenWire → Type 0
 InterleaveRests is o = (IsAsked o × OneWaits is) ⊎ (IsUnasked o × EachWire IdlesOrShut is)
 
+-- so many elements of an input wait in a merge_sorted: none where the input waits, one where it is open and does not, and one at most
+-- behind its end
+abbrev pub SortedInput : SeenWire → ℕ → Type 0
+SortedInput v h = (Waits v × (h ≡ 0)) ⊎ ((v.asked ≡ false) × (v.shut ≡ false) × (h ≡ 1)) ⊎ ((IsShut v ⊎ IsLane v) × (h ≤ 1))
+
+-- all that came on its two inputs went out, but for what waits
+abbrev pub SortedHolds : SeenWire → SeenWire → SeenWire → Type 0
+SortedHolds a b o =
+    (h : ℕ) × (k : ℕ) × SortedInput a h × SortedInput b k
+    × (o.sent + (h + k) ≤ a.sent + b.sent)
+    × (IsLane a ⊎ IsLane b ⊎ (a.sent + b.sent ≡ o.sent + (h + k)))
+
+-- an input waits where it is asked
+abbrev pub SortedStands : List SeenWire → SeenWire → Type 0
+SortedStands is o = (IsAsked o × SomeWire Waits is) ⊎ (IsUnasked o × EachWire WaitsIdlesOrShut is)
+
 -- a merge_sorted
 abbrev pub SortedRests : List SeenWire → SeenWire → Type 0
-SortedRests is o = (IsAsked o × SomeWire Waits is) ⊎ (IsUnasked o × EachWire WaitsIdlesOrShut is)
+SortedRests (a ∷ b ∷ []) o = SortedStands (a ∷ b ∷ []) o × SortedHolds a b o
+SortedRests _ o = ⊥
 
 -- a zip
 abbrev pub ZipRests : List SeenWire → SeenWire → Type 0
@@ -186,7 +212,7 @@ module _ (g : Graph) (w : World) where
   RoleRests node (groups_by n f chain) d is os = stage_rests (one_way_by g w node (groups_by n f chain) d) is os
   RoleRests node (splits_when p chain j) d is os = stage_rests (one_way_by g w node (splits_when p chain j) d) is os
   RoleRests node (splits_after p chain j) d is os = stage_rests (one_way_by g w node (splits_after p chain j) d) is os
-  RoleRests node (merges n) d is os = ManyToOne MergeRests is os
+  RoleRests node (merges n) d is os = ManyToOne (MergeRests (w.moves node)) is os
   RoleRests node (concats n) d is os = ManyToOne ConcatRests is os
   RoleRests node (interleaves n s) d is os = ManyToOne InterleaveRests is os
   RoleRests node merges_sorted d is os = ManyToOne SortedRests is os

@@ -9,11 +9,12 @@ use Rattle.elem_core.specs.declared.function.MapFn.{MapFn}
 use Rattle.elem_core.specs.declared.why.Why.{Why}
 use Rattle.elem_core.specs.declared.why.Cause.{Cause}
 use Rattle.elem_core.specs.declared.why.Decider.TheVariants.{Stop}
-use Rattle.stream_model.specs.Outlook.{ended}
+use Rattle.stream_model.specs.Outlook.{End, unended, ended, failed}
 use Rattle.stream_model.specs.Machine.{going, broken, is_going, Run, Machine, feed, run, close}
 use Rattle.stream_model.specs.Linear.{Book, Stage, numbering, linear, begin_work}
 use Rattle.stream_model.proofs.MachineLaws.{stays, run_behind}
 use Rattle.fused_net.proofs.Reading.{same_or_not}
+use Rattle.stage_core.specs.Law.{ends_by}
 use Rattle.stage_core.proofs.Flags.{same}
 
 -- a number modulo n is below n
@@ -69,6 +70,20 @@ module _ (book : Book) (node n : ℕ) (f : MapFn) where
     where
       by : (x : Run Stage Tree) → Numbered j x → length (close (machine j) x ended).list ≡ length x.gave
       by x (goes k e) = rw e (ap length (append-nil x.gave))
+      by x (fails c e) = rw e refl
+
+  -- and so does no end of its input
+  pub ends_same : (j : ℕ) (l : List Tree) (e : End) → length (ends_by (machine j) (run (machine j) (start j) l) e).gave ≡ length (run (machine j) (start j) l).gave
+  ends_same j l unended = refl
+  ends_same j l ended = by (run (machine j) (start j) l) (numbered 0 j [] l)
+    where
+      by : (x : Run Stage Tree) → Numbered j x → length (ends_by (machine j) x ended).gave ≡ length x.gave
+      by x (goes k e) = rw e (ap length (append-nil x.gave))
+      by x (fails c e) = rw e refl
+  ends_same j l (failed d) = by (run (machine j) (start j) l) (numbered 0 j [] l)
+    where
+      by : (x : Run Stage Tree) → Numbered j x → length (ends_by (machine j) x (failed d)).gave ≡ length x.gave
+      by x (goes k e) = rw e refl
       by x (fails c e) = rw e refl
 
   -- how many elements output j gives of a list

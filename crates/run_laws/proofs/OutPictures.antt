@@ -1,6 +1,6 @@
 -- The rows of a stage with several outputs in a picture, by its kind.
-use Rattle.std.specs.Prelude.{slice_get, slice_index_or, None, Some, Option, replicate}
-use Rattle.std.proofs.Common.{◌≡◌, ℕ, zero, suc, ◌+◌, ◌-◌, ◌≤◌, ◌⊎◌, inl, inr, Bool, true, false, List, [], ◌∷◌, map, length, take, refl, sym, ap, subst, ◌∙◌, arith}
+use Rattle.std.specs.Prelude.{slice_get, slice_index_or, None, Some, Option, replicate, if◌then◌else◌}
+use Rattle.std.proofs.Common.{◌≡◌, ℕ, zero, suc, ◌+◌, ◌-◌, ◌≤◌, ◌⊎◌, inl, inr, Bool, true, false, List, [], ◌∷◌, map, length, take, refl, sym, ap, subst, ◌∙◌, arith, length-append}
 use Rattle.std.proofs.lemmas.List.{length-map, length-replicate}
 use Rattle.elem_core.specs.Prefix.{IsPrefix}
 use Rattle.elem_core.proofs.Prefixes.{prefix_is_take, prefix_take_le, prefix_trans, prefix_refl}
@@ -10,30 +10,34 @@ use Rattle.elem_core.specs.declared.function.MapFn.{MapFn}
 use Rattle.elem_core.specs.declared.item.Item.{Item}
 use Rattle.elem_core.specs.declared.why.Decider.{Decider}
 use Rattle.port_core.specs.View as port
-use Rattle.port_core.specs.View.{in_at, unpulled_outs}
+use Rattle.port_core.specs.View.{in_at, out_at, unpulled_outs}
 use Rattle.port_core.specs.declared.view.InView.{InView}
 use Rattle.port_core.specs.declared.view.InView.TheVariants.{Idle, Pulled, Finished, Cancelled}
 use Rattle.port_core.specs.declared.view.OutView.{OutView}
 use Rattle.port_core.specs.declared.view.OutView.TheVariants.{Closed, Unpulled}
-use Rattle.stage_core.specs.Row.{OutClosed}
+use Rattle.stage_core.specs.Row.{InClosed, OutClosed}
 use Rattle.stream_model.specs.declared.kind.Kind.{Kind}
 use Rattle.stream_model.specs.declared.kind.Kind.TheVariants.{Broadcast, Partition, Unzip}
 use Rattle.stream_model.specs.Graph.{Graph}
 use Rattle.stream_model.specs.Graph as graph
-use Rattle.stream_model.specs.Linear.{Book}
+use Rattle.stream_model.specs.Linear.{Book, Stage}
+use Rattle.stream_model.specs.Machine.{Run, run}
 use Rattle.stream_model.specs.Node.{World}
 use Rattle.stream_model.specs.Outlook.{End}
 use Rattle.stream_model.specs.OneWay.{is_sink}
 use Rattle.stream_model.specs.View as picture
-use Rattle.stream_model.specs.View.{EachWire, demand, wanted, total}
+use Rattle.stream_model.specs.View.{EachWire, SomeWire, demand, wanted, total}
 use Rattle.stream_model.specs.Lawful.{RowLawful, most_wanted, BroadcastLawful, PartitionOutputs, PartitionLawful}
-use Rattle.stream_model.specs.Rests.{IsShut}
+use Rattle.stream_model.specs.Rests.{IsShut, IsLane, IsUnasked, IdlesOrShut, SomeOwed, PartitionRests, RowRests}
 use Rattle.stage_core.specs.Held.{told}
+use Rattle.stage_core.specs.Law.{Law, ends_by}
 use Rattle.stage_core.specs.Outs.{OutsLaw, owe}
 use Rattle.stage_core.specs.declared.outs.OutputState.{OutputState}
+use Rattle.stage_core.specs.declared.outs.OutputState.TheVariants.{Quiet, Asks, Gone}
+use Rattle.stage_core.proofs.Flags.{same}
 use Rattle.stage_out.specs.declared.machines.OutMachines.{OutMachines}
 use Rattle.stage_out.specs.declared.machines.OutMachines.TheVariants.{Copies, Deals}
-use Rattle.stage_core.specs.OpenOuts.{want_view, open_count, OneInClosed, asks_count}
+use Rattle.stage_core.specs.OpenOuts.{want_view, open_count, OneInClosed, OutsClosed, asks_count}
 use Rattle.stage_out.specs.Copies.{quiet_count, input_by}
 use Rattle.stage_out.specs.Copies as copies
 use Rattle.stage_out.specs.CopyStates.{CopyLogic, part_by}
@@ -41,12 +45,12 @@ use Rattle.stage_out.specs.CopyStates as copy
 use Rattle.stage_out.specs.Machines.{port_state, outlets, owed, rests_as, Begins, IsMachines, IsAlike, no_stage, copiers, number_starts, outputs_of}
 use Rattle.stage_out.specs.MachineNodes.{MachinesLaw}
 use Rattle.stage_out.specs.OwnRows.{own_ins, own_outs}
-use Rattle.stage_out.specs.PartitionStates.{PartitionLogic, Holding, input_of, dues, held_of, then_of}
+use Rattle.stage_out.specs.PartitionStates.{PartitionLogic, Holding, input_of, dues, held_for, held_of, then_of}
 use Rattle.stage_out.specs.PartitionStates as part
 use Rattle.stage_out.proofs.OutMachines.{copiers_are, length-owed, length-dues}
 use Rattle.stage_out.proofs.MachineNodes.{length-outlets, live_ports}
 use Rattle.stage_out.proofs.OutRests.{stage_rests, length-copiers}
-use Rattle.stage_out.proofs.Rests.{outlists}
+use Rattle.stage_out.proofs.Rests.{outlists, told_lists}
 use Rattle.run_laws.specs.Account.{AllBegin, Earlier}
 use Rattle.run_laws.specs.Items.{list_of}
 use Rattle.run_laws.specs.KindLaws.{Moments, PictureLaws}
@@ -54,7 +58,7 @@ use Rattle.run_laws.specs.Ports.{InPort, OutPort, EachPort, InStands, OutStands,
 use Rattle.run_laws.proofs.Coming.{elements_told}
 use Rattle.run_laws.proofs.Histories.{list_of_told, begun}
 use Rattle.run_laws.specs.Unmoved.{NoAsking, no_moves, never_ends}
-use Rattle.run_laws.proofs.Numberings.{count_all, all_counted}
+use Rattle.run_laws.proofs.Numberings.{machine, start, ends_same, count_all, all_counted}
 use Rattle.run_laws.proofs.OutLists.{OutsList, outs_list, Came, came_in, AllSent, all_sent, copiers_most, numbers_most, number_count}
 use Rattle.run_laws.proofs.OutRows.{OutWires, OutWants, Shuts, WantedOn, ShutOn, EvenList, even_list, copies_asked, copies_most, none_asked, AllDealt, all_dealt, DealtBefore, dealt_before, all_open, dealt_total, some_goes}
 use Rattle.run_laws.proofs.Transport.{own_in, own_out, each_out, shuts, out_shuts, broadcast_rests, partition_rests}
@@ -395,6 +399,122 @@ module _ (i : InPort) (os : List OutPort) (si : InStands i) (so : EachPort OutSt
         | inr h ↦ inr (law.rests (i.wire ∷ []) (OutWires os) (moved now (subst (λ (vs : List picture.SeenWire). rests_as now (own_in i ∷ []) vs) outs (subst (λ (vs : List picture.SeenWire). rests_as now vs (own_outs (map (λ (o : OutPort). o.view) os) s.0.lists)) ins h))))
       ]
 
+-- ---- a partition, where no event is left
+
+first_shown : (y z : OutView) (ys zs : List OutView) → y ∷ ys ≡ z ∷ zs → (y ≡ z) × (ys ≡ zs)
+first_shown y z ys zs e = (cc, cc)
+
+-- where none asks, each is shut or not asked, and an open one is there
+none_shown : (ws : List OutputState) (os : List OutPort) → EachPort OutRests os → map (λ (o : OutPort). o.view) os ≡ map want_view ws → asks_count ws ≡ 0 → EachWire (λ o. IsShut o ⊎ IsUnasked o) (OutWires os)
+none_shown ws [] ro e none = tt
+none_shown [] (o ∷ os) ro e none = cc
+none_shown (w ∷ ws) (o ∷ os) ro e none = by w (first_shown o.view (want_view w) (map (λ (o : OutPort). o.view) os) (map want_view ws) e) none
+  where
+    by : (w : OutputState) → (o.view ≡ want_view w) × (map (λ (o : OutPort). o.view) os ≡ map want_view ws) → asks_count (w ∷ ws) ≡ 0 → EachWire (λ o. IsShut o ⊎ IsUnasked o) (OutWires (o ∷ os))
+    by Quiet s none = (inr (ro.0.unasked s.0), none_shown ws os ro.1 s.1 none)
+    by Asks s none = absurd (omega (arith, none))
+    by Gone s none = (inl (ro.0.shut (subst OutClosed (sym s.0) tt)), none_shown ws os ro.1 s.1 none)
+
+some_shown : (ws : List OutputState) (os : List OutPort) → EachPort OutRests os → map (λ (o : OutPort). o.view) os ≡ map want_view ws → 1 ≤ open_count ws → asks_count ws ≡ 0 → SomeWire IsUnasked (OutWires os)
+some_shown [] os ro e some none = absurd (omega (arith, some))
+some_shown (w ∷ ws) [] ro e some none = cc
+some_shown (w ∷ ws) (o ∷ os) ro e some none = by w (first_shown o.view (want_view w) (map (λ (o : OutPort). o.view) os) (map want_view ws) e) some none
+  where
+    by : (w : OutputState) → (o.view ≡ want_view w) × (map (λ (o : OutPort). o.view) os ≡ map want_view ws) → 1 ≤ open_count (w ∷ ws) → asks_count (w ∷ ws) ≡ 0 → SomeWire IsUnasked (OutWires (o ∷ os))
+    by Quiet s some none = inl (ro.0.unasked s.0)
+    by Asks s some none = absurd (omega (arith, none))
+    by Gone s some none = inr (some_shown ws os ro.1 s.1 some none)
+
+outs_closed : (os : List OutPort) → EachPort OutRests os → OutsClosed (map (λ (o : OutPort). o.view) os) → EachWire IsShut (OutWires os)
+outs_closed [] ro c = tt
+outs_closed (o ∷ os) ro c = (ro.0.shut c.0, outs_closed os ro.1 c.1)
+
+-- what waits for an output is one element
+one_held : (q to : ℕ) (h : Option Tree) (t : Tree) → h ≡ Some t → q ≡ to → length (held_for q to h) ≡ 1
+one_held q to h t is same_place = ap (λ (x : Option Tree). length (held_for q to x)) is ∙ ap (λ (b : Bool). length (if b then t ∷ [] else [])) (same to q (sym same_place))
+
+module _ (book : Book) (node n : ℕ) (f : MapFn) (l : PartitionLogic) (t : Tree) (holds : l.held ≡ Some t) (i : InPort) (si : InStands i) (v : port.View) (took : List Item) (came : List Tree) (end : End) (is : took ≡ told came end) (got : i.got ≡ told came end)
+    (sent : IsLane i.wire ⊎ (i.wire.sent ≡ elements i.got)) where
+  -- the output for which it holds an element was sent one less than came for it
+  owed_there : (q : ℕ) (o : OutPort) → q ≡ l.to → OutStands o → Law (machine book node n f q) (start book node n f q) (held_of l q Quiet) (in_at v 0) (out_at v q) took o.sent → IsLane i.wire ⊎ (number_count book node n f (take i.wire.sent i.wire.list) q ≡ o.wire.sent + 1)
+  owed_there q o to so law = elim sent [
+    | inl lane ↦ inl lane
+    | inr all ↦
+        let same_list : law.in_list ≡ came = told_lists law.in_list came law.in_end end (sym law.took_is ∙ is) in
+        let now = law.keeps.1.0 in
+        let gave : length (ends_by (machine book node n f q) (run (machine book node n f q) (start book node n f q) law.in_list) law.in_end).gave ≡ length law.out_list + length (held_for q l.to l.held) =
+        ap (λ (x : Run Stage Tree). length x.gave) now ∙ length-append law.out_list (held_for q l.to l.held) in
+        let one = one_held q l.to l.held t holds to in
+        let whole = ends_same book node n f q law.in_list law.in_end in
+        let count : number_count book node n f came q ≡ length law.out_list + 1 = ap (λ (k : List Tree). number_count book node n f k q) (sym same_list) ∙ (sym whole ∙ (gave ∙ ap (λ (m : ℕ). length law.out_list + m) one)) in
+        let part : IsPrefix came i.wire.list = si.part came end got in
+        let long : i.wire.sent ≡ length came = all ∙ (ap elements got ∙ elements_told came end) in
+        let taken : take i.wire.sent i.wire.list ≡ came = ap (λ (m : ℕ). take m i.wire.list) long ∙ prefix_is_take part in
+        let given : o.wire.sent ≡ length law.out_list = so.count ∙ (ap elements law.gave_is ∙ elements_told law.out_list law.out_end) in
+        inr (ap (λ (k : List Tree). number_count book node n f k q) taken ∙ (count ∙ ap (λ (m : ℕ). m + 1) (sym given)))
+  ]
+
+  owed_at : (q m : ℕ) (ws : List OutputState) (os : List OutPort) (k : ℕ) → q + k ≡ l.to → slice_get ws k ≡ Some Quiet → length ws ≡ m → OutsList q (owe (number_starts book node n f q m) (dues (held_of l) q ws)) v took (sents_of os) → map (λ (o : OutPort). o.view) os ≡ map want_view ws
+      → EachPort OutRests os → EachPort OutStands os → SomeOwed (λ j x. number_count book node n f x j) i.wire q (OutWires os)
+  owed_at q m [] os k to at many law shows ro so = cc
+  owed_at q zero (w ∷ ws) os k to at many law shows ro so = absurd (omega (arith, many))
+  owed_at q (suc m) (w ∷ ws) [] k to at many law shows ro so = cc
+  owed_at q (suc m) (w ∷ ws) (o ∷ os) zero to at many law shows ro so =
+      let quiet : w ≡ Quiet = cc in
+      let s = first_shown o.view (want_view w) (map (λ (o : OutPort). o.view) os) (map want_view ws) shows in
+      let here : Law (machine book node n f q) (start book node n f q) (held_of l q Quiet) (in_at v 0) (out_at v q) took o.sent = subst (λ (x : OutputState). Law (machine book node n f q) (start book node n f q) (held_of l q x) (in_at v 0) (out_at v q) took o.sent) quiet law.0 in
+      inl (ro.0.unasked (s.0 ∙ ap want_view quiet), owed_there q o (omega (arith, to)) so.0 here)
+  owed_at q (suc m) (w ∷ ws) (o ∷ os) (suc k) to at many law shows ro so =
+      let s = first_shown o.view (want_view w) (map (λ (o : OutPort). o.view) os) (map want_view ws) shows in
+      inr (owed_at (q + 1) m ws os k (omega (arith, to)) at (omega (arith, many)) law.1 s.1 ro.1 so.1)
+
+module _ (book : Book) (node n : ℕ) (f : MapFn) (g l : PartitionLogic) (i : InPort) (os : List OutPort) (law : Now (Deals g) (Deals l) i os) (si : InStands i) (so : EachPort OutStands os) (ri : InRests i) (ro : EachPort OutRests os) (started : Started book node n f (Deals g)) (lasts : 1 ≤ n) where
+  abbrev Row : Type 0
+  Row = PartitionRests (λ j x. number_count book node n f x j) i.wire (OutWires os)
+
+  idle_or_shut : (b : Bool) → i.view ≡ input_of b false → IdlesOrShut i.wire × (IsLane i.wire ⊎ (i.wire.sent ≡ elements i.got))
+  idle_or_shut true e = (inr (ri.shut (subst InClosed (sym e) tt)), ri.over_sent e)
+  idle_or_shut false e = elim (ri.idles e) [ inl lane ↦ (inl (inl lane), inl lane) | inr all ↦ (inl (inr all.0), inr all.1) ]
+
+  deals_open : l.live ≡ true → OutView_of i os ≡ part.view_of l → part.Sound l → Row
+  deals_open live view s = by l.held l.waits refl refl s.holds
+    where
+      shows : map (λ (o : OutPort). o.view) os ≡ map want_view l.outs
+      shows = ap (λ (v : port.View). v.outs) view
+
+      at_input : i.view ≡ input_of l.over l.waits
+      at_input = ap (λ (v : port.View). in_at v 0) view
+
+      stands : (w : Bool) → l.waits ≡ w → w ≡ false → IdlesOrShut i.wire × (IsLane i.wire ⊎ (i.wire.sent ≡ elements i.got))
+      stands w is no = idle_or_shut l.over (at_input ∙ ap (λ (b : Bool). input_of l.over b) (is ∙ no))
+
+      asked : l.over ≡ false → l.waits ≡ true → Row
+      asked over waits = inl ((ri.waits (at_input ∙ (ap (λ (b : Bool). input_of b l.waits) over ∙ ap (λ (b : Bool). input_of false b) waits))).0)
+
+      by : (h : Option Tree) (w : Bool) → l.held ≡ h → l.waits ≡ w → Holding h l → Row
+      by None true held waits x = asked x.0 waits
+      by None false held waits x =
+          let none : asks_count l.outs ≡ 0 = sym s.asking_is ∙ x.1 waits in
+          let some : 1 ≤ open_count l.outs = let a = s.open_is in let b = s.some in omega (arith, a, b) in
+          inr ((stands false waits refl).0, inr (some_shown l.outs os ro shows some none, none_shown l.outs os ro shows none))
+      by (Some t) w held waits x =
+          let st = stands l.waits refl x.0 in
+          let lists : OutsList 0 (owe (number_starts book node n f 0 n) (dues (held_of l) 0 l.outs)) (OutView_of i os) law.taken (sents_of os) =
+          subst (λ b. OutsList 0 (owe (number_starts book node n f 0 n) (dues (then_of b l) 0 l.outs)) (OutView_of i os) law.taken (sents_of os)) live (lists_of book node n f (Deals g) (Deals l) (OutView_of i os) (i.got ∷ []) (sents_of os) started law) in
+          let all : length (owed (Deals l)) ≡ n = owed_all book node n f (Deals g) (Deals l) started law.outputs in
+          let many : length l.outs ≡ n = sym (length-dues (then_of l.live l) 0 l.outs) ∙ all in
+          let some : 1 ≤ length (owed (Deals l)) = omega (arith, all, lasts) in
+          let c = came_now book (Deals g) (Deals l) i os law some in
+          let z : 0 + l.to ≡ l.to = omega arith in
+          inr (st.0, inl (owed_at book node n f l t held i si (OutView_of i os) law.taken c.list c.end c.is (got_told book (Deals g) (Deals l) i os law some) st.1 0 n l.outs os l.to z x.1 many lists shows ro so))
+
+  pub deals_rest : part.port_state l (OutView_of i os) → (EachWire IsShut (i.wire ∷ []) × EachWire IsShut (OutWires os)) ⊎ Row
+  deals_rest r = by l.live refl r
+    where
+      by : (b : Bool) → l.live ≡ b → part.port_state_by b l (OutView_of i os) → (EachWire IsShut (i.wire ∷ []) × EachWire IsShut (OutWires os)) ⊎ Row
+      by true live r = inr (deals_open live r.0 r.1)
+      by false live r = inl ((ri.shut r.0, tt), outs_closed os ro r.1)
+
 -- ---- by kinds
 
 pub some_outputs : (k : ℕ) (kd : Kind) (first now : OutMachines) → IsMachines kd → Begins k kd first → length (owed now) ≡ length (owed first) → 1 ≤ length (owed now)
@@ -427,6 +547,16 @@ module _ (g : Graph) (w : World) (k : ℕ) (d : Decider) (i : InPort) (os : List
   lawful_by (Partition n fun) (Copies f) now ok b law si so m = absurd b.of_kind
   lawful_by kd first now ok b law si so m = absurd ok
 
+  -- where no event is left
+  stays_by : (kd : Kind) (first now : OutMachines) → IsMachines kd → Begins k kd first → Now first now i os → port_state now (OutView_of i os) → InStands i → EachPort OutStands os → InRests i → EachPort OutRests os
+      → (EachWire IsShut (i.wire ∷ []) × EachWire IsShut (OutWires os)) ⊎ RowRests g w k kd d (i.wire ∷ []) (OutWires os)
+  stays_by (Broadcast n) first now ok b law r si so ri ro = elim (out_stays i os si so ri ro w.book first now law (some_outputs k (Broadcast n) first now ok b law.outputs) r) [ inl h ↦ inl h | inr h ↦ inr (b.rests g w d (i.wire ∷ []) (OutWires os) h) ]
+  stays_by Unzip first now ok b law r si so ri ro = elim (out_stays i os si so ri ro w.book first now law (some_outputs k Unzip first now ok b law.outputs) r) [ inl h ↦ inl h | inr h ↦ inr (b.rests g w d (i.wire ∷ []) (OutWires os) h) ]
+  stays_by (Partition n fun) (Deals f) (Deals l) ok b law r si so ri ro = let two = ok.0 in deals_rest w.book k n fun f l i os law si so ri ro (b.outputs w.book) (omega (arith, two)) r
+  stays_by (Partition n fun) (Deals f) (Copies l) ok b law r si so ri ro = absurd law.alike
+  stays_by (Partition n fun) (Copies f) now ok b law r si so ri ro = absurd b.of_kind
+  stays_by kd first now ok b law r si so ri ro = absurd ok
+
 no_sink : (kd : Kind) → IsMachines kd → is_sink kd ≡ false
 no_sink (Broadcast n) ok = refl
 no_sink (Partition n f) ok = refl
@@ -440,6 +570,6 @@ module _ (g : Graph) (w : World) (k : ℕ) (n : graph.Node) where
   machines_picture first now (i ∷ j ∷ is) os ok b r law = let more = law.took_is in absurd cc
   machines_picture first now (i ∷ []) os ok b r law = record {
     lawful = λ s so m. lawful_by g w k n.decider i os n.kind first now ok b law s.0 so m;
-    rests = λ s so ri ro. elim (out_stays i os s.0 so ri.0 ro w.book first now law (some_outputs k n.kind first now ok b law.outputs) r) [ inl h ↦ inl h | inr h ↦ inr (b.rests g w n.decider (i.wire ∷ []) (OutWires os) h) ];
+    rests = λ s so ri ro. stays_by g w k n.decider i os n.kind first now ok b law r s.0 so ri.0 ro;
     matches = λ sink ri. let no = no_sink n.kind ok in let z : true ≡ false = sym sink ∙ no in absurd cc;
   }

@@ -33,11 +33,11 @@ use Rattle.stream_model.specs.Rests.{
   ZipRests,
   BroadcastRests,
   BalanceRests,
-  PartitionRests,
 }
 use Rattle.port_core.specs.View.{input_closed, output_closed}
 use Rattle.stage_core.specs.OwnPorts.{is_waiting, is_asked}
 use Rattle.stage_core.specs.Row.{InClosed, OutClosed}
+use Rattle.stage_out.specs.Machines.{DealsRest}
 use Rattle.run_laws.specs.Items.{list_of}
 use Rattle.run_laws.specs.Ports.{InPort, OutPort, EachPort, InStands, OutStands, InRests, OutRests}
 
@@ -104,7 +104,7 @@ module _ (i : InPort) (r : InRests i) where
   idles (inl l) = absurd cc
   idles (inr h) = elim (r.idles (idle_is i.view h.0 h.1)) [ inl l ↦ inl l | inr o ↦ inr o.0 ]
 
-  idle_sent : Idles (own_in i) → IsLane i.wire ⊎ (i.wire.sent ≡ elements i.got)
+  pub idle_sent : Idles (own_in i) → IsLane i.wire ⊎ (i.wire.sent ≡ elements i.got)
   idle_sent (inl l) = absurd cc
   idle_sent (inr h) = elim (r.idles (idle_is i.view h.0 h.1)) [ inl l ↦ inl l | inr o ↦ inr o.1 ]
 
@@ -296,7 +296,7 @@ module _ (i : InPort) (os : List OutPort) (s : InStands i) (r : InRests i) (ss :
         each_out (λ o. IsShut o ⊎ ((o.sent ≤ elements i.got) × (IsLane (own_in i) ⊎ (o.sent ≡ elements i.got)))) (λ o. IsShut o ⊎ ((o.sent ≤ i.wire.sent) × (IsLane i.wire ⊎ (o.sent ≡ i.wire.sent)))) (copied_some h.1) os ss ro h.2,
       )
 
-  pub partition_rests : PartitionRests (own_in i) (map own_out os) → PartitionRests i.wire (map (λ (o : OutPort). o.wire) os)
+  pub partition_rests : DealsRest (own_in i) (map own_out os) → DealsRest i.wire (map (λ (o : OutPort). o.wire) os)
   partition_rests (inl h) = inl (waits i r h)
   partition_rests (inr h) = inr (some_out IsUnasked IsUnasked unasked os ro h.0, quiet i r h.1)
 

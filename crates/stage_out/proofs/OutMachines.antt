@@ -148,6 +148,6 @@ begins node (Partition n f) new ok is = rw is (record {
   outputs = λ book. deals_begun book node n f 0 n;
   agrees = λ g w d. rw (deals_begun w.book node n f 0 n) (numbers_each w node n f 0 n);
   fresh = record { live = refl; starts = λ book. rw (deals_begun book node n f 0 n) (numbers_start book node n f 0 n) };
-  rests = λ g w d is os r. r;
+  rests = λ g w d is os r. tt;
 })
 begins node kind new ok is = absurd is

@@ -14,7 +14,7 @@ use Rattle.port_core.specs.Call.{Call, starts, pulls, arrives, cancels, AllIdle,
 use Rattle.stream_model.specs.Linear.{Book, Stage}
 use Rattle.stream_model.specs.Outlook.{End}
 use Rattle.stream_model.specs.View.{SomeWire}
-use Rattle.stream_model.specs.Rests.{IsUnasked, PartitionRests}
+use Rattle.stream_model.specs.Rests.{IsUnasked}
 use Rattle.stage_core.specs.Held.{told, Held}
 use Rattle.stage_core.specs.Outs.{Outlet, OutsLaw}
 use Rattle.stage_core.specs.OwnPorts.{own_input}
@@ -30,7 +30,7 @@ use Rattle.stage_out.specs.CopyStates.{CopyLogic, part_by}
 use Rattle.stage_out.specs.CopyStates as copy
 use Rattle.stage_out.specs.PartitionStates.{PartitionLogic, input_of, view_of, Holding, Sound, dealers, then_of}
 use Rattle.stage_out.specs.PartitionStates as part
-use Rattle.stage_out.specs.Machines.{is_live, room_of, port_state, no_stage, copiers, outlets}
+use Rattle.stage_out.specs.Machines.{DealsRest, is_live, room_of, port_state, no_stage, copiers, outlets}
 use Rattle.stage_out.specs.OwnRows.{own_outs, Even, OutLists, OutputsRest}
 use Rattle.stage_out.proofs.OutMachines.{copiers_are}
 use Rattle.stage_out.proofs.Rests.{copy_rests, ins_shut, outs_shut, outlists}
@@ -82,7 +82,7 @@ some_unasked (Asks ∷ ws) (g ∷ gs) e o q = absurd (omega (arith, q))
 some_unasked (Gone ∷ ws) (g ∷ gs) e o q = inr (some_unasked ws gs (omega (arith, e)) o q)
 
 module _ (l : PartitionLogic) (took : List Tree) (gs : List (List Tree)) (e : length gs ≡ length l.outs) (s : Sound l) where
-  by_held : (h : Option Tree) (b c : Bool) → l.over ≡ b → l.waits ≡ c → Holding h l → PartitionRests (own_input (input_of b c) took) (own_outs (map want_view l.outs) gs)
+  by_held : (h : Option Tree) (b c : Bool) → l.over ≡ b → l.waits ≡ c → Holding h l → DealsRest (own_input (input_of b c) took) (own_outs (map want_view l.outs) gs)
   by_held h false true o w x = inl (refl, refl)
   by_held None false false o w x =
       let none : asks_count l.outs ≡ 0 = sym s.asking_is ∙ x.1 w in

@@ -1,6 +1,6 @@
 -- The logic of a broadcast, an unzip or a partition: its port state, its outputs as machines over its input, what a call owes, and
 -- how a new one begins.
-use Rattle.std.specs.Prelude.{◌≡◌, ℕ, zero, suc, ◌+◌, ◌≤◌, Bool, true, false, List, [], ◌∷◌, length, ⊤}
+use Rattle.std.specs.Prelude.{◌≡◌, ◌⊎◌, ℕ, zero, suc, ◌+◌, ◌≤◌, Bool, true, false, List, [], ◌∷◌, length, ⊤}
 use Rattle.elem_core.specs.Tree.{Tree}
 use Rattle.elem_core.specs.declared.function.MapFn.{MapFn}
 use Rattle.elem_core.specs.declared.why.Decider.{Decider}
@@ -18,7 +18,8 @@ use Rattle.stream_model.specs.Machine.{Stands}
 use Rattle.stream_model.specs.Node.{World, head_of, node_outlook}
 use Rattle.stream_model.specs.Outlook.{Outlook, End, Agrees}
 use Rattle.stream_model.specs.View as picture
-use Rattle.stream_model.specs.Rests.{OneToMany, BroadcastRests, PartitionRests, RowRests}
+use Rattle.stream_model.specs.View.{SomeWire}
+use Rattle.stream_model.specs.Rests.{Waits, IsUnasked, IdlesOrShut, OneToMany, BroadcastRests, RowRests}
 use Rattle.stage_core.specs.Held.{Held, owing, shut}
 use Rattle.stage_core.specs.Outs.{Outlet, TurnsAt, owe}
 use Rattle.stage_core.specs.Seats.{room_for}
@@ -78,10 +79,14 @@ abbrev pub owed : OutMachines → List (Held Stage)
 owed (Copies l) = copies.owed l.live no_stage l.outs
 owed (Deals l) = dues (then_of l.live l) 0 l.outs
 
+-- a partition waits, or some output is open and not asked
+abbrev pub DealsRest : picture.SeenWire → List picture.SeenWire → Type 0
+DealsRest i os = Waits i ⊎ (SomeWire IsUnasked os × IdlesOrShut i)
+
 -- how it rests, over its inputs and outputs
 abbrev pub rests_as : OutMachines → List picture.SeenWire → List picture.SeenWire → Type 0
 rests_as (Copies l) = OneToMany BroadcastRests
-rests_as (Deals l) = OneToMany PartitionRests
+rests_as (Deals l) = OneToMany DealsRest
 
 -- each output owes what it starts with, and has given nothing
 abbrev pub EachStarts : List (Outlet Stage) → Type 0
@@ -159,8 +164,14 @@ abbrev pub EachAgrees : ℕ → (ℕ → List Outlook → Outlook) → List (Out
 EachAgrees n f [] = ⊤
 EachAgrees n f (o ∷ os) = ((is : List Outlook) (l : List Tree) (e : End) (g : List Tree) (h : End) → Agrees (head_of is) l e → Stands o.machine o.start l e g h → Agrees (f n is) g h) × EachAgrees (n + 1) f os
 
+-- the row of a broadcast or an unzip; that of a partition says more than these rests alone
+abbrev pub CopyRow : Graph → World → ℕ → Kind → Decider → List picture.SeenWire → List picture.SeenWire → Type 0
+CopyRow g w node (Partition n f) d is os = ⊤
+CopyRow g w node kind d is os = RowRests g w node kind d is os
+
 -- A new logic of node `node`, of this kind: it knows that nobody asks, so that it may be started; its outputs are those of its
--- kind, each at its start, and what they may give agrees with the outlooks of the node's; and it rests as its kind does.
+-- kind, each at its start, and what they may give agrees with the outlooks of the node's; and a broadcast or an unzip rests as its
+-- kind does.
 pub record Begins (node : ℕ) (kind : Kind) (new : OutMachines) : Type 0 where
   pub live : is_live new ≡ true
   pub of_kind : IsOfKind kind new
@@ -168,4 +179,4 @@ pub record Begins (node : ℕ) (kind : Kind) (new : OutMachines) : Type 0 where
   pub outputs : (book : Book) → outlets book new ≡ starts_of book node kind
   pub agrees : (g : Graph) (w : World) (d : Decider) → EachAgrees 0 (λ j is. node_outlook g w node kind d is j) (outlets w.book new)
   pub fresh : IsNew new
-  pub rests : (g : Graph) (w : World) (d : Decider) (is os : List picture.SeenWire) → rests_as new is os → RowRests g w node kind d is os
+  pub rests : (g : Graph) (w : World) (d : Decider) (is os : List picture.SeenWire) → rests_as new is os → CopyRow g w node kind d is os

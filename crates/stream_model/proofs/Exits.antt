@@ -1,5 +1,6 @@
 -- Where a picture rests, each node that is not shut leads on: an input of it waits, or an output of it is unasked.
-use Rattle.std.proofs.Common.{◌≡◌, ℕ, Bool, ◌⊎◌, inl, inr, List, [], ◌∷◌, Option, Some, None}
+use Rattle.std.proofs.Common.{◌≡◌, ℕ, ◌+◌, Bool, ◌⊎◌, inl, inr, List, [], ◌∷◌, Option, Some, None}
+use Rattle.elem_core.specs.Tree.{Tree}
 use Rattle.stream_model.specs.declared.kind.Kind.{Kind}
 use Rattle.stream_model.specs.declared.kind.Kind.TheVariants.{Lines, Range, Empty, Failed, Buffer, Merge, Concat, Interleave, MergeSorted, Zip, Broadcast, Balance, Partition, Unzip}
 use Rattle.elem_core.specs.declared.why.Decider.{Decider}
@@ -9,7 +10,7 @@ use Rattle.stream_model.specs.Graph.{Graph}
 use Rattle.stream_model.specs.Node.{World}
 use Rattle.stream_model.specs.OneWay.{OneWay, one_way}
 use Rattle.stream_model.specs.View.{SeenWire, SomeWire}
-use Rattle.stream_model.specs.Rests.{Waits, IsAsked, IsUnasked, FirstOpenWaits, OneWaits, OneToOne, ManyToOne, OneToMany, StageRests, BufferRests, DroppingRests, MergeRests, ConcatRests, InterleaveRests, SortedStands, SortedRests, ZipRests, BroadcastRests, BalanceRests, PartitionRests, SinkRests, SourceRests, RowRests, stage_rests, dropping_rests}
+use Rattle.stream_model.specs.Rests.{Waits, IsAsked, IsUnasked, FirstOpenWaits, OneWaits, OneToOne, ManyToOne, OneToMany, StageRests, BufferRests, DroppingRests, MergeRests, ConcatRests, InterleaveRests, SortedStands, SortedRests, ZipRests, BroadcastRests, BalanceRests, numbered, SomeOwed, PartitionRests, SinkRests, SourceRests, RowRests, stage_rests, dropping_rests}
 
 -- some input waits, or some output is unasked
 abbrev pub Exit : List SeenWire → List SeenWire → Type 0
@@ -99,9 +100,14 @@ balance_exit : (i : SeenWire) (os : List SeenWire) → BalanceRests i os → Exi
 balance_exit i os (inl h) = inl (inl h.1)
 balance_exit i os (inr h) = inr h.0
 
-partition_exit : (i : SeenWire) (os : List SeenWire) → PartitionRests i os → Exit (i ∷ []) os
-partition_exit i os (inl h) = inl (inl h)
-partition_exit i os (inr h) = inr h.0
+owed_exit : (given : ℕ → List Tree → ℕ) (i : SeenWire) (n : ℕ) (os : List SeenWire) → SomeOwed given i n os → SomeWire IsUnasked os
+owed_exit given i n [] h = absurd h
+owed_exit given i n (o ∷ os) (inl h) = inl h.0
+owed_exit given i n (o ∷ os) (inr h) = inr (owed_exit given i (n + 1) os h)
+
+partition_exit : (given : ℕ → List Tree → ℕ) (i : SeenWire) (os : List SeenWire) → PartitionRests given i os → Exit (i ∷ []) os
+partition_exit given i os (inl h) = inl (inl h)
+partition_exit given i os (inr h) = elim h.1 [ inl owed ↦ inr (owed_exit given i 0 os owed) | inr none ↦ inr none.0 ]
 
 sink_exit : (is os : List SeenWire) → SinkRests is → Exit is os
 sink_exit [] os h = absurd h
@@ -137,5 +143,5 @@ module _ (g : Graph) (w : World) where
   row_exit node (Broadcast n) d is os h = one_to_many BroadcastRests is os (λ i p. broadcast_exit i os p) h
   row_exit node Unzip d is os h = one_to_many BroadcastRests is os (λ i p. broadcast_exit i os p) h
   row_exit node (Balance n) d is os h = one_to_many BalanceRests is os (λ i p. balance_exit i os p) h
-  row_exit node (Partition n f) d is os h = one_to_many PartitionRests is os (λ i p. partition_exit i os p) h
+  row_exit node (Partition n f) d is os h = one_to_many (PartitionRests (numbered w node n f)) is os (λ i p. partition_exit (numbered w node n f) i os p) h
   row_exit node k d is os h = any_stage_exit (one_way g w node k d) is os h

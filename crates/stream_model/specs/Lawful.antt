@@ -2,24 +2,21 @@
 use Rattle.std.specs.Prelude.{◌≡◌, ℕ, ◌+◌, ◌-◌, ◌<◌, ◌≤◌, max, true, false, ◌⊎◌, if◌then◌else◌, List, [], ◌∷◌, length, take, slice_get, Option, Some, None}
 use Rattle.elem_core.specs.Tree.{Tree}
 use Rattle.stream_model.specs.declared.kind.Kind.{Kind}
-use Rattle.elem_core.specs.declared.function.MapFn.{MapFn}
 use Rattle.elem_core.specs.declared.why.Decider.{Decider}
-use Rattle.elem_core.specs.declared.why.Decider.TheVariants.{Stop}
 use Rattle.stream_model.specs.declared.kind.Joining.{Joining}
 use Rattle.stream_model.specs.declared.kind.Joining.TheVariants as joining
 use Rattle.stream_model.specs.declared.kind.Policy.{Policy}
 use Rattle.stream_model.specs.declared.kind.Policy.TheVariants.{Backpressure}
 use Rattle.stream_model.specs.declared.outcome.WireCount.{WireCount}
 use Rattle.stream_model.specs.Outlook.{Outlook}
-use Rattle.stream_model.specs.Machine.{run}
-use Rattle.stream_model.specs.Linear.{Keeping, every_one, first_one, last_one, numbering, linear, begin_work, Role, reads_lines, gives_range, gives_nothing, gives_failure, works, trips, plugs_in, buffers, recovers, obeys, groups_by, splits_when, splits_after, merges, concats, interleaves, merges_sorted, zips, broadcasts, balances, partitions, unzips, sinks, role_of}
+use Rattle.stream_model.specs.Linear.{Keeping, every_one, first_one, last_one, Role, reads_lines, gives_range, gives_nothing, gives_failure, works, trips, plugs_in, buffers, recovers, obeys, groups_by, splits_when, splits_after, merges, concats, interleaves, merges_sorted, zips, broadcasts, balances, partitions, unzips, sinks, role_of}
 use Rattle.stream_model.specs.Picks.{count_of}
 use Rattle.stream_model.specs.Graph.{Graph, Node}
 use Rattle.stream_model.specs.Fits.{CanTrip, valve_order}
 use Rattle.stream_model.specs.Node.{World}
 use Rattle.stream_model.specs.OneWay.{OneWay, one_way_by}
 use Rattle.stream_model.specs.View.{SeenWire, size_of, wanted, demand, total, EachWire, ins, outs}
-use Rattle.stream_model.specs.Rests.{IsShut, OneToOne, ManyToOne, OneToMany}
+use Rattle.stream_model.specs.Rests.{IsShut, OneToOne, ManyToOne, OneToMany, numbered}
 
 -- any wire: at most its list was sent, and a lane that is not asked was sent at least its size
 abbrev pub WireLawful : SeenWire → Type 0
@@ -142,10 +139,6 @@ module _ (g : Graph) (w : World) where
   sink_lawful first_one is = EachWire (λ i. demand i ≤ 1) is
   sink_lawful last_one is = Unit {0}
 
-  -- how many elements of a list have the number i of n
-  abbrev numbered : ℕ → ℕ → MapFn → ℕ → List Tree → ℕ
-  numbered node n f i l = length (run (linear w.book (numbering n f i)) (begin_work node Stop (numbering n f i)) l).gave
-
   -- the row of a node with this role
   abbrev pub RoleLawful : ℕ → Role → Decider → List SeenWire → List SeenWire → Type 0
   RoleLawful node (reads_lines name) d is os = Unit {0}
@@ -168,7 +161,7 @@ module _ (g : Graph) (w : World) where
   RoleLawful node zips d is os = ManyToOne ZipLawful is os
   RoleLawful node (broadcasts n) d is os = OneToMany BroadcastLawful is os
   RoleLawful node (balances n) d is os = OneToMany (BalanceLawful (w.moves node)) is os
-  RoleLawful node (partitions n f) d is os = OneToMany (PartitionLawful (numbered node n f)) is os
+  RoleLawful node (partitions n f) d is os = OneToMany (PartitionLawful (numbered w node n f)) is os
   RoleLawful node unzips d is os = OneToMany BroadcastLawful is os
   RoleLawful node (sinks file keeps) d is os = sink_lawful keeps is
 

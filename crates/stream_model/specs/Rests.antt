@@ -1,12 +1,16 @@
 -- A picture that rests: no node has anything to do.
-use Rattle.std.specs.Prelude.{◌≡◌, ℕ, ◌+◌, ◌<◌, ◌≤◌, Bool, true, false, ◌⊎◌, List, [], ◌∷◌, take, slice_get, Option, Some, None, is_some}
+use Rattle.std.specs.Prelude.{◌≡◌, ℕ, ◌+◌, ◌<◌, ◌≤◌, Bool, true, false, ◌⊎◌, List, [], ◌∷◌, length, take, slice_get, Option, Some, None, is_some}
+use Rattle.elem_core.specs.Tree.{Tree}
+use Rattle.elem_core.specs.declared.function.MapFn.{MapFn}
+use Rattle.elem_core.specs.declared.why.Decider.TheVariants.{Stop}
+use Rattle.stream_model.specs.Machine.{run}
 use Rattle.stream_model.specs.declared.kind.Kind.{Kind}
 use Rattle.elem_core.specs.declared.why.Decider.{Decider}
 use Rattle.stream_model.specs.declared.kind.Policy.TheVariants.{Backpressure}
 use Rattle.stream_model.specs.Outlook.{Outlook}
 use Rattle.stream_model.specs.declared.kind.Policy.{Policy}
 use Rattle.stream_model.specs.declared.outcome.WireCount.{WireCount}
-use Rattle.stream_model.specs.Linear.{Role, reads_lines, gives_range, gives_nothing, gives_failure, works, trips, plugs_in, buffers, recovers, obeys, groups_by, splits_when, splits_after, merges, concats, interleaves, merges_sorted, zips, broadcasts, balances, partitions, unzips, sinks, role_of}
+use Rattle.stream_model.specs.Linear.{numbering, linear, begin_work, Role, reads_lines, gives_range, gives_nothing, gives_failure, works, trips, plugs_in, buffers, recovers, obeys, groups_by, splits_when, splits_after, merges, concats, interleaves, merges_sorted, zips, broadcasts, balances, partitions, unzips, sinks, role_of}
 use Rattle.stream_model.specs.Graph.{Graph, Node}
 use Rattle.stream_model.specs.Node.{World}
 use Rattle.stream_model.specs.Picks.{buffered, count_of, empty_buffer, nothing_held}
@@ -172,9 +176,22 @@ BalanceRests i os =
     (SomeWire IsAsked os × Waits i)
     ⊎ (SomeWire IsUnasked os × EachWire (λ o. IsShut o ⊎ IsUnasked o) os × WaitsIdlesOrShut i)
 
--- a partition
-abbrev pub PartitionRests : SeenWire → List SeenWire → Type 0
-PartitionRests i os = Waits i ⊎ (SomeWire IsUnasked os × IdlesOrShut i)
+-- how many elements of a list a partition of n gives at output i
+abbrev pub numbered : World → ℕ → ℕ → MapFn → ℕ → List Tree → ℕ
+numbered w node n f i l = length (run (linear w.book (numbering n f i)) (begin_work node Stop (numbering n f i)) l).gave
+
+-- an output from number n on is open, is not asked, and was sent one element less than came for it; of a lane's elements some may not
+-- have come
+abbrev pub SomeOwed : (ℕ → List Tree → ℕ) → SeenWire → ℕ → List SeenWire → Type 0
+SomeOwed given i n [] = ⊥
+SomeOwed given i n (o ∷ os) = (IsUnasked o × (IsLane i ⊎ (given n (take i.sent i.list) ≡ o.sent + 1))) ⊎ SomeOwed given i (n + 1) os
+
+-- a partition: it waits; or it holds an element for an output that is not asked; or no output is asked. `given n l` is how many
+-- elements of l have the number n
+abbrev pub PartitionRests : (ℕ → List Tree → ℕ) → SeenWire → List SeenWire → Type 0
+PartitionRests given i os =
+    Waits i
+    ⊎ (IdlesOrShut i × (SomeOwed given i 0 os ⊎ (SomeWire IsUnasked os × EachWire (λ o. IsShut o ⊎ IsUnasked o) os)))
 
 -- a sink waits for its input
 abbrev pub SinkRests : List SeenWire → Type 0
@@ -219,7 +236,7 @@ module _ (g : Graph) (w : World) where
   RoleRests node zips d is os = ManyToOne ZipRests is os
   RoleRests node (broadcasts n) d is os = OneToMany BroadcastRests is os
   RoleRests node (balances n) d is os = OneToMany BalanceRests is os
-  RoleRests node (partitions n f) d is os = OneToMany PartitionRests is os
+  RoleRests node (partitions n f) d is os = OneToMany (PartitionRests (numbered w node n f)) is os
   RoleRests node unzips d is os = OneToMany BroadcastRests is os
   RoleRests node (sinks file keeps) d is os = SinkRests is
 

@@ -391,7 +391,7 @@ impl<S: Source, D: Drain, L: Logic, B: PlugBook> Body<S, D, L, B> {
         ensures breaks { OnErr result (BodyBreaks S.state D.state B.lists self.old self.new) }
     {
         let mut count = used;
-        loop {
+        'heard: loop {
             if self.is_to_pause(pausing, count - used) {
                 return Ok(count);
             }

@@ -64,7 +64,7 @@ seats_waiting n c (suc p) (b ∷ over) asked e =
     let same = r.1 in
     (r.0, omega (arith, same))
 
-seat_left : (b x asked : Bool) → seat b x asked ≢ Cancelled
+pub seat_left : (b x asked : Bool) → seat b x asked ≢ Cancelled
 seat_left true x asked = λ e. cc
 seat_left false true true = λ e. cc
 seat_left false true false = λ e. cc

@@ -1,5 +1,6 @@
 -- The rows of a stage with several inputs in a picture, by its kind.
-use Rattle.std.proofs.Common.{◌≡◌, ◌≢◌, ℕ, ◌⊎◌, inl, inr, Bool, true, false, List, [], ◌∷◌, map, Option, Some, None, refl, sym, ap, subst, ◌∙◌}
+use Rattle.std.specs.Prelude.{slice_get, ◌==◌}
+use Rattle.std.proofs.Common.{◌≡◌, ◌≢◌, ℕ, ◌+◌, ◌⊎◌, inl, inr, Bool, true, false, List, [], ◌∷◌, map, Option, Some, None, refl, sym, ap, subst, ◌∙◌}
 use Rattle.elem_core.specs.Tree.{Tree}
 use Rattle.elem_core.specs.declared.why.Decider.{Decider}
 use Rattle.port_core.specs.View as port
@@ -7,17 +8,17 @@ use Rattle.port_core.specs.declared.view.InView.{InView}
 use Rattle.port_core.specs.declared.view.InView.TheVariants.{Idle, Pulled, Finished, Cancelled}
 use Rattle.stream_model.specs.declared.kind.Kind.{Kind}
 use Rattle.stream_model.specs.declared.kind.Kind.TheVariants.{Merge, Concat, Interleave, MergeSorted, Zip}
-use Rattle.stream_model.specs.FanIn.{Inflow}
+use Rattle.stream_model.specs.FanIn.{Inflow, interleave_taken}
 use Rattle.stream_model.specs.Graph.{Graph}
 use Rattle.stream_model.specs.Graph as graph
 use Rattle.stream_model.specs.Node.{World}
 use Rattle.stream_model.specs.Outlook.{End}
 use Rattle.stream_model.specs.OneWay.{is_sink}
 use Rattle.stream_model.specs.View as picture
-use Rattle.stream_model.specs.View.{EachWire}
+use Rattle.stream_model.specs.View.{EachWire, SomeWire}
 use Rattle.stream_model.specs.Lawful.{RowLawful, MergeLawful}
-use Rattle.stream_model.specs.Rests.{IsShut, RowRests, MergeRests, ConcatRests, InterleaveRests, SortedRests, ZipRests}
-use Rattle.stage_core.specs.Fans.{FanKeeps}
+use Rattle.stream_model.specs.Rests.{IsShut, IsLane, RowRests, MergeRests, ConcatRests, turns_stop, TurnRests, InterleaveRests, SortedRests, ZipRests}
+use Rattle.stage_core.specs.Fans.{FanKeeps, FanKept}
 use Rattle.stage_core.specs.Held.{told}
 use Rattle.stage_core.specs.OwnPorts.{own_output}
 use Rattle.stage_core.specs.Zips.{ZipKeeps}
@@ -34,10 +35,12 @@ use Rattle.stage_core.specs.OwnRows.{own_inputs, FanRests}
 use Rattle.stage_in.specs.OwnRows.{TakingRests}
 use Rattle.stage_in.specs.Pairings.{Pairing, inlet_view, port_state_by}
 use Rattle.stage_core.specs.Seats.{InsClosed}
+use Rattle.stage_in.specs.Seats.{seat, seats, none_of}
 use Rattle.stage_in.specs.Sortings as sorted
 use Rattle.stage_in.specs.Takings as taking
 use Rattle.stage_in.specs.Zippings as zipping
 use Rattle.stage_in.proofs.Nodes.{logic_rests}
+use Rattle.stage_in.proofs.TurnStops.{stops_here}
 use Rattle.run_laws.specs.KindLaws.{PictureLaws}
 use Rattle.run_laws.specs.Ports.{InPort, OutPort, EachPort, InStands, OutStands, InRests, OutRests, gots_of}
 use Rattle.run_laws.proofs.Coming.{elements_told}
@@ -46,7 +49,8 @@ use Rattle.run_laws.specs.Unmoved.{NoAsking, never_ends}
 use Rattle.run_laws.proofs.Flows.{Flows, law_flows}
 use Rattle.run_laws.proofs.Orders.{Views, Wires}
 use Rattle.run_laws.proofs.InRows.{InView_of, InMoments, one_list, concat_lawful, interleave_lawful, sorted_lawful, zip_lawful}
-use Rattle.run_laws.proofs.Transport.{own_in, own_out, each, shuts, out_shuts, merge_rests, concat_rests, interleave_rests, sorted_rests, zip_rests}
+use Rattle.run_laws.proofs.Transport.{own_in, own_out, each, shuts, out_shuts, merge_rests, concat_rests, turn_rests, turns_stop_there, sorted_rests, zip_rests}
+use Rattle.run_laws.proofs.InMoments.{seat_left}
 use Rattle.run_laws.proofs.MergeRows.{merge_lawful}
 
 -- ---- what the stage shows of its ports
@@ -140,15 +144,54 @@ module _ (g : Graph) (w : World) (k : ℕ) (d : Decider) (is : List InPort) (o :
         fan_moved SortedRests is o ri ro law.by.law.ins law.by.law.out_list law.by.law.out_end (law_flows (FanKeeps sorting sorted.nowhere (sorted.held l)) (InView_of is o) (gots_of is) (o.sent ∷ []) law.by) (one_list o.sent law.by.given law.by.gave_is ∙ law.by.law.gave_is)
         (sorted_moved l (ap (λ (v : port.View). v.ins) at.0) s so) (logic_rests (logic.Sorting f) (logic.Sorting l) (InView_of is o) (gots_of is) (o.sent ∷ []) r.started r.ports law)
 
-    taking_stays : (f l : taking.Taking) (P : List picture.SeenWire → picture.SeenWire → Type 0) → TakingRests l.segment ≡ P → Row (logic.Taking l) → Law (logic.Taking f) (logic.Taking l) → (P (map own_in is) (own_out o) → P (Wires is) o.wire)
+    taking_stays : (f l : taking.Taking) (P : List picture.SeenWire → picture.SeenWire → Type 0) → TakingRests l.segment l.current ≡ P → Row (logic.Taking l) → Law (logic.Taking f) (logic.Taking l) → (P (map own_in is) (own_out o) → P (Wires is) o.wire)
         → (EachWire IsShut (Wires is) × EachWire IsShut (o.wire ∷ [])) ⊎ P (Wires is) o.wire
     taking_stays f l P by r law move =
         fan_moved P is o ri ro law.by.law.ins law.by.law.out_list law.by.law.out_end (law_flows (FanKeeps (taking_by f.segment) (taking.place_of f) (taking.held l)) (InView_of is o) (gots_of is) (o.sent ∷ []) law.by) (one_list o.sent law.by.given law.by.gave_is ∙ law.by.law.gave_is)
         move (subst (λ (Q : List picture.SeenWire → picture.SeenWire → Type 0). FanRests Q (InView_of is o) law.by.law.ins law.by.law.out_list) by (logic_rests (logic.Taking f) (logic.Taking l) (InView_of is o) (gots_of is) (o.sent ∷ []) r.started r.ports law))
 
+    -- one that is open has cancelled no input
+    open_seats : (n c : ℕ) (asked : Bool) (over : List Bool) (js : List InPort) → Views js ≡ seats n over c asked → EachPort (λ i. i.view ≢ Cancelled) js
+    open_seats n c asked over [] e = tt
+    open_seats n c asked [] (j ∷ js) e = cc
+    open_seats n c asked (b ∷ over) (j ∷ js) e =
+        let here : j.view ≡ seat b (n == c) asked = cc in
+        let rest : Views js ≡ seats (n + 1) over c asked = cc in
+        (subst (λ (x : InView). x ≢ Cancelled) (sym here) (seat_left b (n == c) asked), open_seats (n + 1) c asked over js rest)
+
+    -- an interleave
+    module _ (k : ℕ) (f l : taking.Taking) (segment : f.segment ≡ Some k) (begins : (taking_by f.segment).from (taking.place_of f) ≡ interleave_taken k) (law : Law (logic.Taking f) (logic.Taking l)) where
+      -- where it is open its turns stop at its current input
+      own_stops : l.live ≡ true → Views is ≡ seats 0 l.over l.current l.asked → slice_get l.over l.current ≡ Some false → turns_stop k (map own_in is) ≡ Some l.current
+      own_stops live views here =
+          let keeps = subst (λ (b : Bool). FanKeeps (taking_by f.segment) (taking.place_of f) (taking.held_by b (taking.place_of l) l.over) law.by.law.ins law.by.law.out_list law.by.law.out_end) live law.by.law.keeps in
+          let kept = subst (λ (m : Option ℕ). FanKept (taking_by m) (taking.place_of f) (taking.place_of l) (none_of l.over) law.by.law.ins law.by.law.out_list) segment keeps.1 in
+          let from = subst (λ (m : Option ℕ). (taking_by m).from (taking.place_of f) ≡ interleave_taken k) segment begins in
+          let stops = stops_here k (taking.place_of f) l law.by.law.ins law.by.law.out_list from here kept in
+          let flows = law_flows (FanKeeps (taking_by f.segment) (taking.place_of f) (taking.held l)) (InView_of is o) (gots_of is) (o.sent ∷ []) law.by in
+          subst (λ (vs : List picture.SeenWire). turns_stop k vs ≡ Some l.current) (ap (λ (xs : List InView). own_inputs xs law.by.law.ins) (sym views) ∙ ins_same is law.by.law.ins flows) stops
+
+      interleave_stays : Row (logic.Taking l) → (EachWire IsShut (Wires is) × EachWire IsShut (o.wire ∷ [])) ⊎ InterleaveRests k (Wires is) o.wire
+      interleave_stays r = by l.live refl r.ports
+        where
+          by : (b : Bool) → l.live ≡ b → taking.port_state_by b l (InView_of is o) → (EachWire IsShut (Wires is) × EachWire IsShut (o.wire ∷ [])) ⊎ InterleaveRests k (Wires is) o.wire
+          by false live at = inl (all_closed is ri at.0, (ro.shut at.1, tt))
+          by true live at = stronger (taking_stays f l (TurnRests l.current) (ap (λ (m : Option ℕ). TakingRests m l.current) (law.same ∙ segment)) r law (turn_rests is o ri ro l.current))
+            where
+              views : Views is ≡ seats 0 l.over l.current l.asked
+              views = ap (λ (v : port.View). v.ins) at.0
+
+              stops : SomeWire IsLane (Wires is) ⊎ (turns_stop k (Wires is) ≡ Some l.current)
+              stops = turns_stop_there k l.current is ri (open_seats 0 l.current l.asked l.over is views) (own_stops live views at.1.here)
+
+              stronger : (EachWire IsShut (Wires is) × EachWire IsShut (o.wire ∷ [])) ⊎ TurnRests l.current (Wires is) o.wire → (EachWire IsShut (Wires is) × EachWire IsShut (o.wire ∷ [])) ⊎ InterleaveRests k (Wires is) o.wire
+              stronger (inl h) = inl h
+              stronger (inr (inl h)) = inr (inl (h.0, (l.current, h.1, stops)))
+              stronger (inr (inr h)) = inr (inr h)
+
     stays_by : (kd : Kind) (first now : InLogic) → TakesAs kd first → TellsMoves w k now → Row now → Law first now → EachPort InStands is → OutStands o → Stays kd
-    stays_by (Concat n) (logic.Taking f) (logic.Taking l) t tells r law s so = taking_stays f l ConcatRests (ap TakingRests (law.same ∙ t.0)) r law (concat_rests is o ri ro)
-    stays_by (Interleave n c) (logic.Taking f) (logic.Taking l) t tells r law s so = taking_stays f l InterleaveRests (ap TakingRests (law.same ∙ t.0)) r law (interleave_rests is o ri ro)
+    stays_by (Concat n) (logic.Taking f) (logic.Taking l) t tells r law s so = taking_stays f l ConcatRests (ap (λ (m : Option ℕ). TakingRests m l.current) (law.same ∙ t.0)) r law (concat_rests is o ri ro)
+    stays_by (Interleave n c) (logic.Taking f) (logic.Taking l) t tells r law s so = interleave_stays c f l t.0 t.1 law r
     stays_by MergeSorted (logic.Sorting f) (logic.Sorting l) t tells r law s so = sorted_stays f l l.phase refl r r.ports law s so
     stays_by Zip (logic.Zipping f) (logic.Zipping l) t tells r law s so = zip_stays f l l.phase refl r r.ports law s so
     stays_by (Merge n) (logic.Merging f) (logic.Merging l) t tells r law s so =

@@ -1,13 +1,13 @@
 -- A row of a picture that rests, proved once over a stage's own ports, is a row of the picture's wires: a wire shows what the
 -- port shows, or it is a lane, which may be read as idling.
-use Rattle.std.proofs.Common.{◌≡◌, ◌≢◌, ◌⊎◌, inl, inr, ℕ, ◌+◌, ◌≤◌, true, false, List, [], ◌∷◌, map, None, refl, sym, subst, ◌∙◌, arith}
+use Rattle.std.proofs.Common.{◌≡◌, ◌≢◌, ◌⊎◌, inl, inr, ℕ, ◌+◌, ◌≤◌, true, false, List, [], ◌∷◌, map, None, Some, refl, sym, subst, ◌∙◌, arith}
 use Rattle.port_core.specs.declared.view.InView.{InView}
 use Rattle.port_core.specs.declared.view.InView.TheVariants.{Idle, Pulled, Finished, Cancelled}
 use Rattle.port_core.specs.declared.view.OutView.{OutView}
 use Rattle.port_core.specs.declared.view.OutView.TheVariants as outlet
 use Rattle.elem_core.specs.Items.{elements}
 use Rattle.stream_model.specs.Picks.{count_of}
-use Rattle.stream_model.specs.View.{EachWire, SomeWire}
+use Rattle.stream_model.specs.View.{EachWire, SomeWire, total}
 use Rattle.stream_model.specs.View as picture
 use Rattle.stream_model.specs.Rests.{
   Waits,
@@ -19,14 +19,18 @@ use Rattle.stream_model.specs.Rests.{
   IdlesOrShut,
   WaitsIdlesOrShut,
   FirstOpenWaits,
-  OneWaits,
+  WaitsAt,
+  Turn,
+  stops_at,
+  turns_from,
+  turns_stop,
   IsOrLane,
   ZipInput,
   MergeInput,
   MergeWaits,
   MergeRests,
   ConcatRests,
-  InterleaveRests,
+  TurnRests,
   SortedInput,
   SortedStands,
   SortedRests,
@@ -152,10 +156,10 @@ first_open [] r h = h
 first_open (i ∷ is) r (inl h) = inl (waits i r.0 h.0, each IdlesOrShut IdlesOrShut quiet is r.1 h.1)
 first_open (i ∷ is) r (inr h) = inr (shuts i r.0 h.0, first_open is r.1 h.1)
 
-one_waits : (is : List InPort) → EachPort InRests is → OneWaits (map own_in is) → OneWaits (map (λ (i : InPort). i.wire) is)
-one_waits [] r h = h
-one_waits (i ∷ is) r (inl h) = inl (waits i r.0 h.0, each IdlesOrShut IdlesOrShut quiet is r.1 h.1)
-one_waits (i ∷ is) r (inr h) = inr (quiet i r.0 h.0, one_waits is r.1 h.1)
+waits_at : (p n : ℕ) (is : List InPort) → EachPort InRests is → WaitsAt p n (map own_in is) → WaitsAt p n (map (λ (i : InPort). i.wire) is)
+waits_at p n [] r h = h
+waits_at p n (i ∷ is) r (inl h) = inl (h.0, waits i r.0 h.1, each IdlesOrShut IdlesOrShut quiet is r.1 h.2)
+waits_at p n (i ∷ is) r (inr h) = inr (quiet i r.0 h.0, waits_at p (n + 1) is r.1 h.1)
 
 -- ---- the rows
 
@@ -164,9 +168,9 @@ module _ (is : List InPort) (o : OutPort) (r : EachPort InRests is) (ro : OutRes
   concat_rests (inl h) = inl (asked o ro h.0, first_open is r h.1)
   concat_rests (inr h) = inr (unasked o ro h.0, each IdlesOrShut IdlesOrShut quiet is r h.1)
 
-  pub interleave_rests : InterleaveRests (map own_in is) (own_out o) → InterleaveRests (map (λ (i : InPort). i.wire) is) o.wire
-  interleave_rests (inl h) = inl (asked o ro h.0, one_waits is r h.1)
-  interleave_rests (inr h) = inr (unasked o ro h.0, each IdlesOrShut IdlesOrShut quiet is r h.1)
+  pub turn_rests : (p : ℕ) → TurnRests p (map own_in is) (own_out o) → TurnRests p (map (λ (i : InPort). i.wire) is) o.wire
+  turn_rests p (inl h) = inl (asked o ro h.0, waits_at p 0 is r h.1)
+  turn_rests p (inr h) = inr (unasked o ro h.0, each IdlesOrShut IdlesOrShut quiet is r h.1)
 
   waits_or_shut : (i : InPort) → InRests i → Waits (own_in i) ⊎ IsShut (own_in i) → Waits i.wire ⊎ IsShut i.wire
   waits_or_shut i q (inl h) = inl (waits i q h)
@@ -234,6 +238,46 @@ sent_or_lane i Pulled e ne q = inr (q.waits e).1
 sent_or_lane i Idle e ne q = elim (q.idles e) [ inl l ↦ inl l | inr o ↦ inr o.1 ]
 sent_or_lane i Finished e ne q = q.over_sent e
 sent_or_lane i Cancelled e ne q = absurd (ne refl)
+
+-- whether it is shut
+shut_or_lane : (i : InPort) (x : InView) → i.view ≡ x → x ≢ Cancelled → InRests i → IsLane i.wire ⊎ (i.wire.shut ≡ input_closed x)
+shut_or_lane i Pulled e ne q = inr (q.waits e).0.1
+shut_or_lane i Idle e ne q = elim (q.idles e) [ inl l ↦ inl l | inr o ↦ inr o.0.1 ]
+shut_or_lane i Finished e ne q = inr (q.shut (subst InClosed (sym e) tt))
+shut_or_lane i Cancelled e ne q = absurd (ne refl)
+
+-- where none is a lane, the wires of the inputs are those that the node shows, but for what may still come
+abbrev AllShown : List InPort → Type 0
+AllShown [] = Unit {0}
+AllShown (i ∷ is) = ((i.wire.sent ≡ elements i.got) × (i.wire.shut ≡ input_closed i.view)) × AllShown is
+
+all_shown : (is : List InPort) → EachPort InRests is → EachPort (λ i. i.view ≢ Cancelled) is → SomeWire IsLane (map (λ (i : InPort). i.wire) is) ⊎ AllShown is
+all_shown [] q ne = inr tt
+all_shown (i ∷ is) q ne = by (sent_or_lane i i.view refl ne.0 q.0) (shut_or_lane i i.view refl ne.0 q.0) (all_shown is q.1 ne.1)
+  where
+    by : IsLane i.wire ⊎ (i.wire.sent ≡ elements i.got) → IsLane i.wire ⊎ (i.wire.shut ≡ input_closed i.view) → SomeWire IsLane (map (λ (i : InPort). i.wire) is) ⊎ AllShown is → SomeWire IsLane (map (λ (i : InPort). i.wire) (i ∷ is)) ⊎ AllShown (i ∷ is)
+    by (inl l) b c = inl (inl l)
+    by (inr a) (inl l) c = inl (inl l)
+    by (inr a) (inr b) (inl c) = inl (inr c)
+    by (inr a) (inr b) (inr c) = inr ((a, b), c)
+
+same_turns : (n : ℕ) (is : List InPort) → AllShown is → turns_from n (map own_in is) ≡ turns_from n (map (λ (i : InPort). i.wire) is)
+same_turns n [] s = refl
+same_turns n (i ∷ is) s = rw (s.0.0, s.0.1, same_turns (n + 1) is s.1) refl
+
+same_fuel : (is : List InPort) → AllShown is → total (λ v. v.sent + 1) (map own_in is) ≡ total (λ v. v.sent + 1) (map (λ (i : InPort). i.wire) is)
+same_fuel [] s = refl
+same_fuel (i ∷ is) s = let here = s.0.0 in let rest = same_fuel is s.1 in omega (arith, here, rest)
+
+-- the turns stop where those of the node's own ports do
+pub turns_stop_there : (segment : ℕ) (p : ℕ) (is : List InPort) → EachPort InRests is → EachPort (λ i. i.view ≢ Cancelled) is → turns_stop segment (map own_in is) ≡ Some p → SomeWire IsLane (map (λ (i : InPort). i.wire) is) ⊎ (turns_stop segment (map (λ (i : InPort). i.wire) is) ≡ Some p)
+turns_stop_there segment p is q ne stops = elim (all_shown is q ne) [
+  | inl l ↦ inl l
+  | inr s ↦ inr (
+    ap (λ (n : ℕ). stops_at segment n segment (turns_from 0 (map (λ (i : InPort). i.wire) is))) (sym (same_fuel is s))
+        ∙ (ap (λ (t : List Turn). stops_at segment (total (λ v. v.sent + 1) (map own_in is)) segment t) (sym (same_turns 0 is s)) ∙ stops)
+  )
+]
 
 sorted_input : (i : InPort) → InRests i → (h : ℕ) → SortedInput (own_in i) h → SortedInput i.wire h
 sorted_input i q h (inl w) = inl (waits i q w.0, w.1)

@@ -9,6 +9,7 @@ pub mod OnOks
 pub mod Zips
 pub mod Sorts
 pub mod SortedCounts
+pub mod TurnStops
 pub mod Rests
 pub mod Histories
 pub mod Nodes

@@ -7,7 +7,7 @@ use Rattle.port_core.specs.View as port
 use Rattle.stream_model.specs.Outlook.{End}
 use Rattle.stream_model.specs.FanIn.{Inflow, pairs}
 use Rattle.stream_model.specs.View.{EachWire}
-use Rattle.stream_model.specs.Rests.{IdlesOrShut, WaitsIdlesOrShut, FirstOpenWaits, OneWaits, SortedInput, SortedStands, SortedRests, ZipRests}
+use Rattle.stream_model.specs.Rests.{IdlesOrShut, WaitsIdlesOrShut, FirstOpenWaits, WaitsAt, SortedInput, SortedStands, SortedRests, ZipRests}
 use Rattle.stage_core.specs.Zips.{ZipKeeps}
 use Rattle.stage_core.specs.Fans.{FanKeeps}
 use Rattle.stage_core.specs.OwnPorts.{own_input, own_output}
@@ -56,13 +56,13 @@ first_waits n (suc i) (b ∷ over) (f ∷ fs) l h o =
     let c : n + suc i ≡ n + 1 + i = omega arith in
     rw e (inr (refl, rw c (first_waits (n + 1) i over fs (omega (arith, l)) h (λ k m w. o (suc k) (omega arith) (omega (arith, w))))))
 
-one_waits : (n i : ℕ) (over : List Bool) (fs : List Inflow) → length fs ≡ length over → slice_get over i ≡ Some false → OneWaits (own_inputs (seats n over (n + i) true) fs)
+one_waits : (n i : ℕ) (over : List Bool) (fs : List Inflow) → length fs ≡ length over → slice_get over i ≡ Some false → WaitsAt (n + i) n (own_inputs (seats n over (n + i) true) fs)
 one_waits n i [] fs l h = cc
 one_waits n i (b ∷ over) [] l h = absurd (omega (arith, l))
 one_waits n zero (b ∷ over) (f ∷ fs) l h =
     let e : b ≡ false = cc in
     let x : (n == n + 0) ≡ true = same n (n + 0) (omega arith) in
-    rw (e, x) (inl ((refl, refl), others_idle (n + 1) (n + 0) over fs (omega arith)))
+    rw (e, x) (inl (omega arith, (refl, refl), others_idle (n + 1) (n + 0) over fs (omega arith)))
 one_waits n (suc i) (b ∷ over) (f ∷ fs) l h =
     let x : (n == n + suc i) ≡ false = other n (n + suc i) (λ e. absurd (omega (arith, e))) in
     let c : n + suc i ≡ n + 1 + i = omega arith in
@@ -73,7 +73,7 @@ one_waits n (suc i) (b ∷ over) (f ∷ fs) l h =
     by_flag false l = inl (inr (refl, refl))
 
 open_rests : (segment : Option ℕ) (over : List Bool) (c : ℕ) (asked : Bool) (ins : List Inflow) (g : List Tree) → length ins ≡ length over → slice_get over c ≡ Some false → InOrder segment over c
-    → FanRests (TakingRests segment) (record { ins = seats 0 over c asked; outs = wish asked ∷ [] }) ins g
+    → FanRests (TakingRests segment c) (record { ins = seats 0 over c asked; outs = wish asked ∷ [] }) ins g
 open_rests None over c false ins g l h o = inr (inr ((refl, refl), all_idle 0 c over ins))
 open_rests (Some s) over c false ins g l h o = inr (inr ((refl, refl), all_idle 0 c over ins))
 open_rests None over c true ins g l h o = let z : 0 + c ≡ c = omega arith in inr (inl ((refl, refl), let r = first_waits 0 c over ins l h o in rw z at r))
@@ -83,14 +83,14 @@ length-seats : (n c : ℕ) (over : List Bool) (asked : Bool) → length (seats n
 length-seats n c [] asked = refl
 length-seats n c (b ∷ over) asked = ap suc (length-seats (n + 1) c over asked)
 
-pub taking_rests : (l : Taking) (v : port.View) (ins : List Inflow) (g : List Tree) → taking.port_state l v → length ins ≡ length v.ins → FanRests (TakingRests l.segment) v ins g
+pub taking_rests : (l : Taking) (v : port.View) (ins : List Inflow) (g : List Tree) → taking.port_state l v → length ins ≡ length v.ins → FanRests (TakingRests l.segment l.current) v ins g
 taking_rests l v ins g r long = by_live l.live r
   where
-    by_live : (b : Bool) → taking.port_state_by b l v → FanRests (TakingRests l.segment) v ins g
+    by_live : (b : Bool) → taking.port_state_by b l v → FanRests (TakingRests l.segment l.current) v ins g
     by_live true r =
         let many : length ins ≡ length l.over = long ∙ ap (λ (w : port.View). length w.ins) r.0 ∙ length-seats 0 l.current l.over l.asked in
-        subst (λ w. FanRests (TakingRests l.segment) w ins g) (sym r.0) (open_rests l.segment l.over l.current l.asked ins g many r.1.here r.1.order)
-    by_live false r = closed_rests (TakingRests l.segment) v ins g r
+        subst (λ w. FanRests (TakingRests l.segment l.current) w ins g) (sym r.0) (open_rests l.segment l.over l.current l.asked ins g many r.1.here r.1.order)
+    by_live false r = closed_rests (TakingRests l.segment l.current) v ins g r
 
 -- ---- merge_sorted
 

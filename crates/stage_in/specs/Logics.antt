@@ -168,7 +168,7 @@ pub record InLaw (first now : InLogic) (v : port.View) (took gave : List (List I
 
 -- one that waits for nothing that it could do, by its kind
 abbrev pub KindRests : InLogic → List SeenWire → SeenWire → Type 0
-KindRests (logic.Taking l) = TakingRests l.segment
+KindRests (logic.Taking l) = TakingRests l.segment l.current
 KindRests (logic.Sorting l) = SortedRests
 KindRests (logic.Zipping l) = ZipRests
 KindRests (logic.Merging l) = MergeRests l.log.moves

@@ -10,7 +10,7 @@ use Rattle.stream_model.specs.Graph.{Graph}
 use Rattle.stream_model.specs.Node.{World}
 use Rattle.stream_model.specs.OneWay.{OneWay, one_way}
 use Rattle.stream_model.specs.View.{SeenWire, SomeWire}
-use Rattle.stream_model.specs.Rests.{Waits, IsAsked, IsUnasked, FirstOpenWaits, OneWaits, OneToOne, ManyToOne, OneToMany, StageRests, BufferRests, DroppingRests, MergeRests, ConcatRests, InterleaveRests, SortedStands, SortedRests, ZipRests, BroadcastRests, BalanceRests, numbered, SomeOwed, PartitionRests, SinkRests, SourceRests, RowRests, stage_rests, dropping_rests}
+use Rattle.stream_model.specs.Rests.{Waits, IsAsked, IsUnasked, FirstOpenWaits, WaitsAt, OneToOne, ManyToOne, OneToMany, StageRests, BufferRests, DroppingRests, MergeRests, ConcatRests, InterleaveRests, SortedStands, SortedRests, ZipRests, BroadcastRests, BalanceRests, numbered, SomeOwed, PartitionRests, SinkRests, SourceRests, RowRests, stage_rests, dropping_rests}
 
 -- some input waits, or some output is unasked
 abbrev pub Exit : List SeenWire → List SeenWire → Type 0
@@ -21,10 +21,10 @@ first_open [] h = absurd h
 first_open (i ∷ is) (inl h) = inl h.0
 first_open (i ∷ is) (inr h) = inr (first_open is h.1)
 
-one_waits : (is : List SeenWire) → OneWaits is → SomeWire Waits is
-one_waits [] h = absurd h
-one_waits (i ∷ is) (inl h) = inl h.0
-one_waits (i ∷ is) (inr h) = inr (one_waits is h.1)
+waits_at : (p n : ℕ) (is : List SeenWire) → WaitsAt p n is → SomeWire Waits is
+waits_at p n [] h = absurd h
+waits_at p n (i ∷ is) (inl h) = inl h.1
+waits_at p n (i ∷ is) (inr h) = inr (waits_at p (n + 1) is h.1)
 
 weaker : {P Q : SeenWire → Type 0} (vs : List SeenWire) → ((v : SeenWire) → P v → Q v) → SomeWire P vs → SomeWire Q vs
 weaker [] f h = absurd h
@@ -71,9 +71,9 @@ concat_exit : (is : List SeenWire) (o : SeenWire) → ConcatRests is o → Exit 
 concat_exit is o (inl h) = inl (first_open is h.1)
 concat_exit is o (inr h) = inr (inl h.0)
 
-interleave_exit : (is : List SeenWire) (o : SeenWire) → InterleaveRests is o → Exit is (o ∷ [])
-interleave_exit is o (inl h) = inl (one_waits is h.1)
-interleave_exit is o (inr h) = inr (inl h.0)
+interleave_exit : (segment : ℕ) (is : List SeenWire) (o : SeenWire) → InterleaveRests segment is o → Exit is (o ∷ [])
+interleave_exit segment is o (inl h) = inl (waits_at h.1.0 0 is h.1.1)
+interleave_exit segment is o (inr h) = inr (inl h.0)
 
 sorted_stands : (is : List SeenWire) (o : SeenWire) → SortedStands is o → Exit is (o ∷ [])
 sorted_stands is o (inl h) = inl h.1
@@ -137,7 +137,7 @@ module _ (g : Graph) (w : World) where
   row_exit node (Buffer n p) d is os h = any_buffer_exit node n p is os h
   row_exit node (Merge n) d is os h = many_to_one (MergeRests (w.moves node)) is os (merge_exit (w.moves node) is) h
   row_exit node (Concat n) d is os h = many_to_one ConcatRests is os (concat_exit is) h
-  row_exit node (Interleave n s) d is os h = many_to_one InterleaveRests is os (interleave_exit is) h
+  row_exit node (Interleave n s) d is os h = many_to_one (InterleaveRests s) is os (interleave_exit s is) h
   row_exit node MergeSorted d is os h = many_to_one SortedRests is os (sorted_exit is) h
   row_exit node Zip d is os h = many_to_one ZipRests is os (zip_exit is) h
   row_exit node (Broadcast n) d is os h = one_to_many BroadcastRests is os (λ i p. broadcast_exit i os p) h

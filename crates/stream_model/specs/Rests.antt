@@ -1,5 +1,5 @@
 -- A picture that rests: no node has anything to do.
-use Rattle.std.specs.Prelude.{◌≡◌, ℕ, ◌+◌, ◌<◌, ◌≤◌, Bool, true, false, ◌⊎◌, List, [], ◌∷◌, length, take, slice_get, Option, Some, None, is_some}
+use Rattle.std.specs.Prelude.{◌≡◌, ℕ, zero, suc, ◌+◌, ◌-◌, ◌<◌, ◌≤◌, nat_le, Bool, true, false, ◌⊎◌, if◌then◌else◌, List, [], ◌∷◌, ◌++◌, length, take, slice_get, Option, Some, None, is_some}
 use Rattle.elem_core.specs.Tree.{Tree}
 use Rattle.elem_core.specs.declared.function.MapFn.{MapFn}
 use Rattle.elem_core.specs.declared.why.Decider.TheVariants.{Stop}
@@ -15,7 +15,7 @@ use Rattle.stream_model.specs.Graph.{Graph, Node}
 use Rattle.stream_model.specs.Node.{World}
 use Rattle.stream_model.specs.Picks.{buffered, count_of, empty_buffer, nothing_held}
 use Rattle.stream_model.specs.OneWay.{OneWay, one_way_by, is_sink}
-use Rattle.stream_model.specs.View.{SeenWire, EachWire, SomeWire, ins, outs}
+use Rattle.stream_model.specs.View.{SeenWire, EachWire, SomeWire, total, ins, outs}
 
 -- how the wire stands for the node at its end
 abbrev pub Waits : SeenWire → Type 0
@@ -57,11 +57,6 @@ IsOrLane v n = (n ≤ v.sent) × (IsLane v ⊎ (v.sent ≡ n))
 abbrev pub FirstOpenWaits : List SeenWire → Type 0
 FirstOpenWaits [] = ⊥
 FirstOpenWaits (v ∷ vs) = (Waits v × EachWire IdlesOrShut vs) ⊎ (IsShut v × FirstOpenWaits vs)
-
--- one input waits, and the others idle or are shut
-abbrev pub OneWaits : List SeenWire → Type 0
-OneWaits [] = ⊥
-OneWaits (v ∷ vs) = (Waits v × EachWire IdlesOrShut vs) ⊎ (IdlesOrShut v × OneWaits vs)
 
 -- an input of a zip that gave n pairs
 abbrev pub ZipInput : ℕ → SeenWire → Type 0
@@ -133,9 +128,46 @@ MergeRests moves is o =
 abbrev pub ConcatRests : List SeenWire → SeenWire → Type 0
 ConcatRests is o = (IsAsked o × FirstOpenWaits is) ⊎ (IsUnasked o × EachWire IdlesOrShut is)
 
--- an interleave
-abbrev pub InterleaveRests : List SeenWire → SeenWire → Type 0
-InterleaveRests is o = (IsAsked o × OneWaits is) ⊎ (IsUnasked o × EachWire IdlesOrShut is)
+-- the input of that number waits, and the others idle or are shut, of the inputs from number n on
+abbrev pub WaitsAt : ℕ → ℕ → List SeenWire → Type 0
+WaitsAt p n [] = ⊥
+WaitsAt p n (v ∷ vs) = ((n ≡ p) × Waits v × EachWire IdlesOrShut vs) ⊎ (IdlesOrShut v × WaitsAt p (n + 1) vs)
+
+-- an input of an interleave: its number, how many of its elements are left, and whether it has ended
+pub record Turn : Type 0 where
+  pub port : ℕ
+  pub left : ℕ
+  pub ended : Bool
+
+-- the inputs from number n on, by what was sent there
+abbrev pub turns_from : ℕ → List SeenWire → List Turn
+turns_from n [] = []
+turns_from n (v ∷ vs) = record { port = n; left = v.sent; ended = v.shut } ∷ turns_from (n + 1) vs
+
+-- The input at which an interleave stops once all that was sent was taken in turn: the first in turn that has none left and has not
+-- ended. `left` is how many elements of its segment are to come; `fuel` is enough where it is all elements and inputs.
+abbrev pub stops_at : ℕ → ℕ → ℕ → List Turn → Option ℕ
+stops_at segment zero left q = None
+stops_at segment (suc fuel) left [] = None
+stops_at segment (suc fuel) left (t ∷ q) =
+    elim t.left as (λ _. Option ℕ) [
+      | zero ↦ if t.ended then stops_at segment fuel segment q else Some t.port
+      | suc n ↦ if nat_le left 1 then stops_at segment fuel segment (q ++ record t { left = n } ∷ []) else stops_at segment fuel (left - 1) (record t { left = n } ∷ q)
+    ]
+
+-- where the turns of an interleave stop
+abbrev pub turns_stop : ℕ → List SeenWire → Option ℕ
+turns_stop segment is = stops_at segment (total (λ v. v.sent + 1) is) segment (turns_from 0 is)
+
+-- an input of that number waits where it is asked
+abbrev pub TurnRests : ℕ → List SeenWire → SeenWire → Type 0
+TurnRests p is o = (IsAsked o × WaitsAt p 0 is) ⊎ (IsUnasked o × EachWire IdlesOrShut is)
+
+-- an interleave: where all its inputs are fused, the one that waits is that at which the turns stop
+abbrev pub InterleaveRests : ℕ → List SeenWire → SeenWire → Type 0
+InterleaveRests segment is o =
+    (IsAsked o × ((p : ℕ) × WaitsAt p 0 is × (SomeWire IsLane is ⊎ (turns_stop segment is ≡ Some p))))
+    ⊎ (IsUnasked o × EachWire IdlesOrShut is)
 
 -- so many elements of an input wait in a merge_sorted: none where the input waits, one where it is open and does not, and one at most
 -- behind its end
@@ -231,7 +263,7 @@ module _ (g : Graph) (w : World) where
   RoleRests node (splits_after p chain j) d is os = stage_rests (one_way_by g w node (splits_after p chain j) d) is os
   RoleRests node (merges n) d is os = ManyToOne (MergeRests (w.moves node)) is os
   RoleRests node (concats n) d is os = ManyToOne ConcatRests is os
-  RoleRests node (interleaves n s) d is os = ManyToOne InterleaveRests is os
+  RoleRests node (interleaves n s) d is os = ManyToOne (InterleaveRests s) is os
   RoleRests node merges_sorted d is os = ManyToOne SortedRests is os
   RoleRests node zips d is os = ManyToOne ZipRests is os
   RoleRests node (broadcasts n) d is os = OneToMany BroadcastRests is os

@@ -31,14 +31,14 @@ returns-in_err-heard-clause-breaks g c = on_err _ (breaks_aside g.S.Stage.port_s
 pub returns-in_err-heard-clause-count : goal.returns-in_err-heard-clause-count
 returns-in_err-heard-clause-count g c = step_count g.S.Stage.keeps _ c.loop-used.self _ c.loop-used.invariant.1 (taken_kept g.S.Stage.keeps _ _ c.in-Some.w _ c.in-Some.ensures.some.1.1 c.in_err-heard.ensures.kept)
 
-pub returns-then-branch-clause-uses : goal.returns-then-branch-clause-uses
-returns-then-branch-clause-uses g c = uses_trans _ _ _ _ 1 c.loop-used.invariant.2 (taken_uses _ _ _ c.in-Some.w 1 c.in-Some.ensures.some.1.1 c.in_ok-heard.ensures.uses)
+pub returns-then-is_to_stop-clause-uses : goal.returns-then-is_to_stop-clause-uses
+returns-then-is_to_stop-clause-uses g c = uses_trans _ _ _ _ 1 c.loop-used.invariant.2 (taken_uses _ _ _ c.in-Some.w 1 c.in-Some.ensures.some.1.1 c.in_ok-heard.ensures.uses)
 
-pub returns-then-branch-clause-still : goal.returns-then-branch-clause-still
-returns-then-branch-clause-still g c = still_trans g.S.Stage.passive _ _ _ c.loop-used.invariant.1.ends c.loop-used.invariant.5 (still_taken g.S.Stage.passive _ _ _ c.in-Some.w c.in-Some.ensures.some.1.1 c.in_ok-heard.ensures.still)
+pub returns-then-is_to_stop-clause-still : goal.returns-then-is_to_stop-clause-still
+returns-then-is_to_stop-clause-still g c = still_trans g.S.Stage.passive _ _ _ c.loop-used.invariant.1.ends c.loop-used.invariant.5 (still_taken g.S.Stage.passive _ _ _ c.in-Some.w c.in-Some.ensures.some.1.1 c.in_ok-heard.ensures.still)
 
-pub returns-then-branch-clause-untouched : goal.returns-then-branch-clause-untouched
-returns-then-branch-clause-untouched g c = untouched_trans g.S.Stage.passive _ _ _ _ c.loop-used.invariant.1.ends c.loop-used.invariant.1.ports c.loop-used.invariant.5.kinds c.loop-used.invariant.6 (untouched_stop g.S.Stage.passive _ c.in-Some.w _ _ _ c.in-Some.ensures.some.1.1 c.in_ok-heard.ensures.untouched)
+pub returns-then-is_to_stop-clause-untouched : goal.returns-then-is_to_stop-clause-untouched
+returns-then-is_to_stop-clause-untouched g c = untouched_trans g.S.Stage.passive _ _ _ _ c.loop-used.invariant.1.ends c.loop-used.invariant.1.ports c.loop-used.invariant.5.kinds c.loop-used.invariant.6 (untouched_stop g.S.Stage.passive _ c.in-Some.w _ _ _ c.in-Some.ensures.some.1.1 c.in_ok-heard.ensures.untouched)
 
 pub loop-used-preserved : goal.loop-used-preserved
 loop-used-preserved g c = (
@@ -48,6 +48,6 @@ loop-used-preserved g c = (
   search (rules, arith),
   taken_read g.S.Stage.gone _ _ c.in-Some.w _ c.in-Some.ensures.some.1.1 c.in_ok-heard.ensures.gone ∙ c.loop-used.invariant.4,
   still_trans g.S.Stage.passive _ _ _ c.loop-used.invariant.1.ends c.loop-used.invariant.5 (still_taken g.S.Stage.passive _ _ _ c.in-Some.w c.in-Some.ensures.some.1.1 c.in_ok-heard.ensures.still),
-  untouched_trans g.S.Stage.passive _ _ _ _ c.loop-used.invariant.1.ends c.loop-used.invariant.1.ports c.loop-used.invariant.5.kinds c.loop-used.invariant.6 (untouched_next g.S.Stage.passive _ false c.in-Some.w _ _ _ (c.is_to_stop.ensures c.if-branch.false) c.in-Some.ensures.some.1.1 c.in_ok-heard.ensures.untouched),
+  untouched_trans g.S.Stage.passive _ _ _ _ c.loop-used.invariant.1.ends c.loop-used.invariant.1.ports c.loop-used.invariant.5.kinds c.loop-used.invariant.6 (untouched_next g.S.Stage.passive _ false c.in-Some.w _ _ _ (c.is_to_stop.ensures c.if-is_to_stop.false) c.in-Some.ensures.some.1.1 c.in_ok-heard.ensures.untouched),
   search (rules, arith),
 )

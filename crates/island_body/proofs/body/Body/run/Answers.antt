@@ -47,15 +47,15 @@ returns-in-None-clause-wakes g c =
     let e = c.in_ok-heard.ensures in
     wakes_on _ _ _ c.loop-heard.invariant.wakes (wakes_same _ _ e.lanes.0 e.lanes.1 e.lanes.4)
 
-pub returns-then-branch-clause-none : goal.returns-then-branch-clause-none
-returns-then-branch-clause-none g c = λ z less.
-    let s = c.is_to_pause.ensures c.if-branch.true in
+pub returns-then-is_to_pause-clause-none : goal.returns-then-is_to_pause-clause-none
+returns-then-is_to_pause-clause-none g c = λ z less.
+    let s = c.is_to_pause.ensures c.if-is_to_pause.true in
     let some = s.1.0 in
     absurd (omega (arith, z, some))
 
-pub returns-then-branch-clause-rest : goal.returns-then-branch-clause-rest
-returns-then-branch-clause-rest g c = λ less calm.
-    let s = c.is_to_pause.ensures c.if-branch.true in
+pub returns-then-is_to_pause-clause-rest : goal.returns-then-is_to_pause-clause-rest
+returns-then-is_to_pause-clause-rest g c = λ less calm.
+    let s = c.is_to_pause.ensures c.if-is_to_pause.true in
     elim calm [
       | inl no ↦ absurd (let t : true ≡ false = sym s.0 ∙ no in cc)
       | inr no ↦ absurd (let t : true ≡ false = sym s.1.1 ∙ no in cc)

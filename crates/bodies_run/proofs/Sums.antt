@@ -1,11 +1,11 @@
 -- Sums over lists, and how they are spread over the lanes.
 use Rattle.std.specs.Prelude.{slice_get, Option}
 use Rattle.std.specs.List.{sum_by}
-use Rattle.std.proofs.Common.{◌≡◌, ◌≢◌, ℕ, zero, suc, ◌+◌, ◌<◌, ◌≤◌, List, [], ◌∷◌, None, Some, map, refl, sym, ap, ◌∙◌, arith}
+use Rattle.std.proofs.Common.{◌≡◌, ◌≢◌, inl, inr, ℕ, zero, suc, ◌+◌, ◌<◌, ◌≤◌, List, [], ◌∷◌, None, Some, map, refl, sym, ap, ◌∙◌, arith}
 use Rattle.std.proofs.lemmas.List.Sums.{sum_by-cons}
-use native.Mathlib.Decide.{ℕ_discrete}
 use Rattle.stream_model.specs.Graph.{Edge}
 use Rattle.fused_net.specs.Costs.{sum_below}
+use Rattle.fused_net.proofs.Reading.{same_or_not}
 use Rattle.fused_net.proofs.Sums.{sum_has}
 use Rattle.run_laws.specs.Units.{lane_at, if_lane}
 
@@ -138,13 +138,13 @@ over_before ws w c (suc n) le =
 
 pub over_once : (ws : List Edge) (w c n : ℕ) → over ws (λ u. when_same w u c) n ≤ c
 over_once ws w c zero = omega arith
-over_once ws w c (suc n) = elim (ℕ_discrete w n) [
-  | yes e ↦
+over_once ws w c (suc n) = elim (same_or_not w n) [
+  | inl e ↦
       let rest : over ws (λ u. when_same w u c) n ≡ 0 = over_before ws w c n (omega (arith, e)) in
       let same : when_same w n c ≡ c = ap (λ (k : ℕ). when_same w k c) (sym e) ∙ same_hit w c in
       let here : if_lane (lane_at ws n) (when_same w n c) ≤ c = lane_le (lane_at ws n) (when_same w n c) c (omega (arith, same)) in
       omega (arith, rest, here)
-  | no ne ↦
+  | inr ne ↦
       let rest : over ws (λ u. when_same w u c) n ≤ c = over_once ws w c n in
       let here : if_lane (lane_at ws n) (when_same w n c) ≡ 0 = lane_none (lane_at ws n) (when_same w n c) (other_hit w n c ne) in
       omega (arith, rest, here)

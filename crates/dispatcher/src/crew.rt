@@ -61,15 +61,6 @@ pub fn wake_each<B: Waking, R: Wait>(
     }
 }
 
-// Puts an island back on the list behind its turn.
-fn put_back<R: Wait>(rt: &R, list: &ReadyList, id: u32, waits: bool) {
-    if waits {
-        list.put_later(rt, id);
-    } else {
-        list.put(rt, id);
-    }
-}
-
 // One turn of an island, if it is ready: its turn begins, claims units, is taken, wakes others, and ends. True where the worker may go
 // on, and false where memory was wanting.
 fn serve<B: Waking, R: Wait>(
@@ -96,7 +87,7 @@ fn serve<B: Waking, R: Wait>(
         turns.wake(seat, id);
     }
     if turns.end(seat, turn) {
-        put_back(rt, list, id, came.waits);
+        list.put(rt, id);
         if some && came.long {
             list.call_one();
         }

@@ -25,6 +25,8 @@ pub struct TablePlace<B: Turning> {
     broken: bool,
     // Whether its last turn lasted, as one does that waits in a read.
     slow: bool,
+    // How often in a row its turn was put off, since it may wait.
+    put_off: u32,
 }
 
 impl<B: Turning> Model for TablePlace<B> {
@@ -51,10 +53,8 @@ impl<B: Turning> Kept for TablePlace<B> {
 pub struct Came {
     /// Whether it used some unit.
     pub told: bool,
-    /// Whether it used up what it claimed, and that was some, or an event is left.
+    /// Whether it is to come again: it used up what it claimed, and that was some, or an event is left, or it was put off.
     pub again: bool,
-    /// Whether its next turn may wait for a read.
-    pub waits: bool,
     /// Whether it used so many units that what it woke is worth another worker.
     pub long: bool,
     /// Whether memory was wanting.
@@ -92,26 +92,44 @@ impl<B: Turning> TablePlace<B> {
             used: 0,
             broken: false,
             slow: false,
+            put_off: 0,
         }
     }
 
-    /// One turn of at most 1000 units, all of which the budget has. After a turn in which memory was wanting there is none, nor where it
-    /// may wait for a read and an island is on the list whose turn does not: it is to come again then. Where its last turn lasted, another
-    /// worker is called first for what else is on the list.
+    /// One turn of at most 1000 units, all of which the budget has. After a turn in which memory was wanting there is none. A turn that
+    /// may wait is put off while the list has an island that no other worker comes for, as often as there are islands: so often, at
+    /// the most, is an item handed on from lane to lane.
     pub fn turn(&mut self, alloc: Global, budget: &Budget, list: &ReadyList) -> Came
         requires belongs { Belongs (budget_id budget.now) budget.now.limit self.old }
         requires few { budget.now.limit ≤ MOST_COUNT }
         ensures same { self.new ≡ self.old }
     {
-        if self.body.may_wait() && list.has_quiet() {
+        if !self.body.may_wait() {
+            return self.timed_turn(alloc, budget, list);
+        }
+        if !list.begin_wait() && self.put_off < list.count {
+            self.put_off += 1;
+            list.end_wait();
             return Came {
                 told: false,
                 again: true,
-                waits: true,
                 long: false,
                 broke: false,
             };
         }
+        self.put_off = 0;
+        let came = self.timed_turn(alloc, budget, list);
+        list.end_wait();
+        came
+    }
+
+    // A turn, behind which it is known whether it lasted. Where its last one did, another worker is called first for what else is on the
+    // list.
+    fn timed_turn(&mut self, alloc: Global, budget: &Budget, list: &ReadyList) -> Came
+        requires belongs { Belongs (budget_id budget.now) budget.now.limit self.old }
+        requires few { budget.now.limit ≤ MOST_COUNT }
+        ensures same { self.new ≡ self.old }
+    {
         if self.slow {
             list.call_for_more();
         }
@@ -130,7 +148,6 @@ impl<B: Turning> TablePlace<B> {
             return Came {
                 told: false,
                 again: false,
-                waits: false,
                 long: false,
                 broke: false,
             };
@@ -143,7 +160,6 @@ impl<B: Turning> TablePlace<B> {
                 Came {
                     told: used > 0,
                     again: granted > 0 && (used as u64 == granted || self.body.has_event()),
-                    waits: self.body.may_wait(),
                     long: used >= LONG,
                     broke: false,
                 }
@@ -154,7 +170,6 @@ impl<B: Turning> TablePlace<B> {
                 Came {
                     told: false,
                     again: false,
-                    waits: false,
                     long: false,
                     broke: true,
                 }
@@ -174,6 +189,7 @@ impl<B: Turning> TablePlace<B> {
             used,
             broken,
             slow: _,
+            put_off: _,
         } = self;
         TableParts {
             body,

@@ -12,14 +12,6 @@
 // sees 0, and who lowers `busy` to 0 rings for all. Who leaves for want of memory may leave islands behind: it rings for one, and who
 // waits looks at the list before it looks at `busy`.
 //
-// The list has two queues. Who looks for an island looks at the one first, and then at the other, where those are whose turns may wait
-// for a read. A look in vain found the one empty at a moment, and the other at a later one. What was put on the one between the two was
-// put by a worker that is busy, and looks later itself: so what is said above holds of both. So a worker waits for a read only where, as
-// it looked, no island was there whose turn does not; and what an island sent in a turn that ended before a read has gone on, as far as
-// workers are there, before that read begins. An island that a peer woke lies in the one queue, as the peer's worker cannot know whether
-// its turn may wait: who takes it, and finds so, puts it on the other, where another island is on the one. So it is moved once at most
-// for each time that it was put.
-//
 // Rings. Who rings makes something true first (an island is on the list, nobody is busy, nobody watches), and then looks whether any
 // worker is asleep. Who sleeps raises `asleep` first, then reads how often the bell was rung, and then looks whether any of these is
 // true. Where the one did not see that the other is asleep, the other's look lies behind, and it does not sleep. Where it did, it rings:
@@ -34,6 +26,11 @@
 // write, no lap begins. So an island lies on the list for two naps at most while no worker comes to the list and one sleeps. Nor does it
 // lie there so long behind each line of a slow source: an island whose last turn lasted longer than a nap is known as slow, and who gives
 // it its next turn rings first, where the list has another island.
+//
+// Turns that may wait. A worker gives an island a turn that may wait for a read only where the list is empty, or another worker comes
+// to it: one that it rings for, or one that is busy and does not wait. `waiting` counts those that wait, and the worker counts itself
+// first and then compares with `busy`: of two that do so at once one sees the other. Else it puts the turn off, behind the others on the
+// list. So what an island sent in a turn that ended before such a read goes on while any worker is left.
 //
 // Who watches. A worker goes to sleep for longer than a nap only where another one watches. One that ceases to watch, since it takes an
 // island, clears `watched` and rings for one as above; and so does each that stops waiting while nobody watches. The one that wakes
@@ -54,13 +51,13 @@ use std::time::Duration;
 #[derive(Drop)]
 pub struct ReadyList {
     queue: ArrayQueue<u32, Global>,
-    // Those whose turns may wait for a read: they are taken where no other is ready.
-    later: ArrayQueue<u32, Global>,
     pub(crate) count: u32,
     // How many workers are busy.
     busy: AtomicU64,
     // How many workers sleep, or are about to.
     asleep: AtomicU64,
+    // How many workers are at turns that may wait for a read.
+    waiting: AtomicU64,
     // 1 where one of those that wait watches.
     watched: AtomicU64,
     // How many laps all workers began.
@@ -91,10 +88,10 @@ impl ReadyList {
     {
         Ok(ReadyList {
             queue: ArrayQueue::new(alloc, count as usize)?,
-            later: ArrayQueue::new(alloc, count as usize)?,
             count,
             busy: AtomicU64::new(0),
             asleep: AtomicU64::new(0),
+            waiting: AtomicU64::new(0),
             watched: AtomicU64::new(0),
             laps: AtomicU64::new(0),
             naps: AtomicU64::new(0),
@@ -102,35 +99,17 @@ impl ReadyList {
         })
     }
 
-    /// Takes an island off the list, one whose turn may wait for a read where no other is there. A worker is busy when it does so.
+    /// Takes an island off the list. A worker is busy when it does so.
     pub fn take<R: Wait>(&self, rt: &R) -> Option<u32>
         ensures { IfSome result (λ id. id < self.now.count) }
     {
-        let id = match self.queue.pop(rt) {
-            Some(id) => id,
-            None => self.later.pop(rt)?,
-        };
+        let id = self.queue.pop(rt)?;
         if id < self.count { Some(id) } else { None }
     }
 
     /// Puts an island on the list. One that finds it full is left to the caller's thread.
     pub fn put<R: Wait>(&self, rt: &R, id: u32) {
         let _ = self.queue.push(rt, id);
-    }
-
-    /// Puts one on the list whose turn may wait for a read: where another is ready, that one is taken first.
-    pub fn put_later<R: Wait>(&self, rt: &R, id: u32) {
-        let _ = self.later.push(rt, id);
-    }
-
-    /// Whether an island is on the list whose turn does not wait for a read, as far as was known when it was put there.
-    pub fn has_quiet(&self) -> bool {
-        !self.queue.is_empty()
-    }
-
-    // Whether no island is on the list.
-    fn is_empty(&self) -> bool {
-        self.queue.is_empty() && self.later.is_empty()
     }
 
     /// Wakes a worker, if one sleeps.
@@ -142,9 +121,25 @@ impl ReadyList {
 
     /// The same where an island is on the list: a worker calls this before a turn that may last.
     pub fn call_for_more(&self) {
-        if !self.is_empty() {
+        if !self.queue.is_empty() {
             self.call_one();
         }
+    }
+
+    /// The worker that calls this is at a turn that may wait for a read. True where no island is on the list, or another worker comes to it.
+    pub fn begin_wait(&self) -> bool {
+        let others = self.waiting.fetch_add(1, Ordering::SeqCst);
+        if self.queue.is_empty() {
+            return true;
+        }
+        self.call_one();
+        self.asleep.load(Ordering::SeqCst) > 0
+            || self.busy.load(Ordering::SeqCst).saturating_sub(others) > 1
+    }
+
+    /// It is there no longer.
+    pub fn end_wait(&self) {
+        self.waiting.fetch_sub(1, Ordering::SeqCst);
     }
 
     /// How many whole naps there were, before a turn begins.
@@ -204,7 +199,7 @@ impl ReadyList {
 
     // One look.
     fn look(&self) -> Sight {
-        if !self.is_empty() {
+        if !self.queue.is_empty() {
             return Sight::Island;
         }
         if self.busy.load(Ordering::SeqCst) == 0 {

@@ -1,32 +1,15 @@
 -- What each node keeps through a handler that wants memory.
 use Rattle.std.proofs.Common.{◌≡◌, inl, inr, ℕ, zero, suc, ◌<◌, Some, List, [], ◌∷◌, length, get_or, slice_get, slice_set, refl, sym, ap, ◌∙◌, arith}
-use Rattle.std.specs.Prelude.{Result, Ok, Err, IsErrAnd, IfOk, OnOk, OnErr}
+use Rattle.std.specs.Prelude.{Result, Ok, Err, OnErr}
 use Rattle.std.proofs.lemmas.Option.{slice_get_within}
 use Rattle.elem_core.specs.declared.item.Item.{Item}
 use Rattle.port_core.specs.View.{View}
-use Rattle.port_core.specs.ActList.{ActList}
 use Rattle.port_core.specs.declared.act.Act.{Act}
 use Rattle.fused_net.specs.Net.{Net, acted_all, with_node}
 use Rattle.fused_net.specs.Laws.{AllKept, NetGoesOn, Starting}
 use Rattle.fused_net.proofs.Reading.{get_there}
 use Rattle.fused_net.proofs.Ongoing.{nodes-acts}
 use Rattle.fused_net.proofs.Responding.{node_is}
-
--- what is said of success says nothing of an error
-pub no_ok : {T E : Type 0} (Q : E → Type 0) (P : T → Type 0) (r : Result T E) → IsErrAnd r Q → IfOk r P
-no_ok Q P (Ok x) h = absurd h
-no_ok Q P (Err e) h = tt
-
-pub not_ok : {T E : Type 0} (Q : E → Type 0) (P : Type 0) (r : Result T E) → IsErrAnd r Q → OnOk r P
-not_ok Q P (Ok x) h = absurd h
-not_ok Q P (Err e) h = tt
-
-abbrev acts_of : ℕ → List Act → ActList
-acts_of room items = record { room = room; items = items }
-
--- a list of actions that was empty, was filled and then done
-pub acts_done : (a b n : ActList) → n ≡ record b { items = [] } → b.room ≡ a.room → a.items ≡ [] → n ≡ a
-acts_done a b n is room none = rw (is, room) (ap (acts_of a.room) (sym none))
 
 -- what holds in any case holds of an error
 pub on_err : {T E P : Type 0} (r : Result T E) → P → OnErr r P

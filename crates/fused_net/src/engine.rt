@@ -679,8 +679,8 @@ impl<S: Stage> Engine<S> {
         self.queue.is_empty()
     }
 
-    // Whether wire w was asked, and the node at its output may wait for a read.
-    fn waits_at(&self, w: usize) -> bool {
+    // Whether wire w was asked, and the node at its output may wait for a read then.
+    fn awaits_read_at(&self, w: usize) -> bool {
         let (Some(wire), Some(ends)) = (self.wires.get(w), self.ends.get(w)) else {
             return false;
         };
@@ -691,9 +691,9 @@ impl<S: Stage> Engine<S> {
     }
 
     /// Whether a node was asked that may wait for a read then. A hint, on which no clause rests. It takes no memory.
-    pub fn may_wait(&self) -> bool {
+    pub fn awaits_read(&self) -> bool {
         for w in 0..self.wires.len() {
-            if self.waits_at(w) {
+            if self.awaits_read_at(w) {
                 return true;
             }
         }

@@ -244,8 +244,8 @@ impl<S: Source, D: Drain, L: Logic, B: PlugBook> Island<S, D, L, B> {
     }
 
     /// Whether one of these was asked. It takes no memory.
-    pub fn waits(&self) -> bool {
-        self.may_wait() && self.engine.may_wait()
+    pub fn awaits_read(&self) -> bool {
+        self.may_wait() && self.engine.awaits_read()
     }
 
     /// The most events that were chased for one that waited for its turn: handled at once, since a handler that had just been called

@@ -19,7 +19,7 @@ use Rattle.elem_core.proofs.trace.Trace.TheSendSync as trace
 use Rattle.elem_core.proofs.why.Cause.TheSendSync as cause
 use Rattle.elem_core.proofs.why.Why.TheSendSync as why
 use Rattle.stream_model.proofs.outcome.EndState.TheSendSync as end_state
-use Rattle.nodes.proofs.Sending.{task_send, line_send}
+use Rattle.line_chain.proofs.Sending.{task_send, line_send}
 use Rattle.nodes.proofs.sink.Writes.TheSendSync as writes
 use Rattle.nodes.proofs.source.LinesSource.TheSendSync as lines_source
 use Rattle.atomic_table.proofs.shared.Seat.TheSendSync as seat

@@ -391,7 +391,7 @@ impl<S: Source, D: Drain, L: Logic, B: PlugBook> Body<S, D, L, B> {
         ensures breaks { OnErr result (BodyBreaks S.state D.state B.lists self.old self.new) }
     {
         let mut count = used;
-        'heard: loop {
+        loop {
             if self.is_to_pause(pausing, count - used) {
                 return Ok(count);
             }
@@ -412,7 +412,7 @@ impl<S: Source, D: Drain, L: Logic, B: PlugBook> Body<S, D, L, B> {
         pausing
             && some > 0
             && !self.peers.woken().is_empty()
-            && self.island.waits()
+            && self.island.awaits_read()
             && self.is_pending()
     }
 

@@ -75,7 +75,7 @@ fn quiet_turn<B: Turning>(
 }
 
 // A turn of each body that does not wait for a read, in order.
-fn round<B: Turning>(alloc: Global, bodies: &mut [B], left: u32) -> Result<u32, NoMemory>
+fn quiet_round<B: Turning>(alloc: Global, bodies: &mut [B], left: u32) -> Result<u32, NoMemory>
     requires keeps { AllOf B.keeps bodies.old }
     requires few { sum_by B.spent bodies.old + left ≤ MOST_COUNT }
     ensures keeps { OnOk result (AllOf B.keeps bodies.new) }
@@ -91,7 +91,7 @@ fn round<B: Turning>(alloc: Global, bodies: &mut [B], left: u32) -> Result<u32, 
     Ok(used)
 }
 
-// Rounds until one uses no unit: then whatever was read has gone as far as it can go by turns that do not wait.
+// The same round after round, until one uses no unit, or each body could hear by then of what the first one sent.
 fn quiet_rounds<B: Turning>(alloc: Global, bodies: &mut [B], left: u32) -> Result<u32, NoMemory>
     requires keeps { AllOf B.keeps bodies.old }
     requires few { sum_by B.spent bodies.old + left ≤ MOST_COUNT }
@@ -102,15 +102,17 @@ fn quiet_rounds<B: Turning>(alloc: Global, bodies: &mut [B], left: u32) -> Resul
     ensures broke { OnErr result (BrokeOff B.keeps B.goes B.breaks bodies.old bodies.new) }
 {
     let mut used = 0;
-    let mut last = 1;
-    while last > 0 && used < left {
-        last = round(alloc, bodies, left - used)?;
+    'rounds: for _ in 0..bodies.len() {
+        let last = quiet_round(alloc, bodies, left - used)?;
+        if last == 0 {
+            return Ok(used);
+        }
         used += last;
     }
     Ok(used)
 }
 
-// One body's turn, where it may wait for a read, and rounds behind it.
+// One body's turn, where it may wait for a read, and rounds of the others behind it.
 fn waiting_turn<B: Turning>(
     alloc: Global,
     bodies: &mut [B],
@@ -154,7 +156,22 @@ fn waiting_round<B: Turning>(alloc: Global, bodies: &mut [B], left: u32) -> Resu
     Ok(used)
 }
 
-// Rounds until one uses no unit. A body whose turn may wait for a read takes it only where no other has anything to do.
+// Rounds of those that do not wait for a read, and then a turn of each that may.
+fn round<B: Turning>(alloc: Global, bodies: &mut [B], left: u32) -> Result<u32, NoMemory>
+    requires keeps { AllOf B.keeps bodies.old }
+    requires few { sum_by B.spent bodies.old + left ≤ MOST_COUNT }
+    ensures keeps { OnOk result (AllOf B.keeps bodies.new) }
+    ensures goes { OnOk result (EachOf B.goes bodies.old bodies.new) }
+    ensures spent { IfOk result (λ used. sum_by B.spent bodies.new ≡ sum_by B.spent bodies.old + used) }
+    ensures within { IfOk result (λ used. used ≤ left) }
+    ensures broke { OnErr result (BrokeOff B.keeps B.goes B.breaks bodies.old bodies.new) }
+{
+    let quiet = quiet_rounds(alloc, bodies, left)?;
+    let waited = waiting_round(alloc, bodies, left - quiet)?;
+    Ok(quiet + waited)
+}
+
+// Rounds until one uses no unit.
 fn rounds<B: Turning>(alloc: Global, bodies: &mut [B], left: u32) -> Result<u32, NoMemory>
     requires keeps { AllOf B.keeps bodies.old }
     requires few { sum_by B.spent bodies.old + left ≤ MOST_COUNT }
@@ -164,10 +181,10 @@ fn rounds<B: Turning>(alloc: Global, bodies: &mut [B], left: u32) -> Result<u32,
     ensures within { IfOk result (λ used. used ≤ left) }
     ensures broke { OnErr result (BrokeOff B.keeps B.goes B.breaks bodies.old bodies.new) }
 {
-    let mut used = quiet_rounds(alloc, bodies, left)?;
+    let mut used = 0;
     let mut last = 1;
     while last > 0 && used < left {
-        last = waiting_round(alloc, bodies, left - used)?;
+        last = round(alloc, bodies, left - used)?;
         used += last;
     }
     Ok(used)

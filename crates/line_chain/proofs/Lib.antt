@@ -3,3 +3,4 @@ pub mod Starts
 pub mod Running
 pub mod Books
 pub mod Lines
+pub mod Sending

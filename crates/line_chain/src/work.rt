@@ -8,12 +8,12 @@ ghost use Rattle.line_chain.specs.Steps.{work_in, begun_ending, Replies, DoesSte
 
 use elem_core::elem::Elem;
 use elem_core::why::{Decider, NoMemory, Why};
+use std::alloc::{AllocError, Global};
+use step_work::copies::{copy_map, copy_pred};
 use step_work::ending::StateEnd;
 use step_work::keeping;
 use step_work::keeping::{StateWork, copy_kept};
-use step_work::copies::{copy_map, copy_pred};
 use step_work::task::{LinearReaction, LinearWork};
-use std::alloc::{AllocError, Global};
 use stream_model::kind::Kind;
 
 /// The work of a step of a chain, and how far it has come. Rule: Akka Streams 2.6 reference, but where a line says own.

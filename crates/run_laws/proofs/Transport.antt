@@ -274,9 +274,9 @@ pub turns_stop_there : (segment : ℕ) (p : ℕ) (is : List InPort) → EachPort
 turns_stop_there segment p is q ne stops = elim (all_shown is q ne) [
   | inl l ↦ inl l
   | inr s ↦ inr (
-    ap (λ (n : ℕ). stops_at segment n segment (turns_from 0 (map (λ (i : InPort). i.wire) is))) (sym (same_fuel is s))
-        ∙ (ap (λ (t : List Turn). stops_at segment (total (λ v. v.sent + 1) (map own_in is)) segment t) (sym (same_turns 0 is s)) ∙ stops)
-  )
+      ap (λ (n : ℕ). stops_at segment n segment (turns_from 0 (map (λ (i : InPort). i.wire) is))) (sym (same_fuel is s))
+      ∙ (ap (λ (t : List Turn). stops_at segment (total (λ v. v.sent + 1) (map own_in is)) segment t) (sym (same_turns 0 is s)) ∙ stops)
+      )
 ]
 
 sorted_input : (i : InPort) → InRests i → (h : ℕ) → SortedInput (own_in i) h → SortedInput i.wire h

@@ -66,7 +66,7 @@ one_waits n zero (b ∷ over) (f ∷ fs) l h =
 one_waits n (suc i) (b ∷ over) (f ∷ fs) l h =
     let x : (n == n + suc i) ≡ false = other n (n + suc i) (λ e. absurd (omega (arith, e))) in
     let c : n + suc i ≡ n + 1 + i = omega arith in
-    rw x (inr (by_flag b f.list, rw c (one_waits (n + 1) i over fs (omega (arith, l)) h)))
+    rw x (inr (by_flag b f.list, subst (λ (p : ℕ). WaitsAt p (n + 1) (own_inputs (seats (n + 1) over p true) fs)) (sym c) (one_waits (n + 1) i over fs (omega (arith, l)) h)))
   where
     by_flag : (b : Bool) (l : List Tree) → IdlesOrShut (own_input (seat b false true) l)
     by_flag true l = inr refl
@@ -77,7 +77,7 @@ open_rests : (segment : Option ℕ) (over : List Bool) (c : ℕ) (asked : Bool) 
 open_rests None over c false ins g l h o = inr (inr ((refl, refl), all_idle 0 c over ins))
 open_rests (Some s) over c false ins g l h o = inr (inr ((refl, refl), all_idle 0 c over ins))
 open_rests None over c true ins g l h o = let z : 0 + c ≡ c = omega arith in inr (inl ((refl, refl), let r = first_waits 0 c over ins l h o in rw z at r))
-open_rests (Some s) over c true ins g l h o = let z : 0 + c ≡ c = omega arith in inr (inl ((refl, refl), let r = one_waits 0 c over ins l h in rw z at r))
+open_rests (Some s) over c true ins g l h o = let z : 0 + c ≡ c = omega arith in inr (inl ((refl, refl), subst (λ (p : ℕ). WaitsAt p 0 (own_inputs (seats 0 over p true) ins)) z (one_waits 0 c over ins l h)))
 
 length-seats : (n c : ℕ) (over : List Bool) (asked : Bool) → length (seats n over c asked) ≡ length over
 length-seats n c [] asked = refl

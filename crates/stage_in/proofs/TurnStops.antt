@@ -139,13 +139,13 @@ module _ (segment : ℕ) where
 
   -- where it gave this and then an element of input c, the turns stop at c
   stop_port : (f g : ℕ) (q : List Inlet) (given later : List Tagged) (c : ℕ) → Outcome f g segment q → interleave_of segment f segment q ≡ given → interleave_of segment g segment (map grow q) ≡ given ++ tag c one_more ∷ later → stops_at segment f segment (map turn_of q) ≡ Some c
-  stop_port f g q given later c (nowhere s i) now then =
-      let same : given ≡ given ++ tag c one_more ∷ later = sym now ∙ (sym i ∙ then) in
+  stop_port f g q given later c (nowhere s i) now later_gave =
+      let same : given ≡ given ++ tag c one_more ∷ later = sym now ∙ (sym i ∙ later_gave) in
       let long = length-append given (tag c one_more ∷ later) in
       let counts = ap length same in
       absurd (omega (arith, counts, long))
-  stop_port f g q given later c (somewhere p r s i) now then =
-      let same : given ++ tag p one_more ∷ r ≡ given ++ tag c one_more ∷ later = ap (λ (x : List Tagged). x ++ tag p one_more ∷ r) (sym now) ∙ (sym i ∙ then) in
+  stop_port f g q given later c (somewhere p r s i) now later_gave =
+      let same : given ++ tag p one_more ∷ r ≡ given ++ tag c one_more ∷ later = ap (λ (x : List Tagged). x ++ tag p one_more ∷ r) (sym now) ∙ (sym i ∙ later_gave) in
       let port : p ≡ c = ap (λ (t : Tagged). t.port) (same_behind given r later (tag p one_more) (tag c one_more) same) in
       s ∙ ap (λ (n : ℕ). Some n) port
 
@@ -230,8 +230,7 @@ first_there n (b ∷ over) zero h =
     (now ∷ behind, record { before = []; behind = behind; now = now; place = refl; is = rw e refl; then_is = refl })
 first_there n (b ∷ over) (suc c) h =
     let r = first_there (n + 1) over c h in
-    let first : Outlook = flow (joined (record { list = []; end = end_by b }) more_came) in
-    (
+    let first : Outlook = flow (joined (record { list = []; end = end_by b }) more_came) in (
       first ∷ r.0,
       record { before = first ∷ r.1.before; behind = r.1.behind; now = r.1.now; place = ap suc r.1.place; is = ap (λ (os : List Outlook). first ∷ os) r.1.is; then_is = ap (λ (os : List Outlook). first ∷ os) r.1.then_is },
     )
@@ -247,7 +246,7 @@ stops_here segment first l ins g from here k =
     let later : List Tagged = (taking_by (Some segment)).from (after_element (Some segment) (length rest.0) (place_of l)) rest.0 in
     let now : interleave_taken segment (map flow (joined_all 0 ins (λ k. nothing_came))) ≡ k.given =
     ap (λ (f : List Outlook → List Tagged). f (map flow (joined_all 0 ins (λ k. nothing_came)))) (sym from) ∙ (k.rest (λ k. nothing_came) ∙ (ap (λ (x : List Tagged). k.given ++ x) gave_none ∙ append-nil k.given)) in
-    let then : interleave_taken segment (map flow (joined_all 0 ins (λ k. more_came))) ≡ k.given ++ tag l.current one_more ∷ later =
+    let later_gave : interleave_taken segment (map flow (joined_all 0 ins (λ k. more_came))) ≡ k.given ++ tag l.current one_more ∷ later =
     ap (λ (f : List Outlook → List Tagged). f (map flow (joined_all 0 ins (λ k. more_came)))) (sym from) ∙ (k.rest (λ k. more_came) ∙ ap (λ (x : List Tagged). k.given ++ x) gives_one) in
     let grows : then_at 0 ins ≡ map grow (now_at 0 ins) = then_grows 0 k.given l.over ins k.uses in
     let fuel = turns_of (map flow (joined_all 0 ins (λ k. nothing_came))) in
@@ -255,7 +254,7 @@ stops_here segment first l ins g from here k =
     let needs = need_inlets 0 (map flow (joined_all 0 ins (λ k. nothing_came))) in
     let wants : need (map grow (now_at 0 ins)) ≡ more = ap need (sym grows) ∙ need_inlets 0 (map flow (joined_all 0 ins (λ k. more_came))) in
     let stops : stops_at segment fuel segment (map turn_of (now_at 0 ins)) ≡ Some l.current =
-    stop_port segment fuel more (now_at 0 ins) k.given later l.current (outcome segment fuel more segment (now_at 0 ins) (omega (arith, needs)) (omega (arith, wants))) now (ap (λ (q : List Inlet). interleave_of segment more segment q) (sym grows) ∙ then) in
+    stop_port segment fuel more (now_at 0 ins) k.given later l.current (outcome segment fuel more segment (now_at 0 ins) (omega (arith, needs)) (omega (arith, wants))) now (ap (λ (q : List Inlet). interleave_of segment more segment q) (sym grows) ∙ later_gave) in
     let shown : stops_at segment fuel segment (map turn_of (now_at 0 ins)) ≡ turns_stop segment (own_inputs (seats 0 l.over l.current l.asked) ins) =
     ap (λ (q : List Turn). stops_at segment fuel segment q) (turns_same 0 l.current l.asked k.given l.over ins k.uses)
     ∙ ap (λ (n : ℕ). stops_at segment n segment (turns_from 0 (own_inputs (seats 0 l.over l.current l.asked) ins))) (fuel_same 0 l.current l.asked l.over ins (as_many 0 k.given l.over ins k.uses)) in

@@ -90,14 +90,12 @@ impl<S: Source> LineReader<S> {
         }
     }
 
-    /// Whether it keeps no whole line, so that the next draw reads, and such a read may wait. It takes no memory.
-    pub fn is_drained(&mut self) -> bool
-        ensures { self.new ≡ self.old }
-    {
+    /// Whether the next draw may wait: it keeps no whole line, and its source's reads may wait. It takes no memory.
+    pub fn may_wait(&self) -> bool {
         if !self.source.may_wait() {
             return false;
         }
-        self.find_end().is_none()
+        memchr(b'\n', &self.bytes[self.scanned..self.end]).is_none()
     }
 
     /// The source, which handed out what was read. It takes no memory.

@@ -269,8 +269,8 @@ merged_does_not_rest r = elim (r 3 (node (k.Merge 2)) refl) [ inl h ↦ not_true
 
 -- ---- the moves of substreams are as many as were given
 
-one_not_four : 1 ≡ 4 → ⊥
-one_not_four e = absurd (omega (arith, e))
+one_not_four : (n : ℕ) → n ≡ 1 → n ≡ 4 → ⊥
+one_not_four n one four = absurd (omega (arith, one, four))
 
 pub doubles_unlawful : IsLawful doubling four_moves one_given (composed doubling four_moves) → ⊥
-doubles_unlawful h = one_not_four (h.nodes 1 (node (k.SplitAfter (p.Ge (pos 0)) (codes "doubled") joining.Merge)) refl).1
+doubles_unlawful h = one_not_four 1 refl (h.nodes 1 (node (k.SplitAfter (p.Ge (pos 0)) (codes "doubled") joining.Merge)) refl).1

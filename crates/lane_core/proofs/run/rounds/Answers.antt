@@ -2,13 +2,8 @@ use Rattle.std.proofs.Common.{arith}
 use Rattle.lane_core.proofs.Each.{each_on, broke_after, on_err}
 use Rattle.lane_core.proofs.run.rounds.Goals as goal
 
-pub loop-last-init : goal.loop-last-init
-loop-last-init g c =
-    let e = c.in_ok-used.ensures in
-    record { keeps = e.keeps; goes = e.goes; spent = e.spent; within = e.within }
-
 pub returns-in_err-last-clause-broke : goal.returns-in_err-last-clause-broke
-returns-in_err-last-clause-broke g c = on_err c.from_residual-in_err-last.result (broke_after g.B.Turning.keeps g.B.Turning.goes g.B.Turning.breaks g.met.B.Turning.goes_on g.met.B.Turning.goes_breaks c.args.bodies.now c.loop-last.bodies c.waiting_round.new.bodies c.loop-last.invariant.goes c.in_err-last.ensures.broke)
+returns-in_err-last-clause-broke g c = on_err c.from_residual.result (broke_after g.B.Turning.keeps g.B.Turning.goes g.B.Turning.breaks g.met.B.Turning.goes_on g.met.B.Turning.goes_breaks c.args.bodies.now c.loop-last.bodies c.round.new.bodies c.loop-last.invariant.goes c.in_err-last.ensures.broke)
 
 pub loop-last-preserved : goal.loop-last-preserved
 loop-last-preserved g c =

@@ -5,7 +5,7 @@ use denote.Exit.{no}
 use denote.Param.Send.{param_send, arg_send}
 use Rattle.line_chain.specs.Line.{IsLine}
 use Rattle.materializer.specs.Graphs.{graph_chain}
-use Rattle.nodes.proofs.Sending.{line_send}
+use Rattle.line_chain.proofs.Sending.{line_send}
 use Rattle.materializer.proofs.SubPlaces.{stages_sub}
 use Rattle.materializer.proofs.seats.sub_work.Goals as goal
 

@@ -1,26 +1,20 @@
 -- The goals of `engine::Engine::handle_closing` that the search leaves.
-use Rattle.std.proofs.Common.{arith, map, refl, ap}
+use Rattle.std.proofs.Common.{arith}
 use Rattle.std.proofs.lemmas.List.{length-set}
-use Rattle.fused_net.specs.Net.{Net}
-use Rattle.fused_net.proofs.Keeping.{no_ok, not_ok, acts_done, on_err}
+use Rattle.fused_net.proofs.Keeping.{on_err}
 use Rattle.fused_net.proofs.Going.{handled_nothing}
 use Rattle.fused_net.proofs.Handling.{closing_within, calling_closing, call_meets, call_busy, call_few, call_still, call_kept, answered}
-use Rattle.fused_net.proofs.Still.{still_told, untouched_nothing}
+use Rattle.fused_net.proofs.Still.{still_told}
 use Rattle.fused_net.proofs.engine.Engine.handle_closing.Goals as goal
 
-pub returns-in_default : goal.returns-in_default
-returns-in_default g c =
-    let told = handled_nothing g.S.Stage.port_state g.S.Stage.law g.S.Stage.asking g.S.Stage.moves _ _ _ c.requires.laws c.requires.within c.requires.absent c.in_default.ensures.none c.deliver.ensures.after in
-    record {
-      laws = told.laws;
-      on = told.on;
-      uses = told.uses;
-      gone = ap (λ (a : Net _). map g.S.Stage.gone a.nodes) c.deliver.ensures.after;
-      still = still_told g.S.Stage.passive _ _ c.args.w c.requires.within c.deliver.ensures.after;
-      untouched = untouched_nothing g.S.Stage.passive _ _ c.args.w c.requires.within c.deliver.ensures.after c.in_default.ensures.none;
-      acts = refl;
-      kept = tt;
-    }
+pub returns-in_default-clause-laws : goal.returns-in_default-clause-laws
+returns-in_default-clause-laws g c = (handled_nothing g.S.Stage.port_state g.S.Stage.law g.S.Stage.asking g.S.Stage.moves _ _ _ c.requires.laws c.requires.within c.requires.absent c.in_default.ensures.none c.deliver.ensures.after).laws
+
+pub returns-in_default-clause-uses : goal.returns-in_default-clause-uses
+returns-in_default-clause-uses g c = (handled_nothing g.S.Stage.port_state g.S.Stage.law g.S.Stage.asking g.S.Stage.moves _ _ _ c.requires.laws c.requires.within c.requires.absent c.in_default.ensures.none c.deliver.ensures.after).uses
+
+pub returns-in_default-clause-still : goal.returns-in_default-clause-still
+returns-in_default-clause-still g c = still_told g.S.Stage.passive _ _ c.args.w c.requires.within c.deliver.ensures.after
 
 pub index_mut-requires : goal.index_mut-requires
 index_mut-requires g c = omega (arith, closing_within g.S.Stage.port_state g.S.Stage.law g.S.Stage.asking g.S.Stage.moves c.in-Some.event _ _ _ _ _ c.args.w _ _ c.requires.laws c.requires.within c.requires.after c.self.view_is c.index-ends.ensures c.deliver.ensures.after c.node_of-n.ensures c.self-2.view_is, c.self-2.inside.nodes.ok.0)
@@ -28,21 +22,8 @@ index_mut-requires g c = omega (arith, closing_within g.S.Stage.port_state g.S.S
 pub call-requires-clause-meets : goal.call-requires-clause-meets
 call-requires-clause-meets g c = call_meets g.S.Stage.port_state g.S.Stage.law g.S.Stage.asking g.S.Stage.moves _ _ _ _ _ _ _ _ (calling_closing g.S.Stage.port_state g.S.Stage.law g.S.Stage.asking g.S.Stage.moves c.in-Some.event _ _ _ _ _ c.args.w _ _ _ c.requires.laws c.requires.within c.requires.absent c.requires.after c.self.view_is c.index-ends.ensures c.in-Some.ensures.some c.deliver.ensures.after c.node_of-n.ensures c.self-2.view_is c.index_mut.ensures.value)
 
-pub returns-in_err-call : goal.returns-in_err-call
-returns-in_err-call g c =
-    let r = c.from_residual.result in
-    let came = c.from_residual.ensures.1 in
-    let calling = calling_closing g.S.Stage.port_state g.S.Stage.law g.S.Stage.asking g.S.Stage.moves c.in-Some.event _ _ _ _ _ c.args.w _ _ _ c.requires.laws c.requires.within c.requires.absent c.requires.after c.self.view_is c.index-ends.ensures c.in-Some.ensures.some c.deliver.ensures.after c.node_of-n.ensures c.self-2.view_is c.index_mut.ensures.value in
-    record {
-      laws = not_ok _ _ r came;
-      on = not_ok _ _ r came;
-      uses = not_ok _ _ r came;
-      gone = not_ok _ _ r came;
-      still = not_ok _ _ r came;
-      untouched = no_ok _ _ r came;
-      acts = not_ok _ _ r came;
-      kept = on_err r (call_kept g.S.Stage.port_state g.S.Stage.law g.S.Stage.asking g.S.Stage.moves g.S.Stage.gone g.S.Stage.passive g.S.Stage.keeps _ _ _ _ _ _ _ _ _ calling c.in_err-call.ensures.kept);
-    }
+pub returns-in_err-call-clause-kept : goal.returns-in_err-call-clause-kept
+returns-in_err-call-clause-kept g c = on_err _ (call_kept g.S.Stage.port_state g.S.Stage.law g.S.Stage.asking g.S.Stage.moves g.S.Stage.gone g.S.Stage.passive g.S.Stage.keeps _ _ _ _ _ _ _ _ _ (calling_closing g.S.Stage.port_state g.S.Stage.law g.S.Stage.asking g.S.Stage.moves c.in-Some.event _ _ _ _ _ c.args.w _ _ _ c.requires.laws c.requires.within c.requires.absent c.requires.after c.self.view_is c.index-ends.ensures c.in-Some.ensures.some c.deliver.ensures.after c.node_of-n.ensures c.self-2.view_is c.index_mut.ensures.value) c.in_err-call.ensures.kept)
 
 pub perform-requires-clause-within : goal.perform-requires-clause-within
 perform-requires-clause-within g c = rw length-set (closing_within g.S.Stage.port_state g.S.Stage.law g.S.Stage.asking g.S.Stage.moves c.in-Some.event _ _ _ _ _ c.args.w _ _ c.requires.laws c.requires.within c.requires.after c.self.view_is c.index-ends.ensures c.deliver.ensures.after c.node_of-n.ensures c.self-2.view_is)
@@ -56,17 +37,20 @@ perform-requires-clause-few g c = call_few g.S.Stage.port_state g.S.Stage.law g.
 pub perform-requires-clause-still : goal.perform-requires-clause-still
 perform-requires-clause-still g c = call_still g.S.Stage.port_state g.S.Stage.law g.S.Stage.asking g.S.Stage.moves g.S.Stage.gone g.S.Stage.passive _ _ _ _ _ _ _ _ _ _ (calling_closing g.S.Stage.port_state g.S.Stage.law g.S.Stage.asking g.S.Stage.moves c.in-Some.event _ _ _ _ _ c.args.w _ _ _ c.requires.laws c.requires.within c.requires.absent c.requires.after c.self.view_is c.index-ends.ensures c.in-Some.ensures.some c.deliver.ensures.after c.node_of-n.ensures c.self-2.view_is c.index_mut.ensures.value) c.in_ok-call.ensures.passive
 
-pub returns : goal.returns
-returns g c =
-    let calling = calling_closing g.S.Stage.port_state g.S.Stage.law g.S.Stage.asking g.S.Stage.moves c.in-Some.event _ _ _ _ _ c.args.w _ _ _ c.requires.laws c.requires.within c.requires.absent c.requires.after c.self.view_is c.index-ends.ensures c.in-Some.ensures.some c.deliver.ensures.after c.node_of-n.ensures c.self-2.view_is c.index_mut.ensures.value in
-    let a = answered g.S.Stage.port_state g.S.Stage.law g.S.Stage.asking g.S.Stage.moves g.S.Stage.gone g.S.Stage.passive _ _ _ _ _ _ _ _ _ _ c.call.new.acts.items _ calling c.in_ok-call.ensures.handles c.in_ok-call.ensures.pulls c.in_ok-call.ensures.grows c.in_ok-call.ensures.passive c.in_ok-call.ensures.gone c.perform.ensures.after c.perform.ensures.passive in
-    record {
-      laws = a.laws;
-      on = a.on;
-      uses = a.uses;
-      gone = a.gone_is;
-      still = a.still;
-      untouched = a.untouched;
-      acts = acts_done c.args.acts.now _ _ c.perform.ensures.acts c.in_ok-call.ensures.room c.requires.empty;
-      kept = tt;
-    }
+pub returns-clause-laws : goal.returns-clause-laws
+returns-clause-laws g c = (answered g.S.Stage.port_state g.S.Stage.law g.S.Stage.asking g.S.Stage.moves g.S.Stage.gone g.S.Stage.passive _ _ _ _ _ _ _ _ _ _ c.call.new.acts.items _ (calling_closing g.S.Stage.port_state g.S.Stage.law g.S.Stage.asking g.S.Stage.moves c.in-Some.event _ _ _ _ _ c.args.w _ _ _ c.requires.laws c.requires.within c.requires.absent c.requires.after c.self.view_is c.index-ends.ensures c.in-Some.ensures.some c.deliver.ensures.after c.node_of-n.ensures c.self-2.view_is c.index_mut.ensures.value) c.in_ok-call.ensures.handles c.in_ok-call.ensures.pulls c.in_ok-call.ensures.grows c.in_ok-call.ensures.passive c.in_ok-call.ensures.gone c.perform.ensures.after c.perform.ensures.passive).laws
+
+pub returns-clause-on : goal.returns-clause-on
+returns-clause-on g c = (answered g.S.Stage.port_state g.S.Stage.law g.S.Stage.asking g.S.Stage.moves g.S.Stage.gone g.S.Stage.passive _ _ _ _ _ _ _ _ _ _ c.call.new.acts.items _ (calling_closing g.S.Stage.port_state g.S.Stage.law g.S.Stage.asking g.S.Stage.moves c.in-Some.event _ _ _ _ _ c.args.w _ _ _ c.requires.laws c.requires.within c.requires.absent c.requires.after c.self.view_is c.index-ends.ensures c.in-Some.ensures.some c.deliver.ensures.after c.node_of-n.ensures c.self-2.view_is c.index_mut.ensures.value) c.in_ok-call.ensures.handles c.in_ok-call.ensures.pulls c.in_ok-call.ensures.grows c.in_ok-call.ensures.passive c.in_ok-call.ensures.gone c.perform.ensures.after c.perform.ensures.passive).on
+
+pub returns-clause-uses : goal.returns-clause-uses
+returns-clause-uses g c = (answered g.S.Stage.port_state g.S.Stage.law g.S.Stage.asking g.S.Stage.moves g.S.Stage.gone g.S.Stage.passive _ _ _ _ _ _ _ _ _ _ c.call.new.acts.items _ (calling_closing g.S.Stage.port_state g.S.Stage.law g.S.Stage.asking g.S.Stage.moves c.in-Some.event _ _ _ _ _ c.args.w _ _ _ c.requires.laws c.requires.within c.requires.absent c.requires.after c.self.view_is c.index-ends.ensures c.in-Some.ensures.some c.deliver.ensures.after c.node_of-n.ensures c.self-2.view_is c.index_mut.ensures.value) c.in_ok-call.ensures.handles c.in_ok-call.ensures.pulls c.in_ok-call.ensures.grows c.in_ok-call.ensures.passive c.in_ok-call.ensures.gone c.perform.ensures.after c.perform.ensures.passive).uses
+
+pub returns-clause-gone : goal.returns-clause-gone
+returns-clause-gone g c = (answered g.S.Stage.port_state g.S.Stage.law g.S.Stage.asking g.S.Stage.moves g.S.Stage.gone g.S.Stage.passive _ _ _ _ _ _ _ _ _ _ c.call.new.acts.items _ (calling_closing g.S.Stage.port_state g.S.Stage.law g.S.Stage.asking g.S.Stage.moves c.in-Some.event _ _ _ _ _ c.args.w _ _ _ c.requires.laws c.requires.within c.requires.absent c.requires.after c.self.view_is c.index-ends.ensures c.in-Some.ensures.some c.deliver.ensures.after c.node_of-n.ensures c.self-2.view_is c.index_mut.ensures.value) c.in_ok-call.ensures.handles c.in_ok-call.ensures.pulls c.in_ok-call.ensures.grows c.in_ok-call.ensures.passive c.in_ok-call.ensures.gone c.perform.ensures.after c.perform.ensures.passive).gone_is
+
+pub returns-clause-still : goal.returns-clause-still
+returns-clause-still g c = (answered g.S.Stage.port_state g.S.Stage.law g.S.Stage.asking g.S.Stage.moves g.S.Stage.gone g.S.Stage.passive _ _ _ _ _ _ _ _ _ _ c.call.new.acts.items _ (calling_closing g.S.Stage.port_state g.S.Stage.law g.S.Stage.asking g.S.Stage.moves c.in-Some.event _ _ _ _ _ c.args.w _ _ _ c.requires.laws c.requires.within c.requires.absent c.requires.after c.self.view_is c.index-ends.ensures c.in-Some.ensures.some c.deliver.ensures.after c.node_of-n.ensures c.self-2.view_is c.index_mut.ensures.value) c.in_ok-call.ensures.handles c.in_ok-call.ensures.pulls c.in_ok-call.ensures.grows c.in_ok-call.ensures.passive c.in_ok-call.ensures.gone c.perform.ensures.after c.perform.ensures.passive).still
+
+pub returns-clause-untouched : goal.returns-clause-untouched
+returns-clause-untouched g c = (answered g.S.Stage.port_state g.S.Stage.law g.S.Stage.asking g.S.Stage.moves g.S.Stage.gone g.S.Stage.passive _ _ _ _ _ _ _ _ _ _ c.call.new.acts.items _ (calling_closing g.S.Stage.port_state g.S.Stage.law g.S.Stage.asking g.S.Stage.moves c.in-Some.event _ _ _ _ _ c.args.w _ _ _ c.requires.laws c.requires.within c.requires.absent c.requires.after c.self.view_is c.index-ends.ensures c.in-Some.ensures.some c.deliver.ensures.after c.node_of-n.ensures c.self-2.view_is c.index_mut.ensures.value) c.in_ok-call.ensures.handles c.in_ok-call.ensures.pulls c.in_ok-call.ensures.grows c.in_ok-call.ensures.passive c.in_ok-call.ensures.gone c.perform.ensures.after c.perform.ensures.passive).untouched

@@ -1,6 +1,6 @@
 -- The goals of `engine::Engine::start` that the search leaves.
 use Rattle.std.proofs.Common.{◌∙◌, refl, rules, arith}
-use Rattle.fused_net.proofs.Ongoing.{goes_same, goes_trans}
+use Rattle.fused_net.proofs.Ongoing.{goes_same}
 use Rattle.fused_net.proofs.Starting.{all_started}
 use Rattle.fused_net.proofs.Keeping.{kept_starting, all_count}
 use Rattle.fused_net.proofs.Still.{still_same, still_trans}
@@ -24,15 +24,12 @@ pub returns-in_err-start_at-clause-count : goal.returns-in_err-start_at-clause-c
 returns-in_err-start_at-clause-count g c = all_count g.S.Stage.keeps _ _ _ c.start_at.ensures.kept (c.loop-n.invariant.0.each_first ∙ c.loop-n.invariant.1.nodes)
 
 pub loop-n-preserved : goal.loop-n-preserved
-loop-n-preserved g c =
-    let before = c.loop-n.invariant in
-    let after = c.in_ok-start_at.ensures in
-    (
-      after.starting,
-      goes_trans _ _ _ before.1 after.on,
-      omega (arith, before.2, after.asks),
-      after.acts ∙ before.3,
-      after.gone ∙ before.4,
-      rw before.1.firsts at after.kept,
-      still_trans g.S.Stage.passive _ _ _ before.1.ends before.6 after.still,
-    )
+loop-n-preserved g c = (
+  search (rules, arith),
+  search (rules, arith),
+  search (rules, arith),
+  search (rules, arith),
+  search (rules, arith),
+  search (rules, arith),
+  still_trans g.S.Stage.passive _ _ _ c.loop-n.invariant.1.ends c.loop-n.invariant.6 c.in_ok-start_at.ensures.still,
+)

@@ -1,7 +1,7 @@
 -- The goal of `node::IslandNode::close` that the search leaves.
 use denote.Exit.{no}
 use denote.Param.Send.{param_send, arg_send}
-use Rattle.nodes.proofs.Sending.{line_send}
+use Rattle.line_chain.proofs.Sending.{line_send}
 use Rattle.nodes.proofs.node.IslandNode.close.Goals as goal
 
 pub picks-requires-send-C : goal.picks-requires-send-C

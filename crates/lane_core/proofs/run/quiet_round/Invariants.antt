@@ -1,8 +1,8 @@
--- The loop of `run::round`.
+-- The loop of `run::quiet_round`.
 use Rattle.std.proofs.Common.{◌≡◌, ◌≤◌, ◌+◌}
 use Rattle.std.specs.List.{sum_by}
 use Rattle.lane_core.specs.Bodies.{AllOf, EachOf}
-use Rattle.lane_core.proofs.run.round.Given as goal
+use Rattle.lane_core.proofs.run.quiet_round.Given as goal
 
 abbrev pub invariant-loop-k : goal.invariant-loop-k
 invariant-loop-k g l = record {

@@ -14,16 +14,16 @@ use Rattle.stream_model.specs.Substreams.{Chain, through}
 use Rattle.step_work.specs.declared.task.LinearWork.{LinearWork}
 use Rattle.step_work.specs.declared.task.LinearWork.TheVariants as task
 use Rattle.step_work.specs.Tasks as tasks
-use Rattle.step_work.specs.declared.keeping.StateWork.{StateWork}
-use Rattle.step_work.specs.declared.keeping.StateWork.TheVariants as kept
+use Rattle.step_work.specs.declared.kind.StateKind.{StateKind}
+use Rattle.step_work.specs.declared.kind.StateKind.TheVariants as kept
 use Rattle.step_work.specs.Keeping as keeping
 use Rattle.step_work.specs.LineChains.{chain_step, given_with, list_function}
+use Rattle.line_chain.specs.Kinds.{begun}
 use Rattle.line_chain.specs.Line.{no_plugs}
-use Rattle.line_chain.specs.Steps.{work_in}
 use Rattle.line_chain.specs.Chains.{starts_of}
 use Rattle.line_chain.specs.declared.step.LineStep.{LineStep}
-use Rattle.line_chain.specs.declared.work.StepWork.{StepWork}
-use Rattle.line_chain.specs.declared.work.StepWork.TheVariants as step_work
+use Rattle.line_chain.specs.declared.kind.StepKind.{StepKind}
+use Rattle.line_chain.specs.declared.kind.StepKind.TheVariants as step_kind
 
 -- it is no plug
 abbrev pub Own : Work → Type 0
@@ -217,18 +217,18 @@ own_task (task.DropWhile p false) = tt
 own_task (task.Limit n) = tt
 own_task (task.Expand x) = tt
 
-own_kept : (k : StateWork) → Own (keeping.work_in k)
-own_kept (kept.Group n held) = tt
-own_kept (kept.Fold o a) = tt
-own_kept (kept.Reduce r a) = tt
-own_kept (kept.Scan o a) = tt
+own_kept : (k : StateKind) → Own (keeping.begun k)
+own_kept (kept.Group n) = tt
+own_kept (kept.Fold o) = tt
+own_kept (kept.Reduce r) = tt
+own_kept (kept.Scan o) = tt
 
-own_work : (w : StepWork) → Own (work_in w)
-own_work (step_work.Plain t) = own_task t
-own_work (step_work.Keeps k) = own_kept k
-own_work step_work.Passes = tt
-own_work step_work.First = tt
-own_work (step_work.Last e) = tt
+own_begun : (k : StepKind) → Own (begun k)
+own_begun (step_kind.Plain t) = own_task t
+own_begun (step_kind.Keeps k) = own_kept k
+own_begun step_kind.Passes = tt
+own_begun step_kind.First = tt
+own_begun step_kind.Last = tt
 
 own_begin : (node : ℕ) (d : Decider) (w : Work) → Own w → OwnState (begin_work node d w).state
 own_begin node d (taking zero) h = tt
@@ -252,7 +252,7 @@ own_begin node d (plugged name taken) h = absurd h
 
 own_starts : (steps : List LineStep) → OwnChain (starts_of steps)
 own_starts [] = tt
-own_starts (s ∷ ss) = (own_begin s.node s.decider (work_in s.start) (own_work s.start), own_starts ss)
+own_starts (s ∷ ss) = (own_begin s.node s.decider (begun s.kind) (own_begun s.kind), own_starts ss)
 
 -- the steps give the same by every book
 pub same_by_books : (steps : List LineStep) (book : Book) → Same (list_function no_plugs (starts_of steps)) (list_function book (starts_of steps))

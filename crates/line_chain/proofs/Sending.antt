@@ -13,6 +13,7 @@ use Rattle.elem_core.proofs.trace.Trace.TheSendSync as trace
 use Rattle.elem_core.proofs.why.Cause.TheSendSync as cause
 use Rattle.elem_core.proofs.why.Why.TheSendSync as why
 use Rattle.step_work.specs.contracts.task.LinearWork as task
+use Rattle.line_chain.specs.contracts.kind.StepKind as step_kind
 use Rattle.line_chain.specs.contracts.work.StepWork as step_work
 use Rattle.line_chain.specs.contracts.step.LineStep as line_step
 use Rattle.line_chain.specs.contracts.line.LineChain as chain
@@ -24,11 +25,14 @@ ruleset plain_rules = (tt, trace.the_send, line.the_send, line.the_sync, line_bu
 pub task_send : IsSend (task.the_field).row
 task_send = search plain_rules depth 60 fits 20000
 
+kind_send : IsSend (step_kind.the_field).row
+kind_send = search (task_send, crosses, knot.crosses, sendable) depth 60 fits 20000
+
 work_send : IsSend (step_work.the_field).row
 work_send = search (task_send, crosses, knot.crosses, sendable) depth 60 fits 20000
 
 step_send : IsSend line_step.the_row
-step_send = search (work_send, crosses, knot.crosses, sendable) depth 60 fits 20000
+step_send = search (kind_send, work_send, crosses, knot.crosses, sendable) depth 60 fits 20000
 
 pub line_send : IsSend chain.the_row
 line_send = search (step_send, crosses, knot.crosses, sendable) depth 60 fits 20000

@@ -9,12 +9,12 @@ use Rattle.step_work.specs.declared.task.LinearWork.TheVariants.{Map, Filter, Fi
 use Rattle.step_work.specs.Tasks as tasks
 use Rattle.step_work.specs.declared.ending.StateEnd.{StateEnd}
 use Rattle.step_work.specs.declared.ending.StateEnd.TheVariants as ending
-use Rattle.step_work.specs.declared.keeping.StateWork.{StateWork}
-use Rattle.step_work.specs.declared.keeping.StateWork.TheVariants.{Group, Fold, Reduce, Scan}
+use Rattle.step_work.specs.declared.kind.StateKind.{StateKind}
+use Rattle.step_work.specs.declared.kind.StateKind.TheVariants.{Group, Fold, Reduce, Scan}
 use Rattle.step_work.specs.Keeping as keeping
 use Rattle.step_work.specs.Keeping.{stage_of}
 use Rattle.step_work.specs.Endings.{state_by}
-use Rattle.line_chain.specs.Steps.{begun_ending}
+use Rattle.line_chain.specs.Kinds.{begun_ending}
 
 -- a task gives nothing before any element
 pub first_of_task : (t : LinearWork) → [] ≡ first_of (tasks.work_in t)
@@ -30,11 +30,11 @@ first_of_task (Limit n) = refl
 first_of_task (Expand x) = refl
 
 -- what keeps elements has not ended before any element
-pub lasting_kept : (k : StateWork) → ending.Lasting ≡ begun_ending (keeping.work_in k)
-lasting_kept (Group n held) = refl
-lasting_kept (Fold o a) = refl
-lasting_kept (Reduce r a) = refl
-lasting_kept (Scan o a) = refl
+pub lasting_kept : (k : StateKind) → ending.Lasting ≡ begun_ending (keeping.begun k)
+lasting_kept (Group n) = refl
+lasting_kept (Fold o) = refl
+lasting_kept (Reduce r) = refl
+lasting_kept (Scan o) = refl
 
 begun_as : (node : ℕ) (d : Decider) (w : Work) → record { gave = first_of w; state = state_by (begun_ending w) (stage_of node d 0 w) } ≡ begin_work node d w
 begun_as node d (taking zero) = refl

@@ -1,5 +1,5 @@
 -- A step of a chain as it runs, in the words of the model.
-use Rattle.std.specs.Prelude.{◌≡◌, ℕ, zero, ◌+◌, List, [], ◌∷◌, ◌++◌, option_to_list, unwrap_or}
+use Rattle.std.specs.Prelude.{◌≡◌, ℕ, ◌+◌, List, [], ◌∷◌, ◌++◌, option_to_list}
 use Rattle.elem_core.specs.Tree.{Tree}
 use Rattle.elem_core.specs.declared.why.Decider.{Decider}
 use Rattle.elem_core.specs.declared.why.Decider.TheVariants.{Stop, Resume, Restart}
@@ -14,9 +14,9 @@ use Rattle.step_work.specs.Keeping.{stage_of}
 use Rattle.step_work.specs.Endings.{state_by}
 use Rattle.stream_model.specs.Outlook.{End, unended, ended, failed}
 use Rattle.stream_model.specs.Machine.{State, going, done, broken, Run, Machine, run, close, close_at, feed}
-use Rattle.stream_model.specs.Linear.{Stage, Work, taking, passing, heading, lasting, work_of, linear, step, begin_work}
-use Rattle.stream_model.specs.declared.kind.Kind.{Kind}
+use Rattle.stream_model.specs.Linear.{Stage, Work, passing, heading, lasting, linear, step, begin_work}
 use Rattle.step_work.specs.LineChains.{emptied}
+use Rattle.line_chain.specs.Kinds.{begun}
 use Rattle.line_chain.specs.Line.{no_plugs}
 use Rattle.line_chain.specs.declared.work.StepWork.{StepWork}
 use Rattle.line_chain.specs.declared.work.StepWork.TheVariants.{Plain, Keeps, Passes, First, Last}
@@ -30,15 +30,6 @@ work_in Passes = passing
 work_in First = heading
 work_in (Last e) = lasting e
 
--- a step that begins with it does what one of this kind does; one that is no stage, which no text can say, passes what it takes
-abbrev pub DoesStep : Kind → StepWork → Type 0
-DoesStep k w = work_in w ≡ unwrap_or (work_of k) passing
-
--- how a step that begins with this work stands before any element: one that is to pass none has ended
-abbrev pub begun_ending : Work → StateEnd
-begun_ending (taking zero) = ending.Ended
-begun_ending _ = ending.Lasting
-
 -- the machine of every step
 abbrev pub machine : Machine Stage Tree
 machine = linear no_plugs passing
@@ -51,7 +42,7 @@ end_of (ending.Failed c) = failed c
 
 -- where it stood at its start
 abbrev pub start_of : LineStep → Run Stage Tree
-start_of s = begin_work s.node s.decider (work_in s.start)
+start_of s = begin_work s.node s.decider (begun s.kind)
 
 -- where it stands, and what it owes before any element
 abbrev pub state_of : LineStep → State Stage

@@ -2,6 +2,7 @@
 #![tactic(auto)]
 
 pub mod batch;
+pub mod kind;
 pub mod line;
 pub mod step;
 pub mod work;

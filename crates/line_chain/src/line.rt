@@ -6,8 +6,8 @@ ghost use Rattle.line_chain.specs.Chains.{starts_of, nows_of, RanAt, RanAll};
 ghost use Rattle.line_chain.specs.Steps.{end_of};
 
 use crate::batch::Batch;
+use crate::kind::StepKind;
 use crate::step::LineStep;
-use crate::work::StepWork;
 use elem_core::elem::Elem;
 use elem_core::elems::Elems;
 use elem_core::why::NoMemory;
@@ -133,8 +133,8 @@ fn begin_all(alloc: Global, node: u32, steps: &[Step]) -> Result<Vec<LineStep>, 
 {
     let mut begun = Vec::with_capacity(alloc, steps.len())?;
     for step in steps {
-        let start = StepWork::of(alloc, &step.kind)?;
-        let one = LineStep::begin(alloc, node, step.decider, start)?;
+        let kind = StepKind::of(alloc, &step.kind)?;
+        let one = LineStep::begin(alloc, node, step.decider, kind)?;
         begun.push(one)?;
     }
     Ok(begun)

@@ -3,9 +3,11 @@ ghost use Rattle.step_work.specs.declared.ending.StateEnd.TheVariants.{Lasting};
 ghost use Rattle.stream_model.specs.Linear.{begin_work};
 ghost use Rattle.stream_model.specs.Machine.{run};
 ghost use Rattle.stream_model.specs.Outlook.{ended};
+ghost use Rattle.line_chain.specs.Kinds.{begun};
 ghost use Rattle.line_chain.specs.Steps.{work_in, machine, end_of, start_of, state_of, now_of, replied, given_before, failed_step, decided_step, StepFeeds, Began, StepCloses, Ran};
 
 use crate::batch::Batch;
+use crate::kind::StepKind;
 use crate::work::StepWork;
 use elem_core::count::one_more;
 use elem_core::elem::Elem;
@@ -19,25 +21,24 @@ pub struct LineStep {
     // The node of the chain.
     pub node: u32,
     pub decider: Decider,
-    // The work that it begins with.
-    pub start: StepWork,
+    // What it does, from its start.
+    pub kind: StepKind,
     // What it gives before any element, where it has not yet.
     pub owed: Option<Elem>,
     // How many elements it took.
     pub taken: u64,
-    // How far its work has come.
     pub work: StepWork,
     // Whether it has ended or failed by its own doing.
     pub ending: StateEnd,
 }
 
-// Dropped by a call, as its work is.
+// Dropped by a call, as its kind and its work are.
 impl Drop for LineStep {
     fn drop(self) {
         let LineStep {
             node: _,
             decider: _,
-            start: _,
+            kind: _,
             owed: _,
             taken: _,
             work: _,
@@ -47,23 +48,23 @@ impl Drop for LineStep {
 }
 
 impl LineStep {
-    /// A step that has taken nothing, and begins with this work.
+    /// A step that has taken nothing.
     pub fn begin(
         alloc: Global,
         node: u32,
         decider: Decider,
-        start: StepWork,
+        kind: StepKind,
     ) -> Result<LineStep, NoMemory>
-        ensures starts { IfOk result (λ s. start_of s ≡ begin_work node decider (work_in start)) }
-        ensures now { IfOk result (λ s. now_of s ≡ begin_work node decider (work_in start)) }
+        ensures starts { IfOk result (λ s. start_of s ≡ begin_work node decider (begun kind)) }
+        ensures now { IfOk result (λ s. now_of s ≡ begin_work node decider (begun kind)) }
     {
-        let owed = start.first(alloc)?;
-        let work = start.copy(alloc)?;
-        let ending = start.ending();
+        let owed = kind.first(alloc)?;
+        let work = kind.begin(alloc)?;
+        let ending = kind.ending();
         Ok(LineStep {
             node,
             decider,
-            start,
+            kind,
             owed,
             taken: 0,
             work,
@@ -76,8 +77,8 @@ impl LineStep {
         ensures starts { IfOk result (λ s. start_of s ≡ start_of self.now) }
         ensures now { IfOk result (λ s. now_of s ≡ start_of self.now) }
     {
-        let start = self.start.copy(alloc)?;
-        let step = LineStep::begin(alloc, self.node, self.decider, start)?;
+        let kind = self.kind.copy(alloc)?;
+        let step = LineStep::begin(alloc, self.node, self.decider, kind)?;
         Ok(step)
     }
 

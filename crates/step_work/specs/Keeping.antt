@@ -12,6 +12,8 @@ use Rattle.stream_model.specs.Linear.{Book, Work, Stage, grouping, folding, scan
 use Rattle.stream_model.specs.OneWay.{holds_at_end}
 use Rattle.step_work.specs.declared.keeping.StateWork.{StateWork}
 use Rattle.step_work.specs.declared.keeping.StateWork.TheVariants.{Group, Fold, Reduce, Scan}
+use Rattle.step_work.specs.declared.kind.StateKind.{StateKind}
+use Rattle.step_work.specs.declared.kind.StateKind.TheVariants as kind
 use Rattle.step_work.specs.declared.keeping.StateReaction.{StateReaction}
 use Rattle.step_work.specs.declared.keeping.StateReaction.TheVariants.{Gives, Asks, Fails}
 
@@ -21,6 +23,13 @@ work_in (Group n held) = grouping n held.items
 work_in (Fold o a) = folding o a
 work_in (Reduce r a) = reducing r a
 work_in (Scan o a) = scanning o a
+
+-- the work that it begins with
+abbrev pub begun : StateKind → Work
+begun (kind.Group n) = grouping n []
+begun (kind.Fold o) = folding o (fold_zero o)
+begun (kind.Reduce r) = reducing r None
+begun (kind.Scan o) = scanning o (fold_zero o)
 
 -- a stage of this work
 abbrev pub stage_of : ℕ → Decider → ℕ → Work → Stage

@@ -1,5 +1,5 @@
-ghost use Rattle.std.specs.Prelude.{◌≡◌, IfOk, [], Some, None, option_to_list};
-ghost use Rattle.stream_model.specs.Linear.{grouping, folding, scanning, reducing, first_of};
+ghost use Rattle.std.specs.Prelude.{◌≡◌, IfOk, [], Some, None};
+ghost use Rattle.stream_model.specs.Linear.{grouping, folding, scanning, reducing};
 ghost use Rattle.step_work.specs.Keeping.{work_in, last_group, Reacted, Finishes, NextBy, NextReducedBy};
 
 use elem_core::elem::{Elem, Form};
@@ -43,28 +43,6 @@ pub enum StateReaction {
 }
 
 impl StateWork {
-    /// The same.
-    pub fn copy(&self, alloc: Global) -> Result<StateWork, NoMemory>
-        ensures { IfOk result (λ w. work_in w ≡ work_in self.now) }
-    {
-        match self {
-            StateWork::Group(n, held) => Ok(StateWork::Group(*n, copy_all(alloc, held)?)),
-            StateWork::Fold(op, acc) => Ok(StateWork::Fold(*op, acc.copy(alloc)?)),
-            StateWork::Reduce(op, acc) => Ok(StateWork::Reduce(*op, copy_kept(alloc, acc)?)),
-            StateWork::Scan(op, acc) => Ok(StateWork::Scan(*op, acc.copy(alloc)?)),
-        }
-    }
-
-    /// What a stage that begins with it gives before any element: a scan its value.
-    pub fn first(&self, alloc: Global) -> Result<Option<Elem>, NoMemory>
-        ensures { IfOk result (λ owed. option_to_list owed ≡ first_of (work_in self.now)) }
-    {
-        match self {
-            StateWork::Scan(_, value) => Ok(Some(value.copy(alloc)?)),
-            StateWork::Group(_, _) | StateWork::Fold(_, _) | StateWork::Reduce(_, _) => Ok(None),
-        }
-    }
-
     /// One more element, for a stage with this decider.
     pub fn react(
         &mut self,
@@ -95,27 +73,6 @@ impl StateWork {
             StateWork::Scan(_, _) => Ok(None),
         }
     }
-}
-
-/// An element that is kept, where one is.
-pub fn copy_kept(alloc: Global, kept: &Option<Elem>) -> Result<Option<Elem>, NoMemory>
-    ensures { IfOk result (λ e. e ≡ kept.now) }
-{
-    match kept {
-        Some(e) => Ok(Some(e.copy(alloc)?)),
-        None => Ok(None),
-    }
-}
-
-fn copy_all(alloc: Global, items: &[Elem]) -> Result<Vec<Elem>, NoMemory>
-    ensures { IfOk result (λ v. v.items ≡ items.now) }
-{
-    let mut copies = Vec::with_capacity(alloc, items.len())?;
-    for item in items {
-        let copy = item.copy(alloc)?;
-        copies.push(copy)?;
-    }
-    Ok(copies)
 }
 
 // An element without memory, where one was moved out.

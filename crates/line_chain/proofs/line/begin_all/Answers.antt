@@ -10,5 +10,5 @@ loop-step-preserved c =
     let i = c.loop-step.step-index in
     let within : i < length c.args.steps.now = search rules in
     let more : take (i + 1) c.args.steps.now ≡ take i c.args.steps.now ++ s ∷ [] = take_more c.args.steps.now i s within ∙ ap (λ x. take i c.args.steps.now ++ x ∷ []) (sym c.step-item.is) in
-    let starts = c.in_ok-one.ensures.starts ∙ ap (begin_work c.args.node s.decider) c.in_ok-start.ensures in
+    let starts = c.in_ok-one.ensures.starts ∙ ap (begin_work c.args.node s.decider) c.in_ok-kind.ensures in
     begun_more c.args.node (take i c.args.steps.now) (take (i + 1) c.args.steps.now) s c.loop-step.begun.items c.push.new.self.items c.in_ok-one.one c.loop-step.invariant more c.in_ok-push.ensures.items starts (c.in_ok-one.ensures.now ∙ sym c.in_ok-one.ensures.starts)

@@ -10,4 +10,4 @@ pub returns-clause-handles : goal.returns-clause-handles
 returns-clause-handles c = handles line_whole line_rest line_is_open (cancels c.args._port) _ _ _ _ c.requires.meets c.on_cancel.ensures.ports c.on_cancel.ensures.gives c.on_cancel.ensures.ready
 
 pub on_cancel-requires-send-C : goal.on_cancel-requires-send-C
-on_cancel-requires-send-C κs = param_send 0 _ (arg_send _ no _ line_send)
+on_cancel-requires-send-C c κs = param_send 0 _ (arg_send _ no _ line_send)

@@ -11,4 +11,4 @@ pub returns-clause-handles : goal.returns-clause-handles
 returns-clause-handles c = handles line_whole line_rest line_is_open (arrives c.args._port (item.Failed c.args.cause)) _ _ _ _ c.requires.meets c.on_fail.ensures.ports c.on_fail.ensures.gives c.on_fail.ensures.ready
 
 pub on_fail-requires-send-C : goal.on_fail-requires-send-C
-on_fail-requires-send-C κs = param_send 0 _ (arg_send _ no _ line_send)
+on_fail-requires-send-C c κs = param_send 0 _ (arg_send _ no _ line_send)

@@ -10,4 +10,4 @@ pub returns-clause-handles : goal.returns-clause-handles
 returns-clause-handles c = handles line_whole line_rest line_is_open (pulls c.args._port) _ _ _ _ c.requires.meets c.on_pull.ensures.ports c.on_pull.ensures.gives c.on_pull.ensures.ready
 
 pub on_pull-requires-send-C : goal.on_pull-requires-send-C
-on_pull-requires-send-C κs = param_send 0 _ (arg_send _ no _ line_send)
+on_pull-requires-send-C c κs = param_send 0 _ (arg_send _ no _ line_send)

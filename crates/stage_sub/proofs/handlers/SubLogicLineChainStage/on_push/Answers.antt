@@ -11,4 +11,4 @@ pub returns-clause-handles : goal.returns-clause-handles
 returns-clause-handles c = handles line_whole line_rest line_is_open (arrives c.args._port (item.Elem c.args.e)) _ _ _ _ c.requires.meets c.on_push.ensures.ports c.on_push.ensures.gives c.on_push.ensures.ready
 
 pub on_push-requires-send-C : goal.on_push-requires-send-C
-on_push-requires-send-C κs = param_send 0 _ (arg_send _ no _ line_send)
+on_push-requires-send-C c κs = param_send 0 _ (arg_send _ no _ line_send)

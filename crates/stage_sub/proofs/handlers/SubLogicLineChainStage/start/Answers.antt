@@ -9,4 +9,4 @@ pub returns-clause-starts : goal.returns-clause-starts
 returns-clause-starts c = starts_as line_whole line_rest line_is_open _ _ _ _ c.start.ensures.ports c.start.ensures.gives c.start.ensures.ready
 
 pub start-requires-send-C : goal.start-requires-send-C
-start-requires-send-C κs = param_send 0 _ (arg_send _ no _ line_send)
+start-requires-send-C c κs = param_send 0 _ (arg_send _ no _ line_send)

@@ -20,7 +20,7 @@ use Rattle.stream_model.specs.Rests.{
   WaitsIdlesOrShut,
   FirstOpenWaits,
   WaitsAt,
-  Turn,
+  InTurn,
   stops_at,
   turns_from,
   turns_stop,
@@ -275,7 +275,7 @@ turns_stop_there segment p is q ne stops = elim (all_shown is q ne) [
   | inl l ↦ inl l
   | inr s ↦ inr (
       ap (λ (n : ℕ). stops_at segment n segment (turns_from 0 (map (λ (i : InPort). i.wire) is))) (sym (same_fuel is s))
-      ∙ (ap (λ (t : List Turn). stops_at segment (total (λ v. v.sent + 1) (map own_in is)) segment t) (sym (same_turns 0 is s)) ∙ stops)
+      ∙ (ap (λ (t : List InTurn). stops_at segment (total (λ v. v.sent + 1) (map own_in is)) segment t) (sym (same_turns 0 is s)) ∙ stops)
       )
 ]
 

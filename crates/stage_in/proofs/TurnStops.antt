@@ -8,7 +8,7 @@ use Rattle.stream_model.specs.Outlook.{Outlook, End, unended, ended, failed}
 use Rattle.stream_model.specs.Machine.{is_ended}
 use Rattle.stream_model.specs.FanIn.{Tagged, tag, Inlet, Inflow, flow, inlets, interleave_of, turns_of, interleave_taken}
 use Rattle.stream_model.specs.View.{total}
-use Rattle.stream_model.specs.Rests.{Turn, stops_at, turns_from, turns_stop}
+use Rattle.stream_model.specs.Rests.{InTurn, stops_at, turns_from, turns_stop}
 use Rattle.stage_core.specs.Inflows.{nothing_came, joined, joined_all}
 use Rattle.stage_core.specs.Fans.{FanPlace, FanKept, UsesInputs, fan_gives}
 use Rattle.stage_core.specs.OwnRows.{own_inputs}
@@ -32,7 +32,7 @@ grown false l = l ++ one_more ∷ []
 abbrev grow : Inlet → Inlet
 grow i = record i { list = grown i.ends i.list }
 
-abbrev turn_of : Inlet → Turn
+abbrev turn_of : Inlet → InTurn
 turn_of i = record { port = i.port; left = length i.list; ended = i.ends }
 
 head_grown : (e : Bool) (t : Tree) (ts : List Tree) → grown e (t ∷ ts) ≡ t ∷ grown e ts
@@ -67,7 +67,7 @@ module _ (segment : ℕ) where
       ≡ tag p t ∷ (if few then interleave_of segment n segment (q ++ record { port = p; list = ts; ends = e } ∷ []) else interleave_of segment n (left - 1) (record { port = p; list = ts; ends = e } ∷ q))
   first_takes n left p t ts e few q h = rw h refl
 
-  stop_takes : (n left p m : ℕ) (e few : Bool) (q : List Turn) → nat_le left 1 ≡ few
+  stop_takes : (n left p m : ℕ) (e few : Bool) (q : List InTurn) → nat_le left 1 ≡ few
       → stops_at segment (suc n) left (record { port = p; left = suc m; ended = e } ∷ q)
       ≡ (if few then stops_at segment n segment (q ++ record { port = p; left = m; ended = e } ∷ []) else stops_at segment n (left - 1) (record { port = p; left = m; ended = e } ∷ q))
   stop_takes n left p m e few q h = rw h refl
@@ -82,7 +82,7 @@ module _ (segment : ℕ) where
   last_of_segment f g left p t ts e q h o = by o
     where
       stops : stops_at segment (suc f) left (map turn_of (record { port = p; list = t ∷ ts; ends = e } ∷ q)) ≡ stops_at segment f segment (map turn_of (q ++ left_over p ts e ∷ []))
-      stops = stop_takes f left p (length ts) e true (map turn_of q) h ∙ ap (λ (x : List Turn). stops_at segment f segment x) (sym (map-append turn_of q (left_over p ts e ∷ [])))
+      stops = stop_takes f left p (length ts) e true (map turn_of q) h ∙ ap (λ (x : List InTurn). stops_at segment f segment x) (sym (map-append turn_of q (left_over p ts e ∷ [])))
 
       more : interleave_of segment (suc g) left (map grow (record { port = p; list = t ∷ ts; ends = e } ∷ q)) ≡ tag p t ∷ interleave_of segment g segment (map grow (q ++ left_over p ts e ∷ []))
       more = grown_takes g left p t ts e true (map grow q) h ∙ ap (λ (x : List Inlet). tag p t ∷ interleave_of segment g segment x) (sym (map-append grow q (left_over p ts e ∷ [])))
@@ -192,8 +192,8 @@ turns_same n c asked given [] [] u = refl
 turns_same n c asked given [] (f ∷ ins) u = absurd u
 turns_same n c asked given (b ∷ over) [] u = absurd u
 turns_same n c asked given (b ∷ over) (f ∷ ins) u =
-    ap (λ (t : Turn). t ∷ map turn_of (now_at (n + 1) ins)) (turn_same b (n == c) asked n f.list f.end (sym u.0.1))
-    ∙ ap (λ (q : List Turn). record { port = n; left = length f.list; ended = input_closed (seat b (n == c) asked) } ∷ q) (turns_same (n + 1) c asked given over ins u.1)
+    ap (λ (t : InTurn). t ∷ map turn_of (now_at (n + 1) ins)) (turn_same b (n == c) asked n f.list f.end (sym u.0.1))
+    ∙ ap (λ (q : List InTurn). record { port = n; left = length f.list; ended = input_closed (seat b (n == c) asked) } ∷ q) (turns_same (n + 1) c asked given over ins u.1)
 
 count_same : (l : List Tree) (e : End) → length (flow (joined (record { list = l; end = e }) nothing_came)).list ≡ length l
 count_same l unended = ap length (append-nil l)
@@ -256,6 +256,6 @@ stops_here segment first l ins g from here k =
     let stops : stops_at segment fuel segment (map turn_of (now_at 0 ins)) ≡ Some l.current =
     stop_port segment fuel more (now_at 0 ins) k.given later l.current (outcome segment fuel more segment (now_at 0 ins) (omega (arith, needs)) (omega (arith, wants))) now (ap (λ (q : List Inlet). interleave_of segment more segment q) (sym grows) ∙ later_gave) in
     let shown : stops_at segment fuel segment (map turn_of (now_at 0 ins)) ≡ turns_stop segment (own_inputs (seats 0 l.over l.current l.asked) ins) =
-    ap (λ (q : List Turn). stops_at segment fuel segment q) (turns_same 0 l.current l.asked k.given l.over ins k.uses)
+    ap (λ (q : List InTurn). stops_at segment fuel segment q) (turns_same 0 l.current l.asked k.given l.over ins k.uses)
     ∙ ap (λ (n : ℕ). stops_at segment n segment (turns_from 0 (own_inputs (seats 0 l.over l.current l.asked) ins))) (fuel_same 0 l.current l.asked l.over ins (as_many 0 k.given l.over ins k.uses)) in
     sym shown ∙ stops

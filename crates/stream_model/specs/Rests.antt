@@ -134,19 +134,19 @@ WaitsAt p n [] = ⊥
 WaitsAt p n (v ∷ vs) = ((n ≡ p) × Waits v × EachWire IdlesOrShut vs) ⊎ (IdlesOrShut v × WaitsAt p (n + 1) vs)
 
 -- an input of an interleave: its number, how many of its elements are left, and whether it has ended
-pub record Turn : Type 0 where
+pub record InTurn : Type 0 where
   pub port : ℕ
   pub left : ℕ
   pub ended : Bool
 
 -- the inputs from number n on, by what was sent there
-abbrev pub turns_from : ℕ → List SeenWire → List Turn
+abbrev pub turns_from : ℕ → List SeenWire → List InTurn
 turns_from n [] = []
 turns_from n (v ∷ vs) = record { port = n; left = v.sent; ended = v.shut } ∷ turns_from (n + 1) vs
 
 -- The input at which an interleave stops once all that was sent was taken in turn: the first in turn that has none left and has not
 -- ended. `left` is how many elements of its segment are to come; `fuel` is enough where it is all elements and inputs.
-abbrev pub stops_at : ℕ → ℕ → ℕ → List Turn → Option ℕ
+abbrev pub stops_at : ℕ → ℕ → ℕ → List InTurn → Option ℕ
 stops_at segment zero left q = None
 stops_at segment (suc fuel) left [] = None
 stops_at segment (suc fuel) left (t ∷ q) =

@@ -1,6 +1,6 @@
 -- A row of a picture that rests, proved once over a stage's own ports, is a row of the picture's wires: a wire shows what the
 -- port shows, or it is a lane, which may be read as idling.
-use Rattle.std.proofs.Common.{◌≡◌, ◌≢◌, ◌⊎◌, inl, inr, ℕ, ◌+◌, ◌≤◌, true, false, List, [], ◌∷◌, map, None, Some, refl, sym, subst, ◌∙◌, arith}
+use Rattle.std.proofs.Common.{◌≡◌, ◌≢◌, ◌⊎◌, inl, inr, ℕ, ◌+◌, ◌≤◌, Bool, true, false, List, [], ◌∷◌, map, None, Some, refl, sym, ap, subst, ◌∙◌, arith}
 use Rattle.port_core.specs.declared.view.InView.{InView}
 use Rattle.port_core.specs.declared.view.InView.TheVariants.{Idle, Pulled, Finished, Cancelled}
 use Rattle.port_core.specs.declared.view.OutView.{OutView}
@@ -261,9 +261,15 @@ all_shown (i ∷ is) q ne = by (sent_or_lane i i.view refl ne.0 q.0) (shut_or_la
     by (inr a) (inr b) (inl c) = inl (inr c)
     by (inr a) (inr b) (inr c) = inr ((a, b), c)
 
+abbrev turn : ℕ → ℕ → Bool → InTurn
+turn n left ended = record { port = n; left = left; ended = ended }
+
 same_turns : (n : ℕ) (is : List InPort) → AllShown is → turns_from n (map own_in is) ≡ turns_from n (map (λ (i : InPort). i.wire) is)
 same_turns n [] s = refl
-same_turns n (i ∷ is) s = rw (s.0.0, s.0.1, same_turns (n + 1) is s.1) refl
+same_turns n (i ∷ is) s =
+    ap (λ (m : ℕ). turn n m (input_closed i.view) ∷ turns_from (n + 1) (map own_in is)) (sym s.0.0)
+    ∙ (ap (λ (b : Bool). turn n i.wire.sent b ∷ turns_from (n + 1) (map own_in is)) (sym s.0.1)
+    ∙ ap (λ (q : List InTurn). turn n i.wire.sent i.wire.shut ∷ q) (same_turns (n + 1) is s.1))
 
 same_fuel : (is : List InPort) → AllShown is → total (λ v. v.sent + 1) (map own_in is) ≡ total (λ v. v.sent + 1) (map (λ (i : InPort). i.wire) is)
 same_fuel [] s = refl

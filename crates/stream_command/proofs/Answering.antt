@@ -149,7 +149,7 @@ none_runs plugged file trace turns a s e blank = record {
   tells = λ t. t;
   told = λ t. inl (subst (λ x. EndedBefore plugged x a file trace s s) (sym e) (record { files = record { telling = refl; files = λ h n. refl }; blank = blank }));
   complete = λ t v calm. subst (λ x. RanWithoutFault x) (sym e) tt;
-  causes = inl (subst (λ x. CausesBefore x file s s) (sym e) (quiet_same s.refusals s.refusals (λ m. refl), quiet_same s.rfaults s.rfaults (λ m. refl), quiet_same s.wfaults s.wfaults (λ m. refl)));
+  causes = inl (subst (λ x. CausesBefore x file s s) (sym e) (quiet_same s.refusals s.refusals (λ m. refl), quiet_same s.rfaults s.rfaults (λ m. refl), quiet_same s.wfaults s.wfaults (λ m. refl), λ m never. quiet_same s.read s.read (λ k. refl) m));
   sinks = subst (λ x. SinksOf x a trace) (sym e) blank;
   no_usage = no_memory_usage a.status e;
   reads = read_none (s.read file) (s.read file) text_limit refl;

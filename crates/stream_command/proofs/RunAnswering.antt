@@ -798,6 +798,10 @@ module _ (plugged : Plugged) (a : Answer) (c : AskedRun) (old mid new : FolderSt
   told_text (inl h) = inl (not_said a.status h)
   told_text (inr h) = told_parsed h.0 h.1.0 h.1.1
 
+-- of no other file anything was read
+pub unread_but : (file : List ℕ) (old new : List ℕ → ℕ) → ((n : List ℕ) → n ≢ file → new n ≡ old n) → QuietButAll (file ∷ []) old new
+unread_but file old new same n never = grew_same _ _ (same n (λ e. never (0, omega arith, sym e)))
+
 -- what was read since that file was, and the file itself
 reads_since : (file : List ℕ) (names : List (List ℕ)) (old mid new : List ℕ → ℕ) → ((n : List ℕ) → n ≢ file → mid n ≡ old n) → QuietButAll names mid new → QuietButAll (file ∷ names) old new
 reads_since file names old mid new same quiet n never =
@@ -820,7 +824,7 @@ module _ (plugged : Plugged) (old mid new : FolderState) (file t : List ℕ) (r 
   quiet_before : (s : Status) → CausesQuiet s mid new → CausesBefore s file old new
   quiet_before (status.Refused f) h = (refusals_since h, rfaults_since h, wfaults_since h, only_file h)
   quiet_before (status.Unfit f) h = (refusals_since h, rfaults_since h, wfaults_since h, only_file h)
-  quiet_before status.NoMemory h = (refusals_since h, rfaults_since h, wfaults_since h)
+  quiet_before status.NoMemory h = (refusals_since h, rfaults_since h, wfaults_since h, only_file h)
   quiet_before status.Done h = absurd h
   quiet_before status.StreamFailed h = absurd h
   quiet_before status.Stalled h = absurd h

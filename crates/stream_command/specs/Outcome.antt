@@ -206,13 +206,13 @@ RunCauses p status.Stalled a b trace turns old new = Quiet old.refusals new.refu
 RunCauses p status.OutOfTurns a b trace turns old new = Quiet old.refusals new.refusals × QuietButAll (inputs_of_nodes b.nodes.items) old.rfaults new.rfaults × Quiet old.wfaults new.wfaults × SinksWrote p old new b turns a × UsedUp b turns a
 RunCauses p _ a b trace turns old new = Quiet old.refusals new.refusals × QuietButAll (inputs_of_nodes b.nodes.items) old.rfaults new.rfaults × Quiet old.wfaults new.wfaults × SinksWrote p old new b turns a
 
--- what a call raised before a run; where the text was refused or is unfit, no other file was read
+-- what a call raised before a run; no other file was read
 abbrev pub CausesBefore : Status → List ℕ → FolderState → FolderState → Type 0
-CausesBefore (status.Missing n) file old new = (n ≡ file) × IsAbsent old new n × QuietBut n old.refusals new.refusals × Quiet old.rfaults new.rfaults × Quiet old.wfaults new.wfaults
-CausesBefore status.ReadFault file old new = Quiet old.refusals new.refusals × (Rose (old.rfaults file) (new.rfaults file) × QuietBut file old.rfaults new.rfaults) × Quiet old.wfaults new.wfaults
+CausesBefore (status.Missing n) file old new = (n ≡ file) × IsAbsent old new n × QuietBut n old.refusals new.refusals × Quiet old.rfaults new.rfaults × Quiet old.wfaults new.wfaults × QuietButAll (file ∷ []) old.read new.read
+CausesBefore status.ReadFault file old new = Quiet old.refusals new.refusals × (Rose (old.rfaults file) (new.rfaults file) × QuietBut file old.rfaults new.rfaults) × Quiet old.wfaults new.wfaults × QuietButAll (file ∷ []) old.read new.read
 CausesBefore (status.Refused f) file old new = Quiet old.refusals new.refusals × Quiet old.rfaults new.rfaults × Quiet old.wfaults new.wfaults × QuietButAll (file ∷ []) old.read new.read
 CausesBefore (status.Unfit f) file old new = Quiet old.refusals new.refusals × Quiet old.rfaults new.rfaults × Quiet old.wfaults new.wfaults × QuietButAll (file ∷ []) old.read new.read
-CausesBefore status.NoMemory file old new = Quiet old.refusals new.refusals × Quiet old.rfaults new.rfaults × Quiet old.wfaults new.wfaults
+CausesBefore status.NoMemory file old new = Quiet old.refusals new.refusals × Quiet old.rfaults new.rfaults × Quiet old.wfaults new.wfaults × QuietButAll (file ∷ []) old.read new.read
 CausesBefore _ file old new = ⊥
 
 -- A blueprint was run that is fit where the command's own file and that of the trace are taken, so that its files are other ones. It is

@@ -1,11 +1,11 @@
 -- Counts that follow one another, and files that no step changed.
-use Rattle.std.proofs.Common.{◌≡◌, ℕ, ◌+◌, ◌≤◌, List, inl, inr, sym, ap, ◌∙◌, subst, arith}
+use Rattle.std.proofs.Common.{◌≡◌, ◌≢◌, ℕ, ◌+◌, ◌<◌, ◌≤◌, List, inl, inr, sym, ap, ◌∙◌, subst, arith}
 use Rattle.std.specs.Prelude.{Option, Some, None, IfSome, IsSome, IsTrue}
 use Rattle.std.specs.Option.{option_map}
-use Rattle.stream_io.specs.Counts.{Grew, GrewAtMost}
+use Rattle.stream_io.specs.Counts.{last_count, Rose, Grew, GrewAtMost}
 use Rattle.stream_io.specs.State.{FolderState, SourceState, SameFiles, SameFaults, SameRefusals, OpensSource, ClosesSource}
 use Rattle.stream_io.proofs.Counts.{grew_same, grew_two, quiet_same, quiet_two, same_name}
-use Rattle.stream_io.specs.Text.{text_limit, text_of_file, ReadsFile, StaysQuiet}
+use Rattle.stream_io.specs.Text.{text_limit, text_of_file, ReadsFile, FailsToRead, StaysQuiet}
 
 -- a folder whose files no step changed tells them behind it as before
 pub tells_behind : (s t : FolderState) → SameFiles s t → IsTrue s.tells → IsTrue t.tells
@@ -26,17 +26,49 @@ text_told : (o w : Option (List ℕ)) (text : List ℕ) → w ≡ o → IsSome o
 text_told None w text e h p = cc
 text_told (Some b) w text e h p = ap Some (sym (subst (λ o. IfSome o (λ b. text ≡ text_of_file b)) e p))
 
+-- of another name's file nothing is read
+others_unread : (s t u : FolderState) (name : List ℕ) (h h' : SourceState) → OpensSource s name h → SameFaults s t → h'.name ≡ h.name → ClosesSource t u h' → (n : List ℕ) → n ≢ name → u.read n ≡ s.read n
+others_unread s t u name h h' opened faults same closed n differs = closed.other_read n (λ e. differs (e ∙ same ∙ opened.name_is)) ∙ faults.read n
+
 -- what the opening, the reading and the closing of a file leave alone
-pub closed_quiet : (s t u : FolderState) (h : SourceState) → SameFiles s t → SameFaults s t → SameRefusals s t → h.faults ≡ 0 → ClosesSource t u h → SameFiles t u → StaysQuiet s u
-closed_quiet s t u h files faults refusals none closed same = record {
+pub closed_quiet : (s t u : FolderState) (name : List ℕ) (h h' : SourceState) → OpensSource s name h → SameFiles s t → SameFaults s t → SameRefusals s t → h'.name ≡ h.name → h'.faults ≡ h.faults → ClosesSource t u h' → SameFiles t u → StaysQuiet s u name
+closed_quiet s t u name h h' opened files faults refusals same_name_is same_faults closed same = record {
   files = files_two s t u files same;
+  read = others_unread s t u name h h' opened faults same_name_is closed;
   refusals = quiet_two _ _ _ (quiet_same _ _ refusals) (quiet_same _ _ closed.refusals);
-  rfaults = λ n. elim (same_name n h.name) [
-    | inl e ↦ (let grew = grew_two _ _ _ 0 0 (grew_same _ _ (faults.rfaults n)) (subst (λ m. Grew (t.rfaults m) 0 (u.rfaults m)) (sym e) (subst (λ k. Grew (t.rfaults h.name) k (u.rfaults h.name)) none closed.rfaults)) in grew)
+  rfaults = λ n. elim (same_name n h'.name) [
+    | inl e ↦ (let grew = grew_two _ _ _ 0 0 (grew_same _ _ (faults.rfaults n)) (subst (λ m. Grew (t.rfaults m) 0 (u.rfaults m)) (sym e) (subst (λ k. Grew (t.rfaults h'.name) k (u.rfaults h'.name)) (same_faults ∙ opened.faults) closed.rfaults)) in grew)
     | inr differs ↦ grew_same _ _ (closed.other_rfaults n differs ∙ faults.rfaults n)
   ];
   wfaults = quiet_two _ _ _ (quiet_same _ _ faults.wfaults) (quiet_same _ _ closed.wfaults);
 }
+
+-- a count to which a handle's was added rose where the handle's did
+rose_closed : (old opened new first last : ℕ) → opened ≡ old → first ≡ 0 → Rose first last → Grew opened last new → Rose old new
+rose_closed old opened new first last same none rose grew = λ h.
+    let sum : new ≡ opened + last = grew.grew h in
+    let below : last < last_count = omega (arith, sum, h) in
+    let some : first < last = rose below in
+    omega (arith, sum, same, none, some)
+
+-- what a failed read of it leaves
+pub closed_fault : (s t u : FolderState) (name : List ℕ) (h h' : SourceState) → OpensSource s name h → SameFiles s t → SameFaults s t → SameRefusals s t → h'.name ≡ h.name → Rose h.faults h'.faults → ClosesSource t u h' → SameFiles t u → FailsToRead s u name
+closed_fault s t u name h h' opened files faults refusals same rose closed kept =
+    let is : h'.name ≡ name = same ∙ opened.name_is in
+    let grew : Grew (t.rfaults name) h'.faults (u.rfaults name) = subst (λ n. Grew (t.rfaults n) h'.faults (u.rfaults n)) is closed.rfaults in
+    let before : t.rfaults name ≡ s.rfaults name = faults.rfaults name in
+    let none : h.faults ≡ 0 = opened.faults in
+    record {
+      files = files_two s t u files kept;
+      read = others_unread s t u name h h' opened faults same closed;
+      rose = rose_closed (s.rfaults name) (t.rfaults name) (u.rfaults name) h.faults h'.faults before none rose grew;
+      refusals = quiet_two _ _ _ (quiet_same _ _ refusals) (quiet_same _ _ closed.refusals);
+      rfaults = record {
+        stays = let grown : t.rfaults name ≤ u.rfaults name = grew.stays in omega (arith, before, grown);
+        others = λ n differs. grew_same _ _ (closed.other_rfaults n (λ e. differs (e ∙ is)) ∙ faults.rfaults n);
+      };
+      wfaults = quiet_two _ _ _ (quiet_same _ _ faults.wfaults) (quiet_same _ _ closed.wfaults);
+    }
 
 -- ---- how many bytes of a file were read
 
@@ -64,11 +96,11 @@ closed_most s t u name h h' opened faults same few closed =
 
 pub file_read : (s t u : FolderState) (name text : List ℕ) (h h' : SourceState) → OpensSource s name h → SameFiles s t → SameFaults s t → SameRefusals s t → h'.name ≡ h.name → h'.faults ≡ h.faults → IfSome h.whole (λ w. text ≡ text_of_file w) → ClosesSource t u h' → SameFiles t u → ReadsFile s u name text
 file_read s t u name text h h' opened files faults refusals same_name same_faults bytes closed same =
-    let quiet = closed_quiet s t u h' files faults refusals (same_faults ∙ opened.faults) closed same in
+    let quiet = closed_quiet s t u name h h' opened files faults refusals same_name same_faults closed same in
     record {
       files = quiet.files;
       text_is = λ tells. text_told (s.file name) h.whole text (opened.whole tells) (opened.there tells) bytes;
-      read = λ n differs. closed.other_read n (λ e. differs (e ∙ same_name ∙ opened.name_is)) ∙ faults.read n;
+      read = quiet.read;
       refusals = quiet.refusals;
       rfaults = quiet.rfaults;
       wfaults = quiet.wfaults;

@@ -25,6 +25,7 @@ pub record ReadsFile (old new : FolderState) (name text : List ℕ) : Type 0 whe
 -- a read of that name's file failed, and nothing else came of it
 pub record FailsToRead (old new : FolderState) (name : List ℕ) : Type 0 where
   pub files : SameFiles old new
+  pub read : (n : List ℕ) → n ≢ name → new.read n ≡ old.read n
   pub rose : Rose (old.rfaults name) (new.rfaults name)
   pub refusals : Quiet old.refusals new.refusals
   pub rfaults : QuietBut name old.rfaults new.rfaults
@@ -33,14 +34,16 @@ pub record FailsToRead (old new : FolderState) (name : List ℕ) : Type 0 where
 -- that name's file is not there, or its opening was refused; nothing else came of it
 pub record StaysMissing (old new : FolderState) (name : List ℕ) : Type 0 where
   pub files : SameFiles old new
+  pub read : (n : List ℕ) → new.read n ≡ old.read n
   pub why : LacksFile old name ⊎ Rose (old.refusals name) (new.refusals name)
   pub refusals : QuietBut name old.refusals new.refusals
   pub rfaults : Quiet old.rfaults new.rfaults
   pub wfaults : Quiet old.wfaults new.wfaults
 
--- nothing came of it
-pub record StaysQuiet (old new : FolderState) : Type 0 where
+-- some of that name's file may have been read, and nothing else came of it
+pub record StaysQuiet (old new : FolderState) (name : List ℕ) : Type 0 where
   pub files : SameFiles old new
+  pub read : (n : List ℕ) → n ≢ name → new.read n ≡ old.read n
   pub refusals : Quiet old.refusals new.refusals
   pub rfaults : Quiet old.rfaults new.rfaults
   pub wfaults : Quiet old.wfaults new.wfaults

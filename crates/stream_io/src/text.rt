@@ -83,12 +83,12 @@ fn read_all<S: Source>(alloc: Global, source: &mut S) -> Result<Vec<u8>, PieceEn
     Ok(text)
 }
 
-/// Reads the text of that name's file: its bytes, or the first 1,048,577 of them. No more are read, whatever comes of it. It changes no file, and leaves as many open handles as there were.
+/// Reads the text of that name's file: its bytes, or the first 1,048,577 of them. No more are read, and none of another file, whatever comes of it. It changes no file, and leaves as many open handles as there were.
 pub fn read_file<F: Folder>(alloc: Global, folder: &mut F, name: &Line) -> Result<Vec<u8>, ReadEnd>
     ensures ok { IfOk result (λ text. ReadsFile (F.state folder.old) (F.state folder.new) name.now text.items) }
     ensures missing { result ≡ Err ReadEnd.Missing → StaysMissing (F.state folder.old) (F.state folder.new) name.now }
     ensures fault { result ≡ Err ReadEnd.Fault → FailsToRead (F.state folder.old) (F.state folder.new) name.now }
-    ensures no_memory { result ≡ Err ReadEnd.NoMemory → StaysQuiet (F.state folder.old) (F.state folder.new) }
+    ensures no_memory { result ≡ Err ReadEnd.NoMemory → StaysQuiet (F.state folder.old) (F.state folder.new) name.now }
     ensures most { GrewAtMost ((F.state folder.old).read name.now) text_limit ((F.state folder.new).read name.now) }
     ensures handles { F.handles folder.new ≡ F.handles folder.old }
 {

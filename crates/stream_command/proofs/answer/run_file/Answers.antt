@@ -7,7 +7,7 @@ use Rattle.stream_command.specs.Outcome.{taken_files}
 use Rattle.stream_command.specs.Texts.{EndedText, CausesText}
 use Rattle.stream_io.proofs.Quiets.{tells_before, tells_behind}
 use Rattle.run_report.specs.declared.outcome.Status.TheVariants as status
-use Rattle.stream_command.proofs.RunAnswering.{told_text, causes_text, causes_before, reads_text, sinks_text, among_of}
+use Rattle.stream_command.proofs.RunAnswering.{told_text, causes_text, causes_before, unread_but, reads_text, sinks_text, among_of}
 use Rattle.stream_command.proofs.Receipts.{of_file}
 use Rattle.stream_command.specs.RunReceipts.{RanText}
 use Rattle.stream_command.proofs.answer.run_file.Goals as goal
@@ -71,18 +71,18 @@ returns-in-Err-Missing-clause-causes g c =
     let h = c.in-Err-Missing.ensures.missing (ap Err c.in-Err-Missing.field-0-is) in
     let made = c.without_run-in-Err-Missing in
     causes_before (plugged_by g.B.PlugBook.lists c.args.plugs.items) made.result.status (status.Missing c.args.file.now) (of_outcome made.result) c.args.file.now (option_copied c.args.trace) c.args.turns _ _
-    (made.ensures.status ∙ ap status.Missing c.in-Ok.ensures.file) (refl, h.why, h.refusals, h.rfaults, h.wfaults)
+    (made.ensures.status ∙ ap status.Missing c.in-Ok.ensures.file) (refl, h.why, h.refusals, h.rfaults, h.wfaults, unread_but c.args.file.now _ _ (λ n differs. h.read n))
 
 pub returns-in-Err-Fault-clause-causes : goal.returns-in-Err-Fault-clause-causes
 returns-in-Err-Fault-clause-causes g c =
     let h = c.in-Err-Fault.ensures.fault (ap Err c.in-Err-Fault.field-0-is) in
     let made = c.without_run-in-Err-Fault in
     causes_before (plugged_by g.B.PlugBook.lists c.args.plugs.items) made.result.status status.ReadFault (of_outcome made.result) c.args.file.now (option_copied c.args.trace) c.args.turns _ _
-    made.ensures.status (h.refusals, (h.rose, h.rfaults), h.wfaults)
+    made.ensures.status (h.refusals, (h.rose, h.rfaults), h.wfaults, unread_but c.args.file.now _ _ h.read)
 
 pub returns-clause-causes : goal.returns-clause-causes
 returns-clause-causes g c =
     let h = c.in-Err-NoMemory.ensures.no_memory (ap Err c.in-Err-NoMemory.field-0-is) in
     let made = c.without_run-in-Err-NoMemory in
     causes_before (plugged_by g.B.PlugBook.lists c.args.plugs.items) made.result.status status.NoMemory (of_outcome made.result) c.args.file.now (option_copied c.args.trace) c.args.turns _ _
-    made.ensures.status (h.refusals, h.rfaults, h.wfaults)
+    made.ensures.status (h.refusals, h.rfaults, h.wfaults, unread_but c.args.file.now _ _ h.read)

@@ -1,4 +1,5 @@
-use Rattle.stream_io.proofs.Quiets.{file_read}
+-- The goals of `text::read_file` that the search leaves.
+use Rattle.stream_io.proofs.Quiets.{closed_quiet, closed_fault, file_read}
 use Rattle.stream_io.proofs.text.read_file.Goals as goal
 
 pub returns-in-Ok-read-clause-ok : goal.returns-in-Ok-read-clause-ok

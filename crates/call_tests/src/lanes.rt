@@ -75,6 +75,26 @@ fn a_lane_of_one(rt: HostRuntime) -> Result<(), Fail> {
 }
 
 #[test]
+fn a_lane_of_two(rt: HostRuntime) -> Result<(), Fail> {
+    let (mut out, mut inp) = lane(rt.alloc(), 2)?;
+    assert!(rt; finds_room(&mut out, 0));
+    assert!(rt; !send_number(&mut out, 1));
+    inp.ask(2);
+    assert!(rt; finds_room(&mut out, 2));
+    assert!(rt; send_number(&mut out, 1));
+    assert!(rt; send_number(&mut out, 2));
+    assert!(rt; !send_number(&mut out, 3));
+    assert!(rt; take_number(&mut inp) == Some(1));
+    assert!(rt; take_number(&mut inp) == Some(2));
+    assert!(rt; take_number(&mut inp).is_none());
+    inp.ask(2);
+    // Without a look: an end wants no demand.
+    assert!(rt; out.offer(Item::Ended).is_ok());
+    assert!(rt; matches!(inp.take(), Some(Item::Ended)));
+    Ok(())
+}
+
+#[test]
 fn a_cancel_is_seen(rt: HostRuntime) -> Result<(), Fail> {
     let (mut out, mut inp) = lane(rt.alloc(), 1024)?;
     inp.cancel();

@@ -32,4 +32,6 @@ mod sure_run;
 #[cfg(test)]
 mod switches;
 #[cfg(test)]
+mod turns;
+#[cfg(test)]
 mod walks;

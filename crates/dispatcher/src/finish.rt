@@ -2,7 +2,6 @@
 ghost use Rattle.lane_core.specs.Bodies.{EachOf};
 ghost use Rattle.lane_core.specs.Crossings.{AreCrossings, AllJoined};
 
-use crate::ran::Ran;
 use lane_core::crossing::Crossing;
 use lane_core::settle::settle;
 use lane_core::turning::Turning;
@@ -16,8 +15,6 @@ pub struct Finish<B> {
     pub used: u32,
     /// Whether an event is left, for which the budget has no unit.
     pub more: bool,
-    /// The receipt.
-    pub ran: Ran,
 }
 
 /// The bodies, once the ends of all lanes were brought together.

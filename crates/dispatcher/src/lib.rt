@@ -2,7 +2,7 @@
 //!
 //! - `hold`, `lends`, `turn_rule`, `turns`: Values that take turns: each has a word that says whether it is wanted and whether its turn has begun, and a slot.
 //! - `budget`, `budget_rule`, `share`: A budget of units that many seats draw on at once.
-//! - `crew`, `finish`, `origin`, `place`, `ran`, `ready`, `run`, `taken`, `waking`: Workers give islands their turns: several threads take bodies from a list of those that are ready, and draw on one budget.
+//! - `crew`, `finish`, `origin`, `place`, `ready`, `run`, `taken`, `waking`: Workers give islands their turns: several threads take bodies from a list of those that are ready, and draw on one budget.
 #![tactic(auto)]
 
 pub mod budget;
@@ -13,7 +13,6 @@ pub mod hold;
 pub mod lends;
 pub mod origin;
 pub mod place;
-pub mod ran;
 pub mod ready;
 pub mod run;
 pub mod share;

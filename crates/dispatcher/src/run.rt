@@ -14,7 +14,6 @@ use crate::budget::{Budget, BudgetSeat};
 use crate::crew::{wake_each, work_all};
 use crate::finish::{Finish, settled};
 use crate::place::TablePlace;
-use crate::ran::Ran;
 use crate::ready::ReadyList;
 use crate::taken::{TurnsTaken, place_all, take_apart, untaken};
 use crate::turns::{TurnSeat, Turns};
@@ -157,11 +156,10 @@ pub fn run<B: Waking + Send, R: Threads + Wait + Sync>(
     ensures within { IfOk result (λ f. f.used ≤ budget) }
     ensures rest { IfOk result (λ f. f.more ≡ false → AtRest B.pending B.joined f.bodies.items lanes.now) }
     ensures more { IfOk result (λ f. f.more ≡ true → (f.used ≡ budget) × ((k : ℕ) × FirstEvent B.pending B.joined f.bodies.items lanes.now k)) }
-    ensures ran { IfOk result (λ f. (f.ran.workers ≡ workers) × (f.ran.islands ≡ vec_len bodies) × (f.ran.used ≡ f.used) × (f.ran.more ≡ f.more)) }
+    ensures few { IfOk result (λ f. vec_len bodies < 4294967295) }
     ensures broke { IfErr result (λ bs. WholeOrBroken B.keeps B.goes B.breaks bodies.items bs.items) }
     ensures broke_joined { IfErr result (λ bs. AllJoined B.joined bs.items lanes.now) }
 {
-    let islands = bodies.len();
     let TurnsTaken {
         mut bodies,
         used,
@@ -173,17 +171,9 @@ pub fn run<B: Waking + Send, R: Threads + Wait + Sync>(
     let Ok(end) = go_on(alloc, bodies.as_mut_slice(), lanes, used, budget) else {
         return Err(bodies);
     };
-    let used = end.used;
-    let more = !end.at_rest;
     Ok(Finish {
         bodies,
-        used,
-        more,
-        ran: Ran {
-            workers,
-            islands: islands as u32,
-            used,
-            more,
-        },
+        used: end.used,
+        more: !end.at_rest,
     })
 }

@@ -6,7 +6,7 @@ use Rattle.stream_model.specs.declared.blueprint.Blueprint.{Blueprint}
 use Rattle.stream_io.specs.State.{SourceState, DrainState}
 use Rattle.blue_check.specs.Wires.{blueprint_wires}
 use Rattle.dispatcher.specs.Broken.{WholeOrBroken}
-use Rattle.dispatcher.specs.declared.ran.Ran.{Ran}
+use Rattle.island_runs.specs.declared.ran.Ran.{Ran}
 use Rattle.lane_core.specs.Bodies.{AllOf, EachOf}
 use Rattle.lane_core.specs.Crossings.{AllJoined, AtRest}
 use Rattle.lane_core.specs.declared.crossing.Crossing.{Crossing}

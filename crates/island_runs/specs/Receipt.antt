@@ -2,7 +2,7 @@
 use Rattle.std.specs.Prelude.{◌≡◌, ℕ, Bool, not, List, length}
 use Rattle.stream_model.specs.declared.blueprint.Blueprint.{Blueprint}
 use Rattle.blue_check.specs.Wires.{blueprint_wires}
-use Rattle.dispatcher.specs.declared.ran.Ran.{Ran}
+use Rattle.island_runs.specs.declared.ran.Ran.{Ran}
 use Rattle.island_plans.specs.Homes.{AreNumberedHomes}
 
 -- The blueprint has so many islands: each node is in one, and none is empty. Two nodes are in one exactly where a walk along wires

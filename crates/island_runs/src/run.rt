@@ -19,12 +19,12 @@ use crate::leave_laws::{
     unmade_islands_hand_back,
 };
 use crate::prepare::Prepared;
+use crate::ran::Ran;
 use blue_check::plan::LanePlan;
 use bodies_run::laws::{
     bodies_leave_a_run, broken_bodies_cover, broken_bodies_leave_a_run, nodes_alone_are_a_run,
 };
 use dispatcher::finish::Finish;
-use dispatcher::ran::Ran;
 use interpreter::island::IslandEnd;
 use island_body::body::Body;
 use island_parts::join::{join_ends, join_handles};
@@ -269,14 +269,16 @@ fn run_bodies<
         crossings,
         remains,
     } = begun;
+    let islands = bodies.len();
     match dispatcher::run::run(rt, alloc, bodies, &crossings, workers, budget) {
         Ok(finish) => {
-            let Finish {
-                bodies,
+            let Finish { bodies, used, more } = finish;
+            let ran = Ran {
+                workers,
+                islands: islands as u32,
                 used,
                 more,
-                ran,
-            } = finish;
+            };
             Ok(stop(alloc, bodies, &crossings, remains, used, !more, ran))
         }
         Err(bodies) => Err(give_up(bodies, &crossings, remains)),

@@ -19,11 +19,11 @@ ghost use Rattle.elem_core.specs.declared.count.TheConstants.{MOST_COUNT};
 ghost use Rattle.materializer.specs.HandedPlugs.{GivesAsListed, HasPlugs};
 
 use crate::laws::{every_wire_carries_its_type, fit_blueprints_pass_the_rules};
-use dispatcher::ran::Ran;
 use elem_core::line::Line;
 use elem_core::why::NoMemory;
 use interpreter::island::{IslandEnd, SinkStand};
 use island_runs::prepare::prepare;
+use island_runs::ran::Ran;
 use island_runs::run::{Broken, Stopped};
 use materializer::laws::{fit_blueprints_are_whole, parts_hold_their_files};
 use materializer::names::{input_names, output_names, pick_names};

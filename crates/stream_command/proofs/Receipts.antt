@@ -7,7 +7,7 @@ use Rattle.blue_check.specs.Fitness.{IsFit}
 use Rattle.blue_lang.specs.Plain.{plain}
 use Rattle.blue_lang.specs.Blueprints as language
 use Rattle.run_blueprint.specs.Stands.{SinkStand, is_write_fault, is_unended, is_failed}
-use Rattle.dispatcher.specs.declared.ran.Ran.{Ran}
+use Rattle.island_runs.specs.declared.ran.Ran.{Ran}
 use Rattle.stream_io.specs.Text.{ReadsFile}
 use Rattle.run_blueprint.specs.Receipt.{HasIslands, IsReceipt}
 use Rattle.run_report.specs.declared.outcome.Status.{Status}

@@ -4,7 +4,7 @@ use Rattle.stream_model.specs.declared.blueprint.Blueprint.{Blueprint}
 use Rattle.blue_check.specs.Fitness.{IsFit}
 use Rattle.blue_lang.specs.Blueprints as language
 use Rattle.blue_lang.specs.Plain.{plain}
-use Rattle.dispatcher.specs.declared.ran.Ran.{Ran}
+use Rattle.island_runs.specs.declared.ran.Ran.{Ran}
 use Rattle.run_blueprint.specs.Receipt.{HasIslands}
 use Rattle.run_report.specs.declared.outcome.Status.{Status}
 use Rattle.run_report.specs.declared.outcome.Status.TheVariants as status

@@ -14,8 +14,8 @@ ghost use Rattle.materializer.specs.HandedPlugs.{GivesAsListed};
 ghost use Rattle.stream_command.specs.Asked.{plugged_by};
 
 use crate::answer::{self, CallEnd};
-use dispatcher::ran::Ran;
 use elem_core::line::Line;
+use island_runs::ran::Ran;
 use plug_logic::book::PlugBook;
 use plug_logic::logic::Logic;
 use plug_logic::plug::Plug;

@@ -1,7 +1,7 @@
 -- The goals of `run::run` that the search leaves.
 use Rattle.std.proofs.Common.{◌≡◌, ◌∙◌, inl, inr, ℕ, Bool, Err, Result, refl, sym, ap, map, length, subst}
 use Rattle.stream_model.specs.declared.blueprint.Blueprint.{Blueprint}
-use Rattle.dispatcher.specs.declared.ran.Ran.{Ran}
+use Rattle.island_runs.specs.declared.ran.Ran.{Ran}
 use Rattle.stream_io.specs.Opening.{OpensAll, GivesUp, MissesInput, RefusesOutput}
 use Rattle.stream_io.proofs.Stoppings.{gives_up_first}
 use Rattle.materializer.specs.Files.{inputs_of_nodes, outputs_of_nodes}

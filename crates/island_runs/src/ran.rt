@@ -1,7 +1,7 @@
-// The receipt of a run.
+// The receipt of a blueprint's run.
 ghost use Rattle.std.specs.Prelude.{◌≡◌};
 
-/// The receipt of a run, which `run` alone makes.
+/// The receipt of a run of a blueprint's islands, which `run` alone makes.
 #[derive(Clone, Copy)]
 pub struct Ran {
     pub(crate) workers: u32,

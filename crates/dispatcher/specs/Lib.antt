@@ -7,3 +7,4 @@ pub mod PublicBudget
 pub mod Broken
 pub mod Places
 pub mod Crew
+pub mod Naming

@@ -13,3 +13,4 @@ pub mod Looking
 pub mod Wakes
 pub mod Telling
 pub mod Sending
+pub mod Naming

@@ -1,6 +1,7 @@
 // Bodies whose lanes are brought together, and which take turns.
 ghost use Rattle.island_body.specs.Keeping.{is_pending, BodyKeeps, BodyGoes, BodyBreaks, IsIdle};
 ghost use Rattle.island_body.specs.Meeting.{BodiesMayMeet, BodiesMeet, BodiesJoined, OnlyMet};
+ghost use Rattle.island_body.specs.Telling.{HasTold, Wakes};
 ghost use Rattle.island_body.specs.Lasting as lasting;
 ghost use Rattle.island_body.specs.Waking as waking;
 ghost use Rattle.std.specs.Prelude.{◌≡◌, refl};
@@ -49,6 +50,8 @@ impl<S: Source, D: Drain, L: Logic, B: PlugBook> Turning for Body<S, D, L, B> {
     ghost joined = { BodiesJoined };
 
     ghost idle = { IsIdle };
+
+    ghost tells = { Wakes };
 
     ghost pending = { is_pending };
 
@@ -110,6 +113,8 @@ impl<S: Source, D: Drain, L: Logic, B: PlugBook> Turning for Body<S, D, L, B> {
 }
 
 impl<S: Source, D: Drain, L: Logic, B: PlugBook> Waking for Body<S, D, L, B> {
+    ghost informs = { HasTold };
+
     fn wakes(&self) -> &[u32] {
         self.woken()
     }

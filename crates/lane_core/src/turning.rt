@@ -9,7 +9,8 @@ use std::alloc::Global;
 
 /// A body: an island with the ends of its lanes. A turn does what there is to do, up to a limit of units; a meeting of lane ends uses
 /// no unit. `keeps` holds of a body that is whole, between two turns; `goes` says that one went on, by turns and meetings, `stands`
-/// that it only met, `breaks` that memory was wanting in a turn, and `idle` that a turn found nothing to do. `joined` says of an
+/// that it only met, `breaks` that memory was wanting in a turn, and `idle` that a turn found nothing to do; `tells`
+/// says what a turn told the other ends of the body's lanes. `joined` says of an
 /// output end and an input end of a lane that they were brought together, and what waits there.
 pub trait Turning: Meet {
     ghost keeps: { Self → Type 0 };
@@ -23,6 +24,8 @@ pub trait Turning: Meet {
     ghost joined: { Self → ℕ → Self → ℕ → Waits → Type 0 };
 
     ghost idle: { Self → Self → Type 0 };
+
+    ghost tells: { Self → Self → Type 0 };
 
     ghost pending: { Self → Bool };
 
@@ -39,6 +42,7 @@ pub trait Turning: Meet {
         ensures spent { IfOk result (λ used. spent self.new ≡ spent self.old + used) }
         ensures within { IfOk result (λ used. used ≤ limit) }
         ensures idle { IfOk result (λ used. used ≡ 0 → 1 ≤ limit → idle self.old self.new) }
+        ensures tells { OnOk result (tells self.old self.new) }
         ensures breaks { OnErr result (breaks self.old self.new) };
 
     /// Whether its next turn may wait, as for a read: others are to have their turns first. A hint, on which no clause rests. It takes no

@@ -52,7 +52,7 @@ returns-in-Ok-clause-receipt g c = λ b ss ds h.
     let e = c.in-Ok.ensures in
     let f = c.in-Ok.finish in
     let same = c.stop.ensures.same in
-    receipt_of b c.args.workers h.count f.used c.stop.result.used f.more c.stop.result.at_rest c.stop.result.ran _ h.homes h.islands refl (c.args.begun.bodies.ok.0 ∙ h.bodies_are.begun_are.many) refl refl same.0 same.1 same.2
+    receipt_of b c.args.workers h.count f.used c.stop.result.used f.more c.stop.result.at_rest c.stop.result.ran _ h.homes h.islands refl (c.len-islands.ensures ∙ (c.args.begun.bodies.ok.0 ∙ h.bodies_are.begun_are.many)) refl refl same.0 same.1 same.2
 
 pub give_up-requires : goal.give_up-requires
 give_up-requires g c =

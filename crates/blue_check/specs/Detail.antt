@@ -26,6 +26,7 @@ want_text AnyPair = codes "(any,any)"
 abbrev pub wire_text : ℕ → List ℕ
 wire_text i = codes "wire " ++ decimal i
 
+-- the place of a size that is wrong: a node, a wire or a chain by its number
 abbrev pub spot_text : Spot → List ℕ
 spot_text (at.Node i) = codes "node " ++ decimal i
 spot_text (at.Wire i) = codes "wire " ++ decimal i
@@ -36,6 +37,7 @@ abbrev pub side_text : Bool → List ℕ
 side_text true = codes " output "
 side_text false = codes " input "
 
+-- what is told of a broken rule beside its number: a name, a wire, a port, the types of a clash or a place
 abbrev pub detail_text : CheckFault → List ℕ
 detail_text (TwoNames l) = l
 detail_text (NoSuchName l) = l

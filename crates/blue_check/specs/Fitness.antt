@@ -23,6 +23,7 @@ abbrev pub node_name : Option Node → List ℕ
 node_name None = []
 node_name (Some n) = n.name
 
+-- the name of node i
 abbrev pub name_at : List Node → ℕ → List ℕ
 name_at nodes i = node_name (slice_get nodes i)
 
@@ -30,6 +31,7 @@ name_at nodes i = node_name (slice_get nodes i)
 abbrev pub open_fault : List Node → OpenPort → CheckFault
 open_fault nodes o = PortOpen (name_at nodes o.node) o.output o.port
 
+-- the fault of a clash: the wire, the type that arrives and what is wanted
 abbrev pub clash_fault : Clash → CheckFault
 clash_fault c = TypeClash c.wire c.left c.want
 
@@ -48,6 +50,7 @@ ports_fault nodes ws =
 abbrev pub plugs_fault : List PlugHead → List ChainDecl → List Node → Option CheckFault
 plugs_fault plugs chains nodes = option_or (option_map NoSuchPlug (unknown_plug plugs chains nodes)) (option_map PlugTwice (plug_twice plugs nodes))
 
+-- the fault of the rule on sizes, where it is broken
 abbrev pub sizes_fault : List ChainDecl → List Node → List WireDecl → Option CheckFault
 sizes_fault chains nodes wires = option_map BadSize (size_wrong chains nodes wires)
 
@@ -65,6 +68,7 @@ early_of switches chains nodes wires plugs taken =
     (option_or (sizes_fault chains nodes wires)
     (types_fault plugs chains nodes (wires_of nodes wires)))))
 
+-- the fault of the first rule that is broken, of all but that on closed walks
 abbrev pub early_fault : Blueprint → List PlugHead → List (List ℕ) → Option CheckFault
 early_fault b plugs taken = early_of b.switches.items b.chains.items b.nodes.items b.wires.items plugs taken
 
@@ -73,6 +77,7 @@ abbrev pub IsClosedFault : List Edge → CheckFault → Type 0
 IsClosedFault ws (ClosedWalk i) = IsFirstClosed ws i
 IsClosedFault ws _ = ⊥
 
+-- the fault is that of the first rule that is broken, at its least place: closed walks come last
 abbrev pub IsFirstFault : Blueprint → List PlugHead → List (List ℕ) → CheckFault → Type 0
 IsFirstFault b plugs taken f = (early_fault b plugs taken ≡ Some f) ⊎ ((early_fault b plugs taken ≡ None) × IsClosedFault (blueprint_wires b) f)
 

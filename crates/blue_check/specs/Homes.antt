@@ -23,5 +23,6 @@ pub record IsOld (old new : List (Option ℕ)) (firsts firsts' : List ℕ) (labe
   pub kept : new ≡ old
   pub same : firsts' ≡ firsts
 
+-- a node got the number that its label had, or its label got the next number
 pub record IsNumbered (old new : List (Option ℕ)) (firsts firsts' : List ℕ) (label node number : ℕ) : Type 0 where
   pub either : IsOld old new firsts firsts' label number ⊎ IsNewNumber old new firsts firsts' label node number

@@ -10,6 +10,7 @@ abbrev pub mark_in : Option Bool → Bool
 mark_in None = false
 mark_in (Some b) = b
 
+-- the mark of node i; none where there is no such node
 abbrev pub mark_at : List Bool → ℕ → Bool
 mark_at marks i = mark_in (slice_get marks i)
 

@@ -3,6 +3,7 @@ use Rattle.std.specs.Prelude.{ℕ}
 use Rattle.blue_check.specs.declared.fault.CheckFault.{CheckFault}
 use Rattle.blue_check.specs.declared.fault.CheckFault.TheVariants.{TwoNames, NoSuchName, NoSuchPort, PortTwice, PortOpen, TypeClash, ClosedWalk, TooDeep, NoSuchPlug, PlugTwice, BadSize}
 
+-- the number of a broken rule, 1 to 11, by which the report names it
 abbrev pub number_of_fault : CheckFault → ℕ
 number_of_fault (TwoNames l) = 1
 number_of_fault (NoSuchName l) = 2

@@ -32,6 +32,7 @@ island_nodes homes k = numbers_from 0 (λ h. h == k) homes
 abbrev pub is_wire_of : List ℕ → ℕ → Edge → Bool
 is_wire_of homes k w = is_fused w && (slice_index homes w.from == k)
 
+-- the wires of island k, in order
 abbrev pub island_wires : List ℕ → List Edge → ℕ → List ℕ
 island_wires homes ws k = numbers_from 0 (is_wire_of homes k) ws
 
@@ -40,6 +41,7 @@ abbrev pub lane_sized : List ℕ → ℕ → Edge → Option ℕ → List LanePl
 lane_sized homes n w None = []
 lane_sized homes n w (Some s) = record { wire = n; size = s; from = slice_index homes w.from; to = slice_index homes w.to } ∷ []
 
+-- the lane of wire n, where it has one: from the island of its output to that of its input
 abbrev pub lane_plan_of : List ℕ → ℕ → Edge → List LanePlan
 lane_plan_of homes n w = lane_sized homes n w w.lane
 
@@ -48,18 +50,21 @@ abbrev pub lanes_from : List ℕ → ℕ → List Edge → List LanePlan
 lanes_from homes n [] = []
 lanes_from homes n (w ∷ ws) = lane_plan_of homes n w ++ lanes_from homes (n + 1) ws
 
--- what a plan lists as the nodes and as the wires of island k; nothing where there is no such island
+-- what a plan lists as the nodes of an island; nothing where there is none
 abbrev pub nodes_in : Option IslandPlan → List ℕ
 nodes_in None = []
 nodes_in (Some i) = i.nodes.items
 
+-- what a plan lists as the wires of an island; nothing where there is none
 abbrev pub wires_in : Option IslandPlan → List ℕ
 wires_in None = []
 wires_in (Some i) = i.wires.items
 
+-- what a plan lists as the nodes of island k
 abbrev pub nodes_at : List IslandPlan → ℕ → List ℕ
 nodes_at islands k = nodes_in (slice_get islands k)
 
+-- what a plan lists as the wires of island k
 abbrev pub wires_at : List IslandPlan → ℕ → List ℕ
 wires_at islands k = wires_in (slice_get islands k)
 

@@ -31,19 +31,22 @@ declaration_at (Err k) = None
 abbrev pub declares : List ℕ → Option Declaration
 declares l = if is_passed_over l then None else declaration_at (declared_in l)
 
--- the switch, the chain, the node and the wire of a declaration
+-- the switch that a declaration declares, where it is one's
 abbrev pub switch_in : Option Declaration → Option (List ℕ)
 switch_in (Some (switch n)) = Some n
 switch_in _ = None
 
+-- the chain that a declaration declares, where it is one's
 abbrev pub declared_chain : Option Declaration → Option PlainChain
 declared_chain (Some (chain c)) = Some c
 declared_chain _ = None
 
+-- the node that a declaration declares, where it is one's
 abbrev pub node_in : Option Declaration → Option Node
 node_in (Some (node n)) = Some n
 node_in _ = None
 
+-- the wire that a declaration declares, where it is one's
 abbrev pub wire_in : Option Declaration → Option WireDecl
 wire_in (Some (wire w)) = Some w
 wire_in _ = None

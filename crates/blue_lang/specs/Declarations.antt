@@ -33,6 +33,7 @@ abbrev pub port_place : Option (List ℕ × List ℕ) → List (List ℕ) → Re
 port_place None ws = None
 port_place (Some r) ws = Some (both (read_name r.0) (read_count 32 r.1), ws)
 
+-- an output or an input: a node's name, and behind the first point the number
 abbrev pub port : List (List ℕ) → Reading (List ℕ × ℕ)
 port [] = None
 port (w ∷ ws) = port_place (cut_at 46 w) ws

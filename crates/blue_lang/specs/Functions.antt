@@ -12,6 +12,7 @@ use Rattle.elem_core.specs.declared.function.FoldOp.TheVariants as o
 use Rattle.elem_core.specs.declared.function.ReduceOp.{ReduceOp}
 use Rattle.elem_core.specs.declared.function.ReduceOp.TheVariants as r
 
+-- the words of a function of one element
 abbrev pub map_words : MapFn → List (List ℕ)
 map_words f.Num = codes "num" ∷ []
 map_words f.Show = codes "show" ∷ []
@@ -34,6 +35,7 @@ map_words f.Twin = codes "twin" ∷ []
 map_words f.Size = codes "size" ∷ []
 map_words f.Sum = codes "sum" ∷ []
 
+-- the words of a predicate
 abbrev pub pred_words : Pred → List (List ℕ)
 pred_words p.Even = codes "even" ∷ []
 pred_words p.Odd = codes "odd" ∷ []
@@ -50,17 +52,20 @@ pred_words (p.Is w) = codes "is" ∷ w ∷ []
 pred_words p.Numeric = codes "numeric" ∷ []
 pred_words (p.FieldIs n w) = codes "field_is" ∷ decimal n ∷ w ∷ []
 
+-- the word of an expansion
 abbrev pub expand_word : Expand → List ℕ
 expand_word x.Words = codes "words"
 expand_word x.Flat = codes "flat"
 expand_word x.Twice = codes "twice"
 
+-- the word of a fold's step
 abbrev pub fold_word : FoldOp → List ℕ
 fold_word o.Sum = codes "sum"
 fold_word o.SumNonneg = codes "sum_nonneg"
 fold_word o.Count = codes "count"
 fold_word o.Collect = codes "collect"
 
+-- the word of a reduction's step
 abbrev pub reduce_word : ReduceOp → List ℕ
 reduce_word r.Sum = codes "sum"
 reduce_word r.Max = codes "max"

@@ -14,10 +14,12 @@ use Rattle.stream_model.specs.declared.kind.Kind.TheVariants as k
 use Rattle.stream_model.specs.Linear.{Side, at_source, at_stage, at_sink, side_by, role_of}
 use Rattle.blue_lang.specs.Functions.{map_words, pred_words, expand_word, fold_word, reduce_word}
 
+-- the word of the type of a source's elements
 abbrev pub base_word : Base → List ℕ
 base_word base.Num = codes "num"
 base_word base.Text = codes "text"
 
+-- the word of what a full buffer does
 abbrev pub policy_word : Policy → List ℕ
 policy_word policy.Backpressure = codes "backpressure"
 policy_word policy.DropHead = codes "drop_head"
@@ -26,6 +28,7 @@ policy_word policy.DropBuffer = codes "drop_buffer"
 policy_word policy.DropNew = codes "drop_new"
 policy_word policy.Fail = codes "fail"
 
+-- the word of how substreams come together
 abbrev pub joining_word : Joining → List ℕ
 joining_word joining.Merge = codes "merge"
 joining_word joining.Concat = codes "concat"

@@ -23,15 +23,17 @@ suits AnySeq _ = false
 suits AnyPair (pair_type t u) = true
 suits AnyPair _ = false
 
--- the items of a list, and the halves of a pair
+-- the type of a list's items; any other type is its own
 abbrev pub items_type : Sort → Sort
 items_type (seq_type t) = t
 items_type t = t
 
+-- the type of a pair's left half; any other type is its own
 abbrev pub left_type : Sort → Sort
 left_type (pair_type t u) = t
 left_type t = t
 
+-- the type of a pair's right half; any other type is its own
 abbrev pub right_type : Sort → Sort
 right_type (pair_type t u) = u
 right_type t = t
@@ -71,10 +73,12 @@ map_shape f.Second t = right_type t
 map_shape f.Swap t = pair_type (right_type t) (left_type t)
 map_shape _ t = pair_type t t
 
+-- the first type, where there is one, and else the second
 abbrev pub fixed_or : Option Sort → Sort → Sort
 fixed_or (Some s) t = s
 fixed_or None t = t
 
+-- the type that a function gives for one that it takes
 abbrev pub map_gives : MapFn → Sort → Sort
 map_gives g t = fixed_or (map_fixed g) (map_shape g t)
 
@@ -88,44 +92,50 @@ pred_want p.Numeric = Is text_type
 pred_want (p.FieldIs n l) = Is text_type
 pred_want _ = Is num_type
 
--- what an expansion wants, and what it gives
+-- what an expansion wants
 abbrev pub expand_want : Expand → Option Want
 expand_want x.Words = Some (Is text_type)
 expand_want x.Flat = Some AnySeq
 expand_want x.Twice = None
 
+-- the type that an expansion gives whatever it takes, where there is one
 abbrev pub expand_fixed : Expand → Option Sort
 expand_fixed x.Words = Some text_type
 expand_fixed _ = None
 
+-- the type that an expansion gives for one that it takes
 abbrev pub expand_gives : Expand → Sort → Sort
 expand_gives x.Words t = text_type
 expand_gives x.Flat t = items_type t
 expand_gives x.Twice t = t
 
--- a fold
+-- what a fold wants
 abbrev pub fold_want : FoldOp → Option Want
 fold_want o.Sum = Some (Is num_type)
 fold_want o.SumNonneg = Some (Is num_type)
 fold_want _ = None
 
+-- the type that a fold gives whatever it takes, where there is one
 abbrev pub fold_fixed : FoldOp → Option Sort
 fold_fixed o.Collect = None
 fold_fixed _ = Some num_type
 
+-- the type that a fold gives for one that it takes
 abbrev pub fold_gives : FoldOp → Sort → Sort
 fold_gives o.Collect t = seq_type t
 fold_gives _ t = num_type
 
--- a reduction
+-- what a reduction wants
 abbrev pub reduce_want : ReduceOp → Option Want
 reduce_want r.Sum = Some (Is num_type)
 reduce_want _ = None
 
+-- the type that a reduction gives whatever it takes, where there is one
 abbrev pub reduce_fixed : ReduceOp → Option Sort
 reduce_fixed r.Sum = Some num_type
 reduce_fixed _ = None
 
+-- the type that a reduction gives for one that it takes
 abbrev pub reduce_gives : ReduceOp → Sort → Sort
 reduce_gives r.Sum t = num_type
 reduce_gives _ t = t

@@ -7,6 +7,7 @@ use Rattle.blue_names.specs.declared.links.NumberedWire.{NumberedWire}
 abbrev pub wire_of_link : NumberedWire → Edge
 wire_of_link l = record { from = l.from; output = l.output; to = l.to; input = l.input; lane = l.lane }
 
+-- the wires that these links are
 abbrev pub wires_of_links : List NumberedWire → List Edge
 wires_of_links ls = map wire_of_link ls
 

@@ -52,6 +52,7 @@ abbrev pub opening : Option (List ℕ) → List Claim → List Claim
 opening (Some file) cs = opens file ∷ cs
 opening None cs = cs
 
+-- the claims of these nodes, in order
 abbrev pub claims_of_nodes : List Node → List Claim
 claims_of_nodes [] = []
 claims_of_nodes (n ∷ ns) = called n.name ∷ opening (file_of n.kind) (claims_of_nodes ns)
@@ -108,6 +109,7 @@ plug_in (a_chain name) = None
 abbrev pub plug_of : Kind → Option (List ℕ)
 plug_of k = plug_in (mention_of k)
 
+-- the plug that a node names, where it is none of these
 abbrev pub unknown_plug_at : List (List ℕ) → Option (List ℕ) → Option (List ℕ)
 unknown_plug_at plugs (Some name) = missing name plugs
 unknown_plug_at plugs None = None
@@ -116,9 +118,11 @@ unknown_plug_at plugs None = None
 abbrev pub unknown_in_steps : List (List ℕ) → List Step → Option (List ℕ)
 unknown_in_steps plugs steps = first_from (λ _ s. unknown_plug_at plugs (plug_of s.kind)) 0 steps
 
+-- the first plug that a step of a chain names and that is none of these
 abbrev pub unknown_in_chains : List (List ℕ) → List ChainDecl → Option (List ℕ)
 unknown_in_chains plugs chains = first_from (λ _ c. unknown_in_steps plugs c.steps.items) 0 chains
 
+-- the first plug that a node names and that is none of these
 abbrev pub unknown_in_nodes : List (List ℕ) → List Node → Option (List ℕ)
 unknown_in_nodes plugs nodes = first_from (λ _ n. unknown_plug_at plugs (plug_of n.kind)) 0 nodes
 
@@ -126,6 +130,7 @@ unknown_in_nodes plugs nodes = first_from (λ _ n. unknown_plug_at plugs (plug_o
 abbrev pub unknown_plug : List PlugHead → List ChainDecl → List Node → Option (List ℕ)
 unknown_plug plugs chains nodes = option_or (unknown_in_chains (map (λ p. p.name) plugs) chains) (unknown_in_nodes (map (λ p. p.name) plugs) nodes)
 
+-- these uses of names with one more in front, where there is one
 abbrev pub calling : Option (List ℕ) → List Claim → List Claim
 calling (Some name) cs = called name ∷ cs
 calling None cs = cs

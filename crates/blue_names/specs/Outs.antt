@@ -10,6 +10,7 @@ abbrev pub numbers_in : Option (Vec ℕ Global) → List ℕ
 numbers_in None = []
 numbers_in (Some v) = v.items
 
+-- the numbers of row n; none where there is no such row
 abbrev pub row_at : List (Vec ℕ Global) → ℕ → List ℕ
 row_at rows n = numbers_in (slice_get rows n)
 

@@ -18,6 +18,7 @@ may_drop DropBuffer = true
 may_drop DropNew = true
 may_drop Fail = true
 
+-- substreams come together as they are
 abbrev pub is_merged : Joining → Bool
 is_merged joining.Merge = true
 is_merged joining.Concat = false

@@ -7,11 +7,12 @@ use Rattle.stream_model.specs.View.{outputs_of}
 use Rattle.stream_model.specs.declared.blueprint.Node.{Node}
 use Rattle.blue_names.specs.First.{first_from, when}
 
--- a node that has no such output, or no such input
+-- there is no such node, or it has no such output
 abbrev pub lacks_output : Option Node → ℕ → Bool
 lacks_output None p = true
 lacks_output (Some n) p = nat_le (outputs_of n.kind) p
 
+-- there is no such node, or it has no such input
 abbrev pub lacks_input : Option Node → ℕ → Bool
 lacks_input None p = true
 lacks_input (Some n) p = nat_le (inputs_of n.kind) p
@@ -35,9 +36,11 @@ pub record OpenPort : Type 0 where
   pub output : Bool
   pub port : ℕ
 
+-- the first input of node i without a wire
 abbrev pub open_input : ℕ → Node → List Edge → Option OpenPort
 open_input i n ws = first_from (λ _ p. when (is_none (find_wire i p ws)) (record { node = i; output = false; port = p })) 0 (count_from 0 (inputs_of n.kind))
 
+-- the first output of node i without a wire
 abbrev pub open_output : ℕ → Node → List Edge → Option OpenPort
 open_output i n ws = first_from (λ _ p. when (is_none (find_source i p ws)) (record { node = i; output = true; port = p })) 0 (count_from 0 (outputs_of n.kind))
 

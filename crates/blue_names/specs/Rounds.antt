@@ -43,9 +43,11 @@ half_by (partitions n f) port t = t
 half_by unzips port t = if port == 0 then left_type t else right_type t
 half_by (sinks file keeps) port t = t
 
+-- what output p of a kind carries, where the type of its node is t
 abbrev pub half_type : Kind → ℕ → Sort → Sort
 half_type k p t = half_by (role_of k) p t
 
+-- what output p of a node carries, where its type is t
 abbrev pub port_type : Option Node → ℕ → Sort → Sort
 port_type None p t = t
 port_type (Some n) p t = half_type n.kind p t
@@ -86,6 +88,7 @@ joins_types (partitions n f) = false
 joins_types unzips = false
 joins_types (sinks file keeps) = false
 
+-- the inputs of this kind take one type
 abbrev pub is_joining : Kind → Bool
 is_joining k = joins_types (role_of k)
 
@@ -162,6 +165,7 @@ module _ (plugs : List PlugHead) (chains : List ChainDecl) where
   attempt_by (Some s) k os = Some (limited s)
   attempt_by None k os = attempt_on (role_of k) os (stage_typed plugs chains k)
 
+  -- what a kind would give: its fixed type, where it has one, and else what comes of the types at its inputs
   abbrev pub attempt : Kind → List (Option Sort) → Option Typed
   attempt k os = attempt_by (fixed_type plugs k) k os
 

@@ -18,5 +18,6 @@ node_number name nodes = unwrap_or (number_from name 0 (map (λ n. n.name) nodes
 abbrev pub wire_of : List Node → WireDecl → Edge
 wire_of nodes w = record { from = node_number w.from nodes; output = w.output; to = node_number w.to nodes; input = w.input; lane = w.lane }
 
+-- the wires by the numbers of their nodes
 abbrev pub wires_of : List Node → List WireDecl → List Edge
 wires_of nodes ws = map (wire_of nodes) ws

@@ -66,13 +66,15 @@ abbrev pub lane_fits : Option ℕ → Bool
 lane_fits None = true
 lane_fits (Some n) = is_within 1 MAX_LANE n && is_power_of_two n
 
--- the first chain, the first node and the first wire with a size that is out of its limits
+-- the first chain with a size that is out of its limits
 abbrev pub chain_wrong : List ChainDecl → Option ℕ
 chain_wrong chains = first_from (λ i c. when (not (list_all (λ s. sizes_fit s.kind) c.steps.items)) i) 0 chains
 
+-- the first node with a size that is out of its limits
 abbrev pub node_wrong : List Node → Option ℕ
 node_wrong nodes = first_from (λ i n. when (not (sizes_fit n.kind)) i) 0 nodes
 
+-- the first wire with a size that is out of its limits
 abbrev pub wire_wrong : List WireDecl → Option ℕ
 wire_wrong wires = first_from (λ i w. when (not (lane_fits w.lane)) i) 0 wires
 

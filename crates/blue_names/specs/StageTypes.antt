@@ -36,6 +36,7 @@ named text name (x ∷ xs) = if same_text name (text x) then Some x else named t
 abbrev pub plug_named : List ℕ → List PlugHead → Option PlugHead
 plug_named name plugs = named (λ p. p.name) name plugs
 
+-- the steps of a chain, none where there is none
 abbrev pub steps_in : Option ChainDecl → List Step
 steps_in None = []
 steps_in (Some c) = c.steps.items
@@ -49,10 +50,12 @@ abbrev pub plug_want : Option PlugHead → Option Want
 plug_want (Some p) = Some (Is p.input)
 plug_want None = None
 
+-- the type that a plug gives; one that is not there gives what it takes
 abbrev pub plug_gives : Option PlugHead → Sort → Sort
 plug_gives (Some p) t = p.output
 plug_gives None t = t
 
+-- the type that a plug gives whatever it takes, where there is the plug
 abbrev pub plug_fixed : Option PlugHead → Option Sort
 plug_fixed (Some p) = Some p.output
 plug_fixed None = None
@@ -88,6 +91,7 @@ source_type_by (partitions n f) = None
 source_type_by unzips = None
 source_type_by (sinks file keeps) = None
 
+-- the type of a source; none of any other kind
 abbrev pub source_type : Kind → Option Sort
 source_type k = source_type_by (role_of k)
 
@@ -167,6 +171,7 @@ module _ (plugs : List PlugHead) where
   and_then (Gives t) g = g t
   and_then r g = r
 
+  -- the steps of a chain one after another, up to the first that does not give
   abbrev pub chain_typed : List Step → Sort → Typed
   chain_typed [] t = Gives t
   chain_typed (s ∷ ss) t = and_then (step_typed s.kind t) (chain_typed ss)

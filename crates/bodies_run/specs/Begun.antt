@@ -21,6 +21,7 @@ module _ {S D L B : Type 0} where
     pub wires : b.island.numbers ≡ map wire_number (links_in homes ws nodes k)
     pub places : b.island.places ≡ map place_number (seats_in homes ws nodes k)
 
+  -- the island of each body has the numbers of its links' wires, and those of what stands at its places
   abbrev pub AreNumberedBodies : List ℕ → List Edge → List (Seated S D L B) → List (Body S D L B) → Type 0
   AreNumberedBodies homes ws nodes bodies = (k : ℕ) (b : Body S D L B) → slice_get bodies k ≡ Some b → IsNumberedBody homes ws nodes k b
 

@@ -33,7 +33,7 @@ net_in (Some b) = b.island.net
 abbrev pub net_of : {S D L B : Type 0} → List (Body S D L B) → ℕ → Net (IslandNode S D L B)
 net_of bodies k = net_in (slice_get bodies k)
 
--- wire u is a lane that comes into island k, or goes out of it
+-- wire u is a lane that comes into island k
 pub record ComesInto (homes : List ℕ) (ws : List Edge) (k u : ℕ) : Type 0 where
   pub wire : Edge
   pub size : ℕ
@@ -41,6 +41,7 @@ pub record ComesInto (homes : List ℕ) (ws : List Edge) (k u : ℕ) : Type 0 wh
   pub lane : wire.lane ≡ Some size
   pub home : slice_index homes wire.to ≡ k
 
+-- wire u is a lane that goes out of island k
 pub record GoesOutOf (homes : List ℕ) (ws : List Edge) (k u : ℕ) : Type 0 where
   pub wire : Edge
   pub size : ℕ

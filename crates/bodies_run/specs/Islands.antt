@@ -68,6 +68,7 @@ module _ {S D L B : Type 0} (homes : List ℕ) (ws : List Edge) (nodes : List (S
   abbrev pub seats_in : ℕ → List (Seated S D L B)
   seats_in k = of_home (place_homes homes ws) k (whole_seats nodes (lanes_from homes 0 ws))
 
+  -- the links of island k
   abbrev pub links_in : ℕ → List Link
   links_in k = own_links (place_homes homes ws) (whole_links (length nodes) ws) k
 
@@ -78,13 +79,14 @@ module _ {S D L B : Type 0} (homes : List ℕ) (ws : List Edge) (nodes : List (S
     pub wired : (k : ℕ) → k < count → Wired (nets k).ends (nets k).ports (length (nets k).nodes) (length (nets k).wires)
     pub each_first : (k : ℕ) → k < count → length (nets k).firsts ≡ length (nets k).nodes
 
-  -- at this place stands the link at which the lane that is wire u comes into its island, and at which it goes out
+  -- at this place stands the link at which the lane that is wire u comes into its island
   pub record IsWayIn (u : ℕ) (p : IslandPlace) : Type 0 where
     pub link : Link
     pub at : slice_get (links_in p.island) p.at ≡ Some link
     pub wire : link.wire ≡ u
     pub comes : comes_in (seats_in p.island) link.from ≡ true
 
+  -- at this place stands the link at which the lane that is wire u goes out of its island
   pub record IsWayOut (u : ℕ) (p : IslandPlace) : Type 0 where
     pub link : Link
     pub at : slice_get (links_in p.island) p.at ≡ Some link
@@ -98,7 +100,7 @@ module _ {S D L B : Type 0} (homes : List ℕ) (ws : List Edge) (nodes : List (S
     pub inp : IsWayIn u ((seats_by_islands homes ws).far u)
     pub in_island : ((seats_by_islands homes ws).far u).island ≡ slice_index homes v.to
 
--- the connection at place q of island k is the one at the output of wire u, which is a lane, or the one at its input
+-- the connection at place q of island k is the one at the output of wire u, which is a lane
 pub record IsNearOf (homes : List ℕ) (ws : List Edge) (k q u : ℕ) : Type 0 where
   pub wire : Edge
   pub size : ℕ
@@ -106,6 +108,7 @@ pub record IsNearOf (homes : List ℕ) (ws : List Edge) (k q u : ℕ) : Type 0 w
   pub lane : wire.lane ≡ Some size
   pub place : (seats_by_islands homes ws).near u ≡ record { island = k; at = q }
 
+-- the connection at place q of island k is the one at the input of wire u, which is a lane
 pub record IsFarOf (homes : List ℕ) (ws : List Edge) (k q u : ℕ) : Type 0 where
   pub wire : Edge
   pub size : ℕ

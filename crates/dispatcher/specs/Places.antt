@@ -27,6 +27,7 @@ pub record PlaceHolds {B : Type 0} (keeps : B → Type 0) (goes breaks : B → B
   pub paid : Paid used seat
   pub stands : PlaceStands keeps goes breaks spent start body used broken
 
+-- what a place is told by: the body as it was handed in, and its budget with the units of that
 abbrev pub place_origin : {B : Type 0} → Snapshot B → TableId → ℕ → PlaceOrigin B
 place_origin start table limit = record { start = start; table = table; limit = limit }
 

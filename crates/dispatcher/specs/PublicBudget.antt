@@ -5,9 +5,11 @@ use Rattle.dispatcher.specs.Rule.{share}
 use Rattle.dispatcher.specs.declared.budget.Budget.{Budget}
 use Rattle.dispatcher.specs.declared.budget.BudgetSeat.{BudgetSeat}
 
+-- which budget it is, by the identity of its table
 abbrev pub budget_id : Budget → TableId
 budget_id b = b.table.shared.table_id
 
+-- of which budget a seat is
 abbrev pub seat_id : BudgetSeat → TableId
 seat_id s = s.seat.table_id
 
@@ -15,12 +17,15 @@ seat_id s = s.seat.table_id
 abbrev pub used_by : BudgetSeat → ℕ
 used_by s = s.seat.me.0.used
 
+-- the parts of all seats that a seat has
 abbrev pub budget_parts : BudgetSeat → ℕ
 budget_parts s = s.seat.me.0.parts
 
+-- the units of the whole budget, as a seat knows them
 abbrev pub limit_of : BudgetSeat → ℕ
 limit_of s = s.seat.me.0.limit
 
+-- how many units a seat may use of its claim
 abbrev pub granted_to : BudgetSeat → ℕ
 granted_to s = s.seat.me.0.granted
 

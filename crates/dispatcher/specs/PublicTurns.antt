@@ -5,7 +5,7 @@ use Rattle.dispatcher.specs.declared.hold.Hold.{Hold}
 use Rattle.dispatcher.specs.declared.turns.Turns.{Turns}
 use Rattle.dispatcher.specs.declared.turns.TurnSeat.{TurnSeat}
 
--- what the first of these views holds, and what it found
+-- the places whose turn the first of these views holds
 abbrev pub first_held : List Hold → List ℕ
 first_held [] = []
 first_held (v ∷ vs) = v.held
@@ -14,6 +14,7 @@ first_held (v ∷ vs) = v.held
 abbrev pub held_turns : TurnSeat → List ℕ
 held_turns seat = first_held seat.badge.views
 
+-- the steps that the first of these views made
 abbrev pub first_found : List Hold → List (ℕ × ℕ)
 first_found [] = []
 first_found (v ∷ vs) = v.found
@@ -22,6 +23,7 @@ first_found (v ∷ vs) = v.found
 abbrev pub found_by : TurnSeat → List (ℕ × ℕ)
 found_by seat = first_found seat.badge.views
 
+-- the turns that began on the first of these views
 abbrev pub first_began : List Hold → List ℕ
 first_began [] = []
 first_began (v ∷ vs) = v.began
@@ -30,6 +32,7 @@ first_began (v ∷ vs) = v.began
 abbrev pub began_by : TurnSeat → List ℕ
 began_by seat = first_began seat.badge.views
 
+-- the wakes that the first of these views made
 abbrev pub first_woke : List Hold → List (ℕ × ℕ)
 first_woke [] = []
 first_woke (v ∷ vs) = v.woke

@@ -6,6 +6,7 @@ use Rattle.atomic_table.specs.Table.{State, Me, Step}
 use Rattle.dispatcher.specs.Sums.{total}
 use Rattle.dispatcher.specs.declared.share.Share.{Share}
 
+-- what a seat of the budget holds: its parts, the units that were used with it, its claim, what was granted of that, and the whole budget
 abbrev pub share : ℕ → ℕ → ℕ → ℕ → ℕ → Share
 share parts used claim granted limit = record { parts = parts; used = used; claim = claim; granted = granted; limit = limit }
 
@@ -23,9 +24,11 @@ pub record Fair (limit seats : ℕ) (s : State (Unit {0}) Share) : Type 0 where
   pub parts : total (λ (v : Share). v.parts) s.views ≡ seats
   pub small : limit + 1000 * seats < 4611686018427387904
 
+-- a seat of the budget's table, as a step sees it
 abbrev pub Sat : Type 0
 Sat = Me (Unit {0}) Share
 
+-- a claim is made: of it is granted what the word that was found leaves of the budget
 abbrev pub claimed : Step (Unit {0}) → Sat → ℕ → Sat → Type 0
 claimed st m r n = (n ≡ (share m.0.parts m.0.used st.first (granted_of m.0.limit r st.first) m.0.limit, m.1)) × (m.0.used + granted_of m.0.limit r st.first ≤ m.0.limit)
 
@@ -33,5 +36,6 @@ claimed st m r n = (n ≡ (share m.0.parts m.0.used st.first (granted_of m.0.lim
 abbrev pub given_back : Step (Unit {0}) → Sat → ℕ → Sat → Type 0
 given_back st m r n = n ≡ (share m.0.parts (m.0.used + (m.0.claim - st.first)) 0 0 m.0.limit, m.1)
 
+-- the word was loaded, and nothing changes
 abbrev pub looked : Step (Unit {0}) → Sat → ℕ → Sat → Type 0
 looked st m r n = (n ≡ m) × (m.0.used ≤ m.0.limit)

@@ -6,6 +6,7 @@ use Rattle.atomic_table.specs.Table.{State, Me, Step, rest}
 use Rattle.dispatcher.specs.Sums.{total, times, latest, without}
 use Rattle.dispatcher.specs.declared.hold.Hold.{Hold}
 
+-- what a seat of a turn table holds: its part, the places whose turn it holds, how many slots are out, and what it found, began and woke
 abbrev pub hold : ℕ → List ℕ → ℕ → List (ℕ × ℕ) → List ℕ → List (ℕ × ℕ) → Hold
 hold parts held out found began woke = record { parts = parts; held = held; out = out; found = found; began = began; woke = woke }
 
@@ -34,6 +35,7 @@ module _ {T : Type 0} (fits : ℕ → T → Type 0) (n seats : ℕ) where
     pub parts : total (λ (v : Hold). v.parts) s.views ≡ seats
     pub idle : (id : ℕ) (v : Hold) → get_elem? s.views id ≡ some v → v.parts ≡ 0 → v.held ≡ []
 
+-- a seat of a turn table, as a step sees it
 abbrev pub Sat : Type 0 → Type 0
 Sat T = Me (Option T) Hold
 

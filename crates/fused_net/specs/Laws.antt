@@ -31,6 +31,7 @@ pub record Wired (ends : List WireEnds) (ports : List PortLists) (nodes wires : 
 abbrev pub AnyRow : {N : Type 0} → N → View → Type 0
 AnyRow x v = ⊤
 
+-- the law of a node of which nothing is asked but that its actions are allowed
 abbrev pub AnyLaw : {N : Type 0} → N → N → View → List (List Item) → List (List Item) → Type 0
 AnyLaw first x v took gave = ⊤
 

@@ -25,10 +25,11 @@ pub record Net (N : Type 0) : Type 0 where
   pub ports : List PortLists
   pub queue : List ℕ
 
--- the ends where there is no wire, and the wires where there is no node
+-- the ends that stand where there is no wire
 abbrev pub no_ends : WireEnds
 no_ends = record { from = 0; output = 0; to = 0; input = 0 }
 
+-- the wires that stand where there is no node: none
 abbrev pub no_ports : PortLists
 no_ports = record { ins = []; outs = [] }
 
@@ -80,10 +81,12 @@ abbrev pub IsBrought : Delivered → Delivery → Type 0
 IsBrought brings.Cancel d = d ≡ cancel
 IsBrought (brings.Arrived x) d = (more : Bool) × (d ≡ arrived x more)
 
+-- the node whose handler is called for what a delivery brings
 abbrev pub node_for : Delivered → WireEnds → ℕ
 node_for brings.Cancel e = e.from
 node_for (brings.Arrived x) e = e.to
 
+-- the call of a handler for what a delivery brings
 abbrev pub call_for : Delivered → WireEnds → Call
 call_for brings.Cancel e = cancels e.output
 call_for (brings.Arrived x) e = arrives e.input x
@@ -105,10 +108,11 @@ module _ {N : Type 0} where
   abbrev pub view_of : Net N → ℕ → View
   view_of net n = record { ins = read_all inp_of net.wires (ports_at net n).ins; outs = read_all out_of net.wires (ports_at net n).outs }
 
-  -- what it took, and what it gave
+  -- what a node took at each of its inputs
   abbrev pub took : Net N → ℕ → List (List Item)
   took net n = read_all got_of net.wires (ports_at net n).ins
 
+  -- what a node gave at each of its outputs
   abbrev pub gave : Net N → ℕ → List (List Item)
   gave net n = read_all sent_of net.wires (ports_at net n).outs
 

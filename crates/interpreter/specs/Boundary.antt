@@ -12,35 +12,39 @@ use Rattle.interpreter.specs.BoundaryPlaces.{EntersAt, LeavesAt, cancelled_at}
 use Rattle.interpreter.specs.Island.{Kept}
 
 module _ {S D L B : Type 0} where
-  -- the place of the connection at which the lane that is wire u comes in, and of that at which it goes out
+  -- the place of the connection at which the lane that is wire u comes in
   abbrev pub way_in : Kept S D L B → ℕ → ℕ
   way_in i u = slice_index_or i.ins u 0
 
+  -- the place of the connection at which the lane that is wire u goes out
   abbrev pub way_out : Kept S D L B → ℕ → ℕ
   way_out i u = slice_index_or i.outs u 0
 
-  -- the connections there
+  -- the connection there at which it comes in
   abbrev pub cell_in : Kept S D L B → ℕ → WireState
   cell_in i u = wire_at i.net (way_in i u)
 
+  -- the connection there at which it goes out
   abbrev pub cell_out : Kept S D L B → ℕ → WireState
   cell_out i u = wire_at i.net (way_out i u)
 
-  -- the island has a stage at which the lane that is wire u comes in, and one at which it goes out
+  -- the island has a stage at which the lane that is wire u comes in
   pub record Enters (i : Kept S D L B) (u : ℕ) : Type 0 where
     pub within : u < length i.ins
     pub place : way_in i u < length i.net.wires
     pub stage : EntersAt i.net (way_in i u)
 
+  -- the island has a stage at which the lane that is wire u goes out
   pub record Leaves (i : Kept S D L B) (u : ℕ) : Type 0 where
     pub within : u < length i.outs
     pub place : way_out i u < length i.net.wires
     pub stage : LeavesAt i.net (way_out i u)
 
-  -- these stand at the connection of place q
+  -- such a stage stands at the connection of place q, and the lane comes in there
   abbrev pub EntersBy : Kept S D L B → ℕ → ℕ → Type 0
   EntersBy i u q = Enters i u × (way_in i u ≡ q)
 
+  -- such a stage stands at the connection of place q, and the lane goes out there
   abbrev pub LeavesBy : Kept S D L B → ℕ → ℕ → Type 0
   LeavesBy i u q = Leaves i u × (way_out i u ≡ q)
 

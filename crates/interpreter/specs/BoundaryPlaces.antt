@@ -25,10 +25,12 @@ use Rattle.interpreter.specs.declared.given.Wanted.TheVariants as wanted
 use Rattle.interpreter.specs.declared.given.Given.{Given}
 use Rattle.interpreter.specs.declared.given.Given.TheVariants as given
 
+-- the node is one at which a lane comes in
 abbrev pub IsEntering : {S D L B : Type 0} → IslandNode S D L B → Type 0
 IsEntering (node.Entering x) = ⊤
 IsEntering _ = ⊥
 
+-- the node is one at which a lane goes out
 abbrev pub IsLeaving : {S D L B : Type 0} → IslandNode S D L B → Type 0
 IsLeaving (node.Leaving x) = ⊤
 IsLeaving _ = ⊥
@@ -38,6 +40,7 @@ abbrev pub wanted_by : OutView → Bool → Wanted
 wanted_by Cancelled b = wanted.Cancelled
 wanted_by _ b = if b then wanted.Asked else wanted.Quiet
 
+-- what is wanted of the stage at this connection: cancelled where it heard of that, asked where the connection lets it push
 abbrev pub wanted_at : WireState → Wanted
 wanted_at c = wanted_by c.wire.out (can_push c.wire.conn)
 
@@ -54,10 +57,11 @@ GivenIs given.Ended P Q = Q item.Ended
 GivenIs (given.Failed c) P Q = Q (item.Failed c)
 
 module _ {S D L B : Type 0} where
-  -- the stages at the two ends of the connection at place q, as they were handed in: a stage stays of its kind
+  -- a lane comes in at the node that stands at the output of connection q, as it was handed in
   abbrev pub EntersAt : Net (IslandNode S D L B) → ℕ → Type 0
   EntersAt net q = (x : IslandNode S D L B) → slice_get net.firsts (end_at net.ends q).from ≡ Some x → IsEntering x
 
+  -- a lane goes out at the node that stands at the input of connection q, as it was handed in
   abbrev pub LeavesAt : Net (IslandNode S D L B) → ℕ → Type 0
   LeavesAt net q = (x : IslandNode S D L B) → slice_get net.firsts (end_at net.ends q).to ≡ Some x → IsLeaving x
 

@@ -42,6 +42,7 @@ abbrev pub sources_in : {S D L B : Type 0} → List (Seated S D L B) → List S
 sources_in [] = []
 sources_in (s ∷ ss) = with_source s.work (sources_in ss)
 
+-- the drains of all places, in their order
 abbrev pub drains_in : {S D L B : Type 0} → List (Seated S D L B) → List D
 drains_in [] = []
 drains_in (s ∷ ss) = with_drain s.work (drains_in ss)

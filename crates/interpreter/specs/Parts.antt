@@ -33,7 +33,7 @@ ends_of l = record { from = l.from; output = l.output; to = l.to; input = l.inpu
 abbrev pub wire_number : Link → ℕ
 wire_number l = l.wire
 
--- how many inputs and outputs a work has
+-- how many inputs a work has
 abbrev pub work_inputs : {S D L B : Type 0} → Work S D L B → ℕ
 work_inputs (Reading r) = 0
 work_inputs (Making k) = 0
@@ -46,6 +46,7 @@ work_inputs (Writing k d) = 1
 work_inputs (LaneIn u) = 0
 work_inputs (LaneOut u) = 1
 
+-- how many outputs a work has
 abbrev pub work_outputs : {S D L B : Type 0} → Work S D L B → ℕ
 work_outputs (Reading r) = 1
 work_outputs (Making k) = 1
@@ -64,6 +65,7 @@ inputs_at [] n = 0
 inputs_at (x ∷ xs) zero = work_inputs x.work
 inputs_at (x ∷ xs) (suc n) = inputs_at xs n
 
+-- how many outputs the work at place n has; none where there is no place
 abbrev pub outputs_at : {S D L B : Type 0} → List (Seated S D L B) → ℕ → ℕ
 outputs_at [] n = 0
 outputs_at (x ∷ xs) zero = work_outputs x.work
@@ -73,12 +75,13 @@ outputs_at (x ∷ xs) (suc n) = outputs_at xs n
 abbrev pub seat_place : {S D L B : Type 0} → Seated S D L B → Place
 seat_place s = record { node = s.node; inputs = work_inputs s.work; outputs = work_outputs s.work }
 
--- how many inputs and outputs place n has
+-- how many inputs place n has; none where there is no such place
 abbrev pub input_count_at : List Place → ℕ → ℕ
 input_count_at [] n = 0
 input_count_at (p ∷ ps) zero = p.inputs
 input_count_at (p ∷ ps) (suc n) = input_count_at ps n
 
+-- how many outputs place n has; none where there is no such place
 abbrev pub output_count_at : List Place → ℕ → ℕ
 output_count_at [] n = 0
 output_count_at (p ∷ ps) zero = p.outputs
@@ -98,6 +101,7 @@ IsUnused (Writing k None) = k ≡ Ignore
 IsUnused (LaneIn u) = ⊤
 IsUnused (LaneOut u) = ⊤
 
+-- each work did nothing yet
 abbrev pub AllUnused : {S D L B : Type 0} → List (Seated S D L B) → Type 0
 AllUnused [] = ⊤
 AllUnused (x ∷ xs) = IsUnused x.work × AllUnused xs
@@ -138,6 +142,7 @@ BecomesOf k (LaneOut u) x = x ≡ node.Leaving (record { wire = u; waits = []; g
 abbrev pub Becomes : {S D L B : Type 0} → Seated S D L B → IslandNode S D L B → Type 0
 Becomes s x = BecomesOf s.node s.work x
 
+-- the nodes that stand at the places, in order
 abbrev pub AllBecome : {S D L B : Type 0} → List (Seated S D L B) → List (IslandNode S D L B) → Type 0
 AllBecome [] [] = ⊤
 AllBecome (s ∷ ss) (x ∷ xs) = Becomes s x × AllBecome ss xs
@@ -153,6 +158,7 @@ pub record IsSized (ins outs : ℕ → ℕ) (places : ℕ) (ports : List PortLis
 abbrev pub ins_in : List PortLists → ℕ → ℕ
 ins_in ports n = length (port_at ports n).ins
 
+-- how many outputs a place has in them
 abbrev pub outs_in : List PortLists → ℕ → ℕ
 outs_in ports n = length (port_at ports n).outs
 

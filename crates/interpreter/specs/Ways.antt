@@ -6,27 +6,31 @@ use Rattle.interpreter.specs.declared.parts.Work.{Work}
 use Rattle.interpreter.specs.declared.parts.Work.TheVariants.{LaneIn, LaneOut}
 use Rattle.interpreter.specs.declared.ways.Ways.{Ways}
 
--- whether a lane comes in, or goes out, at a work
+-- whether a lane comes in at a work
 abbrev pub is_lane_in : {S D L B : Type 0} → Work S D L B → Bool
 is_lane_in (LaneIn u) = true
 is_lane_in _ = false
 
+-- whether a lane goes out at a work
 abbrev pub is_lane_out : {S D L B : Type 0} → Work S D L B → Bool
 is_lane_out (LaneOut u) = true
 is_lane_out _ = false
 
--- the same of the work at a place, if there is one
+-- whether a lane comes in at what stands at a place, if anything does
 abbrev pub lane_comes : {S D L B : Type 0} → Option (Seated S D L B) → Bool
 lane_comes None = false
 lane_comes (Some x) = is_lane_in x.work
 
+-- whether a lane goes out at what stands at a place, if anything does
 abbrev pub lane_goes : {S D L B : Type 0} → Option (Seated S D L B) → Bool
 lane_goes None = false
 lane_goes (Some x) = is_lane_out x.work
 
+-- whether a lane comes in at place n
 abbrev pub comes_in : {S D L B : Type 0} → List (Seated S D L B) → ℕ → Bool
 comes_in places n = lane_comes (slice_get places n)
 
+-- whether a lane goes out at place n
 abbrev pub goes_out : {S D L B : Type 0} → List (Seated S D L B) → ℕ → Bool
 goes_out places n = lane_goes (slice_get places n)
 

@@ -9,10 +9,11 @@ use Rattle.interpreter.specs.Island.{Kept}
 use Rattle.interpreter.specs.Boundary.{way_in, way_out}
 
 module _ {S D L B : Type 0} where
-  -- the place of the stage at which the lane that is wire u goes out, and of that at which it comes in
+  -- the place of the stage at which the lane that is wire u goes out
   abbrev pub out_node : Kept S D L B → ℕ → ℕ
   out_node i u = (end_at i.net.ends (way_out i u)).to
 
+  -- the place of the stage at which the lane that is wire u comes in
   abbrev pub in_node : Kept S D L B → ℕ → ℕ
   in_node i u = (end_at i.net.ends (way_in i u)).from
 

@@ -14,28 +14,31 @@ use Rattle.island_body.specs.declared.input.IslandInput.{IslandInput}
 use Rattle.island_body.specs.declared.way.Way.{Way}
 use Rattle.island_body.specs.declared.way.Way.TheVariants.{In, Out}
 
--- the wires of the ends
+-- the wires of the input ends
 abbrev pub in_wires : List IslandInput → List ℕ
 in_wires ins = map (λ (x : IslandInput). x.wire) ins
 
+-- the wires of the output ends
 abbrev pub out_wires : List OutputBoundary → List ℕ
 out_wires outs = map (λ (o : OutputBoundary). o.wire) outs
 
--- how many items the input ends have taken, and how often the output ends have found demand or a cancel
+-- how many items the input ends have taken
 abbrev pub all_taken : List IslandInput → ℕ
 all_taken [] = 0
 all_taken (x ∷ xs) = length (taken_items x.boundary.lane) + all_taken xs
 
+-- how often the output ends have found new demand or a cancel
 abbrev pub all_finds : List OutputBoundary → ℕ
 all_finds [] = 0
 all_finds (o ∷ os) = finds o.lane + all_finds os
 
 module _ {S D L B : Type 0} where
-  -- an input end stands at a stage of its island, and an output end at another, which has no other connection
+  -- an input end stands at a stage of its island that has no other connection
   pub record InputEndStands (i : Kept S D L B) (x : IslandInput) : Type 0 where
     pub enters : Enters i x.wire
     pub feeds : Feeds x.boundary i x.wire
 
+  -- an output end stands at a stage of its island that has no other connection
   pub record OutputEndStands (i : Kept S D L B) (o : OutputBoundary) : Type 0 where
     pub leaves : Leaves i o.wire
     pub serves : Serves o.lane i o.wire

@@ -64,6 +64,7 @@ there_before xs ys k y e at = get_there xs k (subst (λ (n : ℕ). k < n) e (sli
 pub there_after : {A : Type 0} (xs ys : List A) (k : ℕ) (x : A) → length ys ≡ length xs → slice_get xs k ≡ Some x → (y : A) × (slice_get ys k ≡ Some y)
 there_after xs ys k x e at = get_there ys k (subst (λ (n : ℕ). k < n) (sym e) (slice_get_within xs k x at))
 
+-- two lists of which f gives the same have one length
 pub map_count : {A B : Type 0} (f : A → B) (xs ys : List A) → map f ys ≡ map f xs → length ys ≡ length xs
 map_count f [] [] e = refl
 map_count f [] (y ∷ ys) e = absurd cc
@@ -80,15 +81,19 @@ lanes_on xs ys zs os ps qs k l = record {
 
 -- ---- ends that only meet
 
+-- an output end that does nothing is kept as a meeting keeps it
 pub out_kept : (o : LaneOut) → KeepsOut o o
 out_kept o = record { same = (refl, refl); sent = refl; ended = refl; seen = refl; cancel = refl; finds = refl; looks = refl }
 
+-- an input end that does nothing is kept as a meeting keeps it
 pub in_kept : (i : LaneIn) → KeepsIn i i
 in_kept i = record { same = (refl, refl); taken = refl; asked = refl; asks = refl; cancel = refl; looks = refl }
 
+-- an output boundary that does nothing is one that only met
 pub out_met_still : (o : OutputBoundary) → OutMet o o
 out_met_still o = record { wire = refl; lane = out_kept o.lane }
 
+-- an input boundary that does nothing is one that only met
 pub in_met_still : (x : IslandInput) → InMet x x
 in_met_still x = record { wire = refl; lane = in_kept x.boundary.lane; given_is = refl; waits_is = refl; over_is = refl; state_is = refl }
 
@@ -159,6 +164,7 @@ module _ {S D L B : Type 0} where
 
   -- ---- bodies that only meet
 
+  -- a body that does nothing is one that only met
   pub only_still : (b : Body S D L B) → OnlyMet b b
   only_still b = record {
     island = refl;
@@ -171,6 +177,7 @@ module _ {S D L B : Type 0} where
     ins_met = λ k x y ex ey. subst (λ (z : IslandInput). InMet x z) (some_is x y (sym ex ∙ ey)) (in_met_still x);
   }
 
+  -- a body that only met, and then only met again, only met
   pub only_on : (a b c : Body S D L B) → OnlyMet a b → OnlyMet b c → OnlyMet a c
   only_on a b c f g = record {
     island = g.island ∙ f.island;
@@ -194,6 +201,7 @@ module _ {S D L B : Type 0} where
   island_still : (i k : Kept S D L B) → k ≡ i → IslandGoes i k
   island_still i k e = record { on = record { firsts = ap (λ (z : Kept S D L B). z.net.firsts) e; ends = ap (λ (z : Kept S D L B). z.net.ends) e; ports = ap (λ (z : Kept S D L B). z.net.ports) e; nodes = ap (λ (z : Kept S D L B). length z.net.nodes) e; wires = ap (λ (z : Kept S D L B). length z.net.wires) e }; ins = ap (λ (z : Kept S D L B). z.ins) e; outs = ap (λ (z : Kept S D L B). z.outs) e; numbers = ap (λ (z : Kept S D L B). z.numbers) e; places = ap (λ (z : Kept S D L B). z.places) e }
 
+  -- a body that only met went on
   pub goes_met : (a c : Body S D L B) → OnlyMet a c → BodyGoes a c
   goes_met a c m = record { island = island_still a.island c.island m.island; lanes = lanes_met a c m; ways = m.ways }
 
@@ -209,6 +217,7 @@ module _ {S D L B : Type 0} where
     outs_served = λ k p h e none. let o = there_before a.outs.items c.outs.items k p m.outs_count e in served_met i o.0 p (m.outs_met k o.0 p o.1 e) (s.outs_served k o.0 (subst (λ (n : ℕ). k < n) m.outs_count h) o.1 tt);
   }
 
+  -- a body that only met keeps what a body keeps
   pub keeps_met : (sources : S → SourceState) (drains : D → DrainState) (book : Book) (a c : Body S D L B) → OnlyMet a c → BodyKeeps sources drains book a → BodyKeeps sources drains book c
   keeps_met sources drains book a c m k =
       let lanes = lanes_met a c m in
@@ -227,6 +236,7 @@ module _ {S D L B : Type 0} where
         paid = rw (m.island, m.spent, taken_is, finds_is) k.paid;
       }
 
+  -- a body that only met has an event pending where it had one
   pub pending_met : (a b : Body S D L B) → OnlyMet a b → is_pending b ≡ is_pending a
   pending_met a b m = ap (λ (i : Kept S D L B). is_pending_in i) m.island
     where
@@ -235,9 +245,11 @@ module _ {S D L B : Type 0} where
 
   -- ---- bodies that go on
 
+  -- a body that does nothing went on
   pub goes_still : (b : Body S D L B) → BodyGoes b b
   goes_still b = goes_met b b (only_still b)
 
+  -- a body that went on, and then went on from there, went on
   pub goes_on : (a b c : Body S D L B) → BodyGoes a b → BodyGoes b c → BodyGoes a c
   goes_on a b c f g = record {
     island = record {
@@ -251,6 +263,7 @@ module _ {S D L B : Type 0} where
     ways = g.ways ∙ f.ways;
   }
 
+  -- two bodies that met both went on and only met, and their ends are joined
   pub meets_tells : (a b c d : Body S D L B) (o i : ℕ) (w : Waits) → BodiesMeet a o b i c d w → (BodyGoes a c) × (OnlyMet a c) × (BodyGoes b d) × (OnlyMet b d) × (BodiesJoined c o d i w)
   meets_tells a b c d o i w m = (goes_met a c m.from_met, m.from_met, goes_met b d m.to_met, m.to_met, m.joined)
 
@@ -261,6 +274,7 @@ module _ {S D L B : Type 0} where
     waits_are = λ p x ep ex. let q = there_before a.outs.items c.outs.items o p m.outs_count ep in waits_stand q.0.lane p.lane x.boundary.lane x.boundary.lane w (m.outs_met o q.0 p q.1 ep).lane (in_kept x.boundary.lane) (j.waits_are q.0 x q.1 ex);
   }
 
+  -- what is known of two ends stands while the body of the input end only meets
   pub joined_in : (a b d : Body S D L B) (o i : ℕ) (w : Waits) → OnlyMet b d → BodiesJoined a o b i w → BodiesJoined a o d i w
   joined_in a b d o i w m j = record {
     history = λ p x ep ex. let y = there_before b.ins.items d.ins.items i x m.ins_count ex in history_stands p.lane p.lane y.0.boundary.lane x.boundary.lane (out_kept p.lane) (m.ins_met i y.0 x y.1 ex).lane (j.history p y.0 ep y.1);
@@ -286,15 +300,19 @@ module _ {S D L B : Type 0} where
         one = λ p x ep ex. let y = there_before b.ins.items d.ins.items i x count ex in m.one p y.0 ep y.1 ∙ sym (l.ins_same i y.0 x y.1 ex).0;
       }
 
+  -- two ends may meet whatever became of the body of the output end, where that went on
   pub may_goes_out : (a b c : Body S D L B) (o i : ℕ) → BodyGoes a c → BodiesMayMeet a o b i → BodiesMayMeet c o b i
   may_goes_out a b c o i g m = may_lanes_out a b c o i g.lanes m
 
+  -- two ends may meet whatever became of the body of the input end, where that went on
   pub may_goes_in : (a b d : Body S D L B) (o i : ℕ) → BodyGoes b d → BodiesMayMeet a o b i → BodiesMayMeet a o d i
   may_goes_in a b d o i g m = may_lanes_in a b d o i g.lanes m
 
+  -- two ends may meet as before, where the body of the output end only met
   pub may_stands_out : (a b c : Body S D L B) (o i : ℕ) → OnlyMet a c → BodiesMayMeet a o b i → BodiesMayMeet c o b i
   may_stands_out a b c o i g m = may_lanes_out a b c o i (lanes_met a c g) m
 
+  -- two ends may meet as before, where the body of the input end only met
   pub may_stands_in : (a b d : Body S D L B) (o i : ℕ) → OnlyMet b d → BodiesMayMeet a o b i → BodiesMayMeet a o d i
   may_stands_in a b d o i g m = may_lanes_in a b d o i (lanes_met b d g) m
 

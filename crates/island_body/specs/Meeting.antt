@@ -8,11 +8,12 @@ use Rattle.island_body.specs.declared.output.OutputBoundary.{OutputBoundary}
 use Rattle.island_body.specs.declared.input.IslandInput.{IslandInput}
 use Rattle.island_body.specs.declared.body.Body.{Body}
 
--- an output end that only met, and an input end
+-- an output end that only met: what it sent and saw is as it was
 pub record OutMet (o p : OutputBoundary) : Type 0 where
   pub wire : p.wire ≡ o.wire
   pub lane : KeepsOut o.lane p.lane
 
+-- an input end that only met: what it took, handed on and keeps is as it was
 pub record InMet (x y : IslandInput) : Type 0 where
   pub wire : y.wire ≡ x.wire
   pub lane : KeepsIn x.boundary.lane y.boundary.lane

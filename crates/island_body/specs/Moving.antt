@@ -27,10 +27,11 @@ pub record LeftNone (x y : IslandInput) : Type 0 where
 pub record SawAll (o p : OutputBoundary) : Type 0 where
   pub told : saw_cancel o.lane ≡ 0 → (told_asked o.lane ≤ seen_count p.lane) × (told_cancel o.lane ≤ saw_cancel p.lane)
 
--- of the input ends at place k nothing was left to take, and of the output ends all was seen
+-- of the input end at place k nothing was left to take
 abbrev pub LeftNoneAt : List IslandInput → List IslandInput → ℕ → Type 0
 LeftNoneAt xs ys k = (x y : IslandInput) → slice_get xs k ≡ Some x → slice_get ys k ≡ Some y → LeftNone x y
 
+-- of the output end at place k all was seen that was asked or cancelled
 abbrev pub SawAllAt : List OutputBoundary → List OutputBoundary → ℕ → Type 0
 SawAllAt os ps k = (o p : OutputBoundary) → slice_get os k ≡ Some o → slice_get ps k ≡ Some p → SawAll o p
 
@@ -41,6 +42,7 @@ pub record KeepsFound (x y : IslandInput) : Type 0 where
   pub told_is : told_sent y.boundary.lane ≡ told_sent x.boundary.lane
   pub over_is : is_over y.boundary ≡ is_over x.boundary
 
+-- what an output end saw at its last look stands
 pub record KeepsSeen (o p : OutputBoundary) : Type 0 where
   pub seen_is : seen_count p.lane ≡ seen_count o.lane
   pub cancel_is : saw_cancel p.lane ≡ saw_cancel o.lane
@@ -67,6 +69,7 @@ module _ {S D L B : Type 0} where
     pub below : (k : ℕ) (o p : OutputBoundary) → k < n → slice_get old.outs.items k ≡ Some o → slice_get new.outs.items k ≡ Some p → FoundNone o p
     pub above : (k : ℕ) → n ≤ k → slice_get new.outs.items k ≡ slice_get old.outs.items k
 
+  -- the output end at place k found nothing, and no other end was touched
   pub record FoundNoneAt (old new : Body S D L B) (k : ℕ) : Type 0 where
     pub island : new.island ≡ old.island
     pub ins : new.ins ≡ old.ins

@@ -40,6 +40,7 @@ VisitIs Nothing before cancel after cancel' = (after ≡ before) × (cancel' ≡
 VisitIs Demand before cancel after cancel' = (before < after) × ((cancel ≡ 0) × (cancel' ≡ 0))
 VisitIs Cancelled before cancel after cancel' = (cancel ≡ 0) × (cancel' ≡ 1)
 
+-- the units that a visit costs, by what it found: one for demand and one for a cancel
 abbrev pub unit_of : Found → ℕ
 unit_of Nothing = 0
 unit_of Demand = 1

@@ -28,7 +28,7 @@ abbrev pub leaves_something : {Y : Type 0} → Option Y → Bool
 leaves_something None = false
 leaves_something (Some y) = true
 
--- what a node leaves: how a sink ended, the source of a reader, the drain of a sink that has a file
+-- the node, the count and the end of a sink; none of any other node
 abbrev pub sink_of : {S D L B : Type 0} → IslandNode S D L B → Option (ℕ × ℕ × EndState)
 sink_of (node.Reading x) = None
 sink_of (node.Making x) = None
@@ -42,6 +42,7 @@ sink_of (node.Ignoring x) = Some (x.node, 0, x.end)
 sink_of (node.Entering x) = None
 sink_of (node.Leaving x) = None
 
+-- the source that a node leaves, where it is a source of lines
 abbrev pub reader_of : {S D L B : Type 0} → IslandNode S D L B → Option S
 reader_of (node.Reading x) = Some x.reader.source
 reader_of (node.Making x) = None
@@ -55,6 +56,7 @@ reader_of (node.Ignoring x) = None
 reader_of (node.Entering x) = None
 reader_of (node.Leaving x) = None
 
+-- the drain that a node leaves, where it is a sink that has a file
 abbrev pub writer_of : {S D L B : Type 0} → IslandNode S D L B → Option D
 writer_of (node.Reading x) = None
 writer_of (node.Making x) = None
@@ -82,6 +84,7 @@ is_lane_end (node.Ignoring x) = false
 is_lane_end (node.Entering x) = true
 is_lane_end (node.Leaving x) = true
 
+-- each of these nodes is a stage at an end of a lane
 abbrev pub AreLaneEnds : {S D L B : Type 0} → List (IslandNode S D L B) → Type 0
 AreLaneEnds nodes = (k : ℕ) (x : IslandNode _ _ _ _) → slice_get nodes k ≡ Some x → is_lane_end x ≡ true
 

@@ -49,6 +49,7 @@ pub record IsPart {S D L B : Type 0} (lists : List (Vec (Seated S D L B) Global)
   pub links_are : x.0.links.items ≡ space.links.items
   pub room_is : x.1 ≡ space.room
 
+-- the parts of each island and its room: the places of its list, and its space
 pub record AreJoined {S D L B : Type 0} (lists : List (Vec (Seated S D L B) Global)) (spaces : List (Space S D L B)) (islands : List (Parts S D L B × IslandRoom S D L B)) : Type 0 where
   pub many : length islands ≡ length spaces
   pub each : (k : ℕ) (x : Parts S D L B × IslandRoom S D L B) → slice_get islands k ≡ Some x → IsPart lists spaces k x
@@ -61,6 +62,7 @@ pub record IsIsland {S D L B : Type 0} (s : Split S D L B) (seats : List (Seated
   pub links_are : x.0.links.items ≡ space.links.items
   pub room_is : x.1 ≡ space.room
 
+-- the parts of each island and its room: its share of what stands at all places, and its space
 pub record AreIslands {S D L B : Type 0} (s : Split S D L B) (seats : List (Seated S D L B)) (islands : List (Parts S D L B × IslandRoom S D L B)) : Type 0 where
   pub many : length islands ≡ length s.spaces.items
   pub each : (k : ℕ) (x : Parts S D L B × IslandRoom S D L B) → slice_get islands k ≡ Some x → IsIsland s seats k x

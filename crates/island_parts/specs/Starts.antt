@@ -32,6 +32,7 @@ module _ {S D L B : Type 0} where
     pub parts : AreParts x.0.nodes.items x.0.links.items
     pub room : IsRoom x.1 (map seat_place x.0.nodes.items) x.0.links.items
 
+  -- each of these islands can start
   abbrev pub CanAllStart : List (Parts S D L B × IslandRoom S D L B) → Type 0
   CanAllStart islands = (k : ℕ) (x : Parts S D L B × IslandRoom S D L B) → slice_get islands k ≡ Some x → CanStart x
 
@@ -57,6 +58,7 @@ module _ {S D L B : Type 0} where
       pub begins_out : (q : ℕ) (l : Link) → slice_get parts.links.items q ≡ Some l → goes_out parts.nodes.items l.to ≡ true → BeginsOut i.net q
       pub handles : HoldsHandles sources drains parts.nodes.items i.net.nodes
 
+    -- each of these islands has started
     abbrev pub AllStarted : List (Parts S D L B × IslandRoom S D L B) → List (Kept S D L B) → Type 0
     AllStarted islands started = AreOf (λ (x : Parts S D L B × IslandRoom S D L B). HasStarted x.0) islands started
 
@@ -65,6 +67,7 @@ module _ {S D L B : Type 0} where
     abbrev pub GivesBack : Parts S D L B × IslandRoom S D L B → IslandEnd S D → Type 0
     GivesBack x e = HandsBack sources drains x.0.nodes.items e
 
+    -- each of these islands hands its handles back as they were handed in
     abbrev pub AllGiveBack : List (Parts S D L B × IslandRoom S D L B) → List (IslandEnd S D) → Type 0
     AllGiveBack islands ends = AreOf GivesBack islands ends
 

@@ -18,6 +18,7 @@ abbrev pub one_lane : Option ℕ → ℕ → ℕ
 one_lane None n = n
 one_lane (Some s) n = suc n
 
+-- how many of these wires have a lane
 abbrev pub lanes_in : List Edge → ℕ
 lanes_in [] = 0
 lanes_in (w ∷ ws) = one_lane w.lane (lanes_in ws)
@@ -37,6 +38,7 @@ abbrev pub far_at : ℕ → ℕ → Edge → Option ℕ → List Link
 far_at place u w None = []
 far_at place u w (Some s) = record { wire = u; from = place; output = 0; to = w.to; input = w.input } ∷ []
 
+-- the links at the inputs of those of these wires, from number u on, that have a lane: from the places where the lanes come in
 abbrev pub fars_from : ℕ → ℕ → List Edge → List Link
 fars_from place u [] = []
 fars_from place u (w ∷ ws) = far_at place u w w.lane ++ fars_from (one_lane w.lane place) (u + 1) ws
@@ -46,23 +48,27 @@ fars_from place u (w ∷ ws) = far_at place u w w.lane ++ fars_from (one_lane w.
 abbrev pub whole_links : ℕ → List Edge → List Link
 whole_links n ws = nears_from (n + lanes_in ws) 0 ws ++ fars_from n 0 ws
 
--- the stages at the ends of a lane
+-- the stage at which a lane comes in
 abbrev pub in_seat : {S D L B : Type 0} → LanePlan → Seated S D L B
 in_seat l = record { node = 0; work = LaneIn l.wire }
 
+-- the stage at which a lane goes out
 abbrev pub out_seat : {S D L B : Type 0} → LanePlan → Seated S D L B
 out_seat l = record { node = 0; work = LaneOut l.wire }
 
+-- what stands at all places: the nodes, behind them where lanes come in, and behind these where they go out
 abbrev pub whole_seats : {S D L B : Type 0} → List (Seated S D L B) → List LanePlan → List (Seated S D L B)
 whole_seats nodes lanes = nodes ++ (map in_seat lanes ++ map out_seat lanes)
 
--- the same before the nodes hold their handles
+-- the place at which a lane comes in
 abbrev pub in_place : LanePlan → Place
 in_place l = record { node = 0; inputs = 0; outputs = 1 }
 
+-- the place at which a lane goes out
 abbrev pub out_place : LanePlan → Place
 out_place l = record { node = 0; inputs = 1; outputs = 0 }
 
+-- all places, before the nodes hold their handles
 abbrev pub whole_places : List Place → List LanePlan → List Place
 whole_places nodes lanes = nodes ++ (map in_place lanes ++ map out_place lanes)
 
@@ -74,6 +80,7 @@ whole_homes homes lanes = homes ++ (map (λ (l : LanePlan). l.to) lanes ++ map (
 abbrev pub link_home : List ℕ → Link → ℕ
 link_home homes l = slice_index homes l.from
 
+-- a link by the places of its island alone
 abbrev pub local_link : List ℕ → Link → Link
 local_link homes l = record { wire = l.wire; from = rank_of homes l.from; output = l.output; to = rank_of homes l.to; input = l.input }
 

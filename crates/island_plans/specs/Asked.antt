@@ -22,6 +22,7 @@ module _ {S D L B : Type 0} where
     pub body_at : slice_get bodies c.to ≡ Some body
     pub inp_there : c.inp < length body.ins.items
 
+  -- the input end of each of these crossings is there
   abbrev pub LieThere : List (Body S D L B) → List Crossing → Type 0
   LieThere bodies crossings = (n : ℕ) (c : Crossing) → slice_get crossings n ≡ Some c → LiesThere bodies c
 

@@ -22,6 +22,7 @@ leaves_in Writers n = is_some (output_of n.kind)
 abbrev pub own_home : EndList → Node → ℕ → List ℕ
 own_home list n h = if leaves_in list n then h ∷ [] else []
 
+-- the islands of the nodes that leave one, in order of nodes, where these are the islands of all
 abbrev pub homes_in : EndList → List Node → List ℕ → List ℕ
 homes_in list [] homes = []
 homes_in list (n ∷ ns) [] = []

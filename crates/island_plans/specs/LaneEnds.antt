@@ -19,6 +19,7 @@ pub record CanBeMade (count : ℕ) (l : LanePlan) : Type 0 where
   pub from_there : l.from < count
   pub to_there : l.to < count
 
+-- each lane lies between two of so many islands, and is of a size that lanes have
 abbrev pub CanAllBeMade : ℕ → List LanePlan → Type 0
 CanAllBeMade count lanes = (n : ℕ) (l : LanePlan) → slice_get lanes n ≡ Some l → CanBeMade count l
 

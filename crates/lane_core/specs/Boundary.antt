@@ -12,16 +12,19 @@ use Rattle.lane_core.specs.declared.state.State.{State}
 use Rattle.lane_core.specs.declared.state.State.TheVariants.{Closed}
 use Rattle.lane_core.specs.declared.boundary.InputBoundary.{InputBoundary}
 
--- what it handed on, the elements that wait, whether an end was taken, and whether it still hands on
+-- what an input boundary handed on
 abbrev pub given : InputBoundary → List Item
 given b = b.gave.items ++ handed_by b.state b.ending.items
 
+-- the elements that wait to be handed on
 abbrev pub waits : InputBoundary → List Tree
 waits b = b.buffer.items
 
+-- whether an end was taken off the lane
 abbrev pub is_over : InputBoundary → Bool
 is_over b = b.over
 
+-- whether an input boundary still hands on, has handed on the end, or was cancelled
 abbrev pub state : InputBoundary → State
 state b = b.state
 

@@ -10,16 +10,19 @@ use Rattle.lane_core.specs.declared.room.Waits.{Waits}
 use Rattle.lane_core.specs.declared.room.Room.{Room}
 use Rattle.lane_core.specs.declared.room.Room.TheVariants.{Asked, Cancelled}
 
--- which lane it is, and what the output end has sent, has seen asked and has seen of a cancel, 0 or 1
+-- the lane of an output end, by the identity of its table
 abbrev pub out_lane : LaneOut → TableId
 out_lane o = o.seat.table_id
 
+-- all items that an output end has sent
 abbrev pub sent : LaneOut → List Item
 sent o = o.seat.me.0.items
 
+-- how many elements an output end saw asked for
 abbrev pub seen_count : LaneOut → ℕ
 seen_count o = o.seat.me.0.number
 
+-- whether an output end saw that the lane was cancelled, 0 or 1
 abbrev pub saw_cancel : LaneOut → ℕ
 saw_cancel o = o.seat.me.0.cancel
 
@@ -35,10 +38,11 @@ learnt o = o.learnt
 abbrev pub out_looks : LaneOut → ℕ
 out_looks o = o.seat.me.0.looks
 
--- what was asked in all, and whether the lane was cancelled, 0 or 1, as the other end last told it
+-- how many elements were asked for in all, as the other end last told it
 abbrev pub told_asked : LaneOut → ℕ
 told_asked o = o.seat.me.0.told_number
 
+-- whether the lane was cancelled, 0 or 1, as the other end last told it
 abbrev pub told_cancel : LaneOut → ℕ
 told_cancel o = o.seat.me.0.told_cancel
 
@@ -46,20 +50,23 @@ told_cancel o = o.seat.me.0.told_cancel
 abbrev pub has_ended : LaneOut → Bool
 has_ended o = o.ended
 
+-- the size of the lane, as its output end keeps it
 abbrev pub out_size : LaneOut → ℕ
 out_size o = o.size
 
+-- an output end is of the lane and of the size that it was of
 abbrev pub IsSameOut : LaneOut → LaneOut → Type 0
 IsSameOut o p = (out_lane p ≡ out_lane o) × (out_size p ≡ out_size o)
 
--- the same of the input end: what it took, how many elements it asked for, whether it cancelled, 0 or 1, and how many items were
--- sent as it last found
+-- the lane of an input end, by the identity of its table
 abbrev pub in_lane : LaneIn → TableId
 in_lane i = i.seat.table_id
 
+-- all items that an input end has taken
 abbrev pub taken_items : LaneIn → List Item
 taken_items i = i.seat.me.0.items
 
+-- how many elements an input end asked for in all
 abbrev pub asked_in_all : LaneIn → ℕ
 asked_in_all i = i.seat.me.0.number
 
@@ -67,9 +74,11 @@ asked_in_all i = i.seat.me.0.number
 abbrev pub ask_calls : LaneIn → ℕ
 ask_calls i = i.seat.me.0.asks
 
+-- whether an input end cancelled, 0 or 1
 abbrev pub has_cancelled : LaneIn → ℕ
 has_cancelled i = i.seat.me.0.cancel
 
+-- how many items were sent, as an input end last found
 abbrev pub found_sent : LaneIn → ℕ
 found_sent i = i.seat.me.0.known
 
@@ -81,9 +90,11 @@ told_sent i = length i.seat.me.0.told
 abbrev pub in_looks : LaneIn → ℕ
 in_looks i = i.seat.me.0.looks
 
+-- the size of the lane, as its input end keeps it
 abbrev pub in_size : LaneIn → ℕ
 in_size i = i.size
 
+-- an input end is of the lane and of the size that it was of
 abbrev pub IsSameIn : LaneIn → LaneIn → Type 0
 IsSameIn i j = (in_lane j ≡ in_lane i) × (in_size j ≡ in_size i)
 

@@ -17,12 +17,13 @@ is_failure (item.Elem e ∷ is) = false
 is_failure (item.Ended ∷ is) = false
 is_failure (item.Failed c ∷ is) = true
 
--- of the end that was taken: what waits to be handed on, and what was
+-- of the end that was taken, if one was: what waits to be handed on
 abbrev pub pending_by : State → List Item → List Item
 pending_by Flowing end = end
 pending_by Closed end = []
 pending_by Cancelled end = []
 
+-- of the end that was taken, if one was: what was handed on
 abbrev pub handed_by : State → List Item → List Item
 handed_by Flowing end = []
 handed_by Closed end = end

@@ -96,10 +96,11 @@ both_ends = record { sends = true; gets = true; items = []; number = 0; cancel =
 abbrev pub nobody : Sight
 nobody = record { sends = false; gets = false; items = []; number = 0; cancel = 0; asks = 0; finds = 0; looks = 0; slots = 0; known = 0; told = []; told_number = 0; told_cancel = 0; told_finds = 0 }
 
--- the two views into which that of the first seat is cut
+-- the view of the input end, into which that of the first seat is cut
 abbrev pub input_sight : Sight → Sight
 input_sight v = record v { sends = false }
 
+-- the view of the output end, into which that of the first seat is cut
 abbrev pub output_end : Sight → Sight
 output_end v = record v { gets = false }
 
@@ -115,6 +116,7 @@ informed v w = record v { told = w.items; told_number = w.number; told_cancel = 
 abbrev pub SeatView : Type 0
 SeatView = Me (Option Item) Sight
 
+-- a step on a lane's table
 abbrev pub TableStep : Type 0
 TableStep = Step (Option Item)
 

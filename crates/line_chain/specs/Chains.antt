@@ -8,10 +8,11 @@ use Rattle.line_chain.specs.Line.{no_plugs}
 use Rattle.line_chain.specs.Steps.{start_of, now_of, Ran}
 use Rattle.line_chain.specs.declared.step.LineStep.{LineStep}
 
--- where they stood at their start, and where they stand
+-- where the steps stood at their start
 abbrev pub starts_of : List LineStep → Chain
 starts_of steps = map start_of steps
 
+-- where the steps stand
 abbrev pub nows_of : List LineStep → Chain
 nows_of steps = map now_of steps
 

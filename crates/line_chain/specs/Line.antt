@@ -18,10 +18,11 @@ pub record Line : Type 0 where
 abbrev pub no_plugs : Book
 no_plugs = record { reply = λ name took t. record { gave = []; verdict = go }; closing = λ name took. record { gave = []; verdict = go } }
 
--- what it gives from its start, and what it still gives
+-- what it gives from its start
 abbrev pub line_whole : Line → ListFunction
 line_whole l = list_function no_plugs l.starts
 
+-- what it still gives
 abbrev pub line_rest : Line → ListFunction
 line_rest l = list_function no_plugs l.now
 

@@ -48,6 +48,7 @@ start_of s = begin_work s.node s.decider (begun s.kind)
 abbrev pub state_of : LineStep → State Stage
 state_of s = state_by s.ending (stage_of s.node s.decider s.taken (work_in s.work))
 
+-- where a step stands, and what it owes before any element
 abbrev pub now_of : LineStep → Run Stage Tree
 now_of s = record { gave = option_to_list s.owed; state = state_of s }
 
@@ -86,6 +87,7 @@ given_before before x = record { gave = before ++ x.gave; state = x.state }
 abbrev pub failed_step : LineStep → ℕ → Why → LineStep
 failed_step s n why = record s { ending = ending.Failed (record { stage = s.node; nth = n; why = why }) }
 
+-- the step behind an element without a value: failed where it stops, and else it took the element and goes on
 abbrev decided_by_step : Decider → LineStep → ℕ → Why → LineStep
 decided_by_step Stop s n why = failed_step s n why
 decided_by_step Resume s n why = record s { taken = n }

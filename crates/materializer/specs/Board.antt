@@ -37,17 +37,20 @@ abbrev pub place_by : List Kind → Option (List ℕ) → Option ℕ
 place_by kinds None = None
 place_by kinds (Some name) = least_at_switch 0 name kinds
 
+-- the place of a valve or a trip: the least node at its switch; none of any other kind
 abbrev pub switch_place : List Kind → Kind → Option ℕ
 switch_place kinds kind = place_by kinds (switch_of kind)
 
+-- the places of all nodes
 abbrev pub places_in : List Kind → List (Option ℕ)
 places_in kinds = map (switch_place kinds) kinds
 
--- whether a node sits at place j, and how many do
+-- a node sits at place j
 abbrev pub sits : ℕ → Option ℕ → Bool
 sits j None = false
 sits j (Some i) = i == j
 
+-- how many nodes sit at place j
 abbrev pub count_at : ℕ → List (Option ℕ) → ℕ
 count_at j places = length (filter (sits j) places)
 
@@ -72,11 +75,13 @@ switch_held None = None
 switch_held (Some None) = None
 switch_held (Some (Some s)) = Some (arc_value s)
 
+-- the switch of a place of the board, where it is that of a valve or a trip
 abbrev pub switch_behind : Board → Option (Option ℕ) → Option SwitchState
 switch_behind board None = None
 switch_behind board (Some None) = None
 switch_behind board (Some (Some j)) = switch_held (slice_get board.switches.items j)
 
+-- the switch of node k
 abbrev pub switch_at : Board → ℕ → Option SwitchState
 switch_at board k = switch_behind board (slice_get board.places.items k)
 
@@ -118,5 +123,6 @@ abbrev pub seat_there : Option (Option SeatState) → Option SeatState
 seat_there None = None
 seat_there (Some s) = s
 
+-- the seat of node k
 abbrev pub seat_in : List (Option SeatState) → ℕ → Option SeatState
 seat_in seats k = seat_there (slice_get seats k)

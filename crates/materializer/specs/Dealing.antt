@@ -49,6 +49,7 @@ pub data IsSwitchMade (j : ℕ) (places : List (Option ℕ)) (old new : List (Op
 abbrev pub own_seat : Bool → SeatState → List SeatState
 own_seat b s = if b then s ∷ [] else []
 
+-- a node that is there sits at place j
 abbrev pub sits_in : ℕ → Option (Option ℕ) → Bool
 sits_in j None = false
 sits_in j (Some p) = sits j p
@@ -75,6 +76,7 @@ HaveLists places lists = (k j : ℕ) → slice_get places k ≡ Some (Some j) �
 abbrev pub AreEmpty : List (Vec SeatState Global) → Type 0
 AreEmpty lists = (j : ℕ) (list : Vec SeatState Global) → slice_get lists j ≡ Some list → list.items ≡ []
 
+-- these lists are empty, and have room for the seats of the nodes that sit at their places
 abbrev pub HaveRoom : List (Option ℕ) → List (ℕ × SeatState) → List (Vec SeatState Global) → Type 0
 HaveRoom places entries lists = (j : ℕ) (list : Vec SeatState Global) → slice_get lists j ≡ Some list → length (seats_at j places entries) ≤ vec_capacity list
 
@@ -88,6 +90,7 @@ pub record HasAllSeats (s : SwitchState) (list : Vec SeatState Global) : Type 0 
   pub some : 0 < s.seats
   pub seats : All (IsSeatOf s) list.items
 
+-- all seats of each switch are in the list of its place
 abbrev pub AllWhole : List (Option (Arc SwitchState Global)) → List (Vec SeatState Global) → Type 0
 AllWhole switches lists = (j : ℕ) (s : Arc SwitchState Global) (list : Vec SeatState Global) → slice_get switches j ≡ Some (Some s) → slice_get lists j ≡ Some list → HasAllSeats (arc_value s) list
 
@@ -95,5 +98,6 @@ AllWhole switches lists = (j : ℕ) (s : Arc SwitchState Global) (list : Vec Sea
 abbrev pub IsSettledAt : Vec SeatState Global → Type 0
 IsSettledAt list = (stands : Option Order) × IsSettled list.items stands
 
+-- the seats of each switch were settled, those in the list of its place
 abbrev pub ListsSettled : List (Option (Arc SwitchState Global)) → List (Vec SeatState Global) → Type 0
 ListsSettled switches lists = (j : ℕ) (s : Arc SwitchState Global) (list : Vec SeatState Global) → slice_get switches j ≡ Some (Some s) → slice_get lists j ≡ Some list → IsSettledAt list

@@ -31,6 +31,7 @@ read_by (partitions n f) = None
 read_by unzips = None
 read_by (sinks file keeps) = None
 
+-- the file that a source reads
 abbrev pub source_file : Kind → Option (List ℕ)
 source_file k = read_by (role_of k)
 
@@ -60,6 +61,7 @@ written_by (partitions n f) = None
 written_by unzips = None
 written_by (sinks file keeps) = file
 
+-- the file that a sink writes
 abbrev pub output_of : Kind → Option (List ℕ)
 output_of k = written_by (role_of k)
 
@@ -67,6 +69,7 @@ output_of k = written_by (role_of k)
 abbrev pub inputs_of_nodes : List Node → List (List ℕ)
 inputs_of_nodes nodes = filter_map (λ n. source_file n.kind) nodes
 
+-- the files that the sinks write, in order of nodes
 abbrev pub outputs_of_nodes : List Node → List (List ℕ)
 outputs_of_nodes nodes = filter_map (λ n. output_of n.kind) nodes
 

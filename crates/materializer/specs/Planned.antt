@@ -44,6 +44,7 @@ IsPlanned chains k n Reads = PlansReader n
 IsPlanned chains k n (Writes shape) = PlansWriter n shape
 IsPlanned chains k n (Works w) = PlansWork chains k n w
 
+-- this is to stand at the place of node k, in a blueprint with these chains
 pub record IsSeat {S D L B : Type 0} (chains : List graph.Chain) (k : ℕ) (n : Node) (s : Seat S D L B) : Type 0 where
   pub node : s.node ≡ k
   pub planned : IsPlanned chains k n s.planned
@@ -54,21 +55,24 @@ ArePlanned chains k [] [] = ⊤
 ArePlanned chains k (n ∷ ns) (s ∷ ss) = IsSeat chains k n s × ArePlanned chains (k + 1) ns ss
 ArePlanned chains k _ _ = ⊥
 
--- how many sources and how many drains a seat takes
+-- how many sources a seat takes
 abbrev pub reads : {S D L B : Type 0} → Planned S D L B → ℕ
 reads Reads = 1
 reads (Writes shape) = 0
 reads (Works w) = 0
 
+-- how many drains a seat takes
 abbrev pub writes : {S D L B : Type 0} → Planned S D L B → ℕ
 writes Reads = 0
 writes (Writes shape) = 1
 writes (Works w) = 0
 
+-- how many sources these seats take
 abbrev pub reads_in : {S D L B : Type 0} → List (Seat S D L B) → ℕ
 reads_in [] = 0
 reads_in (s ∷ ss) = reads s.planned + reads_in ss
 
+-- how many drains these seats take
 abbrev pub writes_in : {S D L B : Type 0} → List (Seat S D L B) → ℕ
 writes_in [] = 0
 writes_in (s ∷ ss) = writes s.planned + writes_in ss
@@ -80,6 +84,7 @@ pub record FillsAs {S D L B : Type 0} (chains : List graph.Chain) (k : ℕ) (n :
   pub sources_left : later_sources ≡ handles_left (source_file n.kind) sources
   pub drains_left : later_drains ≡ handles_left (output_of n.kind) drains
 
+-- whichever node the seat is for, it stands there with its handle, if it has a file, and leaves the other handles
 abbrev pub Fills : {S D L B : Type 0} → List graph.Chain → Seat S D L B → List S → List D → Seated S D L B → List S → List D → Type 0
 Fills chains s sources drains p later_sources later_drains = (k : ℕ) (n : Node) → IsSeat chains k n s → FillsAs chains k n sources drains p later_sources later_drains
 
@@ -89,5 +94,6 @@ seat_of_plan Reads = None
 seat_of_plan (Writes shape) = None
 seat_of_plan (Works w) = work_seat w
 
+-- the seat at its switch that is to stand at a place, where it is that of a valve or a trip
 abbrev pub planned_seat : {S D L B : Type 0} → Seat S D L B → Option SeatState
 planned_seat s = seat_of_plan s.planned

@@ -120,5 +120,6 @@ abbrev pub work_seat : {S D L B : Type 0} → Work S D L B → Option SeatState
 work_seat (work.State l) = state_seat l
 work_seat _ = None
 
+-- the seat at its switch that stands at a place, where it is that of a valve or a trip
 abbrev pub place_seat : {S D L B : Type 0} → Seated S D L B → Option SeatState
 place_seat p = work_seat p.work

@@ -29,6 +29,7 @@ leaving_in waits Pulled = waits ≡ []
 leaving_in waits Finished = ⊤
 leaving_in waits Cancelled = ⊤
 
+-- what it knows of its one input
 abbrev pub LeavingPortState : Leaving → View → Type 0
 LeavingPortState x v = (y : InView) × ((v ≡ input_only y) × leaving_in x.waits y)
 

@@ -145,11 +145,12 @@ node_passive (Entering x) = true
 node_passive (Leaving x) = true
 node_passive x = false
 
--- what was handed out of the island at it or dropped there, and what waits there: only where a lane goes out
+-- what was handed out of the island at a node or dropped there: only where a lane goes out
 abbrev pub node_gone : {S D L B : Type 0} → IslandNode S D L B → List Item
 node_gone (Leaving x) = x.gone
 node_gone x = []
 
+-- what waits at a node to be handed out of the island: only where a lane goes out
 abbrev pub node_waits : {S D L B : Type 0} → IslandNode S D L B → List Item
 node_waits (Leaving x) = x.waits
 node_waits x = []

@@ -7,10 +7,11 @@ use Rattle.port_core.specs.declared.view.OutView.{OutView}
 use Rattle.port_core.specs.View.{View, ActAllowed, acted}
 use Rattle.stage_core.specs.Histories.{given_by}
 
--- it has this input alone, and it has this output alone
+-- what is known of the ports of a stage that has this input alone
 abbrev pub input_only : InView → View
 input_only x = record { ins = x ∷ []; outs = [] }
 
+-- what is known of the ports of a stage that has this output alone
 abbrev pub output_only : OutView → View
 output_only y = record { ins = []; outs = y ∷ [] }
 

@@ -26,5 +26,6 @@ maximum_after best = record { reply = λ l t. reply_with (greatest (greatest_beh
 abbrev pub own_plug : List ℕ → Gives
 own_plug name = if pointwise ◌==◌ name (codes "maximum") then maximum_after None else silent
 
+-- the book of the worked example: what the plug of each name gives
 abbrev pub own_book : Book
 own_book = record { reply = λ name. (own_plug name).reply; closing = λ name. (own_plug name).closing }

@@ -42,6 +42,7 @@ abbrev pub summed : Result Tree Why → Reply
 summed (Ok s) = reply_with (s ∷ [])
 summed (Err w) = record { gave = []; verdict = fail 1 }
 
+-- what `pairsum` replies to a number: nothing where none waits, and else the sum of the two
 abbrev pub pair_reply : Option Tree → Tree → Reply
 pair_reply None t = reply_with []
 pair_reply (Some a) t = summed (sum_step a t)
@@ -65,5 +66,6 @@ silent = record { reply = λ l t. reply_with []; closing = λ l. reply_with [] }
 abbrev pub shipped : List ℕ → Gives
 shipped name = if pointwise ◌==◌ name (codes "dedup") then dedup_after None else if pointwise ◌==◌ name (codes "pairsum") then sums_after None else silent
 
+-- the book of the plugs that the program ships: what each gives by its name
 abbrev pub shipped_book : Book
 shipped_book = record { reply = λ name. (shipped name).reply; closing = λ name. (shipped name).closing }

@@ -20,6 +20,7 @@ abbrev pub halted : Bool → Tree → Reply
 halted false t = reply_with (t ∷ [])
 halted true t = record { gave = []; verdict = fail 7 }
 
+-- what `halts` gives, by whether an element came: the first element, and a failure with code 7 at the second
 abbrev pub halts_after : Bool → Gives
 halts_after b = record { reply = λ l. halted (element_came b l); closing = λ l. reply_with [] }
 
@@ -32,6 +33,7 @@ abbrev pub twice : Option Tree → List Tree
 twice None = []
 twice (Some t) = t ∷ t ∷ []
 
+-- what `tail` gives where this element came last: nothing, and at the end the last element twice
 abbrev pub tail_after : Option Tree → Gives
 tail_after x = record { reply = λ l t. reply_with []; closing = λ l. reply_with (twice (last_behind x l)) }
 
@@ -50,5 +52,6 @@ sample name =
     else if pointwise ◌==◌ name (codes "right") then passes_all
     else silent
 
+-- the book of these plugs: what the plug of each name gives
 abbrev pub sample_book : Book
 sample_book = record { reply = λ name. (sample name).reply; closing = λ name. (sample name).closing }

@@ -43,6 +43,7 @@ asked_bit outlet.Available = 1
 asked_bit outlet.Closed = 0
 asked_bit outlet.Cancelled = 0
 
+-- the pulls that came to the output: one for each element that was pushed, and the last one
 abbrev pub asks : JointPorts → ℕ
 asks w = elements w.sent + asked_bit w.out
 

@@ -12,15 +12,18 @@ use Rattle.port_core.specs.Cell.{WireState}
 abbrev pub no_wire : WireState
 no_wire = record { wire = record { out = Closed; inp = Cancelled; conn = record { step = quiet; to_grab = None; in_closed = true; out_closed = true; cause = None }; sent = []; got = [] }; asked = false }
 
--- what the ends of a wire know of it, and what passed there
+-- what the input of a wire knows of it
 abbrev pub inp_of : WireState → InView
 inp_of c = c.wire.inp
 
+-- what the output of a wire knows of it
 abbrev pub out_of : WireState → OutView
 out_of c = c.wire.out
 
+-- what came to the input of a wire
 abbrev pub got_of : WireState → List Item
 got_of c = c.wire.got
 
+-- what was sent at the output of a wire
 abbrev pub sent_of : WireState → List Item
 sent_of c = c.wire.sent

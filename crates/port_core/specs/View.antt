@@ -21,13 +21,15 @@ in_at v i = slice_index_or v.ins i Cancelled
 abbrev pub out_at : View → ℕ → OutView
 out_at v j = slice_index_or v.outs j outlet.Closed
 
--- nothing came to a port, and no pull: of a stage with one input and one output, with n inputs and one output, with one input and n outputs
+-- nothing came to a port, and no pull: of a stage with one input and one output
 abbrev pub unpulled_ports : View
 unpulled_ports = record { ins = Idle ∷ []; outs = outlet.Unpulled ∷ [] }
 
+-- the same of a stage with n inputs and one output
 abbrev pub unpulled_ins : ℕ → View
 unpulled_ins n = record { ins = replicate n Idle; outs = outlet.Unpulled ∷ [] }
 
+-- the same of a stage with one input and n outputs
 abbrev pub unpulled_outs : ℕ → View
 unpulled_outs n = record { ins = Idle ∷ []; outs = replicate n outlet.Unpulled }
 
@@ -45,13 +47,14 @@ IsOutOpen outlet.Available = ⊤
 IsOutOpen outlet.Closed = ⊥
 IsOutOpen outlet.Cancelled = ⊥
 
--- whether an input has ended or was cancelled, and whether an output was closed or cancelled
+-- whether an input has ended or was cancelled
 abbrev pub input_closed : InView → Bool
 input_closed Idle = false
 input_closed Pulled = false
 input_closed Finished = true
 input_closed Cancelled = true
 
+-- whether an output was closed or cancelled
 abbrev pub output_closed : OutView → Bool
 output_closed outlet.Unpulled = false
 output_closed outlet.Available = false

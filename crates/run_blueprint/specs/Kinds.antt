@@ -20,6 +20,7 @@ known_by plugs (a_trip order name n) = true
 known_by plugs (a_plug name) = is_some (plug_named name plugs)
 known_by plugs (a_chain name) = true
 
+-- a kind that names a plug which is handed in, or that names none
 abbrev pub is_known : List PlugHead → Kind → Bool
 is_known plugs k = known_by plugs (mention_of k)
 
@@ -30,6 +31,7 @@ pub data Shape : Type 0 where
   zipping : Shape
   single : Shape
 
+-- how the types at the ports of a role hang together
 abbrev shape_by : Role → Shape
 shape_by (reads_lines name) = source
 shape_by (gives_range low high) = source
@@ -55,6 +57,7 @@ shape_by (partitions n f) = single
 shape_by unzips = single
 shape_by (sinks file keeps) = single
 
+-- how the types at the ports of a kind hang together
 abbrev pub shape_of : Kind → Shape
 shape_of k = shape_by (role_of k)
 

@@ -18,11 +18,13 @@ fails_by unended = []
 fails_by ended = []
 fails_by (failed c) = record { cause = c; low = 0 } ∷ []
 
+-- a list that stands so has come to a normal end
 abbrev ends_by : End → Bool
 ends_by unended = false
 ends_by ended = true
 ends_by (failed c) = false
 
+-- what has passed, as an outlook of all that may pass: a list that stands so
 abbrev pub exact : List Tree → End → Outlook
 exact l e = record { list = l; ends = ends_by e; fails = fails_by e }
 

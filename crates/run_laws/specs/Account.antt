@@ -34,35 +34,40 @@ pub record Account (N : Type 0) : Type 0 where
 abbrev pub shut_of : WireState → Bool
 shut_of c = not (is_open c.wire.conn)
 
+-- the connection of wire u, or what stands where there is no wire
 abbrev pub cell_by : (ℕ → WireState) → Option ℕ → WireState
 cell_by cells None = no_wire
 cell_by cells (Some u) = cells u
 
 module _ (g : Graph) where
-  -- what f reads off the wires at these inputs of a node, and at these outputs
+  -- what f reads off the wires at these inputs of a node
   abbrev pub read_ins : {X : Type 0} → (WireState → X) → (ℕ → WireState) → ℕ → List ℕ → List X
   read_ins f cells k [] = []
   read_ins f cells k (p ∷ ps) = f (cell_by cells (find_wire k p g.wires)) ∷ read_ins f cells k ps
 
+  -- what f reads off the wires at these outputs of a node
   abbrev pub read_outs : {X : Type 0} → (WireState → X) → (ℕ → WireState) → ℕ → List ℕ → List X
   read_outs f cells k [] = []
   read_outs f cells k (p ∷ ps) = f (cell_by cells (find_source k p g.wires)) ∷ read_outs f cells k ps
 
   module _ {N : Type 0} (a : Account N) (k : ℕ) (n : graph.Node) where
-    -- what the node knows of its ports, what it took and what it gave
+    -- what the node knows of its ports
     abbrev pub knows : View
     knows = record { ins = read_ins inp_of a.far k (count_from 0 (inputs_of n.kind)); outs = read_outs out_of a.near k (count_from 0 (outputs_of n.kind)) }
 
+    -- what the node took at each of its inputs
     abbrev pub took : List (List Item)
     took = read_ins got_of a.far k (count_from 0 (inputs_of n.kind))
 
+    -- what the node gave at each of its outputs
     abbrev pub gave : List (List Item)
     gave = read_outs sent_of a.near k (count_from 0 (outputs_of n.kind))
 
-    -- how many elements are wanted in all of each of its inputs, and of each of its outputs
+    -- how many elements are wanted in all of each of its inputs
     abbrev pub ins_wanted : List ℕ
     ins_wanted = read_ins wanted a.far k (count_from 0 (inputs_of n.kind))
 
+    -- how many elements are wanted in all of each of its outputs
     abbrev pub outs_wanted : List ℕ
     outs_wanted = read_outs wanted a.near k (count_from 0 (outputs_of n.kind))
 

@@ -8,13 +8,14 @@ use Rattle.stream_model.specs.Outlook.{Outlook, End, unended, ended, failed, Agr
 use Rattle.stream_model.specs.Lane.{Carries}
 use Rattle.stage_core.specs.Held.{told}
 
--- the elements before the first end, and that end
+-- the elements of a history before its first end
 abbrev pub list_of : List Item → List Tree
 list_of [] = []
 list_of (item.Elem t ∷ is) = t ∷ list_of is
 list_of (item.Ended ∷ is) = []
 list_of (item.Failed c ∷ is) = []
 
+-- how the elements of a history end: by its first end, or not at all
 abbrev pub end_of_items : List Item → End
 end_of_items [] = unended
 end_of_items (item.Elem t ∷ is) = end_of_items is

@@ -44,13 +44,15 @@ pub record OutPort : Type 0 where
   pub want : ℕ
   pub wire : picture.SeenWire
 
--- what a node knows of these ports, what it took and what it gave
+-- what a node knows of these ports
 abbrev pub views_of : List InPort → List OutPort → View
 views_of is os = record { ins = map (λ (i : InPort). i.view) is; outs = map (λ (o : OutPort). o.view) os }
 
+-- what a node took at these inputs
 abbrev pub gots_of : List InPort → List (List Item)
 gots_of is = map (λ (i : InPort). i.got) is
 
+-- what a node gave at these outputs
 abbrev pub sents_of : List OutPort → List (List Item)
 sents_of os = map (λ (o : OutPort). o.sent) os
 
@@ -72,6 +74,7 @@ pub record InStands (i : InPort) : Type 0 where
   -- what is wanted beyond a lane's size, the node has asked for
   pub reach : demand i.wire ≤ i.want
 
+-- how an output stands at any moment: as many elements were sent as the picture says, and what the node was asked for is wanted
 pub record OutStands (o : OutPort) : Type 0 where
   pub count : o.wire.sent ≡ elements o.sent
   -- what the node was asked for is wanted
@@ -84,6 +87,7 @@ pub record InRests (i : InPort) : Type 0 where
   pub shut : InClosed i.view → IsShut i.wire
   pub over_sent : i.view ≡ Finished → IsLane i.wire ⊎ (i.wire.sent ≡ elements i.got)
 
+-- how an output stands where no event is left: the wire is asked, unasked or shut as the node knows it to be
 pub record OutRests (o : OutPort) : Type 0 where
   pub asked : o.view ≡ Available → IsAsked o.wire
   pub unasked : o.view ≡ Unpulled → IsUnasked o.wire

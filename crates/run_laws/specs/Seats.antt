@@ -60,6 +60,7 @@ module _ {N : Type 0} (g : Graph) (nets : ℕ → Net N) (s : Seats) where
 abbrev pub at_home : ℕ → IslandPlace
 at_home k = record { island = 0; at = k }
 
+-- the seats of one island that has all nodes and wires, each at its number
 abbrev pub one_seat : Seats
 one_seat = record { node = at_home; near = at_home; far = at_home }
 

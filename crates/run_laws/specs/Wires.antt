@@ -11,9 +11,10 @@ module _ (u s : ℕ) (near far : WireState) (asked : ℕ) (list : List Tree) whe
   abbrev pub lane_view : picture.SeenWire
   lane_view = let c = wire_count (Some s) near asked in record { wire = u; sent = c.sent; asked = c.asked; shut = c.shut; lane = Some s; list = list }
 
-  -- the port of the node at its input, and that of the node at its output
+  -- the input to which the lane leads
   abbrev pub far_port : InPort
   far_port = record { view = far.wire.inp; got = far.wire.got; want = wanted far; wire = lane_view }
 
+  -- the output from which the lane leads
   abbrev pub near_port : OutPort
   near_port = record { view = near.wire.out; sent = near.wire.sent; want = wanted near; wire = lane_view }

@@ -16,19 +16,23 @@ pub record Asked : Type 0 where
   pub turns : ℕ
   pub trace : Option (List ℕ)
 
+-- the most lines that may be asked for
 abbrev pub most_generated : ℕ
 most_generated = 10000000
 
+-- the most workers that may be asked for
 abbrev pub most_workers : ℕ
 most_workers = 64
 
+-- the most turns that may be asked for
 abbrev pub most_turns : ℕ
 most_turns = MOST_COUNT
 
--- the workers and the turns where no number is given
+-- the workers where no number is given
 abbrev pub usual_workers : ℕ
 usual_workers = 1
 
+-- the turns where no number is given
 abbrev pub usual_turns : ℕ
 usual_turns = 100000000
 

@@ -4,6 +4,7 @@ use Rattle.run_report.specs.Asking.{Asked}
 use Rattle.run_report.specs.declared.command.Command.{Command}
 use Rattle.run_report.specs.declared.command.Choice.{Choice}
 
+-- what a command of the code asks for
 abbrev pub asked : Command → Asked
 asked c = record { file = c.file; generated = c.generated; workers = c.workers; turns = c.turns; trace = c.trace }
 

@@ -19,11 +19,12 @@ abbrev pub is_dashed : List ℕ → Bool
 is_dashed [] = false
 is_dashed (b ∷ bs) = b == 45
 
--- what stands in a word before its first `=`, and what stands behind it
+-- what stands in a word before its first `=`; the whole word where there is none
 abbrev pub name_in : List ℕ → List ℕ
 name_in [] = []
 name_in (b ∷ bs) = if b == 61 then [] else b ∷ name_in bs
 
+-- what stands in a word behind its first `=`, where there is one
 abbrev pub value_in : List ℕ → Option (List ℕ)
 value_in [] = None
 value_in (b ∷ bs) = if b == 61 then Some bs else value_in bs
@@ -54,6 +55,7 @@ word_from None word words rest =
     if bytes_eq word (codes "--") then Some (map file words)
     else (if is_dashed word then with_value (setting_of (name_in word)) (value_in word) rest else with_part (file word) (rest None))
 
+-- the parts of no words: none; and no parts at all where an option still waits for its value
 abbrev pub no_word : Option Setting → Option (List Part)
 no_word (Some s) = None
 no_word None = Some []
@@ -63,6 +65,7 @@ unfoldable pub parts_from : List (List ℕ) → Option Setting → Option (List 
 parts_from [] waits = no_word waits
 parts_from (word ∷ words) waits = word_from waits word words (parts_from words)
 
+-- the parts that the words say
 abbrev pub parts_of : List (List ℕ) → Option (List Part)
 parts_of words = parts_from words None
 

@@ -45,13 +45,14 @@ why_text why = decimal (number_of_why why)
 abbrev pub cause_text : Cause → List ℕ
 cause_text c = codes " stage " ++ decimal c.stage ++ codes " nth " ++ decimal c.nth ++ codes " why " ++ why_text c.why
 
--- the word for a sink's end, and what is said of its cause
+-- the word for a sink's end
 abbrev pub end_text : EndState → List ℕ
 end_text state.Ended = codes "ended"
 end_text (state.Failed c) = codes "failed"
 end_text state.Unended = codes "unended"
 end_text state.WriteFault = codes "fault"
 
+-- what is said of the cause of a sink that failed; nothing of any other
 abbrev pub blame_text : EndState → List ℕ
 blame_text (state.Failed c) = cause_text c
 blame_text _ = []

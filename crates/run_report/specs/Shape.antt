@@ -10,9 +10,11 @@ use Rattle.clap.specs.Walk.{Rule}
 use Rattle.clap.specs.Simple.{App, new_app, new_rule, with_rule, on_top}
 use Rattle.clap.specs.declared.builder.action.ArgAction.TheVariants.{Append}
 
+-- the argument for the files
 abbrev pub file_rule : Rule
 file_rule = record (new_rule (codes "file")) { action = Some Append }
 
+-- an option of this name, with a value
 abbrev pub option_rule : List ℕ → Rule
 option_rule name = record (new_rule name) { long = Some name; action = Some Append }
 
@@ -20,6 +22,7 @@ option_rule name = record (new_rule name) { long = Some name; action = Some Appe
 abbrev pub bare_app : App
 bare_app = on_top (λ s. record s { no_binary_name = true; disable_help_flag = true }) (new_app (codes "streams"))
 
+-- the command as its parser is told of it: the files, and the four options
 abbrev pub streams_app : App
 streams_app = with_rule (with_rule (with_rule (with_rule (with_rule bare_app file_rule) (option_rule (codes "gen"))) (option_rule (codes "workers"))) (option_rule (codes "turns"))) (option_rule (codes "trace"))
 
@@ -27,6 +30,7 @@ streams_app = with_rule (with_rule (with_rule (with_rule (with_rule bare_app fil
 abbrev pub is_text : List ℕ → Bool
 is_text word = list_all (λ b. nat_lt b 128) word && not (bytes_eq word (codes "-"))
 
+-- each of these words is ASCII and not `-` alone
 abbrev pub are_texts : List (List ℕ) → Bool
 are_texts words = list_all is_text words
 

@@ -5,9 +5,11 @@ use Rattle.std.specs.List.{flat_map, range_with_len}
 use Rattle.run_report.specs.declared.generator_put.Text.{Text}
 use Rattle.run_report.specs.declared.generator_put.Text.TheVariants as text
 
+-- the name of the file of lines that is generated
 abbrev pub lines_file : List ℕ
 lines_file = codes "gen.txt"
 
+-- the name of the blueprint that is generated
 abbrev pub blueprint_file : List ℕ
 blueprint_file = codes "gen.blue"
 
@@ -36,6 +38,7 @@ blueprint_text = codes "streams 1\n"
     ++ (codes "wire e.0 -> even.0\n"
     ++ codes "wire f.0 -> sum.0\n"))))))))))))
 
+-- the text of each of the two generated files
 abbrev pub text_of : Text → List ℕ
 text_of (text.Lines n) = numbered_lines n
 text_of text.Blueprint = blueprint_text

@@ -18,18 +18,21 @@ share_of k (h ∷ hs) = if h == k then suc (share_of k hs) else share_of k hs
 abbrev pub rank_of : List ℕ → ℕ → ℕ
 rank_of homes i = share_of (slice_index homes i) (take i homes)
 
--- the items of list k, and how many it has room for; there are none where there is no such list
+-- the items of a list, none where there is no list
 abbrev pub items_in : {X : Type 0} → Option (Vec X Global) → List X
 items_in None = []
 items_in (Some v) = v.items
 
+-- the items of list k, none where there is no such list
 abbrev pub items_at : {X : Type 0} → List (Vec X Global) → ℕ → List X
 items_at lists k = items_in (slice_get lists k)
 
+-- for how many items a list has room, none where there is no list
 abbrev pub room_in : {X : Type 0} → Option (Vec X Global) → ℕ
 room_in None = 0
 room_in (Some v) = vec_capacity v
 
+-- for how many items list k has room, none where there is no such list
 abbrev pub room_at : {X : Type 0} → List (Vec X Global) → ℕ → ℕ
 room_at lists k = room_in (slice_get lists k)
 

@@ -18,6 +18,7 @@ pub data MergeHeld : Type 0 where
   waits : List ℕ → List Inflow → MergeHeld
   shut : List ℕ → MergeHeld
 
+-- what waits of each input, as lists
 abbrev pub lists_of : List Inflow → List (List Tree)
 lists_of fs = map (λ f. f.list) fs
 

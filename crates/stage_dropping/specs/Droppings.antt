@@ -48,6 +48,7 @@ drop_at l Open true false Finished Unpulled = (0 < length l.held) × IsDropping 
 drop_at l Closed over asked i o = BothClosed i o
 drop_at l _ _ _ _ _ = ⊥
 
+-- its port state
 abbrev pub port_state : Dropping → View → Type 0
 port_state l v = OneOne (drop_at l l.phase l.over l.asked) v
 
@@ -56,11 +57,13 @@ abbrev pub end_of : Bool → End
 end_of false = unended
 end_of true = ended
 
+-- what it still owes, by where it stands, how its input stands, its moves and what it holds
 abbrev pub held_in : Phase → Bool → ℕ → List ℕ → List Tree → DropHeld
 held_in New over came moves held = law.holds came moves held unended
 held_in Open over came moves held = law.holds came moves held (end_of over)
 held_in Closed over came moves held = law.shut moves
 
+-- what it still owes
 abbrev pub held_of : Dropping → DropHeld
 held_of l = held_in l.phase l.over l.came l.moves l.held
 
@@ -74,6 +77,7 @@ abbrev pub first_acts : Bool → Tree → List Tree → List Act
 first_acts true t [] = Push 0 t ∷ Complete 0 ∷ []
 first_acts _ t held = Push 0 t ∷ []
 
+-- where it stands then
 abbrev pub first_phase : Bool → Phase → List Tree → Phase
 first_phase true p [] = Closed
 first_phase _ p held = p
@@ -83,6 +87,7 @@ abbrev pub GaveIts : List Tree → Dropping → List Act → Dropping → Type 0
 GaveIts [] old acts new = ⊥
 GaveIts (t ∷ held) old acts new = (acts ≡ first_acts old.over t held) × (new ≡ record old { held = held; phase = first_phase old.over old.phase held })
 
+-- the first of what it held was given
 abbrev pub GaveFirst : Dropping → List Act → Dropping → Type 0
 GaveFirst old acts new = GaveIts old.held old acts new
 

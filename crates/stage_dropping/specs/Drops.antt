@@ -105,6 +105,7 @@ abbrev pub DropRestsAt : Policy → ℕ → List ℕ → InView → OutView → 
 DropRestsAt p n moves x y (f ∷ []) g = (IsShut (own_input x f.list) × IsShut (own_output y g)) ⊎ DroppingRests (nothing_held (buffered p n moves f.list empty_buffer).held) (own_input x f.list) (own_output y g)
 DropRestsAt p n moves x y fs g = ⊥
 
+-- the same, over what it knows of its two ports
 abbrev pub DropRests : Policy → ℕ → List ℕ → View → List Inflow → List Tree → Type 0
 DropRests p n moves v ins g = DropRestsAt p n moves (in_at v 0) (out_at v 0) ins g
 

@@ -37,6 +37,7 @@ recover_at l Open true false Finished Unpulled = (l.moves ≡ l.passed ∷ []) �
 recover_at l Closed over asked i o = BothClosed i o
 recover_at l _ _ _ _ _ = ⊥
 
+-- its port state
 abbrev pub port_state : Recover → View → Type 0
 port_state l v = OneOne (recover_at l l.phase l.over l.asked) v
 
@@ -47,6 +48,7 @@ held_in Open false n moves = law.passes n
 held_in Open true n moves = law.turned n
 held_in Closed over n moves = law.shut moves
 
+-- what it still owes
 abbrev pub held_of : Recover → RecoverHeld
 held_of l = held_in l.phase l.over l.passed l.moves
 

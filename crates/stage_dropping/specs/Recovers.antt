@@ -34,6 +34,7 @@ recovered_by t l unended = told l unended
 recovered_by t l ended = told l ended
 recovered_by t l (failed c) = told (l ++ t ∷ []) ended
 
+-- what a recover gives of what comes: all of it, and its own element where that failed
 abbrev pub recovered : Tree → Inflow → List Item
 recovered t f = recovered_by t f.list f.end
 
@@ -122,6 +123,7 @@ abbrev pub RestsAt : InView → OutView → List Inflow → List Tree → Type 0
 RestsAt x y (f ∷ []) g = (IsShut (own_input x f.list) × IsShut (own_output y g)) ⊎ StageRests (as_it_is 1 true) (own_input x f.list) (own_output y g)
 RestsAt x y fs g = ⊥
 
+-- its row of a picture that rests, over its own ports
 abbrev pub RecoverRests : View → List Inflow → List Tree → Type 0
 RecoverRests v ins g = RestsAt (in_at v 0) (out_at v 0) ins g
 

@@ -20,18 +20,21 @@ pub record Pairing : Type 0 where
   pub right : Inlet
   pub asked : Bool
 
--- what is known of an input: it is asked where nothing of it waits
+-- what is known of an input, by whether it has ended and by what waits: it is asked where nothing waits
 abbrev inlet_view_by : Bool → Option Tree → InView
 inlet_view_by true held = Finished
 inlet_view_by false None = Pulled
 inlet_view_by false (Some t) = Idle
 
+-- what is known of an input
 abbrev pub inlet_view : Inlet → InView
 inlet_view i = inlet_view_by i.over i.held
 
+-- what waits of an input, and how it stands, in the words of the model
 abbrev pub inlet_flow : Inlet → Inflow
 inlet_flow i = record { list = option_to_list i.held; end = end_by i.over }
 
+-- what is known of its ports
 abbrev pub pair_view : Pairing → View
 pair_view l = record { ins = inlet_view l.left ∷ inlet_view l.right ∷ []; outs = wish l.asked ∷ [] }
 

@@ -22,6 +22,7 @@ abbrev pub spread : Logic → ℕ → List Tree → Logic
 spread l n [] = skipped l n
 spread l n (t ∷ l₁) = record (counted l n) { pending = l₁ }
 
+-- its actions then
 abbrev pub first_acts : List Tree → List Act
 first_acts [] = Pull 0 ∷ []
 first_acts (t ∷ l) = Push 0 t ∷ []
@@ -32,6 +33,7 @@ leaving l n [] = record l { phase = Closed }
 leaving l n (t ∷ []) = record l { phase = Closed }
 leaving l n (t ∷ u ∷ l₁) = record (counted l n) { pending = u ∷ l₁; course = Leaves }
 
+-- its actions then
 abbrev pub leaving_acts : List Tree → List Act
 leaving_acts [] = Complete 0 ∷ Cancel 0 ∷ []
 leaving_acts (t ∷ []) = Push 0 t ∷ Complete 0 ∷ Cancel 0 ∷ []
@@ -46,16 +48,19 @@ ended_with l Waits (t ∷ []) = record l { phase = Closed }
 ended_with l Waits (t ∷ u ∷ l₁) = record l { pending = u ∷ l₁; course = Ends }
 ended_with l _ (t ∷ l₁) = record l { pending = t ∷ l₁; course = Ends }
 
+-- its actions then
 abbrev pub ended_acts : Course → List Tree → List Act
 ended_acts c [] = Complete 0 ∷ []
 ended_acts Waits (t ∷ []) = Push 0 t ∷ Complete 0 ∷ []
 ended_acts Waits (t ∷ u ∷ l) = Push 0 t ∷ []
 ended_acts _ (t ∷ l) = []
 
+-- the stage once its input's end came to this: the outputs that it adds are given, or it fails
 abbrev pub ended_by : Logic → Finish Tree → Logic
 ended_by l (adds us) = ended_with l l.course us
 ended_by l (refuses c) = record l { phase = Closed }
 
+-- its actions then
 abbrev pub closed_acts : Logic → Finish Tree → List Act
 closed_acts l (adds us) = ended_acts l.course us
 closed_acts l (refuses c) = FailOut 0 c ∷ []
@@ -69,23 +74,28 @@ behind_last l Closes f = ended_by l f
 behind_last l Ends f = record l { phase = Closed }
 behind_last l _ f = l
 
+-- its actions then
 abbrev pub behind_last_acts : Logic → Course → Finish Tree → List Act
 behind_last_acts l Leaves f = Complete 0 ∷ Cancel 0 ∷ []
 behind_last_acts l Closes f = closed_acts l f
 behind_last_acts l Ends f = Complete 0 ∷ []
 behind_last_acts l _ f = []
 
+-- the stage with these outputs left: it goes on where there are some, and else does what comes behind the last
 abbrev given_on_at : Logic → List Tree → Finish Tree → Logic
 given_on_at l [] f = behind_last l l.course f
 given_on_at l (t ∷ p) f = l
 
+-- its actions then
 abbrev given_acts_at : Logic → List Tree → Finish Tree → List Act
 given_acts_at l [] f = behind_last_acts l l.course f
 given_acts_at l (t ∷ p) f = []
 
+-- the stage once an output went out, by what is left
 abbrev pub given_on_from : Logic → Finish Tree → Logic
 given_on_from l f = given_on_at l l.pending f
 
+-- its actions behind that output
 abbrev pub last_acts : Logic → Finish Tree → List Act
 last_acts l f = given_acts_at l l.pending f
 
@@ -96,5 +106,6 @@ stays_ready Open Idles b c = c ≡ b
 stays_ready Open Closes b c = c ≡ b
 stays_ready _ _ b c = ⊤
 
+-- its plug may be called as before, where the stage goes on to call it
 abbrev pub StaysReady : Logic → Logic → Type 0
 StaysReady old new = stays_ready new.phase new.course old.ready new.ready

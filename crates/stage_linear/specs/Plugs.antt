@@ -24,6 +24,7 @@ pub record PlugState : Type 0 where
 abbrev pub FollowsBook : Book → List ℕ → List Tree → Bool → Gives → Type 0
 FollowsBook b name taken on p = on ≡ true → Is p taken (listed b name)
 
+-- the work of a plug in the words of the model, by its name and what it took
 abbrev pub plug_work : PlugState → Work
 plug_work s = plugged s.name s.taken
 

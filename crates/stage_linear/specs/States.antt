@@ -51,6 +51,7 @@ held_in b Open Closes p s = owing (sealed_by (linear b s.work) p (finish_of b s 
 held_in b Open Ends p s = owing (record { gave = p; state = done })
 held_in b Closed c p s = shut
 
+-- what a stage still owes, by a book of plugs
 abbrev pub held : Book → Logic → Held Stage
 held b l = held_in b l.phase l.course l.pending l.stage
 
@@ -78,6 +79,7 @@ port_state_in Open Ends p w r Finished Unpulled = HoldsSomething w p
 port_state_in Closed c p w r i o = BothClosed i o
 port_state_in _ _ _ _ _ _ _ = ⊥
 
+-- what a stage knows of its one input and its one output
 abbrev pub port_state : Logic → View → Type 0
 port_state l v = OneOne (port_state_in l.phase l.course l.pending l.stage.work l.ready) v
 
@@ -133,6 +135,7 @@ counted l n = record l { stage = record l.stage { taken = n }; course = Idles }
 abbrev pub skipped : Logic → ℕ → Logic
 skipped l n = record l { stage = record l.stage { taken = n }; course = Waits }
 
+-- the stage behind an element without a value: closed where it stops, and else it left the element out
 abbrev decided_to : Decider → Logic → ℕ → Logic
 decided_to Stop l n = record l { phase = Closed }
 decided_to Resume l n = skipped l n
@@ -146,6 +149,7 @@ decided_by l n = decided_to l.stage.decider l n
 abbrev pub failing_acts : Stage → ℕ → Why → List Act
 failing_acts s n why = FailOut 0 (record { stage = s.node; nth = n; why = why }) ∷ Cancel 0 ∷ []
 
+-- its actions then: a failure that blames element n, or one more ask
 abbrev acts_by : Decider → Stage → ℕ → Why → List Act
 acts_by Stop s n why = failing_acts s n why
 acts_by Resume s n why = Pull 0 ∷ []

@@ -7,6 +7,7 @@ use Rattle.step_work.specs.declared.task.LinearReaction.{LinearReaction}
 use Rattle.stage_linear.specs.declared.worker.Worker.{Worker}
 use Rattle.stage_linear.specs.declared.worker.Worker.TheVariants.{Plain, Plug}
 
+-- the work in the words of the model, of a plug or of any other
 abbrev pub work_by : {L B : Type 0} → Worker L B → Work
 work_by (Plain t) = work_in t
 work_by (Plug s) = plug_work s
@@ -16,6 +17,7 @@ abbrev pub ready_by : {L B : Type 0} → Worker L B → Bool
 ready_by (Plain t) = true
 ready_by (Plug s) = s.running
 
+-- its plug, where it has one, may be called
 abbrev pub CanTake : {L B : Type 0} → Worker L B → Type 0
 CanTake k = ready_by k ≡ true
 

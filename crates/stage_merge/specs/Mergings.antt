@@ -77,9 +77,11 @@ abbrev pub PortsThere : List Bool → List Queued → Type 0
 PortsThere over [] = ⊤
 PortsThere over (x ∷ q) = (x.port < length over) × PortsThere over q
 
+-- what it knows of its ports once it was started: an input is asked where nothing of it waits and it has not ended
 abbrev pub view_of : Core → View
 view_of l = record { ins = places 0 l.over l.queue; outs = wish l.asked ∷ [] }
 
+-- what it knows of its ports before its start: nothing came to them
 abbrev pub new_view : Core → View
 new_view l = record { ins = idles l.over; outs = Unpulled ∷ [] }
 
@@ -99,11 +101,13 @@ pub record Fresh (l : Core) : Type 0 where
   pub over : l.over ≡ replicate (length l.over) false
   pub unasked : l.asked ≡ false
 
+-- its port state, by where it stands
 abbrev pub port_state_by : Phase → Core → View → Type 0
 port_state_by New l v = (v ≡ new_view l) × (Sound l × Fresh l)
 port_state_by Open l v = (v ≡ view_of l) × Sound l
 port_state_by Closed l v = FanClosed v
 
+-- its port state
 abbrev pub port_state : Merging → View → Type 0
 port_state l v = port_state_by l.core.phase l.core v
 
@@ -113,6 +117,7 @@ held_by New moves l = waits moves (waiting 0 l.over l.queue)
 held_by Open moves l = waits moves (waiting 0 l.over l.queue)
 held_by Closed moves l = shut moves
 
+-- what it still owes, by the moves in its log
 abbrev pub held : Merging → MergeHeld
 held l = held_by l.core.phase l.log.moves l.core
 

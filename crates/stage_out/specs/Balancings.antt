@@ -46,6 +46,7 @@ input_of true pulled = Finished
 input_of false true = Pulled
 input_of false false = Idle
 
+-- what it knows of its ports
 abbrev pub view_of : Core → View
 view_of l = record { ins = input_of l.over l.pulled ∷ []; outs = map want_view l.outs }
 
@@ -68,13 +69,16 @@ pub record Sound (l : Core) : Type 0 where
   pub few : length l.outs ≤ 16
   pub roomy : length l.outs ≤ l.room
 
+-- its port state, by whether its ports are open
 abbrev pub port_state_by : Bool → Core → View → Type 0
 port_state_by true l v = (v ≡ view_of l) × Sound l
 port_state_by false l v = AllClosed v
 
+-- its port state
 abbrev pub port_state : Balancing → View → Type 0
 port_state l v = port_state_by l.core.live l.core v
 
+-- what waits of its input, and how that stands, in the words of the model
 abbrev pub waited : Core → Inflow
 waited l = record { list = option_to_list l.waiting; end = end_by l.over }
 
@@ -83,6 +87,7 @@ abbrev pub held_by : Bool → List ℕ → Core → BalanceHeld
 held_by true moves l = waits moves (waited l)
 held_by false moves l = shut moves
 
+-- what it still owes, by the moves in its log
 abbrev pub held : Balancing → BalanceHeld
 held l = held_by l.core.live l.log.moves l.core
 

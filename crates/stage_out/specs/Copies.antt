@@ -20,6 +20,7 @@ copying f = record { step = λ s t. record { gave = f t ∷ []; state = going s 
 abbrev pub nothing_owed : Stage → Run Stage Tree
 nothing_owed s = record { gave = []; state = going s }
 
+-- what an output owes: nothing, and what its machine gives from here on; or it is closed
 abbrev pub owed_by : Stage → OutputState → Held Stage
 owed_by s Quiet = owing (nothing_owed s)
 owed_by s Asks = owing (nothing_owed s)
@@ -54,6 +55,7 @@ served_one Quiet = Quiet
 served_one Asks = Quiet
 served_one Gone = Gone
 
+-- the outputs once each that is open got its part
 abbrev pub served : List OutputState → List OutputState
 served ws = map served_one ws
 

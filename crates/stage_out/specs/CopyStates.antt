@@ -28,6 +28,7 @@ part_by false j t = t
 part_by true zero t = left_half t
 part_by true (suc j) t = right_half t
 
+-- what it knows of its ports: its input is asked where no open output is unasked
 abbrev pub view_of : CopyLogic → View
 view_of l = record { ins = input_by l.quiet ∷ []; outs = map want_view l.outs }
 
@@ -39,10 +40,12 @@ pub record Sound (l : CopyLogic) : Type 0 where
   pub few : length l.outs ≤ 16
   pub pair : l.halves ≡ true → length l.outs ≡ 2
 
+-- its port state, by whether its ports are open
 abbrev pub port_state_by : Bool → CopyLogic → View → Type 0
 port_state_by true l v = (v ≡ view_of l) × Sound l
 port_state_by false l v = AllClosed v
 
+-- its port state
 abbrev pub port_state : CopyLogic → View → Type 0
 port_state l v = port_state_by l.live l v
 

@@ -60,6 +60,7 @@ Turned call _ acts _ = ⊥
 abbrev pub no_stage : Stage
 no_stage = record { node = 0; decider = Stop; taken = 0; work = passing }
 
+-- what an output owes, by whether the stage is open, where its machine keeps nothing
 abbrev owed_at : Bool → OutputState → Held Stage
 owed_at true w = owed_by no_stage w
 owed_at false w = shut
@@ -115,17 +116,19 @@ IsMachines (Partition n f) = (2 ≤ n) × (n ≤ MAX_FAN)
 IsMachines Unzip = ⊤
 IsMachines _ = ⊥
 
--- The outputs of a new node of this kind from number j on: each is a machine that starts as the model's, and gives the element
--- itself, a half of it, or the elements of its number.
+-- The outputs of a new broadcast or unzip from number j on: each is a machine that starts as the model's, and gives the element itself or a
+-- half of it.
 abbrev pub copy_starts : (ℕ → Tree → Tree) → ℕ → ℕ → List (Outlet Stage)
 copy_starts part j zero = []
 copy_starts part j (suc k) = record { machine = copying (part j); start = nothing_owed no_stage; held = owing (nothing_owed no_stage) } ∷ copy_starts part (j + 1) k
 
+-- the outputs of a partition from number j on, each at its start
 abbrev pub number_starts : Book → ℕ → ℕ → MapFn → ℕ → ℕ → List (Outlet Stage)
 number_starts book node n f j zero = []
 number_starts book node n f j (suc k) =
     record { machine = linear book (numbering n f j); start = begin_work node Stop (numbering n f j); held = owing (begin_work node Stop (numbering n f j)) } ∷ number_starts book node n f (j + 1) k
 
+-- the outputs of a kind, each at its start
 abbrev pub starts_of : Book → ℕ → Kind → List (Outlet Stage)
 starts_of book node (Broadcast n) = copy_starts (part_by false) 0 n
 starts_of book node Unzip = copy_starts (part_by true) 0 2

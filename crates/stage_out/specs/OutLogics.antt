@@ -50,6 +50,7 @@ abbrev pub QueuesLast : ℕ → OutLogic → OutLogic → Type 0
 QueuesLast port (Balances old) (Balances new) = balance.LastInLine port old new
 QueuesLast port _ _ = ⊤
 
+-- of a balance its own rule of whom it serves; of any other stage nothing is asked
 abbrev pub ServesFirst : OutLogic → OutLogic → Type 0
 ServesFirst (Balances old) (Balances new) = balance.FirstServed old new
 ServesFirst _ _ = ⊤

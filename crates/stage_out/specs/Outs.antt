@@ -17,6 +17,7 @@ abbrev pub own_ins : List InView → List Tree → List picture.SeenWire
 own_ins [] l = []
 own_ins (x ∷ xs) l = own_input x l ∷ own_ins xs l
 
+-- the outputs from number n on, each with what was given there
 abbrev pub own_outs : ℕ → List OutView → (ℕ → List Tree) → List picture.SeenWire
 own_outs n [] g = []
 own_outs n (y ∷ ys) g = own_output y (g n) ∷ own_outs (n + 1) ys g

@@ -20,6 +20,7 @@ abbrev pub own_ins : List InView → List Tree → List SeenWire
 own_ins [] l = []
 own_ins (x ∷ xs) l = own_input x l ∷ own_ins xs l
 
+-- the outputs, each with what was given there
 abbrev pub own_outs : List OutView → List (List Tree) → List SeenWire
 own_outs (y ∷ ys) (g ∷ gs) = own_output y g ∷ own_outs ys gs
 own_outs _ _ = []

@@ -37,11 +37,13 @@ pub record PartitionLogic : Type 0 where
   pub over : Bool
   pub taken : ℕ
 
+-- what it knows of its input, by whether that has ended and is asked
 abbrev pub input_of : Bool → Bool → InView
 input_of true w = Finished
 input_of false true = Pulled
 input_of false false = Idle
 
+-- what it knows of its ports
 abbrev pub view_of : PartitionLogic → View
 view_of l = record { ins = input_of l.over l.waits ∷ []; outs = map want_view l.outs }
 
@@ -60,10 +62,12 @@ pub record Sound (l : PartitionLogic) : Type 0 where
   pub holds : Holding l.held l
   pub wants : l.waits ≡ true → (1 ≤ l.asking) ⊎ (l.open_outs < length l.outs)
 
+-- its port state, by whether its ports are open
 abbrev pub port_state_by : Bool → PartitionLogic → View → Type 0
 port_state_by true l v = (v ≡ view_of l) × Sound l
 port_state_by false l v = AllClosed v
 
+-- its port state
 abbrev pub port_state : PartitionLogic → View → Type 0
 port_state l v = port_state_by l.live l v
 
@@ -76,10 +80,12 @@ held_for m to (Some t) = if to == m then t ∷ [] else []
 abbrev pub stage_of : PartitionLogic → ℕ → Stage
 stage_of l m = record { node = l.node; decider = Stop; taken = l.taken; work = numbering l.parts l.fun m }
 
+-- how an output's machine stands, by whether the input has ended
 abbrev pub state_of : Bool → Stage → State Stage
 state_of true s = done
 state_of false s = going s
 
+-- what an output that is open owes, by what is held for it; one that was cancelled owes nothing
 abbrev pub due_of : List Tree → State Stage → OutputState → Held Stage
 due_of g st Quiet = owing (record { gave = g; state = st })
 due_of g st Asks = owing (record { gave = g; state = st })
@@ -122,6 +128,7 @@ pub record Parts (new : PartitionLogic) (acts : List Act) (to : PartitionLogic) 
 abbrev pub pull_by : ℕ → List Act
 pull_by q = if q == 0 then [] else Pull 0 ∷ []
 
+-- whether its input is asked, by how many outputs ask
 abbrev pub waits_by : ℕ → Bool
 waits_by q = if q == 0 then false else true
 
@@ -130,6 +137,7 @@ abbrev pub moved_on : Bool → PartitionLogic → PartitionLogic
 moved_on true l = record l { live = false }
 moved_on false l = record l { waits = waits_by l.asking }
 
+-- its actions then
 abbrev pub moving_acts : Bool → PartitionLogic → List Act
 moving_acts true l = at_open (λ j. Complete j) 0 l.outs
 moving_acts false l = pull_by l.asking
@@ -139,6 +147,7 @@ abbrev pub TookFor : ℕ → PartitionLogic → PartitionLogic → Option Tree �
 TookFor j old new (Some t) = (old.to ≡ j) × (old.held ≡ Some t) × (new ≡ record old { held = None })
 TookFor j old new None = (old.to ≡ j → old.held ≡ None) × (new ≡ old)
 
+-- the stage once output j asks
 abbrev pub with_asks : ℕ → PartitionLogic → PartitionLogic
 with_asks j l = record l { outs = slice_set l.outs j Asks; asking = l.asking + 1 }
 
@@ -152,6 +161,7 @@ pub data AskedOf (j : ℕ) (old new : PartitionLogic) (acts : List Act) : Type 0
   gets : (t : Tree) → old.to ≡ j → old.held ≡ Some t → new ≡ moved_on old.over (record old { held = None }) → acts ≡ Push j t ∷ moving_acts old.over (record old { held = None }) → AskedOf j old new acts
   notes : (old.to ≡ j → old.held ≡ None) → Noted j old new acts → AskedOf j old new acts
 
+-- the stage once output p, which asked, got an element
 abbrev pub with_given : ℕ → PartitionLogic → PartitionLogic
 with_given p l = record l { outs = slice_set l.outs p Quiet; asking = l.asking - 1; waits = waits_by (l.asking - 1) }
 
@@ -161,6 +171,7 @@ pub data Dealt (p : ℕ) (t : Tree) (old new : PartitionLogic) (acts : List Act)
   keeps : slice_index_or old.outs p Gone ≡ Quiet → new ≡ record old { to = p; held = Some t; waits = false } → acts ≡ [] → Dealt p t old new acts
   drops : slice_index_or old.outs p Gone ≡ Gone → new ≡ record old { waits = waits_by old.asking } → acts ≡ pull_by old.asking → Dealt p t old new acts
 
+-- the cause of a failure by this reason, which blames the element that came
 abbrev pub blaming : PartitionLogic → Why → Cause
 blaming l why = record { stage = l.node; nth = l.taken + 1; why = why }
 
@@ -174,6 +185,7 @@ pub data EndedFor (old new : PartitionLogic) (acts : List Act) : Type 0 where
   ends_now : old.held ≡ None → new ≡ record old { live = false } → acts ≡ at_open (λ j. Complete j) 0 old.outs → EndedFor old new acts
   ends_later : old.held ≢ None → new ≡ record old { over = true } → acts ≡ [] → EndedFor old new acts
 
+-- how many outputs ask without one that stood so
 abbrev pub less_by : OutputState → ℕ → ℕ
 less_by Quiet q = q
 less_by Asks q = q - 1

@@ -18,6 +18,7 @@ abbrev RoomBy : Option ℕ → List Tree → Type 0
 RoomBy None p = ⊥
 RoomBy (Some n) p = length p < n
 
+-- a buffer has room for one more element
 abbrev pub HasRoom : Logic → Type 0
 HasRoom l = RoomBy l.size l.pending
 
@@ -28,6 +29,7 @@ gone_by Ended true l = record l { phase = Closed }
 gone_by Ended false l = l
 gone_by (Failed c) none l = l
 
+-- the buffer once an element went out
 abbrev pub gone_on : Logic → Logic
 gone_on l = gone_by l.ending (is_none l.pending) l
 
@@ -38,5 +40,6 @@ go_by Ended true was_full = Complete 0 ∷ []
 go_by Ended false was_full = []
 go_by (Failed c) none was_full = []
 
+-- its actions then
 abbrev pub go_on_acts : Logic → Bool → List Act
 go_on_acts l was_full = go_by l.ending (is_none l.pending) was_full

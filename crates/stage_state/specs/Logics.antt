@@ -52,16 +52,19 @@ abbrev pub TakesNone : StateLogic → Type 0
 TakesNone (Obeying l) = ⊥
 TakesNone _ = ⊤
 
+-- an ask takes no memory
 abbrev pub TakesNoneAsked : StateLogic → Type 0
 TakesNoneAsked (Dropping l) = ⊥
 TakesNoneAsked (Obeying l) = ⊥
 TakesNoneAsked _ = ⊤
 
+-- an end of the input takes no memory
 abbrev pub TakesNoneEnded : StateLogic → Type 0
 TakesNoneEnded (Machine l) = ⊥
 TakesNoneEnded (Obeying l) = ⊥
 TakesNoneEnded _ = ⊤
 
+-- a failure of the input takes no memory
 abbrev pub TakesNoneFailed : StateLogic → Type 0
 TakesNoneFailed (Recovering l) = ⊥
 TakesNoneFailed (Obeying l) = ⊥
@@ -89,6 +92,7 @@ IsStateful kind = machine.IsMachine kind
 abbrev pub IsUnusedEnd : SwitchEnd → Type 0
 IsUnusedEnd e = IsUnused (arc_value e.switch) e.seat
 
+-- a seat at a switch is handed in exactly to a valve and to a trip, and it gave nothing and knows nothing
 abbrev pub IsHandedEnd : Kind → Option SwitchEnd → Type 0
 IsHandedEnd (Valve name) None = ⊥
 IsHandedEnd (Valve name) (Some e) = IsUnusedEnd e

@@ -42,6 +42,7 @@ abbrev last_by : Bool → Logic → Tree → Logic
 last_by true l u = record l { phase = Closed; asked = false }
 last_by false l u = record l { pending = u ∷ []; ending = Ended }
 
+-- its actions then
 abbrev last_acts_by : Bool → Tree → List Act
 last_acts_by true u = Push 0 u ∷ Complete 0 ∷ []
 last_acts_by false u = []
@@ -64,6 +65,7 @@ settled Lasting l = l
 settled Ended l = record l { phase = Closed }
 settled (Failed c) l = record l { phase = Closed }
 
+-- its actions then, by how its input stands: it completes, fails or goes on
 abbrev pub settle_acts : StateEnd → List Act
 settle_acts Lasting = []
 settle_acts Ended = Complete 0 ∷ []

@@ -41,6 +41,7 @@ abbrev pub machine_by : Book → Option ℕ → Work → Machine Stage Tree
 machine_by book None w = linear book w
 machine_by book (Some n) w = buffer n
 
+-- its machine
 abbrev pub machine : Book → Logic → Machine Stage Tree
 machine book l = machine_by book l.size l.stage.work
 
@@ -50,6 +51,7 @@ held_in New e p s = owing (record { gave = p; state = state_by e s })
 held_in Open e p s = owing (record { gave = p; state = state_by e s })
 held_in Closed e p s = shut
 
+-- what it still owes
 abbrev pub held : Logic → Held Stage
 held l = held_in l.phase l.ending l.pending l.stage
 
@@ -95,6 +97,7 @@ abbrev pub port_state_by : Option ℕ → Phase → StateEnd → Bool → List T
 port_state_by None ph e a p w i o = keep_port_state ph e a p w i o
 port_state_by (Some n) ph e a p w i o = buffer_port_state n ph e a p i o
 
+-- what it knows of its one input and its one output
 abbrev pub port_state : Logic → View → Type 0
 port_state l v = OneOne (port_state_by l.size l.phase l.ending l.asked l.pending l.stage.work) v
 
@@ -125,6 +128,7 @@ abbrev pub BeginsAs : Kind → ℕ → Decider → Logic → Type 0
 BeginsAs (Buffer n p) node d new = (new.size ≡ Some n) × (held new ≡ owing (record { gave = []; state = going new.stage }))
 BeginsAs kind node d new = (new.size ≡ None) × ((work_of kind ≡ Some new.stage.work) × (held new ≡ owing (begin_work node d new.stage.work)))
 
+-- a new stage of this kind: it was not started, owes what its kind's machine gives from the start, and knows that nobody asked
 pub record Begins (node : ℕ) (kind : Kind) (d : Decider) (new : Logic) : Type 0 where
   pub phase : new.phase ≡ New
   pub owes : BeginsAs kind node d new

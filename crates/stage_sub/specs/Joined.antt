@@ -7,9 +7,11 @@ use Rattle.stream_model.specs.Machine.{Run, Finish, adds, refuses, Machine, Give
 use Rattle.stream_model.specs.FanIn.{Tagged}
 use Rattle.stream_model.specs.Substreams.{Opening, Subs, substreams}
 
+-- what a run gave without the numbers of substreams, and its state
 abbrev pub untag : Run Subs Tagged → Run Subs Tree
 untag x = record { gave = untagged x.gave; state = x.state }
 
+-- what an end adds without the numbers of substreams, or why it fails
 abbrev pub untag_finish : Finish Tagged → Finish Tree
 untag_finish (adds l) = adds (untagged l)
 untag_finish (refuses c) = refuses c

@@ -69,6 +69,7 @@ port_state_in Open true false p Finished Unpulled = 0 < length p
 port_state_in Closed over asked p i o = BothClosed i o
 port_state_in _ _ _ _ _ _ = ⊥
 
+-- what it knows of its one input and its one output
 abbrev pub port_state : {C : Type 0} → Logic C → View → Type 0
 port_state l v = OneOne (port_state_in l.phase l.over l.asked l.pending) v
 
@@ -83,6 +84,7 @@ module _ {C : Type 0} (rest : C → ListFunction) (is_open : C → Bool) (f : Li
   StateIs false l st = (s : Subs) × ((st ≡ going s) × ((s.node ≡ l.node) × ((s.taken ≡ l.taken) × Keeps rest is_open f yields l.how l.kept s.subs)))
   StateIs true l st = st ≡ done
 
+  -- what it still owes, by where it stands: the outputs that it holds, and what its machine's state says; or it is closed
   abbrev pub OwesIn : Phase → Logic C → Held Subs → Type 0
   OwesIn New l (owing x) = (x.gave ≡ untagged l.pending) × StateIs l.over l x.state
   OwesIn Open l (owing x) = (x.gave ≡ untagged l.pending) × StateIs l.over l x.state
@@ -125,6 +127,7 @@ abbrev pub first_out : {C : Type 0} → Logic C → List Tagged → Logic C
 first_out l [] = l
 first_out l (o ∷ os) = record l { pending = os; asked = false }
 
+-- its actions then
 abbrev pub first_acts : List Tagged → List Act
 first_acts [] = Pull 0 ∷ []
 first_acts (o ∷ os) = Push 0 o.item ∷ []
@@ -134,6 +137,7 @@ abbrev pub answered : {C : Type 0} → Logic C → ℕ → Option Blame → Logi
 answered l n None = record (first_out l l.pending) { taken = n }
 answered l n (Some b) = record l { phase = Closed }
 
+-- its actions then: an output or an ask; or it fails, and cancels its input
 abbrev pub answer_acts : {C : Type 0} → Logic C → ℕ → Option Blame → List Act
 answer_acts l n None = first_acts l.pending
 answer_acts l n (Some b) = FailOut 0 (cause_of_blame l.node n b) ∷ Cancel 0 ∷ []
@@ -149,15 +153,18 @@ emptied true l [] = record l { phase = Closed; pending = [] }
 emptied true l (o ∷ os) = record l { pending = o ∷ os }
 emptied false l os = record l { pending = os }
 
+-- its actions then: it completes where its input has ended and nothing is left
 abbrev pub emptied_acts : Bool → List Tagged → List Act
 emptied_acts true [] = Complete 0 ∷ []
 emptied_acts true (o ∷ os) = []
 emptied_acts false os = []
 
+-- the stage once the output was asked: the first of what it holds goes out, or it waits for its input
 abbrev pub pulled : {C : Type 0} → Logic C → List Tagged → Logic C
 pulled l [] = record l { asked = true }
 pulled l (o ∷ os) = emptied l.over l os
 
+-- its actions then
 abbrev pub pulled_acts : Bool → List Tagged → List Act
 pulled_acts over [] = Pull 0 ∷ []
 pulled_acts over (o ∷ os) = Push 0 o.item ∷ emptied_acts over os
@@ -168,23 +175,28 @@ sealed asked l [] = record l { phase = Closed }
 sealed false l (o ∷ os) = record l { over = true }
 sealed true l (o ∷ os) = record (emptied true l os) { over = true; asked = false }
 
+-- its actions then
 abbrev pub sealed_acts : Bool → List Tagged → List Act
 sealed_acts asked [] = Complete 0 ∷ []
 sealed_acts false (o ∷ os) = []
 sealed_acts true (o ∷ os) = Push 0 o.item ∷ emptied_acts true os
 
+-- the output that went out then, if one did
 abbrev pub sealed_gave : Bool → List Tagged → Option Tagged
 sealed_gave false p = None
 sealed_gave true p = first_output p
 
+-- the stage once the end of its input came to this: what is held and what arose goes out, or it fails
 abbrev pub finished : {C : Type 0} → Logic C → Option Blame → Logic C
 finished l None = sealed l.asked l l.pending
 finished l (Some b) = record l { phase = Closed }
 
+-- its actions then
 abbrev pub finish_acts : {C : Type 0} → Logic C → Option Blame → List Act
 finish_acts l None = sealed_acts l.asked l.pending
 finish_acts l (Some b) = FailOut 0 (cause_of_blame l.node 0 b) ∷ []
 
+-- the output that went out then, if one did
 abbrev pub finish_gave : {C : Type 0} → Logic C → Option Blame → Option Tagged
 finish_gave l None = sealed_gave l.asked l.pending
 finish_gave l (Some b) = None

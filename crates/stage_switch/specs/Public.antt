@@ -17,9 +17,11 @@ pub record SeatState : Type 0 where
   pub knows : Option Order
   pub looks : ℕ
 
+-- a seat is of this switch
 abbrev pub IsSeatOf : SwitchState → SeatState → Type 0
 IsSeatOf s t = t.switch ≡ s
 
+-- a seat of this switch that gave nothing, knows nothing and never looked
 abbrev pub IsNewSeat : SwitchState → SeatState → Type 0
 IsNewSeat s t = t ≡ record { switch = s; gave = None; knows = None; looks = 0 }
 

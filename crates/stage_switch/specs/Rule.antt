@@ -8,6 +8,8 @@ use Rattle.stage_switch.specs.declared.order.Order.{Order}
 use Rattle.stage_switch.specs.declared.order.Order.TheVariants.{Shutdown, Abort}
 use Rattle.stage_switch.specs.declared.known.Known.{Known}
 
+-- what a seat holds and knows: its part of all seats, their number, the orders that it gave and those that it knows, and how often it
+-- looked
 abbrev pub known : ℕ → ℕ → List Order → List Order → ℕ → Known
 known parts all gave knows looks = record { parts = parts; all = all; gave = gave; knows = knows; looks = looks }
 
@@ -50,6 +52,7 @@ pub record OneOrder (seats : ℕ) (s : State (Unit {0}) Known) : Type 0 where
   pub each : (id : ℕ) (v : Known) → get_elem? s.views id ≡ some v → SeatKeeps seats (slice_index s.words 0) v
   pub parts : total (λ (v : Known). v.parts) s.views ≡ seats
 
+-- a seat of a switch's table, as a step sees it
 abbrev pub Sat : Type 0
 Sat = Me (Unit {0}) Known
 

@@ -88,12 +88,13 @@ pub record IsValve (switch : SwitchState) (seat : SeatState) (moves : List ℕ) 
   pub knows : seat.knows ≡ order_by (acted moves)
   pub formed : moves ≡ moves_by (acted moves)
 
--- what it owes, and what it did
+-- what a valve owes, and what it did, by where it stands
 abbrev pub valve_held_in : Phase → ℕ → List ℕ → ValveHeld
 valve_held_in New n moves = valve.passes n
 valve_held_in Open n moves = valve.passes n
 valve_held_in Closed n moves = valve.shut (acted moves)
 
+-- what a valve owes, and what it did
 abbrev pub valve_held : Valve → ValveHeld
 valve_held l = valve_held_in l.phase l.passed l.moves
 
@@ -107,6 +108,7 @@ abbrev pub stop_act : ℕ → Order → Act
 stop_act node Shutdown = Complete 0
 stop_act node Abort = FailOut 0 (abort_of node)
 
+-- its actions at an order: at its output, and at its input where that is open
 abbrev pub stop_acts : ℕ → Order → Bool → List Act
 stop_acts node o true = stop_act node o ∷ Cancel 0 ∷ []
 stop_acts node o false = stop_act node o ∷ []
@@ -140,9 +142,11 @@ pub record Trip : Type 0 where
 abbrev pub new_trip_of : ℕ → Order → ℕ → SwitchState → SeatState → Trip
 new_trip_of node order count switch seat = record { phase = New; node = node; taken = 0; order = order; count = count; switch = switch; seat = seat }
 
+-- what a trip knows of its ports
 abbrev pub trip_port_state : Trip → View → Type 0
 trip_port_state l v = OneOne (passing_port_state l.phase) v
 
+-- what a trip owes, by where it stands: nothing, and what its machine gives from here on; or it is closed
 abbrev pub trip_held_in : Phase → Stage → Held Stage
 trip_held_in New s = owing (record { gave = []; state = going s })
 trip_held_in Open s = owing (record { gave = []; state = going s })

@@ -82,6 +82,7 @@ after_reduced Stop a = None
 after_reduced Resume a = Some a
 after_reduced Restart a = None
 
+-- the next value of a reduction; or why there is none, and the value that it goes on from
 abbrev pub NextReducedBy : Decider → ReduceOp → Tree → Tree → Option Tree → Option Why → Type 0
 NextReducedBy d r a t new None = (next : Tree) × ((reduce_step r a t ≡ Ok next) × (new ≡ Some next))
 NextReducedBy d r a t new (Some why) = (reduce_step r a t ≡ Err why) × (new ≡ after_reduced d a)

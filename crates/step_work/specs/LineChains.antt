@@ -34,6 +34,7 @@ added_by g l unended = Ok []
 added_by g l ended = Ok (drop (length g) l)
 added_by g l (failed c) = Err c.why
 
+-- what the end added to this list, or why it failed
 abbrev pub given_with : List Tree → Given Tree → Result (List Tree) Why
 given_with g x = added_by g x.list x.end
 
@@ -51,6 +52,7 @@ module _ (book : Book) where
   chain_outs [] l = l
   chain_outs (s ∷ ss) l = chain_outs ss (run each s l).gave
 
+  -- where the stages of a chain stand once the first of them took this list
   abbrev pub after : Chain → List Tree → Chain
   after [] l = []
   after (s ∷ ss) l = emptied (run each s l) ∷ after ss (run each s l).gave

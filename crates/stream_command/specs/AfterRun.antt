@@ -22,6 +22,7 @@ of_outcome o = record { status = o.status; sinks = o.sinks.items; wires = o.pict
 abbrev pub told_end : List Node → SinkStand → SinkEnd
 told_end nodes s = record { name = node_name (slice_get nodes s.0); count = s.1; end = s.2 }
 
+-- what is told of sinks that stand so
 abbrev pub told_ends : List Node → List SinkStand → List SinkEnd
 told_ends nodes stands = map (told_end nodes) stands
 
@@ -30,16 +31,19 @@ abbrev pub is_ended : EndState → Bool
 is_ended state.Ended = true
 is_ended _ = false
 
--- every sink ended; some sink failed, goes on, or stands at a failed write
+-- every sink ended
 abbrev pub all_ended : List SinkEnd → Bool
 all_ended sinks = list_all (λ s. is_ended s.end) sinks
 
+-- some sink failed
 abbrev pub some_failed : List SinkEnd → Bool
 some_failed sinks = list_any (λ s. is_failed s.end) sinks
 
+-- some sink goes on
 abbrev pub some_unended : List SinkEnd → Bool
 some_unended sinks = list_any (λ s. is_unended s.end) sinks
 
+-- some sink stands at a failed write
 abbrev pub some_fault : List SinkEnd → Bool
 some_fault sinks = list_any (λ s. is_write_fault s.end) sinks
 

@@ -15,5 +15,6 @@ pub record Plugged : Type 0 where
   pub heads : List PlugHead
   pub book : Book
 
+-- what is known of these plugs, with the book of what they give
 abbrev pub plugged_by : {L : Type 0} → Book → List (Plug L) → Plugged
 plugged_by {L} book plugs = record { heads = map (λ (p : Plug L). p.head) plugs; book = book }

@@ -16,6 +16,7 @@ abbrev pub ReceiptsBy : Option ℕ → Status → Answer → ℕ → Option Ran 
 ReceiptsBy (Some n) status.WriteFault a workers ran = ((ran ≡ None) × Blank a) ⊎ Receipts status.WriteFault workers a.used ran
 ReceiptsBy _ s a workers ran = Receipts s workers a.used ran
 
+-- the receipt by the answer, where files may be generated before the run
 abbrev pub ReceiptsFor : Option ℕ → Answer → ℕ → Option Ran → Type 0
 ReceiptsFor generated a workers ran = ReceiptsBy generated a.status a workers ran
 
@@ -36,6 +37,7 @@ abbrev pub IslandsFor : Plugged → Option ℕ → List ℕ → Option (List ℕ
 IslandsFor p None file trace ran old new = IsTrue old.tells → RanFile p old file trace ran
 IslandsFor p (Some n) file trace ran old new = (ran ≡ None) ⊎ RanGenerated p n file trace ran old new
 
+-- the islands that were run are those of the blueprint that the words ask for; words that are no command run none
 abbrev pub IslandsOf : Plugged → Option Asked → Option Ran → FolderState → FolderState → Type 0
 IslandsOf p None ran old new = ran ≡ None
 IslandsOf p (Some c) ran old new = IslandsFor p c.generated c.file c.trace ran old new

@@ -29,6 +29,7 @@ NotSaid (status.Refused f) a text old new = RanNothing old new a × (language.te
 NotSaid status.NoMemory a text old new = RanNothing old new a
 NotSaid _ a text old new = ⊥
 
+-- what a call comes to by its text: the text says no blueprint, or memory was wanting, or the blueprint that it says was checked and run
 abbrev pub EndedText : Plugged → Status → Answer → List ℕ → List (List ℕ) → Option (List ℕ) → ℕ → FolderState → FolderState → Type 0
 EndedText p s a text taken trace turns old new = NotSaid s a text old new ⊎ ((b : Blueprint) × (language.Says text (plain b) × EndedParsed p s a b taken trace turns old new))
 

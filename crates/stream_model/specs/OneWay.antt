@@ -86,5 +86,6 @@ one_way_by g w node (partitions n f) d = None
 one_way_by g w node unzips d = None
 one_way_by g w node (sinks file keeps) d = None
 
+-- what a node of this kind gives as numbers, where it is a stage with one input and one output and no buffer; none of a sink
 abbrev pub one_way : Graph → World → ℕ → Kind → Decider → Option OneWay
 one_way g w node k d = one_way_by g w node (role_of k) d

@@ -76,6 +76,7 @@ CopiesSome i outs = EachWire (λ o. IsShut o ⊎ ((o.sent ≤ i.sent) × (IsLane
 
 -- ---- the rows. Where a row has several parts, one of them holds
 
+-- a fact of the one input and the one output of a node that has just these
 abbrev pub OneToOne : (SeenWire → SeenWire → Type 0) → List SeenWire → List SeenWire → Type 0
 OneToOne P (i ∷ []) (o ∷ []) = P i o
 OneToOne P _ _ = ⊥

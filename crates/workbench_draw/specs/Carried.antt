@@ -13,11 +13,12 @@ abbrev pub source_count : List Node → ℕ
 source_count [] = 0
 source_count (n ∷ ns) = (if inputs_of n.kind == 0 then 1 else 0) + source_count ns
 
--- the first count, and those behind it
+-- the first count; 0 where there is none
 abbrev pub next_count : List ℕ → ℕ
 next_count [] = 0
 next_count (c ∷ cs) = c
 
+-- the counts behind the first
 abbrev pub later_counts : List ℕ → List ℕ
 later_counts [] = []
 later_counts (c ∷ cs) = cs

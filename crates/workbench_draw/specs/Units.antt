@@ -8,6 +8,7 @@ abbrev pub units_on : Option Edge → ℕ → ℕ
 units_on None n = 0
 units_on (Some w) n = units_of w.lane n
 
+-- the units for wire i where it carries as many elements as f says; none where there is no such wire
 abbrev pub units_at : List Edge → (ℕ → ℕ) → ℕ → ℕ
 units_at ws f i = units_on (slice_get ws i) (f i)
 

@@ -22,6 +22,7 @@ pub record AnswersFile (t : Task) (old : FolderState) (a : Answer) : Type 0 wher
 abbrev pub missing_text : List ℕ → List ℕ
 missing_text file = codes "the blueprint's file " ++ (file ++ codes " is not there, or was refused\n")
 
+-- the answer is that the file is not there: nothing is said, and its name is told
 pub record IsMissing (file : List ℕ) (a : Answer) : Type 0 where
   pub ending : a.ending ≡ ending.Missing
   pub said : a.said.items ≡ []

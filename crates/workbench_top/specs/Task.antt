@@ -53,6 +53,7 @@ allows _ rest = is_nothing rest
 abbrev pub is_rest : TaskKind → List ℕ → List (List ℕ) → Bool
 is_rest work file rest = is_file_name file && allows work rest && are_numbers rest
 
+-- the file is the name of one, and the words behind it are what this work wants
 abbrev pub is_rest_of : Option TaskKind → List ℕ → List (List ℕ) → Bool
 is_rest_of None file rest = false
 is_rest_of (Some work) file rest = is_rest work file rest
@@ -67,6 +68,7 @@ abbrev pub task_words : List (List ℕ) → Task → Type 0
 task_words (file ∷ rest) t = (t.file ≡ file) × (map (λ n. Ok n) t.counts.items ≡ map (read_count 64) rest)
 task_words _ t = ⊥
 
+-- the words ask for this task
 abbrev pub asks_for : List (List ℕ) → Task → Type 0
 asks_for [] t = ⊥
 asks_for (name ∷ ws) t = (task_named name ≡ Some t.work) × task_words ws t

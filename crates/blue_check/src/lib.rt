@@ -3,6 +3,13 @@
 //! - `classes`, `closed`, `components`, `depth`, `forest`, `marks`, `ranks`: Walks along wires: the first wire on a closed one, and whether any is closed when directions are ignored.
 //! - `check`, `checked`, `detail`, `fault`, `judge`, `picks`, `rules`: Whether a blueprint can be run: the first rule that it breaks, or the blueprint as one that was checked.
 //! - `fill`, `homes`, `island_labels`, `islands`, `lanes`, `plan`: Which nodes of a blueprint run together: its islands, and the lanes that join them.
+//!
+//! # The islands of a blueprint
+//!
+//! `fused_links` leaves the lanes out, and `labels_of` runs the labels of nodes that `is_polytree` uses over what is left, here also past
+//! wires whose ends have one label already (`AreLabels`). `homes_of` goes along the nodes once: a label that was not met before gets the
+//! next number, so that islands are numbered by their least node (`AreNumbered`). One pass over the nodes and one over the wires fill the
+//! lists of islands, and another lists the lanes. No pass searches, so the time is that of the labels, n log n.
 #![tactic(auto)]
 
 pub mod check;

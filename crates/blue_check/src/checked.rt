@@ -8,6 +8,7 @@ ghost use Rattle.blue_check.specs.Wires.{blueprint_wires};
 
 use stream_model::blueprint::Blueprint;
 
+// Choice: docs/DECISIONS.md#tests-are-kept
 /// A blueprint that can be run: it breaks no rule. No wire of it lies on a closed walk.
 #[derive(Drop)]
 pub struct Checked {

@@ -100,6 +100,7 @@ fn join(
     Ok(())
 }
 
+// Choice: docs/DECISIONS.md#lists-by-label
 /// Makes two labels one. Only the nodes of the one that has fewer get another label: so none gets one more often than there are
 /// doublings from 1 to the number of nodes.
 pub fn unite(

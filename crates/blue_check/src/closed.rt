@@ -46,6 +46,7 @@ fn leads_back(
     Ok(is_marked(&marks, from))
 }
 
+// Choice: docs/DECISIONS.md#walks-are-tested
 /// The first wire on a closed walk.
 pub fn first_closed(
     alloc: Global,

@@ -96,6 +96,7 @@ fn put_clash(bytes: &mut Vec<u8>, wire: u32, left: &ElemType, want: &Want) -> Re
     put_want(bytes, want)
 }
 
+// Choice: docs/DECISIONS.md#detail-comes-first
 /// Appends what a report says of a fault beside its number.
 pub fn put_detail(bytes: &mut Vec<u8>, fault: &CheckFault) -> Result<(), NoMemory>
     ensures { OnOk result (bytes.new.items ≡ bytes.old.items ++ detail_text fault.now) }

@@ -29,6 +29,7 @@ fn plan_of(alloc: Global, count: usize, links: &[NumberedWire]) -> Result<Plan, 
     Ok(Plan { islands, lanes })
 }
 
+// Choice: docs/DECISIONS.md#islands-without-condition
 /// The islands of a checked blueprint, numbered by their least node, and its lanes. It takes time n log n for n nodes and wires.
 /// A number that is out of 32 bits is want of memory.
 pub fn islands(alloc: Global, c: &Checked) -> Result<Plan, NoMemory>

@@ -33,6 +33,7 @@ fn put_lane(
     }
 }
 
+// Choice: docs/DECISIONS.md#lanes-in-the-plan
 /// The wires that have a lane.
 pub fn lanes_of(
     alloc: Global,

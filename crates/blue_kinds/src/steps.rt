@@ -12,6 +12,7 @@ use elem_core::why::NoMemory;
 use std::alloc::Global;
 use stream_model::blueprint::Step;
 
+// Choices: docs/DECISIONS.md#limits-last, docs/DECISIONS.md#steps-are-bounded
 /// The steps of a chain that the words say, parted by `|`, up to their end.
 pub fn read_steps(alloc: Global, words: &mut Words) -> Result<PlaceValue<Vec<Step>>, FormEnd>
     ensures { ReadsAs (λ v. v.items) result (read_chain words.old) words.new }

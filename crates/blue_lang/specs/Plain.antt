@@ -27,6 +27,7 @@ pub record PlainBlueprint : Type 0 where
   pub wires : List WireDecl
 
 -- the plain value of a blueprint
+-- Choice: docs/DECISIONS.md#blueprints-by-lists
 abbrev pub plain : Blueprint → PlainBlueprint
 plain b =
     record { switches = b.switches.items; chains = map plain_chain b.chains.items; nodes = b.nodes.items; wires = b.wires.items }

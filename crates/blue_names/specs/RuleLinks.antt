@@ -19,5 +19,6 @@ abbrev pub wire_of : List Node → WireDecl → Edge
 wire_of nodes w = record { from = node_number w.from nodes; output = w.output; to = node_number w.to nodes; input = w.input; lane = w.lane }
 
 -- the wires by the numbers of their nodes
+-- Choice: docs/DECISIONS.md#names-before-numbers
 abbrev pub wires_of : List Node → List WireDecl → List Edge
 wires_of nodes ws = map (wire_of nodes) ws

@@ -161,6 +161,7 @@ fn unknown_plug_in<'a>(plugs: &NameTable<'_>, nodes: &'a [Node]) -> Option<&'a L
     None
 }
 
+// Choice: docs/DECISIONS.md#plugs-of-steps
 /// The first plug that a step of a chain or a node names and that is not handed in: chains come before nodes.
 pub fn unknown_plug<'a>(
     alloc: Global,

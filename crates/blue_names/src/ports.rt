@@ -131,6 +131,7 @@ fn uses_again(targets: &PortTable, sources: &PortTable, i: usize, link: &Numbere
         || !is_port_number(i, wire_at(targets, link.to, link.input))
 }
 
+// Choice: docs/DECISIONS.md#port-used-twice
 /// The first wire that uses a port that an earlier wire uses.
 pub fn port_twice(targets: &PortTable, sources: &PortTable, links: &[NumberedWire]) -> Option<usize>
     requires targets { FindsWires targets.now (wires_of_links links.now) }

@@ -1,3 +1,4 @@
+// Choice: docs/DECISIONS.md#places-of-32-bits
 /// The place of a size that is out of its limits: a node, a wire or a chain, by its number.
 #[derive(Clone, Copy)]
 pub enum Spot {

@@ -157,6 +157,7 @@ fn first_deep(
     Ok(None)
 }
 
+// Choice: docs/DECISIONS.md#fans-clash
 /// The first wire on which a type arrives that its input does not accept.
 pub fn type_clash(
     alloc: Global,

@@ -89,6 +89,7 @@ fn put_one(alloc: Global, types: &mut [Option<ElemType>], fixed: &Fixed) -> Resu
     Ok(true)
 }
 
+// Choice: docs/DECISIONS.md#targets-once
 /// Adds the nodes to which the wires out of a node lead.
 fn add_targets(
     links: &[NumberedWire],

@@ -39,6 +39,7 @@ fn all_below(alloc: Global, count: usize) -> Result<Vec<usize>, NoMemory>
     Ok(all)
 }
 
+// Choice: docs/DECISIONS.md#types-of-nodes
 /// The types of the nodes, once a round fixes nothing. A round looks only at the nodes to which wires lead from those that the
 /// round before it fixed.
 pub fn settle_types(

@@ -181,6 +181,7 @@ pub fn fixed_type(
     }
 }
 
+// Choice: docs/DECISIONS.md#steps-of-no-stage
 /// What comes of a type at a stage by its own function.
 fn step_typed(
     alloc: Global,

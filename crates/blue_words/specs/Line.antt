@@ -17,5 +17,6 @@ is_comment [] = false
 is_comment (b ∷ bs) = if b == 32 then is_comment bs else b == 35
 
 -- the line says nothing: it is a comment, or has no word
+-- Choice: docs/DECISIONS.md#lines-without-words
 abbrev pub is_passed_over : List ℕ → Bool
 is_passed_over bs = is_comment bs || not (list_any is_ascii_graphic bs)

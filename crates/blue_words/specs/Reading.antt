@@ -1,4 +1,5 @@
 -- What is read of the words of a line: by cases on the words, from left to right.
+-- Choice: docs/DECISIONS.md#form-before-places
 use Rattle.std.specs.Prelude.{◌≡◌, ℕ, ℤ, Bool, false, if◌then◌else◌, List, [], ◌∷◌, Option, Some, None, Result, Ok, Err}
 use Rattle.std.specs.Str.{bytes_eq}
 use Rattle.blue_words.specs.declared.fault.BlueKind.{BlueKind}

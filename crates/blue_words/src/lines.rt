@@ -8,6 +8,7 @@ ghost use Rattle.blue_words.specs.Line.{is_comment, is_passed_over, is_plain, is
 
 use memchr::memchr;
 
+// Choice: docs/DECISIONS.md#longest-line
 /// The first line, without its LF, and what stands behind it. A last line without LF counts.
 pub fn next_line(text: &[u8]) -> Option<(&[u8], &[u8])>
     ensures split { MatchOption result (lines text.now ≡ []) (λ r. lines text.now ≡ r.0.now ∷ lines r.1.now) }

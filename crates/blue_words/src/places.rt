@@ -1,4 +1,5 @@
 // The places of a line: the words that are numbers, names and files.
+// Choice: docs/DECISIONS.md#left-to-right
 ghost use Rattle.std.specs.Prelude.{◌≡◌, ◌≤◌, ◌^◌, length, IsTrue, IfOk, pos, neg_ℤ, Ok, Err};
 ghost use Rattle.elem_core.specs.Line.{has_no_lf};
 ghost use Rattle.blue_words.specs.Reading.{both};

@@ -13,6 +13,7 @@ ghost use Rattle.lane_core.specs.Boundary.{given, BoundaryKeeps};
 ghost use Rattle.run_laws.specs.Ends.{InKeeps, Met};
 ghost use Rattle.bodies_run.specs.Ends.{out_end, in_end};
 
+// Choice: docs/DECISIONS.md#lanes-are-told-plainly
 /// What is known of the lists and the numbers of a lane's two ends that were brought together is what an account wants of them.
 pub fn ends_that_met_are_known()
     ensures { (o : LaneOut) (i : LaneIn) → IsLaneHistory o i → Met (in_size i) (out_end o) (in_end i) }

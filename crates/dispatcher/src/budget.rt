@@ -12,6 +12,7 @@ use std::cmp::min;
 /// What one claim asks for, in units.
 pub const MOST: u64 = 1000;
 
+// Choice: docs/DECISIONS.md#budget-is-a-table
 /// A number of units that many seats draw on at once, each by single atomic steps.
 #[derive(Drop)]
 pub struct Budget {

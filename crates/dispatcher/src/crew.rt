@@ -96,6 +96,7 @@ fn serve<B: Waking, R: Wait>(
 }
 
 // One worker. It leaves where no island is on the list and no worker is busy, so that none will be, and where memory was wanting.
+// Choice: docs/DECISIONS.md#idle-turns-wake-none
 fn work<B: Waking, R: Wait>(
     rt: &R,
     alloc: Global,
@@ -131,6 +132,7 @@ fn work<B: Waking, R: Wait>(
     }
 }
 
+// Choice: docs/DECISIONS.md#threads-are-not-refused
 /// A worker for each seat, each on a thread of its own where one can be made; one is on the caller's thread.
 pub fn work_all<B: Waking + Send, R: Threads + Wait + Sync>(
     rt: &R,

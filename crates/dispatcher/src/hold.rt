@@ -4,6 +4,7 @@ ghost use Rattle.std.specs.Borrow.{ftrue};
 
 use std::marker::Model;
 
+// Choice: docs/DECISIONS.md#words-are-kept
 /// What a seat holds, and what it found. No value of it is made.
 pub struct Hold {
     /// Its parts of all seats: 1, until seats are gathered.

@@ -6,6 +6,7 @@ ghost use Rattle.atomic_table.specs.Seated.{TableId, table_id_coded};
 use std::marker::Model;
 use std::snapshot::Snapshot;
 
+// Choice: docs/DECISIONS.md#origin-is-ghost
 /// The body as it was handed in, and the budget of its seat. No value of it is made.
 pub struct PlaceOrigin<B> {
     /// The body as it was handed in.

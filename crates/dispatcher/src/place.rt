@@ -14,6 +14,7 @@ use std::alloc::Global;
 use std::marker::Model;
 use std::snapshot::Snapshot;
 
+// Choice: docs/DECISIONS.md#no-body-is-lost
 /// A body with its seat of the budget, and the units that its turns used. Where memory was wanting in one it is broken, and takes no
 /// turn any more.
 #[derive(Drop)]

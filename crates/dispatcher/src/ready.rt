@@ -47,6 +47,7 @@ use std::sync::atomic::{AtomicU64, Ordering};
 use std::sync::{Condvar, Wait};
 use std::time::Duration;
 
+// Choice: docs/DECISIONS.md#ready-list-is-plain
 /// The islands that are ready, of so many, and what the workers tell each other.
 #[derive(Drop)]
 pub struct ReadyList {
@@ -119,6 +120,7 @@ impl ReadyList {
         }
     }
 
+    // Choice: docs/DECISIONS.md#who-is-rung-for
     /// The same where an island is on the list: a worker calls this before a turn that may last.
     pub fn call_for_more(&self) {
         if !self.queue.is_empty() {
@@ -147,6 +149,7 @@ impl ReadyList {
         self.naps.load(Ordering::SeqCst)
     }
 
+    // Choice: docs/DECISIONS.md#slow-turns-are-learnt
     /// Whether a turn lasted longer than a nap that began behind so many naps. It did not where nobody watched.
     pub fn lasted(&self, naps: u64) -> bool {
         self.naps().saturating_sub(naps) > 1
@@ -157,6 +160,7 @@ impl ReadyList {
         self.busy.fetch_add(1, Ordering::SeqCst);
     }
 
+    // Choice: docs/DECISIONS.md#when-workers-leave
     /// The worker that calls this is busy no longer. True where another one is; where none is, those that sleep are woken.
     pub fn rest(&self) -> bool {
         let others = self.busy.fetch_sub(1, Ordering::SeqCst) > 1;
@@ -269,6 +273,7 @@ impl ReadyList {
     }
 
     // Sleeps until another worker wakes it, and no longer than SLEEP.
+    // Choice: docs/DECISIONS.md#workers-sleep
     fn sleep<R: Wait>(&self, rt: &R) {
         self.asleep.fetch_add(1, Ordering::SeqCst);
         let rings = self.bell.notifications();

@@ -82,10 +82,12 @@ fn take_turns<B: Waking + Send, R: Threads + Wait + Sync>(
 }
 
 // The greatest number of bodies of a run.
+// Choice: docs/DECISIONS.md#bodies-without-bound
 const MOST_BODIES: usize = 4294967294;
 
 // The workers' part of a run, by no more of them than there are bodies. There is none where one worker runs, or one body at most: nobody
 // takes a turn beside another then, and the caller's thread needs no table for it. Where memory was wanting at first no turn was taken.
+// Choice: docs/DECISIONS.md#workers-by-islands
 fn run_workers<B: Waking + Send, R: Threads + Wait + Sync>(
     rt: &R,
     alloc: Global,
@@ -131,6 +133,7 @@ fn run_workers<B: Waking + Send, R: Threads + Wait + Sync>(
     }
 }
 
+// Choice: docs/DECISIONS.md#one-worker
 /// Runs bodies by workers until none has an event or `budget` units are used: each worker takes a body that is ready, and gives it a
 /// turn of at most 1000 units, until none is ready and none can become so; there are no more workers than bodies. What is left the
 /// caller's thread does, in rounds, and it does all of it where there is one worker or one body at most. Where no thread can be made

@@ -21,6 +21,7 @@ const READY: u64 = 1;
 // The bit of a place whose turn has begun.
 const RUNNING: u64 = 2;
 
+// Choice: docs/DECISIONS.md#atomic-tables
 /// Values that take turns. At every moment a value is in its slot, or its turn has begun on one seat. Each place has a word:
 /// READY (1) where it is wanted, RUNNING (2) where its turn has begun.
 #[derive(Drop)]
@@ -37,6 +38,7 @@ pub struct TurnSeat {
     badge: Badge<Hold>,
 }
 
+// Choice: docs/DECISIONS.md#any-values
 /// A value whose turn has begun.
 #[derive(Drop)]
 pub struct Turn<T> {
@@ -148,6 +150,7 @@ impl<T: Kept> Turns<T> {
         all
     }
 
+    // Choice: docs/DECISIONS.md#wakes-count-turns
     /// Marks a place as wanted: an or of READY. True exactly where the word was 0, so that the caller puts the place on its
     /// list. One step; it waits for nobody.
     pub fn wake(&self, seat: &mut TurnSeat, id: u32) -> bool
@@ -166,6 +169,7 @@ impl<T: Kept> Turns<T> {
         found == 0
     }
 
+    // Choice: docs/DECISIONS.md#one-load-more
     /// Begins the turn of a place that is wanted and whose turn has not begun: an exchange of READY to RUNNING, by which the seat
     /// alone has the value. Or else the word that was found, which is another one. It waits for nobody.
     pub fn begin(&self, seat: &mut TurnSeat, id: u32) -> Result<Turn<T>, u64>

@@ -52,6 +52,7 @@ pub record NetGoesOn {N : Type 0} (old new : Net N) : Type 0 where
   pub wires : length new.wires ≡ length old.wires
 
 -- a node whose one port is the input of wire w is as it was, where that wire brought it nothing since
+-- Choice: docs/DECISIONS.md#nodes-that-hear-one-wire
 abbrev pub NodeStays : {N : Type 0} → Net N → Net N → ℕ → Type 0
 NodeStays old new w = (k : ℕ) → (ports_at old k).ins ≡ w ∷ [] → (ports_at old k).outs ≡ [] → (wire_at new w).wire.got ≡ (wire_at old w).wire.got → slice_get new.nodes k ≡ slice_get old.nodes k
 
@@ -95,6 +96,7 @@ module _ {N : Type 0} (port_state : N → View → Type 0) (law : N → N → Vi
 module _ {N : Type 0} (port_state : N → View → Type 0) (law : N → N → View → List (List Item) → List (List Item) → Type 0) (asking : N → View → Type 0) (moves : N → List ℕ) where
   -- The last ask of wire w that took effect: an earlier moment from which the graph went on, and at which the node at the
   -- wire's input had pulled. It waited there, its port state and its law held, and so did what it tells whenever it has just pulled.
+  -- Choice: docs/DECISIONS.md#last-asks
   pub record LastAsk (net : Net N) (w : ℕ) : Type 0 where
     pub old : Net N
     pub on : NetGoesOn old net
@@ -116,6 +118,7 @@ module _ {N : Type 0} (port_state : N → View → Type 0) (law : N → N → Vi
   -- The last ask of node n at any of its inputs: an earlier moment from which the graph went on, and at which the node had just
   -- pulled at one of them. It waits there, and its port state and its law held. None of its inputs was pulled since, and at that
   -- moment each wire had a last ask of its own.
+  -- Choice: docs/DECISIONS.md#last-asks-of-nodes
   pub record NodeAsked (net : Net N) (n : ℕ) : Type 0 where
     pub old : Net N
     pub on : NetGoesOn old net

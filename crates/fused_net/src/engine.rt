@@ -282,6 +282,7 @@ impl<S: Stage> Engine<S> {
 
     // Node n does what it wants done once an element came, which mostly is to push one. The answer says whether it is passive: one
     // with an action is not.
+    // Choice: docs/DECISIONS.md#commonest-action-first
     #[inline(always)]
     fn perform_after_push(&mut self, n: usize, acts: &mut Acts) -> bool
         requires within { n < length self.old.nodes }
@@ -531,6 +532,7 @@ impl<S: Stage> Engine<S> {
         self.queue.settle();
     }
 
+    // Choice: docs/DECISIONS.md#no-step-between
     /// Handles at most `limit` events, one unit each, and fewer only where none is left. It answers how many. After `NoMemory`
     /// each node has kept what outlives that since the last moment between two events, and the graph is only taken apart.
     pub fn execute(&mut self, alloc: Global, limit: u32, acts: &mut Acts) -> Result<u32, NoMemory>
@@ -656,6 +658,7 @@ impl<S: Stage> Engine<S> {
         self.nodes[n as usize].let_go();
     }
 
+    // Choice: docs/DECISIONS.md#acts-from-outside
     /// Node n acts outside of its handlers, as the stage does where a lane comes in or goes out. The port rules allow the
     /// action, and the node's port state and its law hold once it is done. It takes no memory and costs no unit.
     pub fn poke(&mut self, n: u32, act: Act)

@@ -9,6 +9,7 @@ use std::marker::Model;
 /// How many events may be chased for one that comes from the ring. Own: a limit, so that a chase cannot starve the wires that wait.
 pub const MOST_CHASES: u32 = 16;
 
+// Choice: docs/DECISIONS.md#chased-wire-is-last
 /// The wires that have an event, each at most once: first in first out, but that the one wire at which a handler just pushed or pulled
 /// may come first. So an event's consequence is handled at once, and at most 16 such events for each one that waited for its turn. A
 /// chase goes down by pushes and then up by pulls: an element that a chased pull brought waits for its turn where others wait. So a
@@ -80,6 +81,7 @@ impl EventQueue {
         self.chased = Some(w);
     }
 
+    // Choice: docs/DECISIONS.md#only-action-is-chased
     /// Puts a wire last at which a handler pushed: where a pull was chased since one came from the ring and others wait, so that it waits for
     /// its turn, and else as the one that may come first. It takes no memory.
     #[inline(always)]

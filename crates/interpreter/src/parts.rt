@@ -44,6 +44,7 @@ pub struct Link {
     pub input: u8,
 }
 
+// Choice: docs/DECISIONS.md#work-has-its-ports
 /// What stands at a place of an island. Akka calls this a `GraphStageLogic`, before its `preStart`.
 #[derive(Drop)]
 pub enum Work<S: Source, D: Drain, L: Logic, B: PlugBook> {

@@ -1,4 +1,5 @@
 -- What an output boundary keeps, beside the connection at which its lane goes out.
+-- Choice: docs/DECISIONS.md#sent-part-by-part
 use Rattle.std.specs.Prelude.{◌≡◌, ◌≤◌, ◌<◌, ℕ, true, false, Bool, List, [], ◌∷◌}
 use Rattle.elem_core.specs.declared.item.Item.{Item}
 use Rattle.elem_core.specs.declared.item.Item.TheVariants as item

@@ -406,6 +406,7 @@ impl<S: Source, D: Drain, L: Logic, B: PlugBook> Body<S, D, L, B> {
 
     // Whether a turn that may pause is to end behind so many events: the next one may wait for a read, and a peer has something to hear of
     // before.
+    // Choice: docs/DECISIONS.md#turn-ends-before-a-read
     fn is_to_pause(&self, pausing: bool, some: u32) -> bool
         ensures { result ≡ true → (pausing ≡ true) × ((0 < some) × (is_pending self.now ≡ true)) }
     {
@@ -439,6 +440,7 @@ impl<S: Source, D: Drain, L: Logic, B: PlugBook> Body<S, D, L, B> {
         Ok(advance)
     }
 
+    // Choices: docs/DECISIONS.md#looks-at-its-start, docs/DECISIONS.md#units-are-answered-by-turns
     /// Takes a turn: takes what its lanes brought, looks once whether more is asked of it, and lets the island run, by at most so many
     /// units in all; one for each event, each item that it takes, and each look that finds new demand or a cancel. It answers how
     /// many. After `NoMemory` it takes no turn any more; its lanes stand, and its handles hold what they held at the last moment
@@ -497,6 +499,7 @@ impl<S: Source, D: Drain, L: Logic, B: PlugBook> Body<S, D, L, B> {
         Ok(used)
     }
 
+    // Choice: docs/DECISIONS.md#calls-of-a-body
     /// The islands that the last turn sent an item, demand or a cancel to, each once. It takes no memory.
     pub fn woken(&self) -> &[u32]
         ensures { result.now ≡ self.now.peers.woken.queue }
@@ -519,6 +522,7 @@ impl<S: Source, D: Drain, L: Logic, B: PlugBook> Body<S, D, L, B> {
         self.ins[k].boundary.asked()
     }
 
+    // Choice: docs/DECISIONS.md#taking-apart-cannot-fail
     /// Takes it apart: what its island leaves. It takes no memory, also after a turn that answered `NoMemory`.
     pub fn finish(self) -> IslandEnd<S, D>
         ensures sinks { result.sinks.items ≡ sinks_of self.island.net.nodes }

@@ -14,6 +14,7 @@ use plug_logic::logic::Logic;
 use std::alloc::{AllocError, Global};
 use stream_io::outside::{Drain, Source};
 
+// Choice: docs/DECISIONS.md#table-of-ends
 /// A table for so many connections, at none of which an end of a lane stands. It takes the memory of a body.
 pub fn blank_ways(alloc: Global, connections: usize) -> Result<Vec<Way>, NoMemory>
     ensures { IfOk result (λ ways. ways.items ≡ replicate connections way.Inner) }

@@ -1,3 +1,4 @@
+// Choice: docs/DECISIONS.md#ends-act-when-told
 /// Which end of a lane stands at a connection, by its place among the ends of its island.
 #[derive(Clone, Copy)]
 pub enum Way {

@@ -6,6 +6,7 @@ use elem_core::why::NoMemory;
 use std::alloc::Global;
 use std::marker::Model;
 
+// Choice: docs/DECISIONS.md#which-to-wake
 /// The islands that are to be woken, each once.
 #[derive(Drop)]
 pub struct Woken {

@@ -35,6 +35,7 @@ pub fn join_ends<S: Source, D: Drain, L: Logic, B: PlugBook>(
     }
 }
 
+// Choice: docs/DECISIONS.md#only-handles-come-back
 /// Brings the handles of all islands, whose ends stand in their order, back into one end: each list is in order of the blueprint's nodes,
 /// and the end lists nothing else. It takes no memory.
 pub fn join_handles<S: Source, D: Drain>(

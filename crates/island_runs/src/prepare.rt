@@ -20,6 +20,7 @@ use stream_io::outside::{Drain, Source};
 use stream_model::blueprint::Blueprint;
 use stream_model::outcome::WireCount;
 
+// Choice: docs/DECISIONS.md#memory-before-files
 /// The islands of a blueprint, before its files are opened, with all that their run takes of memory but what their nodes want as they
 /// start and run.
 #[derive(Drop)]

@@ -62,6 +62,7 @@ pub enum Broken<S: Source, D: Drain> {
     Within(IslandEnd<S, D>),
 }
 
+// Choice: docs/DECISIONS.md#broken-runs-close
 /// What the bodies of a blueprint go back into.
 #[derive(Drop)]
 struct Remains<S: Source, D: Drain> {
@@ -155,6 +156,7 @@ fn counts_of(wires: &[(u32, WireCount)], counts: Vec<WireCount>) -> Vec<WireCoun
     counts
 }
 
+// Choice: docs/DECISIONS.md#switches-are-settled-here
 /// Takes bodies apart that ran, and settles the seats of their kill switches.
 fn stop<S: Source, D: Drain, L: Logic, B: PlugBook>(
     alloc: Global,
@@ -215,6 +217,7 @@ fn stop<S: Source, D: Drain, L: Logic, B: PlugBook>(
     }
 }
 
+// Choice: docs/DECISIONS.md#seats-are-dropped
 /// Takes bodies apart of which some may have broken off.
 fn give_up<S: Source, D: Drain, L: Logic, B: PlugBook>(
     bodies: Vec<Body<S, D, L, B>>,
@@ -285,6 +288,7 @@ fn run_bodies<
     }
 }
 
+// Choice: docs/DECISIONS.md#one-island-too
 /// Lets so many workers, 1 to 64, run the islands of a blueprint over its open files, of which nothing was read, by at most `budget` units:
 /// turns of at most 1000 units, until no island has an event or all units are used. It is taken apart then. In the order of nodes, each
 /// source of lines reads the next of `sources`, and each sink with a file writes the next of `drains`.

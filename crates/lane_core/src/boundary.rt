@@ -96,6 +96,7 @@ impl InputBoundary {
         self.state
     }
 
+    // Choice: docs/DECISIONS.md#no-look-behind-an-end
     /// Takes the next item off the lane, where one was sent and no end was taken; false comes exactly where none was. An element waits,
     /// and an end behind it; a failure drops what waits. What comes behind a cancel is dropped. It takes no memory.
     pub fn look(&mut self) -> bool
@@ -131,6 +132,7 @@ impl InputBoundary {
         }
     }
 
+    // Choice: docs/DECISIONS.md#ask-behind-an-end
     /// The next that is to be handed on: an element only where one is asked for; an end behind the elements, also where none is.
     /// Where half of the places were handed on, the lane is asked for as many. It takes no memory.
     pub fn next(&mut self, asked: bool) -> Option<Passed>

@@ -1,5 +1,6 @@
 // The lanes between bodies.
 
+// Choice: docs/DECISIONS.md#crossings
 /// A lane: the body of its output end and the end's place there, and the body of its input end and that end's place.
 #[derive(Clone, Copy)]
 pub struct Crossing {

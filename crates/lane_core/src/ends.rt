@@ -22,6 +22,7 @@ impl Meet for LaneEnds {
 
     ghost met = { MeetsOne };
 
+    // Choice: docs/DECISIONS.md#meeting-changes-nothing
     fn meet_other(
         &mut self,
         out: usize,

@@ -11,6 +11,7 @@ use atomic_table::Table;
 use std::alloc::{AllocError, Global};
 use std::sync::Arc;
 
+// Choices: docs/DECISIONS.md#one-atomic-table, docs/DECISIONS.md#any-size
 /// The two ends of a lane of that many elements, from 1 to 1024, with nothing asked, sent or taken. All its places are made here, and
 /// no other call on an end takes memory or waits.
 pub fn lane(alloc: Global, size: u32) -> Result<(LaneOut, LaneIn), AllocError>
@@ -30,6 +31,7 @@ pub fn lane(alloc: Global, size: u32) -> Result<(LaneOut, LaneIn), AllocError>
     ))
 }
 
+// Choice: docs/DECISIONS.md#named-by-its-table
 /// Brings the two ends of a lane together, and says what one did that the other has not seen. From then on the caller knows what holds
 /// of both, and the next look of each end finds what waits. Nothing that an end keeps changes, but what the output end has learnt of all
 /// that was asked. It takes no memory.

@@ -12,6 +12,7 @@ use atomic_table::Shared;
 use elem_core::item::Item;
 use std::sync::Arc;
 
+// Choice: docs/DECISIONS.md#last-place-goes-back
 /// The end of a lane that takes items. It may be moved to another thread.
 #[derive(Drop)]
 pub struct LaneIn {
@@ -93,6 +94,7 @@ impl LaneIn {
         Some(item)
     }
 
+    // Choice: docs/DECISIONS.md#asked-by-calls
     /// Asks for n more elements: at most as many as have a place beside those that were asked for and not taken. It takes no memory.
     pub fn ask(&mut self, n: u64)
         requires { (1 ≤ n) × (asked_in_all self.old + n ≤ elements (taken_items self.old) + in_size self.old) × (asked_in_all self.old + n < 2 ^ 62) × (has_cancelled self.old ≡ 0) }

@@ -13,6 +13,7 @@ use atomic_table::Shared;
 use elem_core::item::Item;
 use std::sync::Arc;
 
+// Choice: docs/DECISIONS.md#place-of-the-next-item
 /// The end of a lane that sends items. It may be moved to another thread.
 #[derive(Drop)]
 pub struct LaneOut {

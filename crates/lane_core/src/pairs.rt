@@ -76,6 +76,7 @@ fn meet_alone<B: Meet>(
     one.meet_own(out, inp)
 }
 
+// Choice: docs/DECISIONS.md#two-of-one-list
 /// Brings together output end `out` of the value at `from` and input end `inp` of the one at `to`, which may be the same. No other
 /// value is touched. It takes no memory.
 pub fn meet_at<B: Meet>(

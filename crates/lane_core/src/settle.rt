@@ -83,6 +83,7 @@ pub(crate) fn first_pending<B: Turning>(bodies: &[B], end: usize) -> usize
     end
 }
 
+// Choice: docs/DECISIONS.md#met-before-a-turn
 /// Brings the two ends of every lane together, once, and answers the first body that has an event: one that is pending in its ring,
 /// an item at a lane that it takes from, or demand at one that it sends on. It answers none exactly where no body has one. It uses no
 /// unit and takes no memory.

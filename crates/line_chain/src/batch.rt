@@ -6,6 +6,7 @@ use elem_core::why::NoMemory;
 use std::alloc::Global;
 use std::marker::Model;
 
+// Choice: docs/DECISIONS.md#batches
 /// What goes from one step of a chain to the next: a list of elements, of which the first takes no memory. Most lists have one.
 #[derive(Drop)]
 pub struct Batch {

@@ -18,6 +18,7 @@ use std::mem;
 use step_work::ending::StateEnd;
 use stream_model::blueprint::Step;
 
+// Choice: docs/DECISIONS.md#steps-without-handlers
 /// A chain of linear stages. A call runs the steps one after another: what one gives the next takes. It stands for a
 /// subflow of the Akka Streams 2.6 reference.
 #[derive(Drop)]
@@ -45,6 +46,7 @@ impl Model for LineChain {
 }
 
 impl LineChain {
+    // Choice: docs/DECISIONS.md#no-plugs-in-chains
     /// The chain of these steps, at node `node`, which has taken nothing. A step that is no stage passes what it takes. A chain
     /// with a plug, which no text can say, is not made: that counts as want of memory.
     pub fn new(alloc: Global, node: u32, steps: &[Step]) -> Result<LineChain, NoMemory>
@@ -101,6 +103,7 @@ impl Chain for LineChain {
         }
     }
 
+    // Choice: docs/DECISIONS.md#called-until-it-stopped
     fn end(&mut self, alloc: Global, out: &mut Elems) -> Result<ChainStep, NoMemory> {
         self.inputs.clear();
         self.callable = false;

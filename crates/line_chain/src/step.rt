@@ -16,6 +16,7 @@ use std::alloc::Global;
 use step_work::ending::StateEnd;
 use step_work::task::LinearReaction;
 
+// Choice: docs/DECISIONS.md#fresh-from-used
 /// A step of a chain as it runs. Rule: Akka Streams 2.6 reference.
 pub struct LineStep {
     // The node of the chain.

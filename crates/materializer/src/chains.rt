@@ -10,6 +10,7 @@ use elem_core::line::Line;
 use stream_model::blueprint::{ChainDecl, Step};
 use stream_model::kind::Kind;
 
+// Choice: docs/DECISIONS.md#chains-are-looked-for
 /// The steps of the chain of that name; none where there is no such chain.
 fn steps_named<'a>(chains: &'a [ChainDecl], name: &Line) -> &'a [Step]
     ensures { map model_step result.now ≡ steps_of name.now (map graph_chain chains.now) }

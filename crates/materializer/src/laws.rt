@@ -21,6 +21,7 @@ use plug_logic::book::PlugBook;
 use plug_logic::logic::Logic;
 use stream_io::outside::{Drain, Source};
 
+// Choice: docs/DECISIONS.md#ranks
 /// The wires of a blueprint that breaks no rule have ranks that rise along every walk (`ranked`), and each of its ports is at
 /// one wire (`joined`).
 pub fn fit_blueprints_are_whole()

@@ -1,4 +1,5 @@
 // The files that a blueprint reads and writes, its sinks, and its stages that choose.
+// Choice: docs/DECISIONS.md#hash-maps
 ghost use Rattle.std.specs.Prelude.{◌≡◌, IfOk};
 ghost use Rattle.std.specs.Option.{option_map};
 ghost use Rattle.materializer.specs.Choices.{pick_names};

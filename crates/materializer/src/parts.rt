@@ -9,6 +9,7 @@ use interpreter::parts::Place;
 use std::alloc::Global;
 use stream_model::blueprint::Node;
 
+// Choice: docs/DECISIONS.md#ports-of-8-bits
 /// The places of these nodes, in order. A number that is out of 32 bits is want of memory.
 pub fn places_of(alloc: Global, nodes: &[Node]) -> Result<Vec<Place>, NoMemory>
     ensures { IfOk result (λ places. places.items ≡ places_from 0 nodes.now) }

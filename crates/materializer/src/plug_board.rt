@@ -49,6 +49,7 @@ fn hand<L: Logic>(kind: &Kind, plugs: &mut Vec<Plug<L>>) -> Option<Plug<L>>
     }
 }
 
+// Choice: docs/DECISIONS.md#plugs-are-handed-out
 /// Hands each node that names a plug that plug, in the order of nodes; a plug that no node names is dropped.
 pub fn hand_out<L: Logic, B: PlugBook>(
     alloc: Global,

@@ -323,6 +323,7 @@ pub fn seat_all<S: Source, D: Drain, L: Logic, B: PlugBook>(
     Ok(seats)
 }
 
+// Choice: docs/DECISIONS.md#handles-in-order
 /// The work of a seat: a source of lines reads the next of the sources, a sink with a file writes the next of the drains.
 fn fill<S: Source, D: Drain, L: Logic, B: PlugBook>(
     alloc: Global,

@@ -19,6 +19,7 @@ use std::sync::Arc;
 use stream_model::blueprint::Node;
 use stream_model::kind::Kind;
 
+// Choice: docs/DECISIONS.md#switches-by-mention
 /// The kill switches that the valves and trips of a blueprint name. The place of a switch is its least node.
 #[derive(Drop)]
 pub struct Board {
@@ -90,6 +91,7 @@ fn count_at(places: &[Option<usize>], j: usize) -> usize
     places.iter().filter(|place| sits(place, j)).count()
 }
 
+// Choice: docs/DECISIONS.md#empty-places
 /// A number of seats; one that is out of 32 bits is want of memory.
 fn counted(seats: usize) -> Result<u32, NoMemory>
     ensures { IfOk result (λ n. n ≡ seats) }

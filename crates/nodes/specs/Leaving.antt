@@ -1,4 +1,5 @@
 -- The stage at which what came to it leaves an island for a lane: what it knows of its one port, and what passed there.
+-- Choice: docs/DECISIONS.md#boundary-views
 use Rattle.std.specs.Prelude.{◌≡◌, ◌≤◌, ℕ, List, [], ◌∷◌, ◌++◌, length, ⊤}
 use Rattle.elem_core.specs.Tree.{Tree}
 use Rattle.elem_core.specs.declared.item.Item.{Item}

@@ -1,4 +1,5 @@
 -- A node of an island, by its kind: each predicate cites that of the kind.
+-- Choice: docs/DECISIONS.md#lemmas-by-kind
 use Rattle.std.specs.Prelude.{◌≡◌, ℕ, Bool, true, false, List, [], Option, None, Some, ⊤}
 use Rattle.std.specs.Option.{unwrap_or}
 use Rattle.elem_core.specs.declared.item.Item.{Item}

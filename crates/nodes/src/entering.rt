@@ -45,6 +45,7 @@ impl Entering {
     }
 }
 
+// Choice: docs/DECISIONS.md#boundary-handlers
 impl Stage for Entering {
     ghost fresh = { EnteringFresh };
 

@@ -14,6 +14,7 @@ use stage_core::stage::Stage;
 use std::alloc::Global;
 use std::marker::Model;
 
+// Choice: docs/DECISIONS.md#one-list-left
 /// The stage at which what came to it leaves an island for a lane. It has one input and no output: an element that came, and an
 /// end behind it, wait here until they are handed out or dropped between two events of the island. Its input is asked and
 /// cancelled from there too, and asked only where nothing waits, so two places are enough. Rule: Akka Streams 2.6 reference,

@@ -32,6 +32,7 @@ use stage_switch::seat::SwitchSeat;
 use std::alloc::Global;
 use stream_io::outside::{Drain, Source};
 
+// Choice: docs/DECISIONS.md#stages-implement-the-trait
 /// A node of an island.
 pub enum IslandNode<S: Source, D: Drain, L: Logic, B: PlugBook> {
     /// A source of the lines of a file.

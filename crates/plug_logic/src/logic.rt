@@ -19,6 +19,7 @@ pub enum Verdict {
     NoMemory,
 }
 
+// Choice: docs/DECISIONS.md#one-equation
 /// The logic of a stage with one input and one output that the caller makes. Its meaning, `gives`, is what it replies to every list of
 /// further inputs and to their end. It is called for each element in order, and once at the end of the input, and not again behind a
 /// verdict other than `Go`. It stands for a custom stage (`GraphStage`) of Akka Streams 2.6.
@@ -35,6 +36,7 @@ pub trait Logic: Drop {
 }
 
 // A boxed logic is one: each call goes to the value inside.
+// Choice: docs/DECISIONS.md#boxed-logics
 impl Logic for Box<dyn Logic + Send> {
     ghost gives = { λ b. (Logic-box b).gives b.value };
 

@@ -13,6 +13,7 @@ NoCancel i (FailOut j c ∷ acts) = NoCancel i acts
 NoCancel i (Cancel k ∷ acts) = (k ≢ i) × NoCancel i acts
 
 -- each input that is pulled is not cancelled behind it
+-- Choice: docs/DECISIONS.md#no-cancel-behind-a-pull
 abbrev pub PullsStand : List Act → Type 0
 PullsStand [] = ⊤
 PullsStand (Pull i ∷ acts) = NoCancel i acts × PullsStand acts

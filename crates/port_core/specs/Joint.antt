@@ -16,6 +16,7 @@ use Rattle.port_core.specs.declared.view.OutView.TheVariants as outlet
 -- has closed and the other does not know it: the output, while the input has not pulled (`ending`) or waits (`closing`); or
 -- the input, while the output was pulled or not (`leaving`). Where both have closed: the end came (`finished`), each closed
 -- its own (`parted`), or the cancel came (`cancelled`).
+-- Choice: docs/DECISIONS.md#joint-states
 pub data Joint : Type 0 where
   idle : Joint
   asking : Joint

@@ -15,6 +15,7 @@ wants (pushed e) = false
 
 -- The wire is marked as pulled, while its input has not closed, exactly where a pull is not answered; and wherever its output
 -- knows that it was pulled, and then the pull has come.
+-- Choice: docs/DECISIONS.md#marks
 pub record IsMarked (c : WireState) : Type 0 where
   pub unclosed : c.wire.conn.in_closed ≡ false → c.asked ≡ wants c.wire.conn.step
   pub known : c.wire.out ≡ Available → c.asked ≡ true

@@ -61,5 +61,6 @@ after_move on_finish p = record p { in_closed = true }
 after_move (on_fail c) p = record p { in_closed = true }
 
 -- a line of the table: p allows the move, and is q then
+-- Choice: docs/DECISIONS.md#table-of-three-columns
 abbrev pub Rule : Move → Connection → Connection → Type 0
 Rule m p q = Allowed m p × (q ≡ after_move m p)

@@ -7,6 +7,7 @@ use elem_core::why::NoMemory;
 use std::alloc::Global;
 use std::marker::Model;
 
+// Choice: docs/DECISIONS.md#room-is-capacity
 /// A handler's actions, first in first out, with room for a number of them that is fixed at the start.
 #[derive(Drop)]
 pub struct Acts {

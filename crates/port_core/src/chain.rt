@@ -18,6 +18,7 @@ pub enum ChainStep {
     Failed(Why),
 }
 
+// Choices: docs/DECISIONS.md#chain-is-two-functions, docs/DECISIONS.md#chains-get-the-allocator
 /// A chain of linear stages, as a substream runs it. Its meaning is a list function: what it gives for a list of elements,
 /// whether it stopped within them, and what the end of its input adds. It stands for a subflow of the Akka Streams 2.6
 /// reference.

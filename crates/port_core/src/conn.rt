@@ -47,6 +47,7 @@ const OUT_CLOSED: u8 = 32;
 // The output failed before either side was closed.
 const IN_FAILED: u8 = 64;
 
+// Choice: docs/DECISIONS.md#connection-is-a-record
 /// One output joined to one input. Its calls are the lines of the table of port rules, and none takes memory. Rule: Akka
 /// Streams 2.6 reference, chapter on custom stream processing; the flag word is own.
 #[derive(Drop)]
@@ -153,6 +154,7 @@ impl Conn {
         mem::replace(&mut self.elem, no_elem())
     }
 
+    // Choice: docs/DECISIONS.md#closings-keep-the-element
     /// The output completes. The answer says whether the connection has to be queued. An element that is on its way stays,
     /// and comes first.
     pub fn complete(&mut self) -> bool
@@ -190,6 +192,7 @@ impl Conn {
         queued
     }
 
+    // Choice: docs/DECISIONS.md#decode-asks-nothing
     /// The event of a connection that was queued; the connection is then as after the event's delivery. The order of the
     /// rules is own: an element or a pull where no side is closed; the input's cancel; the output's closing, an element that
     /// is on its way before it; nothing where both sides are closed.
@@ -222,6 +225,7 @@ impl Conn {
         }
     }
 
+    // Choice: docs/DECISIONS.md#word-is-told
     /// The flag word: 1 where nobody pulled, 2 where the input pulled, 4 where an element is on its way, 8 where the output was
     /// pulled; and 16 for a closed input, 32 for a closed output, 64 where the output failed before either side was closed.
     pub fn word(&self) -> u8

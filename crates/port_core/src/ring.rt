@@ -6,6 +6,7 @@ use std::alloc::Global;
 use std::collections::VecDeque;
 use std::marker::Model;
 
+// Choice: docs/DECISIONS.md#ring-never-grows
 /// The connections that have an event, first in first out, each at most once.
 #[derive(Drop)]
 pub struct EventRing {
@@ -36,6 +37,7 @@ impl EventRing {
         Ok(EventRing { queue, marks })
     }
 
+    // Choice: docs/DECISIONS.md#ring-has
     /// Whether the connection is in the ring. What every ring keeps is known then.
     pub fn has(&self, c: u32) -> bool
         ensures has { result ≡ is_queued self.now.queue c }

@@ -1,3 +1,4 @@
+// Choice: docs/DECISIONS.md#ports-are-lists
 /// What a stage knows of one of its inputs. The other end's closing counts once it was delivered to the stage. Rule: Akka
 /// Streams 2.6 reference.
 #[derive(Clone, Copy)]

@@ -20,6 +20,7 @@ use std::snapshot::Snapshot;
 #[inline(never)]
 fn drop_item(_item: Item) {}
 
+// Choice: docs/DECISIONS.md#known-to-contracts-alone
 /// One output joined to one input, with what the stages at both ends know of it. A pull or a push that only a closing forbids
 /// which was not delivered yet is dropped: such a pull changes nothing, and such a push counts and answers the pull. No call
 /// takes memory. Rule: Akka Streams 2.6 reference, chapter on custom stream processing; that a pull or push is dropped is own.
@@ -207,6 +208,7 @@ impl Wire {
         self.conn.cancel()
     }
 
+    // Choice: docs/DECISIONS.md#told-then-taken
     /// Tells an end of the event of a wire that was queued. An element then waits, and `take` hands it out.
     #[inline(always)]
     pub fn tell(&mut self) -> Event

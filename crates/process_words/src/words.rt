@@ -38,6 +38,7 @@ fn word_at<E: Env>(env: &E, alloc: Global, place: usize) -> Result<Option<Vec<u8
     Err(AllocError)
 }
 
+// Choice: docs/DECISIONS.md#main-is-one-call
 /// The words that the process was started with, its program's name first, whatever bytes they are. An error is want of memory alone.
 pub fn words_of<E: Env>(env: &E, alloc: Global) -> Result<Vec<Vec<u8>>, NoMemory> {
     let mut words = Vec::new(alloc);

@@ -14,6 +14,7 @@ use Rattle.stream_model.specs.Linear.{Book}
 
 -- of the source that is node k: the bytes of its file, how many of them were read, and whether a read failed; and the moves of
 -- the stages that choose
+-- Choice: docs/DECISIONS.md#read-by-node
 pub record Drawn : Type 0 where
   pub bytes : ℕ → List ℕ
   pub given : ℕ → ℕ
@@ -34,11 +35,13 @@ pub record WasRead (old new : FolderState) (file bytes : List ℕ) (given : ℕ)
   pub calm : faulted ≡ false → Grew (old.rfaults file) 0 (new.rfaults file)
 
 -- the same of the file of every source
+-- Choice: docs/DECISIONS.md#any-such-world
 abbrev pub WereRead : FolderState → FolderState → List Node → Drawn → Type 0
 WereRead old new nodes d = (k : ℕ) (file : List ℕ) → IsSource nodes k file → WasRead old new file (d.bytes k) (d.given k) (d.faulted k)
 
 -- The world has the plugs as this book lists them, each input file as it was read, and of each stage that chose the moves that it made. Of a
 -- run whose stages have no choice it need have the book and the files alone.
+-- Choice: docs/DECISIONS.md#world-has-the-book
 pub record IsWorldOf (book : Book) (nodes : List Node) (d : Drawn) (w : World) : Type 0 where
   pub book_is : w.book ≡ book
   pub files : (k : ℕ) (file : List ℕ) → IsSource nodes k file → w.file file ≡ record { bytes = d.bytes k; read = d.given k; faulted = d.faulted k }

@@ -63,6 +63,7 @@ pub record IgnoreLeaves (book : Book) (b : Blueprint) (d : Drawn) (wires : List 
 -- rests, and a sink's input is shut exactly where the sink has ended; in a polytree every sink has ended then. The stages chose
 -- these moves, which fit what may come in on their inputs. There is a world that has the input files as they were read, and these
 -- moves.
+-- Choice: docs/DECISIONS.md#polytrees-never-stall
 pub record LeavesFiles (book : Book) (old new : FolderState) (b : Blueprint) (trace : Option (List ℕ)) (sinks : List SinkStand) (picks : List Pick) (wires : List WireCount) (at_rest : Bool) : Type 0 where
   pub drawn : Drawn
   pub chose : drawn.picks ≡ picks

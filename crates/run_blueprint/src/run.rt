@@ -75,6 +75,7 @@ struct RunNames {
     room: Vec<u8>,
 }
 
+// Choice: docs/DECISIONS.md#trace-is-opened-last
 /// The files that a run writes: those of its sinks, and that of its trace where one is wanted.
 fn written_names(alloc: Global, b: &Blueprint, trace: Option<Line>) -> Result<Vec<Line>, NoMemory>
     ensures { IfOk result (λ names. names.items ≡ written_files b.now trace) }
@@ -234,6 +235,7 @@ fn close_unmade<F: Folder>(folder: &mut F, end: IslandEnd<F::Inp, F::Out>, drain
     close_trace(folder, drain);
 }
 
+// Choice: docs/DECISIONS.md#as-many-handles
 /// Opens the files of a blueprint, its inputs in order and then its outputs in order, and behind them the file of its trace where one is
 /// wanted; lets so many workers, 1 to 64, run its islands by at most `budget` units; writes the trace, which takes no memory, and closes the files, also where
 /// memory is wanting. The trace is then left empty. But for what its nodes want as they start and run all memory is taken before

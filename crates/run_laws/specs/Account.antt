@@ -23,6 +23,7 @@ use Rattle.run_laws.specs.Quiet.{LaneQuiet}
 
 -- Of each node, as it was handed in and as it is; of each wire the connection at its output and the one at its input, which are
 -- one where the wire is no lane; and of a lane how many elements its input end asked for in all.
+-- Choice: docs/DECISIONS.md#laws-over-accounts
 pub record Account (N : Type 0) : Type 0 where
   pub firsts : ℕ → Option N
   pub nodes : ℕ → Option N
@@ -101,6 +102,7 @@ module _ {N : Type 0} (port_state : N → View → Type 0) (law : N → N → Vi
   -- The moment at which a node last asked at its p-th input, by what it took and gave and by what is wanted of its inputs and
   -- outputs: its port_state and its law held, and what it tells whenever it has just asked; it waited there, one element more than it
   -- had taken is wanted, and all has only grown; an output that was closed is shut.
+  -- Choice: docs/DECISIONS.md#outputs-closed-then
   pub record Earlier (p : ℕ) (first now : N) (took gave : List (List Item)) (ins_want outs_want : List ℕ) (outs_closed : List Bool) : Type 0 where
     pub old : N
     pub knew : View

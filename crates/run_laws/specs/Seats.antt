@@ -20,6 +20,7 @@ pub record Seats : Type 0 where
   pub far : ℕ → IslandPlace
 
 -- what the nets tell together, where the input ends of the lanes asked for so many elements
+-- Choice: docs/DECISIONS.md#account-of-many-islands
 abbrev pub joined_account : {N : Type 0} → (ℕ → Net N) → Seats → (ℕ → ℕ) → Account N
 joined_account nets s asked = record {
   firsts = λ k. slice_get (nets (s.node k).island).firsts (s.node k).at;

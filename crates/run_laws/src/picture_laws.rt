@@ -27,6 +27,7 @@ pub fn what_agrees_passes()
     ensures { (o : Outlook) (items : List Item) → AgreesWith o items → WithinOutlook o items }
 {}
 
+// Choices: docs/DECISIONS.md#moments-of-rows, docs/DECISIONS.md#lawful-by-any-outlooks
 /// The picture of a graph is lawful: no node gave more than it may, and each asks only while it goes on and where what it was
 /// sent gives less than is wanted of it; and where the seats of its switches were settled, each order by which a valve acted was
 /// given by a trip. So it is by any outlooks of whose lists the wires carried first parts (`any`), and by the composed outlooks

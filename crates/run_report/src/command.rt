@@ -117,6 +117,7 @@ fn command_of(alloc: Global, choice: &Choice<'_>) -> Result<Command, AllocError>
     })
 }
 
+// Choices: docs/DECISIONS.md#clap-takes-repeats, docs/DECISIONS.md#ascii-words, docs/DECISIONS.md#no-help
 /// What the words ask for: `(FILE | --gen N) [--workers N] [--turns N] [--trace FILE]`, in any order. Usage comes exactly for
 /// all other words; NoMemory may come in place of either.
 pub fn read_words(alloc: Global, words: &[Line]) -> Result<Command, WordsEnd>

@@ -40,6 +40,7 @@ fn line_of(alloc: Global, name: &[u8]) -> Result<Line, AllocError>
     Ok(Line::of(bytes))
 }
 
+// Choice: docs/DECISIONS.md#text-is-closed-first
 /// Writes `gen.txt` with n lines, 1 to 10,000,000, and then `gen.blue` with a blueprint that reads them. Where it ends before, each
 /// of the two files is as before or holds a first part of its text. It leaves as many open handles as there were.
 pub fn generate<F: Folder>(alloc: Global, folder: &mut F, n: u32) -> Result<(), GenerateEnd>

@@ -11,6 +11,7 @@ use std::alloc::{AllocError, Global};
 use stream_io::outside::{Drain, Failed};
 use stream_io::put::put_all;
 
+// Choice: docs/DECISIONS.md#lines-by-thousands
 /// How many lines one piece has at most.
 const PIECE: u32 = 1000;
 

@@ -219,6 +219,7 @@ fn put_head<D: Drain>(console: &mut D, sink: &SinkEnd) -> Result<(), Failed>
     put_sink_texts(console, sink.name.bytes(), end_word(sink.end), count)
 }
 
+// Choice: docs/DECISIONS.md#sink-lines-after-failures
 /// Puts the line of a sink.
 fn put_sink<D: Drain>(console: &mut D, sink: &SinkEnd) -> Result<(), Failed>
     ensures ok { OnOk result (Puts (D.state console.old) (D.state console.new) (sink_line sink.now)) }

@@ -122,6 +122,7 @@ fn add_picks<D: Drain>(
     Ok(())
 }
 
+// Choice: docs/DECISIONS.md#trace-in-pieces
 /// Puts the trace of stages of these names, which made these moves: a line for each, with its name and its moves in decimal. It is
 /// gathered in `room` and put in pieces of that room's size, without taking memory. On a failed write a first part of it was put.
 /// Where there are more names than lists of moves, or more lists, those that are over have no line.

@@ -54,6 +54,7 @@ module _ {S : Type 0} (k : Fan S) where
 
   -- The residual law of a call: for every rest and every end of each input, what was given from now on for what waited and
   -- came, and then the rest, is what is pushed and then what is given from the new state.
+  -- Choice: docs/DECISIONS.md#law-keeps-every-rest
   pub record FanTurn (s : S) (waited : List Inflow) (out : List Item) (t : S) (waits_then : List Inflow) : Type 0 where
     pub given : List Tagged
     pub out_is : out ≡ told (untagged given) unended
@@ -68,6 +69,7 @@ module _ {S : Type 0} (k : Fan S) where
 
   -- What a handler owes by its call: a cancel ends the stage; whatever else comes is a turn or closes the output. One that
   -- has closed its output is not called.
+  -- Choice: docs/DECISIONS.md#closed-fans-are-not-called
   abbrev pub FanTurnAt : Call → FanHeld S → List Item → FanHeld S → Type 0
   FanTurnAt call shut out new = ⊥
   FanTurnAt (cancels j) (waits s ws) out new = (out ≡ []) × (new ≡ shut)

@@ -26,6 +26,7 @@ open_cancels n (false ∷ bs) = Cancel n ∷ open_cancels (n + 1) bs
 
 -- the most actions that one call of a stage with so many inputs and one output, or the other way round, appends: two for
 -- each of its ports
+-- Choice: docs/DECISIONS.md#room-by-ports
 abbrev pub room_for : ℕ → ℕ
 room_for many = 2 * (many + 1)
 

@@ -29,6 +29,7 @@ module _ {S : Type 0} (m : Machine S Tree) where
   FewIn x t shut = ⊤
 
   -- what is held may be dropped: nothing is, or the machine may lose outputs
+  -- Choice: docs/DECISIONS.md#loss-is-a-step
   abbrev pub MayDrop : Run S Tree → Type 0
   MayDrop x = (x.gave ≡ []) ⊎ (1 ≤ m.hold)
 

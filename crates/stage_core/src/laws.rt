@@ -1,5 +1,6 @@
 // The laws that stages and the interpreter cite, each as a public function without a body whose contract is the law. They
 // are stated here for the machines of the linear stages; the lemmas behind them hold of every machine with one input.
+// Choice: docs/DECISIONS.md#law-below-all-stages
 ghost use Rattle.std.specs.Prelude.{◌≡◌, ℕ, ◌≤◌, List, [], ◌++◌, length, Bool};
 ghost use Rattle.elem_core.specs.Tree.{Tree};
 ghost use Rattle.elem_core.specs.declared.item.Item.{Item};
@@ -90,6 +91,7 @@ pub fn merges_keep_the_law()
     ensures stands { (x : MergeHeld) (v : View) (took : ℕ → List Item) (gave : List Item) → (law : MergeLaw x v took gave) → MergeStands (moves_of x) law.ins law.out_list law.out_end }
 {}
 
+// Choice: docs/DECISIONS.md#law-of-one-output
 /// Each output of a stage with one input is a machine of its own over that input: a call keeps the law of them all, and
 /// what an output that is closed has given stays right while the stage takes more for the others.
 pub fn outputs_keep_the_law()

@@ -14,9 +14,11 @@ use elem_core::why::{Cause, NoMemory};
 use port_core::acts::Acts;
 use std::alloc::Global;
 
+// Choice: docs/DECISIONS.md#room-of-actions
 /// The most actions that one call appends: two for each port of a stage with 16 inputs or outputs, and for its other port.
 pub const MOST_ACTS: u32 = 34;
 
+// Choice: docs/DECISIONS.md#handlers-have-two-clauses
 /// A node of a fused graph: a source, a stage or a sink. Each call is a handler; what it wants done at its ports it appends
 /// to `acts`, which is empty and has room; a passive one appends nothing, since it acts only between two events, from outside. The moves that it has recorded are a log of its choices, which only grows. After `NoMemory` a stage is
 /// only dropped or taken apart, and `keeps` says what of it is as it was before that call. Rule: Akka Streams 2.6 reference,

@@ -38,6 +38,7 @@ impl Stage for InLogic {
         self.on_pull(alloc, 0, acts)
     }
 
+    // Choice: docs/DECISIONS.md#allocator-for-pairs
     fn on_push(
         &mut self,
         alloc: Global,

@@ -14,6 +14,7 @@ use stage_core::ins::{cancel_open, open_inputs};
 use std::alloc::Global;
 use std::marker::Model;
 
+// Choice: docs/DECISIONS.md#one-logic-takes
 /// The logic of a concat or an interleave. It asks the current input alone, when its output is asked, and passes each element
 /// on; it goes to the next open input where the current one ends, and an interleave behind each segment too. A failure of
 /// any input fails it. Rule: Akka Streams 2.6 reference.
@@ -307,6 +308,7 @@ fn behind(c: u32, inputs: u32) -> u8
 }
 
 // Where input `from` followed, input `to` does.
+// Choice: docs/DECISIONS.md#next-open-input
 fn relink(next: &mut [u8], from: u8, to: u8)
     ensures { next.new ≡ map (followed_by from to) next.old }
 {

@@ -65,6 +65,7 @@ impl<L: Logic, B: PlugBook> Model for LinearLogic<L, B> {
 }
 
 impl<L: Logic, B: PlugBook> LinearLogic<L, B> {
+    // Choice: docs/DECISIONS.md#new-asks-for-its-kind
     /// The logic of node `stage`. It holds nothing and knows nothing yet; it takes no memory.
     pub fn new(stage: u32, kind: Kind, decider: Decider) -> Result<LinearLogic<L, B>, NoMemory>
         requires { HasTask kind }
@@ -241,6 +242,7 @@ impl<L: Logic, B: PlugBook> LinearLogic<L, B> {
     }
 
     // The number of the next element. Past 64 bits there is none: that counts as want of memory.
+    // Choice: docs/DECISIONS.md#elements-past-64-bits
     fn next_number(&self) -> Result<u64, NoMemory>
         ensures { IfOk result (λ n. n ≡ self.now.stage.taken + 1) }
     {
@@ -425,6 +427,7 @@ impl<L: Logic, B: PlugBook> LinearLogic<L, B> {
     }
 
     // Element number `taken` gave these, and it is the last: the first goes out, and the others are held.
+    // Choice: docs/DECISIONS.md#plug-finishes-one-by-one
     fn leave(&mut self, taken: u64, mut values: Elems, acts: &mut Acts)
         requires none { self.old.pending ≡ [] }
         requires empty { acts.old.items ≡ [] }
@@ -482,6 +485,7 @@ impl<L: Logic, B: PlugBook> LinearLogic<L, B> {
     }
 
     // The input has ended and nothing is held: the last outputs. Where the output is asked the first goes out.
+    // Choice: docs/DECISIONS.md#plug-ends-late
     fn close_input(&mut self, alloc: Global, acts: &mut Acts) -> Result<(), NoMemory>
         requires ready { self.old.ready ≡ true }
         requires room { length acts.old.items + 3 ≤ acts.old.room }

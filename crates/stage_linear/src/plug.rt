@@ -14,6 +14,7 @@ use std::alloc::{AllocError, Global};
 use std::marker::{Model, PhantomData};
 use step_work::task::{LinearEnd, LinearReaction};
 
+// Choice: docs/DECISIONS.md#book-is-an-invariant
 /// A plug in a stage. While it may be called, its logic gives what the book lists of its name, behind what it took.
 #[derive(Drop)]
 pub struct PlugTask<L: Logic, B: PlugBook> {
@@ -24,6 +25,7 @@ pub struct PlugTask<L: Logic, B: PlugBook> {
     of: PhantomData<B>,
 }
 
+// Choice: docs/DECISIONS.md#taken-is-ghost
 impl<L: Logic, B: PlugBook> Model for PlugTask<L, B> {
     ghost use Rattle.std.specs.Coded.{codes};
     ghost use Rattle.elem_core.specs.TreeCode.{tree_coded};
@@ -53,6 +55,7 @@ impl<L: Logic, B: PlugBook> PlugTask<L, B> {
         }
     }
 
+    // Choice: docs/DECISIONS.md#plugs-fill-one-list
     /// One more element. Its outputs are put into `out`, which is empty. Behind an answer that does not go on, and behind
     /// `NoMemory`, it is not to be called any more.
     pub fn react(

@@ -18,6 +18,7 @@ use std::alloc::Global;
 use std::collections::VecDeque;
 use std::marker::Model;
 
+// Choice: docs/DECISIONS.md#one-queue
 /// An element that waits, and the input that it came from.
 #[derive(Drop)]
 pub struct Queued {

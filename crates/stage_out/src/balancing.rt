@@ -19,6 +19,7 @@ use std::alloc::Global;
 use std::collections::VecDeque;
 use std::marker::Model;
 
+// Choice: docs/DECISIONS.md#outputs-that-ask
 /// The logic of a balance. It asks its input when an output asks, and gives each element to the output that asked first; what
 /// finds no output that asks waits, and an end waits for it. It notes the output of each element that it gives. Rule: Akka
 /// Streams 2.6 reference; first asked, first served: own.

@@ -18,6 +18,7 @@ use stage_core::outs::{OutputState, complete_open, fail_open, quiet_outs};
 use std::alloc::Global;
 use std::marker::Model;
 
+// Choice: docs/DECISIONS.md#broadcast-and-unzip
 /// The logic of a broadcast or an unzip. It asks its input when every open output is asked, and gives each open output its
 /// copy or its half; it passes an end on, and cancels its input when all outputs were cancelled. Rule: Akka Streams 2.6
 /// reference.
@@ -200,6 +201,7 @@ impl CopyLogic {
     }
 
     // The last open output gets the element itself, and each other a copy.
+    // Choice: docs/DECISIONS.md#last-output-gets-it
     fn give_copies(&self, alloc: Global, e: Elem, acts: &mut Acts) -> Result<(), NoMemory>
         requires few { length self.now.outs ≤ 16 }
         requires room { length acts.old.items + length self.now.outs ≤ acts.old.room }

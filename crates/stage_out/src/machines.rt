@@ -16,6 +16,7 @@ use port_core::acts::Acts;
 use std::alloc::Global;
 use stream_model::kind::Kind;
 
+// Choice: docs/DECISIONS.md#machine-for-each-output
 /// The logic of a node with several outputs, each of which is a machine over the input: what it gets hangs on what came alone.
 /// A call that appends actions wants room for two of them for each port, of which the node has its outputs and one input.
 /// Rule: Akka Streams 2.6 reference.

@@ -20,6 +20,7 @@ use stage_core::outs::{OutputState, complete_open, fail_open, quiet_outs};
 use std::alloc::{AllocError, Global};
 use std::marker::Model;
 
+// Choice: docs/DECISIONS.md#partition-counts-asks
 /// The logic of a partition. It asks its input when an output is asked and it holds nothing; it holds one element for an
 /// output that is not asked, and drops one for an output that was cancelled. At an end it gives what it holds, and then
 /// ends. Rule: Akka Streams 2.6 reference.
@@ -366,6 +367,7 @@ impl PartitionLogic {
     }
 
     // Element number `taken` is to blame for this.
+    // Choice: docs/DECISIONS.md#reasons-fail-all
     fn blame(&mut self, taken: u64, why: Why, acts: &mut Acts)
         requires few { length self.old.outs ≤ 16 }
         requires empty { acts.old.items ≡ [] }
@@ -403,6 +405,7 @@ impl PartitionLogic {
     }
 
     // The input has ended: so does each output, now or once what is held went out.
+    // Choice: docs/DECISIONS.md#partition-ends-together
     fn end(&mut self, acts: &mut Acts)
         requires few { length self.old.outs ≤ 16 }
         requires empty { acts.old.items ≡ [] }

@@ -105,6 +105,7 @@ port_state l v = OneOne (port_state_by l.size l.phase l.ending l.asked l.pending
 
 -- one step of its machine, which stays the same, as its size does; no action cancels an input that an earlier one asked; and
 -- it was started
+-- Choice: docs/DECISIONS.md#calls-keep-the-size
 pub record Turned (call : Call) (old : Logic) (acts : List Act) (new : Logic) : Type 0 where
   pub turn : (book : Book) → TurnAt (machine book old) 0 call (held old) (given_on 0 acts) (held new)
   pub same : (book : Book) → machine book new ≡ machine book old

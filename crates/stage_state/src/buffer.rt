@@ -18,6 +18,7 @@ use std::alloc::Global;
 use std::marker::Model;
 use step_work::ending::StateEnd;
 
+// Choice: docs/DECISIONS.md#buffer-is-a-machine
 /// The logic of a buffer that holds its input back. It asks at its start, and while fewer elements are held than its size;
 /// behind the end of its input it gives what is held, and then completes; a failure drops what is held. All its memory is
 /// taken when it is made. Rule: Akka Streams 2.6 reference.

@@ -121,6 +121,7 @@ impl KeepLogic {
         Ok(())
     }
 
+    // Choice: docs/DECISIONS.md#allocator-is-passed
     /// The input has ended.
     pub fn on_finish(&mut self, alloc: Global, port: u8, acts: &mut Acts) -> Result<(), NoMemory>
         requires open { self.old.phase ≡ Open }

@@ -242,6 +242,7 @@ impl StateLogic {
         (log.unwrap_or(PickLog::new(alloc)), seat)
     }
 
+    // Choice: docs/DECISIONS.md#leave-beside-close
     /// The run is over: the log of its moves where its kind chooses, and the seat that a valve or a trip has at its switch. It
     /// takes no memory.
     pub fn leave(self) -> (Option<PickLog>, Option<SwitchSeat>)

@@ -13,6 +13,7 @@ use port_core::acts::Acts;
 use stage_core::stage::Stage;
 use std::alloc::Global;
 
+// Choice: docs/DECISIONS.md#stage-over-line-chains
 impl Stage for SubLogic<LineChain> {
     ghost fresh = { SubFresh line_rest line_is_open };
 

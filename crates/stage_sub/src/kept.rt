@@ -23,6 +23,7 @@ use std::alloc::Global;
 use std::collections::BTreeMap;
 use std::marker::Model;
 
+// Choice: docs/DECISIONS.md#no-history
 /// The substreams of a stage that splits or groups.
 #[derive(Drop)]
 pub struct KeptSubs<C: Chain> {

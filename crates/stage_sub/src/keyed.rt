@@ -79,6 +79,7 @@ pub fn open_group<C: Chain>(
     Ok(None)
 }
 
+// Choice: docs/DECISIONS.md#elements-as-keys
 /// One more element of a group_by of at most `most` keys.
 pub fn take_group<C: Chain>(
     alloc: Global,

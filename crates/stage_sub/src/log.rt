@@ -19,6 +19,7 @@ pub fn log_of(alloc: Global, joining: Joining) -> Option<PickLog>
     }
 }
 
+// Choice: docs/DECISIONS.md#moves-in-a-log
 /// Makes room for a move, where there is a log. On a refusal the log is as before.
 pub fn make_room(log: &mut Option<PickLog>) -> Result<(), NoMemory>
     ensures moves { moves_in log.new ≡ moves_in log.old }

@@ -18,6 +18,7 @@ use std::alloc::Global;
 use std::marker::Model;
 use stream_model::kind::{Joining, Kind};
 
+// Choice: docs/DECISIONS.md#substreams-in-a-box
 /// The logic of a stage with substreams, whose outputs it gives in the order in which they arise. One that joins them by
 /// `merge` has a log of its moves: before it does anything else, a handler that may give an output makes room there, and it
 /// notes the number of the substream of each output that it gives. Rule: Akka Streams 2.6 reference; the log: own.

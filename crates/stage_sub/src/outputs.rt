@@ -16,6 +16,7 @@ pub struct Output {
     pub item: Elem,
 }
 
+// Choice: docs/DECISIONS.md#outputs-in-order
 /// The outputs that a stage with substreams holds, in the order in which they arose.
 #[derive(Drop)]
 pub struct Outputs {

@@ -18,6 +18,7 @@ pub fn find_place(places: &Places, key: &Elem) -> Option<usize>
     places.get(key).copied()
 }
 
+// Choice: docs/DECISIONS.md#numbers-of-32-bits
 /// One more key.
 pub fn add_place(places: &mut Places, key: Elem, i: usize) -> Result<(), NoMemory>
     ensures { OnOk result ((k : Tree) → place_at places.new k ≡ (if is_eq (tree_cmp key k) then Some i else place_at places.old k)) }

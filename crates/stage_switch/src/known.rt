@@ -5,6 +5,7 @@ ghost use Rattle.stage_switch.specs.declared.order.Order.{Order};
 
 use std::marker::Model;
 
+// Choice: docs/DECISIONS.md#known-orders
 /// What a seat of a switch gave and knows. No value of it is made. A seat that others were joined into has what each of them had.
 pub struct Known {
     /// Its parts of all seats.

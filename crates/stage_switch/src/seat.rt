@@ -6,6 +6,7 @@ use crate::known::Known;
 use atomic_table::Seat;
 use std::marker::Model;
 
+// Choice: docs/DECISIONS.md#loads-are-counted
 /// The right to step on a switch, of one of its trips or valves. It has no bytes. Contracts see which switch it is of, the
 /// order that it gave, the one that it knows, and how often it looked.
 #[derive(Drop)]

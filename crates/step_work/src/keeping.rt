@@ -8,6 +8,7 @@ use elem_core::why::{Decider, NoMemory, Why};
 use std::alloc::{AllocError, Global};
 use std::mem;
 
+// Choice: docs/DECISIONS.md#zero-is-made-with-the-logic
 /// What a stage keeps between elements, and what it does with each. Rule: Akka Streams 2.6 reference.
 pub enum StateWork {
     /// Groups of so many, and the group that is not full.
@@ -140,6 +141,7 @@ fn scan(
 }
 
 // The next value of a fold; or why there is none, and then the value that the decider goes on from.
+// Choice: docs/DECISIONS.md#failed-steps-drop
 fn next(
     op: &FoldOp,
     acc: &mut Elem,

@@ -9,6 +9,7 @@ use elem_core::function::{Expand, FnEnd, MapFn, Pred};
 use elem_core::why::{NoMemory, Why};
 use std::alloc::{AllocError, Global};
 
+// Choice: docs/DECISIONS.md#state-is-the-kind
 /// What a stage does with each element. Rule: Akka Streams 2.6 reference.
 pub enum LinearWork {
     /// It maps it.
@@ -48,6 +49,7 @@ impl Drop for LinearWork {
     }
 }
 
+// Choice: docs/DECISIONS.md#outcome-is-a-value
 /// What came of an element.
 #[derive(Drop)]
 pub enum LinearReaction {
@@ -130,6 +132,7 @@ impl LinearWork {
 
     /// One more element, where what comes of it is known at once. `None` leaves the task as it is.
     // Inlined, so that what is said has no place in memory.
+    // Choice: docs/DECISIONS.md#short-way
     #[inline(always)]
     pub fn at_once(&mut self, e: &Elem) -> Option<AtOnce>
         requires { HasMore (work_in self.old) }
@@ -237,6 +240,7 @@ fn take_while(p: &Pred, e: Elem) -> LinearReaction
     }
 }
 
+// Choice: docs/DECISIONS.md#drop-while-keeps-its-test
 fn drop_while(p: &Pred, passes: &mut bool, e: Elem) -> LinearReaction
     ensures { Reacted (dropping_by p.now passes.old) e (dropping_by p.now passes.new) result }
 {

@@ -39,6 +39,7 @@ pub record SaysFile (folder : FolderState) (file : List ℕ) (b : Blueprint) : T
   pub says : language.Says whole (plain b)
 
 -- the files that no source and no sink may name: the command's own, and that of the trace, where one is wanted
+-- Choice: docs/DECISIONS.md#own-file-is-taken
 abbrev pub taken_files : List ℕ → Option (List ℕ) → List (List ℕ)
 taken_files file trace = file ∷ option_to_list trace
 
@@ -240,6 +241,7 @@ SinksOf _ a trace = Blank a
 
 -- the file says a blueprint; it is fit, and its inputs are there. A text says one blueprint, so this is said of each value
 -- that the text says.
+-- Choice: docs/DECISIONS.md#valid-words-run
 pub record IsValid (p : Plugged) (file : List ℕ) (trace : Option (List ℕ)) (folder : FolderState) : Type 0 where
   pub blueprint : Blueprint
   pub says : SaysFile folder file blueprint

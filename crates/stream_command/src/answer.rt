@@ -151,6 +151,7 @@ fn some_failed(sinks: &[SinkStand]) -> bool
         .any(|sink| matches!(sink.2, EndState::Failed(_)))
 }
 
+// Choices: docs/DECISIONS.md#failed-inputs, docs/DECISIONS.md#stalled-or-out-of-turns, docs/DECISIONS.md#order-of-statuses
 /// The status of a run, by how its sinks stand, whether a write to the trace's file failed and whether no event was left.
 fn status_of(sinks: &[SinkStand], trace_failed: bool, at_rest: bool) -> Status
     ensures { result ≡ status_after sinks.now trace_failed at_rest }

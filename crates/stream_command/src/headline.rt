@@ -11,6 +11,7 @@ ghost use Rattle.stream_command.specs.Outcome.{SaysFile, Told};
 
 use run_report::outcome::Status;
 
+// Choice: docs/DECISIONS.md#headline
 /// Where a call answers Done and the folder tells its files, each sink's file holds exactly the text of the list that the blueprint's
 /// list functions give of the input files, by the plugs that were handed in and the moves that were answered.
 pub fn done_means_whole_files()

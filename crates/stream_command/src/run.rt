@@ -31,6 +31,7 @@ use std::sync::Wait;
 use std::thread::Threads;
 use stream_io::outside::{Drain, Folder};
 
+// Choice: docs/DECISIONS.md#file-is-copied-first
 /// Reads the command's words, generates the files that they ask for, reads the blueprint of the file that they name and lets as many workers run it as they say, and writes the report to the console.
 pub fn run_streams<R: Threads + Wait + Sync, F: Folder, C: Drain, B: PlugBook + Send>(
     rt: &R,
@@ -140,6 +141,7 @@ fn run_command<R: Threads + Wait + Sync, F: Folder, C: Drain, L: Logic + Send, B
     }
 }
 
+// Choice: docs/DECISIONS.md#file-run-is-a-call
 /// Runs the file of a command.
 fn run_command_file<
     R: Threads + Wait + Sync,
@@ -178,6 +180,7 @@ fn run_command_file<
     )
 }
 
+// Choice: docs/DECISIONS.md#folder-in-between
 /// Generates so many lines and their blueprint, and runs it.
 #[tactic(auto, using(crate::proofs::Answering::ended, crate::proofs::Answering::ran))]
 fn run_generated<

@@ -6,6 +6,7 @@ abbrev pub last_count : ℕ
 last_count = 18446744073709551615
 
 -- the count rose; one that stands at its last value may have risen
+-- Choice: docs/DECISIONS.md#counts-stop
 abbrev pub Rose : ℕ → ℕ → Type 0
 Rose old new = new < last_count → old < new
 

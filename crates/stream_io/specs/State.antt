@@ -16,6 +16,7 @@ pub record DrainState : Type 0 where
   pub faults : ℕ
 
 -- what a folder tells: whether it tells its files, the bytes of each, and its counts by name
+-- Choice: docs/DECISIONS.md#folder-is-one-record
 pub record FolderState : Type 0 where
   pub tells : Bool
   pub file : List ℕ → Option (List ℕ)

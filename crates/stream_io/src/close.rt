@@ -24,6 +24,7 @@ pub(crate) fn close_outputs<F: Folder>(folder: &mut F, outputs: Vec<F::Out>)
     }
 }
 
+// Choice: docs/DECISIONS.md#closing-asks-nothing
 /// Closes the files of a run: each input's counts are added to those of its name, each output's file is what it held, and its count is added to that of its name. There are as many open handles less. Of handles with one name only what all of them share is known. It takes no memory.
 pub fn close_all<F: Folder>(folder: &mut F, inputs: Vec<F::Inp>, outputs: Vec<F::Out>)
     ensures closes { ClosesAll (F.state folder.old) (F.state folder.new) (map F.Inp.state inputs.items) (map F.Out.state outputs.items) }

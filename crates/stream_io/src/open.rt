@@ -110,6 +110,7 @@ fn fill<F: Folder>(
     }
 }
 
+// Choice: docs/DECISIONS.md#stopped-openings-close
 /// Opens the files of a run: the inputs in order, and then the outputs in order, which are empty then. It takes the room of both lists before the first opening. At the first name that is missing or refused, or where memory is wanting, it closes what it opened, so that no count but that of the refused name rises; outputs that it had opened stay empty. It leaves as many open handles as it answers: none where it does not answer `Ok`. A name may stand twice.
 ///
 /// `MissingInput` and `MissingOutput` give the name back, moved out of its list.

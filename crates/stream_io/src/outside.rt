@@ -73,6 +73,7 @@ pub trait Drain: Drop {
         ensures name { (state self.new).name ≡ (state self.old).name };
 }
 
+// Choice: docs/DECISIONS.md#open-handles-are-counted
 /// A folder of named files.
 pub trait Folder {
     type Inp: Source + Send;

@@ -29,6 +29,7 @@ pub struct DirSource<F> {
 impl<F: Read + Drop> Source for DirSource<F> {
     ghost state = { λ s. record { name = s.name; whole = None; given = s.given; faults = s.faults } };
 
+    // Choice: docs/DECISIONS.md#position-is-exact
     fn next_piece(&mut self, buf: &mut [u8]) -> Result<usize, Failed> {
         if let Ok(size) = self.file.read(buf) {
             if let Some(given) = self.given.checked_add(size as u64) {
@@ -45,6 +46,7 @@ impl<F: Read + Drop> Source for DirSource<F> {
     }
 }
 
+// Choice: docs/DECISIONS.md#put-writes-at-once
 /// A file that was opened to be written. A put writes straight to it.
 #[derive(Drop)]
 pub struct DirSink<F> {
@@ -149,6 +151,7 @@ fn is_linked(known: &[KnownFile], name: &Line, place: FileIdentity) -> bool {
 }
 
 // Opens the file of that name to write it, and makes it empty where it is not known under another name. A device or a pipe has no length to cut.
+// Choice: docs/DECISIONS.md#no-other-name
 fn open_to_write<R: Files>(
     rt: &R,
     known: &[KnownFile],

@@ -46,6 +46,7 @@ pub fn pairsum_head(alloc: Global) -> Result<PlugHead, NoMemory>
     head_of(alloc, "pairsum", TypeForm::Num, TypeForm::Num)
 }
 
+// Choice: docs/DECISIONS.md#heads-below-both
 /// The heads of the plugs that the program ships, in the order in which it hands them in.
 pub fn shipped_heads(alloc: Global) -> Result<Vec<PlugHead>, NoMemory>
     ensures { IfOk result (λ heads. heads.items ≡ shipped_heads) }

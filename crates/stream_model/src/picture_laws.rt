@@ -1,4 +1,5 @@
 // Laws and worked values of pictures: each function has no body, and its contract is the law.
+// Choice: docs/DECISIONS.md#pictures-apart
 ghost use Rattle.std.specs.Prelude.{◌≡◌, ℕ, List, [], ◌∷◌, Bool, true, pos, slice_get, Some};
 ghost use Rattle.stream_model.specs.declared.outcome.WireCount.{WireCount};
 ghost use Rattle.stream_model.specs.Composed.{composed};

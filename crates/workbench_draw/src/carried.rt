@@ -79,6 +79,7 @@ fn add_all(sums: &mut Vec<u64>, links: &[NumberedWire], carried: &[u64]) -> bool
     true
 }
 
+// Choice: docs/DECISIONS.md#all-is-passed-on
 /// What each wire carries where its node passes on what comes to it; None where that does not fit.
 fn round(
     alloc: Global,

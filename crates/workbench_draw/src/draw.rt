@@ -17,6 +17,7 @@ use elem_core::why::NoMemory;
 use std::alloc::Global;
 use stream_model::blueprint::Blueprint;
 
+// Choice: docs/DECISIONS.md#drawings-are-lines
 /// The lines of a drawing.
 #[derive(Drop)]
 struct Drawing {

@@ -149,6 +149,7 @@ fn joined(mut first: Vec<u8>, second: &[u8]) -> Result<Vec<u8>, NoMemory>
     Ok(first)
 }
 
+// Choice: docs/DECISIONS.md#report-line-first
 /// What is said of a text of that name's file that has a fault or breaks a rule: the line that a report has of it, the line of the
 /// text at which it is, what it means and what to do.
 pub fn message_of(

@@ -153,6 +153,7 @@ fn sized(spot: Spot) -> FaultPlace {
     }
 }
 
+// Choice: docs/DECISIONS.md#place-is-looked-for
 /// Where the place of a fault of a blueprint is declared, if it is. `own` is the blueprint's own file.
 pub fn place_of(b: &Blueprint, own: &Line, fault: &CheckFault) -> Option<FaultPlace> {
     let node = match fault {

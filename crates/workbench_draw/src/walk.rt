@@ -41,6 +41,7 @@ struct Walk<'a> {
     exact: bool,
 }
 
+// Choice: docs/DECISIONS.md#table-of-forms
 /// Appends forms as they are told: without the parts that may be left out.
 fn put_forms(out: &mut Vec<u8>, forms: &[u8]) -> Result<(), NoMemory> {
     if !out.is_empty() && !forms.is_empty() {

@@ -4,6 +4,7 @@ ghost use Rattle.std.specs.Prelude.{[], None};
 use std::io::{Read, Write};
 use stream_io::outside::{Drain, Failed, Source};
 
+// Choice: docs/DECISIONS.md#standard-streams
 /// A reader as a source.
 #[derive(Drop)]
 pub struct Input<R> {

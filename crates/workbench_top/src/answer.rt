@@ -73,6 +73,7 @@ impl Answer {
     }
 }
 
+// Choice: docs/DECISIONS.md#exit-codes
 /// The exit code of an ending: 0, 1 for the words, 2 for the blueprint, and those of `streams` for the outside and memory.
 pub fn code(ending: Ending) -> u8
     ensures { result ≡ code_of ending }

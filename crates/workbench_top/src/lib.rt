@@ -5,6 +5,8 @@
 //! - `answer`, `rows`, `texts`: What the workbench answers to each of its works, on the text of a blueprint's file, and to a row.
 //! - `process`: The call that the program makes, from the words of its process to the exit code.
 //! - `report`, `top`: The workbench: its words are read, then the blueprint's file, and what is wanted of it is put on the console.
+//!
+//! Choice: docs/DECISIONS.md#stands-low
 #![tactic(auto)]
 
 pub mod answer;

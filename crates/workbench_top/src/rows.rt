@@ -85,6 +85,7 @@ fn put_later(out: &mut Vec<u8>, parts: &[u8]) -> Result<(), NoMemory>
     put_sink(out, place, rest)
 }
 
+// Choice: docs/DECISIONS.md#names-in-rows
 /// The text of a row: a line for its source, and lines for each stage and the sink with the wires to them.
 fn text_of_row(alloc: Global, source: &[u8], parts: &[u8]) -> Result<Vec<u8>, NoMemory>
     ensures { IfOk result (λ text. text.items ≡ row_text source.now parts.now) }

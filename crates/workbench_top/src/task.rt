@@ -11,6 +11,7 @@ use blue_words::words::is_word;
 use elem_core::line::Line;
 use std::alloc::{AllocError, Global};
 
+// Choice: docs/DECISIONS.md#words-by-grammar
 /// What is to be done with a blueprint.
 #[derive(Clone, Copy)]
 pub enum TaskKind {

@@ -16,13 +16,13 @@ type_text text_type = codes "text"
 type_text (seq_type t) = 91 ∷ (type_text t ++ 93 ∷ [])
 type_text (pair_type t u) = 40 ∷ (type_text t ++ 44 ∷ (type_text u ++ 41 ∷ []))
 
--- what is accepted
+-- the text of what an input accepts
 abbrev pub want_text : Want → List ℕ
 want_text (Is t) = type_text t
 want_text AnySeq = codes "[any]"
 want_text AnyPair = codes "(any,any)"
 
--- a place
+-- the text of a wire, by its number
 abbrev pub wire_text : ℕ → List ℕ
 wire_text i = codes "wire " ++ decimal i
 
@@ -32,7 +32,7 @@ spot_text (at.Node i) = codes "node " ++ decimal i
 spot_text (at.Wire i) = codes "wire " ++ decimal i
 spot_text (at.Chain i) = codes "chain " ++ decimal i
 
--- which port
+-- whether a port is an output or an input
 abbrev pub side_text : Bool → List ℕ
 side_text true = codes " output "
 side_text false = codes " input "

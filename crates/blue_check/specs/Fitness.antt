@@ -35,18 +35,18 @@ open_fault nodes o = PortOpen (name_at nodes o.node) o.output o.port
 abbrev pub clash_fault : Clash → CheckFault
 clash_fault c = TypeClash c.wire c.left c.want
 
--- names, and files
+-- the fault of the rules on names and files, where one is broken
 abbrev pub names_fault : List (List ℕ) → List ChainDecl → List Node → List WireDecl → List (List ℕ) → Option CheckFault
 names_fault switches chains nodes wires taken =
     option_or (option_map TwoNames (taken_twice switches chains nodes taken)) (option_map NoSuchName (unknown_name switches chains nodes wires))
 
--- ports
+-- the fault of the rules on ports, where one is broken
 abbrev pub ports_fault : List Node → List Edge → Option CheckFault
 ports_fault nodes ws =
     option_or (option_map NoSuchPort (port_missing nodes ws))
     (option_or (option_map PortTwice (port_twice ws)) (option_map (open_fault nodes) (port_open nodes ws)))
 
--- plugs, and sizes
+-- the fault of the rule on plugs, where it is broken
 abbrev pub plugs_fault : List PlugHead → List ChainDecl → List Node → Option CheckFault
 plugs_fault plugs chains nodes = option_or (option_map NoSuchPlug (unknown_plug plugs chains nodes)) (option_map PlugTwice (plug_twice plugs nodes))
 
@@ -54,7 +54,7 @@ plugs_fault plugs chains nodes = option_or (option_map NoSuchPlug (unknown_plug 
 abbrev pub sizes_fault : List ChainDecl → List Node → List WireDecl → Option CheckFault
 sizes_fault chains nodes wires = option_map BadSize (size_wrong chains nodes wires)
 
--- types
+-- the fault of the rules on types, where one is broken
 abbrev pub types_fault : List PlugHead → List ChainDecl → List Node → List Edge → Option CheckFault
 types_fault plugs chains nodes ws =
     option_or (option_map clash_fault (type_clash plugs chains nodes ws)) (option_map (λ i. TooDeep (name_at nodes i)) (too_deep plugs chains nodes ws))

@@ -7,7 +7,7 @@ use Rattle.stream_model.specs.Shape.{Walk, IsPolytree}
 abbrev pub wiring : List Edge → Graph
 wiring ws = record { nodes = []; wires = ws; chains = [] }
 
--- a walk links two nodes
+-- a walk links two nodes, whichever way its wires run
 pub record Linked (ws : List Edge) (a b : ℕ) : Type 0 where
   pub by : List ℕ
   pub walk : Walk (wiring ws) a b by

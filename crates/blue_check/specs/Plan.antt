@@ -45,7 +45,7 @@ lane_sized homes n w (Some s) = record { wire = n; size = s; from = slice_index 
 abbrev pub lane_plan_of : List ℕ → ℕ → Edge → List LanePlan
 lane_plan_of homes n w = lane_sized homes n w w.lane
 
--- all lanes, in order, where the first wire is number n
+-- all wires with a lane, each with its number, its size, the island of its output and that of its input, where the first wire is number n
 abbrev pub lanes_from : List ℕ → ℕ → List Edge → List LanePlan
 lanes_from homes n [] = []
 lanes_from homes n (w ∷ ws) = lane_plan_of homes n w ++ lanes_from homes (n + 1) ws

@@ -18,7 +18,7 @@ pub data Claim : Type 0 where
   called : List ℕ → Claim
   opens : List ℕ → Claim
 
--- its text
+-- the text of what a declaration takes
 abbrev pub text_of : Claim → List ℕ
 text_of (called name) = name
 text_of (opens file) = file

@@ -22,11 +22,11 @@ module _ (ws : List Edge) where
     pub at : slice_get ws i ≡ Some wire
     pub back : Path wire.to wire.from
 
-  -- the first wire that does
+  -- the first wire that lies on a closed walk
   pub record IsFirstClosed (i : ℕ) : Type 0 where
     pub lies : LiesOnClosedWalk i
     pub least : (j : ℕ) → LiesOnClosedWalk j → i ≤ j
 
-  -- no wire does
+  -- no wire lies on a closed walk
   pub record HasNoClosedWalk : Type 0 where
     pub none : (j : ℕ) → LiesOnClosedWalk j → ⊥

@@ -49,10 +49,10 @@ picks_by (partitions n f) = false
 picks_by unzips = false
 picks_by (sinks file keeps) = false
 
--- a kind whose moves do
+-- a kind whose moves depend on what comes first
 abbrev pub picks : Kind → Bool
 picks k = picks_by (role_of k)
 
--- some node does
+-- some node has such a kind: a run of this blueprint records moves
 abbrev pub needs_picks : List Node → Bool
 needs_picks nodes = list_any (λ n. picks n.kind) nodes

@@ -109,7 +109,7 @@ module _ {S D L B : Type 0} where
       pub outs : then.outs ≡ now.outs
       pub kept : AllKept (KeepsNode sources drains) then.island.net.nodes now.island.net.nodes
 
-    -- such is each of them
+    -- each body was such at the last moment between two events
     pub record AreLastOf (begun now then : List (Body S D L B)) : Type 0 where
       pub count : length then ≡ length now
       pub each : (k : ℕ) (a b c : Body S D L B) → slice_get begun k ≡ Some a → slice_get now k ≡ Some b → slice_get then k ≡ Some c → IsLastMoment a b c

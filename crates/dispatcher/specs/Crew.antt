@@ -7,6 +7,6 @@ use Rattle.dispatcher.specs.PublicTurns.{handed_in}
 use Rattle.dispatcher.specs.declared.origin.PlaceOrigin.{PlaceOrigin}
 use Rattle.dispatcher.specs.Places.{Belongs}
 
--- n places of one budget
+-- so many places of one budget are in a table
 abbrev pub IsCrew : {B : Type 0} → Turns (PlaceOrigin B) (PlaceOrigin B) → TableId → ℕ → ℕ → Type 0
 IsCrew turns table limit n = (length (handed_in turns) ≡ n) × All (Belongs table limit) (handed_in turns)

@@ -14,7 +14,7 @@ Paid used seat = HasNoClaim seat × (budget_parts seat ≡ 1) × (used_by seat �
 abbrev pub BodyWentOn : {B : Type 0} → (B → Type 0) → (B → B → Type 0) → B → B → Type 0
 BodyWentOn keeps goes a b = (goes a b) × (keeps b)
 
--- or it broke off
+-- a body went on and is whole, or it broke off
 abbrev pub WentOrBroke : {B : Type 0} → (B → Type 0) → (B → B → Type 0) → (B → B → Type 0) → B → B → Type 0
 WentOrBroke keeps goes breaks a b = BodyWentOn keeps goes a b ⊎ breaks a b
 
@@ -35,6 +35,6 @@ place_origin start table limit = record { start = start; table = table; limit = 
 abbrev pub body_start : {B : Type 0} → PlaceOrigin B → B
 body_start o = o.start.value
 
--- a place of this budget
+-- a place of a body that is told by this budget
 abbrev pub Belongs : {B : Type 0} → TableId → ℕ → PlaceOrigin B → Type 0
 Belongs table limit o = (o.table ≡ table) × (o.limit ≡ limit)

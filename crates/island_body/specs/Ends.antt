@@ -44,7 +44,7 @@ module _ {S D L B : Type 0} where
     pub serves : Serves o.lane i o.wire
     pub only : HasOnly (ports_at i.net (out_node i o.wire)) (way_out i o.wire)
 
-  -- all do
+  -- all ends of an island's lanes stand at their stages
   pub record AllStand (i : Kept S D L B) (ins : List IslandInput) (outs : List OutputBoundary) : Type 0 where
     pub ins_stand : (k : ℕ) (x : IslandInput) → slice_get ins k ≡ Some x → InputEndStands i x
     pub outs_stand : (k : ℕ) (o : OutputBoundary) → slice_get outs k ≡ Some o → OutputEndStands i o
@@ -55,7 +55,7 @@ module _ {S D L B : Type 0} where
     pub ins_fed : (k : ℕ) (x : IslandInput) → k < n → slice_get ins k ≡ Some x → IsElse at (way_in i x.wire) → IsFed x.boundary i x.wire
     pub outs_served : (k : ℕ) (o : OutputBoundary) → k < m → slice_get outs k ≡ Some o → IsElse at (way_out i o.wire) → IsServed o.lane i o.wire
 
-  -- of none at all
+  -- no end of the lanes of an island has anything to do
   abbrev pub AllDone : Kept S D L B → List IslandInput → List OutputBoundary → Type 0
   AllDone i ins outs = AllServed None (length ins) (length outs) i ins outs
 

@@ -60,7 +60,7 @@ finds_same (x ∷ xs) (y ∷ ys) e h =
 there_before : {A : Type 0} (xs ys : List A) (k : ℕ) (y : A) → length ys ≡ length xs → slice_get ys k ≡ Some y → (x : A) × (slice_get xs k ≡ Some x)
 there_before xs ys k y e at = get_there xs k (subst (λ (n : ℕ). k < n) e (slice_get_within ys k y at))
 
--- and the one that stands there
+-- the item that stands at a place of a list behind a step that keeps its length
 pub there_after : {A : Type 0} (xs ys : List A) (k : ℕ) (x : A) → length ys ≡ length xs → slice_get xs k ≡ Some x → (y : A) × (slice_get ys k ≡ Some y)
 there_after xs ys k x e at = get_there ys k (subst (λ (n : ℕ). k < n) (sym e) (slice_get_within xs k x at))
 

@@ -62,7 +62,7 @@ module _ {S D L B : Type 0} where
     pub here : (x y : IslandInput) → slice_get old.ins.items k ≡ Some x → slice_get new.ins.items k ≡ Some y → TookNone x y
     pub others : (j : ℕ) → j ≢ k → slice_get new.ins.items j ≡ slice_get old.ins.items j
 
-  -- and of its output ends
+  -- looks at its first output ends, as many as n, found nothing, and nothing else changed
   pub record FoundNoneBelow (old new : Body S D L B) (n : ℕ) : Type 0 where
     pub island : new.island ≡ old.island
     pub ins : new.ins ≡ old.ins

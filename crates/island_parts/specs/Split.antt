@@ -20,7 +20,7 @@ pub record IsSpace {S D L B : Type 0} (places : List Place) (links : List Link) 
   pub links_are : s.links.items ≡ links
   pub room_is : IsRoom s.room places links
 
--- of each island
+-- the space of each island: its links, and the room for it
 pub record AreSpaces {S D L B : Type 0} (places : List (Vec Place Global)) (links : List (Vec Link Global)) (spaces : List (Space S D L B)) : Type 0 where
   pub many : length spaces ≡ length links
   pub each : (k : ℕ) (s : Space S D L B) → slice_get spaces k ≡ Some s → IsSpace (items_at places k) (items_at links k) s

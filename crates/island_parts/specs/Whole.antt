@@ -88,7 +88,7 @@ local_link homes l = record { wire = l.wire; from = rank_of homes l.from; output
 abbrev pub at_ranks : List ℕ → Link → Link
 at_ranks ranks l = record { wire = l.wire; from = slice_index ranks l.from; output = l.output; to = slice_index ranks l.to; input = l.input }
 
--- the links of island k
+-- the links of island k, by the places of that island
 abbrev pub own_links : List ℕ → List Link → ℕ → List Link
 own_links homes links k = of_home (map (link_home homes) links) k (map (local_link homes) links)
 

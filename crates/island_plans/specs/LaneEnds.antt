@@ -27,7 +27,7 @@ CanAllBeMade count lanes = (n : ℕ) (l : LanePlan) → slice_get lanes n ≡ So
 abbrev pub AreRising : List LanePlan → Type 0
 AreRising lanes = (m n : ℕ) (l k : LanePlan) → m < n → slice_get lanes m ≡ Some l → slice_get lanes n ≡ Some k → l.wire < k.wire
 
--- sizes that lanes have
+-- all lanes have sizes that lanes may have
 abbrev pub CanAllHaveEnds : List LanePlan → Type 0
 CanAllHaveEnds lanes = (n : ℕ) (l : LanePlan) → slice_get lanes n ≡ Some l → (1 ≤ l.size) × (l.size ≤ 1024)
 
@@ -86,7 +86,8 @@ pub record LaneJoins (e : AllEnds) (l : LanePlan) (c : Crossing) : Type 0 where
   pub inp_at : slice_get (items_at e.ins.items c.to) c.inp ≡ Some inp
   pub ends : AreEnds l out inp
 
--- Both ends of each lane lie in the lists of their islands, and no others do.
+-- Both ends of each lane lie in the lists of their islands where its crossing says, and no others do; no list is longer than that of the
+-- lanes.
 pub record AreAllEnds (lanes : List LanePlan) (count : ℕ) (e : AllEnds) : Type 0 where
   pub outs_many : length e.outs.items ≡ count
   pub ins_many : length e.ins.items ≡ count

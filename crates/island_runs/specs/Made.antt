@@ -14,7 +14,7 @@ use Rattle.island_body.specs.Keeping.{BodyKeeps, SameLanes}
 use Rattle.island_body.specs.declared.body.Body.{Body}
 use Rattle.stream_model.specs.Linear.{Book}
 
--- these are the parts of island k
+-- these are the parts of island k: what stands at its places, and its links
 pub record ArePartsOf {S D L B : Type 0} (homes : List ℕ) (ws : List Edge) (nodes : List (Seated S D L B)) (k : ℕ) (x : Parts S D L B) : Type 0 where
   pub nodes_are : x.nodes.items ≡ seats_in homes ws nodes k
   pub links_are : x.links.items ≡ links_in homes ws nodes k

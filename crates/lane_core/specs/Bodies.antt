@@ -1,7 +1,7 @@
 -- What holds of each of several bodies, and of each body as it was and as it is.
 use Rattle.std.specs.Prelude.{◌≡◌, ◌≢◌, ◌<◌, ℕ, List, Some, length, slice_get}
 
--- each is such
+-- each of these bodies is such
 abbrev pub AllOf : {B : Type 0} → (B → Type 0) → List B → Type 0
 AllOf P all = (k : ℕ) (b : _) → slice_get all k ≡ Some b → P b
 

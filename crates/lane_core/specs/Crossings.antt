@@ -10,7 +10,7 @@ pub record IsWithin {B : Type 0} (may_meet : B → ℕ → B → ℕ → Type 0)
   pub to_there : c.to < length bodies
   pub may : MayMeetAt may_meet bodies c.from c.out c.to c.inp
 
--- and so do those of each lane
+-- both ends of each of these lanes lie at bodies that are there, and may meet
 abbrev pub AreCrossings : {B : Type 0} → (B → ℕ → B → ℕ → Type 0) → List B → List Crossing → Type 0
 AreCrossings may_meet bodies lanes = (n : ℕ) (c : Crossing) → slice_get lanes n ≡ Some c → IsWithin may_meet bodies c
 
@@ -18,11 +18,11 @@ AreCrossings may_meet bodies lanes = (n : ℕ) (c : Crossing) → slice_get lane
 abbrev pub JoinedAt : {B : Type 0} → (B → ℕ → B → ℕ → Waits → Type 0) → List B → Crossing → Waits → Type 0
 JoinedAt joined bodies c w = (a b : _) → slice_get bodies c.from ≡ Some a → slice_get bodies c.to ≡ Some b → joined a c.out b c.inp w
 
--- this meeting did it
+-- this meeting brought the ends of a lane together
 abbrev pub MeetsAt : {B : Type 0} → (B → ℕ → B → ℕ → B → B → Waits → Type 0) → List B → Crossing → List B → Waits → Type 0
 MeetsAt met old c new w = (a b d e : _) → slice_get old c.from ≡ Some a → slice_get old c.to ≡ Some b → slice_get new c.from ≡ Some d → slice_get new c.to ≡ Some e → met a c.out b c.inp d e w
 
--- and so were those of each lane
+-- the two ends of each of these lanes were brought together, and what waits there
 abbrev pub AllJoined : {B : Type 0} → (B → ℕ → B → ℕ → Waits → Type 0) → List B → List Crossing → Type 0
 AllJoined joined bodies lanes = (n : ℕ) (c : Crossing) → slice_get lanes n ≡ Some c → (w : Waits) × JoinedAt joined bodies c w
 

@@ -126,6 +126,7 @@ pub record IsLaneHistory (o : LaneOut) (i : LaneIn) : Type 0 where
   pub closed : saw_cancel o ≡ 1 → seen_count o ≡ asked_in_all i
   pub sizes : out_size o ≡ in_size i
 
--- what one end did that the other has not seen
+-- what one end did that the other has not seen: an item was sent that was not taken; more was asked, or the lane was cancelled, than was
+-- seen
 abbrev pub WaitsAre : LaneOut → LaneIn → Waits → Type 0
 WaitsAre o i w = (IsTrue w.item ↔ (length (taken_items i) < length (sent o))) × (IsTrue w.demand ↔ ((seen_count o < asked_in_all i) ⊎ (saw_cancel o < has_cancelled i)))

@@ -17,7 +17,7 @@ weight (Elem e) = 1
 weight Ended = 0
 weight (Failed c) = 0
 
--- whether it ends the lane
+-- whether an item ends the lane
 abbrev pub ends : Item → Bool
 ends (Elem e) = false
 ends Ended = true
@@ -151,11 +151,11 @@ saw_sent st m r n =
     × (((r ≡ length m.0.items) × (n ≡ (record m.0 { looks = m.0.looks + 1; slots = 0; known = r }, [])))
     ⊎ ((length m.0.items < r) × (((x : Item) × (n ≡ (record m.0 { items = m.0.items ++ x ∷ []; looks = m.0.looks + 1; slots = 1; known = r }, (length m.0.items % st.slots, Some x) ∷ []))) × (elements n.0.items ≤ m.0.number))))
 
--- it asks once for more
+-- the input end asks once for more
 abbrev pub asked_more : TableStep → SeatView → ℕ → SeatView → Type 0
 asked_more st m r n = n ≡ (record m.0 { number = m.0.number + st.first / 2; asks = m.0.asks + 1; slots = 0 }, [])
 
--- it cancels
+-- the input end cancels
 abbrev pub cancelled : TableStep → SeatView → ℕ → SeatView → Type 0
 cancelled st m r n = n ≡ (record m.0 { cancel = 1 }, m.1)
 

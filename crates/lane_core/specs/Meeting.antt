@@ -16,7 +16,7 @@ pub record KeepsOut (o p : LaneOut) : Type 0 where
   pub finds : finds p ≡ finds o
   pub looks : out_looks p ≡ out_looks o
 
--- and an input end
+-- an input end that a meeting leaves as it is
 pub record KeepsIn (i j : LaneIn) : Type 0 where
   pub same : IsSameIn i j
   pub taken : taken_items j ≡ taken_items i
@@ -25,7 +25,7 @@ pub record KeepsIn (i j : LaneIn) : Type 0 where
   pub cancel : has_cancelled j ≡ has_cancelled i
   pub looks : in_looks j ≡ in_looks i
 
--- each end was told what the other did
+-- each end was told what the other did: how many items were sent, how many elements were asked for, and whether the lane was cancelled
 pub record AreTold (o : LaneOut) (i : LaneIn) : Type 0 where
   pub asked_is : told_asked o ≡ asked_in_all i
   pub cancel_is : told_cancel o ≡ has_cancelled i

@@ -69,7 +69,7 @@ pub record IsBoard (kinds : List Kind) (board : Board) : Type 0 where
 
 -- ---- the seats of nodes at a board
 
--- the switch of node k
+-- the switch that stands at a place of the board, if one does
 abbrev pub switch_held : Option (Option (Arc SwitchState Global)) → Option SwitchState
 switch_held None = None
 switch_held (Some None) = None
@@ -118,7 +118,7 @@ numbered_from k [] = []
 numbered_from k (None ∷ seats) = numbered_from (k + 1) seats
 numbered_from k (Some s ∷ seats) = (k, s) ∷ numbered_from (k + 1) seats
 
--- the seat of node k
+-- the seat that stands at a place, if one does
 abbrev pub seat_there : Option (Option SeatState) → Option SeatState
 seat_there None = None
 seat_there (Some s) = s

@@ -80,7 +80,7 @@ AreEmpty lists = (j : ℕ) (list : Vec SeatState Global) → slice_get lists j �
 abbrev pub HaveRoom : List (Option ℕ) → List (ℕ × SeatState) → List (Vec SeatState Global) → Type 0
 HaveRoom places entries lists = (j : ℕ) (list : Vec SeatState Global) → slice_get lists j ≡ Some list → length (seats_at j places entries) ≤ vec_capacity list
 
--- these lists have them
+-- each of these lists has the seats of the nodes that sit at its place
 abbrev pub HaveSeats : List (Option ℕ) → List (ℕ × SeatState) → List (Vec SeatState Global) → Type 0
 HaveSeats places entries lists = (j : ℕ) (list : Vec SeatState Global) → slice_get lists j ≡ Some list → list.items ≡ seats_at j places entries
 
@@ -94,7 +94,7 @@ pub record HasAllSeats (s : SwitchState) (list : Vec SeatState Global) : Type 0 
 abbrev pub AllWhole : List (Option (Arc SwitchState Global)) → List (Vec SeatState Global) → Type 0
 AllWhole switches lists = (j : ℕ) (s : Arc SwitchState Global) (list : Vec SeatState Global) → slice_get switches j ≡ Some (Some s) → slice_get lists j ≡ Some list → HasAllSeats (arc_value s) list
 
--- they were settled
+-- these seats of a switch were settled together
 abbrev pub IsSettledAt : Vec SeatState Global → Type 0
 IsSettledAt list = (stands : Option Order) × IsSettled list.items stands
 

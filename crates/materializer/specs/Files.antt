@@ -65,7 +65,7 @@ written_by (sinks file keeps) = file
 abbrev pub output_of : Kind → Option (List ℕ)
 output_of k = written_by (role_of k)
 
--- of all nodes
+-- the files that the sources read, in order of nodes
 abbrev pub inputs_of_nodes : List Node → List (List ℕ)
 inputs_of_nodes nodes = filter_map (λ n. source_file n.kind) nodes
 

@@ -51,7 +51,7 @@ pushed_in [] = []
 pushed_in (push e ∷ ms) = e ∷ pushed_in ms
 pushed_in (_ ∷ ms) = pushed_in ms
 
--- and those that were grabbed
+-- the elements that were grabbed in them, in their order
 abbrev pub grabbed_in : List Move → List Tree
 grabbed_in [] = []
 grabbed_in (grab e ∷ ms) = e ∷ grabbed_in ms

@@ -100,6 +100,6 @@ abbrev pub OneOneOf : (InView → OutView → Type 0) → List InView → List O
 OneOneOf P (x ∷ []) (y ∷ []) = P x y
 OneOneOf P _ _ = ⊥
 
--- the same of its view
+-- a fact of the ports of a stage with one input and one output
 abbrev pub OneOne : (InView → OutView → Type 0) → View → Type 0
 OneOne P v = OneOneOf P v.ins v.outs

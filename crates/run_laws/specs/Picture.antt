@@ -5,7 +5,7 @@ use Rattle.stream_model.specs.declared.outcome.EndState.TheVariants.{Ended, Fail
 use Rattle.nodes.specs.declared.node.IslandNode.{IslandNode}
 use Rattle.nodes.specs.declared.node.IslandNode.TheVariants.{Reading, Making, Linear, State, Sub, FanIn, FanOut, Writing, Ignoring, Entering, Leaving}
 
--- it does not go on
+-- a sink does not go on
 abbrev pub has_ended : EndState → Bool
 has_ended Ended = true
 has_ended (Failed c) = true

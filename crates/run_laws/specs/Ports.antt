@@ -56,7 +56,7 @@ gots_of is = map (λ (i : InPort). i.got) is
 abbrev pub sents_of : List OutPort → List (List Item)
 sents_of os = map (λ (o : OutPort). o.sent) os
 
--- P holds of each
+-- P holds of each of these ports
 abbrev pub EachPort : {X : Type 0} → (X → Type 0) → List X → Type 0
 EachPort P [] = Unit {0}
 EachPort P (x ∷ xs) = P x × EachPort P xs
@@ -80,7 +80,7 @@ pub record OutStands (o : OutPort) : Type 0 where
   -- what the node was asked for is wanted
   pub wants : o.want ≤ wanted o.wire
 
--- Where no event is left.
+-- how an input stands where no event is left
 pub record InRests (i : InPort) : Type 0 where
   pub waits : i.view ≡ Pulled → Waits i.wire × (i.wire.sent ≡ elements i.got)
   pub idles : i.view ≡ Idle → IsLane i.wire ⊎ (((i.wire.asked ≡ false) × (i.wire.shut ≡ false)) × (i.wire.sent ≡ elements i.got))

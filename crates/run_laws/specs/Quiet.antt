@@ -29,7 +29,7 @@ pub record MetQuiet (o : OutEnd) (i : InEnd) : Type 0 where
   pub seen_all : o.seen ≡ i.asked
   pub refused_is : o.refused ≡ i.cancelled
 
--- of a lane all of it
+-- nothing is left to take off a lane or to see at it
 pub record LaneQuiet (s : ℕ) (near far : WireState) (asked : ℕ) (keeps : LaneKeeps s near far asked) : Type 0 where
   pub out : OutQuiet near keeps.out
   pub inp : InQuiet far keeps.inp

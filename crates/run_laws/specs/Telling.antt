@@ -55,7 +55,7 @@ module _ {S D L B : Type 0} (sources : S → SourceState) where
   TellsNode w n (Reading first) (Reading now) = (name : List ℕ) → n.kind ≡ kind.Lines name → TellsFile (sources first.reader.source) (sources now.reader.source) (w.file name)
   TellsNode w n _ _ = ⊤
 
-  -- the files of all nodes
+  -- a world tells the files of all sources
   abbrev pub TellsFiles : Graph → World → Account (IslandNode S D L B) → Type 0
   TellsFiles g w a = (k : ℕ) (n : graph.Node) (first now : IslandNode S D L B) → slice_get g.nodes k ≡ Some n → a.firsts k ≡ Some first → a.nodes k ≡ Some now → TellsNode w n first now
 

@@ -2,7 +2,7 @@
 use Rattle.std.specs.Prelude.{ℕ, Bool, true, false, ◌==◌, if◌then◌else◌, List, [], ◌∷◌, map, Option, Some, None, option_map, codes}
 use Rattle.std.specs.Str.{bytes_eq}
 
--- an option
+-- an option of the command
 pub data Setting : Type 0 where
   generate : Setting
   workers : Setting
@@ -65,17 +65,18 @@ unfoldable pub parts_from : List (List ℕ) → Option Setting → Option (List 
 parts_from [] waits = no_word waits
 parts_from (word ∷ words) waits = word_from waits word words (parts_from words)
 
--- the parts that the words say
+-- the parts that the words say in order: an option's value is the next word, which does not begin with `-`, or stands behind `=`; behind a
+-- word `--` all words are files; no parts where a word is none of these
 abbrev pub parts_of : List (List ℕ) → Option (List Part)
 parts_of words = parts_from words None
 
--- the files
+-- the files among some parts
 abbrev pub files_of : List Part → List (List ℕ)
 files_of [] = []
 files_of (given s value ∷ parts) = files_of parts
 files_of (file name ∷ parts) = name ∷ files_of parts
 
--- the option is this one
+-- this option is that one
 abbrev pub is_setting : Setting → Setting → Bool
 is_setting generate generate = true
 is_setting workers workers = true
@@ -83,7 +84,7 @@ is_setting turns turns = true
 is_setting trace trace = true
 is_setting _ _ = false
 
--- the values of an option
+-- the values that some parts give of an option
 abbrev pub values_of : Setting → List Part → List (List ℕ)
 values_of s [] = []
 values_of s (given t value ∷ parts) = if is_setting s t then value ∷ values_of s parts else values_of s parts

@@ -31,7 +31,7 @@ pub record FanPlace : Type 0 where
 abbrev pub untagged : List Tagged → List Tree
 untagged l = map (λ x. x.item) l
 
--- how many are of input n
+-- how many of some elements are of input n
 abbrev pub used : ℕ → List Tagged → ℕ
 used n [] = 0
 used n (x ∷ l) = if x.port == n then suc (used n l) else used n l

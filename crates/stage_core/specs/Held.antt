@@ -14,7 +14,7 @@ end_items unended = []
 end_items ended = item.Ended ∷ []
 end_items (failed c) = item.Failed c ∷ []
 
--- the history of a list that stands so
+-- the history, an end among its items, of a list that stands so
 abbrev pub told : List Tree → End → List Item
 told [] e = end_items e
 told (t ∷ l) e = item.Elem t ∷ told l e

@@ -15,14 +15,14 @@ want_view Quiet = Unpulled
 want_view Asks = Available
 want_view Gone = Cancelled
 
--- how many are open
+-- how many outputs are open
 abbrev pub open_count : List OutputState → ℕ
 open_count [] = 0
 open_count (Quiet ∷ ws) = suc (open_count ws)
 open_count (Asks ∷ ws) = suc (open_count ws)
 open_count (Gone ∷ ws) = open_count ws
 
--- how many ask
+-- how many outputs ask
 abbrev pub asks_count : List OutputState → ℕ
 asks_count [] = 0
 asks_count (Quiet ∷ ws) = asks_count ws
@@ -41,7 +41,7 @@ abbrev pub OneInClosed : List InView → Type 0
 OneInClosed (x ∷ []) = InClosed x
 OneInClosed _ = ⊥
 
--- all outputs are
+-- all outputs are closed
 abbrev pub OutsClosed : List OutView → Type 0
 OutsClosed [] = ⊤
 OutsClosed (y ∷ ys) = OutClosed y × OutsClosed ys

@@ -19,7 +19,7 @@ OutClosed outlet.Available = ⊥
 OutClosed outlet.Closed = ⊤
 OutClosed outlet.Cancelled = ⊤
 
--- both are
+-- both ports of a stage with one input and one output are closed
 abbrev pub BothClosed : InView → OutView → Type 0
 BothClosed Finished outlet.Closed = ⊤
 BothClosed Finished outlet.Cancelled = ⊤

@@ -9,7 +9,7 @@ use Rattle.port_core.specs.View.{View}
 use Rattle.stage_core.specs.Row.{InClosed, OutClosed}
 use Rattle.stream_model.specs.Outlook.{End, unended, ended}
 
--- the output
+-- what is known of the output, by whether it is asked
 abbrev pub wish : Bool → OutView
 wish true = Available
 wish false = Unpulled

@@ -38,7 +38,7 @@ module _ (yields : List Tree → End → Given Tree) (keeps : List Sub → Type 
       ((w : Why) × ((arranged o ss t ≡ Err w) × (b ≡ Some (AtElement w)))) ⊎ ((now : List Sub) × ((arranged o ss t ≡ Ok now) × SubsReach ss now b before after))
 
 module _ {C : Type 0} (rest : C → ListFunction) (is_open : C → Bool) (f : ListFunction) (yields : List Tree → End → Given Tree) where
-  -- these are the substreams: some that have ended, of which none failed, and then the one that has not
+  -- these are the substreams of a stage that splits: some that have ended, of which none failed, and at most one more, which goes on
   pub record Split (l : Last C) (ss : List Sub) : Type 0 where
     pub olds : List Sub
     pub tail : Option Sub

@@ -26,7 +26,7 @@ told_end nodes s = record { name = node_name (slice_get nodes s.0); count = s.1;
 abbrev pub told_ends : List Node → List SinkStand → List SinkEnd
 told_ends nodes stands = map (told_end nodes) stands
 
--- it ended
+-- a sink that stands so has ended
 abbrev pub is_ended : EndState → Bool
 is_ended state.Ended = true
 is_ended _ = false

@@ -55,7 +55,7 @@ pub record Blank (a : Answer) : Type 0 where
   pub no_picks : a.picks ≡ []
   pub unused : a.used ≡ 0
 
--- and no file is changed
+-- nothing was run, so there is nothing to tell of a run, and no file is changed
 pub record RanNothing (old new : FolderState) (a : Answer) : Type 0 where
   pub files : SameFiles old new
   pub blank : Blank a

@@ -119,13 +119,13 @@ abbrev pub MergeWaits : List ℕ → ℕ → List SeenWire → Type 0
 MergeWaits moves n [] = Unit {0}
 MergeWaits moves n (v ∷ vs) = MergeInput (count_of n moves) v × MergeWaits moves (n + 1) vs
 
--- a merge, by its moves
+-- the row of a merge in a picture that rests, by its moves
 abbrev pub MergeRests : List ℕ → List SeenWire → SeenWire → Type 0
 MergeRests moves is o =
     (IsAsked o × SomeWire Waits is × EachWire (λ i. Waits i ⊎ IsShut i) is)
     ⊎ (IsUnasked o × MergeWaits moves 0 is)
 
--- a concat
+-- the row of a concat in a picture that rests
 abbrev pub ConcatRests : List SeenWire → SeenWire → Type 0
 ConcatRests is o = (IsAsked o × FirstOpenWaits is) ⊎ (IsUnasked o × EachWire IdlesOrShut is)
 
@@ -164,7 +164,7 @@ turns_stop segment is = stops_at segment (total (λ v. v.sent + 1) is) segment (
 abbrev pub TurnRests : ℕ → List SeenWire → SeenWire → Type 0
 TurnRests p is o = (IsAsked o × WaitsAt p 0 is) ⊎ (IsUnasked o × EachWire IdlesOrShut is)
 
--- an interleave: where all its inputs are fused, the one that waits is that at which the turns stop
+-- the row of an interleave in a picture that rests: where all its inputs are fused, the one that waits is that at which the turns stop
 abbrev pub InterleaveRests : ℕ → List SeenWire → SeenWire → Type 0
 InterleaveRests segment is o =
     (IsAsked o × ((p : ℕ) × WaitsAt p 0 is × (SomeWire IsLane is ⊎ (turns_stop segment is ≡ Some p))))
@@ -186,24 +186,24 @@ SortedHolds a b o =
 abbrev pub SortedStands : List SeenWire → SeenWire → Type 0
 SortedStands is o = (IsAsked o × SomeWire Waits is) ⊎ (IsUnasked o × EachWire WaitsIdlesOrShut is)
 
--- a merge_sorted
+-- the row of a merge_sorted in a picture that rests
 abbrev pub SortedRests : List SeenWire → SeenWire → Type 0
 SortedRests (a ∷ b ∷ []) o = SortedStands (a ∷ b ∷ []) o × SortedHolds a b o
 SortedRests _ o = ⊥
 
--- a zip
+-- the row of a zip in a picture that rests
 abbrev pub ZipRests : List SeenWire → SeenWire → Type 0
 ZipRests is o =
     EachWire (ZipInput o.sent) is
     × ((IsAsked o × SomeWire (λ i. Waits i × (i.sent ≡ o.sent)) is) ⊎ IsUnasked o)
 
--- a broadcast or an unzip
+-- the row of a broadcast or an unzip in a picture that rests
 abbrev pub BroadcastRests : SeenWire → List SeenWire → Type 0
 BroadcastRests i os =
     (AllOpenAsked os × Waits i × CopiesAll i os)
     ⊎ (SomeWire IsUnasked os × Idles i × CopiesSome i os)
 
--- a balance
+-- the row of a balance in a picture that rests
 abbrev pub BalanceRests : SeenWire → List SeenWire → Type 0
 BalanceRests i os =
     (SomeWire IsAsked os × Waits i)
@@ -219,8 +219,8 @@ abbrev pub SomeOwed : (ℕ → List Tree → ℕ) → SeenWire → ℕ → List 
 SomeOwed given i n [] = ⊥
 SomeOwed given i n (o ∷ os) = (IsUnasked o × (IsLane i ⊎ (given n (take i.sent i.list) ≡ o.sent + 1))) ⊎ SomeOwed given i (n + 1) os
 
--- a partition: it waits; or it holds an element for an output that is not asked; or no output is asked. `given n l` is how many
--- elements of l have the number n
+-- The row of a partition in a picture that rests: it waits; or it holds an element for an output that is not asked; or no output is asked.
+-- `given n l` is how many elements of l have the number n.
 abbrev pub PartitionRests : (ℕ → List Tree → ℕ) → SeenWire → List SeenWire → Type 0
 PartitionRests given i os =
     Waits i
@@ -273,7 +273,7 @@ module _ (g : Graph) (w : World) where
   RoleRests node unzips d is os = OneToMany BroadcastRests is os
   RoleRests node (sinks file keeps) d is os = SinkRests is
 
-  -- and which is of this kind
+  -- the row of node `node`, which is of this kind
   abbrev pub RowRests : ℕ → Kind → Decider → List SeenWire → List SeenWire → Type 0
   RowRests node k d is os = RoleRests node (role_of k) d is os
 

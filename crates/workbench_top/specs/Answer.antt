@@ -51,7 +51,7 @@ pub record PassesAnswer (text file : List ℕ) (a : Answer) : Type 0 where
   pub said : a.said.items ≡ []
   pub told : a.told.items ≡ []
 
--- `check`
+-- the answer to `check`
 abbrev pub Checks : List ℕ → List ℕ → Answer → Type 0
 Checks text file a = PassesAnswer text file a ⊎ Blames text file a
 
@@ -68,7 +68,7 @@ pub record RefusesText (text : List ℕ) (a : Answer) : Type 0 where
   pub is : text_fault text ≡ Some fault
   pub told : TellsFault (unready.Refused fault) a
 
--- `fmt`
+-- the answer to `fmt`
 abbrev pub Formats : List ℕ → Answer → Type 0
 Formats text a = SaysCanonical text a ⊎ (RefusesText text a ⊎ (a.ending ≡ ending.NoMemory))
 
@@ -89,7 +89,7 @@ pub record DrawsUnfit (text file : List ℕ) (a : Answer) : Type 0 where
   pub is : IsUnready text file why
   pub told : BeginsWithReport why a.told.items
 
--- `draw`
+-- the answer to `draw`
 abbrev pub DrawsAnswer : List ℕ → List ℕ → Answer → Type 0
 DrawsAnswer text file a = DrawsFit text file a ⊎ (DrawsUnfit text file a ⊎ Blames text file a)
 
@@ -107,7 +107,7 @@ pub record MissesCounts (text file : List ℕ) (a : Answer) : Type 0 where
   pub fit : IsFitText text file blueprint
   pub said : a.said.items ≡ []
 
--- `turns`
+-- the answer to `turns`
 abbrev pub Counts : List ℕ → List ℕ → List ℕ → Answer → Type 0
 Counts text file counts a = SaysUnits text file counts a ⊎ (MissesCounts text file a ⊎ (Blames text file a ⊎ (a.ending ≡ ending.NoMemory)))
 

@@ -39,7 +39,7 @@ is_read (Err k) = false
 abbrev pub are_numbers : List (List ℕ) → Bool
 are_numbers ws = list_all (λ w. is_read (read_count 64 w)) ws
 
--- no word
+-- there is no word
 abbrev pub is_nothing : List (List ℕ) → Bool
 is_nothing [] = true
 is_nothing (w ∷ ws) = false

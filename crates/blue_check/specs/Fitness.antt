@@ -27,7 +27,7 @@ node_name (Some n) = n.name
 abbrev pub name_at : List Node → ℕ → List ℕ
 name_at nodes i = node_name (slice_get nodes i)
 
--- an open port with the name of its node, and a clash
+-- the fault of an open port: the name of its node, and which port
 abbrev pub open_fault : List Node → OpenPort → CheckFault
 open_fault nodes o = PortOpen (name_at nodes o.node) o.output o.port
 
@@ -72,7 +72,7 @@ early_of switches chains nodes wires plugs taken =
 abbrev pub early_fault : Blueprint → List PlugHead → List (List ℕ) → Option CheckFault
 early_fault b plugs taken = early_of b.switches.items b.chains.items b.nodes.items b.wires.items plugs taken
 
--- the fault is that of the first rule that is broken, at its least place: closed walks come last
+-- the fault is that the first wire on a closed walk lies on one
 abbrev pub IsClosedFault : List Edge → CheckFault → Type 0
 IsClosedFault ws (ClosedWalk i) = IsFirstClosed ws i
 IsClosedFault ws _ = ⊥

@@ -17,7 +17,7 @@ pub record IsNewNumber (old new : List (Option ℕ)) (firsts firsts' : List ℕ)
   pub set : new ≡ slice_set old label (Some number)
   pub more : firsts' ≡ firsts ++ node ∷ []
 
--- or it had one, and all is as it was
+-- a label had this number, and all is as it was
 pub record IsOld (old new : List (Option ℕ)) (firsts firsts' : List ℕ) (label number : ℕ) : Type 0 where
   pub had : slice_get old label ≡ Some (Some number)
   pub kept : new ≡ old

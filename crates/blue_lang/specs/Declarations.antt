@@ -28,7 +28,7 @@ pub data Declaration : Type 0 where
   node : Node → Declaration
   wire : WireDecl → Declaration
 
--- an output or an input: a node's name, and behind the first point the number
+-- the name of a node and the number of a port, where a word was cut in two at a point
 abbrev pub port_place : Option (List ℕ × List ℕ) → List (List ℕ) → Reading (List ℕ × ℕ)
 port_place None ws = None
 port_place (Some r) ws = Some (both (read_name r.0) (read_count 32 r.1), ws)

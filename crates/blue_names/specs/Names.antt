@@ -47,12 +47,12 @@ file_in (a_chain name) = None
 abbrev pub file_of : Kind → Option (List ℕ)
 file_of k = file_in (mention_of k)
 
--- the claims of a node: its name, and then its file
+-- these claims with that of a file in front, where there is one
 abbrev pub opening : Option (List ℕ) → List Claim → List Claim
 opening (Some file) cs = opens file ∷ cs
 opening None cs = cs
 
--- the claims of these nodes, in order
+-- the claims of these nodes, in order: of each its name, and then its file
 abbrev pub claims_of_nodes : List Node → List Claim
 claims_of_nodes [] = []
 claims_of_nodes (n ∷ ns) = called n.name ∷ opening (file_of n.kind) (claims_of_nodes ns)
@@ -114,7 +114,7 @@ abbrev pub unknown_plug_at : List (List ℕ) → Option (List ℕ) → Option (L
 unknown_plug_at plugs (Some name) = missing name plugs
 unknown_plug_at plugs None = None
 
--- the first plug that a step of a chain names, or that a node does, and that is none of these
+-- the first plug that one of these steps names and that is none of these
 abbrev pub unknown_in_steps : List (List ℕ) → List Step → Option (List ℕ)
 unknown_in_steps plugs steps = first_from (λ _ s. unknown_plug_at plugs (plug_of s.kind)) 0 steps
 
@@ -130,7 +130,7 @@ unknown_in_nodes plugs nodes = first_from (λ _ n. unknown_plug_at plugs (plug_o
 abbrev pub unknown_plug : List PlugHead → List ChainDecl → List Node → Option (List ℕ)
 unknown_plug plugs chains nodes = option_or (unknown_in_chains (map (λ p. p.name) plugs) chains) (unknown_in_nodes (map (λ p. p.name) plugs) nodes)
 
--- these uses of names with one more in front, where there is one
+-- these claims with that of a name in front, where there is one
 abbrev pub calling : Option (List ℕ) → List Claim → List Claim
 calling (Some name) cs = called name ∷ cs
 calling None cs = cs

@@ -9,7 +9,7 @@ use Rattle.stream_model.specs.declared.kind.Policy.{Policy}
 use Rattle.stream_model.specs.declared.kind.Policy.TheVariants.{Backpressure, DropHead, DropTail, DropBuffer, DropNew, Fail}
 use Rattle.stream_model.specs.declared.blueprint.Node.{Node}
 
--- a buffer that does not hold its input back, and substreams whose outputs come together as they are
+-- a buffer that does not hold its input back
 abbrev pub may_drop : Policy → Bool
 may_drop Backpressure = false
 may_drop DropHead = true

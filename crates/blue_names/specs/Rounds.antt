@@ -160,7 +160,7 @@ module _ (plugs : List PlugHead) (chains : List ChainDecl) where
   attempt_on unzips os by_one = option_map by_one (first_typed os)
   attempt_on (sinks file keeps) os by_one = option_map by_one (first_typed os)
 
-  -- what a kind would give: its fixed type, where it has one
+  -- what a kind would give, by its fixed type, where it has one
   abbrev pub attempt_by : Option Sort → Kind → List (Option Sort) → Option Typed
   attempt_by (Some s) k os = Some (limited s)
   attempt_by None k os = attempt_on (role_of k) os (stage_typed plugs chains k)

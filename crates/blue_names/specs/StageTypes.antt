@@ -45,7 +45,7 @@ steps_in (Some c) = c.steps.items
 abbrev pub chain_named : List ℕ → List ChainDecl → List Step
 chain_named name chains = steps_in (named (λ c. c.name) name chains)
 
--- what a plug wants, and what it gives
+-- what a plug wants
 abbrev pub plug_want : Option PlugHead → Option Want
 plug_want (Some p) = Some (Is p.input)
 plug_want None = None
@@ -166,7 +166,7 @@ module _ (plugs : List PlugHead) where
   abbrev pub step_typed : Kind → Sort → Typed
   step_typed k t = clash_or (stage_want k) t (limited (stage_gives k t))
 
-  -- the steps of a chain one after another, up to the first that does not give
+  -- what comes of a type, where one is given, and else what was said instead
   abbrev pub and_then : Typed → (Sort → Typed) → Typed
   and_then (Gives t) g = g t
   and_then r g = r

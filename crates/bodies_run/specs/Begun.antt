@@ -16,7 +16,7 @@ module _ {S D L B : Type 0} where
   abbrev pub HaveSameLanes : Body S D L B → Body S D L B → Type 0
   HaveSameLanes a b = SameLanes a.ins.items b.ins.items a.outs.items b.outs.items
 
-  -- the island of each body has the numbers of its links' wires, and those of what stands at its places
+  -- the island of a body has the numbers of its links' wires, and those of what stands at its places
   pub record IsNumberedBody (homes : List ℕ) (ws : List Edge) (nodes : List (Seated S D L B)) (k : ℕ) (b : Body S D L B) : Type 0 where
     pub wires : b.island.numbers ≡ map wire_number (links_in homes ws nodes k)
     pub places : b.island.places ≡ map place_number (seats_in homes ws nodes k)

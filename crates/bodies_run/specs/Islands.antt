@@ -64,7 +64,7 @@ pub record IsGraphOf {S D L B : Type 0} (g : Graph) (ws : List Edge) (nodes : Li
   pub outs_are : (k : ℕ) (n : graph.Node) → slice_get g.nodes k ≡ Some n → outputs_at nodes k ≡ outputs_of n.kind
 
 module _ {S D L B : Type 0} (homes : List ℕ) (ws : List Edge) (nodes : List (Seated S D L B)) where
-  -- what stands at the places of island k, and its links
+  -- what stands at the places of island k
   abbrev pub seats_in : ℕ → List (Seated S D L B)
   seats_in k = of_home (place_homes homes ws) k (whole_seats nodes (lanes_from homes 0 ws))
 

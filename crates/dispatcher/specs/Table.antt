@@ -6,7 +6,8 @@ use Rattle.atomic_table.specs.Table.{State, Me, Step, rest}
 use Rattle.dispatcher.specs.Sums.{total, times, latest, without}
 use Rattle.dispatcher.specs.declared.hold.Hold.{Hold}
 
--- what a seat of a turn table holds: its part, the places whose turn it holds, how many slots are out, and what it found, began and woke
+-- what a seat of a turn table holds: its part, the places whose turn it has, the place whose slot is with it, and what it found, began and
+-- woke
 abbrev pub hold : ℕ → List ℕ → ℕ → List (ℕ × ℕ) → List ℕ → List (ℕ × ℕ) → Hold
 hold parts held out found began woke = record { parts = parts; held = held; out = out; found = found; began = began; woke = woke }
 

@@ -76,7 +76,7 @@ call_of pull e = pulls e.output
 call_of cancel e = cancels e.output
 call_of (arrived x more) e = arrives e.input x
 
--- what the code says that a delivery brings; where it goes, and the call of its handler
+-- what the code says that a delivery brings
 abbrev pub IsBrought : Delivered → Delivery → Type 0
 IsBrought brings.Cancel d = d ≡ cancel
 IsBrought (brings.Arrived x) d = (more : Bool) × (d ≡ arrived x more)

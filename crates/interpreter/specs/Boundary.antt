@@ -40,11 +40,11 @@ module _ {S D L B : Type 0} where
     pub place : way_out i u < length i.net.wires
     pub stage : LeavesAt i.net (way_out i u)
 
-  -- such a stage stands at the connection of place q, and the lane comes in there
+  -- the lane that is wire u comes in at the connection of place q
   abbrev pub EntersBy : Kept S D L B → ℕ → ℕ → Type 0
   EntersBy i u q = Enters i u × (way_in i u ≡ q)
 
-  -- such a stage stands at the connection of place q, and the lane goes out there
+  -- the lane that is wire u goes out at the connection of place q
   abbrev pub LeavesBy : Kept S D L B → ℕ → ℕ → Type 0
   LeavesBy i u q = Leaves i u × (way_out i u ≡ q)
 

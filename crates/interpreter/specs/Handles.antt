@@ -37,7 +37,7 @@ with_drain (Writing k None) rest = rest
 with_drain (LaneIn u) rest = rest
 with_drain (LaneOut u) rest = rest
 
--- those of all places, in their order
+-- the sources of all places, in their order
 abbrev pub sources_in : {S D L B : Type 0} → List (Seated S D L B) → List S
 sources_in [] = []
 sources_in (s ∷ ss) = with_source s.work (sources_in ss)

@@ -35,7 +35,7 @@ FoundIs Nothing before after cancel = (after ≡ before) × (cancel ≡ 0)
 FoundIs Demand before after cancel = (before < after) × (cancel ≡ 0)
 FoundIs Cancelled before after cancel = cancel ≡ 1
 
--- what a visit found, by what was seen of asks and of a cancel before and after it; each find is one unit
+-- what a visit found, by what was seen of asks and of a cancel before and after it
 abbrev pub VisitIs : Found → ℕ → ℕ → ℕ → ℕ → Type 0
 VisitIs Nothing before cancel after cancel' = (after ≡ before) × (cancel' ≡ cancel)
 VisitIs Demand before cancel after cancel' = (before < after) × ((cancel ≡ 0) × (cancel' ≡ 0))

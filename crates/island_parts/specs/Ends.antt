@@ -70,7 +70,7 @@ writer_of (node.Ignoring x) = None
 writer_of (node.Entering x) = None
 writer_of (node.Leaving x) = None
 
--- a stage at an end of a lane, and nodes that are such
+-- a stage at an end of a lane
 abbrev pub is_lane_end : {S D L B : Type 0} → IslandNode S D L B → Bool
 is_lane_end (node.Reading x) = false
 is_lane_end (node.Making x) = false

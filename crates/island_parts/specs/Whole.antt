@@ -76,7 +76,7 @@ whole_places nodes lanes = nodes ++ (map in_place lanes ++ map out_place lanes)
 abbrev pub whole_homes : List ℕ → List LanePlan → List ℕ
 whole_homes homes lanes = homes ++ (map (λ (l : LanePlan). l.to) lanes ++ map (λ (l : LanePlan). l.from) lanes)
 
--- the island of a link, and the link by the places of its island alone
+-- the island of a link
 abbrev pub link_home : List ℕ → Link → ℕ
 link_home homes l = slice_index homes l.from
 

@@ -18,7 +18,7 @@ leaves_in Seats n = is_some (switch_of n.kind)
 leaves_in Readers n = is_some (source_file n.kind)
 leaves_in Writers n = is_some (output_of n.kind)
 
--- the islands of the nodes that leave one, in order of nodes, where these are the islands of all
+-- the island of a node, where it leaves one
 abbrev pub own_home : EndList → Node → ℕ → List ℕ
 own_home list n h = if leaves_in list n then h ∷ [] else []
 

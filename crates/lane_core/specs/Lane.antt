@@ -112,7 +112,7 @@ note v = record { sends = false; gets = false; items = v.items; number = v.numbe
 abbrev pub informed : Sight → Sight → Sight
 informed v w = record v { told = w.items; told_number = w.number; told_cancel = w.cancel; told_finds = w.finds }
 
--- a seat with the places that it holds, and a step
+-- a seat with the places that it holds
 abbrev pub SeatView : Type 0
 SeatView = Me (Option Item) Sight
 

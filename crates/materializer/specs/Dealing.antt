@@ -72,11 +72,11 @@ pub record IsSeatPut (p : Option (Option ℕ)) (s : SeatState) (old new : List (
 abbrev pub HaveLists : List (Option ℕ) → List (Vec SeatState Global) → Type 0
 HaveLists places lists = (k j : ℕ) → slice_get places k ≡ Some (Some j) → j < length lists
 
--- these lists are empty, and have room for the seats of the nodes that sit at their places
+-- each of these lists is empty
 abbrev pub AreEmpty : List (Vec SeatState Global) → Type 0
 AreEmpty lists = (j : ℕ) (list : Vec SeatState Global) → slice_get lists j ≡ Some list → list.items ≡ []
 
--- these lists are empty, and have room for the seats of the nodes that sit at their places
+-- each of these lists has room for the seats of the nodes that sit at its place
 abbrev pub HaveRoom : List (Option ℕ) → List (ℕ × SeatState) → List (Vec SeatState Global) → Type 0
 HaveRoom places entries lists = (j : ℕ) (list : Vec SeatState Global) → slice_get lists j ≡ Some list → length (seats_at j places entries) ≤ vec_capacity list
 

@@ -15,7 +15,7 @@ abbrev pub element_came : Bool → List Tree → Bool
 element_came b [] = b
 element_came b (t ∷ l) = true
 
--- the first element, and code 7 at the second
+-- what `halts` replies to an element: the first one, and a failure with code 7 at the second
 abbrev pub halted : Bool → Tree → Reply
 halted false t = reply_with (t ∷ [])
 halted true t = record { gave = []; verdict = fail 7 }
@@ -28,7 +28,7 @@ halts_after b = record { reply = λ l. halted (element_came b l); closing = λ l
 abbrev pub spoils_gives : Gives
 spoils_gives = record { reply = λ l t. reply_with (t ∷ []); closing = λ l. record { gave = []; verdict = fail 9 } }
 
--- nothing, and at the end the last element twice
+-- an element twice, where there is one
 abbrev pub twice : Option Tree → List Tree
 twice None = []
 twice (Some t) = t ∷ t ∷ []

@@ -36,7 +36,7 @@ extra _ _ t q = 0
 abbrev pub spent : JointPorts → Bool → ℕ
 spent w q = elements w.sent + elements w.got + extra w.out w.inp w.conn.step q
 
--- the pulls that came to the output: one for each element that was pushed, and the last one
+-- 1 where the output was asked and has not answered, and else 0
 abbrev pub asked_bit : OutView → ℕ
 asked_bit outlet.Unpulled = 0
 asked_bit outlet.Available = 1

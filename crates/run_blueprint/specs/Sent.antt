@@ -12,7 +12,7 @@ use Rattle.stream_model.specs.declared.head.PlugHead.{PlugHead}
 use Rattle.run_blueprint.specs.Checked.{CarriesType}
 use Rattle.run_blueprint.specs.Types.{AllTyped}
 
--- what has passed, as all that may pass: a list that stands so
+-- the failures that a list that stands so has come to: its own, from the first element on
 abbrev fails_by : End → List Entry
 fails_by unended = []
 fails_by ended = []

@@ -57,7 +57,7 @@ module _ {N : Type 0} (g : Graph) (nets : ℕ → Net N) (s : Seats) where
   LanesRest asked = (u : ℕ) (v : Edge) (size : ℕ) → slice_get g.wires u ≡ Some v → v.lane ≡ Some size
       → WireQuiet (Some size) (wire_at (nets (s.near u).island) (s.near u).at) (wire_at (nets (s.far u).island) (s.far u).at) (asked u)
 
--- one island of all nodes and wires, each at its number
+-- the place of a node or a connection, by its number, where one island has all
 abbrev pub at_home : ℕ → IslandPlace
 at_home k = record { island = 0; at = k }
 

@@ -18,7 +18,7 @@ file_rule = record (new_rule (codes "file")) { action = Some Append }
 abbrev pub option_rule : List ℕ → Rule
 option_rule name = record (new_rule name) { long = Some name; action = Some Append }
 
--- the first word is no name of a program, and no word asks for help
+-- the command without its arguments: the first word is no name of a program, and no word asks for help
 abbrev pub bare_app : App
 bare_app = on_top (λ s. record s { no_binary_name = true; disable_help_flag = true }) (new_app (codes "streams"))
 

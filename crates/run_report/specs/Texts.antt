@@ -21,7 +21,7 @@ line_of n number = decimal ((7919 * number + n) % 1000) ++ codes "\n"
 abbrev pub numbered_lines : ℕ → List ℕ
 numbered_lines n = flat_map (line_of n) (range_with_len 1 n)
 
--- the even numbers among the lines, and the sum of all
+-- the text of the blueprint: the even numbers among the lines, and the sum of all
 abbrev pub blueprint_text : List ℕ
 blueprint_text = codes "streams 1\n"
     ++ (codes "source src lines gen.txt\n"

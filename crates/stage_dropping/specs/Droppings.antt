@@ -72,7 +72,7 @@ abbrev pub Took : Bool → Dropping → Tree → Dropping → Type 0
 Took true old t new = (comes old.policy old.size old.held t ≡ Some new.held) × ((new ≡ record old { held = new.held }) × (length new.held ≤ old.size))
 Took false old t new = (comes old.policy old.size old.held t ≡ None) × (new ≡ old)
 
--- by whether its input has ended, and whether nothing is left: its actions, and where it stands
+-- its actions, by whether its input has ended and whether nothing is left
 abbrev pub first_acts : Bool → Tree → List Tree → List Act
 first_acts true t [] = Push 0 t ∷ Complete 0 ∷ []
 first_acts _ t held = Push 0 t ∷ []

@@ -44,13 +44,12 @@ Turned call (Machines old) acts (Machines new) = machines.Turned call old acts n
 Turned call (Balances old) acts (Balances new) = balance.Turned call old acts new
 Turned call _ acts _ = ⊥
 
--- which output gets an element is decided by the order in which they asked: an output that asks while nothing waits is served
--- behind those that asked before, and an element goes to the one that asked first, which is noted
+-- of a balance: an output that asks while nothing waits is served behind those that asked before; of any other stage nothing is asked
 abbrev pub QueuesLast : ℕ → OutLogic → OutLogic → Type 0
 QueuesLast port (Balances old) (Balances new) = balance.LastInLine port old new
 QueuesLast port _ _ = ⊤
 
--- of a balance its own rule of whom it serves; of any other stage nothing is asked
+-- of a balance: an element goes to the output that asked first, which is noted; of any other stage nothing is asked
 abbrev pub ServesFirst : OutLogic → OutLogic → Type 0
 ServesFirst (Balances old) (Balances new) = balance.FirstServed old new
 ServesFirst _ _ = ⊤

@@ -12,7 +12,7 @@ use Rattle.stage_core.specs.OwnPorts.{own_input, own_output}
 abbrev pub SomeAsked : View → Type 0
 SomeAsked v = (j : ℕ) × (out_at v j ≡ Available)
 
--- the one input, with what was taken, and the outputs from number n on, each with what was given there
+-- the one input, with what was taken there
 abbrev pub own_ins : List InView → List Tree → List picture.SeenWire
 own_ins [] l = []
 own_ins (x ∷ xs) l = own_input x l ∷ own_ins xs l

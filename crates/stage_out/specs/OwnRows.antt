@@ -15,7 +15,7 @@ use Rattle.stage_out.specs.declared.machines.OutMachines.{OutMachines}
 use Rattle.stage_out.specs.Machines.{rests_as}
 use Rattle.stage_core.specs.declared.outs.OutputState.TheVariants.{Quiet, Asks, Gone}
 
--- the one input, with what was taken, and the outputs, each with what was given there
+-- the one input, with what was taken there
 abbrev pub own_ins : List InView → List Tree → List SeenWire
 own_ins [] l = []
 own_ins (x ∷ xs) l = own_input x l ∷ own_ins xs l

@@ -33,7 +33,7 @@ gone_by (Failed c) none l = l
 abbrev pub gone_on : Logic → Logic
 gone_on l = gone_by l.ending (is_none l.pending) l
 
--- and else it asks, where it had no room before
+-- its actions then: it completes with the last, where its input has ended, and else asks where it had no room before
 abbrev go_by : StateEnd → Bool → Bool → List Act
 go_by Lasting none was_full = if was_full then Pull 0 ∷ [] else []
 go_by Ended true was_full = Complete 0 ∷ []

@@ -88,7 +88,7 @@ IsStateful (TripShutdown name n) = 1 ≤ n
 IsStateful (TripAbort name n) = 1 ≤ n
 IsStateful kind = machine.IsMachine kind
 
--- a seat at its switch is there exactly for a valve or a trip; it is of its switch, gave nothing and knows nothing
+-- this seat is of its switch, gave nothing and knows nothing
 abbrev pub IsUnusedEnd : SwitchEnd → Type 0
 IsUnusedEnd e = IsUnused (arc_value e.switch) e.seat
 

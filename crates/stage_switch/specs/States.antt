@@ -103,7 +103,7 @@ abbrev pub watched : Valve → Option Order → Valve
 watched l None = record l { seat = record l.seat { knows = None; looks = l.seat.looks + 1 } }
 watched l (Some o) = record l { moves = order_number o ∷ l.passed ∷ []; seat = record l.seat { knows = Some o; looks = l.seat.looks + 1 } }
 
--- how it acts by an order: at its output, and at its input where that is open
+-- how it acts by an order at its output: it completes, or fails
 abbrev pub stop_act : ℕ → Order → Act
 stop_act node Shutdown = Complete 0
 stop_act node Abort = FailOut 0 (abort_of node)

@@ -28,7 +28,7 @@ end_step unended = Go
 end_step ended = Go
 end_step (failed c) = Failed c.why
 
--- what the end added to this list, or why it failed
+-- what the end added to what was given of a list, by how the list stands, or why it failed
 abbrev pub added_by : List Tree → List Tree → End → Result (List Tree) Why
 added_by g l unended = Ok []
 added_by g l ended = Ok (drop (length g) l)
@@ -47,7 +47,7 @@ module _ (book : Book) where
   abbrev pub emptied : Run Stage Tree → Run Stage Tree
   emptied x = record { gave = []; state = x.state }
 
-  -- what the last stage gave once the first took this list, and where the stages stand then
+  -- what the last stage gave once the first took this list
   abbrev pub chain_outs : Chain → List Tree → List Tree
   chain_outs [] l = l
   chain_outs (s ∷ ss) l = chain_outs ss (run each s l).gave

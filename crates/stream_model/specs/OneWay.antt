@@ -60,7 +60,7 @@ abbrev of_subs : Graph → World → ℕ → Opening → List ℕ → Option One
 of_subs g w node o chain =
     let c = through w.book (chain_of node (steps_of chain g.chains)) in Some (of_machine (substreams c o) (begin_subs c node) true)
 
--- the stages with one input and one output, but for buffers; no sink
+-- the same by its role: the stages with one input and one output, but for buffers; no sink
 abbrev pub one_way_by : Graph → World → ℕ → Role → Decider → Option OneWay
 one_way_by g w node (reads_lines name) d = None
 one_way_by g w node (gives_range low high) d = None

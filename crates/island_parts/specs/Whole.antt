@@ -13,7 +13,7 @@ use Rattle.interpreter.specs.declared.parts.Work.TheVariants.{LaneIn, LaneOut}
 use Rattle.blue_check.specs.declared.plan.LanePlan.{LanePlan}
 use Rattle.scatter.specs.Shares.{of_home, rank_of}
 
--- how many of some wires have a lane
+-- one more than this number, where a wire has a lane
 abbrev pub one_lane : Option ℕ → ℕ → ℕ
 one_lane None n = n
 one_lane (Some s) n = suc n

@@ -53,9 +53,10 @@ pub record CausesFit (p : Plugged) (s : Status) (a : Answer) (b : Blueprint) (ta
   pub reads : QuietButAll (inputs_of_nodes b.nodes.items) old.read new.read
   pub causes : RunCauses p s a b trace turns old new
 
--- which counts rose, of a blueprint and of a text
+-- which counts rose, of a blueprint
 abbrev pub CausesParsed : Plugged → Status → Answer → Blueprint → List (List ℕ) → Option (List ℕ) → ℕ → FolderState → FolderState → Type 0
 CausesParsed p s a b taken trace turns old new = CausesQuiet s old new ⊎ CausesFit p s a b taken trace turns old new
 
+-- which counts rose, of a text
 abbrev pub CausesText : Plugged → Status → Answer → List ℕ → List (List ℕ) → Option (List ℕ) → ℕ → FolderState → FolderState → Type 0
 CausesText p s a text taken trace turns old new = CausesQuiet s old new ⊎ ((b : Blueprint) × (language.Says text (plain b) × CausesFit p s a b taken trace turns old new))

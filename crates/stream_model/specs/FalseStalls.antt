@@ -20,9 +20,11 @@ meeting kind = record {
   chains = [];
 }
 
+-- such a graph with an interleave, by segments of one element
 abbrev pub in_turns : Graph
 in_turns = meeting (k.Interleave 2 1)
 
+-- such a graph with a merge_sorted
 abbrev pub sorted : Graph
 sorted = meeting k.MergeSorted
 

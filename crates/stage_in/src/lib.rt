@@ -6,6 +6,7 @@ pub mod handlers;
 pub mod inlet;
 pub mod laws;
 pub mod logic;
+pub mod pairing;
 pub mod sorting;
 pub mod taking;
 pub mod zipping;

@@ -7,7 +7,8 @@ ghost use Rattle.stage_core.specs.Seats.{room_for};
 ghost use Rattle.stage_in.specs.Pairings.{Does, new_pair, placed, without, closing};
 ghost use Rattle.stage_in.specs.Sortings.{port_state, Turned, next_side, is_used_up, held_at, taken, over_at, number, behind_element, behind_acts, give, give_acts, ended, ended_acts};
 
-use crate::inlet::{Inlet, Side};
+use crate::inlet::Side;
+use crate::pairing::Pairing;
 use elem_core::elem::Elem;
 use elem_core::why::{Cause, NoMemory};
 use port_core::act::Act;
@@ -21,10 +22,7 @@ use std::marker::Model;
 /// reference; the tie is own.
 #[derive(Drop)]
 pub struct Sorting {
-    phase: Phase,
-    left: Inlet,
-    right: Inlet,
-    asked: bool,
+    pair: Pairing,
 }
 
 impl Model for Sorting {
@@ -36,7 +34,7 @@ impl Model for Sorting {
 
     ghost coded = { Prim.hlevel (codes, tree_coded) };
 
-    ghost view = { λ l. record { phase = l.phase; left = l.left; right = l.right; asked = l.asked } };
+    ghost view = { λ l. l.pair };
 }
 
 impl Sorting {
@@ -45,16 +43,7 @@ impl Sorting {
         ensures { result ≡ new_pair }
     {
         Sorting {
-            phase: Phase::New,
-            left: Inlet {
-                held: None,
-                over: false,
-            },
-            right: Inlet {
-                held: None,
-                over: false,
-            },
-            asked: false,
+            pair: Pairing::new(),
         }
     }
 
@@ -69,7 +58,7 @@ impl Sorting {
         ensures gives { OnOk result (Turned starts self.old acts.new.items self.new) }
         ensures room { acts.new.room ≡ acts.old.room }
     {
-        self.begin(acts);
+        self.pair.begin(acts);
         Ok(())
     }
 
@@ -84,7 +73,7 @@ impl Sorting {
         ensures gives { OnOk result (Turned (pulls 0) self.old acts.new.items self.new) }
         ensures room { acts.new.room ≡ acts.old.room }
     {
-        self.want();
+        self.pair.want();
         self.give_next(acts);
         Ok(())
     }
@@ -100,7 +89,7 @@ impl Sorting {
         ensures gives { OnOk result (Turned (arrives port (item.Elem e)) self.old acts.new.items self.new) }
         ensures room { acts.new.room ≡ acts.old.room }
     {
-        self.place(port, e);
+        self.pair.place(port, e);
         self.give_next(acts);
         Ok(())
     }
@@ -131,7 +120,7 @@ impl Sorting {
         ensures gives { OnOk result (Turned (arrives port (item.Failed cause)) self.old acts.new.items self.new) }
         ensures room { acts.new.room ≡ acts.old.room }
     {
-        self.fail(port, cause, acts);
+        self.pair.fail(port, cause, acts);
         Ok(())
     }
 
@@ -146,36 +135,8 @@ impl Sorting {
         ensures gives { OnOk result (Turned (cancels 0) self.old acts.new.items self.new) }
         ensures room { acts.new.room ≡ acts.old.room }
     {
-        self.leave(acts);
+        self.pair.leave(acts);
         Ok(())
-    }
-
-    // Both inputs are asked.
-    fn begin(&mut self, acts: &mut Acts)
-        requires empty { acts.old.items ≡ [] }
-        requires room { 6 ≤ acts.old.room }
-        ensures does { Does self.new acts.new.items (record self.old { phase = Open }) (act.Pull 0 ∷ act.Pull 1 ∷ []) }
-        ensures room { acts.new.room ≡ acts.old.room }
-    {
-        self.phase = Phase::Open;
-        acts.add(Act::Pull(0));
-        acts.add(Act::Pull(1));
-    }
-
-    fn want(&mut self)
-        ensures { self.new ≡ record self.old { asked = true } }
-    {
-        self.asked = true;
-    }
-
-    fn place(&mut self, port: u8, e: Elem)
-        ensures { self.new ≡ placed port e self.old }
-    {
-        if port == 0 {
-            self.left.held = Some(e);
-        } else {
-            self.right.held = Some(e);
-        }
     }
 
     // The next element goes out, where there is one and the output is asked.
@@ -185,7 +146,7 @@ impl Sorting {
         ensures does { Does self.new acts.new.items (give self.old) (give_acts self.old) }
         ensures room { acts.new.room ≡ acts.old.room }
     {
-        if !self.asked {
+        if !self.pair.asked {
             return;
         }
         if let Some(side) = self.next_side() {
@@ -200,14 +161,14 @@ impl Sorting {
     fn next_side(&self) -> Option<Side>
         ensures { result ≡ next_side self.now }
     {
-        match (&self.left.held, &self.right.held) {
+        match (&self.pair.left.held, &self.pair.right.held) {
             (Some(x), Some(y)) => Some(if y.compare(x) == Ordering::Less {
                 Side::Second
             } else {
                 Side::First
             }),
-            (Some(_), None) if self.right.over => Some(Side::First),
-            (None, Some(_)) if self.left.over => Some(Side::Second),
+            (Some(_), None) if self.pair.right.over => Some(Side::First),
+            (None, Some(_)) if self.pair.left.over => Some(Side::Second),
             _ => None,
         }
     }
@@ -217,17 +178,20 @@ impl Sorting {
         ensures stage { self.new ≡ taken side self.old }
         ensures first { result ≡ held_at side self.old }
     {
-        self.asked = false;
+        self.pair.asked = false;
         match side {
-            Side::First => self.left.held.take(),
-            Side::Second => self.right.held.take(),
+            Side::First => self.pair.left.held.take(),
+            Side::Second => self.pair.right.held.take(),
         }
     }
 
     fn is_used_up(&self) -> bool
         ensures { result ≡ is_used_up self.now }
     {
-        self.left.over && self.left.held.is_none() && self.right.over && self.right.held.is_none()
+        self.pair.left.over
+            && self.pair.left.held.is_none()
+            && self.pair.right.over
+            && self.pair.right.held.is_none()
     }
 
     // An element of this input went out.
@@ -248,7 +212,7 @@ impl Sorting {
         ensures stage { self.new ≡ record self.old { phase = Closed } }
         ensures acts { acts.new ≡ record acts.old { items = acts.old.items ++ act.Complete 0 ∷ [] } }
     {
-        self.phase = Phase::Closed;
+        self.pair.phase = Phase::Closed;
         acts.add(Act::Complete(0));
     }
 
@@ -258,12 +222,12 @@ impl Sorting {
     {
         match side {
             Side::First => {
-                if !self.left.over {
+                if !self.pair.left.over {
                     acts.add(Act::Pull(0));
                 }
             }
             Side::Second => {
-                if !self.right.over {
+                if !self.pair.right.over {
                     acts.add(Act::Pull(1));
                 }
             }
@@ -277,61 +241,11 @@ impl Sorting {
         ensures does { Does self.new acts.new.items (ended (without port self.old)) (ended_acts (without port self.old)) }
         ensures room { acts.new.room ≡ acts.old.room }
     {
-        self.end_input(port);
+        self.pair.end_input(port);
         if self.is_used_up() {
             self.complete(acts);
         } else {
             self.give_next(acts);
-        }
-    }
-
-    fn end_input(&mut self, port: u8)
-        ensures { self.new ≡ without port self.old }
-    {
-        if port == 0 {
-            self.left.over = true;
-        } else {
-            self.right.over = true;
-        }
-    }
-
-    // An input has failed.
-    fn fail(&mut self, port: u8, cause: Cause, acts: &mut Acts)
-        requires empty { acts.old.items ≡ [] }
-        requires room { 6 ≤ acts.old.room }
-        ensures does { Does self.new acts.new.items (record (without port self.old) { phase = Closed }) (act.FailOut 0 cause ∷ closing (without port self.old)) }
-        ensures room { acts.new.room ≡ acts.old.room }
-    {
-        if port == 0 {
-            self.left.over = true;
-        } else {
-            self.right.over = true;
-        }
-        self.close(Act::FailOut(0, cause), acts);
-    }
-
-    // The last action at the output; the inputs that have not ended are cancelled.
-    fn close(&mut self, last: Act, acts: &mut Acts)
-        requires room { length acts.old.items + 3 ≤ acts.old.room }
-        ensures stage { self.new ≡ record self.old { phase = Closed } }
-        ensures acts { acts.new ≡ record acts.old { items = acts.old.items ++ last ∷ closing self.old } }
-    {
-        acts.add(last);
-        self.leave(acts);
-    }
-
-    // The inputs that have not ended are cancelled.
-    fn leave(&mut self, acts: &mut Acts)
-        requires room { length acts.old.items + 2 ≤ acts.old.room }
-        ensures stage { self.new ≡ record self.old { phase = Closed } }
-        ensures acts { acts.new ≡ record acts.old { items = acts.old.items ++ closing self.old } }
-    {
-        self.phase = Phase::Closed;
-        if !self.left.over {
-            acts.add(Act::Cancel(0));
-        }
-        if !self.right.over {
-            acts.add(Act::Cancel(1));
         }
     }
 }

@@ -8,12 +8,11 @@ ghost use Rattle.stage_core.specs.Seats.{room_for};
 ghost use Rattle.stage_in.specs.Pairings.{Does, new_pair, placed, without, closing};
 ghost use Rattle.stage_in.specs.Zippings.{port_state, Turned, LacksOne, emptied, held_at, pair, pair_acts, behind_pair, behind_acts, ended_at, ended_acts};
 
-use crate::inlet::Inlet;
+use crate::pairing::Pairing;
 use elem_core::elem::{Elem, Form, Pair};
 use elem_core::why::{Cause, NoMemory};
 use port_core::act::Act;
 use port_core::acts::Acts;
-use stage_core::phase::Phase;
 use std::alloc::Global;
 use std::marker::Model;
 
@@ -22,10 +21,7 @@ use std::marker::Model;
 /// element of an input that has ended. Rule: Akka Streams 2.6 reference.
 #[derive(Drop)]
 pub struct Zipping {
-    phase: Phase,
-    left: Inlet,
-    right: Inlet,
-    asked: bool,
+    pair: Pairing,
 }
 
 impl Model for Zipping {
@@ -37,7 +33,7 @@ impl Model for Zipping {
 
     ghost coded = { Prim.hlevel (codes, tree_coded) };
 
-    ghost view = { λ l. record { phase = l.phase; left = l.left; right = l.right; asked = l.asked } };
+    ghost view = { λ l. l.pair };
 }
 
 impl Zipping {
@@ -46,16 +42,7 @@ impl Zipping {
         ensures { result ≡ new_pair }
     {
         Zipping {
-            phase: Phase::New,
-            left: Inlet {
-                held: None,
-                over: false,
-            },
-            right: Inlet {
-                held: None,
-                over: false,
-            },
-            asked: false,
+            pair: Pairing::new(),
         }
     }
 
@@ -70,7 +57,7 @@ impl Zipping {
         ensures gives { OnOk result (Turned starts self.old acts.new.items self.new) }
         ensures room { acts.new.room ≡ acts.old.room }
     {
-        self.begin(acts);
+        self.pair.begin(acts);
         Ok(())
     }
 
@@ -84,7 +71,7 @@ impl Zipping {
         ensures gives { OnOk result (Turned (pulls 0) self.old acts.new.items self.new) }
         ensures room { OnOk result (acts.new.room ≡ acts.old.room) }
     {
-        self.want();
+        self.pair.want();
         self.give_pair(alloc, acts)
     }
 
@@ -104,7 +91,7 @@ impl Zipping {
         ensures gives { OnOk result (Turned (arrives port (item.Elem e)) self.old acts.new.items self.new) }
         ensures room { OnOk result (acts.new.room ≡ acts.old.room) }
     {
-        self.place(port, e);
+        self.pair.place(port, e);
         self.give_pair(alloc, acts)
     }
 
@@ -134,7 +121,7 @@ impl Zipping {
         ensures gives { OnOk result (Turned (arrives port (item.Failed cause)) self.old acts.new.items self.new) }
         ensures room { acts.new.room ≡ acts.old.room }
     {
-        self.fail(port, cause, acts);
+        self.pair.fail(port, cause, acts);
         Ok(())
     }
 
@@ -149,36 +136,8 @@ impl Zipping {
         ensures gives { OnOk result (Turned (cancels 0) self.old acts.new.items self.new) }
         ensures room { acts.new.room ≡ acts.old.room }
     {
-        self.leave(acts);
+        self.pair.leave(acts);
         Ok(())
-    }
-
-    // Both inputs are asked.
-    fn begin(&mut self, acts: &mut Acts)
-        requires empty { acts.old.items ≡ [] }
-        requires room { 6 ≤ acts.old.room }
-        ensures does { Does self.new acts.new.items (record self.old { phase = Open }) (act.Pull 0 ∷ act.Pull 1 ∷ []) }
-        ensures room { acts.new.room ≡ acts.old.room }
-    {
-        self.phase = Phase::Open;
-        acts.add(Act::Pull(0));
-        acts.add(Act::Pull(1));
-    }
-
-    fn want(&mut self)
-        ensures { self.new ≡ record self.old { asked = true } }
-    {
-        self.asked = true;
-    }
-
-    fn place(&mut self, port: u8, e: Elem)
-        ensures { self.new ≡ placed port e self.old }
-    {
-        if port == 0 {
-            self.left.held = Some(e);
-        } else {
-            self.right.held = Some(e);
-        }
     }
 
     // A pair goes out, where there is one and the output is asked. Behind it both inputs are asked, or the stage ends.
@@ -188,7 +147,7 @@ impl Zipping {
         ensures does { OnOk result (Does self.new acts.new.items (pair self.old) (pair_acts self.old)) }
         ensures room { OnOk result (acts.new.room ≡ acts.old.room) }
     {
-        if !self.asked {
+        if !self.pair.asked {
             return Ok(());
         }
         if let Some((left, right)) = self.take_both() {
@@ -204,14 +163,14 @@ impl Zipping {
         ensures some { IfSome result (λ p. (self.old.left.held ≡ Some p.0) × ((self.old.right.held ≡ Some p.1) × (self.new ≡ emptied self.old))) }
         ensures none { IfNone result ((self.new ≡ self.old) × LacksOne self.old.left.held self.old.right.held true) }
     {
-        match (self.left.held.take(), self.right.held.take()) {
+        match (self.pair.left.held.take(), self.pair.right.held.take()) {
             (Some(left), Some(right)) => {
-                self.asked = false;
+                self.pair.asked = false;
                 Some((left, right))
             }
             (left, right) => {
-                self.left.held = left;
-                self.right.held = right;
+                self.pair.left.held = left;
+                self.pair.right.held = right;
                 None
             }
         }
@@ -223,8 +182,8 @@ impl Zipping {
         ensures stage { self.new ≡ behind_pair self.old }
         ensures acts { acts.new ≡ record acts.old { items = acts.old.items ++ behind_acts self.old } }
     {
-        if self.left.over || self.right.over {
-            self.close(Act::Complete(0), acts);
+        if self.pair.left.over || self.pair.right.over {
+            self.pair.close(Act::Complete(0), acts);
         } else {
             acts.add(Act::Pull(0));
             acts.add(Act::Pull(1));
@@ -239,7 +198,7 @@ impl Zipping {
         ensures room { acts.new.room ≡ acts.old.room }
     {
         if self.end_input(port) {
-            self.close(Act::Complete(0), acts);
+            self.pair.close(Act::Complete(0), acts);
         }
     }
 
@@ -249,51 +208,11 @@ impl Zipping {
         ensures used { result ≡ is_none (held_at port self.old) }
     {
         if port == 0 {
-            self.left.over = true;
-            self.left.held.is_none()
+            self.pair.left.over = true;
+            self.pair.left.held.is_none()
         } else {
-            self.right.over = true;
-            self.right.held.is_none()
-        }
-    }
-
-    // An input has failed.
-    fn fail(&mut self, port: u8, cause: Cause, acts: &mut Acts)
-        requires empty { acts.old.items ≡ [] }
-        requires room { 6 ≤ acts.old.room }
-        ensures does { Does self.new acts.new.items (record (without port self.old) { phase = Closed }) (act.FailOut 0 cause ∷ closing (without port self.old)) }
-        ensures room { acts.new.room ≡ acts.old.room }
-    {
-        if port == 0 {
-            self.left.over = true;
-        } else {
-            self.right.over = true;
-        }
-        self.close(Act::FailOut(0, cause), acts);
-    }
-
-    // The last action at the output; the inputs that have not ended are cancelled.
-    fn close(&mut self, last: Act, acts: &mut Acts)
-        requires room { length acts.old.items + 3 ≤ acts.old.room }
-        ensures stage { self.new ≡ record self.old { phase = Closed } }
-        ensures acts { acts.new ≡ record acts.old { items = acts.old.items ++ last ∷ closing self.old } }
-    {
-        acts.add(last);
-        self.leave(acts);
-    }
-
-    // The inputs that have not ended are cancelled.
-    fn leave(&mut self, acts: &mut Acts)
-        requires room { length acts.old.items + 2 ≤ acts.old.room }
-        ensures stage { self.new ≡ record self.old { phase = Closed } }
-        ensures acts { acts.new ≡ record acts.old { items = acts.old.items ++ closing self.old } }
-    {
-        self.phase = Phase::Closed;
-        if !self.left.over {
-            acts.add(Act::Cancel(0));
-        }
-        if !self.right.over {
-            acts.add(Act::Cancel(1));
+            self.pair.right.over = true;
+            self.pair.right.held.is_none()
         }
     }
 }

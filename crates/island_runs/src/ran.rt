@@ -1,6 +1,7 @@
 // The receipt of a blueprint's run.
 ghost use Rattle.std.specs.Prelude.{◌≡◌};
 
+// Choice: docs/DECISIONS.md#receipt-of-islands
 /// The receipt of a run of a blueprint's islands, which `run` alone makes.
 #[derive(Clone, Copy)]
 pub struct Ran {

@@ -7,6 +7,7 @@ use crate::pairs::Meet;
 use elem_core::why::NoMemory;
 use std::alloc::Global;
 
+// Choice: docs/DECISIONS.md#turn-of-1000
 /// A body: an island with the ends of its lanes. A turn does what there is to do, up to a limit of units; a meeting of lane ends uses
 /// no unit. `keeps` holds of a body that is whole, between two turns; `goes` says that one went on, by turns and meetings, `stands`
 /// that it only met, `breaks` that memory was wanting in a turn, and `idle` that a turn found nothing to do; `tells`

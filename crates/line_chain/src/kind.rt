@@ -39,6 +39,7 @@ impl Drop for StepKind {
 }
 
 impl StepKind {
+    // Choice: docs/DECISIONS.md#steps-that-pass-all
     /// What a step of this kind does. One that is no stage passes what it takes. A plug, which no text can say in a chain, is not
     /// made: that counts as want of memory.
     pub fn of(alloc: Global, kind: &Kind) -> Result<StepKind, NoMemory>

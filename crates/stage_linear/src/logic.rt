@@ -286,8 +286,14 @@ impl<L: Logic, B: PlugBook> LinearLogic<L, B> {
     {
         match said {
             AtOnce::Passes => self.give(taken, e, acts),
-            AtOnce::Gives(z) => self.give(taken, Elem::of(Form::Num(z)), acts),
-            AtOnce::Skips => self.skip(taken, acts),
+            AtOnce::Gives(z) => {
+                e.discard();
+                self.give(taken, Elem::of(Form::Num(z)), acts)
+            }
+            AtOnce::Skips => {
+                e.discard();
+                self.skip(taken, acts)
+            }
             AtOnce::PassesLast => {
                 self.give(taken, e, acts);
                 self.complete(acts);

@@ -1,4 +1,5 @@
 -- A picture that rests: no node has anything to do.
+-- Choice: docs/DECISIONS.md#rest-says-what-waits
 use Rattle.std.specs.Prelude.{◌≡◌, ℕ, zero, suc, ◌+◌, ◌-◌, ◌<◌, ◌≤◌, nat_le, Bool, true, false, ◌⊎◌, if◌then◌else◌, List, [], ◌∷◌, ◌++◌, length, take, slice_get, Option, Some, None, is_some}
 use Rattle.elem_core.specs.Tree.{Tree}
 use Rattle.elem_core.specs.declared.function.MapFn.{MapFn}
@@ -219,6 +220,7 @@ abbrev pub SomeOwed : (ℕ → List Tree → ℕ) → SeenWire → ℕ → List 
 SomeOwed given i n [] = ⊥
 SomeOwed given i n (o ∷ os) = (IsUnasked o × (IsLane i ⊎ (given n (take i.sent i.list) ≡ o.sent + 1))) ⊎ SomeOwed given i (n + 1) os
 
+-- Choice: docs/DECISIONS.md#partition-owes-by-counts
 -- The row of a partition in a picture that rests: it waits; or it holds an element for an output that is not asked; or no output is asked.
 -- `given n l` is how many elements of l have the number n.
 abbrev pub PartitionRests : (ℕ → List Tree → ℕ) → SeenWire → List SeenWire → Type 0

@@ -2,6 +2,7 @@
 use Rattle.std.specs.Prelude.{◌≡◌, ℕ, ◌+◌, Bool, false, not, ◌&&◌, nat_lt, nat_le, if◌then◌else◌, List, [], ◌∷◌, ◌++◌, length, map, Option, Some, None, Ok, Err, codes}
 use Rattle.std.specs.List.{filter, filter_map, list_any}
 use Rattle.std.specs.Str.{bytes_eq}
+use Rattle.stream_model.specs.declared.limit.TheConstants.{MAX_CHAINS, MAX_NODES, MAX_STEPS, MAX_SWITCHES, MAX_TEXT_LINE, MAX_WIRES}
 use Rattle.elem_core.specs.Text.{words, lines}
 use Rattle.stream_model.specs.declared.blueprint.Node.{Node}
 use Rattle.stream_model.specs.declared.blueprint.WireDecl.{WireDecl}
@@ -63,10 +64,10 @@ blueprint_of ls =
 
 -- the limits allow one declaration more
 abbrev pub has_room : PlainBlueprint → Declaration → Bool
-has_room b (switch n) = nat_lt (length b.switches) 64
-has_room b (chain c) = nat_lt (length b.chains) 256 && nat_le (length c.steps) 32
-has_room b (node n) = nat_lt (length b.nodes) 1024
-has_room b (wire w) = nat_lt (length b.wires) 2048
+has_room b (switch n) = nat_lt (length b.switches) MAX_SWITCHES
+has_room b (chain c) = nat_lt (length b.chains) MAX_CHAINS && nat_le (length c.steps) MAX_STEPS
+has_room b (node n) = nat_lt (length b.nodes) MAX_NODES
+has_room b (wire w) = nat_lt (length b.wires) MAX_WIRES
 
 -- some line says something, so the version line is passed
 abbrev pub says_some : List (List ℕ) → Bool
@@ -80,7 +81,7 @@ declaration_fault b (Err k) = Some k
 -- what is wrong with a line, where begun says whether a line before it says something, and b is what they declare
 abbrev pub line_fault : Bool → PlainBlueprint → List ℕ → Option BlueKind
 line_fault begun b l =
-    if nat_lt 1024 (length l) then Some TooLong else
+    if nat_lt MAX_TEXT_LINE (length l) then Some TooLong else
     (if is_passed_over l then None else
     (if begun then declaration_fault b (declared_in l) else
     (if is_version l then None else Some BadVersion)))

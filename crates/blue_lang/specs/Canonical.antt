@@ -1,6 +1,7 @@
 -- The canonical text of a blueprint.
 use Rattle.std.specs.Prelude.{ℕ, List, [], ◌∷◌, ◌++◌, map, Option, Some, None, codes}
 use Rattle.std.specs.Fmt.{decimal}
+use Rattle.elem_core.specs.Bytes.{line_feed, point_byte}
 use Rattle.stream_model.specs.declared.blueprint.Step.{Step}
 use Rattle.stream_model.specs.declared.blueprint.Node.{Node}
 use Rattle.stream_model.specs.declared.blueprint.WireDecl.{WireDecl}
@@ -37,7 +38,7 @@ node_words n = sort_word n.kind ∷ n.name ∷ (kind_words n.kind ++ decider_wor
 
 -- a node's name, a point, and the number of its output or input
 abbrev pub port_word : List ℕ → ℕ → List ℕ
-port_word name number = name ++ 46 ∷ decimal number
+port_word name number = name ++ point_byte ∷ decimal number
 
 -- a lane, with its size
 abbrev pub lane_words : Option ℕ → List (List ℕ)
@@ -50,8 +51,8 @@ wire_words w = codes "wire" ∷ port_word w.from w.output ∷ codes "->" ∷ por
 
 -- a line's words, parted by one space, and LF
 abbrev pub line_text : List (List ℕ) → List ℕ
-line_text [] = 10 ∷ []
-line_text (w ∷ ws) = w ++ (spaced ws ++ 10 ∷ [])
+line_text [] = line_feed ∷ []
+line_text (w ∷ ws) = w ++ (spaced ws ++ line_feed ∷ [])
 
 -- the text of lines
 abbrev pub lines_text : List (List (List ℕ)) → List ℕ

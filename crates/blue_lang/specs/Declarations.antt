@@ -1,6 +1,7 @@
 -- What one line declares.
 use Rattle.std.specs.Prelude.{ℕ, Bool, true, false, if◌then◌else◌, List, [], ◌∷◌, Option, Some, None, Err, codes}
 use Rattle.std.specs.Str.{bytes_eq}
+use Rattle.elem_core.specs.Bytes.{point_byte}
 use Rattle.elem_core.specs.Text.{words}
 use Rattle.elem_core.specs.declared.why.Decider.{Decider}
 use Rattle.elem_core.specs.declared.why.Decider.TheVariants.{Stop}
@@ -36,7 +37,7 @@ port_place (Some r) ws = Some (both (read_name r.0) (read_count 32 r.1), ws)
 -- an output or an input: a node's name, and behind the first point the number
 abbrev pub port : List (List ℕ) → Reading (List ℕ × ℕ)
 port [] = None
-port (w ∷ ws) = port_place (cut_at 46 w) ws
+port (w ∷ ws) = port_place (cut_at point_byte w) ws
 
 -- the size of a lane, and 16 where none is written
 abbrev pub read_lane_size : List (List ℕ) → Reading (Option ℕ)

@@ -2,6 +2,7 @@
 use Rattle.std.specs.Prelude.{ℕ, Bool, false, not, ◌||◌, ◌&&◌, ◌==◌, nat_le, if◌then◌else◌, List, [], ◌∷◌}
 use Rattle.std.specs.List.{list_all, list_any}
 use Rattle.std.specs.Char.{is_ascii_graphic}
+use Rattle.elem_core.specs.Bytes.{space_byte}
 
 -- a space, or a byte of a word
 abbrev pub is_plain_byte : ℕ → Bool
@@ -14,7 +15,7 @@ is_plain bs = list_all is_plain_byte bs
 -- the first byte other than a space is `#`
 abbrev pub is_comment : List ℕ → Bool
 is_comment [] = false
-is_comment (b ∷ bs) = if b == 32 then is_comment bs else b == 35
+is_comment (b ∷ bs) = if b == space_byte then is_comment bs else b == 35
 
 -- the line says nothing: it is a comment, or has no word
 -- Choice: docs/DECISIONS.md#lines-without-words

@@ -2,6 +2,7 @@
 use Rattle.std.specs.Prelude.{ℕ, Bool, false, ◌&&◌, ◌||◌, ◌==◌, nat_lt, nat_le, List, [], ◌∷◌, length}
 use Rattle.std.specs.Char.{is_ascii_alphanumeric, is_ascii_digit, is_ascii_graphic, is_ascii_lowercase}
 use Rattle.std.specs.List.{list_all}
+use Rattle.elem_core.specs.Bytes.{point_byte}
 
 -- a lower-case letter, a digit or `_`
 abbrev pub is_name_byte : ℕ → Bool
@@ -14,7 +15,7 @@ is_name (b ∷ bs) = is_ascii_lowercase b && nat_le (length bs) 31 && list_all i
 
 -- a letter, a digit, `.`, `_` or `-`
 abbrev pub is_file_byte : ℕ → Bool
-is_file_byte b = is_ascii_alphanumeric b || b == 46 || b == 95 || b == 45
+is_file_byte b = is_ascii_alphanumeric b || b == point_byte || b == 95 || b == 45
 
 -- a letter or a digit, and up to 63 bytes that are letters, digits, `.`, `_` or `-`
 abbrev pub is_file_name : List ℕ → Bool

@@ -3,11 +3,11 @@ use Rattle.std.specs.Prelude.{ℕ, Bool, ◌&&◌, nat_le, if◌then◌else◌, 
 use Rattle.std.specs.declared.vec.Vec.{Vec}
 use Rattle.std.specs.declared.alloc.Global.{Global}
 use Rattle.std.specs.Str.{is_utf8}
-use Rattle.elem_core.specs.Line.{has_no_lf}
+use Rattle.elem_core.specs.Line.{has_no_lf, longest_line}
 
 -- the word is a line: without LF, and of at most 65,536 bytes
 abbrev pub is_line : List ℕ → Bool
-is_line word = nat_le (length word) 65536 && has_no_lf word
+is_line word = nat_le (length word) longest_line && has_no_lf word
 
 -- the line of a word: one that is no line, or not UTF-8, is the empty line, which no command has
 abbrev pub word_line : List ℕ → List ℕ

@@ -1,12 +1,13 @@
 -- What the sources of a run drew of their files, and what its stages chose.
 use Rattle.std.specs.Prelude.{◌≡◌, ℕ, ◌+◌, ◌≤◌, ◌⊎◌, Bool, false, IsTrue, List, ◌++◌, length, slice_get, Some}
+use Rattle.elem_core.specs.Line.{longest_line}
 use Rattle.elem_core.specs.Text.{lines}
 use Rattle.stream_model.specs.declared.blueprint.Node.{Node}
 use Rattle.stream_model.specs.declared.kind.Kind.TheVariants.{Lines}
 use Rattle.stream_model.specs.Node.{World}
 use Rattle.stream_io.specs.Counts.{Rose, Grew}
 use Rattle.stream_io.specs.State.{FolderState}
-use Rattle.stream_io.specs.Reading.{FirstTooLong}
+use Rattle.stream_io.specs.Reading.{FirstTooLong, largest_piece}
 use Rattle.nodes.specs.Drawing.{ended_lines}
 use Rattle.interpreter.specs.Picks.{Pick}
 use Rattle.run_blueprint.specs.Choosing.{HasPicks}
@@ -54,4 +55,4 @@ pub record DrawsFirst (bytes : List ℕ) (given : ℕ) (faulted : Bool) (sent : 
   pub later : List (List ℕ)
   pub lines_are : lines bytes ≡ drawn ++ later
   pub sent_is : sent ≡ length drawn
-  pub ahead : (given ≤ length (ended_lines drawn) + 4096) ⊎ ((IsTrue faulted ⊎ FirstTooLong later) × (given ≤ length (ended_lines drawn) + (4096 + 65537)))
+  pub ahead : (given ≤ length (ended_lines drawn) + largest_piece) ⊎ ((IsTrue faulted ⊎ FirstTooLong later) × (given ≤ length (ended_lines drawn) + (largest_piece + (longest_line + 1))))

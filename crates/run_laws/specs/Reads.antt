@@ -1,12 +1,13 @@
 -- What a source of lines read of its file, by what was sent on its wire.
 use Rattle.std.specs.Prelude.{◌≡◌, ℕ, ◌+◌, ◌≤◌, ◌⊎◌, List, ◌++◌, map, length, Some}
+use Rattle.elem_core.specs.Line.{longest_line}
 use Rattle.elem_core.specs.Text.{lines}
 use Rattle.elem_core.specs.Tree.{text}
 use Rattle.elem_core.specs.declared.item.Item.{Item}
 use Rattle.stream_model.specs.Outlook.{End}
 use Rattle.stream_io.specs.Counts.{Rose}
 use Rattle.stream_io.specs.State.{SourceState}
-use Rattle.stream_io.specs.Reading.{FirstTooLong}
+use Rattle.stream_io.specs.Reading.{FirstTooLong, largest_piece}
 use Rattle.stage_core.specs.Held.{told}
 use Rattle.run_laws.specs.Account.{Account}
 use Rattle.nodes.specs.declared.node.IslandNode.{IslandNode}
@@ -23,7 +24,7 @@ pub record IsSourceAt {S D L B : Type 0} (a : Account (IslandNode S D L B)) (k :
 -- failed or the next line is too long
 abbrev pub ReadsAhead : SourceState → SourceState → List (List ℕ) → ℕ → Type 0
 ReadsAhead first now later drawn =
-    (now.given ≤ drawn + 4096) ⊎ ((Rose first.faults now.faults ⊎ FirstTooLong later) × (now.given ≤ drawn + (4096 + 65537)))
+    (now.given ≤ drawn + largest_piece) ⊎ ((Rose first.faults now.faults ⊎ FirstTooLong later) × (now.given ≤ drawn + (largest_piece + (longest_line + 1))))
 
 -- the first lines of the file were sent, each as one element, and little more than those was read
 pub record SentLines (bytes : List ℕ) (first now : SourceState) (sent : List Item) : Type 0 where

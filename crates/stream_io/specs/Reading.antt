@@ -1,6 +1,8 @@
 -- What a reader of lines shows, what is left to draw from it, and what each call draws.
 use Rattle.std.specs.Prelude.{◌≡◌, ◌≢◌, ℕ, ◌+◌, ◌<◌, ◌≤◌, List, [], ◌∷◌, ◌++◌, length, take, drop, ◌⊎◌, unwrap_or, IsSome, slice_index}
 use Rattle.std.specs.List.{All, Contains}
+use Rattle.elem_core.specs.Line.{longest_line}
+use Rattle.elem_core.specs.Bytes.{line_feed}
 use Rattle.stream_io.specs.State.{SourceState}
 
 -- a reader: its source, and the bytes that it read and did not give out
@@ -8,13 +10,17 @@ pub record ReaderState (S : Type 0) : Type 0 where
   pub source : S
   pub kept : List ℕ
 
+-- the most bytes that a source hands out at once to a reader of lines
+abbrev pub largest_piece : ℕ
+largest_piece = 4096
+
 -- no byte is LF
 abbrev pub NoEnd : List ℕ → Type 0
-NoEnd bs = All (λ b. b ≢ 10) bs
+NoEnd bs = All (λ b. b ≢ line_feed) bs
 
 -- some line ends within these bytes
 abbrev pub HoldsEnd : List ℕ → Type 0
-HoldsEnd bs = Contains bs 10
+HoldsEnd bs = Contains bs line_feed
 
 -- the bytes that are left to draw where the source tells its bytes: those kept, and behind them those that it did not hand out
 abbrev pub rest : SourceState → List ℕ → List ℕ
@@ -35,29 +41,29 @@ pub record Fetched (old : SourceState) (kept : List ℕ) (new : SourceState) (ke
 -- the first line ends at this place
 pub record LineEndsAt (kept : List ℕ) (at : ℕ) : Type 0 where
   pub within : at < length kept
-  pub short : at ≤ 65536
+  pub short : at ≤ longest_line
   pub before : NoEnd (take at kept)
-  pub found : slice_index kept at ≡ 10
-  pub near : length kept ≤ at + 4096
+  pub found : slice_index kept at ≡ line_feed
+  pub near : length kept ≤ at + largest_piece
 
 -- the kept bytes are a last line without LF, or nothing
 pub record AtEnd (s : SourceState) (kept : List ℕ) : Type 0 where
   pub no_end : NoEnd kept
-  pub short : length kept ≤ 65536
+  pub short : length kept ≤ longest_line
   pub left : IsSome s.whole → rest s kept ≡ kept
 
 -- more bytes than a line may have stand before the first LF
 abbrev pub TooLong : List ℕ → Type 0
-TooLong kept = (n : ℕ) × (65536 < n) × (n ≤ length kept) × NoEnd (take n kept)
+TooLong kept = (n : ℕ) × (longest_line < n) × (n ≤ length kept) × NoEnd (take n kept)
 
 -- the line stood first in the old rest: with its LF, or as a last line that is not empty
 abbrev pub Draws : List ℕ → List ℕ → List ℕ → Type 0
-Draws old line new = (old ≡ line ++ 10 ∷ new) ⊎ ((old ≡ line) × (line ≢ []) × (new ≡ []))
+Draws old line new = (old ≡ line ++ line_feed ∷ new) ⊎ ((old ≡ line) × (line ≢ []) × (new ≡ []))
 
 -- the first of these lines is longer than a line may be
 abbrev pub FirstTooLong : List (List ℕ) → Type 0
 FirstTooLong [] = ⊥
-FirstTooLong (line ∷ later) = 65536 < length line
+FirstTooLong (line ∷ later) = longest_line < length line
 
 -- nothing was left to draw
 pub record ReadToEnd (old : SourceState) (kept : List ℕ) (new : SourceState) (kept' : List ℕ) : Type 0 where

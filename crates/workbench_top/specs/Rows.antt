@@ -1,6 +1,7 @@
 -- The blueprint of a row: a source, stages and a sink, each fed by the one before it.
 use Rattle.std.specs.Prelude.{◌≡◌, ℕ, ◌+◌, ◌==◌, ◌⊎◌, if◌then◌else◌, List, [], ◌∷◌, ◌++◌, codes}
 use Rattle.std.specs.Fmt.{decimal}
+use Rattle.elem_core.specs.Bytes.{line_feed, space_byte}
 use Rattle.blue_lang.specs.Blueprints.{Says}
 use Rattle.blue_lang.specs.Canonical.{canonical}
 use Rattle.blue_lang.specs.Plain.{PlainBlueprint}
@@ -24,7 +25,7 @@ place_name n = if n == 0 then codes "in" else 115 ∷ decimal n
 
 -- the line of the stage of a place
 abbrev pub stage_line : ℕ → List ℕ → List ℕ
-stage_line n part = codes "stage " ++ (place_name n ++ (32 ∷ (part ++ codes "\n")))
+stage_line n part = codes "stage " ++ (place_name n ++ (space_byte ∷ (part ++ codes "\n")))
 
 -- the line of the wire between two places
 abbrev pub row_wire_line : ℕ → ℕ → List ℕ
@@ -46,7 +47,7 @@ later_lines n (p ∷ q ∷ ps) = stage_between n (n + 1) p ++ later_lines (n + 1
 
 -- the text of a row: of its source, and of the parts behind that
 abbrev pub row_text : List ℕ → List ℕ → List ℕ
-row_text source parts = codes "streams 1\nsource in " ++ (source ++ (10 ∷ later_lines 0 (row_parts parts)))
+row_text source parts = codes "streams 1\nsource in " ++ (source ++ (line_feed ∷ later_lines 0 (row_parts parts)))
 
 -- The canonical text of the blueprint that this text says is said, and is read again as that blueprint.
 pub record SaysRow (text : List ℕ) (a : Answer) : Type 0 where

@@ -9,7 +9,8 @@ use Rattle.blue_check.specs.Marks.{Reaches}
 -- the visits of the first wires of a row, from one list of nodes to another
 pub record Visits (ws : List Edge) (node count : ℕ) (marks marks' : List Bool) (order order' : List ℕ) (row : List ℕ) : Type 0 where
   pub reaches : (start : ℕ) → Path ws start node → Reaches ws start count marks order → Reaches ws start count marks' order'
-  pub leads : (start : ℕ) → Path ws start node → Reaches ws start count marks order → (i : ℕ) (w : Edge) → slice_get ws i ≡ Some w → is_in i row ≡ true → is_in w.to order' ≡ true
+  pub leads : (start : ℕ) → Path ws start node → Reaches ws start count marks order → (i : ℕ) (w : Edge) → slice_get ws i ≡ Some w → is_in i row ≡ true
+      → is_in w.to order' ≡ true
   pub longer : length order ≤ length order'
   pub front : (k : ℕ) → k ≤ length order → take k order' ≡ take k order
   pub kept : (i : ℕ) → is_in i order ≡ true → is_in i order' ≡ true

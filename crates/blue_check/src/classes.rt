@@ -37,7 +37,8 @@ pub fn own_members(alloc: Global, count: usize) -> Result<Vec<Vec<usize>>, NoMem
 
 /// Gives one node another label, where it has this one.
 fn relabel_one(labels: &mut Vec<usize>, node: usize, from: usize, to: usize)
-    ensures relabeled { (i : ℕ) → i < vec_len labels.old → slice_index labels.new.items i ≡ (if node == i then (if slice_index labels.old.items i == from then to else slice_index labels.old.items i) else slice_index labels.old.items i) }
+    ensures relabeled { (i : ℕ) → i < vec_len labels.old → slice_index labels.new.items i ≡
+        (if node == i then (if slice_index labels.old.items i == from then to else slice_index labels.old.items i) else slice_index labels.old.items i) }
     ensures length { vec_len labels.new ≡ vec_len labels.old }
 {
     if let Some(label) = labels.get_mut(node) {

@@ -59,7 +59,8 @@ fn put_fused(
 ) -> Result<(), NoMemory>
     requires home { slice_index homes.now link.now.from < vec_len islands.old }
     ensures length { OnOk result (vec_len islands.new ≡ vec_len islands.old) }
-    ensures wires { (k : ℕ) → OnOk result (wires_at islands.new.items k ≡ wires_at islands.old.items k ++ (if is_wire_of homes.now k (wire_of_link link.now) then wire ∷ [] else [])) }
+    ensures wires { (k : ℕ) → OnOk result (wires_at islands.new.items k ≡ wires_at islands.old.items k
+        ++ (if is_wire_of homes.now k (wire_of_link link.now) then wire ∷ [] else [])) }
     ensures nodes { (k : ℕ) → OnOk result (nodes_at islands.new.items k ≡ nodes_at islands.old.items k) }
 {
     if link.lane.is_some() {

@@ -57,7 +57,8 @@ pub fn homes_of(alloc: Global, labels: &[usize]) -> Result<Homes, NoMemory>
     requires { All (λ l. l < length labels.now) labels.now }
     ensures numbered { IfOk result (λ h. AreNumbered labels.now h.homes.items h.firsts.items) }
     ensures each { IfOk result (λ h. vec_len h.homes ≡ length labels.now) }
-    ensures homes { (count : ℕ) (links : List NumberedWire) → AreLabels (wires_of_links (filter (λ l. is_none l.lane) links)) count labels.now → AreInRange count links → IfOk result (λ h. AreHomes count (wires_of_links links) h.homes.items) }
+    ensures homes { (count : ℕ) (links : List NumberedWire) → AreLabels (wires_of_links (filter (λ l. is_none l.lane) links)) count labels.now
+        → AreInRange count links → IfOk result (λ h. AreHomes count (wires_of_links links) h.homes.items) }
 {
     let mut numbers = no_numbers(alloc, labels.len())?;
     let mut firsts = Vec::new(alloc);

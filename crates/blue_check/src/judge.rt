@@ -81,7 +81,8 @@ fn by_sizes(
 ) -> Result<Judged, NoMemory>
     requires targets { FindsWires targets.now (wires_of_links links.now) }
     requires in_range { AreInRange (length nodes.now) links.now }
-    ensures { IfOk result (IsJudged (option_or (sizes_fault chains.now nodes.now wires.now) (types_fault plugs.now chains.now nodes.now (wires_of_links links.now))) (wires_of_links links.now)) }
+    ensures { IfOk result (IsJudged (option_or (sizes_fault chains.now nodes.now wires.now)
+        (types_fault plugs.now chains.now nodes.now (wires_of_links links.now))) (wires_of_links links.now)) }
 {
     match sizes_fault(chains, nodes, wires)? {
         Some(fault) => Ok(Judged::Unfit(fault)),
@@ -102,7 +103,8 @@ fn by_plugs(
     requires targets { FindsWires targets.now (wires_of_links links.now) }
     requires in_range { AreInRange (length nodes.now) links.now }
     ensures { IfOk result (IsJudged (option_or (plugs_fault plugs.now chains.now nodes.now)
-        (option_or (sizes_fault chains.now nodes.now wires.now) (types_fault plugs.now chains.now nodes.now (wires_of_links links.now)))) (wires_of_links links.now)) }
+        (option_or (sizes_fault chains.now nodes.now wires.now) (types_fault plugs.now chains.now nodes.now (wires_of_links links.now))))
+        (wires_of_links links.now)) }
 {
     match plugs_fault(alloc, plugs, chains, nodes)? {
         Some(fault) => Ok(Judged::Unfit(fault)),
@@ -120,7 +122,8 @@ fn by_ports(
     links: &[NumberedWire],
 ) -> Result<Judged, NoMemory>
     ensures { IfOk result (IsJudged (option_or (ports_fault nodes.now (wires_of_links links.now)) (option_or (plugs_fault plugs.now chains.now nodes.now)
-        (option_or (sizes_fault chains.now nodes.now wires.now) (types_fault plugs.now chains.now nodes.now (wires_of_links links.now))))) (wires_of_links links.now)) }
+        (option_or (sizes_fault chains.now nodes.now wires.now) (types_fault plugs.now chains.now nodes.now (wires_of_links links.now)))))
+        (wires_of_links links.now)) }
 {
     let targets = targets_of(alloc, links)?;
     match ports_fault(alloc, nodes, links, &targets)? {
@@ -138,7 +141,8 @@ fn by_wires(
     wires: &[WireDecl],
 ) -> Result<Judged, NoMemory>
     ensures { IfOk result (IsJudged (option_or (ports_fault nodes.now (wires_of nodes.now wires.now)) (option_or (plugs_fault plugs.now chains.now nodes.now)
-        (option_or (sizes_fault chains.now nodes.now wires.now) (types_fault plugs.now chains.now nodes.now (wires_of nodes.now wires.now))))) (wires_of nodes.now wires.now)) }
+        (option_or (sizes_fault chains.now nodes.now wires.now) (types_fault plugs.now chains.now nodes.now (wires_of nodes.now wires.now)))))
+        (wires_of nodes.now wires.now)) }
 {
     let links = links_of(alloc, nodes, wires)?;
     by_ports(alloc, plugs, chains, nodes, wires, &links)

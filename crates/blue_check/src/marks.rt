@@ -35,7 +35,8 @@ fn arrive(marks: &mut Vec<bool>, order: &mut Vec<usize>, node: usize) -> Result<
     ensures longer { OnOk result (vec_len order.old ≤ vec_len order.new) }
     ensures front { (k : ℕ) → k ≤ vec_len order.old → OnOk result (take k order.new.items ≡ take k order.old.items) }
     ensures kept { (i : ℕ) → is_in i order.old.items ≡ true → OnOk result (is_in i order.new.items ≡ true) }
-    ensures here { (ws : List Edge) (start count : ℕ) → Reaches ws start count marks.old.items order.old.items → OnOk result (is_in node order.new.items ≡ true) }
+    ensures here { (ws : List Edge) (start count : ℕ) → Reaches ws start count marks.old.items order.old.items
+        → OnOk result (is_in node order.new.items ≡ true) }
 {
     if !marks[node] {
         order.push(node)?;
@@ -76,9 +77,11 @@ fn visit(
 ) -> Result<(), NoMemory>
     requires outs { IsOuts outs.now (wires_of_links links.now) }
     requires in_range { AreInRange (vec_len marks.old) links.now }
-    ensures reaches { (start : ℕ) → Path (wires_of_links links.now) start node → Reaches (wires_of_links links.now) start (vec_len marks.old) marks.old.items order.old.items
+    ensures reaches { (start : ℕ) → Path (wires_of_links links.now) start node → Reaches (wires_of_links links.now) start
+        (vec_len marks.old) marks.old.items order.old.items
         → OnOk result (Reaches (wires_of_links links.now) start (vec_len marks.old) marks.new.items order.new.items) }
-    ensures leads { (start : ℕ) → Path (wires_of_links links.now) start node → Reaches (wires_of_links links.now) start (vec_len marks.old) marks.old.items order.old.items
+    ensures leads { (start : ℕ) → Path (wires_of_links links.now) start node → Reaches (wires_of_links links.now) start
+        (vec_len marks.old) marks.old.items order.old.items
         → (i : ℕ) (w : Edge) → slice_get (wires_of_links links.now) i ≡ Some w → w.from ≡ node → OnOk result (is_in w.to order.new.items ≡ true) }
     ensures length { OnOk result (vec_len marks.new ≡ vec_len marks.old) }
     ensures front { (k : ℕ) → k ≤ vec_len order.old → OnOk result (take k order.new.items ≡ take k order.old.items) }

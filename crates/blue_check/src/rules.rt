@@ -139,7 +139,8 @@ fn settled_fault(
 ) -> Result<Option<CheckFault>, NoMemory>
     requires known { IsKnown library.now }
     requires wired { HasFirstWires net.now }
-    requires settled { (i : ℕ) → type_at types.now i ≡ settled library.now.plugs.now library.now.chains.now net.now.nodes.now (wires_of_links net.now.links.now) i }
+    requires settled { (i : ℕ) → type_at types.now i ≡ settled library.now.plugs.now library.now.chains.now net.now.nodes.now
+        (wires_of_links net.now.links.now) i }
     ensures { IfOk result (λ f. f ≡ types_fault library.now.plugs.now library.now.chains.now net.now.nodes.now (wires_of_links net.now.links.now)) }
 {
     match type_clash(alloc, library, net, types)? {

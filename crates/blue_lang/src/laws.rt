@@ -37,12 +37,14 @@ pub fn words_alone_say_a_blueprint()
 
 /// A stage's kind and decider are read again from their canonical words.
 pub fn kinds_are_read_again()
-    ensures { (ws rest : List (List ℕ)) (kind : Kind) (decider : Decider) → AllWords ws → read_decided ws ≡ Some (Ok (kind, decider), rest) → read_decided (kind_words kind ++ decider_words decider) ≡ Some (Ok (kind, decider), []) }
+    ensures { (ws rest : List (List ℕ)) (kind : Kind) (decider : Decider) → AllWords ws → read_decided ws ≡ Some (Ok (kind, decider), rest)
+        → read_decided (kind_words kind ++ decider_words decider) ≡ Some (Ok (kind, decider), []) }
 {}
 
 /// The steps of a chain are read again from their canonical words.
 pub fn chains_are_read_again()
-    ensures { (ws rest : List (List ℕ)) (steps : List Step) → AllWords ws → read_chain ws ≡ Some (Ok steps, rest) → read_chain (steps_words steps) ≡ Some (Ok steps, []) }
+    ensures { (ws rest : List (List ℕ)) (steps : List Step) → AllWords ws → read_chain ws ≡ Some (Ok steps, rest)
+        → read_chain (steps_words steps) ≡ Some (Ok steps, []) }
 {}
 
 /// First faults of small texts.
@@ -54,5 +56,6 @@ pub fn texts_have_first_faults()
     ensures name { text_fault (codes "streams 1\nwire a.0 -> B.0\n") ≡ Some (record { kind = BadName; line = 2 }) }
     ensures leftmost { text_fault (codes "streams 1\nwire a.x -> B.0\n") ≡ Some (record { kind = BadNumber; line = 2 }) }
     ensures decider { text_fault (codes "streams 1\nstage a take 1 decider stop\n") ≡ Some (record { kind = BadLine; line = 2 }) }
-    ensures good { text_fault (codes "  streams  1\nsource src lines in.txt\nstage m map num\nsink out lines out.txt\nwire src.0 -> m.0\nwire m.0 -> out.0 async") ≡ None }
+    ensures good { text_fault
+        (codes "  streams  1\nsource src lines in.txt\nstage m map num\nsink out lines out.txt\nwire src.0 -> m.0\nwire m.0 -> out.0 async") ≡ None }
 {}

@@ -59,8 +59,10 @@ impl<'a> Taken<'a> {
 
     /// Takes what is claimed, and says whether it was free.
     pub fn take(&mut self, claim: NameClaim<'a>) -> Result<bool, NoMemory>
-        ensures free { (before : List Taking) → Knows self.old.names self.old.files before → IfOk result (λ free. free ≡ not (list_any (same_claim (claim_of claim.entry)) before)) }
-        ensures taken { (before : List Taking) → Knows self.old.names self.old.files before → OnOk result (Knows self.new.names self.new.files (claim_of claim.entry ∷ before)) }
+        ensures free { (before : List Taking) → Knows self.old.names self.old.files before
+            → IfOk result (λ free. free ≡ not (list_any (same_claim (claim_of claim.entry)) before)) }
+        ensures taken { (before : List Taking) → Knows self.old.names self.old.files before
+            → OnOk result (Knows self.new.names self.new.files (claim_of claim.entry ∷ before)) }
     {
         match claim {
             NameClaim::Called(name) => note_name(&mut self.names, name, 0),
@@ -149,7 +151,8 @@ fn add_plugs<'a>(claims: &mut Vec<NameClaim<'a>>, plugs: &'a [PlugHead]) -> Resu
 
 /// Adds a file, where there is one.
 fn add_file<'a>(claims: &mut Vec<NameClaim<'a>>, file: Option<&'a Line>) -> Result<(), NoMemory>
-    ensures { (rest : List Taking) → OnOk result (map claim_of claims.new.items ++ rest ≡ map claim_of claims.old.items ++ opening (option_map (λ l. l.now) file.entry) rest) }
+    ensures { (rest : List Taking) → OnOk result (map claim_of claims.new.items ++ rest ≡ map claim_of claims.old.items
+        ++ opening (option_map (λ l. l.now) file.entry) rest) }
 {
     if let Some(file) = file {
         claims.push(NameClaim::Opens(file))?;
@@ -159,7 +162,8 @@ fn add_file<'a>(claims: &mut Vec<NameClaim<'a>>, file: Option<&'a Line>) -> Resu
 
 /// Adds a name, where there is one.
 fn add_name<'a>(claims: &mut Vec<NameClaim<'a>>, name: Option<&'a Line>) -> Result<(), NoMemory>
-    ensures { (rest : List Taking) → OnOk result (map claim_of claims.new.items ++ rest ≡ map claim_of claims.old.items ++ calling (option_map (λ l. l.now) name.entry) rest) }
+    ensures { (rest : List Taking) → OnOk result (map claim_of claims.new.items ++ rest ≡ map claim_of claims.old.items
+        ++ calling (option_map (λ l. l.now) name.entry) rest) }
 {
     if let Some(name) = name {
         claims.push(NameClaim::Called(name))?;

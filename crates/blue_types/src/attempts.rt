@@ -115,7 +115,8 @@ pub fn attempt_at(
 ) -> Result<Option<Typed>, NoMemory>
     requires known { IsKnown library.now }
     requires wired { HasFirstWires net.now }
-    ensures { IfOk result (λ o. o ≡ attempt_at library.now.plugs.now library.now.chains.now net.now.nodes.now (wires_of_links net.now.links.now) (type_at types.now) node (slice_get net.now.nodes.now node)) }
+    ensures { IfOk result (λ o. o ≡ attempt_at library.now.plugs.now library.now.chains.now net.now.nodes.now (wires_of_links net.now.links.now)
+        (type_at types.now) node (slice_get net.now.nodes.now node)) }
 {
     match net.nodes.get(node) {
         Some(n) => attempt(alloc, library, net, types, node, &n.kind),
@@ -133,7 +134,8 @@ pub fn fixes_at(
 ) -> Result<Option<ElemType>, NoMemory>
     requires known { IsKnown library.now }
     requires wired { HasFirstWires net.now }
-    ensures { IfOk result (λ o. o ≡ fixes (attempt_at library.now.plugs.now library.now.chains.now net.now.nodes.now (wires_of_links net.now.links.now) (type_at types.now) node (slice_get net.now.nodes.now node))) }
+    ensures { IfOk result (λ o. o ≡ fixes (attempt_at library.now.plugs.now library.now.chains.now net.now.nodes.now (wires_of_links net.now.links.now)
+        (type_at types.now) node (slice_get net.now.nodes.now node))) }
 {
     match attempt_at(alloc, library, net, types, node)? {
         Some(Typed::Gives(t)) => Ok(Some(t)),

@@ -99,7 +99,8 @@ fn clash_on(
     link: NumberedWire,
 ) -> Result<Option<Clash>, NoMemory>
     requires { IsKnown library.now }
-    ensures { IfOk result (λ c. c ≡ clash_on library.now.plugs.now library.now.chains.now net.now.nodes.now (wires_of_links net.now.links.now) (type_at types.now) wire (wire_of_link link)) }
+    ensures { IfOk result (λ c. c ≡ clash_on library.now.plugs.now library.now.chains.now net.now.nodes.now (wires_of_links net.now.links.now)
+        (type_at types.now) wire (wire_of_link link)) }
 {
     match node_at(net.nodes, link.to) {
         None => Ok(None),
@@ -118,7 +119,8 @@ fn first_clash(
     types: &[Option<ElemType>],
 ) -> Result<Option<Clash>, NoMemory>
     requires { IsKnown library.now }
-    ensures { IfOk result (λ c. c ≡ first_from (clash_on library.now.plugs.now library.now.chains.now net.now.nodes.now (wires_of_links net.now.links.now) (type_at types.now)) 0 (wires_of_links net.now.links.now)) }
+    ensures { IfOk result (λ c. c ≡ first_from (clash_on library.now.plugs.now library.now.chains.now net.now.nodes.now (wires_of_links net.now.links.now)
+        (type_at types.now)) 0 (wires_of_links net.now.links.now)) }
 {
     for (i, link) in net.links.iter().enumerate() {
         if let Some(clash) = clash_on(alloc, library, net, types, i, *link)? {
@@ -147,7 +149,8 @@ fn first_deep(
 ) -> Result<Option<usize>, NoMemory>
     requires known { IsKnown library.now }
     requires wired { HasFirstWires net.now }
-    ensures { IfOk result (λ o. o ≡ first_from (λ i n. when (is_deep (attempt_at library.now.plugs.now library.now.chains.now net.now.nodes.now (wires_of_links net.now.links.now) (type_at types.now) i (Some n))) i) 0 net.now.nodes.now) }
+    ensures { IfOk result (λ o. o ≡ first_from (λ i n. when (is_deep (attempt_at library.now.plugs.now library.now.chains.now net.now.nodes.now
+        (wires_of_links net.now.links.now) (type_at types.now) i (Some n))) i) 0 net.now.nodes.now) }
 {
     for (i, node) in net.nodes.iter().enumerate() {
         if is_deep(attempt(alloc, library, net, types, i, &node.kind)?) {
@@ -166,7 +169,8 @@ pub fn type_clash(
     types: &[Option<ElemType>],
 ) -> Result<Option<Clash>, NoMemory>
     requires known { IsKnown library.now }
-    requires settled { (i : ℕ) → type_at types.now i ≡ settled library.now.plugs.now library.now.chains.now net.now.nodes.now (wires_of_links net.now.links.now) i }
+    requires settled { (i : ℕ) → type_at types.now i ≡ settled library.now.plugs.now library.now.chains.now net.now.nodes.now
+        (wires_of_links net.now.links.now) i }
     ensures { IfOk result (λ c. c ≡ type_clash library.now.plugs.now library.now.chains.now net.now.nodes.now (wires_of_links net.now.links.now)) }
 {
     first_clash(alloc, library, net, types)
@@ -181,7 +185,8 @@ pub fn too_deep(
 ) -> Result<Option<usize>, NoMemory>
     requires known { IsKnown library.now }
     requires wired { HasFirstWires net.now }
-    requires settled { (i : ℕ) → type_at types.now i ≡ settled library.now.plugs.now library.now.chains.now net.now.nodes.now (wires_of_links net.now.links.now) i }
+    requires settled { (i : ℕ) → type_at types.now i ≡ settled library.now.plugs.now library.now.chains.now net.now.nodes.now
+        (wires_of_links net.now.links.now) i }
     ensures { IfOk result (λ o. o ≡ too_deep library.now.plugs.now library.now.chains.now net.now.nodes.now (wires_of_links net.now.links.now)) }
 {
     first_deep(alloc, library, net, types)

@@ -109,7 +109,8 @@ pub fn arrival(
     port: u32,
 ) -> Result<Option<ElemType>, NoMemory>
     requires { HasFirstWires net.now }
-    ensures { IfOk result (λ o. o ≡ type_on net.now.nodes.now (wires_of_links net.now.links.now) (type_at types.now) (wire_into net.now.nodes.now (wires_of_links net.now.links.now) node port)) }
+    ensures { IfOk result (λ o. o ≡ type_on net.now.nodes.now (wires_of_links net.now.links.now) (type_at types.now)
+        (wire_into net.now.nodes.now (wires_of_links net.now.links.now) node port)) }
 {
     match wire_into(net, node, port) {
         Some(link) => type_on(alloc, net, types, link),

@@ -122,7 +122,8 @@ fn fix(
     requires outs { IsOuts outs.now (wires_of_links links.now) }
     ensures types { (i : ℕ) → OnOk result (type_at types.new i ≡ option_or (type_at types.old i) (when (fixed.now.node == i) fixed.now.fixed)) }
     ensures kept { (q : ℕ) → is_in q front.old.items ≡ true → OnOk result (is_in q front.new.items ≡ true) }
-    ensures added { type_at types.old fixed.now.node ≡ None → (i : ℕ) (w : Edge) → slice_get (wires_of_links links.now) i ≡ Some w → w.from ≡ fixed.now.node → OnOk result (is_in w.to front.new.items ≡ true) }
+    ensures added { type_at types.old fixed.now.node ≡ None → (i : ℕ) (w : Edge) → slice_get (wires_of_links links.now) i ≡ Some w → w.from ≡ fixed.now.node
+        → OnOk result (is_in w.to front.new.items ≡ true) }
 {
     if put_one(alloc, types, fixed)? {
         add_targets(links, outs, fixed.node, front)?;

@@ -27,4 +27,5 @@ module _ {S D L B : Type 0} where
 
   -- at the crossing of each lane lies the input end of its wire
   abbrev pub AreAligned : List LanePlan → List Crossing → List (Body S D L B) → Type 0
-  AreAligned lanes crossings bodies = (n : ℕ) (l : LanePlan) (c : Crossing) (b : Body S D L B) (x : IslandInput) → slice_get lanes n ≡ Some l → slice_get crossings n ≡ Some c → slice_get bodies c.to ≡ Some b → slice_get b.ins.items c.inp ≡ Some x → x.wire ≡ l.wire
+  AreAligned lanes crossings bodies = (n : ℕ) (l : LanePlan) (c : Crossing) (b : Body S D L B) (x : IslandInput) → slice_get lanes n ≡ Some l
+      → slice_get crossings n ≡ Some c → slice_get bodies c.to ≡ Some b → slice_get b.ins.items c.inp ≡ Some x → x.wire ≡ l.wire

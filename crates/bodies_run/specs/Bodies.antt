@@ -71,13 +71,16 @@ module _ {S D L B : Type 0} where
 
   -- Each lane has its crossing, and no body has an end of anything else.
   pub record AreLanes (homes : List ℕ) (ws : List Edge) (bodies : List (Body S D L B)) (crossings : List Crossing) : Type 0 where
-    pub each : (u : ℕ) (v : Edge) (size : ℕ) → slice_get ws u ≡ Some v → v.lane ≡ Some size → (n : ℕ) × ((c : Crossing) × ((slice_get crossings n ≡ Some c) × IsCrossingOf homes ws bodies u v size c))
+    pub each : (u : ℕ) (v : Edge) (size : ℕ) → slice_get ws u ≡ Some v → v.lane ≡ Some size
+        → (n : ℕ) × ((c : Crossing) × ((slice_get crossings n ≡ Some c) × IsCrossingOf homes ws bodies u v size c))
     pub ins_are : (k j : ℕ) (b : Body S D L B) (x : IslandInput) → slice_get bodies k ≡ Some b → slice_get b.ins.items j ≡ Some x → ComesInto homes ws k x.wire
-    pub outs_are : (k j : ℕ) (b : Body S D L B) (o : OutputBoundary) → slice_get bodies k ≡ Some b → slice_get b.outs.items j ≡ Some o → GoesOutOf homes ws k o.wire
+    pub outs_are : (k j : ℕ) (b : Body S D L B) (o : OutputBoundary) → slice_get bodies k ≡ Some b → slice_get b.outs.items j ≡ Some o
+        → GoesOutOf homes ws k o.wire
 
   -- by the number of its wire: how many elements the input end at each crossing has asked for in all
   abbrev pub AskedAre : List (Body S D L B) → List Crossing → (ℕ → ℕ) → Type 0
-  AskedAre bodies crossings all = (n : ℕ) (c : Crossing) (b : Body S D L B) (x : IslandInput) → slice_get crossings n ≡ Some c → slice_get bodies c.to ≡ Some b → slice_get b.ins.items c.inp ≡ Some x → all x.wire ≡ asked_in_all x.boundary.lane
+  AskedAre bodies crossings all = (n : ℕ) (c : Crossing) (b : Body S D L B) (x : IslandInput) → slice_get crossings n ≡ Some c → slice_get bodies c.to ≡ Some b
+      → slice_get b.ins.items c.inp ≡ Some x → all x.wire ≡ asked_in_all x.boundary.lane
 
   module _ (sources : S → SourceState) (drains : D → DrainState) (book : Book) where
     -- The bodies as they were made, as many as there are islands: each keeps what bodies keep, its island began as what stands at its
@@ -89,7 +92,8 @@ module _ {S D L B : Type 0} where
       pub ends_are : (k : ℕ) (b : Body S D L B) → slice_get begun k ≡ Some b → b.island.net.ends ≡ map ends_of (links_in homes ws nodes k)
 
     -- They are those of the islands of this blueprint, and these crossings are its lanes.
-    pub record AreBodiesOf (g : Graph) (homes : List ℕ) (count : ℕ) (ws : List Edge) (nodes : List (Seated S D L B)) (crossings : List Crossing) (begun : List (Body S D L B)) : Type 0 where
+    pub record AreBodiesOf (g : Graph) (homes : List ℕ) (count : ℕ) (ws : List Edge) (nodes : List (Seated S D L B)) (crossings : List Crossing)
+        (begun : List (Body S D L B)) : Type 0 where
       pub seated : AreSeated homes count ws nodes
       pub graph : IsGraphOf g ws nodes
       pub begun_are : AreBegun homes count ws nodes begun

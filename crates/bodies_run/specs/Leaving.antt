@@ -16,7 +16,8 @@ account_in homes ws bodies all = joined_account (net_of bodies) (seats_by_island
 
 -- The account is of these nodes, in the order of the blueprint, and they began as what stands at these places. Beyond them it says
 -- nothing of nodes.
-pub record AreLeft {S D L B : Type 0} (places : List (Seated S D L B)) (account : Account (IslandNode S D L B)) (nodes : List (IslandNode S D L B)) : Type 0 where
+pub record AreLeft {S D L B : Type 0} (places : List (Seated S D L B)) (account : Account (IslandNode S D L B)) (nodes : List (IslandNode S D L B))
+    : Type 0 where
   pub firsts : List (IslandNode S D L B)
   pub become : AllBecome places firsts
   pub first_at : (k : ℕ) → k < length firsts → account.firsts k ≡ slice_get firsts k

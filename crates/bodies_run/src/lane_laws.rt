@@ -21,5 +21,6 @@ pub fn ends_that_met_are_known()
 
 /// An input boundary is what an account wants of an input end, where the connection behind its stage carries what it handed on.
 pub fn an_input_boundary_keeps_its_end()
-    ensures { (b : InputBoundary) (c : WireState) (l : List Tree) (e : End) → BoundaryKeeps b → c.wire.sent ≡ given b → c.wire.sent ≡ told l e → GaveAs c.wire.out e → InKeeps (in_size b.lane) c (in_end b.lane) }
+    ensures { (b : InputBoundary) (c : WireState) (l : List Tree) (e : End) → BoundaryKeeps b → c.wire.sent ≡ given b → c.wire.sent ≡ told l e
+        → GaveAs c.wire.out e → InKeeps (in_size b.lane) c (in_end b.lane) }
 {}

@@ -22,11 +22,14 @@ use stream_io::outside::{Drain, Source};
 /// The nets of the islands of a blueprint cover its graph (`covers`), and each of their connections is one of a wire's (`owned`). Nets
 /// that went on are nets of the same islands (`on`).
 pub fn islands_cover_their_blueprint<S: Source, D: Drain, L: Logic, B: PlugBook>()
-    ensures covers { (g : Graph) (homes : List ℕ) (count : ℕ) (ws : List Edge) (nodes : List (Seated S D L B)) (nets : ℕ → Net (IslandNode S D L B)) → AreSeated homes count ws nodes → IsGraphOf g ws nodes → AreNets homes ws nodes count nets
+    ensures covers { (g : Graph) (homes : List ℕ) (count : ℕ) (ws : List Edge) (nodes : List (Seated S D L B)) (nets : ℕ → Net (IslandNode S D L B))
+        → AreSeated homes count ws nodes → IsGraphOf g ws nodes → AreNets homes ws nodes count nets
         → Covers g nets (seats_by_islands homes ws) }
-    ensures owned { (g : Graph) (homes : List ℕ) (count : ℕ) (ws : List Edge) (nodes : List (Seated S D L B)) (nets : ℕ → Net (IslandNode S D L B)) → AreSeated homes count ws nodes → IsGraphOf g ws nodes → AreNets homes ws nodes count nets
+    ensures owned { (g : Graph) (homes : List ℕ) (count : ℕ) (ws : List Edge) (nodes : List (Seated S D L B)) (nets : ℕ → Net (IslandNode S D L B))
+        → AreSeated homes count ws nodes → IsGraphOf g ws nodes → AreNets homes ws nodes count nets
         → Owned g nets (seats_by_islands homes ws) count }
-    ensures on { (homes : List ℕ) (count : ℕ) (ws : List Edge) (nodes : List (Seated S D L B)) (nets : ℕ → Net (IslandNode S D L B)) (later : ℕ → Net (IslandNode S D L B)) → AreNets homes ws nodes count nets → ((k : ℕ) → k < count → NetGoesOn (nets k) (later k))
+    ensures on { (homes : List ℕ) (count : ℕ) (ws : List Edge) (nodes : List (Seated S D L B)) (nets : ℕ → Net (IslandNode S D L B))
+        (later : ℕ → Net (IslandNode S D L B)) → AreNets homes ws nodes count nets → ((k : ℕ) → k < count → NetGoesOn (nets k) (later k))
         → AreNets homes ws nodes count later }
 {}
 
@@ -34,15 +37,20 @@ pub fn islands_cover_their_blueprint<S: Source, D: Drain, L: Logic, B: PlugBook>
 /// other connection is at the end of a lane (`only_out`, `only_in`), and none is at two (`apart`). The connections of each wire are in
 /// islands that are there (`islands`).
 pub fn lanes_have_ways<S: Source, D: Drain, L: Logic, B: PlugBook>()
-    ensures ways { (homes : List ℕ) (count : ℕ) (ws : List Edge) (nodes : List (Seated S D L B)) (u : ℕ) (v : Edge) (size : ℕ) → AreSeated homes count ws nodes → slice_get ws u ≡ Some v → v.lane ≡ Some size
+    ensures ways { (homes : List ℕ) (count : ℕ) (ws : List Edge) (nodes : List (Seated S D L B)) (u : ℕ) (v : Edge) (size : ℕ) → AreSeated homes count ws nodes
+        → slice_get ws u ≡ Some v → v.lane ≡ Some size
         → HasWays homes ws nodes u v }
-    ensures only_out { (homes : List ℕ) (count : ℕ) (ws : List Edge) (nodes : List (Seated S D L B)) (k : ℕ) (q : ℕ) (l : Link) → AreSeated homes count ws nodes → slice_get (links_in homes ws nodes k) q ≡ Some l
+    ensures only_out { (homes : List ℕ) (count : ℕ) (ws : List Edge) (nodes : List (Seated S D L B)) (k : ℕ) (q : ℕ) (l : Link) → AreSeated homes count ws nodes
+        → slice_get (links_in homes ws nodes k) q ≡ Some l
         → goes_out (seats_in homes ws nodes k) l.to ≡ true → IsNearOf homes ws k q l.wire }
-    ensures only_in { (homes : List ℕ) (count : ℕ) (ws : List Edge) (nodes : List (Seated S D L B)) (k : ℕ) (q : ℕ) (l : Link) → AreSeated homes count ws nodes → slice_get (links_in homes ws nodes k) q ≡ Some l
+    ensures only_in { (homes : List ℕ) (count : ℕ) (ws : List Edge) (nodes : List (Seated S D L B)) (k : ℕ) (q : ℕ) (l : Link) → AreSeated homes count ws nodes
+        → slice_get (links_in homes ws nodes k) q ≡ Some l
         → comes_in (seats_in homes ws nodes k) l.from ≡ true → IsFarOf homes ws k q l.wire }
-    ensures apart { (homes : List ℕ) (count : ℕ) (ws : List Edge) (nodes : List (Seated S D L B)) (k : ℕ) (q : ℕ) (l : Link) → AreSeated homes count ws nodes → slice_get (links_in homes ws nodes k) q ≡ Some l
+    ensures apart { (homes : List ℕ) (count : ℕ) (ws : List Edge) (nodes : List (Seated S D L B)) (k : ℕ) (q : ℕ) (l : Link) → AreSeated homes count ws nodes
+        → slice_get (links_in homes ws nodes k) q ≡ Some l
         → comes_in (seats_in homes ws nodes k) l.from ≡ true → goes_out (seats_in homes ws nodes k) l.to ≡ false }
-    ensures islands { (homes : List ℕ) (count : ℕ) (ws : List Edge) (nodes : List (Seated S D L B)) (u : ℕ) (v : Edge) → AreSeated homes count ws nodes → slice_get ws u ≡ Some v
+    ensures islands { (homes : List ℕ) (count : ℕ) (ws : List Edge) (nodes : List (Seated S D L B)) (u : ℕ) (v : Edge) → AreSeated homes count ws nodes
+        → slice_get ws u ≡ Some v
         → (((seats_by_islands homes ws).near u).island < count) × (((seats_by_islands homes ws).far u).island < count) }
 {}
 
@@ -51,26 +59,35 @@ pub fn lanes_have_ways<S: Source, D: Drain, L: Logic, B: PlugBook>()
 /// began are brought back into one list, those of the blueprint's nodes are what was handed in for them (`became`), and the others
 /// are the stages at which lanes come in, and then go out (`ends_became`).
 pub fn islands_hold_nodes<S: Source, D: Drain, L: Logic, B: PlugBook>()
-    ensures below { (homes : List ℕ) (count : ℕ) (ws : List Edge) (nodes : List (Seated S D L B)) → AreSeated homes count ws nodes → All (λ h. h < count) (place_homes homes ws) }
-    ensures counts { (homes : List ℕ) (count : ℕ) (ws : List Edge) (nodes : List (Seated S D L B)) (nets : ℕ → Net (IslandNode S D L B)) (k : ℕ) → AreSeated homes count ws nodes → AreNets homes ws nodes count nets → k < count
+    ensures below { (homes : List ℕ) (count : ℕ) (ws : List Edge) (nodes : List (Seated S D L B)) → AreSeated homes count ws nodes
+        → All (λ h. h < count) (place_homes homes ws) }
+    ensures counts { (homes : List ℕ) (count : ℕ) (ws : List Edge) (nodes : List (Seated S D L B)) (nets : ℕ → Net (IslandNode S D L B)) (k : ℕ)
+        → AreSeated homes count ws nodes → AreNets homes ws nodes count nets → k < count
         → (length (nets k).firsts ≡ share_of k (place_homes homes ws)) × (length (nets k).nodes ≡ share_of k (place_homes homes ws)) }
-    ensures first { (homes : List ℕ) (count : ℕ) (ws : List Edge) (nodes : List (Seated S D L B)) (nets : ℕ → Net (IslandNode S D L B)) (k : ℕ) (s : Seated S D L B) → AreSeated homes count ws nodes → AreNets homes ws nodes count nets → slice_get nodes k ≡ Some s
+    ensures first { (homes : List ℕ) (count : ℕ) (ws : List Edge) (nodes : List (Seated S D L B)) (nets : ℕ → Net (IslandNode S D L B)) (k : ℕ)
+        (s : Seated S D L B) → AreSeated homes count ws nodes → AreNets homes ws nodes count nets → slice_get nodes k ≡ Some s
         → (x : IslandNode S D L B) × ((slice_get (nets (slice_index homes k)).firsts (rank_of (place_homes homes ws) k) ≡ Some x) × Becomes s x) }
-    ensures became { (homes : List ℕ) (count : ℕ) (ws : List Edge) (nodes : List (Seated S D L B)) (nets : ℕ → Net (IslandNode S D L B)) (all : List (IslandNode S D L B)) (ends : List (IslandNode S D L B)) → AreSeated homes count ws nodes → AreNets homes ws nodes count nets
+    ensures became { (homes : List ℕ) (count : ℕ) (ws : List Edge) (nodes : List (Seated S D L B)) (nets : ℕ → Net (IslandNode S D L B))
+        (all : List (IslandNode S D L B)) (ends : List (IslandNode S D L B)) → AreSeated homes count ws nodes → AreNets homes ws nodes count nets
         → AreBroughtBack homes count ws (λ k. (nets k).firsts) all ends → AllBecome nodes all }
-    ensures ends_became { (homes : List ℕ) (count : ℕ) (ws : List Edge) (nodes : List (Seated S D L B)) (nets : ℕ → Net (IslandNode S D L B)) (all : List (IslandNode S D L B)) (ends : List (IslandNode S D L B)) → AreSeated homes count ws nodes → AreNets homes ws nodes count nets
-        → AreBroughtBack homes count ws (λ k. (nets k).firsts) all ends → AllBecome (map in_seat (lanes_from homes 0 ws) ++ map out_seat (lanes_from homes 0 ws)) ends }
+    ensures ends_became { (homes : List ℕ) (count : ℕ) (ws : List Edge) (nodes : List (Seated S D L B)) (nets : ℕ → Net (IslandNode S D L B))
+        (all : List (IslandNode S D L B)) (ends : List (IslandNode S D L B)) → AreSeated homes count ws nodes → AreNets homes ws nodes count nets
+        → AreBroughtBack homes count ws (λ k. (nets k).firsts) all ends → AllBecome
+        (map in_seat (lanes_from homes 0 ws) ++ map out_seat (lanes_from homes 0 ws)) ends }
 {}
 
 /// Lists with an item for each place of the islands can be brought back into one (`back`), and into one alone (`one`).
 pub fn lists_come_back<S: Source, D: Drain, L: Logic, B: PlugBook, T>()
     ensures back { (homes : List ℕ) (count : ℕ) (ws : List Edge) (nodes : List (Seated S D L B)) (lists : ℕ → List T) → AreSeated homes count ws nodes
-        → ((k : ℕ) → k < count → length (lists k) ≡ share_of k (place_homes homes ws)) → (all : List T) × ((ends : List T) × AreBroughtBack homes count ws lists all ends) }
-    ensures one { (homes : List ℕ) (count : ℕ) (ws : List Edge) (nodes : List (Seated S D L B)) (lists : ℕ → List T) (all : List T) (ends : List T) (xs : List T) → AreSeated homes count ws nodes → AreBroughtBack homes count ws lists all ends
+        → ((k : ℕ) → k < count → length (lists k) ≡ share_of k (place_homes homes ws))
+        → (all : List T) × ((ends : List T) × AreBroughtBack homes count ws lists all ends) }
+    ensures one { (homes : List ℕ) (count : ℕ) (ws : List Edge) (nodes : List (Seated S D L B)) (lists : ℕ → List T) (all : List T) (ends : List T)
+        (xs : List T) → AreSeated homes count ws nodes → AreBroughtBack homes count ws lists all ends
         → length xs ≡ length (place_homes homes ws) → ((k : ℕ) → k < count → of_home (place_homes homes ws) k xs ≡ lists k) → xs ≡ all ++ ends }
 {}
 
 /// What is read off each item of lists that come back into one comes back with it.
 pub fn maps_come_back<T, U>()
-    ensures { (homes : List ℕ) (count : ℕ) (ws : List Edge) (f : T → U) (lists : ℕ → List T) (all : List T) (ends : List T) → AreBroughtBack homes count ws lists all ends → AreBroughtBack homes count ws (λ k. map f (lists k)) (map f all) (map f ends) }
+    ensures { (homes : List ℕ) (count : ℕ) (ws : List Edge) (f : T → U) (lists : ℕ → List T) (all : List T) (ends : List T)
+        → AreBroughtBack homes count ws lists all ends → AreBroughtBack homes count ws (λ k. map f (lists k)) (map f all) (map f ends) }
 {}

@@ -22,22 +22,33 @@ use stream_io::outside::{Drain, Source};
 /// What an account wants of each end of a lane, while the islands run (`out`, `inp`) and where its island has no event and nothing is
 /// left for the end to do (`out_quiet`, `in_quiet`).
 pub fn an_end_is_kept<S: Source, D: Drain, L: Logic, B: PlugBook>()
-    ensures out { (o : LaneOut) (i : Kept S D L B) (u : ℕ) → Settled node_port_state (node_law S.state D.state B.lists) node_asking node_moves i.net → Leaves i u → Serves o i u → OutKeeps (cell_out i u) (out_end o) }
-    ensures inp { (b : InputBoundary) (j : Kept S D L B) (u : ℕ) → Settled node_port_state (node_law S.state D.state B.lists) node_asking node_moves j.net → Enters j u → BoundaryKeeps b → Feeds b j u → InKeeps (in_size b.lane) (cell_in j u) (in_end b.lane) }
-    ensures out_quiet { (o : LaneOut) (b : InputBoundary) (i : Kept S D L B) (u : ℕ) → Settled node_port_state (node_law S.state D.state B.lists) node_asking node_moves i.net → Leaves i u → i.net.queue ≡ [] → IsLaneHistory o b.lane → Serves o i u → IsServed o i u → OutQuiet (cell_out i u) (out_end o) }
-    ensures in_quiet { (b : InputBoundary) (j : Kept S D L B) (u : ℕ) → Settled node_port_state (node_law S.state D.state B.lists) node_asking node_moves j.net → Enters j u → j.net.queue ≡ [] → BoundaryKeeps b → Feeds b j u → IsFed b j u → InQuiet (cell_in j u) (in_end b.lane) }
+    ensures out { (o : LaneOut) (i : Kept S D L B) (u : ℕ) → Settled node_port_state (node_law S.state D.state B.lists) node_asking node_moves i.net
+        → Leaves i u → Serves o i u → OutKeeps (cell_out i u) (out_end o) }
+    ensures inp { (b : InputBoundary) (j : Kept S D L B) (u : ℕ) → Settled node_port_state (node_law S.state D.state B.lists) node_asking node_moves j.net
+        → Enters j u → BoundaryKeeps b → Feeds b j u → InKeeps (in_size b.lane) (cell_in j u) (in_end b.lane) }
+    ensures out_quiet { (o : LaneOut) (b : InputBoundary) (i : Kept S D L B) (u : ℕ)
+        → Settled node_port_state (node_law S.state D.state B.lists) node_asking node_moves i.net → Leaves i u → i.net.queue ≡ [] → IsLaneHistory o b.lane
+        → Serves o i u → IsServed o i u → OutQuiet (cell_out i u) (out_end o) }
+    ensures in_quiet { (b : InputBoundary) (j : Kept S D L B) (u : ℕ) → Settled node_port_state (node_law S.state D.state B.lists) node_asking node_moves j.net
+        → Enters j u → j.net.queue ≡ [] → BoundaryKeeps b → Feeds b j u → IsFed b j u → InQuiet (cell_in j u) (in_end b.lane) }
 {}
 
 /// A lane between two stages, of one island or of two, is what an account wants of it, with its two ends as they are.
 pub fn a_lane_is_kept<S: Source, D: Drain, L: Logic, B: PlugBook>()
-    ensures { (o : LaneOut) (b : InputBoundary) (i j : Kept S D L B) (u : ℕ) → Settled node_port_state (node_law S.state D.state B.lists) node_asking node_moves i.net → Settled node_port_state (node_law S.state D.state B.lists) node_asking node_moves j.net → Leaves i u → Enters j u
+    ensures { (o : LaneOut) (b : InputBoundary) (i j : Kept S D L B) (u : ℕ) → Settled node_port_state
+        (node_law S.state D.state B.lists) node_asking node_moves i.net → Settled node_port_state
+        (node_law S.state D.state B.lists) node_asking node_moves j.net → Leaves i u → Enters j u
         → BoundaryKeeps b → IsLaneHistory o b.lane → Serves o i u → Feeds b j u
         → (k : LaneKeeps (in_size b.lane) (cell_out i u) (cell_in j u) (asked_in_all b.lane)) × ((k.out ≡ out_end o) × (k.inp ≡ in_end b.lane)) }
 {}
 
 /// And it is quiet where no event is left at either stage, neither end has anything to do, and nothing waits between them.
 pub fn a_lane_is_quiet<S: Source, D: Drain, L: Logic, B: PlugBook>()
-    ensures { (o : LaneOut) (b : InputBoundary) (i j : Kept S D L B) (u : ℕ) → Settled node_port_state (node_law S.state D.state B.lists) node_asking node_moves i.net → Settled node_port_state (node_law S.state D.state B.lists) node_asking node_moves j.net → Leaves i u → Enters j u → i.net.queue ≡ [] → j.net.queue ≡ []
-        → BoundaryKeeps b → IsLaneHistory o b.lane → Serves o i u → Feeds b j u → IsServed o i u → IsFed b j u → (w : Waits) → WaitsAre o b.lane w → w.item ≡ false → w.demand ≡ false
-        → (k : LaneKeeps (in_size b.lane) (cell_out i u) (cell_in j u) (asked_in_all b.lane)) → k.out ≡ out_end o → k.inp ≡ in_end b.lane → LaneQuiet (in_size b.lane) (cell_out i u) (cell_in j u) (asked_in_all b.lane) k }
+    ensures { (o : LaneOut) (b : InputBoundary) (i j : Kept S D L B) (u : ℕ) → Settled node_port_state
+        (node_law S.state D.state B.lists) node_asking node_moves i.net → Settled node_port_state
+        (node_law S.state D.state B.lists) node_asking node_moves j.net → Leaves i u → Enters j u → i.net.queue ≡ [] → j.net.queue ≡ []
+        → BoundaryKeeps b → IsLaneHistory o b.lane → Serves o i u → Feeds b j u → IsServed o i u → IsFed b j u → (w : Waits) → WaitsAre o b.lane w
+        → w.item ≡ false → w.demand ≡ false
+        → (k : LaneKeeps (in_size b.lane) (cell_out i u) (cell_in j u) (asked_in_all b.lane)) → k.out ≡ out_end o → k.inp ≡ in_end b.lane
+        → LaneQuiet (in_size b.lane) (cell_out i u) (cell_in j u) (asked_in_all b.lane) k }
 {}

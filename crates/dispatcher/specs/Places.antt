@@ -20,10 +20,12 @@ WentOrBroke keeps goes breaks a b = BodyWentOn keeps goes a b ⊎ breaks a b
 
 -- outside a turn a body that is not broken went on, and its units are these; or it broke off
 abbrev pub PlaceStands : {B : Type 0} → (B → Type 0) → (B → B → Type 0) → (B → B → Type 0) → (B → ℕ) → B → B → ℕ → Bool → Type 0
-PlaceStands keeps goes breaks spent start body used broken = (broken ≡ false → BodyWentOn keeps goes start body × (spent body ≡ used)) × (broken ≡ true → breaks start body)
+PlaceStands keeps goes breaks spent start body used broken = (broken ≡ false → BodyWentOn keeps goes start body × (spent body ≡ used))
+    × (broken ≡ true → breaks start body)
 
 -- what holds of a place: its seat is paid, and its body stands
-pub record PlaceHolds {B : Type 0} (keeps : B → Type 0) (goes breaks : B → B → Type 0) (spent : B → ℕ) (start body : B) (seat : BudgetSeat) (used : ℕ) (broken : Bool) : Type 0 where
+pub record PlaceHolds {B : Type 0} (keeps : B → Type 0) (goes breaks : B → B → Type 0) (spent : B → ℕ) (start body : B) (seat : BudgetSeat) (used : ℕ)
+    (broken : Bool) : Type 0 where
   pub paid : Paid used seat
   pub stands : PlaceStands keeps goes breaks spent start body used broken
 

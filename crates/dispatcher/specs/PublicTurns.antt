@@ -64,7 +64,8 @@ module _ {T O : Type 0} where
 
   -- a seat of the table; between calls no slot is with it
   abbrev pub IsSeatOf : Turns T O → TurnSeat → Type 0
-  IsSeatOf turns seat = (seat.badge.table_id ≡ turns.table.shared.table_id) × (seat.badge.views ≡ hold 1 (held_turns seat) 0 (found_by seat) (began_by seat) (woke_by seat) ∷ [])
+  IsSeatOf turns seat = (seat.badge.table_id ≡ turns.table.shared.table_id) × (seat.badge.views ≡ hold 1 (held_turns seat) 0 (found_by seat) (began_by seat)
+      (woke_by seat) ∷ [])
 
   -- a seat of the table that holds no turn
   abbrev pub IsFree : Turns T O → TurnSeat → Type 0

@@ -20,7 +20,8 @@ pub record Fair (limit seats : ℕ) (s : State (Unit {0}) Share) : Type 0 where
   pub word : slice_index s.words 0 ≡ total (λ (v : Share). v.used) s.views + total (λ (v : Share). v.claim) s.views
   pub within : total (λ (v : Share). v.used) s.views + total (λ (v : Share). v.granted) s.views ≤ limit
   -- of a seat that was joined into another its view says nothing but that it holds nothing
-  pub each : (id : ℕ) (v : Share) → get_elem? s.views id ≡ some v → (v.claim ≤ 1000 * v.parts) × (v.granted ≤ v.claim) × (0 < v.parts → v.limit ≡ limit) × (v.parts ≡ 0 → v.used ≡ 0)
+  pub each : (id : ℕ) (v : Share) → get_elem? s.views id ≡ some v → (v.claim ≤ 1000 * v.parts) × (v.granted ≤ v.claim) × (0 < v.parts → v.limit ≡ limit)
+      × (v.parts ≡ 0 → v.used ≡ 0)
   pub parts : total (λ (v : Share). v.parts) s.views ≡ seats
   pub small : limit + 1000 * seats < 4611686018427387904
 
@@ -30,7 +31,8 @@ Sat = Me (Unit {0}) Share
 
 -- a claim is made: of it is granted what the word that was found leaves of the budget
 abbrev pub claimed : Step (Unit {0}) → Sat → ℕ → Sat → Type 0
-claimed st m r n = (n ≡ (share m.0.parts m.0.used st.first (granted_of m.0.limit r st.first) m.0.limit, m.1)) × (m.0.used + granted_of m.0.limit r st.first ≤ m.0.limit)
+claimed st m r n = (n ≡ (share m.0.parts m.0.used st.first (granted_of m.0.limit r st.first) m.0.limit, m.1))
+    × (m.0.used + granted_of m.0.limit r st.first ≤ m.0.limit)
 
 -- what was not used is given back
 abbrev pub given_back : Step (Unit {0}) → Sat → ℕ → Sat → Type 0

@@ -32,7 +32,8 @@ module _ {T : Type 0} (fits : ℕ → T → Type 0) (n seats : ℕ) where
     -- READY is set from a wake of a place to the next begin of its turn: at no wake more turns had begun than have now, and
     -- where none has begun since it is set
     pub past : (id : ℕ) (v : Hold) (k : ℕ) → get_elem? s.views id ≡ some v → k < n → latest k v.woke ≤ suc (turns_begun k s.views)
-    pub ready : (id : ℕ) (v : Hold) (k : ℕ) → get_elem? s.views id ≡ some v → k < n → latest k v.woke ≡ suc (turns_begun k s.views) → slice_index s.words k % 2 ≡ 1
+    pub ready : (id : ℕ) (v : Hold) (k : ℕ) → get_elem? s.views id ≡ some v → k < n → latest k v.woke ≡ suc (turns_begun k s.views)
+        → slice_index s.words k % 2 ≡ 1
     pub parts : total (λ (v : Hold). v.parts) s.views ≡ seats
     pub idle : (id : ℕ) (v : Hold) → get_elem? s.views id ≡ some v → v.parts ≡ 0 → v.held ≡ []
 
@@ -48,7 +49,10 @@ module _ {T : Type 0} where
   -- the exchange of READY to RUNNING takes the value out of its slot
   abbrev pub turn_begun : (ℕ → T → Type 0) → Step (Option T) → Sat T → ℕ → Sat T → Type 0
   turn_begun fits st m r n =
-      (r ≡ st.first → (x : T) × (n ≡ (hold m.0.parts (st.word ∷ m.0.held) (suc st.word) ((st.word, r) ∷ m.0.found) (st.word ∷ m.0.began) m.0.woke, (st.word, Some x) ∷ m.1)) × fits st.word x)
+      (r ≡ st.first → (x : T) × (n ≡ (
+        hold m.0.parts (st.word ∷ m.0.held) (suc st.word) ((st.word, r) ∷ m.0.found) (st.word ∷ m.0.began) m.0.woke,
+        (st.word, Some x) ∷ m.1,
+      )) × fits st.word x)
       × (r ≢ st.first → n ≡ (hold m.0.parts m.0.held m.0.out ((st.word, r) ∷ m.0.found) m.0.began m.0.woke, m.1))
 
   -- the empty slot is given back

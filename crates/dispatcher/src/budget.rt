@@ -34,7 +34,8 @@ impl Budget {
     /// A budget of so many units, and its first seat, which has all parts and used none. No other call takes memory.
     pub fn new(alloc: Global, limit: u64, seats: u32) -> Result<(Budget, BudgetSeat), AllocError>
         requires { limit < 2 ^ 61 }
-        ensures seat { IfOk result (λ r. (seat_id r.1 ≡ budget_id r.0) × HasNoClaim r.1 × (budget_parts r.1 ≡ seats) × (used_by r.1 ≡ 0) × (limit_of r.1 ≡ limit)) }
+        ensures seat { IfOk result (λ r. (seat_id r.1 ≡ budget_id r.0) × HasNoClaim r.1 × (budget_parts r.1 ≡ seats) × (used_by r.1 ≡ 0)
+            × (limit_of r.1 ≡ limit)) }
         ensures limit { IfOk result (λ r. r.0.limit ≡ limit) }
     {
         let purse = Purse {
@@ -49,8 +50,10 @@ impl Budget {
     pub fn split(&self, seat: &mut BudgetSeat) -> BudgetSeat
         requires seat { (seat_id seat.old ≡ budget_id self.now) × HasNoClaim seat.old }
         requires parts { 1 < budget_parts seat.old }
-        ensures seat { (seat_id seat.new ≡ budget_id self.now) × HasNoClaim seat.new × (budget_parts seat.new + 1 ≡ budget_parts seat.old) × (used_by seat.new ≡ used_by seat.old) × (limit_of seat.new ≡ limit_of seat.old) }
-        ensures given { (seat_id result ≡ budget_id self.now) × HasNoClaim result × (budget_parts result ≡ 1) × (used_by result ≡ 0) × (limit_of result ≡ limit_of seat.old) }
+        ensures seat { (seat_id seat.new ≡ budget_id self.now) × HasNoClaim seat.new × (budget_parts seat.new + 1 ≡ budget_parts seat.old)
+            × (used_by seat.new ≡ used_by seat.old) × (limit_of seat.new ≡ limit_of seat.old) }
+        ensures given { (seat_id result ≡ budget_id self.now) × HasNoClaim result × (budget_parts result ≡ 1) × (used_by result ≡ 0)
+            × (limit_of result ≡ limit_of seat.old) }
     {
         BudgetSeat {
             seat: self.table.shared.split_seat::<UnitDeal>(&mut seat.seat),
@@ -62,7 +65,8 @@ impl Budget {
         requires seat { (seat_id seat.old ≡ budget_id self.now) × HasNoClaim seat.old }
         requires part { 0 < budget_parts seat.old }
         requires other { (seat_id other ≡ budget_id self.now) × HasNoClaim other }
-        ensures { (seat_id seat.new ≡ budget_id self.now) × HasNoClaim seat.new × (budget_parts seat.new ≡ budget_parts seat.old + budget_parts other) × (used_by seat.new ≡ used_by seat.old + used_by other) × (limit_of seat.new ≡ limit_of seat.old) }
+        ensures { (seat_id seat.new ≡ budget_id self.now) × HasNoClaim seat.new × (budget_parts seat.new ≡ budget_parts seat.old + budget_parts other)
+            × (used_by seat.new ≡ used_by seat.old + used_by other) × (limit_of seat.new ≡ limit_of seat.old) }
     {
         let BudgetSeat { seat: other } = other;
         self.table
@@ -78,7 +82,8 @@ impl Budget {
         requires limit { limit_of seat.old ≡ self.now.limit }
         ensures most { result ≤ 1000 }
         ensures within { used_by seat.old + result ≤ limit_of seat.old }
-        ensures seat { (seat_id seat.new ≡ budget_id self.now) × (seat.new.seat.me ≡ (share (budget_parts seat.old) (used_by seat.old) 1000 result (limit_of seat.old), [])) }
+        ensures seat { (seat_id seat.new ≡ budget_id self.now) × (seat.new.seat.me ≡
+            (share (budget_parts seat.old) (used_by seat.old) 1000 result (limit_of seat.old), [])) }
     {
         let found = self
             .table
@@ -89,10 +94,12 @@ impl Budget {
 
     /// Ends a claim, of which so many units were used: gives back the others. One step; it waits for nobody.
     pub fn settle(&self, seat: &mut BudgetSeat, used: u64)
-        requires seat { (seat_id seat.old ≡ budget_id self.now) × (seat.old.seat.me ≡ (share (budget_parts seat.old) (used_by seat.old) 1000 (granted_to seat.old) (limit_of seat.old), [])) }
+        requires seat { (seat_id seat.old ≡ budget_id self.now) × (seat.old.seat.me ≡
+            (share (budget_parts seat.old) (used_by seat.old) 1000 (granted_to seat.old) (limit_of seat.old), [])) }
         requires part { 0 < budget_parts seat.old }
         requires used { (used ≤ granted_to seat.old) × (used ≤ 1000) }
-        ensures { (seat_id seat.new ≡ budget_id self.now) × HasNoClaim seat.new × (budget_parts seat.new ≡ budget_parts seat.old) × (used_by seat.new ≡ used_by seat.old + used) × (limit_of seat.new ≡ limit_of seat.old) }
+        ensures { (seat_id seat.new ≡ budget_id self.now) × HasNoClaim seat.new × (budget_parts seat.new ≡ budget_parts seat.old)
+            × (used_by seat.new ≡ used_by seat.old + used) × (limit_of seat.new ≡ limit_of seat.old) }
     {
         self.table
             .shared

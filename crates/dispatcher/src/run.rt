@@ -39,7 +39,8 @@ impl<B: Waking> RunRoom<B> {
     fn of(alloc: Global, count: u32, budget: u32) -> Result<RunRoom<B>, NoMemory>
         requires some { 0 < count }
         requires few { count < 4294967295 }
-        ensures seat { IfOk result (λ r. (seat_id r.first ≡ budget_id r.purse) × HasNoClaim r.first × (budget_parts r.first ≡ count + 1) × (used_by r.first ≡ 0) × (limit_of r.first ≡ budget)) }
+        ensures seat { IfOk result (λ r. (seat_id r.first ≡ budget_id r.purse) × HasNoClaim r.first × (budget_parts r.first ≡ count + 1) × (used_by r.first ≡ 0)
+            × (limit_of r.first ≡ budget)) }
         ensures limit { IfOk result (λ r. (r.purse.limit ≡ budget) × (r.list.count ≡ count)) }
         ensures places { IfOk result (λ r. (r.places.items ≡ []) × (count ≤ vec_capacity r.places)) }
         ensures back { IfOk result (λ r. (r.back.items ≡ []) × (count ≤ vec_capacity r.back)) }

@@ -50,11 +50,13 @@ pub fn place_all<B: Turning>(
     bodies: Vec<B>,
     mut places: Vec<TablePlace<B>>,
 ) -> Vec<TablePlace<B>>
-    requires seat { (seat_id first.old ≡ budget_id purse.now) × HasNoClaim first.old × (budget_parts first.old ≡ vec_len bodies + 1) × (used_by first.old ≡ 0) × (limit_of first.old ≡ purse.now.limit) }
+    requires seat { (seat_id first.old ≡ budget_id purse.now) × HasNoClaim first.old × (budget_parts first.old ≡ vec_len bodies + 1) × (used_by first.old ≡ 0)
+        × (limit_of first.old ≡ purse.now.limit) }
     requires room { (places.items ≡ []) × (vec_len bodies ≤ vec_capacity places) }
     requires keeps { AllOf B.keeps bodies.items }
     requires unspent { AllOf (λ b. B.spent b ≡ 0) bodies.items }
-    ensures seat { (seat_id first.new ≡ budget_id purse.now) × HasNoClaim first.new × (budget_parts first.new ≡ 1) × (used_by first.new ≡ 0) × (limit_of first.new ≡ purse.now.limit) }
+    ensures seat { (seat_id first.new ≡ budget_id purse.now) × HasNoClaim first.new × (budget_parts first.new ≡ 1) × (used_by first.new ≡ 0)
+        × (limit_of first.new ≡ purse.now.limit) }
     ensures starts { map body_start result.items ≡ bodies.items }
     ensures belong { All (Belongs (budget_id purse.now) purse.now.limit) result.items }
     ensures len { vec_len result ≡ vec_len bodies }
@@ -74,7 +76,8 @@ pub fn take_apart<B: Turning>(
     room: Vec<B>,
     refused: bool,
 ) -> TurnsTaken<B>
-    requires seat { (seat_id first ≡ budget_id purse.now) × HasNoClaim first × (budget_parts first ≡ 1) × (used_by first ≡ 0) × (limit_of first ≡ purse.now.limit) }
+    requires seat { (seat_id first ≡ budget_id purse.now) × HasNoClaim first × (budget_parts first ≡ 1) × (used_by first ≡ 0)
+        × (limit_of first ≡ purse.now.limit) }
     requires limit { purse.now.limit ≤ MOST_COUNT }
     requires belong { All (Belongs (budget_id purse.now) purse.now.limit) places.items }
     requires room { (room.items ≡ []) × (vec_len places ≤ vec_capacity room) }

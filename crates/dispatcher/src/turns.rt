@@ -139,7 +139,8 @@ impl<T: Kept> Turns<T> {
     fn gather(&self, mut seats: Vec<TurnSeat>) -> Seat<Option<T>, Hold>
         requires some { (0 < vec_len seats) × (0 < length (handed_in self.now)) }
         requires free { All (IsFree self.now) seats.items }
-        ensures { (result.table_id ≡ self.now.table.shared.table_id) × (result.me ≡ (hold (vec_len seats) [] 0 result.me.0.found result.me.0.began result.me.0.woke, [])) }
+        ensures { (result.table_id ≡ self.now.table.shared.table_id) × (result.me ≡
+            (hold (vec_len seats) [] 0 result.me.0.found result.me.0.began result.me.0.woke, [])) }
     {
         let mut all = seats.pop().unwrap().badge.into_seat();
         while let Some(TurnSeat { badge }) = seats.pop() {
@@ -176,8 +177,10 @@ impl<T: Kept> Turns<T> {
         requires seat { IsSeatOf self.now seat.old }
         requires inside { id < length (handed_in self.now) }
         ensures seat { IsSeatOf self.now seat.new }
-        ensures turn { IfOk result (λ t. (t.id ≡ id) × OriginFits T.origin (handed_in self.now) id t.value × (held_turns seat.new ≡ id ∷ held_turns seat.old) × (found_by seat.new ≡ (id, 1) ∷ found_by seat.old) × (began_by seat.new ≡ id ∷ began_by seat.old) × (woke_by seat.new ≡ woke_by seat.old)) }
-        ensures none { IfErr result (λ w. (w ≢ 1) × (held_turns seat.new ≡ held_turns seat.old) × (found_by seat.new ≡ (id, w) ∷ found_by seat.old) × NoneBegan seat.old seat.new) }
+        ensures turn { IfOk result (λ t. (t.id ≡ id) × OriginFits T.origin (handed_in self.now) id t.value × (held_turns seat.new ≡ id ∷ held_turns seat.old)
+            × (found_by seat.new ≡ (id, 1) ∷ found_by seat.old) × (began_by seat.new ≡ id ∷ began_by seat.old) × (woke_by seat.new ≡ woke_by seat.old)) }
+        ensures none { IfErr result (λ w. (w ≢ 1) × (held_turns seat.new ≡ held_turns seat.old) × (found_by seat.new ≡ (id, w) ∷ found_by seat.old)
+            × NoneBegan seat.old seat.new) }
     {
         let mut mine = replace(&mut seat.badge, Badge::blank()).into_seat();
         let taken = self.take_out::<Brand>(&mut mine, id);
@@ -189,11 +192,17 @@ impl<T: Kept> Turns<T> {
     /// The value out of its slot, which stays in the table.
     fn take_out<J: Told<T>>(&self, mine: &mut Seat<Option<T>, Hold>, id: u32) -> Result<T, u64>
         requires told { J.values ≡ handed_in self.now }
-        requires seat { (mine.old.table_id ≡ self.now.table.shared.table_id) × (mine.old.me ≡ (hold 1 mine.old.me.0.held 0 mine.old.me.0.found mine.old.me.0.began mine.old.me.0.woke, [])) }
+        requires seat { (mine.old.table_id ≡ self.now.table.shared.table_id) × (mine.old.me ≡
+            (hold 1 mine.old.me.0.held 0 mine.old.me.0.found mine.old.me.0.began mine.old.me.0.woke, [])) }
         requires inside { id < length (handed_in self.now) }
         ensures seat { (mine.new.table_id ≡ mine.old.table_id) × (mine.new.id ≡ mine.old.id) }
-        ensures taken { IfOk result (λ x. OriginFits T.origin (handed_in self.now) id x × (mine.new.me ≡ (hold 1 (id ∷ mine.old.me.0.held) 0 ((id, 1) ∷ mine.old.me.0.found) (id ∷ mine.old.me.0.began) mine.old.me.0.woke, []))) }
-        ensures none { IfErr result (λ w. (w ≢ 1) × (mine.new.me ≡ (hold 1 mine.old.me.0.held 0 ((id, w) ∷ mine.old.me.0.found) mine.old.me.0.began mine.old.me.0.woke, []))) }
+        ensures taken { IfOk result (λ x. OriginFits T.origin (handed_in self.now) id x
+            × (mine.new.me ≡ (hold 1 (id ∷ mine.old.me.0.held) 0 ((id, 1) ∷ mine.old.me.0.found) (id ∷ mine.old.me.0.began) mine.old.me.0.woke, []))) }
+        ensures none { IfErr result (λ w. (w ≢ 1) × (mine.new.me ≡ (
+          hold 1 mine.old.me.0.held 0
+              ((id, w) ∷ mine.old.me.0.found) mine.old.me.0.began mine.old.me.0.woke,
+          [],
+        ))) }
     {
         let shared = &self.table.shared;
         let at = id as usize;

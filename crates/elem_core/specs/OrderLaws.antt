@@ -33,11 +33,13 @@ then_less a b e = ap (λ x. ordering_then x b) e
 
 module _ {X Y : Type 0} (R : X → X → Ordering) (S : Y → Y → Ordering) where
   -- by two tests in turn, of which the first tells its sides apart
-  pairs_trans : (c0 c1 c2 : X) (d0 d1 d2 : Y) → (R c0 c1 ≡ Less → R c1 c2 ≡ Less → R c0 c2 ≡ Less) → (S d0 d1 ≡ Less → S d1 d2 ≡ Less → S d0 d2 ≡ Less) → (R c0 c1 ≡ Equal → c0 ≡ c1) → (R c1 c2 ≡ Equal → c1 ≡ c2)
+  pairs_trans : (c0 c1 c2 : X) (d0 d1 d2 : Y) → (R c0 c1 ≡ Less → R c1 c2 ≡ Less → R c0 c2 ≡ Less) → (S d0 d1 ≡ Less → S d1 d2 ≡ Less → S d0 d2 ≡ Less)
+      → (R c0 c1 ≡ Equal → c0 ≡ c1) → (R c1 c2 ≡ Equal → c1 ≡ c2)
       → ordering_then (R c0 c1) (S d0 d1) ≡ Less → ordering_then (R c1 c2) (S d1 d2) ≡ Less → ordering_then (R c0 c2) (S d0 d2) ≡ Less
   pairs_trans c0 c1 c2 d0 d1 d2 t u e f h g = by_both (less_by (R c0 c1) (S d0 d1) h) (less_by (R c1 c2) (S d1 d2) g)
     where
-      by_both : (R c0 c1 ≡ Less) ⊎ ((R c0 c1 ≡ Equal) × (S d0 d1 ≡ Less)) → (R c1 c2 ≡ Less) ⊎ ((R c1 c2 ≡ Equal) × (S d1 d2 ≡ Less)) → ordering_then (R c0 c2) (S d0 d2) ≡ Less
+      by_both : (R c0 c1 ≡ Less) ⊎ ((R c0 c1 ≡ Equal) × (S d0 d1 ≡ Less)) → (R c1 c2 ≡ Less) ⊎ ((R c1 c2 ≡ Equal) × (S d1 d2 ≡ Less))
+          → ordering_then (R c0 c2) (S d0 d2) ≡ Less
       by_both (inl p) (inl q) = then_less (R c0 c2) (S d0 d2) (t p q)
       by_both (inl p) (inr q) = then_less (R c0 c2) (S d0 d2) (ap (R c0) (sym (f q.0)) ∙ p)
       by_both (inr p) (inl q) = then_less (R c0 c2) (S d0 d2) (ap (λ k. R k c2) (e p.0) ∙ q)
@@ -161,7 +163,8 @@ mutual
   tree_trans (both c0 d0) (both c1 d1) (num x2) h g = cc
   tree_trans (both c0 d0) (both c1 d1) (text a2) h g = cc
   tree_trans (both c0 d0) (both c1 d1) (seq r2) h g = cc
-  tree_trans (both c0 d0) (both c1 d1) (both c2 d2) h g = pairs_trans tree_cmp tree_cmp c0 c1 c2 d0 d1 d2 (tree_trans c0 c1 c2) (tree_trans d0 d1 d2) (tree_exact c0 c1) (tree_exact c1 c2) h g
+  tree_trans (both c0 d0) (both c1 d1) (both c2 d2) h g = pairs_trans tree_cmp tree_cmp c0 c1 c2 d0 d1 d2 (tree_trans c0 c1 c2) (tree_trans d0 d1 d2)
+      (tree_exact c0 c1) (tree_exact c1 c2) h g
 
   row_trans : (x y z : Row) → row_cmp x y ≡ Less → row_cmp y z ≡ Less → row_cmp x z ≡ Less
   row_trans none none z h g = cc
@@ -169,7 +172,8 @@ mutual
   row_trans none (more u s) (more v q) h g = refl
   row_trans (more t r) none z h g = cc
   row_trans (more t r) (more u s) none h g = cc
-  row_trans (more t r) (more u s) (more v q) h g = pairs_trans tree_cmp row_cmp t u v r s q (tree_trans t u v) (row_trans r s q) (tree_exact t u) (tree_exact u v) h g
+  row_trans (more t r) (more u s) (more v q) h g = pairs_trans tree_cmp row_cmp t u v r s q (tree_trans t u v) (row_trans r s q) (tree_exact t u)
+      (tree_exact u v) h g
 
 -- the order of elements is total
 pub trees_total : IsTotalOrder tree_cmp

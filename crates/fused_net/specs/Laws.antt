@@ -25,7 +25,8 @@ pub record Wired (ends : List WireEnds) (ports : List PortLists) (nodes wires : 
   pub from_output : (w : ℕ) → w < wires → slice_get (port_at ports (end_at ends w).from).outs (end_at ends w).output ≡ Some w
   pub to_input : (w : ℕ) → w < wires → slice_get (port_at ports (end_at ends w).to).ins (end_at ends w).input ≡ Some w
   pub input_to : (n i w : ℕ) → n < nodes → slice_get (port_at ports n).ins i ≡ Some w → (w < wires) × (((end_at ends w).to ≡ n) × ((end_at ends w).input ≡ i))
-  pub output_from : (n j w : ℕ) → n < nodes → slice_get (port_at ports n).outs j ≡ Some w → (w < wires) × (((end_at ends w).from ≡ n) × ((end_at ends w).output ≡ j))
+  pub output_from : (n j w : ℕ) → n < nodes → slice_get (port_at ports n).outs j ≡ Some w
+      → (w < wires) × (((end_at ends w).from ≡ n) × ((end_at ends w).output ≡ j))
 
 -- nothing is asked of a node but that its actions are allowed
 abbrev pub AnyRow : {N : Type 0} → N → View → Type 0
@@ -41,7 +42,8 @@ first_view p = record { ins = replicate (length p.ins) Idle; outs = replicate (l
 
 -- a node that was not started: it is as it was handed in, nobody pulled, and nothing passed
 abbrev pub FreshLaw : {N : Type 0} → N → N → View → List (List Item) → List (List Item) → Type 0
-FreshLaw first x v took gave = (first ≡ x) × (CallAllowed starts v × ((AllEmpty took × AllEmpty gave) × ((length took ≡ length v.ins) × (length gave ≡ length v.outs))))
+FreshLaw first x v took gave = (first ≡ x) × (CallAllowed starts v × ((AllEmpty took × AllEmpty gave)
+    × ((length took ≡ length v.ins) × (length gave ≡ length v.outs))))
 
 -- the graph goes on: the same wiring, and the same nodes at its start
 pub record NetGoesOn {N : Type 0} (old new : Net N) : Type 0 where
@@ -54,7 +56,8 @@ pub record NetGoesOn {N : Type 0} (old new : Net N) : Type 0 where
 -- a node whose one port is the input of wire w is as it was, where that wire brought it nothing since
 -- Choice: docs/DECISIONS.md#nodes-that-hear-one-wire
 abbrev pub NodeStays : {N : Type 0} → Net N → Net N → ℕ → Type 0
-NodeStays old new w = (k : ℕ) → (ports_at old k).ins ≡ w ∷ [] → (ports_at old k).outs ≡ [] → (wire_at new w).wire.got ≡ (wire_at old w).wire.got → slice_get new.nodes k ≡ slice_get old.nodes k
+NodeStays old new w = (k : ℕ) → (ports_at old k).ins ≡ w ∷ [] → (ports_at old k).outs ≡ [] → (wire_at new w).wire.got ≡ (wire_at old w).wire.got
+    → slice_get new.nodes k ≡ slice_get old.nodes k
 
 -- what a stage tells of its ports whenever it has just pulled, of node n
 abbrev pub IsAsking : {N : Type 0} → (N → View → Type 0) → Net N → ℕ → Type 0
@@ -80,7 +83,8 @@ module _ {N : Type 0} (port_state : N → View → Type 0) (law : N → N → Vi
 
   -- node n of the graph
   abbrev pub IsMinded : Net N → ℕ → List Act → Type 0
-  IsMinded net n acts = (x first : N) → slice_get net.nodes n ≡ Some x → slice_get net.firsts n ≡ Some first → Minds x first (view_of net n) (took net n) (gave net n) acts
+  IsMinded net n acts = (x first : N) → slice_get net.nodes n ≡ Some x → slice_get net.firsts n ≡ Some first
+      → Minds x first (view_of net n) (took net n) (gave net n) acts
 
   -- node n has these actions to do
   pub record Busy (net : Net N) (n : ℕ) (acts : List Act) : Type 0 where
@@ -93,7 +97,8 @@ module _ {N : Type 0} (port_state : N → View → Type 0) (law : N → N → Vi
     pub here : IsMinded net n acts
     pub others : (k : ℕ) → k < length net.nodes → k ≢ n → IsMinded net k []
 
-module _ {N : Type 0} (port_state : N → View → Type 0) (law : N → N → View → List (List Item) → List (List Item) → Type 0) (asking : N → View → Type 0) (moves : N → List ℕ) where
+module _ {N : Type 0} (port_state : N → View → Type 0) (law : N → N → View → List (List Item) → List (List Item) → Type 0) (asking : N → View → Type 0)
+    (moves : N → List ℕ) where
   -- The last ask of wire w that took effect: an earlier moment from which the graph went on, and at which the node at the
   -- wire's input had pulled. It waited there, its port state and its law held, and so did what it tells whenever it has just pulled.
   -- Choice: docs/DECISIONS.md#last-asks

@@ -41,10 +41,12 @@ module _ {N : Type 0} (passive : N → Bool) where
   -- the graph went on, and no passive node heard of any wire but that one, if there is one
   pub record Untouched (at : Option ℕ) (old new : Net N) : Type 0 where
     pub outs : (u : ℕ) → IsElse at u → IsPassiveAt passive old (end_at old.ends u).from → (wire_at new u).wire.out ≡ (wire_at old u).wire.out
-    pub ins : (u : ℕ) → IsElse at u → IsPassiveAt passive old (end_at old.ends u).to → ((wire_at new u).wire.inp ≡ (wire_at old u).wire.inp) × ((wire_at new u).wire.got ≡ (wire_at old u).wire.got)
+    pub ins : (u : ℕ) → IsElse at u → IsPassiveAt passive old (end_at old.ends u).to
+        → ((wire_at new u).wire.inp ≡ (wire_at old u).wire.inp) × ((wire_at new u).wire.got ≡ (wire_at old u).wire.got)
     pub nodes : (u k : ℕ) → IsElse at u → IsPassiveAt passive old k → HasOnly (ports_at old k) u → slice_get new.nodes k ≡ slice_get old.nodes k
 
-module _ {N : Type 0} (port_state : N → View → Type 0) (law : N → N → View → List (List Item) → List (List Item) → Type 0) (asking : N → View → Type 0) (moves : N → List ℕ) (gone : N → List Item) (passive : N → Bool) where
+module _ {N : Type 0} (port_state : N → View → Type 0) (law : N → N → View → List (List Item) → List (List Item) → Type 0) (asking : N → View → Type 0)
+    (moves : N → List ℕ) (gone : N → List Item) (passive : N → Bool) where
   -- Memory was wanting in a handler: up to the last moment between two events only their peers acted at the wires of passive nodes,
   -- from which nothing left the graph.
   pub record BreaksAside (keeps : N → N → Type 0) (old : Net N) (nodes : List N) : Type 0 where

@@ -54,7 +54,14 @@ impl<S: Stage> Model for Engine<S> {
 
     ghost coded = { Prim.hlevel (codes, tree_coded) };
 
-    ghost view = { λ e. record { nodes = e.nodes.items; firsts = e.firsts.value.items; wires = e.wires.items; ends = e.ends.items; ports = e.ports.items; queue = waiting e.queue } };
+    ghost view = { λ e. record {
+      nodes = e.nodes.items;
+      firsts = e.firsts.value.items;
+      wires = e.wires.items;
+      ends = e.ends.items;
+      ports = e.ports.items;
+      queue = waiting e.queue;
+    } };
 
     ghost invariant = { λ e. e.queue.size ≡ length e.wires.items };
 }

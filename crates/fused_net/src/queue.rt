@@ -31,7 +31,14 @@ impl Model for EventQueue {
 
     ghost view = { λ q. record { size = q.ring.size; ring = q.ring.queue; chased = q.chased; pulling = q.pulling; chases = q.chases; longest = q.longest } };
 
-    ghost invariant = { λ q. IsQueue (record { size = q.ring.size; ring = q.ring.queue; chased = q.chased; pulling = q.pulling; chases = q.chases; longest = q.longest }) };
+    ghost invariant = { λ q. IsQueue (record {
+      size = q.ring.size;
+      ring = q.ring.queue;
+      chased = q.chased;
+      pulling = q.pulling;
+      chases = q.chases;
+      longest = q.longest;
+    }) };
 }
 
 impl EventQueue {

@@ -48,12 +48,14 @@ drains_in [] = []
 drains_in (s ∷ ss) = with_drain s.work (drains_in ss)
 
 -- Its handles are those that stand at these places, in their order, each as it was handed in.
-pub record HandsBack {S D L B : Type 0} (sources : S → SourceState) (drains : D → DrainState) (places : List (Seated S D L B)) (e : IslandEnd S D) : Type 0 where
+pub record HandsBack {S D L B : Type 0} (sources : S → SourceState) (drains : D → DrainState) (places : List (Seated S D L B)) (e : IslandEnd S D)
+    : Type 0 where
   pub readers : map sources e.readers.items ≡ map sources (sources_in places)
   pub writers : map drains e.writers.items ≡ map drains (drains_in places)
 
 -- the handles of these nodes are those that stand at these places, in their order, each as it was handed in
-pub record HoldsHandles {S D L B : Type 0} (sources : S → SourceState) (drains : D → DrainState) (places : List (Seated S D L B)) (nodes : List (IslandNode S D L B)) : Type 0 where
+pub record HoldsHandles {S D L B : Type 0} (sources : S → SourceState) (drains : D → DrainState) (places : List (Seated S D L B))
+    (nodes : List (IslandNode S D L B)) : Type 0 where
   pub readers : map sources (readers_of nodes) ≡ map sources (sources_in places)
   pub writers : map drains (writers_of nodes) ≡ map drains (drains_in places)
 

@@ -28,7 +28,8 @@ pub record Kept (S D L B : Type 0) : Type 0 where
   pub broken : Bool
 
 -- what an island keeps between two calls
-pub record IslandKeeps {S D L B : Type 0} (sources : S → SourceState) (drains : D → DrainState) (book : Book) (net : Net (IslandNode S D L B)) (used : ℕ) : Type 0 where
+pub record IslandKeeps {S D L B : Type 0} (sources : S → SourceState) (drains : D → DrainState) (book : Book) (net : Net (IslandNode S D L B)) (used : ℕ)
+    : Type 0 where
   pub laws : Settled node_port_state (node_law sources drains book) node_asking node_moves net
   pub asks : all_asks net ≤ used
   pub within : used ≤ MOST_COUNT

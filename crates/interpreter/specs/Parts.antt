@@ -112,8 +112,10 @@ pub record IsWiring (ins outs : ℕ → ℕ) (places : ℕ) (ends : List WireEnd
   pub to_within : (w : ℕ) → w < length ends → (end_at ends w).to < places
   pub output_within : (w : ℕ) → w < length ends → (end_at ends w).output < outs (end_at ends w).from
   pub input_within : (w : ℕ) → w < length ends → (end_at ends w).input < ins (end_at ends w).to
-  pub one_output : (v w : ℕ) → v < length ends → w < length ends → (end_at ends v).from ≡ (end_at ends w).from → (end_at ends v).output ≡ (end_at ends w).output → v ≡ w
-  pub one_input : (v w : ℕ) → v < length ends → w < length ends → (end_at ends v).to ≡ (end_at ends w).to → (end_at ends v).input ≡ (end_at ends w).input → v ≡ w
+  pub one_output : (v w : ℕ) → v < length ends → w < length ends → (end_at ends v).from ≡ (end_at ends w).from → (end_at ends v).output ≡ (end_at ends w).output
+      → v ≡ w
+  pub one_input : (v w : ℕ) → v < length ends → w < length ends → (end_at ends v).to ≡ (end_at ends w).to → (end_at ends v).input ≡ (end_at ends w).input
+      → v ≡ w
   pub each_output : (n j : ℕ) → n < places → j < outs n → (w : ℕ) × ((w < length ends) × (((end_at ends w).from ≡ n) × ((end_at ends w).output ≡ j)))
   pub each_input : (n i : ℕ) → n < places → i < ins n → (w : ℕ) × ((w < length ends) × (((end_at ends w).to ≡ n) × ((end_at ends w).input ≡ i)))
 
@@ -133,7 +135,15 @@ BecomesOf k (State l) x = x ≡ node.State l
 BecomesOf k (Sub l) x = x ≡ node.Sub l
 BecomesOf k (FanIn l n) x = x ≡ node.FanIn l
 BecomesOf k (FanOut l n) x = x ≡ node.FanOut l
-BecomesOf k (Writing kind (Some d)) x = x ≡ node.Writing (record { node = k; drain = d; writes = writes_of kind; kept = None; count = 0; started = false; end = Unended })
+BecomesOf k (Writing kind (Some d)) x = x ≡ node.Writing (record {
+  node = k;
+  drain = d;
+  writes = writes_of kind;
+  kept = None;
+  count = 0;
+  started = false;
+  end = Unended;
+})
 BecomesOf k (Writing kind None) x = x ≡ node.Ignoring (record { node = k; started = false; end = Unended })
 BecomesOf k (LaneIn u) x = x ≡ node.Entering (record { wire = u })
 BecomesOf k (LaneOut u) x = x ≡ node.Leaving (record { wire = u; waits = []; gone = [] })

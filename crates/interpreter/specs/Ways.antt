@@ -36,8 +36,10 @@ goes_out places n = lane_goes (slice_get places n)
 
 -- no two links at which lanes come in, and no two at which lanes go out, are of one wire
 pub record IsOnce {S D L B : Type 0} (places : List (Seated S D L B)) (links : List Link) : Type 0 where
-  pub ins : (p q : ℕ) (l m : Link) → slice_get links p ≡ Some l → slice_get links q ≡ Some m → comes_in places l.from ≡ true → comes_in places m.from ≡ true → l.wire ≡ m.wire → p ≡ q
-  pub outs : (p q : ℕ) (l m : Link) → slice_get links p ≡ Some l → slice_get links q ≡ Some m → goes_out places l.to ≡ true → goes_out places m.to ≡ true → l.wire ≡ m.wire → p ≡ q
+  pub ins : (p q : ℕ) (l m : Link) → slice_get links p ≡ Some l → slice_get links q ≡ Some m → comes_in places l.from ≡ true → comes_in places m.from ≡ true
+      → l.wire ≡ m.wire → p ≡ q
+  pub outs : (p q : ℕ) (l m : Link) → slice_get links p ≡ Some l → slice_get links q ≡ Some m → goes_out places l.to ≡ true → goes_out places m.to ≡ true
+      → l.wire ≡ m.wire → p ≡ q
 
 -- there is a row for the wire of each link
 pub record HasRows (ways : Ways) (links : List Link) : Type 0 where

@@ -132,7 +132,8 @@ pub fn given<S: Source, D: Drain, L: Logic, B: PlugBook>(
 ) -> Given
     requires laws { Settled node_port_state (node_law S.state D.state B.lists) node_asking node_moves engine.old }
     requires within { place < length engine.old.wires }
-    ensures given { GivenIs result (IsClearAt engine.old place × (engine.new ≡ engine.old)) (λ x. HandsAt node_gone node_waits engine.old (end_at engine.old.ends place).to (x ∷ []) engine.new) }
+    ensures given { GivenIs result (IsClearAt engine.old place × (engine.new ≡ engine.old))
+        (λ x. HandsAt node_gone node_waits engine.old (end_at engine.old.ends place).to (x ∷ []) engine.new) }
     ensures laws { Settled node_port_state (node_law S.state D.state B.lists) node_asking node_moves engine.new }
     ensures on { NetGoesOn engine.old engine.new }
     ensures uses { Uses engine.old engine.new 0 }
@@ -176,7 +177,8 @@ pub fn cancel_out<S: Source, D: Drain, L: Logic, B: PlugBook>(
     requires within { place < length engine.old.wires }
     requires stage { LeavesAt engine.old place }
     requires few { all_asks engine.old ≤ MOST_COUNT }
-    ensures drops { AtNode (cancelled_at engine.old place) (end_at engine.old.ends place).to (λ x. HandsAt node_gone node_waits (cancelled_at engine.old place) (end_at engine.old.ends place).to (node_waits x) engine.new) }
+    ensures drops { AtNode (cancelled_at engine.old place) (end_at engine.old.ends place).to
+        (λ x. HandsAt node_gone node_waits (cancelled_at engine.old place) (end_at engine.old.ends place).to (node_waits x) engine.new) }
     ensures laws { Settled node_port_state (node_law S.state D.state B.lists) node_asking node_moves engine.new }
     ensures on { NetGoesOn engine.old engine.new }
     ensures uses { Uses engine.old engine.new 0 }

@@ -73,9 +73,18 @@ impl<S: Source, D: Drain, L: Logic, B: PlugBook> Model for Island<S, D, L, B> {
 
     ghost coded = { Prim.hlevel (codes, tree_coded) };
 
-    ghost view = { λ i. record { net = i.engine; numbers = i.numbers.items; places = i.places.items; ins = i.ways.ins.items; outs = i.ways.outs.items; used = i.used; broken = i.broken } };
+    ghost view = { λ i. record {
+      net = i.engine;
+      numbers = i.numbers.items;
+      places = i.places.items;
+      ins = i.ways.ins.items;
+      outs = i.ways.outs.items;
+      used = i.used;
+      broken = i.broken;
+    } };
 
-    ghost invariant = { λ i. HasRoom i.room (length i.engine.nodes) (length i.numbers.items) × (length i.places.items ≡ length i.engine.nodes) × (i.broken ≡ false → IslandKeeps S.state D.state B.lists i.engine i.used × (i.acts.items ≡ []) × (MOST_ACTS ≤ i.acts.room)) };
+    ghost invariant = { λ i. HasRoom i.room (length i.engine.nodes) (length i.numbers.items) × (length i.places.items ≡ length i.engine.nodes)
+        × (i.broken ≡ false → IslandKeeps S.state D.state B.lists i.engine i.used × (i.acts.items ≡ []) × (MOST_ACTS ≤ i.acts.room)) };
 }
 
 /// A sink at the end of a run: its node, the lines that it wrote, and how it stands.
@@ -122,10 +131,14 @@ impl<S: Source, D: Drain, L: Logic, B: PlugBook> Island<S, D, L, B> {
         ensures ends { IfOk result (λ i. i.net.ends ≡ map ends_of parts.links.items) }
         ensures numbers { IfOk result (λ i. i.numbers ≡ map wire_number parts.links.items) }
         ensures places { IfOk result (λ i. i.places ≡ map place_number parts.nodes.items) }
-        ensures enters { IfOk result (λ i. (q : ℕ) (l : wiring.Link) → slice_get parts.links.items q ≡ Some l → comes_in parts.nodes.items l.from ≡ true → EntersBy i l.wire q) }
-        ensures leaves { IfOk result (λ i. (q : ℕ) (l : wiring.Link) → slice_get parts.links.items q ≡ Some l → goes_out parts.nodes.items l.to ≡ true → LeavesBy i l.wire q) }
-        ensures begins_in { IfOk result (λ i. (q : ℕ) (l : wiring.Link) → slice_get parts.links.items q ≡ Some l → comes_in parts.nodes.items l.from ≡ true → (wire_at i.net q).wire.sent ≡ []) }
-        ensures begins_out { IfOk result (λ i. (q : ℕ) (l : wiring.Link) → slice_get parts.links.items q ≡ Some l → goes_out parts.nodes.items l.to ≡ true → BeginsOut i.net q) }
+        ensures enters { IfOk result (λ i. (q : ℕ) (l : wiring.Link) → slice_get parts.links.items q ≡ Some l → comes_in parts.nodes.items l.from ≡ true
+            → EntersBy i l.wire q) }
+        ensures leaves { IfOk result (λ i. (q : ℕ) (l : wiring.Link) → slice_get parts.links.items q ≡ Some l → goes_out parts.nodes.items l.to ≡ true
+            → LeavesBy i l.wire q) }
+        ensures begins_in { IfOk result (λ i. (q : ℕ) (l : wiring.Link) → slice_get parts.links.items q ≡ Some l → comes_in parts.nodes.items l.from ≡ true
+            → (wire_at i.net q).wire.sent ≡ []) }
+        ensures begins_out { IfOk result (λ i. (q : ℕ) (l : wiring.Link) → slice_get parts.links.items q ≡ Some l → goes_out parts.nodes.items l.to ≡ true
+            → BeginsOut i.net q) }
         ensures handles { IfOk result (λ i. HoldsHandles S.state D.state parts.nodes.items i.net.nodes) }
         ensures no_memory { IfErr result (DidNotStart S.state D.state parts.nodes.items) }
     {
@@ -170,7 +183,8 @@ impl<S: Source, D: Drain, L: Logic, B: PlugBook> Island<S, D, L, B> {
         ensures uses { IfOk result (λ used. Uses self.old.net self.new.net used) }
         ensures within { IfOk result (λ used. used ≤ limit) }
         ensures rest { IfOk result (λ used. used < limit → self.new.net.queue ≡ []) }
-        ensures breaks { OnErr result (BreaksOff node_port_state (node_law S.state D.state B.lists) node_asking node_moves (KeepsNode S.state D.state) self.old.net self.new.net.nodes) }
+        ensures breaks { OnErr result (BreaksOff node_port_state (node_law S.state D.state B.lists) node_asking node_moves
+            (KeepsNode S.state D.state) self.old.net self.new.net.nodes) }
     {
         self.broken = true;
         let used = self.engine.execute(alloc, limit, &mut self.acts)?;
@@ -198,7 +212,8 @@ impl<S: Source, D: Drain, L: Logic, B: PlugBook> Island<S, D, L, B> {
         ensures rest { IfOk result (λ a. a.used < limit → a.heard ≡ None → self.new.net.queue ≡ []) }
         ensures none { IfOk result (λ a. a.used ≡ 0 → self.new ≡ self.old) }
         ensures heard { IfOk result (λ a. (w : ℕ) → a.heard ≡ Some w → (1 ≤ a.used) × (w < length self.new.net.wires)) }
-        ensures breaks { OnErr result (BreaksAside node_port_state (node_law S.state D.state B.lists) node_asking node_moves node_gone node_passive (KeepsNode S.state D.state) self.old.net self.new.net.nodes) }
+        ensures breaks { OnErr result (BreaksAside node_port_state (node_law S.state D.state B.lists) node_asking node_moves node_gone node_passive
+            (KeepsNode S.state D.state) self.old.net self.new.net.nodes) }
     {
         self.broken = true;
         let advance = self.engine.advance(alloc, limit, &mut self.acts)?;
@@ -322,7 +337,8 @@ impl<S: Source, D: Drain, L: Logic, B: PlugBook> Island<S, D, L, B> {
     pub fn given(&mut self, wire: u32) -> Given
         requires whole { self.old.broken ≡ false }
         requires leaves { Leaves self.old wire }
-        ensures given { GivenIs result (IsClearAt self.old.net (way_out self.old wire) × (self.new ≡ self.old)) (λ x. HandsOut self.old wire (x ∷ []) self.new) }
+        ensures given { GivenIs result (IsClearAt self.old.net (way_out self.old wire) × (self.new ≡ self.old))
+            (λ x. HandsOut self.old wire (x ∷ []) self.new) }
         ensures uses { Uses self.old.net self.new.net 0 }
     {
         calls::given(&mut self.engine, self.ways.outs[wire as usize])

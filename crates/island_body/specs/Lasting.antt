@@ -29,7 +29,8 @@ some_is : {A : Type 0} (x y : A) → Some x ≡ Some y → x ≡ y
 some_is x y e = cc
 
 -- of as many items each agrees with that at its place
-maps_same : {A B : Type 0} (f : A → B) (xs ys : List A) → length ys ≡ length xs → ((k : ℕ) (x y : A) → slice_get xs k ≡ Some x → slice_get ys k ≡ Some y → f y ≡ f x) → map f ys ≡ map f xs
+maps_same : {A B : Type 0} (f : A → B) (xs ys : List A) → length ys ≡ length xs → ((k : ℕ) (x y : A) → slice_get xs k ≡ Some x → slice_get ys k ≡ Some y
+    → f y ≡ f x) → map f ys ≡ map f xs
 maps_same f [] [] e h = refl
 maps_same f [] (y ∷ ys) e h = absurd cc
 maps_same f (x ∷ xs) [] e h = absurd cc
@@ -38,7 +39,8 @@ maps_same f (x ∷ xs) (y ∷ ys) e h =
     let here : f y ≡ f x = h 0 x y refl refl in
     ap (λ (z : _). z ∷ map f ys) here ∙ ap (λ (l : List _). f x ∷ l) rest
 
-taken_same : (xs ys : List IslandInput) → length ys ≡ length xs → ((k : ℕ) (x y : IslandInput) → slice_get xs k ≡ Some x → slice_get ys k ≡ Some y → taken_items y.boundary.lane ≡ taken_items x.boundary.lane) → all_taken ys ≡ all_taken xs
+taken_same : (xs ys : List IslandInput) → length ys ≡ length xs → ((k : ℕ) (x y : IslandInput) → slice_get xs k ≡ Some x → slice_get ys k ≡ Some y
+    → taken_items y.boundary.lane ≡ taken_items x.boundary.lane) → all_taken ys ≡ all_taken xs
 taken_same [] [] e h = refl
 taken_same [] (y ∷ ys) e h = absurd cc
 taken_same (x ∷ xs) [] e h = absurd cc
@@ -47,7 +49,8 @@ taken_same (x ∷ xs) (y ∷ ys) e h =
     let here : length (taken_items y.boundary.lane) ≡ length (taken_items x.boundary.lane) = ap length (h 0 x y refl refl) in
     omega (arith, rest, here)
 
-finds_same : (xs ys : List OutputBoundary) → length ys ≡ length xs → ((k : ℕ) (x y : OutputBoundary) → slice_get xs k ≡ Some x → slice_get ys k ≡ Some y → finds y.lane ≡ finds x.lane) → all_finds ys ≡ all_finds xs
+finds_same : (xs ys : List OutputBoundary) → length ys ≡ length xs → ((k : ℕ) (x y : OutputBoundary) → slice_get xs k ≡ Some x → slice_get ys k ≡ Some y
+    → finds y.lane ≡ finds x.lane) → all_finds ys ≡ all_finds xs
 finds_same [] [] e h = refl
 finds_same [] (y ∷ ys) e h = absurd cc
 finds_same (x ∷ xs) [] e h = absurd cc
@@ -75,8 +78,10 @@ lanes_on : (xs ys zs : List IslandInput) (os ps qs : List OutputBoundary) → Sa
 lanes_on xs ys zs os ps qs k l = record {
   ins_wires = l.ins_wires ∙ k.ins_wires;
   outs_wires = l.outs_wires ∙ k.outs_wires;
-  ins_same = λ n x z ex ez. let y = there_before ys zs n z (map_count (λ (w : IslandInput). w.wire) ys zs l.ins_wires) ez in let f = k.ins_same n x y.0 ex y.1 in let g = l.ins_same n y.0 z y.1 ez in (g.0 ∙ f.0, g.1 ∙ f.1);
-  outs_same = λ n x z ex ez. let y = there_before ps qs n z (map_count (λ (w : OutputBoundary). w.wire) ps qs l.outs_wires) ez in let f = k.outs_same n x y.0 ex y.1 in let g = l.outs_same n y.0 z y.1 ez in (g.0 ∙ f.0, g.1 ∙ f.1);
+  ins_same = λ n x z ex ez. let y = there_before ys zs n z (map_count (λ (w : IslandInput). w.wire) ys zs l.ins_wires) ez in let f = k.ins_same n x y.0 ex y.1
+      in let g = l.ins_same n y.0 z y.1 ez in (g.0 ∙ f.0, g.1 ∙ f.1);
+  outs_same = λ n x z ex ez. let y = there_before ps qs n z (map_count (λ (w : OutputBoundary). w.wire) ps qs l.outs_wires) ez
+      in let f = k.outs_same n x y.0 ex y.1 in let g = l.outs_same n y.0 z y.1 ez in (g.0 ∙ f.0, g.1 ∙ f.1);
 }
 
 -- ---- ends that only meet
@@ -100,13 +105,28 @@ in_met_still x = record { wire = refl; lane = in_kept x.boundary.lane; given_is 
 out_met_on : (o p q : OutputBoundary) → OutMet o p → OutMet p q → OutMet o q
 out_met_on o p q f g = record {
   wire = g.wire ∙ f.wire;
-  lane = record { same = (g.lane.same.0 ∙ f.lane.same.0, g.lane.same.1 ∙ f.lane.same.1); sent = g.lane.sent ∙ f.lane.sent; ended = g.lane.ended ∙ f.lane.ended; seen = g.lane.seen ∙ f.lane.seen; cancel = g.lane.cancel ∙ f.lane.cancel; finds = g.lane.finds ∙ f.lane.finds; looks = g.lane.looks ∙ f.lane.looks };
+  lane = record {
+    same = (g.lane.same.0 ∙ f.lane.same.0, g.lane.same.1 ∙ f.lane.same.1);
+    sent = g.lane.sent ∙ f.lane.sent;
+    ended = g.lane.ended ∙ f.lane.ended;
+    seen = g.lane.seen ∙ f.lane.seen;
+    cancel = g.lane.cancel ∙ f.lane.cancel;
+    finds = g.lane.finds ∙ f.lane.finds;
+    looks = g.lane.looks ∙ f.lane.looks;
+  };
 }
 
 in_met_on : (x y z : IslandInput) → InMet x y → InMet y z → InMet x z
 in_met_on x y z f g = record {
   wire = g.wire ∙ f.wire;
-  lane = record { same = (g.lane.same.0 ∙ f.lane.same.0, g.lane.same.1 ∙ f.lane.same.1); taken = g.lane.taken ∙ f.lane.taken; asked = g.lane.asked ∙ f.lane.asked; asks = g.lane.asks ∙ f.lane.asks; cancel = g.lane.cancel ∙ f.lane.cancel; looks = g.lane.looks ∙ f.lane.looks };
+  lane = record {
+    same = (g.lane.same.0 ∙ f.lane.same.0, g.lane.same.1 ∙ f.lane.same.1);
+    taken = g.lane.taken ∙ f.lane.taken;
+    asked = g.lane.asked ∙ f.lane.asked;
+    asks = g.lane.asks ∙ f.lane.asks;
+    cancel = g.lane.cancel ∙ f.lane.cancel;
+    looks = g.lane.looks ∙ f.lane.looks;
+  };
   given_is = g.given_is ∙ f.given_is;
   waits_is = g.waits_is ∙ f.waits_is;
   over_is = g.over_is ∙ f.over_is;
@@ -186,8 +206,10 @@ module _ {S D L B : Type 0} where
     peers = g.peers ∙ f.peers;
     outs_count = g.outs_count ∙ f.outs_count;
     ins_count = g.ins_count ∙ f.ins_count;
-    outs_met = λ k o p eo ep. let m = get_there b.outs.items k (subst (λ (n : ℕ). k < n) (sym f.outs_count) (slice_get_within a.outs.items k o eo)) in out_met_on o m.0 p (f.outs_met k o m.0 eo m.1) (g.outs_met k m.0 p m.1 ep);
-    ins_met = λ k x y ex ey. let m = get_there b.ins.items k (subst (λ (n : ℕ). k < n) (sym f.ins_count) (slice_get_within a.ins.items k x ex)) in in_met_on x m.0 y (f.ins_met k x m.0 ex m.1) (g.ins_met k m.0 y m.1 ey);
+    outs_met = λ k o p eo ep. let m = get_there b.outs.items k (subst (λ (n : ℕ). k < n) (sym f.outs_count) (slice_get_within a.outs.items k o eo))
+        in out_met_on o m.0 p (f.outs_met k o m.0 eo m.1) (g.outs_met k m.0 p m.1 ep);
+    ins_met = λ k x y ex ey. let m = get_there b.ins.items k (subst (λ (n : ℕ). k < n) (sym f.ins_count) (slice_get_within a.ins.items k x ex))
+        in in_met_on x m.0 y (f.ins_met k x m.0 ex m.1) (g.ins_met k m.0 y m.1 ey);
   }
 
   lanes_met : (a c : Body S D L B) → OnlyMet a c → SameLanes a.ins.items c.ins.items a.outs.items c.outs.items
@@ -199,7 +221,19 @@ module _ {S D L B : Type 0} where
   }
 
   island_still : (i k : Kept S D L B) → k ≡ i → IslandGoes i k
-  island_still i k e = record { on = record { firsts = ap (λ (z : Kept S D L B). z.net.firsts) e; ends = ap (λ (z : Kept S D L B). z.net.ends) e; ports = ap (λ (z : Kept S D L B). z.net.ports) e; nodes = ap (λ (z : Kept S D L B). length z.net.nodes) e; wires = ap (λ (z : Kept S D L B). length z.net.wires) e }; ins = ap (λ (z : Kept S D L B). z.ins) e; outs = ap (λ (z : Kept S D L B). z.outs) e; numbers = ap (λ (z : Kept S D L B). z.numbers) e; places = ap (λ (z : Kept S D L B). z.places) e }
+  island_still i k e = record {
+    on = record {
+      firsts = ap (λ (z : Kept S D L B). z.net.firsts) e;
+      ends = ap (λ (z : Kept S D L B). z.net.ends) e;
+      ports = ap (λ (z : Kept S D L B). z.net.ports) e;
+      nodes = ap (λ (z : Kept S D L B). length z.net.nodes) e;
+      wires = ap (λ (z : Kept S D L B). length z.net.wires) e;
+    };
+    ins = ap (λ (z : Kept S D L B). z.ins) e;
+    outs = ap (λ (z : Kept S D L B). z.outs) e;
+    numbers = ap (λ (z : Kept S D L B). z.numbers) e;
+    places = ap (λ (z : Kept S D L B). z.places) e;
+  }
 
   -- a body that only met went on
   pub goes_met : (a c : Body S D L B) → OnlyMet a c → BodyGoes a c
@@ -207,22 +241,29 @@ module _ {S D L B : Type 0} where
 
   stand_met : (a c : Body S D L B) (i : Kept S D L B) → OnlyMet a c → AllStand i a.ins.items a.outs.items → AllStand i c.ins.items c.outs.items
   stand_met a c i m s = record {
-    ins_stand = λ k y e. let x = there_before a.ins.items c.ins.items k y m.ins_count e in in_stands_met i x.0 y (m.ins_met k x.0 y x.1 e) (s.ins_stand k x.0 x.1);
-    outs_stand = λ k p e. let o = there_before a.outs.items c.outs.items k p m.outs_count e in out_stands_met i o.0 p (m.outs_met k o.0 p o.1 e) (s.outs_stand k o.0 o.1);
+    ins_stand = λ k y e. let x = there_before a.ins.items c.ins.items k y m.ins_count e
+        in in_stands_met i x.0 y (m.ins_met k x.0 y x.1 e) (s.ins_stand k x.0 x.1);
+    outs_stand = λ k p e. let o = there_before a.outs.items c.outs.items k p m.outs_count e
+        in out_stands_met i o.0 p (m.outs_met k o.0 p o.1 e) (s.outs_stand k o.0 o.1);
   }
 
   done_met : (a c : Body S D L B) (i : Kept S D L B) → OnlyMet a c → AllDone i a.ins.items a.outs.items → AllDone i c.ins.items c.outs.items
   done_met a c i m s = record {
-    ins_fed = λ k y h e none. let x = there_before a.ins.items c.ins.items k y m.ins_count e in fed_met i x.0 y (m.ins_met k x.0 y x.1 e) (s.ins_fed k x.0 (subst (λ (n : ℕ). k < n) m.ins_count h) x.1 tt);
-    outs_served = λ k p h e none. let o = there_before a.outs.items c.outs.items k p m.outs_count e in served_met i o.0 p (m.outs_met k o.0 p o.1 e) (s.outs_served k o.0 (subst (λ (n : ℕ). k < n) m.outs_count h) o.1 tt);
+    ins_fed = λ k y h e none. let x = there_before a.ins.items c.ins.items k y m.ins_count e
+        in fed_met i x.0 y (m.ins_met k x.0 y x.1 e) (s.ins_fed k x.0 (subst (λ (n : ℕ). k < n) m.ins_count h) x.1 tt);
+    outs_served = λ k p h e none. let o = there_before a.outs.items c.outs.items k p m.outs_count e
+        in served_met i o.0 p (m.outs_met k o.0 p o.1 e) (s.outs_served k o.0 (subst (λ (n : ℕ). k < n) m.outs_count h) o.1 tt);
   }
 
   -- a body that only met keeps what a body keeps
-  pub keeps_met : (sources : S → SourceState) (drains : D → DrainState) (book : Book) (a c : Body S D L B) → OnlyMet a c → BodyKeeps sources drains book a → BodyKeeps sources drains book c
+  pub keeps_met : (sources : S → SourceState) (drains : D → DrainState) (book : Book) (a c : Body S D L B) → OnlyMet a c → BodyKeeps sources drains book a
+      → BodyKeeps sources drains book c
   keeps_met sources drains book a c m k =
       let lanes = lanes_met a c m in
-      let taken_is : all_taken c.ins.items ≡ all_taken a.ins.items = taken_same a.ins.items c.ins.items m.ins_count (λ j x y ex ey. (m.ins_met j x y ex ey).lane.taken) in
-      let finds_is : all_finds c.outs.items ≡ all_finds a.outs.items = finds_same a.outs.items c.outs.items m.outs_count (λ j x y ex ey. (m.outs_met j x y ex ey).lane.finds) in
+      let taken_is : all_taken c.ins.items ≡ all_taken a.ins.items = taken_same a.ins.items c.ins.items m.ins_count
+      (λ j x y ex ey. (m.ins_met j x y ex ey).lane.taken) in
+      let finds_is : all_finds c.outs.items ≡ all_finds a.outs.items = finds_same a.outs.items c.outs.items m.outs_count
+      (λ j x y ex ey. (m.outs_met j x y ex ey).lane.finds) in
       record {
         laws = rw m.island k.laws;
         stands = record {
@@ -253,7 +294,13 @@ module _ {S D L B : Type 0} where
   pub goes_on : (a b c : Body S D L B) → BodyGoes a b → BodyGoes b c → BodyGoes a c
   goes_on a b c f g = record {
     island = record {
-      on = record { firsts = g.island.on.firsts ∙ f.island.on.firsts; ends = g.island.on.ends ∙ f.island.on.ends; ports = g.island.on.ports ∙ f.island.on.ports; nodes = g.island.on.nodes ∙ f.island.on.nodes; wires = g.island.on.wires ∙ f.island.on.wires };
+      on = record {
+        firsts = g.island.on.firsts ∙ f.island.on.firsts;
+        ends = g.island.on.ends ∙ f.island.on.ends;
+        ports = g.island.on.ports ∙ f.island.on.ports;
+        nodes = g.island.on.nodes ∙ f.island.on.nodes;
+        wires = g.island.on.wires ∙ f.island.on.wires;
+      };
       ins = g.island.ins ∙ f.island.ins;
       outs = g.island.outs ∙ f.island.outs;
       numbers = g.island.numbers ∙ f.island.numbers;
@@ -264,21 +311,26 @@ module _ {S D L B : Type 0} where
   }
 
   -- two bodies that met both went on and only met, and their ends are joined
-  pub meets_tells : (a b c d : Body S D L B) (o i : ℕ) (w : Waits) → BodiesMeet a o b i c d w → (BodyGoes a c) × (OnlyMet a c) × (BodyGoes b d) × (OnlyMet b d) × (BodiesJoined c o d i w)
+  pub meets_tells : (a b c d : Body S D L B) (o i : ℕ) (w : Waits) → BodiesMeet a o b i c d w
+      → (BodyGoes a c) × (OnlyMet a c) × (BodyGoes b d) × (OnlyMet b d) × (BodiesJoined c o d i w)
   meets_tells a b c d o i w m = (goes_met a c m.from_met, m.from_met, goes_met b d m.to_met, m.to_met, m.joined)
 
   -- what is known of two ends stands while they only meet
   pub joined_out : (a b c : Body S D L B) (o i : ℕ) (w : Waits) → OnlyMet a c → BodiesJoined a o b i w → BodiesJoined c o b i w
   joined_out a b c o i w m j = record {
-    history = λ p x ep ex. let q = there_before a.outs.items c.outs.items o p m.outs_count ep in history_stands q.0.lane p.lane x.boundary.lane x.boundary.lane (m.outs_met o q.0 p q.1 ep).lane (in_kept x.boundary.lane) (j.history q.0 x q.1 ex);
-    waits_are = λ p x ep ex. let q = there_before a.outs.items c.outs.items o p m.outs_count ep in waits_stand q.0.lane p.lane x.boundary.lane x.boundary.lane w (m.outs_met o q.0 p q.1 ep).lane (in_kept x.boundary.lane) (j.waits_are q.0 x q.1 ex);
+    history = λ p x ep ex. let q = there_before a.outs.items c.outs.items o p m.outs_count ep
+        in history_stands q.0.lane p.lane x.boundary.lane x.boundary.lane (m.outs_met o q.0 p q.1 ep).lane (in_kept x.boundary.lane) (j.history q.0 x q.1 ex);
+    waits_are = λ p x ep ex. let q = there_before a.outs.items c.outs.items o p m.outs_count ep
+        in waits_stand q.0.lane p.lane x.boundary.lane x.boundary.lane w (m.outs_met o q.0 p q.1 ep).lane (in_kept x.boundary.lane) (j.waits_are q.0 x q.1 ex);
   }
 
   -- what is known of two ends stands while the body of the input end only meets
   pub joined_in : (a b d : Body S D L B) (o i : ℕ) (w : Waits) → OnlyMet b d → BodiesJoined a o b i w → BodiesJoined a o d i w
   joined_in a b d o i w m j = record {
-    history = λ p x ep ex. let y = there_before b.ins.items d.ins.items i x m.ins_count ex in history_stands p.lane p.lane y.0.boundary.lane x.boundary.lane (out_kept p.lane) (m.ins_met i y.0 x y.1 ex).lane (j.history p y.0 ep y.1);
-    waits_are = λ p x ep ex. let y = there_before b.ins.items d.ins.items i x m.ins_count ex in waits_stand p.lane p.lane y.0.boundary.lane x.boundary.lane w (out_kept p.lane) (m.ins_met i y.0 x y.1 ex).lane (j.waits_are p y.0 ep y.1);
+    history = λ p x ep ex. let y = there_before b.ins.items d.ins.items i x m.ins_count ex
+        in history_stands p.lane p.lane y.0.boundary.lane x.boundary.lane (out_kept p.lane) (m.ins_met i y.0 x y.1 ex).lane (j.history p y.0 ep y.1);
+    waits_are = λ p x ep ex. let y = there_before b.ins.items d.ins.items i x m.ins_count ex
+        in waits_stand p.lane p.lane y.0.boundary.lane x.boundary.lane w (out_kept p.lane) (m.ins_met i y.0 x y.1 ex).lane (j.waits_are p y.0 ep y.1);
   }
 
   -- two ends may meet whatever became of their bodies
@@ -339,7 +391,13 @@ module _ {S D L B : Type 0} where
     goes_breaks a b c g k = record {
       last = k.last;
       island = record {
-        on = record { firsts = k.island.on.firsts ∙ g.island.on.firsts; ends = k.island.on.ends ∙ g.island.on.ends; ports = k.island.on.ports ∙ g.island.on.ports; nodes = k.island.on.nodes ∙ g.island.on.nodes; wires = k.island.on.wires ∙ g.island.on.wires };
+        on = record {
+          firsts = k.island.on.firsts ∙ g.island.on.firsts;
+          ends = k.island.on.ends ∙ g.island.on.ends;
+          ports = k.island.on.ports ∙ g.island.on.ports;
+          nodes = k.island.on.nodes ∙ g.island.on.nodes;
+          wires = k.island.on.wires ∙ g.island.on.wires;
+        };
         ins = k.island.ins ∙ g.island.ins;
         outs = k.island.outs ∙ g.island.outs;
         numbers = k.island.numbers ∙ g.island.numbers;

@@ -10,7 +10,8 @@ use Rattle.island_body.specs.declared.body.Body.{Body}
 -- a look at an input end found nothing to take
 pub record TookNone (x y : IslandInput) : Type 0 where
   pub taken_is : taken_items y.boundary.lane ≡ taken_items x.boundary.lane
-  pub why : (is_over x.boundary ≡ true) ⊎ ((found_sent y.boundary.lane ≡ length (taken_items y.boundary.lane)) × (told_sent x.boundary.lane ≤ found_sent y.boundary.lane))
+  pub why : (is_over x.boundary ≡ true) ⊎ ((found_sent y.boundary.lane ≡ length (taken_items y.boundary.lane))
+      × (told_sent x.boundary.lane ≤ found_sent y.boundary.lane))
 
 -- and one at an output end neither demand nor a cancel that was not known
 pub record FoundNone (o p : OutputBoundary) : Type 0 where
@@ -21,7 +22,8 @@ pub record FoundNone (o p : OutputBoundary) : Type 0 where
 -- At the last look at an input end nothing was left to take: its end was taken, or no more items were found sent than were taken. That
 -- look came after the other end had told what it had sent.
 pub record LeftNone (x y : IslandInput) : Type 0 where
-  pub why : (is_over y.boundary ≡ true) ⊎ ((found_sent y.boundary.lane ≡ length (taken_items y.boundary.lane)) × (told_sent x.boundary.lane ≤ found_sent y.boundary.lane))
+  pub why : (is_over y.boundary ≡ true) ⊎ ((found_sent y.boundary.lane ≡ length (taken_items y.boundary.lane))
+      × (told_sent x.boundary.lane ≤ found_sent y.boundary.lane))
 
 -- At the last look at an output end all was seen that the other end had told of demand and of a cancel. Behind a cancel none looks.
 pub record SawAll (o p : OutputBoundary) : Type 0 where
@@ -79,7 +81,8 @@ module _ {S D L B : Type 0} where
   -- the input end at place k looked and acted, and no other end
   pub record OnlyIn (old new : Body S D L B) (k : ℕ) : Type 0 where
     pub outs : new.outs ≡ old.outs
-    pub told : (x y : IslandInput) → slice_get old.ins.items k ≡ Some x → slice_get new.ins.items k ≡ Some y → told_sent y.boundary.lane ≡ told_sent x.boundary.lane
+    pub told : (x y : IslandInput) → slice_get old.ins.items k ≡ Some x → slice_get new.ins.items k ≡ Some y
+        → told_sent y.boundary.lane ≡ told_sent x.boundary.lane
     pub others : (j : ℕ) → j ≢ k → slice_get new.ins.items j ≡ slice_get old.ins.items j
 
   -- the same of the output end

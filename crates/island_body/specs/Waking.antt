@@ -50,7 +50,8 @@ over_count b over =
 elements_take : (n : ℕ) (l : List Item) → elements (take n l) ≤ n
 elements_take zero l = omega arith
 elements_take (suc n) [] = omega arith
-elements_take (suc n) (x ∷ l) = let rest = elements_take n l in let one = weight_le x in let first = elements_first x (take n l) in omega (arith, rest, one, first)
+elements_take (suc n) (x ∷ l) = let rest = elements_take n l in let one = weight_le x in let first = elements_first x (take n l)
+    in omega (arith, rest, one, first)
 
 take_past : (a b : List Item) (n m : ℕ) → m ≡ length a + n → take m (a ++ b) ≡ a ++ take n b
 take_past [] b n m e = let same : m ≡ n = omega (arith, e) in ap (λ (k : ℕ). take k b) same
@@ -59,7 +60,8 @@ take_past (x ∷ a) b n m e =
     ap (λ (k : ℕ). take k (x ∷ (a ++ b))) more ∙ ap (λ (l : List Item). x ∷ l) (take_past a b n (length a + n) refl)
 
 -- a part with an end in it is the whole, where the whole has an end at most behind its elements
-with_end : (part whole rest : List Item) → whole ≡ part ++ rest → elements part + 1 ≡ length part → elements (take (elements whole) whole) ≡ elements whole → length whole ≤ elements whole + 1 → length whole ≤ length part
+with_end : (part whole rest : List Item) → whole ≡ part ++ rest → elements part + 1 ≡ length part → elements (take (elements whole) whole) ≡ elements whole
+    → length whole ≤ elements whole + 1 → length whole ≤ length part
 with_end part whole rest is count first last = by_length (by_order (length part) (elements whole))
   where
     by_order : (a b : ℕ) → (a ≤ b) ⊎ (b < a)
@@ -72,7 +74,8 @@ with_end part whole rest is count first last = by_length (by_order (length part)
     by_length (inl less) =
         let n : ℕ = elements whole - length part in
         let split : length part + n ≡ elements whole = omega (arith, less) in
-        let past : take (elements whole) whole ≡ part ++ take n rest = ap (λ (l : List Item). take (elements whole) l) is ∙ take_past part rest n (elements whole) (sym split) in
+        let past : take (elements whole) whole ≡ part ++ take n rest = ap (λ (l : List Item). take (elements whole) l) is
+        ∙ take_past part rest n (elements whole) (sym split) in
         let some : elements whole ≡ elements (part ++ take n rest) = sym first ∙ ap elements past in
         let sum = elements_append part (take n rest) in
         let few = elements_take n rest in
@@ -91,7 +94,8 @@ cancelled_once : (i : LaneIn) → has_cancelled i ≤ 1
 cancelled_once i = let c = one_or_none i.cancelled in let e = i.asked_is.1 in omega (arith, c, e)
 
 -- a look that found no item came where none waited
-item_found : (o : LaneOut) (x y : IslandInput) (w : Waits) → IsLaneHistory o x.boundary.lane → AreTold o x.boundary.lane → WaitsAre o x.boundary.lane w → IsTrue w.item → TookNone x y → ⊥
+item_found : (o : LaneOut) (x y : IslandInput) (w : Waits) → IsLaneHistory o x.boundary.lane → AreTold o x.boundary.lane → WaitsAre o x.boundary.lane w
+    → IsTrue w.item → TookNone x y → ⊥
 item_found o x y w history told_is waits item none =
     let some = waits.0.0 item in
     let told_sent_is = told_is.sent_is in
@@ -102,7 +106,8 @@ item_found o x y w history told_is waits item none =
     ]
 
 -- and one that found neither demand nor a cancel where neither waited
-demand_found : (p q : OutputBoundary) (i : LaneIn) (w : Waits) → IsLaneHistory p.lane i → AreTold p.lane i → WaitsAre p.lane i w → IsTrue w.demand → FoundNone p q → ⊥
+demand_found : (p q : OutputBoundary) (i : LaneIn) (w : Waits) → IsLaneHistory p.lane i → AreTold p.lane i → WaitsAre p.lane i w → IsTrue w.demand
+    → FoundNone p q → ⊥
 demand_found p q i w history told_is waits demand none = by_cancel (saw_cancel p.lane) refl
   where
     by_cancel : (n : ℕ) → saw_cancel p.lane ≡ n → ⊥
@@ -124,20 +129,24 @@ demand_found p q i w history told_is waits demand none = by_cancel (saw_cancel p
 
 module _ {S D L B : Type 0} where
   -- an item that waits is taken by the next turn
-  pub idle_item : (a b c d e : Body S D L B) (o i : ℕ) (w : Waits) → BodiesMayMeet a o b i → BodiesMeet a o b i c d w → IsTrue w.item → BodyGoes d e → IsIdle d e → ⊥
+  pub idle_item : (a b c d e : Body S D L B) (o i : ℕ) (w : Waits) → BodiesMayMeet a o b i → BodiesMeet a o b i c d w → IsTrue w.item → BodyGoes d e
+      → IsIdle d e → ⊥
   idle_item a b c d e o i w may m item g idle =
       let p = get_there c.outs.items o (subst (λ (n : ℕ). o < n) (sym m.from_met.outs_count) may.out_there) in
       let x = get_there d.ins.items i (subst (λ (n : ℕ). i < n) (sym m.to_met.ins_count) may.inp_there) in
       let y = there_after d.ins.items e.ins.items i x.0 (map_count (λ (z : IslandInput). z.wire) d.ins.items e.ins.items g.lanes.ins_wires) x.1 in
-      item_found p.0.lane x.0 y.0 w (m.joined.history p.0 x.0 p.1 x.1) (m.told p.0 x.0 p.1 x.1) (m.joined.waits_are p.0 x.0 p.1 x.1) item (idle.ins i x.0 y.0 x.1 y.1)
+      item_found p.0.lane x.0 y.0 w (m.joined.history p.0 x.0 p.1 x.1) (m.told p.0 x.0 p.1 x.1) (m.joined.waits_are p.0 x.0 p.1 x.1) item
+      (idle.ins i x.0 y.0 x.1 y.1)
 
   -- and demand that waits is found by it, or a cancel
-  pub idle_demand : (a b c d e : Body S D L B) (o i : ℕ) (w : Waits) → BodiesMayMeet a o b i → BodiesMeet a o b i c d w → IsTrue w.demand → BodyGoes c e → IsIdle c e → ⊥
+  pub idle_demand : (a b c d e : Body S D L B) (o i : ℕ) (w : Waits) → BodiesMayMeet a o b i → BodiesMeet a o b i c d w → IsTrue w.demand → BodyGoes c e
+      → IsIdle c e → ⊥
   idle_demand a b c d e o i w may m demand g idle =
       let p = get_there c.outs.items o (subst (λ (n : ℕ). o < n) (sym m.from_met.outs_count) may.out_there) in
       let q = there_after c.outs.items e.outs.items o p.0 (map_count (λ (z : OutputBoundary). z.wire) c.outs.items e.outs.items g.lanes.outs_wires) p.1 in
       let x = get_there d.ins.items i (subst (λ (n : ℕ). i < n) (sym m.to_met.ins_count) may.inp_there) in
-      demand_found p.0 q.0 x.0.boundary.lane w (m.joined.history p.0 x.0 p.1 x.1) (m.told p.0 x.0 p.1 x.1) (m.joined.waits_are p.0 x.0 p.1 x.1) demand (idle.outs o p.0 q.0 p.1 q.1)
+      demand_found p.0 q.0 x.0.boundary.lane w (m.joined.history p.0 x.0 p.1 x.1) (m.told p.0 x.0 p.1 x.1) (m.joined.waits_are p.0 x.0 p.1 x.1) demand
+      (idle.outs o p.0 q.0 p.1 q.1)
 
   -- an event that is pending is handled by it
   pub idle_event : (a b : Body S D L B) → is_pending a ≡ true → IsIdle a b → ⊥

@@ -89,7 +89,9 @@ impl<S: Source, D: Drain, L: Logic, B: PlugBook> Body<S, D, L, B> {
         requires within { k < length self.old.ins.items }
         requires stands { BodyStands self.old }
         ensures stands { BodyStands self.new }
-        ensures served { (n m : ℕ) → ((x : inputs.IslandInput) → slice_get self.old.ins.items k ≡ Some x → AllServed (Some (way_in self.old.island x.wire)) n m self.old.island self.old.ins.items self.old.outs.items) → AllServed None n m self.new.island self.new.ins.items self.new.outs.items }
+        ensures served { (n m : ℕ) → ((x : inputs.IslandInput) → slice_get self.old.ins.items k ≡ Some x
+            → AllServed (Some (way_in self.old.island x.wire)) n m self.old.island self.old.ins.items self.old.outs.items)
+            → AllServed None n m self.new.island self.new.ins.items self.new.outs.items }
         ensures count { (length self.new.ins.items ≡ length self.old.ins.items) × (length self.new.outs.items ≡ length self.old.outs.items) }
         ensures goes { BodyGoes self.old self.new }
         ensures uses { Uses self.old.island.net self.new.island.net 0 }
@@ -109,7 +111,9 @@ impl<S: Source, D: Drain, L: Logic, B: PlugBook> Body<S, D, L, B> {
         requires within { k < length self.old.outs.items }
         requires stands { BodyStands self.old }
         ensures stands { BodyStands self.new }
-        ensures served { (n m : ℕ) → ((o : outputs.OutputBoundary) → slice_get self.old.outs.items k ≡ Some o → AllServed (Some (way_out self.old.island o.wire)) n m self.old.island self.old.ins.items self.old.outs.items) → AllServed None n m self.new.island self.new.ins.items self.new.outs.items }
+        ensures served { (n m : ℕ) → ((o : outputs.OutputBoundary) → slice_get self.old.outs.items k ≡ Some o
+            → AllServed (Some (way_out self.old.island o.wire)) n m self.old.island self.old.ins.items self.old.outs.items)
+            → AllServed None n m self.new.island self.new.ins.items self.new.outs.items }
         ensures count { (length self.new.ins.items ≡ length self.old.ins.items) × (length self.new.outs.items ≡ length self.old.outs.items) }
         ensures goes { BodyGoes self.old self.new }
         ensures uses { Uses self.old.island.net self.new.island.net 0 }
@@ -181,7 +185,9 @@ impl<S: Source, D: Drain, L: Logic, B: PlugBook> Body<S, D, L, B> {
         requires stands { BodyStands self.old }
         requires served { AllDone self.old.island self.old.ins.items self.old.outs.items }
         ensures stands { BodyStands self.new }
-        ensures served { (x : inputs.IslandInput) → slice_get self.new.ins.items k ≡ Some x → AllServed (Some (way_in self.new.island x.wire)) (length self.new.ins.items) (length self.new.outs.items) self.new.island self.new.ins.items self.new.outs.items }
+        ensures served { (x : inputs.IslandInput) → slice_get self.new.ins.items k ≡ Some x
+            → AllServed (Some (way_in self.new.island x.wire)) (length self.new.ins.items)
+            (length self.new.outs.items) self.new.island self.new.ins.items self.new.outs.items }
         ensures still { result ≡ false → AllDone self.new.island self.new.ins.items self.new.outs.items }
         ensures count { length self.new.ins.items ≡ length self.old.ins.items }
         ensures goes { BodyGoes self.old self.new }
@@ -383,7 +389,8 @@ impl<S: Source, D: Drain, L: Logic, B: PlugBook> Body<S, D, L, B> {
         ensures between { IfOk result (λ count. (used ≤ count) × (count ≤ limit)) }
         ensures uses { IfOk result (λ count. total_cost self.old.island.net + count ≤ total_cost self.new.island.net + used) }
         ensures used { IfOk result (λ count. self.new.island.used + used ≡ self.old.island.used + count) }
-        ensures costs { OnOk result ((all_taken self.new.ins.items ≡ all_taken self.old.ins.items) × (all_finds self.new.outs.items ≡ all_finds self.old.outs.items) × (self.new.spent ≡ self.old.spent)) }
+        ensures costs { OnOk result ((all_taken self.new.ins.items ≡ all_taken self.old.ins.items)
+            × (all_finds self.new.outs.items ≡ all_finds self.old.outs.items) × (self.new.spent ≡ self.old.spent)) }
         ensures none { IfOk result (λ count. count ≡ used → used < limit → (self.new ≡ self.old) × (self.old.island.net.queue ≡ [])) }
         ensures looks { OnOk result (KeepsLooks self.old self.new) }
         ensures wakes { OnOk result (WakesOn self.old self.new) }
@@ -423,7 +430,8 @@ impl<S: Source, D: Drain, L: Logic, B: PlugBook> Body<S, D, L, B> {
         requires stands { BodyStands self.old }
         requires served { AllDone self.old.island self.old.ins.items self.old.outs.items }
         ensures stands { OnOk result (BodyStands self.new) }
-        ensures served { IfOk result (λ a. AllServed a.heard (length self.new.ins.items) (length self.new.outs.items) self.new.island self.new.ins.items self.new.outs.items) }
+        ensures served { IfOk result (λ a. AllServed a.heard (length self.new.ins.items)
+            (length self.new.outs.items) self.new.island self.new.ins.items self.new.outs.items) }
         ensures goes { OnOk result (BodyGoes self.old self.new) }
         ensures heard { IfOk result (λ a. (w : ℕ) → a.heard ≡ Some w → (1 ≤ a.used) × (w < length self.new.ways.items)) }
         ensures within { IfOk result (λ a. a.used ≤ limit) }
@@ -431,7 +439,8 @@ impl<S: Source, D: Drain, L: Logic, B: PlugBook> Body<S, D, L, B> {
         ensures rest { IfOk result (λ a. a.used < limit → a.heard ≡ None → self.new.island.net.queue ≡ []) }
         ensures uses { IfOk result (λ a. Uses self.old.island.net self.new.island.net a.used) }
         ensures used { IfOk result (λ a. self.new.island.used ≡ self.old.island.used + a.used) }
-        ensures lanes { OnOk result ((self.new.ins ≡ self.old.ins) × (self.new.outs ≡ self.old.outs) × (self.new.ways ≡ self.old.ways) × (self.new.spent ≡ self.old.spent) × (self.new.peers ≡ self.old.peers)) }
+        ensures lanes { OnOk result ((self.new.ins ≡ self.old.ins) × (self.new.outs ≡ self.old.outs) × (self.new.ways ≡ self.old.ways)
+            × (self.new.spent ≡ self.old.spent) × (self.new.peers ≡ self.old.peers)) }
         ensures breaks { OnErr result (BodyBreaks S.state D.state B.lists self.old self.new) }
     {
         self.island.laws();

@@ -51,11 +51,17 @@ impl IslandInput {
     /// Takes the next item off the lane, where one was sent and no end was taken; false comes exactly where none was. Nothing is
     /// handed on by it. It takes no memory.
     pub fn look(&mut self) -> bool
-        ensures wire { (self.new.wire ≡ self.old.wire) × IsSameIn self.old.boundary.lane self.new.boundary.lane × (asked_in_all self.new.boundary.lane ≡ asked_in_all self.old.boundary.lane) × (ask_calls self.new.boundary.lane ≡ ask_calls self.old.boundary.lane) × (has_cancelled self.new.boundary.lane ≡ has_cancelled self.old.boundary.lane) }
+        ensures wire { (self.new.wire ≡ self.old.wire) × IsSameIn self.old.boundary.lane self.new.boundary.lane
+            × (asked_in_all self.new.boundary.lane ≡ asked_in_all self.old.boundary.lane)
+            × (ask_calls self.new.boundary.lane ≡ ask_calls self.old.boundary.lane)
+            × (has_cancelled self.new.boundary.lane ≡ has_cancelled self.old.boundary.lane) }
         ensures given { (given self.new.boundary ≡ given self.old.boundary) × (state self.new.boundary ≡ state self.old.boundary) }
         ensures still { result ≡ false → waits self.new.boundary ≡ waits self.old.boundary }
-        ensures took { result ≡ true → (is_over self.old.boundary ≡ false) × ((x : Item) × ((taken_items self.new.boundary.lane ≡ taken_items self.old.boundary.lane ++ x ∷ []) × (is_over self.new.boundary ≡ ends x))) }
-        ensures none { result ≡ false → (taken_items self.new.boundary.lane ≡ taken_items self.old.boundary.lane) × ((is_over self.old.boundary ≡ true) ⊎ ((found_sent self.new.boundary.lane ≡ length (taken_items self.new.boundary.lane)) × (told_sent self.old.boundary.lane ≤ found_sent self.new.boundary.lane))) }
+        ensures took { result ≡ true → (is_over self.old.boundary ≡ false) × ((x : Item)
+            × ((taken_items self.new.boundary.lane ≡ taken_items self.old.boundary.lane ++ x ∷ []) × (is_over self.new.boundary ≡ ends x))) }
+        ensures none { result ≡ false → (taken_items self.new.boundary.lane ≡ taken_items self.old.boundary.lane)
+            × ((is_over self.old.boundary ≡ true) ⊎ ((found_sent self.new.boundary.lane ≡ length (taken_items self.new.boundary.lane))
+            × (told_sent self.old.boundary.lane ≤ found_sent self.new.boundary.lane))) }
         ensures over { result ≡ false → is_over self.new.boundary ≡ is_over self.old.boundary }
         ensures told { told_sent self.new.boundary.lane ≡ told_sent self.old.boundary.lane }
     {
@@ -87,11 +93,15 @@ impl IslandInput {
         requires asked { asked ≡ true → wanted_at (cell_in island.old self.old.wire) ≡ wanted.Asked }
         ensures feeds { Feeds self.new.boundary island.new self.new.wire }
         ensures live { (cell_in island.new self.new.wire).wire.out ≢ outlet.Cancelled }
-        ensures wire { (self.new.wire ≡ self.old.wire) × IsSameIn self.old.boundary.lane self.new.boundary.lane × (taken_items self.new.boundary.lane ≡ taken_items self.old.boundary.lane) × (has_cancelled self.new.boundary.lane ≡ has_cancelled self.old.boundary.lane) }
+        ensures wire { (self.new.wire ≡ self.old.wire) × IsSameIn self.old.boundary.lane self.new.boundary.lane
+            × (taken_items self.new.boundary.lane ≡ taken_items self.old.boundary.lane)
+            × (has_cancelled self.new.boundary.lane ≡ has_cancelled self.old.boundary.lane) }
         ensures asks { ask_calls self.new.boundary.lane ≡ ask_calls self.old.boundary.lane + cond result 1 0 }
-        ensures known { (found_sent self.new.boundary.lane ≡ found_sent self.old.boundary.lane) × (told_sent self.new.boundary.lane ≡ told_sent self.old.boundary.lane) × (is_over self.new.boundary ≡ is_over self.old.boundary) }
+        ensures known { (found_sent self.new.boundary.lane ≡ found_sent self.old.boundary.lane)
+            × (told_sent self.new.boundary.lane ≡ told_sent self.old.boundary.lane) × (is_over self.new.boundary ≡ is_over self.old.boundary) }
         ensures asked { asked ≡ true → HasGiven self.new.boundary island.new self.new.wire }
-        ensures ended { asked ≡ false → state self.new.boundary ≡ Flowing → (self.new ≡ self.old) × (island.new ≡ island.old) × (waits self.new.boundary ≡ [] → taken_items self.new.boundary.lane ≡ given self.new.boundary) }
+        ensures ended { asked ≡ false → state self.new.boundary ≡ Flowing → (self.new ≡ self.old) × (island.new ≡ island.old)
+            × (waits self.new.boundary ≡ [] → taken_items self.new.boundary.lane ≡ given self.new.boundary) }
         ensures uses { Uses island.old.net island.new.net 0 }
         ensures beside { Beside (way_in island.old self.old.wire) (in_node island.old self.old.wire) island.old island.new }
     {
@@ -118,9 +128,12 @@ impl IslandInput {
         requires asked { HasGiven self.old.boundary island.old self.old.wire }
         ensures feeds { Feeds self.new.boundary island.new self.new.wire }
         ensures fed { IsFed self.new.boundary island.new self.new.wire }
-        ensures wire { (self.new.wire ≡ self.old.wire) × IsSameIn self.old.boundary.lane self.new.boundary.lane × (taken_items self.new.boundary.lane ≡ taken_items self.old.boundary.lane) × (has_cancelled self.new.boundary.lane ≡ has_cancelled self.old.boundary.lane) }
+        ensures wire { (self.new.wire ≡ self.old.wire) × IsSameIn self.old.boundary.lane self.new.boundary.lane
+            × (taken_items self.new.boundary.lane ≡ taken_items self.old.boundary.lane)
+            × (has_cancelled self.new.boundary.lane ≡ has_cancelled self.old.boundary.lane) }
         ensures asks { ask_calls self.new.boundary.lane ≡ ask_calls self.old.boundary.lane + cond result 1 0 }
-        ensures known { (found_sent self.new.boundary.lane ≡ found_sent self.old.boundary.lane) × (told_sent self.new.boundary.lane ≡ told_sent self.old.boundary.lane) × (is_over self.new.boundary ≡ is_over self.old.boundary) }
+        ensures known { (found_sent self.new.boundary.lane ≡ found_sent self.old.boundary.lane)
+            × (told_sent self.new.boundary.lane ≡ told_sent self.old.boundary.lane) × (is_over self.new.boundary ≡ is_over self.old.boundary) }
         ensures uses { Uses island.old.net island.new.net 0 }
         ensures beside { Beside (way_in island.old self.old.wire) (in_node island.old self.old.wire) island.old island.new }
     {
@@ -144,11 +157,17 @@ impl IslandInput {
         requires feeds { Feeds self.old.boundary island.old self.old.wire }
         ensures feeds { Feeds self.new.boundary island.new self.new.wire }
         ensures fed { IsFed self.new.boundary island.new self.new.wire }
-        ensures wire { (self.new.wire ≡ self.old.wire) × IsSameIn self.old.boundary.lane self.new.boundary.lane × (taken_items self.new.boundary.lane ≡ taken_items self.old.boundary.lane) }
-        ensures least { (ask_calls self.old.boundary.lane ≤ ask_calls self.new.boundary.lane) × (has_cancelled self.old.boundary.lane ≤ has_cancelled self.new.boundary.lane) }
-        ensures told { result ≡ true → (ask_calls self.old.boundary.lane < ask_calls self.new.boundary.lane) ⊎ (has_cancelled self.old.boundary.lane < has_cancelled self.new.boundary.lane) }
-        ensures quiet { result ≡ false → (ask_calls self.new.boundary.lane ≡ ask_calls self.old.boundary.lane) × (asked_in_all self.new.boundary.lane ≡ asked_in_all self.old.boundary.lane) × (has_cancelled self.new.boundary.lane ≡ has_cancelled self.old.boundary.lane) }
-        ensures known { (found_sent self.new.boundary.lane ≡ found_sent self.old.boundary.lane) × (told_sent self.new.boundary.lane ≡ told_sent self.old.boundary.lane) × (is_over self.new.boundary ≡ is_over self.old.boundary) }
+        ensures wire { (self.new.wire ≡ self.old.wire) × IsSameIn self.old.boundary.lane self.new.boundary.lane
+            × (taken_items self.new.boundary.lane ≡ taken_items self.old.boundary.lane) }
+        ensures least { (ask_calls self.old.boundary.lane ≤ ask_calls self.new.boundary.lane)
+            × (has_cancelled self.old.boundary.lane ≤ has_cancelled self.new.boundary.lane) }
+        ensures told { result ≡ true → (ask_calls self.old.boundary.lane < ask_calls self.new.boundary.lane)
+            ⊎ (has_cancelled self.old.boundary.lane < has_cancelled self.new.boundary.lane) }
+        ensures quiet { result ≡ false → (ask_calls self.new.boundary.lane ≡ ask_calls self.old.boundary.lane)
+            × (asked_in_all self.new.boundary.lane ≡ asked_in_all self.old.boundary.lane)
+            × (has_cancelled self.new.boundary.lane ≡ has_cancelled self.old.boundary.lane) }
+        ensures known { (found_sent self.new.boundary.lane ≡ found_sent self.old.boundary.lane)
+            × (told_sent self.new.boundary.lane ≡ told_sent self.old.boundary.lane) × (is_over self.new.boundary ≡ is_over self.old.boundary) }
         ensures uses { Uses island.old.net island.new.net 0 }
         ensures beside { Beside (way_in island.old self.old.wire) (in_node island.old self.old.wire) island.old island.new }
     {
@@ -169,11 +188,16 @@ impl IslandInput {
         requires keeps { BoundaryKeeps self.old.boundary }
         ensures feeds { Feeds self.new.boundary island.new self.new.wire }
         ensures fed { IsFed self.new.boundary island.new self.new.wire }
-        ensures wire { (self.new.wire ≡ self.old.wire) × IsSameIn self.old.boundary.lane self.new.boundary.lane × (taken_items self.new.boundary.lane ≡ taken_items self.old.boundary.lane) }
-        ensures least { (ask_calls self.old.boundary.lane ≤ ask_calls self.new.boundary.lane) × (has_cancelled self.old.boundary.lane ≤ has_cancelled self.new.boundary.lane) }
-        ensures told { result ≡ true → (ask_calls self.old.boundary.lane < ask_calls self.new.boundary.lane) ⊎ (has_cancelled self.old.boundary.lane < has_cancelled self.new.boundary.lane) }
-        ensures quiet { result ≡ false → (ask_calls self.new.boundary.lane ≡ ask_calls self.old.boundary.lane) × (has_cancelled self.new.boundary.lane ≡ has_cancelled self.old.boundary.lane) }
-        ensures known { (found_sent self.new.boundary.lane ≡ found_sent self.old.boundary.lane) × (told_sent self.new.boundary.lane ≡ told_sent self.old.boundary.lane) × (is_over self.new.boundary ≡ is_over self.old.boundary) }
+        ensures wire { (self.new.wire ≡ self.old.wire) × IsSameIn self.old.boundary.lane self.new.boundary.lane
+            × (taken_items self.new.boundary.lane ≡ taken_items self.old.boundary.lane) }
+        ensures least { (ask_calls self.old.boundary.lane ≤ ask_calls self.new.boundary.lane)
+            × (has_cancelled self.old.boundary.lane ≤ has_cancelled self.new.boundary.lane) }
+        ensures told { result ≡ true → (ask_calls self.old.boundary.lane < ask_calls self.new.boundary.lane)
+            ⊎ (has_cancelled self.old.boundary.lane < has_cancelled self.new.boundary.lane) }
+        ensures quiet { result ≡ false → (ask_calls self.new.boundary.lane ≡ ask_calls self.old.boundary.lane)
+            × (has_cancelled self.new.boundary.lane ≡ has_cancelled self.old.boundary.lane) }
+        ensures known { (found_sent self.new.boundary.lane ≡ found_sent self.old.boundary.lane)
+            × (told_sent self.new.boundary.lane ≡ told_sent self.old.boundary.lane) × (is_over self.new.boundary ≡ is_over self.old.boundary) }
         ensures uses { Uses island.old.net island.new.net 0 }
         ensures beside { Beside (way_in island.old self.old.wire) (in_node island.old self.old.wire) island.old island.new }
     {

@@ -47,9 +47,11 @@ impl OutputBoundary {
     ) -> Found
         requires keeps { Sends self.old.lane island.now self.old.wire }
         ensures wire { (self.new.wire ≡ self.old.wire) × IsSameOut self.old.lane self.new.lane }
-        ensures sent { (sent self.new.lane ≡ sent self.old.lane) × (has_ended self.new.lane ≡ has_ended self.old.lane) × (seen_count self.old.lane ≤ seen_count self.new.lane) }
+        ensures sent { (sent self.new.lane ≡ sent self.old.lane) × (has_ended self.new.lane ≡ has_ended self.old.lane)
+            × (seen_count self.old.lane ≤ seen_count self.new.lane) }
         ensures found { FoundIs result (seen_count self.old.lane) (seen_count self.new.lane) (saw_cancel self.new.lane) }
-        ensures finds { finds self.new.lane ≡ finds self.old.lane + is_new (seen_count self.old.lane) (saw_cancel self.old.lane) (seen_count self.new.lane) (saw_cancel self.new.lane) }
+        ensures finds { finds self.new.lane ≡ finds self.old.lane + is_new (seen_count self.old.lane) (saw_cancel self.old.lane) (seen_count self.new.lane)
+            (saw_cancel self.new.lane) }
         ensures told { (told_asked self.old.lane ≤ seen_count self.new.lane) × (told_cancel self.old.lane ≤ saw_cancel self.new.lane) }
         ensures keeps { saw_cancel self.new.lane ≡ 0 → Sends self.new.lane island.now self.new.wire }
     {
@@ -73,7 +75,8 @@ impl OutputBoundary {
         requires room { elements (sent self.old.lane) + weight item ≤ seen_count self.old.lane }
         ensures sent { sent self.new.lane ≡ sent self.old.lane ++ item ∷ [] }
         ensures ended { has_ended self.new.lane ≡ ends item }
-        ensures rest { (self.new.wire ≡ self.old.wire) × IsSameOut self.old.lane self.new.lane × (seen_count self.new.lane ≡ seen_count self.old.lane) × (saw_cancel self.new.lane ≡ saw_cancel self.old.lane) × (finds self.new.lane ≡ finds self.old.lane) }
+        ensures rest { (self.new.wire ≡ self.old.wire) × IsSameOut self.old.lane self.new.lane × (seen_count self.new.lane ≡ seen_count self.old.lane)
+            × (saw_cancel self.new.lane ≡ saw_cancel self.old.lane) × (finds self.new.lane ≡ finds self.old.lane) }
     {
         match self.lane.offer(item) {
             Ok(()) => {}
@@ -90,7 +93,8 @@ impl OutputBoundary {
         requires leaves { Leaves island.old self.old.wire }
         requires keeps { Sends self.old.lane island.old self.old.wire }
         ensures keeps { Sends self.new.lane island.new self.new.wire }
-        ensures wire { (self.new.wire ≡ self.old.wire) × IsSameOut self.old.lane self.new.lane × (seen_count self.new.lane ≡ seen_count self.old.lane) × (finds self.new.lane ≡ finds self.old.lane) }
+        ensures wire { (self.new.wire ≡ self.old.wire) × IsSameOut self.old.lane self.new.lane × (seen_count self.new.lane ≡ seen_count self.old.lane)
+            × (finds self.new.lane ≡ finds self.old.lane) }
         ensures more { result ≡ true → length (sent self.new.lane) ≡ length (sent self.old.lane) + 1 }
         ensures cell { cell_out island.new self.old.wire ≡ cell_out island.old self.old.wire }
         ensures rest { result ≡ false → (self.new ≡ self.old) × (island.new ≡ island.old) × (waiting island.old self.old.wire ≡ []) }
@@ -146,7 +150,8 @@ impl OutputBoundary {
         requires serves { Serves self.old.lane island.old self.old.wire }
         ensures serves { Serves self.new.lane island.new self.new.wire }
         ensures served { IsServed self.new.lane island.new self.new.wire }
-        ensures wire { (self.new.wire ≡ self.old.wire) × IsSameOut self.old.lane self.new.lane × (seen_count self.new.lane ≡ seen_count self.old.lane) × (saw_cancel self.new.lane ≡ saw_cancel self.old.lane) × (finds self.new.lane ≡ finds self.old.lane) }
+        ensures wire { (self.new.wire ≡ self.old.wire) × IsSameOut self.old.lane self.new.lane × (seen_count self.new.lane ≡ seen_count self.old.lane)
+            × (saw_cancel self.new.lane ≡ saw_cancel self.old.lane) × (finds self.new.lane ≡ finds self.old.lane) }
         ensures sent { result ≡ true → length (sent self.old.lane) < length (sent self.new.lane) }
         ensures same { result ≡ false → sent self.new.lane ≡ sent self.old.lane }
         ensures uses { Uses island.old.net island.new.net 0 }
@@ -177,10 +182,12 @@ impl OutputBoundary {
         requires served { IsServed self.old.lane island.old self.old.wire }
         ensures serves { Serves self.new.lane island.new self.new.wire }
         ensures served { IsServed self.new.lane island.new self.new.wire }
-        ensures wire { (self.new.wire ≡ self.old.wire) × IsSameOut self.old.lane self.new.lane × (sent self.new.lane ≡ sent self.old.lane) × (seen_count self.old.lane ≤ seen_count self.new.lane) }
+        ensures wire { (self.new.wire ≡ self.old.wire) × IsSameOut self.old.lane self.new.lane × (sent self.new.lane ≡ sent self.old.lane)
+            × (seen_count self.old.lane ≤ seen_count self.new.lane) }
         ensures found { VisitIs result (seen_count self.old.lane) (saw_cancel self.old.lane) (seen_count self.new.lane) (saw_cancel self.new.lane) }
         ensures nothing { result ≡ found.Nothing → island.new ≡ island.old }
-        ensures told { saw_cancel self.old.lane ≡ 0 → (told_asked self.old.lane ≤ seen_count self.new.lane) × (told_cancel self.old.lane ≤ saw_cancel self.new.lane) }
+        ensures told { saw_cancel self.old.lane ≡ 0 → (told_asked self.old.lane ≤ seen_count self.new.lane)
+            × (told_cancel self.old.lane ≤ saw_cancel self.new.lane) }
         ensures finds { finds self.new.lane ≡ finds self.old.lane + unit_of result }
         ensures uses { Uses island.old.net island.new.net 0 }
         ensures beside { Beside (way_out island.old self.old.wire) (out_node island.old self.old.wire) island.old island.new }

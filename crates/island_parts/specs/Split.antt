@@ -42,7 +42,8 @@ pub record IsSplit {S D L B : Type 0} (homes : List ℕ) (count : ℕ) (ws : Lis
       → IsSpace (of_home s.homes.items k (whole_places nodes (lanes_from homes 0 ws))) (own_links s.homes.items (whole_links (length nodes) ws) k) x
 
 -- the parts of an island and its room: the places of its list, and its space
-pub record IsPart {S D L B : Type 0} (lists : List (Vec (Seated S D L B) Global)) (spaces : List (Space S D L B)) (k : ℕ) (x : Parts S D L B × IslandRoom S D L B) : Type 0 where
+pub record IsPart {S D L B : Type 0} (lists : List (Vec (Seated S D L B) Global)) (spaces : List (Space S D L B)) (k : ℕ)
+    (x : Parts S D L B × IslandRoom S D L B) : Type 0 where
   pub nodes_are : x.0.nodes.items ≡ items_at lists k
   pub space : Space S D L B
   pub space_at : slice_get spaces k ≡ Some space
@@ -50,7 +51,8 @@ pub record IsPart {S D L B : Type 0} (lists : List (Vec (Seated S D L B) Global)
   pub room_is : x.1 ≡ space.room
 
 -- the parts of each island and its room: the places of its list, and its space
-pub record AreJoined {S D L B : Type 0} (lists : List (Vec (Seated S D L B) Global)) (spaces : List (Space S D L B)) (islands : List (Parts S D L B × IslandRoom S D L B)) : Type 0 where
+pub record AreJoined {S D L B : Type 0} (lists : List (Vec (Seated S D L B) Global)) (spaces : List (Space S D L B))
+    (islands : List (Parts S D L B × IslandRoom S D L B)) : Type 0 where
   pub many : length islands ≡ length spaces
   pub each : (k : ℕ) (x : Parts S D L B × IslandRoom S D L B) → slice_get islands k ≡ Some x → IsPart lists spaces k x
 
@@ -63,6 +65,7 @@ pub record IsIsland {S D L B : Type 0} (s : Split S D L B) (seats : List (Seated
   pub room_is : x.1 ≡ space.room
 
 -- the parts of each island and its room: its share of what stands at all places, and its space
-pub record AreIslands {S D L B : Type 0} (s : Split S D L B) (seats : List (Seated S D L B)) (islands : List (Parts S D L B × IslandRoom S D L B)) : Type 0 where
+pub record AreIslands {S D L B : Type 0} (s : Split S D L B) (seats : List (Seated S D L B)) (islands : List (Parts S D L B × IslandRoom S D L B))
+    : Type 0 where
   pub many : length islands ≡ length s.spaces.items
   pub each : (k : ℕ) (x : Parts S D L B × IslandRoom S D L B) → slice_get islands k ≡ Some x → IsIsland s seats k x

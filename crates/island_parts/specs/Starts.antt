@@ -72,7 +72,8 @@ module _ {S D L B : Type 0} where
     AllGiveBack islands ends = AreOf GivesBack islands ends
 
     -- what these islands leave that had started, then this, and then what those leave that were not to be started
-    pub record TakenApart (started : List (Kept S D L B)) (end : IslandEnd S D) (rest : List (Parts S D L B × IslandRoom S D L B)) (ends : List (IslandEnd S D)) : Type 0 where
+    pub record TakenApart (started : List (Kept S D L B)) (end : IslandEnd S D) (rest : List (Parts S D L B × IslandRoom S D L B)) (ends : List (IslandEnd S D))
+        : Type 0 where
       pub front : List (IslandEnd S D)
       pub behind : List (IslandEnd S D)
       pub all_are : ends ≡ front ++ (end ∷ behind)

@@ -17,18 +17,24 @@ pub fn lane_ends_leave_nothing<S: Source, D: Drain, L: Logic, B: PlugBook>()
     ensures sinks { (nodes more : List (IslandNode S D L B)) → AreLaneEnds more → sinks_of (nodes ++ more) ≡ sinks_of nodes }
     ensures readers { (nodes more : List (IslandNode S D L B)) → AreLaneEnds more → readers_of (nodes ++ more) ≡ readers_of nodes }
     ensures writers { (nodes more : List (IslandNode S D L B)) → AreLaneEnds more → writers_of (nodes ++ more) ≡ writers_of nodes }
-    ensures picks { (numbers others : List ℕ) (nodes more : List (IslandNode S D L B)) → length numbers ≡ length nodes → AreLaneEnds more → picks_of (numbers ++ others) (nodes ++ more) ≡ picks_of numbers nodes }
-    ensures seats { (numbers others : List ℕ) (nodes more : List (IslandNode S D L B)) → length numbers ≡ length nodes → AreLaneEnds more → seats_of (numbers ++ others) (nodes ++ more) ≡ seats_of numbers nodes }
+    ensures picks { (numbers others : List ℕ) (nodes more : List (IslandNode S D L B)) → length numbers ≡ length nodes → AreLaneEnds more
+        → picks_of (numbers ++ others) (nodes ++ more) ≡ picks_of numbers nodes }
+    ensures seats { (numbers others : List ℕ) (nodes more : List (IslandNode S D L B)) → length numbers ≡ length nodes → AreLaneEnds more
+        → seats_of (numbers ++ others) (nodes ++ more) ≡ seats_of numbers nodes }
 {}
 
 /// The homes of what is left are known by any list of things of which each leaves something where the other does (`same`), and those
 /// behind which nothing leaves anything are all (`all`).
 pub fn homes_by_others<X, Y, Z, W>()
-    ensures same { (f : X → Option Y) (g : Z → Option W) (homes : List ℕ) (xs : List X) (zs : List Z) → length xs ≡ length zs → ((k : ℕ) (x : X) (z : Z) → slice_get xs k ≡ Some x → slice_get zs k ≡ Some z → leaves_something (f x) ≡ leaves_something (g z)) → homes_left f homes xs ≡ homes_left g homes zs }
-    ensures all { (f : X → Option Y) (homes others : List ℕ) (xs more : List X) → length xs ≡ length homes → ((k : ℕ) (x : X) → slice_get more k ≡ Some x → f x ≡ None) → homes_left f (homes ++ others) (xs ++ more) ≡ homes_left f homes xs }
+    ensures same { (f : X → Option Y) (g : Z → Option W) (homes : List ℕ) (xs : List X) (zs : List Z) → length xs ≡ length zs
+        → ((k : ℕ) (x : X) (z : Z) → slice_get xs k ≡ Some x → slice_get zs k ≡ Some z → leaves_something (f x) ≡ leaves_something (g z))
+        → homes_left f homes xs ≡ homes_left g homes zs }
+    ensures all { (f : X → Option Y) (homes others : List ℕ) (xs more : List X) → length xs ≡ length homes
+        → ((k : ℕ) (x : X) → slice_get more k ≡ Some x → f x ≡ None) → homes_left f (homes ++ others) (xs ++ more) ≡ homes_left f homes xs }
 {}
 
 /// Lists, each with as many items as there are of its home, are the shares of one list.
 pub fn shares_make_one<T>()
-    ensures { (homes : List ℕ) (share : ℕ → List T) → ((k : ℕ) → length (share k) ≡ share_of k homes) → (all : List T) × (length all ≡ length homes) × ((k : ℕ) → of_home homes k all ≡ share k) }
+    ensures { (homes : List ℕ) (share : ℕ → List T) → ((k : ℕ) → length (share k) ≡ share_of k homes)
+        → (all : List T) × (length all ≡ length homes) × ((k : ℕ) → of_home homes k all ≡ share k) }
 {}

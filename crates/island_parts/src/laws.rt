@@ -16,7 +16,10 @@ use stream_io::outside::{Drain, Source};
 /// places of each island, and its links, are the parts of an island (`parts`). What is known of all places before they hold their
 /// handles is what the places are (`places`).
 pub fn islands_have_parts<S: Source, D: Drain, L: Logic, B: PlugBook>()
-    ensures parts { (homes : List ℕ) (ws : List Edge) (nodes : List (Seated S D L B)) (k : ℕ) → length homes ≡ length nodes → KeepsInside homes ws → AreNodes ws nodes → length (whole_links (length nodes) ws) < 2 ^ 32
-        → AreParts (of_home (whole_homes homes (lanes_from homes 0 ws)) k (whole_seats nodes (lanes_from homes 0 ws))) (own_links (whole_homes homes (lanes_from homes 0 ws)) (whole_links (length nodes) ws) k) }
-    ensures places { (nodes : List (Seated S D L B)) (lanes : List LanePlan) → map seat_place (whole_seats nodes lanes) ≡ whole_places (map seat_place nodes) lanes }
+    ensures parts { (homes : List ℕ) (ws : List Edge) (nodes : List (Seated S D L B)) (k : ℕ) → length homes ≡ length nodes → KeepsInside homes ws
+        → AreNodes ws nodes → length (whole_links (length nodes) ws) < 2 ^ 32
+        → AreParts (of_home (whole_homes homes (lanes_from homes 0 ws)) k (whole_seats nodes (lanes_from homes 0 ws)))
+        (own_links (whole_homes homes (lanes_from homes 0 ws)) (whole_links (length nodes) ws) k) }
+    ensures places { (nodes : List (Seated S D L B)) (lanes : List LanePlan) → map seat_place (whole_seats nodes lanes) ≡ whole_places
+        (map seat_place nodes) lanes }
 {}

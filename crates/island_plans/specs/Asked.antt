@@ -29,10 +29,12 @@ module _ {S D L B : Type 0} where
   -- of each crossing how many elements the input end there has asked for in all
   pub record AreAsked (bodies : List (Body S D L B)) (crossings : List Crossing) (all : List ℕ) : Type 0 where
     pub many : length all ≡ length crossings
-    pub each : (n : ℕ) (c : Crossing) (b : Body S D L B) (x : IslandInput) → slice_get crossings n ≡ Some c → slice_get bodies c.to ≡ Some b → slice_get b.ins.items c.inp ≡ Some x → slice_get all n ≡ Some (asked_in_all x.boundary.lane)
+    pub each : (n : ℕ) (c : Crossing) (b : Body S D L B) (x : IslandInput) → slice_get crossings n ≡ Some c → slice_get bodies c.to ≡ Some b
+        → slice_get b.ins.items c.inp ≡ Some x → slice_get all n ≡ Some (asked_in_all x.boundary.lane)
 
 -- The count of each lane says whether more was asked in all than was sent, where so much was asked of the lanes; all else is as before.
 pub record AreNoted (all : List ℕ) (lanes : List LanePlan) (old new : List WireCount) : Type 0 where
   pub many : length new ≡ length old
-  pub each : (n a : ℕ) (l : LanePlan) (w : WireCount) → slice_get lanes n ≡ Some l → slice_get all n ≡ Some a → slice_get old l.wire ≡ Some w → slice_get new l.wire ≡ Some (with_demand w a)
+  pub each : (n a : ℕ) (l : LanePlan) (w : WireCount) → slice_get lanes n ≡ Some l → slice_get all n ≡ Some a → slice_get old l.wire ≡ Some w
+      → slice_get new l.wire ≡ Some (with_demand w a)
   pub others : (u : ℕ) → ((n : ℕ) (l : LanePlan) → slice_get lanes n ≡ Some l → l.wire ≢ u) → slice_get new u ≡ slice_get old u

@@ -55,12 +55,14 @@ pub record AreEnds (l : LanePlan) (o : OutputBoundary) (i : IslandInput) : Type 
 pub record AreMade (lanes : List LanePlan) (outs : List OutputBoundary) (ins : List IslandInput) : Type 0 where
   pub outs_many : length outs ≡ length lanes
   pub ins_many : length ins ≡ length lanes
-  pub each : (n : ℕ) (l : LanePlan) (o : OutputBoundary) (i : IslandInput) → slice_get lanes n ≡ Some l → slice_get outs n ≡ Some o → slice_get ins n ≡ Some i → AreEnds l o i
+  pub each : (n : ℕ) (l : LanePlan) (o : OutputBoundary) (i : IslandInput) → slice_get lanes n ≡ Some l → slice_get outs n ≡ Some o → slice_get ins n ≡ Some i
+      → AreEnds l o i
 
 -- where the ends of each lane lie, by their places among those of their islands
 pub record AreCrossingsOf (lanes : List LanePlan) (outs ins : List ℕ) (crossings : List Crossing) : Type 0 where
   pub many : length crossings ≡ length lanes
-  pub each : (n : ℕ) (l : LanePlan) (c : Crossing) → slice_get lanes n ≡ Some l → slice_get crossings n ≡ Some c → c ≡ record { from = l.from; out = slice_index outs n; to = l.to; inp = slice_index ins n }
+  pub each : (n : ℕ) (l : LanePlan) (c : Crossing) → slice_get lanes n ≡ Some l → slice_get crossings n ≡ Some c
+      → c ≡ record { from = l.from; out = slice_index outs n; to = l.to; inp = slice_index ins n }
 
 -- place p of the list of island k is that of an end of a lane
 pub record IsLaneEndOf (island place : Crossing → ℕ) (crossings : List Crossing) (k p : ℕ) : Type 0 where

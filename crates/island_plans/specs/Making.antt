@@ -47,17 +47,22 @@ module _ {S D L B : Type 0} where
 
   -- Islands that have started, of each the ends of its lanes, which stand there, a blank table with a row for each of its
   -- connections, and the island at the other end of each lane.
-  pub record CanAllBegin (islands : List (Kept S D L B)) (ins : List (Vec IslandInput Global)) (outs : List (Vec OutputBoundary Global)) (tables : List (Vec Way Global)) (peers : List Peers) : Type 0 where
+  pub record CanAllBegin (islands : List (Kept S D L B)) (ins : List (Vec IslandInput Global)) (outs : List (Vec OutputBoundary Global))
+      (tables : List (Vec Way Global)) (peers : List Peers) : Type 0 where
     pub ins_many : length ins ≡ length islands
     pub outs_many : length outs ≡ length islands
     pub tables_many : length tables ≡ length islands
-    pub begin : (k : ℕ) (i : Kept S D L B) (x : Vec IslandInput Global) (o : Vec OutputBoundary Global) → slice_get islands k ≡ Some i → slice_get ins k ≡ Some x → slice_get outs k ≡ Some o → BodyBegins i x.items o.items
+    pub begin : (k : ℕ) (i : Kept S D L B) (x : Vec IslandInput Global) (o : Vec OutputBoundary Global) → slice_get islands k ≡ Some i
+        → slice_get ins k ≡ Some x → slice_get outs k ≡ Some o → BodyBegins i x.items o.items
     pub few_ins : (k : ℕ) (x : Vec IslandInput Global) → slice_get ins k ≡ Some x → length x.items ≤ 4294967295
     pub few_outs : (k : ℕ) (o : Vec OutputBoundary Global) → slice_get outs k ≡ Some o → length o.items ≤ 4294967295
-    pub blank : (k : ℕ) (i : Kept S D L B) (t : Vec Way Global) → slice_get islands k ≡ Some i → slice_get tables k ≡ Some t → t.items ≡ replicate (length i.net.wires) Inner
+    pub blank : (k : ℕ) (i : Kept S D L B) (t : Vec Way Global) → slice_get islands k ≡ Some i → slice_get tables k ≡ Some t
+        → t.items ≡ replicate (length i.net.wires) Inner
     pub peers_many : length peers ≡ length islands
-    pub in_peers : (k : ℕ) (x : Vec IslandInput Global) (p : Peers) → slice_get ins k ≡ Some x → slice_get peers k ≡ Some p → length p.ins.items ≡ length x.items
-    pub out_peers : (k : ℕ) (o : Vec OutputBoundary Global) (p : Peers) → slice_get outs k ≡ Some o → slice_get peers k ≡ Some p → length p.outs.items ≡ length o.items
+    pub in_peers : (k : ℕ) (x : Vec IslandInput Global) (p : Peers) → slice_get ins k ≡ Some x → slice_get peers k ≡ Some p
+        → length p.ins.items ≡ length x.items
+    pub out_peers : (k : ℕ) (o : Vec OutputBoundary Global) (p : Peers) → slice_get outs k ≡ Some o → slice_get peers k ≡ Some p
+        → length p.outs.items ≡ length o.items
 
   module _ (sources : S → SourceState) (drains : D → DrainState) (book : Book) where
     -- The body of this island with the ends of these lanes: it keeps what bodies keep, its island went on from this one, its lanes
@@ -69,9 +74,11 @@ module _ {S D L B : Type 0} where
       pub unspent : b.spent ≡ 0
 
     -- the bodies of these islands, in their order
-    pub record AreAllBodies (islands : List (Kept S D L B)) (ins : List (Vec IslandInput Global)) (outs : List (Vec OutputBoundary Global)) (bodies : List (Body S D L B)) : Type 0 where
+    pub record AreAllBodies (islands : List (Kept S D L B)) (ins : List (Vec IslandInput Global)) (outs : List (Vec OutputBoundary Global))
+        (bodies : List (Body S D L B)) : Type 0 where
       pub many : length bodies ≡ length islands
-      pub each : (k : ℕ) (i : Kept S D L B) (x : Vec IslandInput Global) (o : Vec OutputBoundary Global) (b : Body S D L B) → slice_get islands k ≡ Some i → slice_get ins k ≡ Some x → slice_get outs k ≡ Some o → slice_get bodies k ≡ Some b → IsBodyOf i x.items o.items b
+      pub each : (k : ℕ) (i : Kept S D L B) (x : Vec IslandInput Global) (o : Vec OutputBoundary Global) (b : Body S D L B) → slice_get islands k ≡ Some i
+          → slice_get ins k ≡ Some x → slice_get outs k ≡ Some o → slice_get bodies k ≡ Some b → IsBodyOf i x.items o.items b
 
   -- what the island of a body leaves
   pub record IsEndOfBody (b : Body S D L B) (e : IslandEnd S D) : Type 0 where

@@ -17,8 +17,10 @@ pub record ArePaired (ins outs : List (Vec ℕ Global)) (peers : List Peers) : T
 -- lanes.
 pub record ArePeers (lanes : List LanePlan) (count : ℕ) (peers : List Peers) : Type 0 where
   pub many : length peers ≡ count
-  pub ins_are : (k : ℕ) (p : Peers) → slice_get peers k ≡ Some p → p.ins.items ≡ of_home (map (λ (l : LanePlan). l.to) lanes) k (map (λ (l : LanePlan). l.from) lanes)
-  pub outs_are : (k : ℕ) (p : Peers) → slice_get peers k ≡ Some p → p.outs.items ≡ of_home (map (λ (l : LanePlan). l.from) lanes) k (map (λ (l : LanePlan). l.to) lanes)
+  pub ins_are : (k : ℕ) (p : Peers) → slice_get peers k ≡ Some p → p.ins.items ≡ of_home (map (λ (l : LanePlan). l.to) lanes) k
+      (map (λ (l : LanePlan). l.from) lanes)
+  pub outs_are : (k : ℕ) (p : Peers) → slice_get peers k ≡ Some p → p.outs.items ≡ of_home (map (λ (l : LanePlan). l.from) lanes) k
+      (map (λ (l : LanePlan). l.to) lanes)
 
 -- each body has these
 pub record HavePeers {S D L B : Type 0} (peers : List Peers) (bodies : List (Body S D L B)) : Type 0 where

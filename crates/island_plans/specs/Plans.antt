@@ -41,7 +41,8 @@ pub record IsPlans {S D L B : Type 0} (p : Plans S D L B) : Type 0 where
   pub room_for_places : vec_len p.seats + length p.lanes.items + length p.lanes.items ≤ vec_capacity p.places
 
 -- the parts and the room of island k of these nodes, which have these homes, where these wires join them and these lanes are cut
-pub record IsIslandOf {S D L B : Type 0} (homes : List ℕ) (ws : List Edge) (lanes : List LanePlan) (nodes : List (Seated S D L B)) (k : ℕ) (x : Parts S D L B × IslandRoom S D L B) : Type 0 where
+pub record IsIslandOf {S D L B : Type 0} (homes : List ℕ) (ws : List Edge) (lanes : List LanePlan) (nodes : List (Seated S D L B)) (k : ℕ)
+    (x : Parts S D L B × IslandRoom S D L B) : Type 0 where
   pub nodes_are : x.0.nodes.items ≡ of_home (whole_homes homes lanes) k (whole_seats nodes lanes)
   pub links_are : x.0.links.items ≡ own_links (whole_homes homes lanes) (whole_links (length nodes) ws) k
   pub parts : AreParts x.0.nodes.items x.0.links.items
@@ -61,4 +62,5 @@ pub record IsFilled {S D L B : Type 0} (b : Blueprint) (sources : List S) (drain
   pub board_is : IsBoard (map (λ (n : Node). n.kind) b.nodes.items) f.board
   pub at_switches : AreAtSwitches (map (λ (n : Node). n.kind) b.nodes.items) f.board (map place_seat nodes)
   pub many : length f.islands.items ≡ f.count
-  pub each : (k : ℕ) (x : Parts S D L B × IslandRoom S D L B) → slice_get f.islands.items k ≡ Some x → IsIslandOf f.homes.items (blueprint_wires b) f.lanes.items nodes k x
+  pub each : (k : ℕ) (x : Parts S D L B × IslandRoom S D L B) → slice_get f.islands.items k ≡ Some x
+      → IsIslandOf f.homes.items (blueprint_wires b) f.lanes.items nodes k x

@@ -39,7 +39,8 @@ fn asked_at<S: Source, D: Drain, L: Logic, B: PlugBook>(
     crossing: &Crossing,
 ) -> u64
     requires { LiesThere bodies.now crossing.now }
-    ensures { (b : island.Body S D L B) (x : inputs.IslandInput) → slice_get bodies.now crossing.now.to ≡ Some b → slice_get b.ins.items crossing.now.inp ≡ Some x → result ≡ asked_in_all x.boundary.lane }
+    ensures { (b : island.Body S D L B) (x : inputs.IslandInput) → slice_get bodies.now crossing.now.to ≡ Some b
+        → slice_get b.ins.items crossing.now.inp ≡ Some x → result ≡ asked_in_all x.boundary.lane }
 {
     bodies[crossing.to as usize].asked(crossing.inp as usize)
 }

@@ -28,7 +28,8 @@ use Rattle.stream_model.specs.Linear.{Book}
 
 -- A moment of the run of a blueprint between two events, by its account: in the order of the blueprint the nodes were handed in as
 -- what stands at these places, over these sources and these drains, and are these now.
-pub record Moment {S D L B : Type 0} (sources : S → SourceState) (drains : D → DrainState) (book : Book) (b : Blueprint) (ss : List S) (ds : List D) (account : Account (IslandNode S D L B)) (nodes : List (IslandNode S D L B)) : Type 0 where
+pub record Moment {S D L B : Type 0} (sources : S → SourceState) (drains : D → DrainState) (book : Book) (b : Blueprint) (ss : List S) (ds : List D)
+    (account : Account (IslandNode S D L B)) (nodes : List (IslandNode S D L B)) : Type 0 where
   pub places : List (Seated S D L B)
   pub seats : AreSeats (chains_of b) 0 b.nodes.items ss ds places
   pub firsts : List (IslandNode S D L B)
@@ -42,7 +43,8 @@ pub record Moment {S D L B : Type 0} (sources : S → SourceState) (drains : D �
 -- seats of its valves and trips were settled.
 -- At least so many were used as elements were pushed and were taken off lanes, and one less at least for each wire than its part of the count over what was
 -- sent.
-pub record RunLeaves {S D : Type 0} (L B : Type 0) (sources : S → SourceState) (drains : D → DrainState) (book : Book) (b : Blueprint) (ss : List S) (ds : List D) (budget : ℕ) (s : Stopped S D) : Type 0 where
+pub record RunLeaves {S D : Type 0} (L B : Type 0) (sources : S → SourceState) (drains : D → DrainState) (book : Book) (b : Blueprint) (ss : List S)
+    (ds : List D) (budget : ℕ) (s : Stopped S D) : Type 0 where
   pub account : Account (IslandNode S D L B)
   pub nodes : List (IslandNode S D L B)
   pub moment : Moment sources drains book b ss ds account nodes
@@ -60,7 +62,8 @@ pub record RunLeaves {S D : Type 0} (L B : Type 0) (sources : S → SourceState)
 
 -- The run is one in which memory was wanting, and was taken apart. Since a last moment between two events each of its nodes has kept
 -- what outlives that.
-pub record LeavesBroken {S D : Type 0} (L B : Type 0) (sources : S → SourceState) (drains : D → DrainState) (book : Book) (b : Blueprint) (ss : List S) (ds : List D) (e : IslandEnd S D) : Type 0 where
+pub record LeavesBroken {S D : Type 0} (L B : Type 0) (sources : S → SourceState) (drains : D → DrainState) (book : Book) (b : Blueprint) (ss : List S)
+    (ds : List D) (e : IslandEnd S D) : Type 0 where
   pub account : Account (IslandNode S D L B)
   pub last : List (IslandNode S D L B)
   pub moment : Moment sources drains book b ss ds account last

@@ -19,7 +19,8 @@ pub record ArePartsOf {S D L B : Type 0} (homes : List ℕ) (ws : List Edge) (no
   pub nodes_are : x.nodes.items ≡ seats_in homes ws nodes k
   pub links_are : x.links.items ≡ links_in homes ws nodes k
 
-module _ {S D L B : Type 0} (sources : S → SourceState) (drains : D → DrainState) (book : Book) (homes : List ℕ) (ws : List Edge) (nodes : List (Seated S D L B)) where
+module _ {S D L B : Type 0} (sources : S → SourceState) (drains : D → DrainState) (book : Book) (homes : List ℕ) (ws : List Edge)
+    (nodes : List (Seated S D L B)) where
   -- Island k had started, and this body was made of it and of those ends of lanes that are its own.
   pub record IsMadeOf (e : AllEnds) (k : ℕ) (b : Body S D L B) : Type 0 where
     pub parts : Parts S D L B

@@ -18,7 +18,8 @@ use Rattle.bodies_run.specs.Counts.{told_from}
 
 -- the nodes of the blueprint and the ends of its lanes, with the numbers of what was handed in for them, and its wires, which stand so at
 -- their outputs
-abbrev pub whole_of : {S D L B : Type 0} → List ℕ → List Edge → List (Seated S D L B) → (ℕ → WireState) → List (IslandNode S D L B) → List (IslandNode S D L B) → Whole S D L B
+abbrev pub whole_of : {S D L B : Type 0} → List ℕ → List Edge → List (Seated S D L B) → (ℕ → WireState) → List (IslandNode S D L B) → List (IslandNode S D L B)
+    → Whole S D L B
 whole_of homes ws nodes near last ends = record {
   homes = place_homes homes ws;
   nodes = last ++ ends;

@@ -98,7 +98,8 @@ fn begin<S: Source, D: Drain, L: Logic, B: PlugBook>(
     requires sources { vec_len sources ≡ length (inputs_of_nodes prepared.plans.blueprint.value.nodes.items) }
     requires drains { vec_len drains ≡ length (outputs_of_nodes prepared.plans.blueprint.value.nodes.items) }
     requires unread { All (λ s. (S.state s).given ≡ 0) sources.items }
-    ensures begun { IfOk result (λ begun. HaveBegun S.state D.state B.lists prepared.plans.blueprint.value sources.items drains.items begun.bodies.items begun.crossings.items begun.remains) }
+    ensures begun { IfOk result
+        (λ begun. HaveBegun S.state D.state B.lists prepared.plans.blueprint.value sources.items drains.items begun.bodies.items begun.crossings.items begun.remains) }
     ensures unmade { IfErr result (HasHandles S.state D.state sources.items drains.items) }
 {
     filled_islands_are_seated::<S, D, L, B>();
@@ -167,8 +168,11 @@ fn stop<S: Source, D: Drain, L: Logic, B: PlugBook>(
     at_rest: bool,
     ran: Ran,
 ) -> Stopped<S, D>
-    requires { (b : plan.Blueprint) × ((ss : List S) × ((ds : List D) × ((begun : List (island.Body S D L B)) × ((budget : ℕ) × HaveRun S.state D.state B.lists b ss ds begun bodies.items crossings.now remains budget used at_rest)))) }
-    ensures leaves { (b : plan.Blueprint) (ss : List S) (ds : List D) (begun : List (island.Body S D L B)) (budget : ℕ) → HaveRun S.state D.state B.lists b ss ds begun bodies.items crossings.now remains budget used at_rest → RunLeaves L B S.state D.state B.lists b ss ds budget result }
+    requires { (b : plan.Blueprint) × ((ss : List S) × ((ds : List D) × ((begun : List (island.Body S D L B))
+        × ((budget : ℕ) × HaveRun S.state D.state B.lists b ss ds begun bodies.items crossings.now remains budget used at_rest)))) }
+    ensures leaves { (b : plan.Blueprint) (ss : List S) (ds : List D) (begun : List (island.Body S D L B)) (budget : ℕ)
+        → HaveRun S.state D.state B.lists b ss ds begun bodies.items crossings.now remains budget used at_rest
+        → RunLeaves L B S.state D.state B.lists b ss ds budget result }
     ensures same { (result.used ≡ used) × (result.at_rest ≡ at_rest) × (result.ran ≡ ran) }
 {
     ends_stay_at_their_crossings::<S, D, L, B>();
@@ -224,8 +228,10 @@ fn give_up<S: Source, D: Drain, L: Logic, B: PlugBook>(
     crossings: &[Crossing],
     remains: Remains<S, D>,
 ) -> IslandEnd<S, D>
-    requires { (b : plan.Blueprint) × ((ss : List S) × ((ds : List D) × ((begun : List (island.Body S D L B)) × HaveBroken S.state D.state B.lists b ss ds begun bodies.items crossings.now remains))) }
-    ensures { (b : plan.Blueprint) (ss : List S) (ds : List D) (begun : List (island.Body S D L B)) → HaveBroken S.state D.state B.lists b ss ds begun bodies.items crossings.now remains → LeavesBroken L B S.state D.state B.lists b ss ds result }
+    requires { (b : plan.Blueprint) × ((ss : List S) × ((ds : List D) × ((begun : List (island.Body S D L B))
+        × HaveBroken S.state D.state B.lists b ss ds begun bodies.items crossings.now remains))) }
+    ensures { (b : plan.Blueprint) (ss : List S) (ds : List D) (begun : List (island.Body S D L B))
+        → HaveBroken S.state D.state B.lists b ss ds begun bodies.items crossings.now remains → LeavesBroken L B S.state D.state B.lists b ss ds result }
 {
     ends_stay_at_their_crossings::<S, D, L, B>();
     broken_bodies_cover::<S, D, L, B>();
@@ -262,10 +268,17 @@ fn run_bodies<
 ) -> Result<Stopped<S, D>, IslandEnd<S, D>>
     requires workers { (0 < workers) × (workers ≤ 64) }
     requires budget { budget ≤ MOST_COUNT }
-    requires begun { (b : plan.Blueprint) × ((ss : List S) × ((ds : List D) × HaveBegun S.state D.state B.lists b ss ds begun.bodies.items begun.crossings.items begun.remains)) }
-    ensures leaves { (b : plan.Blueprint) (ss : List S) (ds : List D) → HaveBegun S.state D.state B.lists b ss ds begun.bodies.items begun.crossings.items begun.remains → IfOk result (λ stopped. RunLeaves L B S.state D.state B.lists b ss ds budget stopped) }
-    ensures receipt { (b : plan.Blueprint) (ss : List S) (ds : List D) → HaveBegun S.state D.state B.lists b ss ds begun.bodies.items begun.crossings.items begun.remains → IfOk result (λ stopped. IsReceipt b workers stopped.used stopped.at_rest stopped.ran) }
-    ensures breaks { (b : plan.Blueprint) (ss : List S) (ds : List D) → HaveBegun S.state D.state B.lists b ss ds begun.bodies.items begun.crossings.items begun.remains → IfErr result (LeavesBroken L B S.state D.state B.lists b ss ds) }
+    requires begun { (b : plan.Blueprint)
+        × ((ss : List S) × ((ds : List D) × HaveBegun S.state D.state B.lists b ss ds begun.bodies.items begun.crossings.items begun.remains)) }
+    ensures leaves { (b : plan.Blueprint) (ss : List S) (ds : List D)
+        → HaveBegun S.state D.state B.lists b ss ds begun.bodies.items begun.crossings.items begun.remains
+        → IfOk result (λ stopped. RunLeaves L B S.state D.state B.lists b ss ds budget stopped) }
+    ensures receipt { (b : plan.Blueprint) (ss : List S) (ds : List D)
+        → HaveBegun S.state D.state B.lists b ss ds begun.bodies.items begun.crossings.items begun.remains
+        → IfOk result (λ stopped. IsReceipt b workers stopped.used stopped.at_rest stopped.ran) }
+    ensures breaks { (b : plan.Blueprint) (ss : List S) (ds : List D)
+        → HaveBegun S.state D.state B.lists b ss ds begun.bodies.items begun.crossings.items begun.remains
+        → IfErr result (LeavesBroken L B S.state D.state B.lists b ss ds) }
 {
     let Begun {
         bodies,

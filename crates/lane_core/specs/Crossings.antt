@@ -20,7 +20,8 @@ JoinedAt joined bodies c w = (a b : _) → slice_get bodies c.from ≡ Some a �
 
 -- this meeting brought the ends of a lane together
 abbrev pub MeetsAt : {B : Type 0} → (B → ℕ → B → ℕ → B → B → Waits → Type 0) → List B → Crossing → List B → Waits → Type 0
-MeetsAt met old c new w = (a b d e : _) → slice_get old c.from ≡ Some a → slice_get old c.to ≡ Some b → slice_get new c.from ≡ Some d → slice_get new c.to ≡ Some e → met a c.out b c.inp d e w
+MeetsAt met old c new w = (a b d e : _) → slice_get old c.from ≡ Some a → slice_get old c.to ≡ Some b → slice_get new c.from ≡ Some d
+    → slice_get new c.to ≡ Some e → met a c.out b c.inp d e w
 
 -- the two ends of each of these lanes were brought together, and what waits there
 abbrev pub AllJoined : {B : Type 0} → (B → ℕ → B → ℕ → Waits → Type 0) → List B → List Crossing → Type 0
@@ -29,7 +30,8 @@ AllJoined joined bodies lanes = (n : ℕ) (c : Crossing) → slice_get lanes n �
 -- the ends of the first `count` lanes were brought together, and nothing waits there for a body before the one at `first`
 abbrev pub LanesFrom : {B : Type 0} → (B → ℕ → B → ℕ → Waits → Type 0) → List B → List Crossing → ℕ → ℕ → Type 0
 LanesFrom joined bodies lanes count first =
-    (n : ℕ) (c : Crossing) → n < count → slice_get lanes n ≡ Some c → (w : Waits) × (JoinedAt joined bodies c w) × (IsTrue w.item → first ≤ c.to) × (IsTrue w.demand → first ≤ c.from)
+    (n : ℕ) (c : Crossing) → n < count → slice_get lanes n ≡ Some c → (w : Waits) × (JoinedAt joined bodies c w) × (IsTrue w.item → first ≤ c.to)
+    × (IsTrue w.demand → first ≤ c.from)
 
 -- An item waits for the body at k at a lane that it takes from, or demand at one that it sends on.
 pub record LaneEvent {B : Type 0} (joined : B → ℕ → B → ℕ → Waits → Type 0) (bodies : List B) (lanes : List Crossing) (k : ℕ) : Type 0 where
@@ -46,7 +48,8 @@ RingEvent pending bodies k = (b : _) → slice_get bodies k ≡ Some b → pendi
 
 -- the ends of the first `count` lanes were brought together, and nothing waits there
 abbrev pub QuietBelow : {B : Type 0} → (B → ℕ → B → ℕ → Waits → Type 0) → List B → List Crossing → ℕ → Type 0
-QuietBelow joined bodies lanes count = (n : ℕ) (c : Crossing) → n < count → slice_get lanes n ≡ Some c → (w : Waits) × (JoinedAt joined bodies c w) × (w.item ≡ false) × (w.demand ≡ false)
+QuietBelow joined bodies lanes count = (n : ℕ) (c : Crossing) → n < count → slice_get lanes n ≡ Some c
+    → (w : Waits) × (JoinedAt joined bodies c w) × (w.item ≡ false) × (w.demand ≡ false)
 
 -- No body has an event: none is pending in a ring, and nothing waits at a lane.
 pub record AtRest {B : Type 0} (pending : B → Bool) (joined : B → ℕ → B → ℕ → Waits → Type 0) (bodies : List B) (lanes : List Crossing) : Type 0 where
@@ -54,7 +57,8 @@ pub record AtRest {B : Type 0} (pending : B → Bool) (joined : B → ℕ → B 
   pub nothing_waits : (n : ℕ) (c : Crossing) → slice_get lanes n ≡ Some c → (w : Waits) × (JoinedAt joined bodies c w) × (w.item ≡ false) × (w.demand ≡ false)
 
 -- The body at k has an event, and no body before it has one.
-pub record FirstEvent {B : Type 0} (pending : B → Bool) (joined : B → ℕ → B → ℕ → Waits → Type 0) (bodies : List B) (lanes : List Crossing) (k : ℕ) : Type 0 where
+pub record FirstEvent {B : Type 0} (pending : B → Bool) (joined : B → ℕ → B → ℕ → Waits → Type 0) (bodies : List B) (lanes : List Crossing) (k : ℕ)
+    : Type 0 where
   pub there : k < length bodies
   pub event : (RingEvent pending bodies k) ⊎ (LaneEvent joined bodies lanes k)
   pub no_ring : (j : ℕ) (b : B) → slice_get bodies j ≡ Some b → pending b ≡ true → k ≤ j

@@ -129,4 +129,5 @@ pub record IsLaneHistory (o : LaneOut) (i : LaneIn) : Type 0 where
 -- what one end did that the other has not seen: an item was sent that was not taken; more was asked, or the lane was cancelled, than was
 -- seen
 abbrev pub WaitsAre : LaneOut → LaneIn → Waits → Type 0
-WaitsAre o i w = (IsTrue w.item ↔ (length (taken_items i) < length (sent o))) × (IsTrue w.demand ↔ ((seen_count o < asked_in_all i) ⊎ (saw_cancel o < has_cancelled i)))
+WaitsAre o i w = (IsTrue w.item ↔ (length (taken_items i) < length (sent o))) × (IsTrue w.demand
+    ↔ ((seen_count o < asked_in_all i) ⊎ (saw_cancel o < has_cancelled i)))

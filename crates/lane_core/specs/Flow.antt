@@ -38,7 +38,8 @@ cancelled_by Cancelled = 1
 -- Of a lane of s places all that was taken is, in this order: the elements that were handed on, those that were dropped, those that
 -- wait, and the end, if one was taken. A failure drops what waits, which is never more than s elements; so does a cancel; nothing
 -- else is dropped. The end waits behind the elements until it is handed on.
-pub record Flow (s : ℕ) (taken gave lost : List Item) (waits : List Tree) (end : List Item) (pending : Option Item) (over : Bool) (state : State) (cancelled : ℕ) : Type 0 where
+pub record Flow (s : ℕ) (taken gave lost : List Item) (waits : List Tree) (end : List Item) (pending : Option Item) (over : Bool) (state : State)
+    (cancelled : ℕ) : Type 0 where
   pub taken_is : taken ≡ gave ++ (lost ++ (told waits unended ++ end))
   pub gave_elements : elements gave ≡ length gave
   pub lost_elements : elements lost ≡ length lost

@@ -76,8 +76,10 @@ pub record SightFits (c : LaneCore) (j : ℕ) (v : Sight) : Type 0 where
   pub told_finds : v.told_finds ≤ c.asks + c.cancel
   pub closed : v.cancel ≡ 1 → v.number ≡ c.asked
   pub told_closed : v.told_cancel ≡ 1 → v.told_number ≡ c.asked
-  pub sends : v.sends ≡ true → (j ≡ c.sender) × (v.items ≡ c.sent) × (v.slots ≡ c.held) × (v.finds + is_new v.number v.cancel c.asked c.cancel ≤ c.asks + c.cancel) × (elements v.items ≤ v.number)
-  pub gets : v.gets ≡ true → (j ≡ c.receiver) × (v.items ≡ c.taken ++ c.hand) × (v.slots ≡ length c.hand) × (v.number ≡ c.asked) × (v.cancel ≡ c.cancel) × (v.asks ≡ c.asks)
+  pub sends : v.sends ≡ true → (j ≡ c.sender) × (v.items ≡ c.sent) × (v.slots ≡ c.held)
+      × (v.finds + is_new v.number v.cancel c.asked c.cancel ≤ c.asks + c.cancel) × (elements v.items ≤ v.number)
+  pub gets : v.gets ≡ true → (j ≡ c.receiver) × (v.items ≡ c.taken ++ c.hand) × (v.slots ≡ length c.hand) × (v.number ≡ c.asked) × (v.cancel ≡ c.cancel)
+      × (v.asks ≡ c.asks)
 
 -- the rule of a lane of that size: there is such a core behind its words, places and seats
 pub record IsLaneState (size : ℕ) (s : State (Option Item) Sight) : Type 0 where
@@ -90,11 +92,41 @@ pub record IsLaneState (size : ℕ) (s : State (Option Item) Sight) : Type 0 whe
 
 -- the view of the seat with which the table is made
 abbrev pub both_ends : Sight
-both_ends = record { sends = true; gets = true; items = []; number = 0; cancel = 0; asks = 0; finds = 0; looks = 0; slots = 0; known = 0; told = []; told_number = 0; told_cancel = 0; told_finds = 0 }
+both_ends = record {
+  sends = true;
+  gets = true;
+  items = [];
+  number = 0;
+  cancel = 0;
+  asks = 0;
+  finds = 0;
+  looks = 0;
+  slots = 0;
+  known = 0;
+  told = [];
+  told_number = 0;
+  told_cancel = 0;
+  told_finds = 0;
+}
 
 -- the view of a seat that was joined into another
 abbrev pub nobody : Sight
-nobody = record { sends = false; gets = false; items = []; number = 0; cancel = 0; asks = 0; finds = 0; looks = 0; slots = 0; known = 0; told = []; told_number = 0; told_cancel = 0; told_finds = 0 }
+nobody = record {
+  sends = false;
+  gets = false;
+  items = [];
+  number = 0;
+  cancel = 0;
+  asks = 0;
+  finds = 0;
+  looks = 0;
+  slots = 0;
+  known = 0;
+  told = [];
+  told_number = 0;
+  told_cancel = 0;
+  told_finds = 0;
+}
 
 -- the view of the input end, into which that of the first seat is cut
 abbrev pub input_sight : Sight → Sight
@@ -106,7 +138,22 @@ output_end v = record v { gets = false }
 
 -- what one end tells the other
 abbrev pub note : Sight → Sight
-note v = record { sends = false; gets = false; items = v.items; number = v.number; cancel = v.cancel; asks = v.asks; finds = v.finds; looks = 0; slots = 0; known = v.known; told = []; told_number = 0; told_cancel = 0; told_finds = 0 }
+note v = record {
+  sends = false;
+  gets = false;
+  items = v.items;
+  number = v.number;
+  cancel = v.cancel;
+  asks = v.asks;
+  finds = v.finds;
+  looks = 0;
+  slots = 0;
+  known = v.known;
+  told = [];
+  told_number = 0;
+  told_cancel = 0;
+  told_finds = 0;
+}
 
 -- a view with what a note told
 abbrev pub informed : Sight → Sight → Sight
@@ -142,14 +189,20 @@ saw_asked st m r n =
 
 -- it counts the item in hand as sent, lets its place go, and takes the next place where the item was no end
 abbrev pub sent_one : TableStep → SeatView → ℕ → SeatView → Type 0
-sent_one st m r n = n ≡ (record m.0 { items = m.0.items ++ in_hand m.1; slots = elements (in_hand m.1) }, empty_hand (elements (in_hand m.1)) ((length m.0.items + 1) % st.slots))
+sent_one st m r n = n ≡ (
+  record m.0 { items = m.0.items ++ in_hand m.1; slots = elements (in_hand m.1) },
+  empty_hand (elements (in_hand m.1)) ((length m.0.items + 1) % st.slots),
+)
 
 -- the input end looks how many were sent, which are no fewer than it was told, lets the place of the item that it took last go, and takes the next item if there is one
 abbrev pub saw_sent : TableStep → SeatView → ℕ → SeatView → Type 0
 saw_sent st m r n =
     (length m.0.told ≤ r)
     × (((r ≡ length m.0.items) × (n ≡ (record m.0 { looks = m.0.looks + 1; slots = 0; known = r }, [])))
-    ⊎ ((length m.0.items < r) × (((x : Item) × (n ≡ (record m.0 { items = m.0.items ++ x ∷ []; looks = m.0.looks + 1; slots = 1; known = r }, (length m.0.items % st.slots, Some x) ∷ []))) × (elements n.0.items ≤ m.0.number))))
+    ⊎ ((length m.0.items < r) × (((x : Item) × (n ≡ (
+      record m.0 { items = m.0.items ++ x ∷ []; looks = m.0.looks + 1; slots = 1; known = r },
+      (length m.0.items % st.slots, Some x) ∷ [],
+    ))) × (elements n.0.items ≤ m.0.number))))
 
 -- the input end asks once for more
 abbrev pub asked_more : TableStep → SeatView → ℕ → SeatView → Type 0
@@ -164,7 +217,8 @@ abbrev pub compared : TableStep → SeatView → ℕ → SeatView → Type 0
 compared st m r n =
     (n ≡ m)
     × (m.0.sends ≡ true → IsPrefix m.0.told m.0.items)
-    × (m.0.gets ≡ true → (m.0.told_number ≤ m.0.number) × (m.0.told_cancel ≤ m.0.cancel) × (m.0.told_finds ≤ m.0.asks + m.0.cancel) × (m.0.told_cancel ≡ 1 → m.0.told_number ≡ m.0.number))
+    × (m.0.gets ≡ true → (m.0.told_number ≤ m.0.number) × (m.0.told_cancel ≤ m.0.cancel) × (m.0.told_finds ≤ m.0.asks + m.0.cancel)
+    × (m.0.told_cancel ≡ 1 → m.0.told_number ≡ m.0.number))
 
 -- the seat after an item was sent
 abbrev pub HasSent : ℕ → SeatView → Item → SeatView → Type 0
@@ -172,7 +226,11 @@ HasSent size m x n = n ≡ (record m.0 { items = m.0.items ++ x ∷ []; slots = 
 
 -- the seat after an item was taken
 abbrev pub HasTaken : ℕ → SeatView → Item → ℕ → SeatView → Type 0
-HasTaken size m x r n = n ≡ (record m.0 { items = m.0.items ++ x ∷ []; looks = m.0.looks + 1; slots = 1; known = r }, (length m.0.items % (size + 1), None) ∷ [])
+HasTaken size m x r n = n ≡ (
+  record m.0 { items = m.0.items ++ x ∷ []; looks = m.0.looks + 1; slots = 1; known = r },
+  (length m.0.items % (size + 1), None)
+      ∷ [],
+)
 
 -- the seat after a look that found nothing
 abbrev pub HasFound : SeatView → SeatView → Type 0

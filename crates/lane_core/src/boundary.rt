@@ -100,11 +100,15 @@ impl InputBoundary {
     /// Takes the next item off the lane, where one was sent and no end was taken; false comes exactly where none was. An element waits,
     /// and an end behind it; a failure drops what waits. What comes behind a cancel is dropped. It takes no memory.
     pub fn look(&mut self) -> bool
-        ensures lane { IsSameIn self.old.lane self.new.lane × (asked_in_all self.new.lane ≡ asked_in_all self.old.lane) × (ask_calls self.new.lane ≡ ask_calls self.old.lane) × (has_cancelled self.new.lane ≡ has_cancelled self.old.lane) }
+        ensures lane { IsSameIn self.old.lane self.new.lane × (asked_in_all self.new.lane ≡ asked_in_all self.old.lane)
+            × (ask_calls self.new.lane ≡ ask_calls self.old.lane) × (has_cancelled self.new.lane ≡ has_cancelled self.old.lane) }
         ensures given { (given self.new ≡ given self.old) × (state self.new ≡ state self.old) }
-        ensures took { result ≡ true → (is_over self.old ≡ false) × ((x : Item) × ((taken_items self.new.lane ≡ taken_items self.old.lane ++ x ∷ []) × (is_over self.new ≡ ends x))) }
+        ensures took { result ≡ true → (is_over self.old ≡ false) × ((x : Item) × ((taken_items self.new.lane ≡ taken_items self.old.lane ++ x ∷ [])
+            × (is_over self.new ≡ ends x))) }
         ensures still { result ≡ false → waits self.new ≡ waits self.old }
-        ensures none { result ≡ false → (taken_items self.new.lane ≡ taken_items self.old.lane) × ((is_over self.old ≡ true) ⊎ ((found_sent self.new.lane ≡ length (taken_items self.new.lane)) × (told_sent self.old.lane ≤ found_sent self.new.lane))) }
+        ensures none { result ≡ false → (taken_items self.new.lane ≡ taken_items self.old.lane)
+            × ((is_over self.old ≡ true) ⊎ ((found_sent self.new.lane ≡ length (taken_items self.new.lane))
+            × (told_sent self.old.lane ≤ found_sent self.new.lane))) }
         ensures over { result ≡ false → is_over self.new ≡ is_over self.old }
         ensures told { told_sent self.new.lane ≡ told_sent self.old.lane }
     {
@@ -137,13 +141,16 @@ impl InputBoundary {
     /// Where half of the places were handed on, the lane is asked for as many. It takes no memory.
     pub fn next(&mut self, asked: bool) -> Option<Passed>
         requires few { asked ≡ true → elements (given self.old) < MOST_COUNT }
-        ensures lane { IsSameIn self.old.lane self.new.lane × (taken_items self.new.lane ≡ taken_items self.old.lane) × (has_cancelled self.new.lane ≡ has_cancelled self.old.lane) }
+        ensures lane { IsSameIn self.old.lane self.new.lane × (taken_items self.new.lane ≡ taken_items self.old.lane)
+            × (has_cancelled self.new.lane ≡ has_cancelled self.old.lane) }
         ensures some { IfSome result (λ r. given self.new ≡ given self.old ++ r.item ∷ []) }
         ensures ends { IfSome result (λ r. state self.new ≡ cond (ends r.item) Closed Flowing) }
         ensures wanted { IfSome result (λ r. ends r.item ≡ false → asked ≡ true) }
         ensures asks { IfSome result (λ r. ask_calls self.new.lane ≡ ask_calls self.old.lane + cond r.asks 1 0) }
-        ensures known { (found_sent self.new.lane ≡ found_sent self.old.lane) × (told_sent self.new.lane ≡ told_sent self.old.lane) × (is_over self.new ≡ is_over self.old) }
-        ensures none { IfNone result ((self.new ≡ self.old) × (state self.old ≡ Flowing → (asked ≡ true) ⊎ (waits self.old ≡ []) → taken_items self.old.lane ≡ given self.old)) }
+        ensures known { (found_sent self.new.lane ≡ found_sent self.old.lane) × (told_sent self.new.lane ≡ told_sent self.old.lane)
+            × (is_over self.new ≡ is_over self.old) }
+        ensures none { IfNone result ((self.new ≡ self.old) × (state self.old ≡ Flowing → (asked ≡ true) ⊎ (waits self.old ≡ [])
+            → taken_items self.old.lane ≡ given self.old)) }
     {
         if self.buffer.is_empty() {
             return self.next_end();
@@ -162,7 +169,8 @@ impl InputBoundary {
         requires none { waits self.old ≡ [] }
         ensures lane { self.new.lane ≡ self.old.lane }
         ensures over { is_over self.new ≡ is_over self.old }
-        ensures some { IfSome result (λ r. (given self.new ≡ given self.old ++ r.item ∷ []) × (ends r.item ≡ true) × (r.asks ≡ false) × (state self.new ≡ Closed)) }
+        ensures some { IfSome result (λ r. (given self.new ≡ given self.old ++ r.item ∷ []) × (ends r.item ≡ true) × (r.asks ≡ false)
+            × (state self.new ≡ Closed)) }
         ensures none { IfNone result ((self.new ≡ self.old) × (state self.old ≡ Flowing → taken_items self.old.lane ≡ given self.old)) }
     {
         let item = self.pending.take()?;
@@ -173,9 +181,12 @@ impl InputBoundary {
     /// Nothing more is wanted: the lane is cancelled, and what waits is dropped. It takes no memory.
     pub fn cancel(&mut self)
         requires flowing { state self.old ≡ Flowing }
-        ensures lane { IsSameIn self.old.lane self.new.lane × (taken_items self.new.lane ≡ taken_items self.old.lane) × (asked_in_all self.new.lane ≡ asked_in_all self.old.lane) × (ask_calls self.new.lane ≡ ask_calls self.old.lane) × (has_cancelled self.new.lane ≡ 1) }
+        ensures lane { IsSameIn self.old.lane self.new.lane × (taken_items self.new.lane ≡ taken_items self.old.lane)
+            × (asked_in_all self.new.lane ≡ asked_in_all self.old.lane) × (ask_calls self.new.lane ≡ ask_calls self.old.lane)
+            × (has_cancelled self.new.lane ≡ 1) }
         ensures given { (given self.new ≡ given self.old) × (state self.new ≡ Cancelled) × (waits self.new ≡ []) }
-        ensures known { (found_sent self.new.lane ≡ found_sent self.old.lane) × (told_sent self.new.lane ≡ told_sent self.old.lane) × (is_over self.new ≡ is_over self.old) }
+        ensures known { (found_sent self.new.lane ≡ found_sent self.old.lane) × (told_sent self.new.lane ≡ told_sent self.old.lane)
+            × (is_over self.new ≡ is_over self.old) }
     {
         self.lane.cancel();
         self.state = State::Cancelled;
@@ -189,7 +200,8 @@ impl InputBoundary {
         requires { AreOneLane out.old self.old.lane }
         ensures out { KeepsOut out.old out.new }
         ensures lane { KeepsIn self.old.lane self.new.lane }
-        ensures given { (given self.new ≡ given self.old) × (waits self.new ≡ waits self.old) × (is_over self.new ≡ is_over self.old) × (state self.new ≡ state self.old) }
+        ensures given { (given self.new ≡ given self.old) × (waits self.new ≡ waits self.old) × (is_over self.new ≡ is_over self.old)
+            × (state self.new ≡ state self.old) }
         ensures ok { IsOk result }
         ensures learnt { learnt out.new ≡ asked_in_all self.new.lane }
         ensures told { AreTold out.new self.new.lane }
@@ -208,10 +220,13 @@ impl InputBoundary {
 // One element more was handed on. Where that makes half of the places, the lane is asked for as many.
 fn refill(lane: &mut LaneIn, passed: &mut u64, half: u64) -> bool
     requires less { passed.old < half }
-    requires asks { passed.old + 1 ≡ half → (asked_in_all lane.old + half ≤ elements (taken_items lane.old) + in_size lane.old) × (asked_in_all lane.old + half < 2 ^ 62) × (has_cancelled lane.old ≡ 0) }
+    requires asks { passed.old + 1 ≡ half → (asked_in_all lane.old + half ≤ elements (taken_items lane.old) + in_size lane.old)
+        × (asked_in_all lane.old + half < 2 ^ 62) × (has_cancelled lane.old ≡ 0) }
     ensures lane { IsSameIn lane.old lane.new × (taken_items lane.new ≡ taken_items lane.old) × (has_cancelled lane.new ≡ has_cancelled lane.old) }
-    ensures asked { result ≡ true → (passed.old + 1 ≡ half) × (passed.new ≡ 0) × (asked_in_all lane.new ≡ asked_in_all lane.old + half) × (ask_calls lane.new ≡ ask_calls lane.old + 1) }
-    ensures less { result ≡ false → (passed.new ≡ passed.old + 1) × (passed.new < half) × (asked_in_all lane.new ≡ asked_in_all lane.old) × (ask_calls lane.new ≡ ask_calls lane.old) }
+    ensures asked { result ≡ true → (passed.old + 1 ≡ half) × (passed.new ≡ 0) × (asked_in_all lane.new ≡ asked_in_all lane.old + half)
+        × (ask_calls lane.new ≡ ask_calls lane.old + 1) }
+    ensures less { result ≡ false → (passed.new ≡ passed.old + 1) × (passed.new < half) × (asked_in_all lane.new ≡ asked_in_all lane.old)
+        × (ask_calls lane.new ≡ ask_calls lane.old) }
     ensures known { (found_sent lane.new ≡ found_sent lane.old) × (told_sent lane.new ≡ told_sent lane.old) }
 {
     *passed += 1;

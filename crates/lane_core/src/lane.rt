@@ -16,7 +16,9 @@ use std::sync::Arc;
 /// no other call on an end takes memory or waits.
 pub fn lane(alloc: Global, size: u32) -> Result<(LaneOut, LaneIn), AllocError>
     requires { (1 ≤ size) × (size ≤ 1024) }
-    ensures { IfOk result (λ r. AreOneLane r.0 r.1 × (out_size r.0 ≡ size) × (in_size r.1 ≡ size) × (sent r.0 ≡ []) × (has_ended r.0 ≡ false) × (seen_count r.0 ≡ 0) × (saw_cancel r.0 ≡ 0) × (finds r.0 ≡ 0) × (taken_items r.1 ≡ []) × (asked_in_all r.1 ≡ 0) × (ask_calls r.1 ≡ 0) × (has_cancelled r.1 ≡ 0)) }
+    ensures { IfOk result (λ r. AreOneLane r.0 r.1 × (out_size r.0 ≡ size) × (in_size r.1 ≡ size) × (sent r.0 ≡ []) × (has_ended r.0 ≡ false)
+        × (seen_count r.0 ≡ 0) × (saw_cancel r.0 ≡ 0) × (finds r.0 ≡ 0) × (taken_items r.1 ≡ []) × (asked_in_all r.1 ≡ 0) × (ask_calls r.1 ≡ 0)
+        × (has_cancelled r.1 ≡ 0)) }
 {
     let size = size as u64;
     let made = Table::vacant(alloc, &[0; WORDS], size as usize + 1, &size)?;
@@ -37,8 +39,11 @@ pub fn lane(alloc: Global, size: u32) -> Result<(LaneOut, LaneIn), AllocError>
 /// that was asked. It takes no memory.
 pub fn meet(out: &mut LaneOut, inp: &mut LaneIn) -> Result<Waits, AllocError>
     requires { AreOneLane out.old inp.old }
-    ensures out { IsSameOut out.old out.new × (sent out.new ≡ sent out.old) × (has_ended out.new ≡ has_ended out.old) × (seen_count out.new ≡ seen_count out.old) × (saw_cancel out.new ≡ saw_cancel out.old) × (finds out.new ≡ finds out.old) × (out_looks out.new ≡ out_looks out.old) }
-    ensures inp { IsSameIn inp.old inp.new × (taken_items inp.new ≡ taken_items inp.old) × (asked_in_all inp.new ≡ asked_in_all inp.old) × (ask_calls inp.new ≡ ask_calls inp.old) × (has_cancelled inp.new ≡ has_cancelled inp.old) × (in_looks inp.new ≡ in_looks inp.old) }
+    ensures out { IsSameOut out.old out.new × (sent out.new ≡ sent out.old) × (has_ended out.new ≡ has_ended out.old)
+        × (seen_count out.new ≡ seen_count out.old) × (saw_cancel out.new ≡ saw_cancel out.old) × (finds out.new ≡ finds out.old)
+        × (out_looks out.new ≡ out_looks out.old) }
+    ensures inp { IsSameIn inp.old inp.new × (taken_items inp.new ≡ taken_items inp.old) × (asked_in_all inp.new ≡ asked_in_all inp.old)
+        × (ask_calls inp.new ≡ ask_calls inp.old) × (has_cancelled inp.new ≡ has_cancelled inp.old) × (in_looks inp.new ≡ in_looks inp.old) }
     ensures ok { IsOk result }
     ensures learnt { learnt out.new ≡ asked_in_all inp.new }
     ensures told { (told_asked out.new ≡ asked_in_all inp.new) × (told_cancel out.new ≡ has_cancelled inp.new) × (told_sent inp.new ≡ length (sent out.new)) }

@@ -29,7 +29,8 @@ pub struct LaneOut {
     // What was asked, as this end last learnt it by a look or from the other end.
     learnt: u64,
     ended: bool,
-    ghost same_table: { (seat.table_id ≡ (arc_value table).shared.table_id) × ((arc_value table).shared.key ≡ size) × (seat.table_id.words ≡ 17) × (seat.table_id.slots ≡ size + 1) },
+    ghost same_table: { (seat.table_id ≡ (arc_value table).shared.table_id) × ((arc_value table).shared.key ≡ size) × (seat.table_id.words ≡ 17)
+        × (seat.table_id.slots ≡ size + 1) },
     ghost sized: { (1 ≤ size) × (size ≤ 1024) },
     ghost role: { (seat.me.0.sends ≡ true) × (seat.me.0.gets ≡ false) },
     ghost count: { (elements seat.me.0.items ≡ used) × (length seat.me.0.items ≡ used + cond ended 1 0) },
@@ -47,10 +48,12 @@ impl LaneOut {
     ghost use Rattle.lane_core.specs.Ends.{sent, seen_count, saw_cancel, finds, has_ended, learnt, told_asked, told_cancel, out_looks, out_lane, out_size, IsSameOut, RoomIs};
 
     pub(crate) fn new(table: Arc<LaneTable>, seat: LaneSeat, size: u64) -> LaneOut
-        requires table { (seat.table_id ≡ (arc_value table).shared.table_id) × ((arc_value table).shared.key ≡ size) × (seat.table_id.words ≡ 17) × (seat.table_id.slots ≡ size + 1) }
+        requires table { (seat.table_id ≡ (arc_value table).shared.table_id) × ((arc_value table).shared.key ≡ size) × (seat.table_id.words ≡ 17)
+            × (seat.table_id.slots ≡ size + 1) }
         requires size { (1 ≤ size) × (size ≤ 1024) }
         requires seat { seat.me ≡ new_output_seat }
-        ensures { (out_lane result ≡ seat.table_id) × (out_size result ≡ size) × (sent result ≡ []) × (has_ended result ≡ false) × (seen_count result ≡ 0) × (saw_cancel result ≡ 0) × (finds result ≡ 0) }
+        ensures { (out_lane result ≡ seat.table_id) × (out_size result ≡ size) × (sent result ≡ []) × (has_ended result ≡ false) × (seen_count result ≡ 0)
+            × (saw_cancel result ≡ 0) × (finds result ≡ 0) }
     {
         LaneOut {
             table,
@@ -95,7 +98,8 @@ impl LaneOut {
     // The other end says what it asked in all.
     pub(crate) fn learn(&mut self, asked: u64)
         requires { seen_count self.old ≤ asked }
-        ensures same { IsSameOut self.old self.new × (has_ended self.new ≡ has_ended self.old) × (self.new.word ≡ self.old.word) × (self.new.seat.me ≡ self.old.seat.me) }
+        ensures same { IsSameOut self.old self.new × (has_ended self.new ≡ has_ended self.old) × (self.new.word ≡ self.old.word)
+            × (self.new.seat.me ≡ self.old.seat.me) }
         ensures learnt { learnt self.new ≡ asked }
     {
         self.learnt = asked;
@@ -103,7 +107,8 @@ impl LaneOut {
 
     // A note for the other end.
     pub(crate) fn tell(&mut self) -> LaneSeat
-        ensures same { IsSameOut self.old self.new × (has_ended self.new ≡ has_ended self.old) × (self.new.word ≡ self.old.word) × (self.new.seat.me ≡ self.old.seat.me) }
+        ensures same { IsSameOut self.old self.new × (has_ended self.new ≡ has_ended self.old) × (self.new.word ≡ self.old.word)
+            × (self.new.seat.me ≡ self.old.seat.me) }
         ensures note { (result.table_id ≡ out_lane self.old) × (result.me ≡ (note self.old.seat.me.0, [])) }
     {
         self.table.shared.split_seat::<Note>(&mut self.seat)
@@ -144,10 +149,13 @@ impl LaneOut {
     /// Sends an item. An element comes back where all demand that was seen is used; an end needs no demand. It takes no memory.
     pub fn offer(&mut self, item: Item) -> Result<(), Item>
         requires { (has_ended self.old ≡ false) × (saw_cancel self.old ≡ 0) }
-        ensures lane { IsSameOut self.old self.new × (seen_count self.new ≡ seen_count self.old) × (saw_cancel self.new ≡ saw_cancel self.old) × (finds self.new ≡ finds self.old) × (out_looks self.new ≡ out_looks self.old) × (learnt self.new ≡ learnt self.old) }
-        ensures ok { IfOk result (λ _. (sent self.new ≡ sent self.old ++ item ∷ []) × (elements (sent self.new) ≤ seen_count self.new) × (has_ended self.new ≡ ends item)) }
+        ensures lane { IsSameOut self.old self.new × (seen_count self.new ≡ seen_count self.old) × (saw_cancel self.new ≡ saw_cancel self.old)
+            × (finds self.new ≡ finds self.old) × (out_looks self.new ≡ out_looks self.old) × (learnt self.new ≡ learnt self.old) }
+        ensures ok { IfOk result (λ _. (sent self.new ≡ sent self.old ++ item ∷ []) × (elements (sent self.new) ≤ seen_count self.new)
+            × (has_ended self.new ≡ ends item)) }
         ensures counts { IfOk result (λ _. elements (sent self.new) ≡ elements (sent self.old) + weight item) }
-        ensures err { IfErr result (λ x. (x ≡ item) × (ends item ≡ false) × (elements (sent self.old) ≡ seen_count self.old) × (sent self.new ≡ sent self.old) × (has_ended self.new ≡ false)) }
+        ensures err { IfErr result (λ x. (x ≡ item) × (ends item ≡ false) × (elements (sent self.old) ≡ seen_count self.old) × (sent self.new ≡ sent self.old)
+            × (has_ended self.new ≡ false)) }
     {
         if is_end(&item) {
             announce(&self.table.shared, &mut self.seat, self.place, item);
@@ -182,7 +190,8 @@ fn announce(
 )
     requires table { (seat.old.table_id ≡ shared.now.table_id) × (shared.now.table_id.words ≡ 17) × (shared.now.table_id.slots ≡ shared.now.key + 1) }
     requires hand { (seat.old.me.1 ≡ (place, None) ∷ []) × (place ≡ length seat.old.me.0.items % (shared.now.key + 1)) }
-    requires ready { (seat.old.me.0.sends ≡ true) × (seat.old.me.0.gets ≡ false) × (seat.old.me.0.slots ≡ 1) × (elements seat.old.me.0.items + weight item ≤ seat.old.me.0.number) × (seat.old.me.0.number < 2 ^ 63) × (1 ≤ shared.now.key) }
+    requires ready { (seat.old.me.0.sends ≡ true) × (seat.old.me.0.gets ≡ false) × (seat.old.me.0.slots ≡ 1)
+        × (elements seat.old.me.0.items + weight item ≤ seat.old.me.0.number) × (seat.old.me.0.number < 2 ^ 63) × (1 ≤ shared.now.key) }
     ensures { (seat.new.table_id ≡ seat.old.table_id) × HasSent shared.now.key seat.old.me item seat.new.me }
 {
     match shared.exchange(seat, place as usize, Some(item)) {

@@ -16,6 +16,8 @@ pub fn a_meeting_stands()
 /// What waits at a lane whose ends were brought together is found by the next look of the end for which it waits: a look of the input
 /// end that finds nothing, and one of the output end that finds neither demand nor a cancel, came where nothing waited.
 pub fn what_waits_is_found()
-    ensures item { (o : LaneOut) (i j : LaneIn) (w : Waits) → AreTold o i → WaitsAre o i w → IsTrue w.item → taken_items j ≡ taken_items i → found_sent j ≡ length (taken_items j) → told_sent i ≤ found_sent j → ⊥ }
-    ensures demand { (o p : LaneOut) (i : LaneIn) (w : Waits) → AreTold o i → WaitsAre o i w → IsTrue w.demand → told_asked o ≤ seen_count p → told_cancel o ≤ saw_cancel p → (seen_count o < seen_count p) ⊎ (saw_cancel o < saw_cancel p) }
+    ensures item { (o : LaneOut) (i j : LaneIn) (w : Waits) → AreTold o i → WaitsAre o i w → IsTrue w.item → taken_items j ≡ taken_items i
+        → found_sent j ≡ length (taken_items j) → told_sent i ≤ found_sent j → ⊥ }
+    ensures demand { (o p : LaneOut) (i : LaneIn) (w : Waits) → AreTold o i → WaitsAre o i w → IsTrue w.demand → told_asked o ≤ seen_count p
+        → told_cancel o ≤ saw_cancel p → (seen_count o < seen_count p) ⊎ (saw_cancel o < saw_cancel p) }
 {}

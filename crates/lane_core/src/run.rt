@@ -37,7 +37,8 @@ fn turn_at<B: Turning>(
     ensures goes { OnOk result (EachOf B.goes bodies.old bodies.new) }
     ensures spent { IfOk result (λ used. sum_by B.spent bodies.new ≡ sum_by B.spent bodies.old + used) }
     ensures within { IfOk result (λ used. used ≤ limit) }
-    ensures idle { IfOk result (λ used. used ≡ 0 → 1 ≤ limit → (a : B) → slice_get bodies.old k ≡ Some a → (b : B) × ((slice_get bodies.new k ≡ Some b) × (B.goes a b × B.idle a b))) }
+    ensures idle { IfOk result (λ used. used ≡ 0 → 1 ≤ limit → (a : B) → slice_get bodies.old k ≡ Some a
+        → (b : B) × ((slice_get bodies.new k ≡ Some b) × (B.goes a b × B.idle a b))) }
     ensures broke { OnErr result (BrokeOff B.keeps B.goes B.breaks bodies.old bodies.new) }
 {
     let body = &mut bodies[k];

@@ -64,7 +64,8 @@ pub trait Turning: Meet {
     ghost stands_on: { (a b c : Self) → stands a b → stands b c → stands a c };
 
     // What a meeting does to the two bodies, which may be one.
-    ghost meets: { (a b c d : Self) (o i : ℕ) (w : Waits) → Self.met a o b i c d w → (goes a c) × (stands a c) × (goes b d) × (stands b d) × (joined c o d i w) };
+    ghost meets: { (a b c d : Self) (o i : ℕ) (w : Waits) → Self.met a o b i c d w
+        → (goes a c) × (stands a c) × (goes b d) × (stands b d) × (joined c o d i w) };
 
     // What stands while a body only meets.
     ghost keeps_stands: { (a b : Self) → stands a b → keeps a → keeps b };
@@ -98,7 +99,8 @@ pub trait Turning: Meet {
     // A turn behind a meeting that found nothing to do came where neither an item nor demand waited, and no event was pending.
     ghost idle_item: { (a b c d e : Self) (o i : ℕ) (w : Waits) → Self.may_meet a o b i → Self.met a o b i c d w → IsTrue w.item → goes d e → idle d e → ⊥ };
 
-    ghost idle_demand: { (a b c d e : Self) (o i : ℕ) (w : Waits) → Self.may_meet a o b i → Self.met a o b i c d w → IsTrue w.demand → goes c e → idle c e → ⊥ };
+    ghost idle_demand: { (a b c d e : Self) (o i : ℕ) (w : Waits) → Self.may_meet a o b i → Self.met a o b i c d w → IsTrue w.demand → goes c e → idle c e
+        → ⊥ };
 
     ghost idle_event: { (a b : Self) → pending a ≡ true → idle a b → ⊥ };
 }

@@ -125,7 +125,8 @@ impl LineStep {
         outputs: &mut Batch,
     ) -> Result<(), NoMemory>
         requires { self.old.owed ≡ None }
-        ensures takes { OnOk result (record { gave = outputs.new; state = state_of self.new } ≡ run machine (record { gave = outputs.old; state = state_of self.old }) inputs.old) }
+        ensures takes { OnOk result (record { gave = outputs.new; state = state_of self.new } ≡ run machine
+            (record { gave = outputs.old; state = state_of self.old }) inputs.old) }
         ensures began { OnOk result (Began self.old self.new) }
         ensures owed { OnOk result (self.new.owed ≡ None) }
         ensures none { OnOk result (inputs.new ≡ []) }
@@ -162,7 +163,8 @@ impl LineStep {
         outputs: &mut Batch,
     ) -> Result<(), NoMemory>
         requires { self.old.ending ≡ Lasting }
-        ensures gives { OnOk result (record { gave = outputs.new; state = state_of self.new } ≡ given_before outputs.old (replied self.old.decider self.old.node nth (work_in self.old.work) outcome)) }
+        ensures gives { OnOk result (record { gave = outputs.new; state = state_of self.new } ≡ given_before outputs.old
+            (replied self.old.decider self.old.node nth (work_in self.old.work) outcome)) }
         ensures began { OnOk result (Began self.old self.new) }
         ensures owed { OnOk result (self.new.owed ≡ self.old.owed) }
     {

@@ -62,7 +62,8 @@ pub record IsBoard (kinds : List Kind) (board : Board) : Type 0 where
   pub places_are : board.places.items ≡ places_in kinds
   pub switches_many : length board.switches.items ≡ length kinds
   pub seats_many : length board.seats.items ≡ length kinds
-  pub switches : (j : ℕ) (s : Arc SwitchState Global) → slice_get board.switches.items j ≡ Some (Some s) → ((arc_value s).seats ≡ count_at j board.places.items) × (0 < count_at j board.places.items)
+  pub switches : (j : ℕ) (s : Arc SwitchState Global) → slice_get board.switches.items j ≡ Some (Some s)
+      → ((arc_value s).seats ≡ count_at j board.places.items) × (0 < count_at j board.places.items)
   pub some : (k j : ℕ) → slice_get board.places.items k ≡ Some (Some j) → (s : Arc SwitchState Global) × (slice_get board.switches.items j ≡ Some (Some s))
   pub empty : (j : ℕ) (list : Vec SeatState Global) → slice_get board.seats.items j ≡ Some list → list.items ≡ []
   pub room : (j : ℕ) (list : Vec SeatState Global) → slice_get board.seats.items j ≡ Some list → count_at j board.places.items ≤ vec_capacity list
@@ -93,7 +94,8 @@ IsSeatAt (Some name) at s = (t : SeatState) × ((s ≡ Some t) × (at ≡ Some t
 -- the seats of nodes of these kinds, each at its switch
 pub record AreAtSwitches (kinds : List Kind) (board : Board) (seats : List (Option SeatState)) : Type 0 where
   pub many : length seats ≡ length kinds
-  pub each : (k : ℕ) (kind : Kind) (s : Option SeatState) → slice_get kinds k ≡ Some kind → slice_get seats k ≡ Some s → IsSeatAt (switch_of kind) (switch_at board k) s
+  pub each : (k : ℕ) (kind : Kind) (s : Option SeatState) → slice_get kinds k ≡ Some kind → slice_get seats k ≡ Some s
+      → IsSeatAt (switch_of kind) (switch_at board k) s
 
 -- a node that names this switch, if it names one, is handed a seat that gave nothing and knows nothing, and else it is handed none
 abbrev pub IsHandedAt : Option (List ℕ) → Option SwitchEnd → Type 0

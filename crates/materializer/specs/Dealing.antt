@@ -38,8 +38,10 @@ pub record IsDealt (j : ℕ) (s : SwitchState) (places : List (Option ℕ)) (old
   pub kept : (k : ℕ) (p : Option ℕ) → slice_get places k ≡ Some p → sits j p ≡ false → slice_get new k ≡ slice_get old k
 
 -- Where nodes sit at place j, its switch, and an empty list with room for its seats, which were handed out; else nothing.
-pub data IsSwitchMade (j : ℕ) (places : List (Option ℕ)) (old new : List (Option SwitchEnd)) (switch : Option (Arc SwitchState Global)) (list : Vec SeatState Global) : Type 0 where
-  owns : (s : Arc SwitchState Global) → 0 < count_at j places → switch ≡ Some s → (arc_value s).seats ≡ count_at j places → list.items ≡ [] → count_at j places ≤ vec_capacity list
+pub data IsSwitchMade (j : ℕ) (places : List (Option ℕ)) (old new : List (Option SwitchEnd)) (switch : Option (Arc SwitchState Global))
+    (list : Vec SeatState Global) : Type 0 where
+  owns : (s : Arc SwitchState Global) → 0 < count_at j places → switch ≡ Some s → (arc_value s).seats ≡ count_at j places → list.items ≡ []
+      → count_at j places ≤ vec_capacity list
       → IsDealt j (arc_value s) places old new → IsSwitchMade j places old new switch list
   nothing : count_at j places ≡ 0 → switch ≡ None → list.items ≡ [] → new ≡ old → IsSwitchMade j places old new switch list
 
@@ -66,7 +68,8 @@ HasRoom p lists = (j : ℕ) → p ≡ Some (Some j) → (list : Vec SeatState Gl
 -- the seat of a node with this place is put into the list of its place
 pub record IsSeatPut (p : Option (Option ℕ)) (s : SeatState) (old new : List (Vec SeatState Global)) : Type 0 where
   pub many : length new ≡ length old
-  pub each : (j : ℕ) (was now : Vec SeatState Global) → slice_get old j ≡ Some was → slice_get new j ≡ Some now → (vec_capacity now ≡ vec_capacity was) × (now.items ≡ was.items ++ own_seat (sits_in j p) s)
+  pub each : (j : ℕ) (was now : Vec SeatState Global) → slice_get old j ≡ Some was → slice_get new j ≡ Some now
+      → (vec_capacity now ≡ vec_capacity was) × (now.items ≡ was.items ++ own_seat (sits_in j p) s)
 
 -- the places of nodes have lists
 abbrev pub HaveLists : List (Option ℕ) → List (Vec SeatState Global) → Type 0
@@ -92,7 +95,8 @@ pub record HasAllSeats (s : SwitchState) (list : Vec SeatState Global) : Type 0 
 
 -- all seats of each switch are in the list of its place
 abbrev pub AllWhole : List (Option (Arc SwitchState Global)) → List (Vec SeatState Global) → Type 0
-AllWhole switches lists = (j : ℕ) (s : Arc SwitchState Global) (list : Vec SeatState Global) → slice_get switches j ≡ Some (Some s) → slice_get lists j ≡ Some list → HasAllSeats (arc_value s) list
+AllWhole switches lists = (j : ℕ) (s : Arc SwitchState Global) (list : Vec SeatState Global) → slice_get switches j ≡ Some (Some s)
+    → slice_get lists j ≡ Some list → HasAllSeats (arc_value s) list
 
 -- these seats of a switch were settled together
 abbrev pub IsSettledAt : Vec SeatState Global → Type 0
@@ -100,4 +104,5 @@ IsSettledAt list = (stands : Option Order) × IsSettled list.items stands
 
 -- the seats of each switch were settled, those in the list of its place
 abbrev pub ListsSettled : List (Option (Arc SwitchState Global)) → List (Vec SeatState Global) → Type 0
-ListsSettled switches lists = (j : ℕ) (s : Arc SwitchState Global) (list : Vec SeatState Global) → slice_get switches j ≡ Some (Some s) → slice_get lists j ≡ Some list → IsSettledAt list
+ListsSettled switches lists = (j : ℕ) (s : Arc SwitchState Global) (list : Vec SeatState Global) → slice_get switches j ≡ Some (Some s)
+    → slice_get lists j ≡ Some list → IsSettledAt list

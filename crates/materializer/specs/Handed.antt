@@ -7,7 +7,8 @@ use Rattle.nodes.specs.Sink.{Sink}
 use Rattle.nodes.specs.Source.{Lines}
 
 -- node k reads the source of the file of that name, among the sources of these files
-pub record ReadsSourceFile {S D L B : Type 0} (files : List (List ℕ)) (sources : List S) (firsts : List (IslandNode S D L B)) (k : ℕ) (name : List ℕ) : Type 0 where
+pub record ReadsSourceFile {S D L B : Type 0} (files : List (List ℕ)) (sources : List S) (firsts : List (IslandNode S D L B)) (k : ℕ) (name : List ℕ)
+    : Type 0 where
   pub first : Lines S
   pub at : slice_get firsts k ≡ Some (Reading first)
   pub node : first.node ≡ k

@@ -78,7 +78,8 @@ writes_in [] = 0
 writes_in (s ∷ ss) = writes s.planned + writes_in ss
 
 -- whichever node the seat is for, it stands there with its handle, if it has a file, and leaves the other handles
-pub record FillsAs {S D L B : Type 0} (chains : List graph.Chain) (k : ℕ) (n : Node) (sources : List S) (drains : List D) (p : Seated S D L B) (later_sources : List S) (later_drains : List D) : Type 0 where
+pub record FillsAs {S D L B : Type 0} (chains : List graph.Chain) (k : ℕ) (n : Node) (sources : List S) (drains : List D) (p : Seated S D L B)
+    (later_sources : List S) (later_drains : List D) : Type 0 where
   pub node : p.node ≡ k
   pub work : IsWork chains k n sources drains p.work
   pub sources_left : later_sources ≡ handles_left (source_file n.kind) sources
@@ -86,7 +87,8 @@ pub record FillsAs {S D L B : Type 0} (chains : List graph.Chain) (k : ℕ) (n :
 
 -- whichever node the seat is for, it stands there with its handle, if it has a file, and leaves the other handles
 abbrev pub Fills : {S D L B : Type 0} → List graph.Chain → Seat S D L B → List S → List D → Seated S D L B → List S → List D → Type 0
-Fills chains s sources drains p later_sources later_drains = (k : ℕ) (n : Node) → IsSeat chains k n s → FillsAs chains k n sources drains p later_sources later_drains
+Fills chains s sources drains p later_sources later_drains = (k : ℕ) (n : Node) → IsSeat chains k n s
+    → FillsAs chains k n sources drains p later_sources later_drains
 
 -- the seat at its switch that stands at a place, where it is that of a valve or a trip
 abbrev pub seat_of_plan : {S D L B : Type 0} → Planned S D L B → Option SeatState

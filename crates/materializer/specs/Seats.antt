@@ -112,7 +112,8 @@ IsWork chains k n sources drains w = IsFreeWork chains k n.kind n.decider w
 abbrev pub AreSeats : {S D L B : Type 0} → List graph.Chain → ℕ → List Node → List S → List D → List (Seated S D L B) → Type 0
 AreSeats chains k [] sources drains [] = ⊤
 AreSeats chains k (n ∷ ns) sources drains (p ∷ ps) =
-    (p.node ≡ k) × (IsWork chains k n sources drains p.work × AreSeats chains (k + 1) ns (handles_left (source_file n.kind) sources) (handles_left (output_of n.kind) drains) ps)
+    (p.node ≡ k) × (IsWork chains k n sources drains p.work × AreSeats chains (k + 1) ns (handles_left (source_file n.kind) sources)
+    (handles_left (output_of n.kind) drains) ps)
 AreSeats chains k _ sources drains _ = ⊥
 
 -- the seat at its switch that a work has, where it is that of a valve or a trip

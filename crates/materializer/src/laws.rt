@@ -32,7 +32,8 @@ pub fn fit_blueprints_are_whole()
 /// Where no source has handed out a byte, the nodes at the places of a blueprint, as they are handed in, are those of its graph,
 /// each in its order, whether wires or lanes join them.
 pub fn parts_are_made_of_their_blueprint<S: Source, D: Drain, L: Logic, B: PlugBook>()
-    ensures { (b : Blueprint) (sources : List S) (drains : List D) (places : List (Seated S D L B)) (firsts : List (IslandNode S D L B)) → AreSeats (chains_of b) 0 b.nodes.items sources drains places
+    ensures { (b : Blueprint) (sources : List S) (drains : List D) (places : List (Seated S D L B)) (firsts : List (IslandNode S D L B))
+        → AreSeats (chains_of b) 0 b.nodes.items sources drains places
         → AllBecome places firsts → All (λ s. (S.state s).given ≡ 0) sources → AreFirsts S.state (chains_of b) (graph_of b).nodes firsts }
 {}
 
@@ -40,12 +41,19 @@ pub fn parts_are_made_of_their_blueprint<S: Source, D: Drain, L: Logic, B: PlugB
 /// that was handed in for its file (`drains`), as every other sink with a file does (`files`). A sink that keeps nothing holds
 /// none (`ignores`).
 pub fn parts_hold_their_files<S: Source, D: Drain, L: Logic, B: PlugBook>()
-    ensures sources { (chains : List graph.Chain) (nodes : List blue.Node) (sources : List S) (drains : List D) (places : List (Seated S D L B)) (firsts : List (IslandNode S D L B)) → AreSeats chains 0 nodes sources drains places → AllBecome places firsts
-        → (k : ℕ) (n : blue.Node) (name : List ℕ) → slice_get nodes k ≡ Some n → n.kind ≡ kind.Lines name → ReadsSourceFile (inputs_of_nodes nodes) sources firsts k name }
-    ensures drains { (chains : List graph.Chain) (nodes : List blue.Node) (sources : List S) (drains : List D) (places : List (Seated S D L B)) (firsts : List (IslandNode S D L B)) → AreSeats chains 0 nodes sources drains places → AllBecome places firsts
-        → (k : ℕ) (n : blue.Node) (name : List ℕ) → slice_get nodes k ≡ Some n → n.kind ≡ kind.ToLines name → WritesFile (outputs_of_nodes nodes) drains firsts k name }
-    ensures files { (chains : List graph.Chain) (nodes : List blue.Node) (sources : List S) (drains : List D) (places : List (Seated S D L B)) (firsts : List (IslandNode S D L B)) → AreSeats chains 0 nodes sources drains places → AllBecome places firsts
-        → (k : ℕ) (n : blue.Node) (name : List ℕ) → slice_get nodes k ≡ Some n → output_of n.kind ≡ Some name → WritesFile (outputs_of_nodes nodes) drains firsts k name }
-    ensures ignores { (chains : List graph.Chain) (nodes : List blue.Node) (sources : List S) (drains : List D) (places : List (Seated S D L B)) (firsts : List (IslandNode S D L B)) → AreSeats chains 0 nodes sources drains places → AllBecome places firsts
+    ensures sources { (chains : List graph.Chain) (nodes : List blue.Node) (sources : List S) (drains : List D) (places : List (Seated S D L B))
+        (firsts : List (IslandNode S D L B)) → AreSeats chains 0 nodes sources drains places → AllBecome places firsts
+        → (k : ℕ) (n : blue.Node) (name : List ℕ) → slice_get nodes k ≡ Some n → n.kind ≡ kind.Lines name
+        → ReadsSourceFile (inputs_of_nodes nodes) sources firsts k name }
+    ensures drains { (chains : List graph.Chain) (nodes : List blue.Node) (sources : List S) (drains : List D) (places : List (Seated S D L B))
+        (firsts : List (IslandNode S D L B)) → AreSeats chains 0 nodes sources drains places → AllBecome places firsts
+        → (k : ℕ) (n : blue.Node) (name : List ℕ) → slice_get nodes k ≡ Some n → n.kind ≡ kind.ToLines name
+        → WritesFile (outputs_of_nodes nodes) drains firsts k name }
+    ensures files { (chains : List graph.Chain) (nodes : List blue.Node) (sources : List S) (drains : List D) (places : List (Seated S D L B))
+        (firsts : List (IslandNode S D L B)) → AreSeats chains 0 nodes sources drains places → AllBecome places firsts
+        → (k : ℕ) (n : blue.Node) (name : List ℕ) → slice_get nodes k ≡ Some n → output_of n.kind ≡ Some name
+        → WritesFile (outputs_of_nodes nodes) drains firsts k name }
+    ensures ignores { (chains : List graph.Chain) (nodes : List blue.Node) (sources : List S) (drains : List D) (places : List (Seated S D L B))
+        (firsts : List (IslandNode S D L B)) → AreSeats chains 0 nodes sources drains places → AllBecome places firsts
         → (k : ℕ) (n : blue.Node) → slice_get nodes k ≡ Some n → n.kind ≡ kind.Ignore → WritesNoFile firsts k }
 {}

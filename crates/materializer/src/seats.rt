@@ -240,7 +240,8 @@ fn plugged<S: Source, D: Drain, L: Logic, B: PlugBook>(
     decider: Decider,
 ) -> Planned<S, D, L, B>
     requires { GivesAsListed L.gives B.lists plug }
-    ensures planned { (chains : List graph.Chain) (node : blue.Node) → node.kind ≡ kind.Plug plug.head.name → node.decider ≡ decider → IsPlanned chains k node result }
+    ensures planned { (chains : List graph.Chain) (node : blue.Node) → node.kind ≡ kind.Plug plug.head.name → node.decider ≡ decider
+        → IsPlanned chains k node result }
     ensures seat { seat_of_plan result ≡ None }
 {
     Planned::Works(Work::Linear(LinearLogic::of_plug(k, plug, decider)))
@@ -333,7 +334,8 @@ fn fill<S: Source, D: Drain, L: Logic, B: PlugBook>(
 ) -> Seated<S, D, L, B>
     requires source { reads seat.planned ≤ into_iter_len sources.old }
     requires drain { writes seat.planned ≤ into_iter_len drains.old }
-    ensures fills { (chains : List graph.Chain) → Fills chains seat (into_iter_items sources.old) (into_iter_items drains.old) result (into_iter_items sources.new) (into_iter_items drains.new) }
+    ensures fills { (chains : List graph.Chain) → Fills chains seat (into_iter_items sources.old) (into_iter_items drains.old) result
+        (into_iter_items sources.new) (into_iter_items drains.new) }
     ensures seat { place_seat result ≡ planned_seat seat }
     ensures fewer_sources { into_iter_len sources.old ≡ into_iter_len sources.new + reads seat.planned }
     ensures fewer_drains { into_iter_len drains.old ≡ into_iter_len drains.new + writes seat.planned }
@@ -360,7 +362,8 @@ pub fn fill_all<S: Source, D: Drain, L: Logic, B: PlugBook>(
     requires room { vec_len seats ≤ vec_capacity places }
     requires sources { vec_len sources ≡ reads_in seats.items }
     requires drains { vec_len drains ≡ writes_in seats.items }
-    ensures seats { (chains : List graph.Chain) (nodes : List blue.Node) → ArePlanned chains 0 nodes seats.items → AreSeats chains 0 nodes sources.items drains.items result.items }
+    ensures seats { (chains : List graph.Chain) (nodes : List blue.Node) → ArePlanned chains 0 nodes seats.items
+        → AreSeats chains 0 nodes sources.items drains.items result.items }
     ensures room { vec_capacity result ≡ vec_capacity places }
     ensures each { vec_len result ≡ vec_len seats }
     ensures kept { map place_seat result.items ≡ map planned_seat seats.items }

@@ -269,8 +269,10 @@ impl Board {
     /// Puts together the seats of each switch, which come with the numbers of their nodes, in order. Each order that one of them
     /// knew is the one that stands at its switch, and one of them gave it. It takes no memory.
     pub fn settle(self, seats: Vec<(u32, SwitchSeat)>)
-        requires { (kinds : List Kind) × ((all : List (Option SeatState)) × (IsBoard kinds self × (AreAtSwitches kinds self all × (seats.items ≡ numbered_from 0 all)))) }
-        ensures { (kinds : List Kind) (all : List (Option SeatState)) → IsBoard kinds self → AreAtSwitches kinds self all → seats.items ≡ numbered_from 0 all → AllSettled kinds (seat_in all) }
+        requires { (kinds : List Kind) × ((all : List (Option SeatState)) × (IsBoard kinds self
+            × (AreAtSwitches kinds self all × (seats.items ≡ numbered_from 0 all)))) }
+        ensures { (kinds : List Kind) (all : List (Option SeatState)) → IsBoard kinds self → AreAtSwitches kinds self all → seats.items ≡ numbered_from 0 all
+            → AllSettled kinds (seat_in all) }
     {
         let Board {
             places,

@@ -59,7 +59,8 @@ node_port_state (Entering x) v = EnteringPortState x v
 node_port_state (Leaving x) v = LeavingPortState x v
 
 -- what holds of the histories of its ports; its kind stays the same
-abbrev pub node_law : {S D L B : Type 0} → (S → SourceState) → (D → DrainState) → Book → IslandNode S D L B → IslandNode S D L B → View → List (List Item) → List (List Item) → Type 0
+abbrev pub node_law : {S D L B : Type 0} → (S → SourceState) → (D → DrainState) → Book → IslandNode S D L B → IslandNode S D L B → View → List (List Item)
+    → List (List Item) → Type 0
 node_law sources drains book (Reading first) (Reading x) v took gave = LinesLaw sources first x v took gave
 node_law sources drains book (Making first) (Making x) v took gave = MadeLaw first x v took gave
 node_law sources drains book (Linear first) (Linear x) v took gave = LinearLaw book first x v took gave

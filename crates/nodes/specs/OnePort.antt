@@ -16,7 +16,8 @@ abbrev pub output_only : OutView → View
 output_only y = record { ins = []; outs = y ∷ [] }
 
 -- Where its port state and its law hold, the stage may do this by itself: the port rules allow it, and port state and law hold once it is done.
-pub record MayDo {N : Type 0} (port_state : N → View → Type 0) (law : N → N → View → List (List Item) → List (List Item) → Type 0) (now first : N) (v : View) (took gave : List (List Item)) (a : Act) : Type 0 where
+pub record MayDo {N : Type 0} (port_state : N → View → Type 0) (law : N → N → View → List (List Item) → List (List Item) → Type 0) (now first : N) (v : View)
+    (took gave : List (List Item)) (a : Act) : Type 0 where
   pub allowed : ActAllowed v a
   pub port_state_holds : port_state now (acted v a)
   pub law_holds : law first now (acted v a) took (given_by a gave)

@@ -14,16 +14,21 @@ ghost use Rattle.nodes.specs.Leaving.{Leaving, LeavingPortState, LeavingLaw};
 /// Between two calls the stage where a lane comes in may push an element where its output is asked, and complete or fail it
 /// where it is open: its port state and its law hold then.
 pub fn an_entering_stage_may_act()
-    ensures push { (first now : Entering) (v : View) (took gave : List (List Item)) → EnteringPortState now v → EnteringLaw first now v took gave → (j : ℕ) (t : Tree) → out_at v j ≡ Available → MayDo EnteringPortState EnteringLaw now first v took gave (Push j t) }
-    ensures complete { (first now : Entering) (v : View) (took gave : List (List Item)) → EnteringPortState now v → EnteringLaw first now v took gave → (j : ℕ) → IsOutOpen (out_at v j) → MayDo EnteringPortState EnteringLaw now first v took gave (Complete j) }
-    ensures fail { (first now : Entering) (v : View) (took gave : List (List Item)) → EnteringPortState now v → EnteringLaw first now v took gave → (j : ℕ) (c : Cause) → IsOutOpen (out_at v j) → MayDo EnteringPortState EnteringLaw now first v took gave (FailOut j c) }
+    ensures push { (first now : Entering) (v : View) (took gave : List (List Item)) → EnteringPortState now v → EnteringLaw first now v took gave
+        → (j : ℕ) (t : Tree) → out_at v j ≡ Available → MayDo EnteringPortState EnteringLaw now first v took gave (Push j t) }
+    ensures complete { (first now : Entering) (v : View) (took gave : List (List Item)) → EnteringPortState now v → EnteringLaw first now v took gave → (j : ℕ)
+        → IsOutOpen (out_at v j) → MayDo EnteringPortState EnteringLaw now first v took gave (Complete j) }
+    ensures fail { (first now : Entering) (v : View) (took gave : List (List Item)) → EnteringPortState now v → EnteringLaw first now v took gave
+        → (j : ℕ) (c : Cause) → IsOutOpen (out_at v j) → MayDo EnteringPortState EnteringLaw now first v took gave (FailOut j c) }
 {}
 
 /// Between two calls the stage where a lane goes out may ask its input where that is idle and nothing waits, and cancel it
 /// where it is open: its port state and its law hold then.
 pub fn a_leaving_stage_may_act()
-    ensures pull { (first now : Leaving) (v : View) (took gave : List (List Item)) → LeavingPortState now v → LeavingLaw first now v took gave → (i : ℕ) → now.waits ≡ [] → in_at v i ≡ Idle → MayDo LeavingPortState LeavingLaw now first v took gave (Pull i) }
-    ensures cancel { (first now : Leaving) (v : View) (took gave : List (List Item)) → LeavingPortState now v → LeavingLaw first now v took gave → (i : ℕ) → IsInOpen (in_at v i) → MayDo LeavingPortState LeavingLaw now first v took gave (Cancel i) }
+    ensures pull { (first now : Leaving) (v : View) (took gave : List (List Item)) → LeavingPortState now v → LeavingLaw first now v took gave → (i : ℕ)
+        → now.waits ≡ [] → in_at v i ≡ Idle → MayDo LeavingPortState LeavingLaw now first v took gave (Pull i) }
+    ensures cancel { (first now : Leaving) (v : View) (took gave : List (List Item)) → LeavingPortState now v → LeavingLaw first now v took gave → (i : ℕ)
+        → IsInOpen (in_at v i) → MayDo LeavingPortState LeavingLaw now first v took gave (Cancel i) }
 {}
 
 /// At every moment what came to the stage where a lane goes out is what was handed out or dropped, and then what waits: so each

@@ -78,7 +78,8 @@ impl Leaving {
     // Takes out the first that waits.
     fn pop(&mut self) -> Option<Item>
         ensures none { IfNone result ((self.old.waits ≡ []) × (self.new ≡ self.old)) }
-        ensures some { IfSome result (λ x. (self.old.waits ≡ x ∷ self.new.waits) × (self.new ≡ record { wire = self.old.wire; waits = self.new.waits; gone = self.old.gone ++ x ∷ [] })) }
+        ensures some { IfSome result (λ x. (self.old.waits ≡ x ∷ self.new.waits)
+            × (self.new ≡ record { wire = self.old.wire; waits = self.new.waits; gone = self.old.gone ++ x ∷ [] })) }
     {
         let item = self.first.take()?;
         self.first = self.second.take();

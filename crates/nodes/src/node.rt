@@ -157,7 +157,8 @@ impl<S: Source, D: Drain, L: Logic, B: PlugBook> IslandNode<S, D, L, B> {
         requires meets { Meets (arrives port (item.Elem e)) (node_port_state self.old) }
         requires empty { acts.old.items ≡ [] }
         requires room { MOST_ACTS ≤ acts.old.room }
-        ensures handles { OnOk result (Handles node_port_state (node_law S.state D.state B.lists) (arrives port (item.Elem e)) self.old self.new acts.new.items) }
+        ensures handles { OnOk result (Handles node_port_state (node_law S.state D.state B.lists)
+            (arrives port (item.Elem e)) self.old self.new acts.new.items) }
         ensures pulls { OnOk result (PullsAs (arrives port (item.Elem e)) (node_port_state self.old) (node_asking self.new) acts.new.items) }
         ensures grows { OnOk result (IsPrefix (node_moves self.old) (node_moves self.new)) }
         ensures passive { OnOk result (StaysPassive (node_passive self.old) (node_passive self.new) acts.new.items) }

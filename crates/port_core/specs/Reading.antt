@@ -10,7 +10,22 @@ use Rattle.port_core.specs.Cell.{WireState}
 
 -- where there is no wire, both ends are closed and nothing passed
 abbrev pub no_wire : WireState
-no_wire = record { wire = record { out = Closed; inp = Cancelled; conn = record { step = quiet; to_grab = None; in_closed = true; out_closed = true; cause = None }; sent = []; got = [] }; asked = false }
+no_wire = record {
+  wire = record {
+    out = Closed;
+    inp = Cancelled;
+    conn = record {
+      step = quiet;
+      to_grab = None;
+      in_closed = true;
+      out_closed = true;
+      cause = None;
+    };
+    sent = [];
+    got = [];
+  };
+  asked = false;
+}
 
 -- what the input of a wire knows of it
 abbrev pub inp_of : WireState → InView

@@ -91,7 +91,11 @@ abbrev pub after_delivery : Delivery → JointPorts → JointPorts
 after_delivery nothing w = w
 after_delivery pull w = record w { out = outlet.Available; conn = after_move rule.on_pull w.conn }
 after_delivery cancel w = record w { out = outlet.Cancelled; conn = after_move rule.on_cancel w.conn }
-after_delivery (arrived (item.Elem e) more) w = record w { inp = Idle; conn = after_move (rule.grab e) (after_move (rule.on_push e) w.conn); got = w.got ++ item.Elem e ∷ [] }
+after_delivery (arrived (item.Elem e) more) w = record w {
+  inp = Idle;
+  conn = after_move (rule.grab e) (after_move (rule.on_push e) w.conn);
+  got = w.got ++ item.Elem e ∷ [];
+}
 after_delivery (arrived item.Ended more) w = record w { inp = Finished; conn = after_move rule.on_finish w.conn; got = w.got ++ item.Ended ∷ [] }
 after_delivery (arrived (item.Failed c) more) w = record w { inp = Finished; conn = after_move (rule.on_fail c) w.conn; got = w.got ++ item.Failed c ∷ [] }
 

@@ -40,7 +40,13 @@ cause_by true c = Some c
 
 -- the connection that a word, an element and a cause stand for
 abbrev pub connection_of : ℕ → Bool → Tree → Cause → Connection
-connection_of w held e c = record { step = step_by w e; to_grab = to_grab_by held e; in_closed = has 16 w; out_closed = has 32 w; cause = cause_by (has 64 w) c }
+connection_of w held e c = record {
+  step = step_by w e;
+  to_grab = to_grab_by held e;
+  in_closed = has 16 w;
+  out_closed = has 32 w;
+  cause = cause_by (has 64 w) c;
+}
 
 -- the low bit of a step
 abbrev pub low_bit : ConnStep → ℕ

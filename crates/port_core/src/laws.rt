@@ -47,7 +47,8 @@ pub fn nothing_comes_after_a_closing()
 
 /// An element that was pushed comes to the input before the end of the output does.
 pub fn elements_come_before_the_end()
-    ensures { (p : Connection) (e : Tree) (m : Move) (ms : List Move) → IsTrue (is_ending m) → AllowedRun p (rule.push e ∷ (ms ++ m ∷ [])) → IsTrue (list_any is_on_push ms) }
+    ensures { (p : Connection) (e : Tree) (m : Move) (ms : List Move) → IsTrue (is_ending m) → AllowedRun p (rule.push e ∷ (ms ++ m ∷ []))
+        → IsTrue (list_any is_on_push ms) }
 {}
 
 /// To close a side that is closed changes nothing, and a failure leaves no cause where a side was closed before.
@@ -71,10 +72,15 @@ pub fn actions_follow_one_another()
 /// What a chain gave, and then what it still gives for every rest, is its list function from its start: an element more
 /// keeps this, also where the chain stops within it, and the end brings what the list function says of an input that ends.
 pub fn chains_keep_their_list_function()
-    ensures goes { (f g h : ListFunction) (took gave before now : List Tree) (t : Tree) → ResidualFunction f took gave g → Pushed g t Go before now h → (given : List Tree) × ((now ≡ before ++ given) × ResidualFunction f (took ++ t ∷ []) (gave ++ given) h) }
-    ensures stops { (f g h : ListFunction) (took gave before now : List Tree) (t : Tree) (step : ChainStep) → goes_on step ≡ false → ResidualFunction f took gave g → Pushed g t step before now h → (given : List Tree) × ((now ≡ before ++ given) × Stops f (took ++ t ∷ []) (gave ++ given) step) }
-    ensures ends { (f g : ListFunction) (took gave before now : List Tree) → ResidualFunction f took gave g → FunctionFinished g Go before now → (given : List Tree) × ((now ≡ before ++ given) × FunctionEnds f took (gave ++ given)) }
-    ensures fails { (f g : ListFunction) (took gave before now : List Tree) (w : Why) → ResidualFunction f took gave g → FunctionFinished g (Failed w) before now → f.adds took ≡ Err w }
+    ensures goes { (f g h : ListFunction) (took gave before now : List Tree) (t : Tree) → ResidualFunction f took gave g → Pushed g t Go before now h
+        → (given : List Tree) × ((now ≡ before ++ given) × ResidualFunction f (took ++ t ∷ []) (gave ++ given) h) }
+    ensures stops { (f g h : ListFunction) (took gave before now : List Tree) (t : Tree) (step : ChainStep) → goes_on step ≡ false
+        → ResidualFunction f took gave g → Pushed g t step before now h → (given : List Tree)
+        × ((now ≡ before ++ given) × Stops f (took ++ t ∷ []) (gave ++ given) step) }
+    ensures ends { (f g : ListFunction) (took gave before now : List Tree) → ResidualFunction f took gave g → FunctionFinished g Go before now
+        → (given : List Tree) × ((now ≡ before ++ given) × FunctionEnds f took (gave ++ given)) }
+    ensures fails { (f g : ListFunction) (took gave before now : List Tree) (w : Why) → ResidualFunction f took gave g
+        → FunctionFinished g (Failed w) before now → f.adds took ≡ Err w }
 {}
 
 /// A stage that keeps to the port rules as it sees them keeps to the table: on a wire whose two ends do so, each action and

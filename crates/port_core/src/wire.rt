@@ -51,7 +51,10 @@ impl Model for Wire {
 
     ghost coded = { Prim.hlevel (codes, tree_coded) };
 
-    ghost view = { λ w. record { wire = record { out = w.out.value; inp = w.inp.value; conn = w.conn; sent = w.sent.items; got = w.got.items }; asked = w.asked } };
+    ghost view = { λ w. record {
+      wire = record { out = w.out.value; inp = w.inp.value; conn = w.conn; sent = w.sent.items; got = w.got.items };
+      asked = w.asked;
+    } };
 
     ghost invariant = { λ w. (w.pushed ≡ elements w.sent.items) × Closes w.out.value w.inp.value w.conn w.output_closed w.cancelled w.input_closed };
 }

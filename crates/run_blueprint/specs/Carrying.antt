@@ -68,19 +68,25 @@ pub record WiresCarry (book : Book) (b : Blueprint) (stands : List SinkStand) (w
   pub lists : ℕ → List Tree
   pub ends : ℕ → End
   pub counted : (i : ℕ) (v : Edge) → slice_get (blueprint_wires b) i ≡ Some v → sent_at wires i ≡ length (lists i)
-  pub typed : (plugs : List PlugHead) (taken : List (List ℕ)) → IsFit b plugs taken → KeepsPlugTypes plugs book → (i : ℕ) (v : Edge) → slice_get (blueprint_wires b) i ≡ Some v
+  pub typed : (plugs : List PlugHead) (taken : List (List ℕ)) → IsFit b plugs taken → KeepsPlugTypes plugs book → (i : ℕ) (v : Edge)
+      → slice_get (blueprint_wires b) i ≡ Some v
       → (t : Sort) × ((settled_type b plugs v ≡ Some t) × AllTyped t (lists i))
-  pub given : (w : World) → w.book ≡ book → HasPicks picks w → (j : ℕ) (v : Edge) (n : Node) → slice_get (blueprint_wires b) j ≡ Some v → slice_get b.nodes.items v.from ≡ Some n → ((name : List ℕ) → n.kind ≢ Lines name)
+  pub given : (w : World) → w.book ≡ book → HasPicks picks w → (j : ℕ) (v : Edge) (n : Node) → slice_get (blueprint_wires b) j ≡ Some v
+      → slice_get b.nodes.items v.from ≡ Some n → ((name : List ℕ) → n.kind ≢ Lines name)
       → Agrees (next (graph_of b) w (λ u. exact (lists u) (ends u)) j) (lists j) (ends j)
   pub shut_is : (i : ℕ) (v : Edge) (c : WireCount) → slice_get (blueprint_wires b) i ≡ Some v → slice_get wires i ≡ Some c → ends i ≢ unended → c.shut ≡ true
-  pub lane_asks : (i : ℕ) (v : Edge) (c : WireCount) (s : ℕ) → slice_get (blueprint_wires b) i ≡ Some v → slice_get wires i ≡ Some c → v.lane ≡ Some s → c.asked ≡ false → s ≤ c.sent
-  pub sink_shut : (k : ℕ) (s : SinkStand) (i : ℕ) (v : Edge) (c : WireCount) → slice_get stands k ≡ Some s → slice_get (blueprint_wires b) i ≡ Some v → v.to ≡ s.0 → slice_get wires i ≡ Some c
+  pub lane_asks : (i : ℕ) (v : Edge) (c : WireCount) (s : ℕ) → slice_get (blueprint_wires b) i ≡ Some v → slice_get wires i ≡ Some c → v.lane ≡ Some s
+      → c.asked ≡ false → s ≤ c.sent
+  pub sink_shut : (k : ℕ) (s : SinkStand) (i : ℕ) (v : Edge) (c : WireCount) → slice_get stands k ≡ Some s → slice_get (blueprint_wires b) i ≡ Some v
+      → v.to ≡ s.0 → slice_get wires i ≡ Some c
       → ShutBy s.2 v.lane c.shut × OverBy s.2 v.lane c.shut (ends i)
-  pub sink_asked : (k : ℕ) (s : SinkStand) (n : Node) (file : List ℕ) (i : ℕ) (v : Edge) (c : WireCount) → slice_get stands k ≡ Some s → slice_get b.nodes.items s.0 ≡ Some n → n.kind ≡ ToLines file
+  pub sink_asked : (k : ℕ) (s : SinkStand) (n : Node) (file : List ℕ) (i : ℕ) (v : Edge) (c : WireCount) → slice_get stands k ≡ Some s
+      → slice_get b.nodes.items s.0 ≡ Some n → n.kind ≡ ToLines file
       → slice_get (blueprint_wires b) i ≡ Some v → v.to ≡ s.0 → slice_get wires i ≡ Some c → AskedBy s.2 v.lane s.1 c
 
 -- what passed each wire, as all that may pass it
-abbrev pub as_passed : {book : Book} → {b : Blueprint} → {stands : List SinkStand} → {wires : List WireCount} → {picks : List Pick} → WiresCarry book b stands wires picks → ℕ → Outlook
+abbrev pub as_passed : {book : Book} → {b : Blueprint} → {stands : List SinkStand} → {wires : List WireCount} → {picks : List Pick}
+    → WiresCarry book b stands wires picks → ℕ → Outlook
 as_passed c u = exact (c.lists u) (c.ends u)
 
 -- The picture of a run by what passed its wires, whatever the folder tells of its files. By every world that has the plugs of the run

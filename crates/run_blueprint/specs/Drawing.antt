@@ -55,4 +55,5 @@ pub record DrawsFirst (bytes : List ℕ) (given : ℕ) (faulted : Bool) (sent : 
   pub later : List (List ℕ)
   pub lines_are : lines bytes ≡ drawn ++ later
   pub sent_is : sent ≡ length drawn
-  pub ahead : (given ≤ length (ended_lines drawn) + largest_piece) ⊎ ((IsTrue faulted ⊎ FirstTooLong later) × (given ≤ length (ended_lines drawn) + (largest_piece + (longest_line + 1))))
+  pub ahead : (given ≤ length (ended_lines drawn) + largest_piece) ⊎ ((IsTrue faulted ⊎ FirstTooLong later)
+      × (given ≤ length (ended_lines drawn) + (largest_piece + (longest_line + 1))))

@@ -8,5 +8,7 @@ use Rattle.run_blueprint.specs.Types.{HasType, AllTyped}
 
 -- each plug that is handed in gives elements of its output type, where it takes elements of its input type
 pub record KeepsPlugTypes (plugs : List PlugHead) (book : Book) : Type 0 where
-  pub reply : (name : List ℕ) (p : PlugHead) → plug_named name plugs ≡ Some p → (taken : List Tree) (x : Tree) → AllTyped p.input taken → HasType p.input x → AllTyped p.output (book.reply name taken x).gave
-  pub closing : (name : List ℕ) (p : PlugHead) → plug_named name plugs ≡ Some p → (taken : List Tree) → AllTyped p.input taken → AllTyped p.output (book.closing name taken).gave
+  pub reply : (name : List ℕ) (p : PlugHead) → plug_named name plugs ≡ Some p → (taken : List Tree) (x : Tree) → AllTyped p.input taken → HasType p.input x
+      → AllTyped p.output (book.reply name taken x).gave
+  pub closing : (name : List ℕ) (p : PlugHead) → plug_named name plugs ≡ Some p → (taken : List Tree) → AllTyped p.input taken
+      → AllTyped p.output (book.closing name taken).gave

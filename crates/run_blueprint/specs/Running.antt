@@ -42,13 +42,15 @@ use Rattle.stream_model.specs.Linear.{Book}
 -- folder still tells its files, the sink's file holds just that. To a sink of lines as many
 -- elements were sent, or one more while it has not ended, and just one more where a write failed, but for what a lane to it may
 -- hold; where no event was left no more than it wrote, also on a lane.
-pub record SinkLeaves (book : Book) (new : FolderState) (b : Blueprint) (d : Drawn) (wires : List WireCount) (at_rest : Bool) (k : ℕ) (n : Node) (file : List ℕ) (count : ℕ) (end : EndState) : Type 0 where
+pub record SinkLeaves (book : Book) (new : FolderState) (b : Blueprint) (d : Drawn) (wires : List WireCount) (at_rest : Bool) (k : ℕ) (n : Node) (file : List ℕ)
+    (count : ℕ) (end : EndState) : Type 0 where
   pub held : List ℕ
   pub there : IsTrue new.tells → new.file file ≡ Some held
   pub tells : (w : World) → IsWorldOf book b.nodes.items d w → SinkTells (sink_outlook (graph_of b) w k (graph_node n)) end held
   pub lines_are : whole_lines (length held) held ≡ count
   pub sent : n.kind ≡ ToLines file → (u : ℕ) (v : Edge) → slice_get (blueprint_wires b) u ≡ Some v → v.to ≡ k → SentOn v.lane end (sent_at wires u) count
-  pub rests : n.kind ≡ ToLines file → IsTrue at_rest → end ≡ Unended → (u : ℕ) (v : Edge) → slice_get (blueprint_wires b) u ≡ Some v → v.to ≡ k → sent_at wires u ≡ count
+  pub rests : n.kind ≡ ToLines file → IsTrue at_rest → end ≡ Unended → (u : ℕ) (v : Edge) → slice_get (blueprint_wires b) u ≡ Some v → v.to ≡ k
+      → sent_at wires u ≡ count
 
 -- What is told of a sink that keeps nothing: it counts none, and how it stands and how many elements were sent to it are as its
 -- composed outlook lets them be.
@@ -64,15 +66,18 @@ pub record IgnoreLeaves (book : Book) (b : Blueprint) (d : Drawn) (wires : List 
 -- these moves, which fit what may come in on their inputs. There is a world that has the input files as they were read, and these
 -- moves.
 -- Choice: docs/DECISIONS.md#polytrees-never-stall
-pub record LeavesFiles (book : Book) (old new : FolderState) (b : Blueprint) (trace : Option (List ℕ)) (sinks : List SinkStand) (picks : List Pick) (wires : List WireCount) (at_rest : Bool) : Type 0 where
+pub record LeavesFiles (book : Book) (old new : FolderState) (b : Blueprint) (trace : Option (List ℕ)) (sinks : List SinkStand) (picks : List Pick)
+    (wires : List WireCount) (at_rest : Bool) : Type 0 where
   pub drawn : Drawn
   pub chose : drawn.picks ≡ picks
   pub read : WereRead old new b.nodes.items drawn
   pub world : World
   pub has_files : IsWorldOf book b.nodes.items drawn world
-  pub sink : (i : ℕ) (s : SinkStand) (n : Node) (file : List ℕ) → slice_get sinks i ≡ Some s → slice_get b.nodes.items s.0 ≡ Some n → output_of n.kind ≡ Some file
+  pub sink : (i : ℕ) (s : SinkStand) (n : Node) (file : List ℕ) → slice_get sinks i ≡ Some s → slice_get b.nodes.items s.0 ≡ Some n
+      → output_of n.kind ≡ Some file
       → SinkLeaves book new b drawn wires at_rest s.0 n file s.1 s.2
-  pub ignores : (i : ℕ) (s : SinkStand) (n : Node) → slice_get sinks i ≡ Some s → slice_get b.nodes.items s.0 ≡ Some n → n.kind ≡ Ignore → IgnoreLeaves book b drawn wires s.0 n s.1 s.2
+  pub ignores : (i : ℕ) (s : SinkStand) (n : Node) → slice_get sinks i ≡ Some s → slice_get b.nodes.items s.0 ≡ Some n → n.kind ≡ Ignore
+      → IgnoreLeaves book b drawn wires s.0 n s.1 s.2
   pub others : IsTrue new.tells → (n : List ℕ) → ¬ (Contains (outputs_of_nodes b.nodes.items) n) → trace ≢ Some n → new.file n ≡ old.file n
   pub draws : (k : ℕ) (file : List ℕ) (u : ℕ) (v : Edge) → IsSource b.nodes.items k file → slice_get (blueprint_wires b) u ≡ Some v → v.from ≡ k
       → DrawsFirst (drawn.bytes k) (drawn.given k) (drawn.faulted k) (sent_at wires u)
@@ -108,9 +113,11 @@ pub record Runs (book : Book) (old new : FolderState) (b : Blueprint) (trace : O
   pub leaves : IsTrue old.tells → LeavesFiles book old new b trace ran.sinks.items (map pick_of ran.picks.items) ran.wires.items ran.at_rest
   pub refusals : Quiet old.refusals new.refusals
   pub reads : (n : List ℕ) → ¬ (Contains (inputs_of_nodes b.nodes.items) n) → Grew (old.rfaults n) 0 (new.rfaults n)
-  pub writes : (i : ℕ) (s : SinkStand) (n : Node) (file : List ℕ) → slice_get ran.sinks.items i ≡ Some s → slice_get b.nodes.items s.0 ≡ Some n → output_of n.kind ≡ Some file → FailedWritesOf s.2 (old.wfaults file) (new.wfaults file)
+  pub writes : (i : ℕ) (s : SinkStand) (n : Node) (file : List ℕ) → slice_get ran.sinks.items i ≡ Some s → slice_get b.nodes.items s.0 ≡ Some n
+      → output_of n.kind ≡ Some file → FailedWritesOf s.2 (old.wfaults file) (new.wfaults file)
   pub faults : (i : ℕ) (s : SinkStand) → slice_get ran.sinks.items i ≡ Some s → s.2 ≡ WriteFault → SomeWriteRose old new b
-  pub calm : ((i : ℕ) (s : SinkStand) → slice_get ran.sinks.items i ≡ Some s → is_write_fault s.2 ≡ false) → ran.trace_failed ≡ false → Quiet old.wfaults new.wfaults
+  pub calm : ((i : ℕ) (s : SinkStand) → slice_get ran.sinks.items i ≡ Some s → is_write_fault s.2 ≡ false) → ran.trace_failed ≡ false
+      → Quiet old.wfaults new.wfaults
   pub other_writes : (n : List ℕ) → ¬ (Contains (outputs_of_nodes b.nodes.items) n) → trace ≢ Some n → Grew (old.wfaults n) 0 (new.wfaults n)
   pub other_draws : (n : List ℕ) → ¬ (Contains (inputs_of_nodes b.nodes.items) n) → Grew (old.read n) 0 (new.read n)
   pub within : ran.used ≤ budget

@@ -29,7 +29,8 @@ abbrev pub exact : List Tree → End → Outlook
 exact l e = record { list = l; ends = ends_by e; fails = fails_by e }
 
 -- the items are elements of the type that is settled for the wire, and how it stands
-pub record SendsItsType (plugs : List PlugHead) (chains : List ChainDecl) (nodes : List Node) (g : Graph) (w : World) (i : ℕ) (v : Edge) (sent : List Item) : Type 0 where
+pub record SendsItsType (plugs : List PlugHead) (chains : List ChainDecl) (nodes : List Node) (g : Graph) (w : World) (i : ℕ) (v : Edge) (sent : List Item)
+    : Type 0 where
   pub carries : CarriesType plugs chains nodes g w i v
   pub list : List Tree
   pub end : End

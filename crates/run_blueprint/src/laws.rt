@@ -56,7 +56,8 @@ pub fn functions_keep_types()
     ensures zero { (f : FoldOp) (t : Sort) → HasType (fold_gives f t) (fold_zero f) }
     ensures step { (f : FoldOp) (t : Sort) (a x y : Tree) → HasType (fold_gives f t) a → HasType t x → fold_step f a x ≡ Ok y → HasType (fold_gives f t) y }
     ensures same { (f : ReduceOp) (t : Sort) → TakesSort (reduce_want f) t → reduce_gives f t ≡ t }
-    ensures reduce { (f : ReduceOp) (t : Sort) (a x y : Tree) → TakesSort (reduce_want f) t → HasType t a → HasType t x → reduce_step f a x ≡ Ok y → HasType t y }
+    ensures reduce { (f : ReduceOp) (t : Sort) (a x y : Tree) → TakesSort (reduce_want f) t → HasType t a → HasType t x → reduce_step f a x ≡ Ok y
+        → HasType t y }
 {}
 
 /// A function that meets an element of a type that it takes never lacks a value because the element is of another type: only
@@ -65,26 +66,33 @@ pub fn functions_keep_types()
 pub fn functions_meet_their_types()
     ensures map { (f : MapFn) (t : Sort) (x : Tree) → TakesSort (map_want f) t → HasType t x → map_value f x ≡ Err NotANumber → f ≡ fn_kind.Num }
     ensures predicate { (q : Pred) (t : Sort) (x : Tree) → TakesSort (Some (pred_want q)) t → HasType t x → pred_value q x ≡ Err NotANumber → ⊥ }
-    ensures step { (f : FoldOp) (t : Sort) (a x : Tree) → TakesSort (fold_want f) t → HasType (fold_gives f t) a → HasType t x → fold_step f a x ≡ Err NotANumber → ⊥ }
+    ensures step { (f : FoldOp) (t : Sort) (a x : Tree) → TakesSort (fold_want f) t → HasType (fold_gives f t) a → HasType t x
+        → fold_step f a x ≡ Err NotANumber → ⊥ }
     ensures reduce { (f : ReduceOp) (t : Sort) (a x : Tree) → TakesSort (reduce_want f) t → HasType t a → HasType t x → reduce_step f a x ≡ Err NotANumber → ⊥ }
-    ensures part { (n : ℕ) (f : MapFn) (t : Sort) (x : Tree) → TakesSort (map_want f) t → map_gives f t ≡ num_type → HasType t x → part_of n (map_value f x) ≡ Err NotANumber → f ≡ fn_kind.Num }
+    ensures part { (n : ℕ) (f : MapFn) (t : Sort) (x : Tree) → TakesSort (map_want f) t → map_gives f t ≡ num_type → HasType t x
+        → part_of n (map_value f x) ≡ Err NotANumber → f ≡ fn_kind.Num }
 {}
 
 /// What may pass an output of a node is of its type, where what may pass its inputs is of theirs: a source gives its type
 /// (`source`), a node with one input what the check of a blueprint says of the type of its input (`single`), a merge, a
 /// concat, an interleave and a merge_sorted the one type of their inputs (`joining`), and a zip pairs (`zip`).
 pub fn stages_keep_types()
-    ensures source { (g : Graph) (w : World) (node : ℕ) (d : Decider) (is : List Outlook) (k : Kind) (t : Sort) → source_type k ≡ Some t → (p : ℕ) → AllTyped t (node_outlook g w node k d is p).list }
-    ensures single { (g : Graph) (w : World) (node : ℕ) (d : Decider) (o : Outlook) (plugs : List PlugHead) (chains : List ChainDecl) (k : Kind) (t u : Sort) → KeepsPlugTypes plugs w.book
+    ensures source { (g : Graph) (w : World) (node : ℕ) (d : Decider) (is : List Outlook) (k : Kind) (t : Sort) → source_type k ≡ Some t → (p : ℕ)
+        → AllTyped t (node_outlook g w node k d is p).list }
+    ensures single { (g : Graph) (w : World) (node : ℕ) (d : Decider) (o : Outlook) (plugs : List PlugHead) (chains : List ChainDecl) (k : Kind) (t u : Sort)
+        → KeepsPlugTypes plugs w.book
         → g.chains ≡ map graph_chain chains → HasKnownSteps plugs chains → is_known plugs k ≡ true → shape_of k ≡ single
         → stage_typed plugs chains k t ≡ Gives u → AllTyped t o.list → (p : ℕ) → AllTyped (half_type k p u) (node_outlook g w node k d (o ∷ []) p).list }
-    ensures joining { (g : Graph) (w : World) (node : ℕ) (d : Decider) (is : List Outlook) (k : Kind) (t : Sort) → shape_of k ≡ joining → OutlooksTyped t is → (p : ℕ) → AllTyped t (node_outlook g w node k d is p).list }
-    ensures zip { (g : Graph) (w : World) (node : ℕ) (d : Decider) (o r : Outlook) (t u : Sort) → AllTyped t o.list → AllTyped u r.list → (p : ℕ) → AllTyped (pair_type t u) (node_outlook g w node kind.Zip d (o ∷ r ∷ []) p).list }
+    ensures joining { (g : Graph) (w : World) (node : ℕ) (d : Decider) (is : List Outlook) (k : Kind) (t : Sort) → shape_of k ≡ joining → OutlooksTyped t is
+        → (p : ℕ) → AllTyped t (node_outlook g w node k d is p).list }
+    ensures zip { (g : Graph) (w : World) (node : ℕ) (d : Decider) (o r : Outlook) (t u : Sort) → AllTyped t o.list → AllTyped u r.list → (p : ℕ)
+        → AllTyped (pair_type t u) (node_outlook g w node kind.Zip d (o ∷ r ∷ []) p).list }
 {}
 
 /// A graph of a blueprint that breaks no rule passes the rules that the laws below rest on.
 pub fn fit_blueprints_pass_the_rules()
-    ensures { (b : Blueprint) (plugs : List PlugHead) (taken : List (List ℕ)) (g : Graph) → IsFit b plugs taken → g.nodes ≡ map graph_node b.nodes.items → g.wires ≡ blueprint_wires b → g.chains ≡ map graph_chain b.chains.items
+    ensures { (b : Blueprint) (plugs : List PlugHead) (taken : List (List ℕ)) (g : Graph) → IsFit b plugs taken → g.nodes ≡ map graph_node b.nodes.items
+        → g.wires ≡ blueprint_wires b → g.chains ≡ map graph_chain b.chains.items
         → PassesRules plugs b.chains.items b.nodes.items g }
 {}
 
@@ -92,7 +100,8 @@ pub fn fit_blueprints_pass_the_rules()
 /// settled for each wire, only elements of that type may pass it, and the functions of the node to which it leads take that
 /// type: its own, and in a chain each what the steps before it give.
 pub fn every_list_is_typed()
-    ensures { (plugs : List PlugHead) (chains : List ChainDecl) (nodes : List Node) (g : Graph) (w : World) (rank : ℕ → ℕ) → PassesRules plugs chains nodes g → KeepsPlugTypes plugs w.book → IsRanked g rank
+    ensures { (plugs : List PlugHead) (chains : List ChainDecl) (nodes : List Node) (g : Graph) (w : World) (rank : ℕ → ℕ) → PassesRules plugs chains nodes g
+        → KeepsPlugTypes plugs w.book → IsRanked g rank
         → (i : ℕ) (v : Edge) → slice_get g.wires i ≡ Some v → CarriesType plugs chains nodes g w i v }
 {}
 
@@ -100,10 +109,13 @@ pub fn every_list_is_typed()
 /// wire, whatever the folder tells of its files, where the world tells what the stages chose and its book what the plugs of the
 /// run give (`run`); so it is of an island that was made of it (`island`).
 pub fn every_wire_carries_its_type<S: Source, D: Drain, L: Logic, B: PlugBook>()
-    ensures run { (plugs : List PlugHead) (chains : List ChainDecl) (nodes : List Node) (g : Graph) (w : World) (rank : ℕ → ℕ) (a : Account (stage.IslandNode S D L B)) → IsRun S.state D.state w.book g a → TellsPicks w a
+    ensures run { (plugs : List PlugHead) (chains : List ChainDecl) (nodes : List Node) (g : Graph) (w : World) (rank : ℕ → ℕ)
+        (a : Account (stage.IslandNode S D L B)) → IsRun S.state D.state w.book g a → TellsPicks w a
         → PassesRules plugs chains nodes g → KeepsPlugTypes plugs w.book → IsRanked g rank
         → (i : ℕ) (v : Edge) → slice_get g.wires i ≡ Some v → SendsItsType plugs chains nodes g w i v (a.near i).wire.sent }
-    ensures island { (plugs : List PlugHead) (chains : List ChainDecl) (nodes : List Node) (g : Graph) (w : World) (rank : ℕ → ℕ) (net : Net (stage.IslandNode S D L B)) → Settled node_port_state (node_law S.state D.state w.book) node_asking node_moves net
-        → Materializes S.state g net.firsts net.ends → TellsPicks w (account_of net) → PassesRules plugs chains nodes g → KeepsPlugTypes plugs w.book → IsRanked g rank
+    ensures island { (plugs : List PlugHead) (chains : List ChainDecl) (nodes : List Node) (g : Graph) (w : World) (rank : ℕ → ℕ)
+        (net : Net (stage.IslandNode S D L B)) → Settled node_port_state (node_law S.state D.state w.book) node_asking node_moves net
+        → Materializes S.state g net.firsts net.ends → TellsPicks w (account_of net) → PassesRules plugs chains nodes g → KeepsPlugTypes plugs w.book
+        → IsRanked g rank
         → (i : ℕ) (v : Edge) → slice_get g.wires i ≡ Some v → SendsItsType plugs chains nodes g w i v (wire_at net i).wire.sent }
 {}

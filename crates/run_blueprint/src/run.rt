@@ -150,12 +150,17 @@ fn close<F: Folder, L: Logic, B: PlugBook>(
     room: Vec<u8>,
 ) -> RunResult
     requires { room.items ≡ [] }
-    ensures runs { (old : FolderState) (b : plan.Blueprint) (trace : Option (List ℕ)) (budget : ℕ) (ss : List F.Inp) (ds : List F.Out) → CanRun b → IsApart b trace → choosers.now ≡ pick_names b.nodes.items
-        → Opens old (F.state folder.old) (inputs_of_nodes b.nodes.items) (outputs_of_nodes b.nodes.items) (option_to_list trace) (map F.Inp.state ss) (map F.Out.state ds) → OpensAs (F.state folder.old) trace (option_map F.Out.state drain)
+    ensures runs { (old : FolderState) (b : plan.Blueprint) (trace : Option (List ℕ)) (budget : ℕ) (ss : List F.Inp) (ds : List F.Out) → CanRun b
+        → IsApart b trace → choosers.now ≡ pick_names b.nodes.items
+        → Opens old (F.state folder.old) (inputs_of_nodes b.nodes.items) (outputs_of_nodes b.nodes.items) (option_to_list trace) (map F.Inp.state ss)
+        (map F.Out.state ds) → OpensAs (F.state folder.old) trace (option_map F.Out.state drain)
         → RunLeaves L B F.Inp.state F.Out.state B.lists b ss ds budget stopped → Runs B.lists old (F.state folder.new) b trace budget result }
-    ensures handles { F.handles folder.new ≡ F.handles folder.old - (length stopped.end.readers.items + length stopped.end.writers.items + length (option_to_list drain)) }
-    ensures all { (old : FolderState) (b : plan.Blueprint) (trace : Option (List ℕ)) (budget : ℕ) (ss : List F.Inp) (ds : List F.Out) → CanRun b → IsApart b trace
-        → Opens old (F.state folder.old) (inputs_of_nodes b.nodes.items) (outputs_of_nodes b.nodes.items) (option_to_list trace) (map F.Inp.state ss) (map F.Out.state ds) → OpensAs (F.state folder.old) trace (option_map F.Out.state drain)
+    ensures handles { F.handles folder.new ≡ F.handles folder.old - (length stopped.end.readers.items + length stopped.end.writers.items + length
+        (option_to_list drain)) }
+    ensures all { (old : FolderState) (b : plan.Blueprint) (trace : Option (List ℕ)) (budget : ℕ) (ss : List F.Inp) (ds : List F.Out) → CanRun b
+        → IsApart b trace
+        → Opens old (F.state folder.old) (inputs_of_nodes b.nodes.items) (outputs_of_nodes b.nodes.items) (option_to_list trace) (map F.Inp.state ss)
+        (map F.Out.state ds) → OpensAs (F.state folder.old) trace (option_map F.Out.state drain)
         → RunLeaves L B F.Inp.state F.Out.state B.lists b ss ds budget stopped → HasAsMany ss ds stopped.end }
     ensures same { (result.used ≡ stopped.used) × (result.at_rest ≡ stopped.at_rest) × (result.ran ≡ stopped.ran) }
 {
@@ -210,11 +215,13 @@ fn give_up<F: Folder, L: Logic, B: PlugBook>(
     drain: Option<F::Out>,
 )
     ensures wants { (old : FolderState) (b : plan.Blueprint) (trace : Option (List ℕ)) (ss : List F.Inp) (ds : List F.Out) → CanRun b → IsApart b trace
-        → Opens old (F.state folder.old) (inputs_of_nodes b.nodes.items) (outputs_of_nodes b.nodes.items) (option_to_list trace) (map F.Inp.state ss) (map F.Out.state ds) → OpensAs (F.state folder.old) trace (option_map F.Out.state drain)
+        → Opens old (F.state folder.old) (inputs_of_nodes b.nodes.items) (outputs_of_nodes b.nodes.items) (option_to_list trace) (map F.Inp.state ss)
+        (map F.Out.state ds) → OpensAs (F.state folder.old) trace (option_map F.Out.state drain)
         → LeavesBroken L B F.Inp.state F.Out.state B.lists b ss ds end → WantsWithin B.lists old (F.state folder.new) b trace }
     ensures handles { F.handles folder.new ≡ F.handles folder.old - (length end.readers.items + length end.writers.items + length (option_to_list drain)) }
     ensures all { (old : FolderState) (b : plan.Blueprint) (trace : Option (List ℕ)) (ss : List F.Inp) (ds : List F.Out) → CanRun b → IsApart b trace
-        → Opens old (F.state folder.old) (inputs_of_nodes b.nodes.items) (outputs_of_nodes b.nodes.items) (option_to_list trace) (map F.Inp.state ss) (map F.Out.state ds) → OpensAs (F.state folder.old) trace (option_map F.Out.state drain)
+        → Opens old (F.state folder.old) (inputs_of_nodes b.nodes.items) (outputs_of_nodes b.nodes.items) (option_to_list trace) (map F.Inp.state ss)
+        (map F.Out.state ds) → OpensAs (F.state folder.old) trace (option_map F.Out.state drain)
         → LeavesBroken L B F.Inp.state F.Out.state B.lists b ss ds end → HasAsMany ss ds end }
 {
     every_sink_agrees::<F::Inp, F::Out, L, B>();
@@ -228,7 +235,8 @@ fn give_up<F: Folder, L: Logic, B: PlugBook>(
 
 /// Closes what was opened for islands of which one did not start.
 fn close_unmade<F: Folder>(folder: &mut F, end: IslandEnd<F::Inp, F::Out>, drain: Option<F::Out>)
-    ensures closes { ClosesAll (F.state folder.old) (F.state folder.new) (map F.Inp.state end.readers.items) (map F.Out.state end.writers.items ++ option_to_list (option_map F.Out.state drain)) }
+    ensures closes { ClosesAll (F.state folder.old) (F.state folder.new) (map F.Inp.state end.readers.items)
+        (map F.Out.state end.writers.items ++ option_to_list (option_map F.Out.state drain)) }
     ensures handles { F.handles folder.new ≡ F.handles folder.old - (length end.readers.items + length end.writers.items + length (option_to_list drain)) }
 {
     close_broken(folder, end);
@@ -258,8 +266,10 @@ pub fn run<R: Threads + Wait + Sync, F: Folder, L: Logic + Send, B: PlugBook + S
     requires budget { budget ≤ MOST_COUNT }
     ensures ran { IfOk result (λ ran. Runs B.lists (F.state folder.old) (F.state folder.new) b trace budget ran) }
     ensures receipt { IfOk result (λ ran. IsReceipt b workers ran.used ran.at_rest ran.ran) }
-    ensures no_input { (n : List ℕ) → result ≡ Err (OpenEnd.MissingInput n) → MissesInput (F.state folder.old) (F.state folder.new) (inputs_of_nodes b.nodes.items) n }
-    ensures no_output { (n : List ℕ) → result ≡ Err (OpenEnd.MissingOutput n) → RefusesOutput (F.state folder.old) (F.state folder.new) (inputs_of_nodes b.nodes.items) (written_files b trace) n }
+    ensures no_input { (n : List ℕ) → result ≡ Err (OpenEnd.MissingInput n) → MissesInput (F.state folder.old) (F.state folder.new)
+        (inputs_of_nodes b.nodes.items) n }
+    ensures no_output { (n : List ℕ) → result ≡ Err (OpenEnd.MissingOutput n) → RefusesOutput (F.state folder.old) (F.state folder.new)
+        (inputs_of_nodes b.nodes.items) (written_files b trace) n }
     ensures no_memory { result ≡ Err OpenEnd.NoMemory → Wants B.lists (F.state folder.old) (F.state folder.new) b trace }
     ensures handles { F.handles folder.new ≡ F.handles folder.old }
 {

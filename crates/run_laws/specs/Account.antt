@@ -98,7 +98,8 @@ abbrev pub WireQuiet : Option ℕ → WireState → WireState → ℕ → Type 0
 WireQuiet None near far asked = ⊤
 WireQuiet (Some size) near far asked = (keeps : LaneKeeps size near far asked) × LaneQuiet size near far asked keeps
 
-module _ {N : Type 0} (port_state : N → View → Type 0) (law : N → N → View → List (List Item) → List (List Item) → Type 0) (asking : N → View → Type 0) (moves : N → List ℕ) where
+module _ {N : Type 0} (port_state : N → View → Type 0) (law : N → N → View → List (List Item) → List (List Item) → Type 0) (asking : N → View → Type 0)
+    (moves : N → List ℕ) where
   -- The moment at which a node last asked at its p-th input, by what it took and gave and by what is wanted of its inputs and
   -- outputs: its port_state and its law held, and what it tells whenever it has just asked; it waited there, one element more than it
   -- had taken is wanted, and all has only grown; an output that was closed is shut.
@@ -149,8 +150,10 @@ module _ {N : Type 0} (port_state : N → View → Type 0) (law : N → N → Vi
       pub now_at : a.nodes k ≡ Some now
       pub port_state_holds : port_state now (knows g a k n)
       pub law_holds : law first now (knows g a k n) (took g a k n) (gave g a k n)
-      pub asks : (p : ℕ) → p < inputs_of n.kind → 1 ≤ slice_index_or (ins_wanted g a k n) p 0 → Earlier p first now (took g a k n) (gave g a k n) (ins_wanted g a k n) (outs_wanted g a k n) (outs_shut g a k n)
-      pub last : (p : ℕ) → p < inputs_of n.kind → 1 ≤ slice_index_or (ins_wanted g a k n) p 0 → LastAsked first now (took g a k n) (gave g a k n) (ins_wanted g a k n) (outs_wanted g a k n) (outs_shut g a k n)
+      pub asks : (p : ℕ) → p < inputs_of n.kind → 1 ≤ slice_index_or (ins_wanted g a k n) p 0
+          → Earlier p first now (took g a k n) (gave g a k n) (ins_wanted g a k n) (outs_wanted g a k n) (outs_shut g a k n)
+      pub last : (p : ℕ) → p < inputs_of n.kind → 1 ≤ slice_index_or (ins_wanted g a k n) p 0
+          → LastAsked first now (took g a k n) (gave g a k n) (ins_wanted g a k n) (outs_wanted g a k n) (outs_shut g a k n)
 
     -- what all nodes and wires keep
     pub record KeepsLaws : Type 0 where

@@ -29,8 +29,10 @@ pub record IsOneMachine (kd : Kind) (wk : Work) : Type 0 where
   pub no_sink : is_sink kd ≡ false
   pub outlook : (g : Graph) (w : World) (k : ℕ) (d : Decider) (os : List Outlook) (p : ℕ) → node_outlook g w k kd d os p ≡ of_work w.book k d (Some wk) os
   pub no_moves : (g : Graph) (w : World) (k : ℕ) (os : List Outlook) → moves_fit g w k kd os ≡ true
-  pub lawful : (g : Graph) (w : World) (k : ℕ) (d : Decider) (is os : List picture.SeenWire) → OneToOne (StageLawful (of_machine (linear w.book wk) (begin_work k d wk) (holds_at_end wk))) is os → RowLawful g w k kd d is os
-  pub rests : (g : Graph) (w : World) (k : ℕ) (d : Decider) (is os : List picture.SeenWire) → OneToOne (StageRests (of_machine (linear w.book wk) (begin_work k d wk) (holds_at_end wk))) is os → RowRests g w k kd d is os
+  pub lawful : (g : Graph) (w : World) (k : ℕ) (d : Decider) (is os : List picture.SeenWire)
+      → OneToOne (StageLawful (of_machine (linear w.book wk) (begin_work k d wk) (holds_at_end wk))) is os → RowLawful g w k kd d is os
+  pub rests : (g : Graph) (w : World) (k : ℕ) (d : Decider) (is os : List picture.SeenWire)
+      → OneToOne (StageRests (of_machine (linear w.book wk) (begin_work k d wk) (holds_at_end wk))) is os → RowRests g w k kd d is os
 
 -- the history is a list and an end, which is known of the port
 pub record IsHistoryOf (x : InView) (h : List Item) : Type 0 where
@@ -45,22 +47,28 @@ HearsAll v took = (p : ℕ) (h : List Item) → slice_get took p ≡ Some h → 
 
 -- In a run: where what a node took may pass by these outlooks, what it gave agrees with its own, and its moves fit them.
 pub record RunLaws (g : Graph) (w : World) (k : ℕ) (n : graph.Node) (took gave : List (List Item)) : Type 0 where
-  pub gives : (os : List Outlook) → AllMayPass os took → (p : ℕ) (h : List Item) → slice_get gave p ≡ Some h → AgreesWith (node_outlook g w k n.kind n.decider os p) h
+  pub gives : (os : List Outlook) → AllMayPass os took → (p : ℕ) (h : List Item) → slice_get gave p ≡ Some h
+      → AgreesWith (node_outlook g w k n.kind n.decider os p) h
   pub fits : (os : List Outlook) → AllMayPass os took → moves_fit g w k n.kind os ≡ true
 
 -- the moments of a node's asks, by its ports: the last one at input p, and the last one at any
-abbrev pub Moments : {N : Type 0} → (N → View → Type 0) → (N → N → View → List (List Item) → List (List Item) → Type 0) → (N → View → Type 0) → (N → List ℕ) → N → N → List InPort → List OutPort → ℕ → Type 0
+abbrev pub Moments : {N : Type 0} → (N → View → Type 0) → (N → N → View → List (List Item) → List (List Item) → Type 0) → (N → View → Type 0) → (N → List ℕ) → N
+    → N → List InPort → List OutPort → ℕ → Type 0
 Moments port_state law asking moves first now is os p =
-    Earlier port_state law asking moves p first now (map (λ (i : InPort). i.got) is) (map (λ (o : OutPort). o.sent) os) (map (λ (i : InPort). i.want) is) (map (λ (o : OutPort). o.want) os) (map (λ (o : OutPort). o.wire.shut) os)
-    × LastAsked port_state law asking moves first now (map (λ (i : InPort). i.got) is) (map (λ (o : OutPort). o.sent) os) (map (λ (i : InPort). i.want) is) (map (λ (o : OutPort). o.want) os) (map (λ (o : OutPort). o.wire.shut) os)
+    Earlier port_state law asking moves p first now (map (λ (i : InPort). i.got) is) (map (λ (o : OutPort). o.sent) os) (map (λ (i : InPort). i.want) is)
+    (map (λ (o : OutPort). o.want) os) (map (λ (o : OutPort). o.wire.shut) os)
+    × LastAsked port_state law asking moves first now (map (λ (i : InPort). i.got) is) (map (λ (o : OutPort). o.sent) os) (map (λ (i : InPort). i.want) is)
+    (map (λ (o : OutPort). o.want) os) (map (λ (o : OutPort). o.wire.shut) os)
 
 -- In a picture, by the ports and by the moments of the node's asks: its port_state of a lawful one, its port_state of one that rests, and that
 -- the input of a sink is shut exactly where it has ended.
-pub record PictureLaws {N : Type 0} (port_state : N → View → Type 0) (law : N → N → View → List (List Item) → List (List Item) → Type 0) (asking : N → View → Type 0) (moves : N → List ℕ) (ended : N → Bool)
+pub record PictureLaws {N : Type 0} (port_state : N → View → Type 0) (law : N → N → View → List (List Item) → List (List Item) → Type 0)
+    (asking : N → View → Type 0) (moves : N → List ℕ) (ended : N → Bool)
     (g : Graph) (w : World) (k : ℕ) (n : graph.Node) (first now : N) (is : List InPort) (os : List OutPort) : Type 0 where
   pub lawful : EachPort InStands is → EachPort OutStands os
       → ((p : ℕ) → 1 ≤ slice_index_or (map (λ (i : InPort). i.want) is) p 0 → Moments port_state law asking moves first now is os p)
       → RowLawful g w k n.kind n.decider (map (λ (i : InPort). i.wire) is) (map (λ (o : OutPort). o.wire) os)
   pub rests : EachPort InStands is → EachPort OutStands os → EachPort InRests is → EachPort OutRests os
-      → (EachWire IsShut (map (λ (i : InPort). i.wire) is) × EachWire IsShut (map (λ (o : OutPort). o.wire) os)) ⊎ RowRests g w k n.kind n.decider (map (λ (i : InPort). i.wire) is) (map (λ (o : OutPort). o.wire) os)
+      → (EachWire IsShut (map (λ (i : InPort). i.wire) is) × EachWire IsShut (map (λ (o : OutPort). o.wire) os))
+      ⊎ RowRests g w k n.kind n.decider (map (λ (i : InPort). i.wire) is) (map (λ (o : OutPort). o.wire) os)
   pub matches : is_sink n.kind ≡ true → EachPort InRests is → EachWire (λ (i : picture.SeenWire). i.shut ≡ ended now) (map (λ (i : InPort). i.wire) is)

@@ -120,5 +120,6 @@ pub record IsFused (v : Edge) (e : WireEnds) : Type 0 where
 pub record Materializes {S D L B : Type 0} (sources : S → SourceState) (g : Graph) (firsts : List (IslandNode S D L B)) (ends : List WireEnds) : Type 0 where
   pub nodes : length firsts ≡ length g.nodes
   pub wires : length ends ≡ length g.wires
-  pub each_node : (k : ℕ) (n : graph.Node) (x : IslandNode S D L B) → slice_get g.nodes k ≡ Some n → slice_get firsts k ≡ Some x → FirstOf sources g.chains k n x
+  pub each_node : (k : ℕ) (n : graph.Node) (x : IslandNode S D L B) → slice_get g.nodes k ≡ Some n → slice_get firsts k ≡ Some x
+      → FirstOf sources g.chains k n x
   pub each_wire : (i : ℕ) (v : Edge) → slice_get g.wires i ≡ Some v → IsFused v (end_at ends i)

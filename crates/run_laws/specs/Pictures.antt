@@ -26,11 +26,21 @@ module _ {N : Type 0} (a : Account N) where
   module _ (g : Graph) (outlook : ℕ → Outlook) where
     -- the input of a node to which wire u leads, with what the picture says of the wire
     abbrev pub in_port : ℕ → Edge → InPort
-    in_port u v = record { view = (a.far u).wire.inp; got = (a.far u).wire.got; want = wanted (a.far u); wire = view_of u v (wire_count v.lane (a.near u) (a.asked u)) (outlook u) }
+    in_port u v = record {
+      view = (a.far u).wire.inp;
+      got = (a.far u).wire.got;
+      want = wanted (a.far u);
+      wire = view_of u v (wire_count v.lane (a.near u) (a.asked u)) (outlook u);
+    }
 
     -- the output of a node from which wire u leads, with what the picture says of the wire
     abbrev pub out_port : ℕ → Edge → OutPort
-    out_port u v = record { view = (a.near u).wire.out; sent = (a.near u).wire.sent; want = wanted (a.near u); wire = view_of u v (wire_count v.lane (a.near u) (a.asked u)) (outlook u) }
+    out_port u v = record {
+      view = (a.near u).wire.out;
+      sent = (a.near u).wire.sent;
+      want = wanted (a.near u);
+      wire = view_of u v (wire_count v.lane (a.near u) (a.asked u)) (outlook u);
+    }
 
     -- these inputs with that of a wire, where there is one, in front
     abbrev cons_in : Option ℕ → Option Edge → List InPort → List InPort

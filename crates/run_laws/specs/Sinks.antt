@@ -57,7 +57,8 @@ pub record IsSinkAt {S D L B : Type 0} (a : Account (IslandNode S D L B)) (k : �
 -- What a sink with a file wrote, whether its drain tells what it holds or not: so many whole lines as it counts, and bytes that its
 -- outlook lets it write, by every world of this book of plugs that tells of the files of the sources. A drain that was empty at
 -- first, and tells what it holds, holds just those bytes.
-pub record SinkWrote {S D L B : Type 0} (sources : S → SourceState) (drains : D → DrainState) (book : Book) (g : Graph) (a : Account (IslandNode S D L B)) (k : ℕ) (n : graph.Node) (first now : Sink D) : Type 0 where
+pub record SinkWrote {S D L B : Type 0} (sources : S → SourceState) (drains : D → DrainState) (book : Book) (g : Graph) (a : Account (IslandNode S D L B))
+    (k : ℕ) (n : graph.Node) (first now : Sink D) : Type 0 where
   pub written : List ℕ
   pub lines_are : whole_lines (length written) written ≡ now.count
   pub holds : (drains first.drain).holds ≡ Some [] → (drains now.drain).holds ≡ Some written

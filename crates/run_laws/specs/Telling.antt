@@ -52,12 +52,14 @@ chosen_world book file a = record { book = book; file = file; moves = λ k. move
 module _ {S D L B : Type 0} (sources : S → SourceState) where
   -- a source's file, by its name
   abbrev pub TellsNode : World → graph.Node → IslandNode S D L B → IslandNode S D L B → Type 0
-  TellsNode w n (Reading first) (Reading now) = (name : List ℕ) → n.kind ≡ kind.Lines name → TellsFile (sources first.reader.source) (sources now.reader.source) (w.file name)
+  TellsNode w n (Reading first) (Reading now) = (name : List ℕ) → n.kind ≡ kind.Lines name
+      → TellsFile (sources first.reader.source) (sources now.reader.source) (w.file name)
   TellsNode w n _ _ = ⊤
 
   -- a world tells the files of all sources
   abbrev pub TellsFiles : Graph → World → Account (IslandNode S D L B) → Type 0
-  TellsFiles g w a = (k : ℕ) (n : graph.Node) (first now : IslandNode S D L B) → slice_get g.nodes k ≡ Some n → a.firsts k ≡ Some first → a.nodes k ≡ Some now → TellsNode w n first now
+  TellsFiles g w a = (k : ℕ) (n : graph.Node) (first now : IslandNode S D L B) → slice_get g.nodes k ≡ Some n → a.firsts k ≡ Some first → a.nodes k ≡ Some now
+      → TellsNode w n first now
 
   -- the files of all nodes, and what they chose
   pub record WorldTells (g : Graph) (w : World) (a : Account (IslandNode S D L B)) : Type 0 where

@@ -23,13 +23,15 @@ ghost use Rattle.run_laws.specs.Unmoved.{NoAsking, no_moves, never_ends};
 /// A concat, an interleave, a merge_sorted, a zip or a merge meets the rows of its kind: that of a lawful picture by the moments
 /// of its asks, that of a merge by its moves too, and where no event is left that of one that rests.
 pub fn a_node_with_several_inputs_tells_its_rows()
-    ensures { (g : Graph) (w : World) (k : ℕ) (n : graph.Node) (first now : InLogic) (is : List InPort) (os : List OutPort) → stage_in.Begins k n.kind n.decider first → TellsMoves w k now → InPortState now (views_of is os)
+    ensures { (g : Graph) (w : World) (k : ℕ) (n : graph.Node) (first now : InLogic) (is : List InPort) (os : List OutPort)
+        → stage_in.Begins k n.kind n.decider first → TellsMoves w k now → InPortState now (views_of is os)
         → InLaw first now (views_of is os) (gots_of is) (sents_of os) → PictureLaws InPortState InLaw NoAsking in_moves never_ends g w k n first now is os }
 {}
 
 /// A broadcast, an unzip or a partition does too; and a balance, where the world tells the moves that it recorded.
 pub fn a_node_with_several_outputs_tells_its_rows()
-    ensures { (g : Graph) (w : World) (k : ℕ) (n : graph.Node) (first now : OutLogic) (is : List InPort) (os : List OutPort) → stage_out.Begins k n.kind first → choice.TellsMoves w k now → port_state now (views_of is os)
+    ensures { (g : Graph) (w : World) (k : ℕ) (n : graph.Node) (first now : OutLogic) (is : List InPort) (os : List OutPort) → stage_out.Begins k n.kind first
+        → choice.TellsMoves w k now → port_state now (views_of is os)
         → OutLaw first now (views_of is os) (gots_of is) (sents_of os) → PictureLaws port_state OutLaw OutAsking no_moves never_ends g w k n first now is os }
 {}
 
@@ -37,10 +39,13 @@ pub fn a_node_with_several_outputs_tells_its_rows()
 /// outlooks that the model has of their outputs by the moves that they recorded; and what came at each input is a list and an
 /// end, which is known there.
 pub fn nodes_with_several_ports_agree()
-    ensures ins { (g : Graph) (w : World) (k : ℕ) (n : graph.Node) (first now : InLogic) (v : View) (took gave : List (List Item)) → stage_in.Begins k n.kind n.decider first → length took ≡ inputs_of n.kind → TellsMoves w k now
+    ensures ins { (g : Graph) (w : World) (k : ℕ) (n : graph.Node) (first now : InLogic) (v : View) (took gave : List (List Item))
+        → stage_in.Begins k n.kind n.decider first → length took ≡ inputs_of n.kind → TellsMoves w k now
         → InLaw first now v took gave → RunLaws g w k n took gave }
-    ensures outs { (g : Graph) (w : World) (k : ℕ) (n : graph.Node) (first now : OutLogic) (v : View) (took gave : List (List Item)) → stage_out.Begins k n.kind first
+    ensures outs { (g : Graph) (w : World) (k : ℕ) (n : graph.Node) (first now : OutLogic) (v : View) (took gave : List (List Item))
+        → stage_out.Begins k n.kind first
         → choice.TellsMoves w k now → OutLaw first now v took gave → RunLaws g w k n took gave }
     ensures ins_heard { (first now : InLogic) (v : View) (took gave : List (List Item)) → InLaw first now v took gave → HearsAll v took }
-    ensures outs_heard { (book : Book) (k : ℕ) (kind : Kind) (first now : OutLogic) (v : View) (took gave : List (List Item)) → stage_out.Begins k kind first → OutLaw first now v took gave → HearsAll v took }
+    ensures outs_heard { (book : Book) (k : ℕ) (kind : Kind) (first now : OutLogic) (v : View) (took gave : List (List Item)) → stage_out.Begins k kind first
+        → OutLaw first now v took gave → HearsAll v took }
 {}

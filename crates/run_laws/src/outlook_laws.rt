@@ -39,9 +39,13 @@ use stream_io::outside::{Drain, Source};
 /// An island that was made of a blueprint, between two events, leaves a run of it (`run`); and no event is left on any wire
 /// where none is left in the island (`still`). Its picture is that of the island's wires, in their order (`counts`).
 pub fn an_island_leaves_a_run<S: Source, D: Drain, L: Logic, B: PlugBook>()
-    ensures run { (g : Graph) (net : Net (IslandNode S D L B)) → IsJoined g → Settled node_port_state (node_law S.state D.state B.lists) node_asking node_moves net → Materializes S.state g net.firsts net.ends → IsRun S.state D.state B.lists g (account_of net) }
-    ensures still { (g : Graph) (net : Net (IslandNode S D L B)) → Settled node_port_state (node_law S.state D.state B.lists) node_asking node_moves net → Materializes S.state g net.firsts net.ends → net.queue ≡ [] → IsStill g (account_of net) }
-    ensures counts { (g : Graph) (net : Net (IslandNode S D L B)) → Settled node_port_state (node_law S.state D.state B.lists) node_asking node_moves net → Materializes S.state g net.firsts net.ends → picture_counts (account_of net) g ≡ map (λ (c : WireState). wire_count None c 0) net.wires }
+    ensures run { (g : Graph) (net : Net (IslandNode S D L B)) → IsJoined g → Settled node_port_state
+        (node_law S.state D.state B.lists) node_asking node_moves net → Materializes S.state g net.firsts net.ends
+        → IsRun S.state D.state B.lists g (account_of net) }
+    ensures still { (g : Graph) (net : Net (IslandNode S D L B)) → Settled node_port_state (node_law S.state D.state B.lists) node_asking node_moves net
+        → Materializes S.state g net.firsts net.ends → net.queue ≡ [] → IsStill g (account_of net) }
+    ensures counts { (g : Graph) (net : Net (IslandNode S D L B)) → Settled node_port_state (node_law S.state D.state B.lists) node_asking node_moves net
+        → Materializes S.state g net.firsts net.ends → picture_counts (account_of net) g ≡ map (λ (c : WireState). wire_count None c 0) net.wires }
 {}
 
 /// Islands in which the nodes and wires of a blueprint have their places, between two events, leave a run of it where its nodes
@@ -52,14 +56,16 @@ pub fn islands_leave_a_run<S: Source, D: Drain, L: Logic, B: PlugBook>()
         → ((b : ℕ) → Settled node_port_state (node_law S.state D.state B.lists) node_asking node_moves (nets b)) → LanesKeep g nets seats asked
         → AllMade (FirstOf S.state g.chains) g (joined_account nets seats asked) → IsRun S.state D.state B.lists g (joined_account nets seats asked) }
     ensures still { (g : Graph) (nets : ℕ → Net (IslandNode S D L B)) (seats : Seats) (asked : ℕ → ℕ) → Covers g nets seats
-        → ((b : ℕ) → Settled node_port_state (node_law S.state D.state B.lists) node_asking node_moves (nets b)) → ((b : ℕ) → (nets b).queue ≡ []) → LanesRest g nets seats asked
+        → ((b : ℕ) → Settled node_port_state (node_law S.state D.state B.lists) node_asking node_moves (nets b)) → ((b : ℕ) → (nets b).queue ≡ [])
+        → LanesRest g nets seats asked
         → IsStill g (joined_account nets seats asked) }
 {}
 
 /// What was sent on each wire, its elements and its end, agrees with the composed outlook of that wire, over the input files
 /// as the world tells them.
 pub fn every_wire_agrees<S: Source, D: Drain, L: Logic, B: PlugBook>()
-    ensures { (g : Graph) (w : World) (rank : ℕ → ℕ) (a : Account (IslandNode S D L B)) → IsRun S.state D.state w.book g a → WorldTells S.state g w a → IsRanked g rank
+    ensures { (g : Graph) (w : World) (rank : ℕ → ℕ) (a : Account (IslandNode S D L B)) → IsRun S.state D.state w.book g a → WorldTells S.state g w a
+        → IsRanked g rank
         → (i : ℕ) → i < length g.wires → AgreesWith (composed g w i) (a.near i).wire.sent }
 {}
 
@@ -71,15 +77,20 @@ pub fn every_wire_agrees<S: Source, D: Drain, L: Logic, B: PlugBook>()
 pub fn every_sink_agrees<S: Source, D: Drain, L: Logic, B: PlugBook>()
     ensures there { (g : Graph) (a : Account (IslandNode S D L B)) → IsRun S.state D.state B.lists g a
         → (k : ℕ) (n : graph.Node) → slice_get g.nodes k ≡ Some n → IsFileSink n.kind → (first : Sink D) × ((now : Sink D) × IsSinkAt a k first now) }
-    ensures took { (g : Graph) (w : World) (rank : ℕ → ℕ) (a : Account (IslandNode S D L B)) → IsRun S.state D.state w.book g a → WorldTells S.state g w a → IsRanked g rank
-        → (k : ℕ) (n : graph.Node) (name : List ℕ) (first now : Sink D) → slice_get g.nodes k ≡ Some n → n.kind ≡ kind.ToLines name → IsSinkAt a k first now → TookList (sink_outlook g w k n) now.end (took g a k n) }
-    ensures tells { (g : Graph) (w : World) (rank : ℕ → ℕ) (a : Account (IslandNode S D L B)) → IsRun S.state D.state w.book g a → WorldTells S.state g w a → IsRanked g rank
+    ensures took { (g : Graph) (w : World) (rank : ℕ → ℕ) (a : Account (IslandNode S D L B)) → IsRun S.state D.state w.book g a → WorldTells S.state g w a
+        → IsRanked g rank
+        → (k : ℕ) (n : graph.Node) (name : List ℕ) (first now : Sink D) → slice_get g.nodes k ≡ Some n → n.kind ≡ kind.ToLines name → IsSinkAt a k first now
+        → TookList (sink_outlook g w k n) now.end (took g a k n) }
+    ensures tells { (g : Graph) (w : World) (rank : ℕ → ℕ) (a : Account (IslandNode S D L B)) → IsRun S.state D.state w.book g a → WorldTells S.state g w a
+        → IsRanked g rank
         → (k : ℕ) (n : graph.Node) (first now : Sink D) (written : List ℕ) → slice_get g.nodes k ≡ Some n → IsSinkAt a k first now
         → (D.state first.drain).holds ≡ Some [] → (D.state now.drain).holds ≡ Some written → SinkTells (sink_outlook g w k n) now.end written }
     ensures ignorer { (g : Graph) (a : Account (IslandNode S D L B)) → IsRun S.state D.state B.lists g a
         → (k : ℕ) (n : graph.Node) → slice_get g.nodes k ≡ Some n → n.kind ≡ kind.Ignore → (first : Ignorer) × ((now : Ignorer) × IsIgnorerAt a k first now) }
-    ensures ignores { (g : Graph) (w : World) (rank : ℕ → ℕ) (a : Account (IslandNode S D L B)) → IsRun S.state D.state w.book g a → WorldTells S.state g w a → IsRanked g rank
-        → (k : ℕ) (n : graph.Node) (first now : Ignorer) (u : ℕ) (v : Edge) → slice_get g.nodes k ≡ Some n → IsIgnorerAt a k first now → slice_get g.wires u ≡ Some v → v.to ≡ k
+    ensures ignores { (g : Graph) (w : World) (rank : ℕ → ℕ) (a : Account (IslandNode S D L B)) → IsRun S.state D.state w.book g a → WorldTells S.state g w a
+        → IsRanked g rank
+        → (k : ℕ) (n : graph.Node) (first now : Ignorer) (u : ℕ) (v : Edge) → slice_get g.nodes k ≡ Some n → IsIgnorerAt a k first now
+        → slice_get g.wires u ≡ Some v → v.to ≡ k
         → IgnoreTells (sink_outlook g w k n) now.end (elements (a.far u).wire.sent) }
 {}
 
@@ -87,7 +98,8 @@ pub fn every_sink_agrees<S: Source, D: Drain, L: Logic, B: PlugBook>()
 /// tell what it holds. So it is by every world with the book of the run's plugs.
 pub fn every_sink_writes<S: Source, D: Drain, L: Logic, B: PlugBook>()
     ensures { (g : Graph) (a : Account (IslandNode S D L B)) → IsRun S.state D.state B.lists g a
-        → (k : ℕ) (n : graph.Node) (first now : Sink D) → slice_get g.nodes k ≡ Some n → IsSinkAt a k first now → SinkWrote S.state D.state B.lists g a k n first now }
+        → (k : ℕ) (n : graph.Node) (first now : Sink D) → slice_get g.nodes k ≡ Some n → IsSinkAt a k first now
+        → SinkWrote S.state D.state B.lists g a k n first now }
 {}
 
 /// A sink has written as many whole lines as it counts, where its file was empty at first (`lines`). As many elements were
@@ -98,10 +110,12 @@ pub fn every_sink_counts_its_lines<S: Source, D: Drain, L: Logic, B: PlugBook>()
         → (k : ℕ) (n : graph.Node) (first now : Sink D) (written : List ℕ) → slice_get g.nodes k ≡ Some n → IsSinkAt a k first now
         → (D.state first.drain).holds ≡ Some [] → (D.state now.drain).holds ≡ Some written → whole_lines (length written) written ≡ now.count }
     ensures sent { (g : Graph) (a : Account (IslandNode S D L B)) → IsRun S.state D.state B.lists g a
-        → (k : ℕ) (n : graph.Node) (name : List ℕ) (first now : Sink D) (u : ℕ) (v : Edge) → slice_get g.nodes k ≡ Some n → n.kind ≡ kind.ToLines name → IsSinkAt a k first now → slice_get g.wires u ≡ Some v → v.to ≡ k
+        → (k : ℕ) (n : graph.Node) (name : List ℕ) (first now : Sink D) (u : ℕ) (v : Edge) → slice_get g.nodes k ≡ Some n → n.kind ≡ kind.ToLines name
+        → IsSinkAt a k first now → slice_get g.wires u ≡ Some v → v.to ≡ k
         → SentTo now.end (elements (a.far u).wire.sent) now.count }
     ensures rest { (g : Graph) (a : Account (IslandNode S D L B)) → IsRun S.state D.state B.lists g a
-        → (k : ℕ) (n : graph.Node) (name : List ℕ) (first now : Sink D) (u : ℕ) (v : Edge) → slice_get g.nodes k ≡ Some n → n.kind ≡ kind.ToLines name → IsSinkAt a k first now → slice_get g.wires u ≡ Some v → v.to ≡ k
+        → (k : ℕ) (n : graph.Node) (name : List ℕ) (first now : Sink D) (u : ℕ) (v : Edge) → slice_get g.nodes k ≡ Some n → n.kind ≡ kind.ToLines name
+        → IsSinkAt a k first now → slice_get g.wires u ≡ Some v → v.to ≡ k
         → IsStill g a → now.end ≡ Unended → elements (a.far u).wire.sent ≡ now.count }
 {}
 
@@ -109,9 +123,11 @@ pub fn every_sink_counts_its_lines<S: Source, D: Drain, L: Logic, B: PlugBook>()
 /// of the file little more was handed out than those (`reads`).
 pub fn every_source_reads_little_ahead<S: Source, D: Drain, L: Logic, B: PlugBook>()
     ensures there { (g : Graph) (a : Account (IslandNode S D L B)) → IsRun S.state D.state B.lists g a
-        → (k : ℕ) (n : graph.Node) (name : List ℕ) → slice_get g.nodes k ≡ Some n → n.kind ≡ kind.Lines name → (first : Lines S) × ((now : Lines S) × IsSourceAt a k first now) }
+        → (k : ℕ) (n : graph.Node) (name : List ℕ) → slice_get g.nodes k ≡ Some n → n.kind ≡ kind.Lines name
+        → (first : Lines S) × ((now : Lines S) × IsSourceAt a k first now) }
     ensures reads { (g : Graph) (a : Account (IslandNode S D L B)) → IsRun S.state D.state B.lists g a
-        → (k : ℕ) (n : graph.Node) (first now : Lines S) (u : ℕ) (v : Edge) (bytes : List ℕ) → slice_get g.nodes k ≡ Some n → IsSourceAt a k first now → slice_get g.wires u ≡ Some v → v.from ≡ k
+        → (k : ℕ) (n : graph.Node) (first now : Lines S) (u : ℕ) (v : Edge) (bytes : List ℕ) → slice_get g.nodes k ≡ Some n → IsSourceAt a k first now
+        → slice_get g.wires u ≡ Some v → v.from ≡ k
         → (S.state first.reader.source).whole ≡ Some bytes
         → SentLines bytes (S.state first.reader.source) (S.state now.reader.source) (a.near u).wire.sent }
 {}
@@ -121,8 +137,11 @@ pub fn every_source_reads_little_ahead<S: Source, D: Drain, L: Logic, B: PlugBoo
 /// stages chose (`others`).
 pub fn every_node_gives_of_what_came<S: Source, D: Drain, L: Logic, B: PlugBook>()
     ensures lines { (g : Graph) (a : Account (IslandNode S D L B)) → IsRun S.state D.state B.lists g a
-        → (u : ℕ) (v : Edge) (n : graph.Node) (name : List ℕ) → slice_get g.wires u ≡ Some v → slice_get g.nodes v.from ≡ Some n → n.kind ≡ kind.Lines name → GivesTexts (a.near u).wire.sent }
+        → (u : ℕ) (v : Edge) (n : graph.Node) (name : List ℕ) → slice_get g.wires u ≡ Some v → slice_get g.nodes v.from ≡ Some n → n.kind ≡ kind.Lines name
+        → GivesTexts (a.near u).wire.sent }
     ensures others { (g : Graph) (w : World) (a : Account (IslandNode S D L B)) → IsRun S.state D.state w.book g a → TellsPicks w a
-        → (sent : ℕ → Outlook) (j : ℕ) (v : Edge) (n : graph.Node) → slice_get g.wires j ≡ Some v → slice_get g.nodes v.from ≡ Some n → ((name : List ℕ) → n.kind ≢ kind.Lines name)
-        → ((u : ℕ) (x : Edge) → slice_get g.wires u ≡ Some x → x.to ≡ v.from → AgreesWith (sent u) (a.near u).wire.sent) → AgreesWith (next g w sent j) (a.near j).wire.sent }
+        → (sent : ℕ → Outlook) (j : ℕ) (v : Edge) (n : graph.Node) → slice_get g.wires j ≡ Some v → slice_get g.nodes v.from ≡ Some n
+        → ((name : List ℕ) → n.kind ≢ kind.Lines name)
+        → ((u : ℕ) (x : Edge) → slice_get g.wires u ≡ Some x → x.to ≡ v.from → AgreesWith (sent u) (a.near u).wire.sent)
+        → AgreesWith (next g w sent j) (a.near j).wire.sent }
 {}

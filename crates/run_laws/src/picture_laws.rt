@@ -33,7 +33,8 @@ pub fn what_agrees_passes()
 /// given by a trip. So it is by any outlooks of whose lists the wires carried first parts (`any`), and by the composed outlooks
 /// (`composed`), where the world tells what the stages chose.
 pub fn every_picture_is_lawful<S: Source, D: Drain, L: Logic, B: PlugBook>()
-    ensures any { (g : Graph) (w : World) (a : Account (IslandNode S D L B)) (outlook : ℕ → Outlook) → IsRun S.state D.state w.book g a → AreSettled g a → TellsPicks w a
+    ensures any { (g : Graph) (w : World) (a : Account (IslandNode S D L B)) (outlook : ℕ → Outlook) → IsRun S.state D.state w.book g a → AreSettled g a
+        → TellsPicks w a
         → AllPass a g outlook → IsLawful g w (picture_counts a g) outlook }
     ensures composed { (g : Graph) (w : World) (rank : ℕ → ℕ) (a : Account (IslandNode S D L B)) → IsRun S.state D.state w.book g a → AreSettled g a
         → WorldTells S.state g w a → IsRanked g rank → IsLawful g w (picture_counts a g) (composed g w) }
@@ -43,7 +44,8 @@ pub fn every_picture_is_lawful<S: Source, D: Drain, L: Logic, B: PlugBook>()
 /// any outlooks of whose lists the wires carried first parts (`any`), and by the composed outlooks (`composed`). A sink's
 /// input is shut exactly where the sink has ended (`sinks`).
 pub fn a_picture_without_events_rests<S: Source, D: Drain, L: Logic, B: PlugBook>()
-    ensures any { (g : Graph) (w : World) (a : Account (IslandNode S D L B)) (outlook : ℕ → Outlook) → IsRun S.state D.state w.book g a → IsStill g a → TellsPicks w a
+    ensures any { (g : Graph) (w : World) (a : Account (IslandNode S D L B)) (outlook : ℕ → Outlook) → IsRun S.state D.state w.book g a → IsStill g a
+        → TellsPicks w a
         → AllPass a g outlook → Rests g w (picture_counts a g) outlook }
     ensures composed { (g : Graph) (w : World) (rank : ℕ → ℕ) (a : Account (IslandNode S D L B)) → IsRun S.state D.state w.book g a → IsStill g a
         → WorldTells S.state g w a → IsRanked g rank → Rests g w (picture_counts a g) (composed g w) }

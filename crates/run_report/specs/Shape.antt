@@ -24,7 +24,8 @@ bare_app = on_top (λ s. record s { no_binary_name = true; disable_help_flag = t
 
 -- the command as its parser is told of it: the files, and the four options
 abbrev pub streams_app : App
-streams_app = with_rule (with_rule (with_rule (with_rule (with_rule bare_app file_rule) (option_rule (codes "gen"))) (option_rule (codes "workers"))) (option_rule (codes "turns"))) (option_rule (codes "trace"))
+streams_app = with_rule (with_rule (with_rule (with_rule (with_rule bare_app file_rule) (option_rule (codes "gen"))) (option_rule (codes "workers")))
+    (option_rule (codes "turns"))) (option_rule (codes "trace"))
 
 -- the word is ASCII, and not `-` alone
 abbrev pub is_text : List ℕ → Bool

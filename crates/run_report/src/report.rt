@@ -65,8 +65,10 @@ fn put_refused_texts<'a, D: Drain>(
     line: &'a [u8],
     number: &'a [u8],
 ) -> Result<(), Failed>
-    ensures ok { OnOk result (Puts (D.state console.old) (D.state console.new) (codes "refused line " ++ line.now ++ codes " fault " ++ number.now ++ codes "\n")) }
-    ensures err { OnErr result (PutsPart (D.state console.old) (D.state console.new) (codes "refused line " ++ line.now ++ codes " fault " ++ number.now ++ codes "\n")) }
+    ensures ok { OnOk result (Puts (D.state console.old) (D.state console.new) (codes "refused line " ++ line.now ++ codes " fault " ++ number.now
+        ++ codes "\n")) }
+    ensures err { OnErr result (PutsPart (D.state console.old) (D.state console.new)
+        (codes "refused line " ++ line.now ++ codes " fault " ++ number.now ++ codes "\n")) }
 {
     put_parts(
         console,
@@ -76,8 +78,10 @@ fn put_refused_texts<'a, D: Drain>(
 
 /// Puts the line of a text's first fault.
 fn put_refused<D: Drain>(console: &mut D, fault: BlueFault) -> Result<(), Failed>
-    ensures ok { OnOk result (Puts (D.state console.old) (D.state console.new) (codes "refused line " ++ decimal fault.line ++ codes " fault " ++ decimal (number_of_kind fault.kind) ++ codes "\n")) }
-    ensures err { OnErr result (PutsPart (D.state console.old) (D.state console.new) (codes "refused line " ++ decimal fault.line ++ codes " fault " ++ decimal (number_of_kind fault.kind) ++ codes "\n")) }
+    ensures ok { OnOk result (Puts (D.state console.old) (D.state console.new) (codes "refused line " ++ decimal fault.line ++ codes " fault "
+        ++ decimal (number_of_kind fault.kind) ++ codes "\n")) }
+    ensures err { OnErr result (PutsPart (D.state console.old) (D.state console.new)
+        (codes "refused line " ++ decimal fault.line ++ codes " fault " ++ decimal (number_of_kind fault.kind) ++ codes "\n")) }
 {
     let mut line = Buffer::new();
     let mut number = Buffer::new();
@@ -91,8 +95,10 @@ fn put_refused<D: Drain>(console: &mut D, fault: BlueFault) -> Result<(), Failed
 /// Puts the line of a rule that is broken, of which this is the detail.
 fn put_unfit<D: Drain>(console: &mut D, fault: &CheckFault, detail: &[u8]) -> Result<(), Failed>
     requires { detail.now ≡ detail_text fault.now }
-    ensures ok { OnOk result (Puts (D.state console.old) (D.state console.new) (codes "unfit " ++ decimal (number_of_fault fault.now) ++ codes " " ++ detail_text fault.now ++ codes "\n")) }
-    ensures err { OnErr result (PutsPart (D.state console.old) (D.state console.new) (codes "unfit " ++ decimal (number_of_fault fault.now) ++ codes " " ++ detail_text fault.now ++ codes "\n")) }
+    ensures ok { OnOk result (Puts (D.state console.old) (D.state console.new) (codes "unfit " ++ decimal (number_of_fault fault.now) ++ codes " "
+        ++ detail_text fault.now ++ codes "\n")) }
+    ensures err { OnErr result (PutsPart (D.state console.old) (D.state console.new)
+        (codes "unfit " ++ decimal (number_of_fault fault.now) ++ codes " " ++ detail_text fault.now ++ codes "\n")) }
 {
     let mut number = Buffer::new();
     put_parts(
@@ -150,8 +156,10 @@ fn put_why<D: Drain>(console: &mut D, why: Why) -> Result<(), Failed>
 
 /// Puts the place of a failure.
 fn put_place<D: Drain>(console: &mut D, cause: &Cause) -> Result<(), Failed>
-    ensures ok { OnOk result (Puts (D.state console.old) (D.state console.new) (codes " stage " ++ decimal cause.now.stage ++ codes " nth " ++ decimal cause.now.nth ++ codes " why ")) }
-    ensures err { OnErr result (PutsPart (D.state console.old) (D.state console.new) (codes " stage " ++ decimal cause.now.stage ++ codes " nth " ++ decimal cause.now.nth ++ codes " why ")) }
+    ensures ok { OnOk result (Puts (D.state console.old) (D.state console.new) (codes " stage " ++ decimal cause.now.stage ++ codes " nth "
+        ++ decimal cause.now.nth ++ codes " why ")) }
+    ensures err { OnErr result (PutsPart (D.state console.old) (D.state console.new)
+        (codes " stage " ++ decimal cause.now.stage ++ codes " nth " ++ decimal cause.now.nth ++ codes " why ")) }
 {
     let mut stage = Buffer::new();
     let mut nth = Buffer::new();
@@ -195,7 +203,8 @@ fn put_sink_texts<'a, D: Drain>(
     count: &'a [u8],
 ) -> Result<(), Failed>
     ensures ok { OnOk result (Puts (D.state console.old) (D.state console.new) (codes "sink " ++ name.now ++ codes " " ++ end.now ++ codes " " ++ count.now)) }
-    ensures err { OnErr result (PutsPart (D.state console.old) (D.state console.new) (codes "sink " ++ name.now ++ codes " " ++ end.now ++ codes " " ++ count.now)) }
+    ensures err { OnErr result (PutsPart (D.state console.old) (D.state console.new)
+        (codes "sink " ++ name.now ++ codes " " ++ end.now ++ codes " " ++ count.now)) }
 {
     put_parts(console, &[b"sink ", name, b" ", end, b" ", count])
 }
@@ -211,8 +220,10 @@ fn put_rest<D: Drain>(console: &mut D, end: &EndState) -> Result<(), Failed>
 
 /// Puts the name of a sink, how it ended and its count.
 fn put_head<D: Drain>(console: &mut D, sink: &SinkEnd) -> Result<(), Failed>
-    ensures ok { OnOk result (Puts (D.state console.old) (D.state console.new) (codes "sink " ++ sink.now.name ++ codes " " ++ end_text sink.now.end ++ codes " " ++ decimal sink.now.count)) }
-    ensures err { OnErr result (PutsPart (D.state console.old) (D.state console.new) (codes "sink " ++ sink.now.name ++ codes " " ++ end_text sink.now.end ++ codes " " ++ decimal sink.now.count)) }
+    ensures ok { OnOk result (Puts (D.state console.old) (D.state console.new) (codes "sink " ++ sink.now.name ++ codes " " ++ end_text sink.now.end
+        ++ codes " " ++ decimal sink.now.count)) }
+    ensures err { OnErr result (PutsPart (D.state console.old) (D.state console.new)
+        (codes "sink " ++ sink.now.name ++ codes " " ++ end_text sink.now.end ++ codes " " ++ decimal sink.now.count)) }
 {
     let mut buffer = Buffer::new();
     let count = buffer.format(sink.count).as_bytes();
@@ -326,8 +337,10 @@ pub fn put_report<D: Drain>(
     used: u64,
 ) -> Result<(), Failed>
     requires { detail.now ≡ detail_of status.now }
-    ensures ok { OnOk result (Puts (D.state console.old) (D.state console.new) (report_of (record { status = status.now; sinks = sinks.now; wires = wires.now; picks = []; used = used }))) }
-    ensures err { OnErr result (PutsPart (D.state console.old) (D.state console.new) (report_of (record { status = status.now; sinks = sinks.now; wires = wires.now; picks = []; used = used }))) }
+    ensures ok { OnOk result (Puts (D.state console.old) (D.state console.new) (report_of
+        (record { status = status.now; sinks = sinks.now; wires = wires.now; picks = []; used = used }))) }
+    ensures err { OnErr result (PutsPart (D.state console.old) (D.state console.new)
+        (report_of (record { status = status.now; sinks = sinks.now; wires = wires.now; picks = []; used = used }))) }
 {
     put_status(console, status, detail, used)?;
     put_run(console, status, sinks, wires)

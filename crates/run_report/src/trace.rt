@@ -76,7 +76,8 @@ fn add_moves<D: Drain>(file: &mut D, gathered: &mut Vec<u8>, moves: &[u32]) -> R
 
 /// Adds moves and the end of their line.
 fn add_rest<D: Drain>(file: &mut D, gathered: &mut Vec<u8>, moves: &[u32]) -> Result<(), Failed>
-    ensures ok { OnOk result (LeavesRest (D.state file.old) (D.state file.new) (gathered.old.items ++ (flat_map move_text moves.now ++ codes "\n")) gathered.new.items) }
+    ensures ok { OnOk result (LeavesRest (D.state file.old) (D.state file.new) (gathered.old.items
+        ++ (flat_map move_text moves.now ++ codes "\n")) gathered.new.items) }
     ensures err { OnErr result (PutsPart (D.state file.old) (D.state file.new) (gathered.old.items ++ (flat_map move_text moves.now ++ codes "\n"))) }
 {
     add_moves(file, gathered, moves)?;
@@ -99,7 +100,8 @@ fn add_pick<D: Drain>(
     name: &Line,
     picks: &PickList,
 ) -> Result<(), Failed>
-    ensures ok { OnOk result (LeavesRest (D.state file.old) (D.state file.new) (gathered.old.items ++ pick_line name.now (moves_in picks.now)) gathered.new.items) }
+    ensures ok { OnOk result (LeavesRest (D.state file.old) (D.state file.new) (gathered.old.items
+        ++ pick_line name.now (moves_in picks.now)) gathered.new.items) }
     ensures err { OnErr result (PutsPart (D.state file.old) (D.state file.new) (gathered.old.items ++ pick_line name.now (moves_in picks.now))) }
 {
     add_head(file, gathered, name)?;
@@ -113,7 +115,8 @@ fn add_picks<D: Drain>(
     names: &[Line],
     picks: &[PickList],
 ) -> Result<(), Failed>
-    ensures ok { OnOk result (LeavesRest (D.state file.old) (D.state file.new) (gathered.old.items ++ trace_text names.now (map moves_in picks.now)) gathered.new.items) }
+    ensures ok { OnOk result (LeavesRest (D.state file.old) (D.state file.new) (gathered.old.items
+        ++ trace_text names.now (map moves_in picks.now)) gathered.new.items) }
     ensures err { OnErr result (PutsPart (D.state file.old) (D.state file.new) (gathered.old.items ++ trace_text names.now (map moves_in picks.now))) }
 {
     for i in 0..names.len().min(picks.len()) {

@@ -6,7 +6,8 @@ use std::alloc::{AllocError, Global};
 
 /// Empty lists with room for so many items each.
 pub fn rooms<T: Drop>(alloc: Global, counts: &[usize]) -> Result<Vec<Vec<T>>, AllocError>
-    ensures { (homes : List ℕ) → ((k : ℕ) → k < length counts.now → slice_index counts.now k ≡ share_of k homes) → IfOk result (λ lists. AreEmptyFor homes (length counts.now) lists.items) }
+    ensures { (homes : List ℕ) → ((k : ℕ) → k < length counts.now → slice_index counts.now k ≡ share_of k homes)
+        → IfOk result (λ lists. AreEmptyFor homes (length counts.now) lists.items) }
 {
     let mut lists = Vec::new(alloc);
     for count in counts {

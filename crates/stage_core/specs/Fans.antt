@@ -65,7 +65,8 @@ module _ {S : Type 0} (k : Fan S) where
   -- how it closes its output: every input has ended, and all that waited is given; or an input failed, and what waits is dropped
   pub data FanClose (s : S) (waited : List Inflow) (out : List Item) : Type 0 where
     completes : IsTrue (all_end (map flow waited)) → out ≡ told (untagged (fan_gives s waited)) ended → FanClose s waited out
-    fails : (i : ℕ) (f : Inflow) (c : Cause) → slice_get waited i ≡ Some f → f.end ≡ failed c → length f.list ≤ k.hold → out ≡ item.Failed c ∷ [] → FanClose s waited out
+    fails : (i : ℕ) (f : Inflow) (c : Cause) → slice_get waited i ≡ Some f → f.end ≡ failed c → length f.list ≤ k.hold → out ≡ item.Failed c ∷ []
+        → FanClose s waited out
 
   -- What a handler owes by its call: a cancel ends the stage; whatever else comes is a turn or closes the output. One that
   -- has closed its output is not called.

@@ -36,7 +36,8 @@ module _ {N : Type 0} (port_state : N → View → Type 0) (law : N → N → Vi
   pub record Starts (fresh : N → View → Type 0) (old new : N) (acts : List Act) : Type 0 where
     pub obeys : Obeys starts (fresh old) (port_state new) acts
     pub stands : PullsStand acts
-    pub begins : (v : View) (took gave : List (List Item)) → CallAllowed starts v → fresh old v → AllEmpty took → AllEmpty gave → length took ≡ length v.ins → length gave ≡ length v.outs
+    pub begins : (v : View) (took gave : List (List Item)) → CallAllowed starts v → fresh old v → AllEmpty took → AllEmpty gave → length took ≡ length v.ins
+        → length gave ≡ length v.outs
         → law old new (acted_all v acts) took (given_all acts gave)
 
   -- The call was handled: its actions obey the port rules, none of them cancels an input that an earlier one pulled, and once they are done its port state and its law hold again.

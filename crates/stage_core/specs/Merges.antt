@@ -57,7 +57,8 @@ pub record MergeTurn (moves : List ℕ) (waited : List Inflow) (out : List Item)
 -- how it closes its output: further moves use up all that waited, and every input has ended; or an input failed, of which
 -- at most one element waits, and what waits is dropped
 pub data MergeClose (moves : List ℕ) (waited : List Inflow) (out : List Item) (now : List ℕ) : Type 0 where
-  completes : (more : List ℕ) (given : List Tree) (us : List Inflow) → now ≡ moves ++ more → out ≡ told given ended → Merged more waited given us → IsTrue (used_up more 0 (map flow waited)) → MergeClose moves waited out now
+  completes : (more : List ℕ) (given : List Tree) (us : List Inflow) → now ≡ moves ++ more → out ≡ told given ended → Merged more waited given us
+      → IsTrue (used_up more 0 (map flow waited)) → MergeClose moves waited out now
   fails : (c : Cause) → now ≡ moves → out ≡ item.Failed c ∷ [] → FailsWithin [] 0 waited c → MergeClose moves waited out now
 
 -- what a handler owes by its call; one that has closed its output is not called

@@ -21,4 +21,5 @@ own_outputs (y ∷ ys) g = own_output y g ∷ own_outputs ys g
 
 -- such a stage has closed its ports, or has nothing to do
 abbrev pub FanRests : (List SeenWire → SeenWire → Type 0) → port.View → List Inflow → List Tree → Type 0
-FanRests P v ins g = (EachWire IsShut (own_inputs v.ins ins) × EachWire IsShut (own_outputs v.outs g)) ⊎ ManyToOne P (own_inputs v.ins ins) (own_outputs v.outs g)
+FanRests P v ins g = (EachWire IsShut (own_inputs v.ins ins) × EachWire IsShut (own_outputs v.outs g))
+    ⊎ ManyToOne P (own_inputs v.ins ins) (own_outputs v.outs g)

@@ -35,7 +35,8 @@ module _ {S : Type 0} (m : Machine S Tree) where
 
   -- an end of the input that fails the stage, and what is held is dropped
   abbrev pub DropsAtEnd : Run S Tree → List Item → Held S → Type 0
-  DropsAtEnd x out new = (s : S) × ((c : Cause) × ((x.state ≡ going s) × ((m.finish s ≡ refuses c) × ((MayDrop x × (m.hold ≤ m.early)) × ((out ≡ item.Failed c ∷ []) × (new ≡ shut))))))
+  DropsAtEnd x out new = (s : S) × ((c : Cause) × ((x.state ≡ going s) × ((m.finish s ≡ refuses c)
+      × ((MayDrop x × (m.hold ≤ m.early)) × ((out ≡ item.Failed c ∷ []) × (new ≡ shut))))))
 
   -- a failure of the input, and what is held is dropped
   abbrev pub DropsAtFailure : Run S Tree → Cause → List Item → Held S → Type 0

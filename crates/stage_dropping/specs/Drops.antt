@@ -41,7 +41,8 @@ abbrev pub DropMoves : Policy → ℕ → ℕ → List Tree → List ℕ → Lis
 DropMoves p n came held more l given then items = (g : List Tree) → buffered p n more l (buffer_at g held came) ≡ buffer_at (g ++ given) items then
 
 -- how it goes on: further moves take what came and give what is pushed
-pub record DropTurn (p : Policy) (n came : ℕ) (moves : List ℕ) (held l : List Tree) (out : List Item) (e : End) (then : ℕ) (now : List ℕ) (items : List Tree) : Type 0 where
+pub record DropTurn (p : Policy) (n came : ℕ) (moves : List ℕ) (held l : List Tree) (out : List Item) (e : End) (then : ℕ) (now : List ℕ) (items : List Tree)
+    : Type 0 where
   pub more : List ℕ
   pub given : List Tree
   pub now_is : now ≡ moves ++ more
@@ -54,7 +55,8 @@ pub record DropTurn (p : Policy) (n came : ℕ) (moves : List ℕ) (held l : Lis
 pub data DropClose (node : ℕ) (p : Policy) (n came : ℕ) (moves : List ℕ) (held : List Tree) (c : Inflow) (out : List Item) (now : List ℕ) : Type 0 where
   completes : (then : ℕ) → c.end ≡ ended → DropTurn p n came moves held c.list out ended then now [] → DropClose node p n came moves held c out now
   fails : (x : Cause) → c.end ≡ failed x → c.list ≡ [] → now ≡ moves → out ≡ item.Failed x ∷ [] → DropClose node p n came moves held c out now
-  overflows : (t : Tree) → c.list ≡ t ∷ [] → now ≡ moves ++ 0 ∷ [] → ((g : List Tree) → buffered p n (0 ∷ []) (t ∷ []) (buffer_at g held came) ≡ overflow_at g held (came + 1))
+  overflows : (t : Tree) → c.list ≡ t ∷ [] → now ≡ moves ++ 0 ∷ [] → ((g : List Tree)
+      → buffered p n (0 ∷ []) (t ∷ []) (buffer_at g held came) ≡ overflow_at g held (came + 1))
       → out ≡ item.Failed (overflow_of node (came + 1)) ∷ [] → DropClose node p n came moves held c out now
 
 -- what it does where this came
@@ -75,7 +77,8 @@ DropTurnAt node p n call (holds came moves held e) out new = DropStep node p n c
 
 -- one that holds gave and holds by its moves what came; one that is closed may have given what it gave
 abbrev pub DropKeeps : ℕ → Policy → ℕ → DropHeld → List Inflow → List Tree → End → Type 0
-DropKeeps node p n (holds came moves held e) (f ∷ []) g x = (x ≡ unended) × ((f.end ≡ e) × ((came ≡ length f.list) × (buffered p n moves f.list empty_buffer ≡ buffer_at g held came)))
+DropKeeps node p n (holds came moves held e) (f ∷ []) g x = (x ≡ unended) × ((f.end ≡ e)
+    × ((came ≡ length f.list) × (buffered p n moves f.list empty_buffer ≡ buffer_at g held came)))
 DropKeeps node p n (shut moves) (f ∷ []) g x = BufferStands node p n moves f g x
 DropKeeps node p n h fs g x = ⊥
 
@@ -97,12 +100,14 @@ DropStandsOf node p n moves fs g x = ⊥
 -- further ones give of the rest, from what it gave and holds.
 abbrev pub DropRest : Policy → ℕ → DropHeld → List Inflow → List Tree → Type 0
 DropRest p n (shut moves) fs g = ⊤
-DropRest p n (holds came moves held e) (f ∷ []) g = (further : List ℕ) (r : Inflow) → buffered p n (moves ++ further) (joined f r).list empty_buffer ≡ buffered p n further (joined_at e [] r).list (buffer_at g held came)
+DropRest p n (holds came moves held e) (f ∷ []) g = (further : List ℕ) (r : Inflow)
+    → buffered p n (moves ++ further) (joined f r).list empty_buffer ≡ buffered p n further (joined_at e [] r).list (buffer_at g held came)
 DropRest p n x fs g = ⊥
 
 -- its row of a picture that rests, over its own ports; or it has closed both its ports
 abbrev pub DropRestsAt : Policy → ℕ → List ℕ → InView → OutView → List Inflow → List Tree → Type 0
-DropRestsAt p n moves x y (f ∷ []) g = (IsShut (own_input x f.list) × IsShut (own_output y g)) ⊎ DroppingRests (nothing_held (buffered p n moves f.list empty_buffer).held) (own_input x f.list) (own_output y g)
+DropRestsAt p n moves x y (f ∷ []) g = (IsShut (own_input x f.list) × IsShut (own_output y g))
+    ⊎ DroppingRests (nothing_held (buffered p n moves f.list empty_buffer).held) (own_input x f.list) (own_output y g)
 DropRestsAt p n moves x y fs g = ⊥
 
 -- the same, over what it knows of its two ports

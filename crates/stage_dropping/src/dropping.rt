@@ -43,7 +43,17 @@ impl Model for Dropping {
 
     ghost coded = { Prim.hlevel (codes, tree_coded) };
 
-    ghost view = { λ l. record { phase = l.phase; node = l.node; policy = l.policy; size = l.ring.capacity; came = l.came; held = l.ring.items; asked = l.asked; over = l.over; moves = l.log.moves } };
+    ghost view = { λ l. record {
+      phase = l.phase;
+      node = l.node;
+      policy = l.policy;
+      size = l.ring.capacity;
+      came = l.came;
+      held = l.ring.items;
+      asked = l.asked;
+      over = l.over;
+      moves = l.log.moves;
+    } };
 }
 
 impl Dropping {

@@ -26,7 +26,8 @@ pub fn a_new_buffer_may_start()
 /// Where its port state and its law hold, a buffer that was started has closed both its ports, or has nothing to do: it waits for
 /// its input, and holds nothing where its output is asked; or its input is over and nobody asks it.
 pub fn a_started_buffer_rests()
-    ensures { (first now : Dropping) (v : View) (took gave : List (List Item)) → DropPortState now v → (law : DropsAs first now v took gave) → DropRests first.policy first.size now.moves v law.by.law.ins law.by.law.out_list }
+    ensures { (first now : Dropping) (v : View) (took gave : List (List Item)) → DropPortState now v → (law : DropsAs first now v took gave)
+        → DropRests first.policy first.size now.moves v law.by.law.ins law.by.law.out_list }
 {}
 
 /// Where the port rules allow a call of a handler and the port state holds, a buffer that was started is open.
@@ -37,26 +38,33 @@ pub fn a_called_buffer_is_open()
 /// What a handler owes to the port rules and to the law is all that is asked of a stage: its start begins the law of its
 /// histories, and every other call keeps it.
 pub fn calls_keep_the_law()
-    ensures starts { (old new : Dropping) (acts : List Act) → Obeys starts (port_state old) (port_state new) acts → Turned starts old acts new → Starts DropPortState DropsAs DropFresh old new acts }
-    ensures handles { (call : Call) (old new : Dropping) (acts : List Act) → Obeys call (port_state old) (port_state new) acts → Turned call old acts new → Handles DropPortState DropsAs call old new acts }
+    ensures starts { (old new : Dropping) (acts : List Act) → Obeys starts (port_state old) (port_state new) acts → Turned starts old acts new
+        → Starts DropPortState DropsAs DropFresh old new acts }
+    ensures handles { (call : Call) (old new : Dropping) (acts : List Act) → Obeys call (port_state old) (port_state new) acts → Turned call old acts new
+        → Handles DropPortState DropsAs call old new acts }
 {}
 
 /// A buffer by its moves: for every rest of its input and every further list of moves, all the moves give of all that comes
 /// what the further ones give of the rest, from what it gave and holds.
 pub fn moves_give_for_every_rest()
-    ensures { (first now : Dropping) (v : View) (took gave : List (List Item)) → (law : DropsAs first now v took gave) → DropRest first.policy first.size (held_of now) law.by.law.ins law.by.law.out_list }
+    ensures { (first now : Dropping) (v : View) (took gave : List (List Item)) → (law : DropsAs first now v took gave)
+        → DropRest first.policy first.size (held_of now) law.by.law.ins law.by.law.out_list }
 {}
 
 /// It gave an element for each one among its moves, and took one for each zero.
 pub fn moves_are_counted()
-    ensures { (first now : Dropping) (v : View) (took gave : List (List Item)) → (law : DropsAs first now v took gave) → DropCounts now.moves law.by.law.ins law.by.law.out_list }
+    ensures { (first now : Dropping) (v : View) (took gave : List (List Item)) → (law : DropsAs first now v took gave)
+        → DropCounts now.moves law.by.law.ins law.by.law.out_list }
 {}
 
 /// Where its law holds, and what came to its input agrees with that input's outlook, its moves fit, and what it gave agrees
 /// with the outlook that the model has of its output by these moves.
 pub fn a_buffer_agrees_with_its_outlook()
-    ensures fits { (g : Graph) (w : World) (is : List Outlook) (first now : Dropping) (v : View) (took gave : List (List Item)) → first.policy ≢ Backpressure → w.moves first.node ≡ now.moves
+    ensures fits { (g : Graph) (w : World) (is : List Outlook) (first now : Dropping) (v : View) (took gave : List (List Item)) → first.policy ≢ Backpressure
+        → w.moves first.node ≡ now.moves
         → (law : DropsAs first now v took gave) → AllAgree is law.by.law.ins → moves_fit g w first.node (Buffer first.size first.policy) is ≡ true }
-    ensures agrees { (g : Graph) (w : World) (d : Decider) (is : List Outlook) (first now : Dropping) (v : View) (took gave : List (List Item)) → first.policy ≢ Backpressure → w.moves first.node ≡ now.moves
-        → (law : DropsAs first now v took gave) → AllAgree is law.by.law.ins → Agrees (node_outlook g w first.node (Buffer first.size first.policy) d is 0) law.by.law.out_list law.by.law.out_end }
+    ensures agrees { (g : Graph) (w : World) (d : Decider) (is : List Outlook) (first now : Dropping) (v : View) (took gave : List (List Item))
+        → first.policy ≢ Backpressure → w.moves first.node ≡ now.moves
+        → (law : DropsAs first now v took gave) → AllAgree is law.by.law.ins → Agrees
+        (node_outlook g w first.node (Buffer first.size first.policy) d is 0) law.by.law.out_list law.by.law.out_end }
 {}

@@ -22,7 +22,8 @@ pub fn a_new_recover_may_start()
 /// Where its port state and its law hold, a recover that was started has closed both its ports, or has nothing to do: it waits for
 /// its input and has given all that it took, or nobody asks it.
 pub fn a_started_recover_rests()
-    ensures { (first now : Recover) (v : View) (took gave : List (List Item)) → RecoverPortState now v → (law : RecoversAs first now v took gave) → RecoverRests v law.by.law.ins law.by.law.out_list }
+    ensures { (first now : Recover) (v : View) (took gave : List (List Item)) → RecoverPortState now v → (law : RecoversAs first now v took gave)
+        → RecoverRests v law.by.law.ins law.by.law.out_list }
 {}
 
 /// Where the port rules allow a call of a handler and the port state holds, a recover that was started is open.
@@ -33,26 +34,33 @@ pub fn a_called_recover_is_open()
 /// What a handler owes to the port rules and to the law is all that is asked of a stage: its start begins the law of its
 /// histories, and every other call keeps it.
 pub fn calls_keep_the_law()
-    ensures starts { (old new : Recover) (acts : List Act) → Obeys starts (port_state old) (port_state new) acts → Turned starts old acts new → Starts RecoverPortState RecoversAs RecoverFresh old new acts }
-    ensures handles { (call : Call) (old new : Recover) (acts : List Act) → Obeys call (port_state old) (port_state new) acts → Turned call old acts new → Handles RecoverPortState RecoversAs call old new acts }
+    ensures starts { (old new : Recover) (acts : List Act) → Obeys starts (port_state old) (port_state new) acts → Turned starts old acts new
+        → Starts RecoverPortState RecoversAs RecoverFresh old new acts }
+    ensures handles { (call : Call) (old new : Recover) (acts : List Act) → Obeys call (port_state old) (port_state new) acts → Turned call old acts new
+        → Handles RecoverPortState RecoversAs call old new acts }
 {}
 
 /// For every rest of its input: what a call pushes, and then what is given from now on, is what was given before for what
 /// came and then the rest; and over its whole history what it gives in all is what it gave and what it gives from now on.
 pub fn a_recover_gives_for_every_rest()
-    ensures call { (t : Tree) (call : Call) (old : RecoverHeld) (out : List Item) (new : RecoverHeld) → RecoverTurnAt t call old out new → RecoverResidual t call old out new }
-    ensures rest { (first now : Recover) (v : View) (took gave : List (List Item)) → (law : RecoversAs first now v took gave) → RecoverRest law.element (held_of now) law.by.law.ins law.by.law.out_list }
+    ensures call { (t : Tree) (call : Call) (old : RecoverHeld) (out : List Item) (new : RecoverHeld) → RecoverTurnAt t call old out new
+        → RecoverResidual t call old out new }
+    ensures rest { (first now : Recover) (v : View) (took gave : List (List Item)) → (law : RecoversAs first now v took gave)
+        → RecoverRest law.element (held_of now) law.by.law.ins law.by.law.out_list }
 {}
 
 /// Its move is how many elements it took, and then it gave at most one more.
 pub fn moves_are_counted()
-    ensures { (first now : Recover) (v : View) (took gave : List (List Item)) → (law : RecoversAs first now v took gave) → RecoverCounts now.moves law.by.law.ins law.by.law.out_list }
+    ensures { (first now : Recover) (v : View) (took gave : List (List Item)) → (law : RecoversAs first now v took gave)
+        → RecoverCounts now.moves law.by.law.ins law.by.law.out_list }
 {}
 
 /// Where its law holds, and what came to its input agrees with that input's outlook, its move fits, and what it gave agrees
 /// with the outlook that the model has of a recover by this move, of the element that it had at first.
 pub fn a_recover_agrees_with_its_outlook()
-    ensures fits { (is : List Outlook) (first now : Recover) (v : View) (took gave : List (List Item)) → (law : RecoversAs first now v took gave) → AllAgree is law.by.law.ins → recover_fits now.moves (head_of is) ≡ true }
-    ensures agrees { (is : List Outlook) (first now : Recover) (v : View) (took gave : List (List Item)) → (law : RecoversAs first now v took gave) → AllAgree is law.by.law.ins
+    ensures fits { (is : List Outlook) (first now : Recover) (v : View) (took gave : List (List Item)) → (law : RecoversAs first now v took gave)
+        → AllAgree is law.by.law.ins → recover_fits now.moves (head_of is) ≡ true }
+    ensures agrees { (is : List Outlook) (first now : Recover) (v : View) (took gave : List (List Item)) → (law : RecoversAs first now v took gave)
+        → AllAgree is law.by.law.ins
         → Agrees (recover_outlook law.element now.moves (head_of is)) law.by.law.out_list law.by.law.out_end }
 {}

@@ -20,7 +20,8 @@ ghost use Rattle.stage_core.specs.OwnRows.{FanRests};
 
 /// Where its port state and its law hold, a stage that was started has closed all its ports, or has nothing to do.
 pub fn a_started_stage_rests()
-    ensures { (first now : InLogic) (v : View) (took gave : List (List Item)) → IsStarted now → port_state now v → (law : InLaw first now v took gave) → FanRests (KindRests now) v law.by.law.ins law.by.law.out_list }
+    ensures { (first now : InLogic) (v : View) (took gave : List (List Item)) → IsStarted now → port_state now v → (law : InLaw first now v took gave)
+        → FanRests (KindRests now) v law.by.law.ins law.by.law.out_list }
 {}
 
 /// Where the port rules allow a call of a handler and the port state holds, a stage that was started is open.
@@ -37,15 +38,19 @@ pub fn a_call_wants_little_room()
 /// What a handler owes to the port rules and to the law is all that is asked of a stage: its start begins the law of its
 /// histories, and every other call keeps it.
 pub fn calls_keep_the_law()
-    ensures starts { (old new : InLogic) (acts : List Act) → IsNew old → Obeys starts (port_state old) (port_state new) acts → Turned starts old acts new → Starts InPortState InLaw InFresh old new acts }
-    ensures handles { (call : Call) (old new : InLogic) (acts : List Act) → call ≢ starts → IsStarted old → Obeys call (port_state old) (port_state new) acts → Turned call old acts new → Handles InPortState InLaw call old new acts }
+    ensures starts { (old new : InLogic) (acts : List Act) → IsNew old → Obeys starts (port_state old) (port_state new) acts → Turned starts old acts new
+        → Starts InPortState InLaw InFresh old new acts }
+    ensures handles { (call : Call) (old new : InLogic) (acts : List Act) → call ≢ starts → IsStarted old → Obeys call (port_state old) (port_state new) acts
+        → Turned call old acts new → Handles InPortState InLaw call old new acts }
 {}
 
 /// Where its law holds from a new stage of this kind on, and what came to each input agrees with that input's outlook, its
 /// moves fit, and what it gave agrees with the outlook that the model has of its output by these moves.
 pub fn a_stage_agrees_with_its_outlook()
-    ensures fits { (g : Graph) (w : World) (node : ℕ) (kind : Kind) (d : Decider) (is : List Outlook) (first now : InLogic) (v : View) (took gave : List (List Item)) → Begins node kind d first → TellsMoves w node now
+    ensures fits { (g : Graph) (w : World) (node : ℕ) (kind : Kind) (d : Decider) (is : List Outlook) (first now : InLogic) (v : View)
+        (took gave : List (List Item)) → Begins node kind d first → TellsMoves w node now
         → (law : InLaw first now v took gave) → AllAgree is law.by.law.ins → moves_fit g w node kind is ≡ true }
-    ensures agrees { (g : Graph) (w : World) (node : ℕ) (kind : Kind) (d : Decider) (is : List Outlook) (first now : InLogic) (v : View) (took gave : List (List Item)) → Begins node kind d first → length is ≡ inputs_of kind → TellsMoves w node now
+    ensures agrees { (g : Graph) (w : World) (node : ℕ) (kind : Kind) (d : Decider) (is : List Outlook) (first now : InLogic) (v : View)
+        (took gave : List (List Item)) → Begins node kind d first → length is ≡ inputs_of kind → TellsMoves w node now
         → (law : InLaw first now v took gave) → AllAgree is law.by.law.ins → Agrees (node_outlook g w node kind d is 0) law.by.law.out_list law.by.law.out_end }
 {}

@@ -97,7 +97,8 @@ impl Pairing {
     pub fn fail(&mut self, port: u8, cause: Cause, acts: &mut Acts)
         requires empty { acts.old.items ≡ [] }
         requires room { 6 ≤ acts.old.room }
-        ensures does { Does self.new acts.new.items (record (without port self.old) { phase = Closed }) (act.FailOut 0 cause ∷ closing (without port self.old)) }
+        ensures does { Does self.new acts.new.items (record (without port self.old) { phase = Closed })
+            (act.FailOut 0 cause ∷ closing (without port self.old)) }
         ensures room { acts.new.room ≡ acts.old.room }
     {
         self.end_input(port);

@@ -40,7 +40,15 @@ impl Model for Taking {
 
     ghost coded = { Prim.hlevel codes };
 
-    ghost view = { λ l. record { live = l.live; segment = l.segment; over = vec_items l.over; next = vec_items l.next; current = l.current; left = l.left; asked = l.asked } };
+    ghost view = { λ l. record {
+      live = l.live;
+      segment = l.segment;
+      over = vec_items l.over;
+      next = vec_items l.next;
+      current = l.current;
+      left = l.left;
+      asked = l.asked;
+    } };
 }
 
 impl Taking {

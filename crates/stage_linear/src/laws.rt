@@ -16,7 +16,8 @@ ghost use Rattle.stage_linear.specs.States.{Logic, held, port_state};
 /// input and has given all that it may, or nobody asks it, where a map_concat or a plug may hold outputs behind the end of its input.
 pub fn a_started_stage_rests()
     ensures { (b : Book) (m : Machine Stage Tree) (start : Run Stage Tree) (took gave : List Item) (l : Logic) (v : View) → l.phase ≢ New → port_state l v
-        → (law : Law m start (held b l) (in_at v 0) (out_at v 0) took gave) → OwnRests m start (holds_at_end l.stage.work) (in_at v 0) (out_at v 0) law.in_list law.out_list }
+        → (law : Law m start (held b l) (in_at v 0) (out_at v 0) took gave) → OwnRests m start (holds_at_end l.stage.work) (in_at v 0)
+        (out_at v 0) law.in_list law.out_list }
 {}
 
 /// Where the port rules allow a call of a handler and the port state holds, a stage that was started is open.

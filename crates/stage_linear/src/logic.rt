@@ -61,7 +61,13 @@ impl<L: Logic, B: PlugBook> Model for LinearLogic<L, B> {
     ghost use Rattle.stage_linear.specs.Workers.{work_by, ready_by};
     ghost use Rattle.stage_linear.specs.Pending.{outputs_in};
 
-    ghost view = { λ l. record { phase = l.phase; stage = record { node = l.node; decider = l.decider; taken = l.taken; work = work_by l.worker }; pending = outputs_in l.pending; course = l.course; ready = ready_by l.worker } };
+    ghost view = { λ l. record {
+      phase = l.phase;
+      stage = record { node = l.node; decider = l.decider; taken = l.taken; work = work_by l.worker };
+      pending = outputs_in l.pending;
+      course = l.course;
+      ready = ready_by l.worker;
+    } };
 }
 
 impl<L: Logic, B: PlugBook> LinearLogic<L, B> {
@@ -460,7 +466,10 @@ impl<L: Logic, B: PlugBook> LinearLogic<L, B> {
         requires ready { self.old.course ≡ course.Closes → self.old.ready ≡ true }
         requires empty { acts.old.items ≡ [] }
         requires room { 4 ≤ acts.old.room }
-        ensures stage { OnOk result (self.new ≡ record (given_on_from self.old (finish_of B.lists self.old.stage self.old.stage.work)) { ready = self.new.ready }) }
+        ensures stage { OnOk result (self.new ≡ record (given_on_from self.old (finish_of B.lists self.old.stage self.old.stage.work)) {
+          ready =
+              self.new.ready;
+        }) }
         ensures acts { OnOk result (acts.new.items ≡ act.Push 0 e ∷ last_acts self.old (finish_of B.lists self.old.stage self.old.stage.work)) }
         ensures ready { OnOk result (StaysReady self.old self.new) }
         ensures room { acts.new.room ≡ acts.old.room }
@@ -476,8 +485,12 @@ impl<L: Logic, B: PlugBook> LinearLogic<L, B> {
     fn end_course(&mut self, alloc: Global, acts: &mut Acts) -> Result<(), NoMemory>
         requires ready { self.old.course ≡ course.Closes → self.old.ready ≡ true }
         requires room { length acts.old.items + 3 ≤ acts.old.room }
-        ensures stage { OnOk result (self.new ≡ record (behind_last self.old self.old.course (finish_of B.lists self.old.stage self.old.stage.work)) { ready = self.new.ready }) }
-        ensures acts { OnOk result (acts.new ≡ record acts.old { items = acts.old.items ++ behind_last_acts self.old self.old.course (finish_of B.lists self.old.stage self.old.stage.work) }) }
+        ensures stage { OnOk result (self.new ≡ record (behind_last self.old self.old.course
+            (finish_of B.lists self.old.stage self.old.stage.work)) { ready = self.new.ready }) }
+        ensures acts { OnOk result (acts.new ≡ record acts.old {
+          items = acts.old.items
+              ++ behind_last_acts self.old self.old.course (finish_of B.lists self.old.stage self.old.stage.work);
+        }) }
         ensures ready { OnOk result (StaysReady self.old self.new) }
         ensures room { acts.new.room ≡ acts.old.room }
     {
@@ -496,7 +509,10 @@ impl<L: Logic, B: PlugBook> LinearLogic<L, B> {
         requires ready { self.old.ready ≡ true }
         requires room { length acts.old.items + 3 ≤ acts.old.room }
         ensures stage { OnOk result (self.new ≡ record (ended_by self.old (finish_of B.lists self.old.stage self.old.stage.work)) { ready = self.new.ready }) }
-        ensures acts { OnOk result (acts.new ≡ record acts.old { items = acts.old.items ++ closed_acts self.old (finish_of B.lists self.old.stage self.old.stage.work) }) }
+        ensures acts { OnOk result (acts.new ≡ record acts.old {
+          items = acts.old.items
+              ++ closed_acts self.old (finish_of B.lists self.old.stage self.old.stage.work);
+        }) }
         ensures room { acts.new.room ≡ acts.old.room }
     {
         match self.worker.end(alloc)? {

@@ -142,7 +142,8 @@ pub record Does (new : Merging) (acts : List Act) (to : Merging) (list : List Ac
 
 -- it ends where every input has ended and nothing waits
 pub data EndsIfDone (before : List Act) (old new : Merging) (acts : List Act) : Type 0 where
-  done : old.core.left ≡ 0 → old.core.queue ≡ [] → new ≡ record old { core = record old.core { phase = Closed } } → acts ≡ before ++ Complete 0 ∷ [] → EndsIfDone before old new acts
+  done : old.core.left ≡ 0 → old.core.queue ≡ [] → new ≡ record old { core = record old.core { phase = Closed } } → acts ≡ before ++ Complete 0 ∷ []
+      → EndsIfDone before old new acts
   opens : 1 ≤ old.core.left → new ≡ old → acts ≡ before → EndsIfDone before old new acts
   more : old.core.queue ≢ [] → new ≡ old → acts ≡ before → EndsIfDone before old new acts
 
@@ -159,13 +160,15 @@ pub record HandedOn (i : ℕ) (e : Tree) (old new : Merging) (acts : List Act) :
 
 -- the output was asked
 pub data Gave (old new : Merging) (acts : List Act) : Type 0 where
-  first : (x : Queued) (q : List Queued) → old.core.queue ≡ x ∷ q → HandedOn x.port x.item (record old { core = record old.core { queue = q } }) new acts → Gave old new acts
+  first : (x : Queued) (q : List Queued) → old.core.queue ≡ x ∷ q → HandedOn x.port x.item (record old { core = record old.core { queue = q } }) new acts
+      → Gave old new acts
   none : old.core.queue ≡ [] → new ≡ record old { core = record old.core { asked = true } } → acts ≡ [] → Gave old new acts
 
 -- an element came
 pub data Took (i : ℕ) (e : Tree) (old new : Merging) (acts : List Act) : Type 0 where
   passed : old.core.asked ≡ true → HandedOn i e (record old { core = record old.core { asked = false } }) new acts → Took i e old new acts
-  stored : old.core.asked ≡ false → new ≡ record old { core = record old.core { queue = old.core.queue ++ record { port = i; item = e } ∷ [] } } → acts ≡ [] → Took i e old new acts
+  stored : old.core.asked ≡ false → new ≡ record old { core = record old.core { queue = old.core.queue ++ record { port = i; item = e } ∷ [] } } → acts ≡ []
+      → Took i e old new acts
 
 -- without input i
 abbrev pub without : ℕ → Merging → Merging

@@ -28,7 +28,8 @@ pub fn a_new_merge_may_start()
 /// Where its port state and its law hold, a merge that was started has closed all its ports, or has nothing to do: where it is not asked,
 /// an element waits of each input that is open and that it does not ask.
 pub fn a_started_merge_rests()
-    ensures { (first now : Merging) (v : View) (took gave : List (List Item)) → MergePortState now v → (law : MergesAs first now v took gave) → FanRests (MergeRests now.log.moves) v law.by.law.ins law.by.law.out_list }
+    ensures { (first now : Merging) (v : View) (took gave : List (List Item)) → MergePortState now v → (law : MergesAs first now v took gave)
+        → FanRests (MergeRests now.log.moves) v law.by.law.ins law.by.law.out_list }
 {}
 
 /// Where the port rules allow a call of a handler and the port state holds, a merge that was started is open, and the room that the
@@ -41,14 +42,19 @@ pub fn a_called_merge_is_open()
 /// What a handler owes to the port rules and to the law is all that is asked of a stage: its start begins the law of its
 /// histories, and every other call keeps it.
 pub fn calls_keep_the_law()
-    ensures starts { (old new : Merging) (acts : List Act) → Obeys starts (port_state old) (port_state new) acts → Turned starts old acts new → Starts MergePortState MergesAs MergeFresh old new acts }
-    ensures handles { (call : Call) (old new : Merging) (acts : List Act) → Obeys call (port_state old) (port_state new) acts → Turned call old acts new → Handles MergePortState MergesAs call old new acts }
+    ensures starts { (old new : Merging) (acts : List Act) → Obeys starts (port_state old) (port_state new) acts → Turned starts old acts new
+        → Starts MergePortState MergesAs MergeFresh old new acts }
+    ensures handles { (call : Call) (old new : Merging) (acts : List Act) → Obeys call (port_state old) (port_state new) acts → Turned call old acts new
+        → Handles MergePortState MergesAs call old new acts }
 {}
 
 /// Where its law holds, and what came to each input agrees with that input's outlook, its moves fit, and what it gave agrees
 /// with the outlook that the model has of its output by these moves.
 pub fn a_merge_agrees_with_its_outlook()
-    ensures fits { (is : List Outlook) (first now : Merging) (v : View) (took gave : List (List Item)) → (law : MergesAs first now v took gave) → AllAgree is law.by.law.ins → merge_fits now.log.moves is ≡ true }
-    ensures agrees { (g : Graph) (w : World) (node inputs : ℕ) (d : Decider) (is : List Outlook) (first now : Merging) (v : View) (took gave : List (List Item)) → w.moves node ≡ now.log.moves
-        → (law : MergesAs first now v took gave) → AllAgree is law.by.law.ins → Agrees (node_outlook g w node (Merge inputs) d is 0) law.by.law.out_list law.by.law.out_end }
+    ensures fits { (is : List Outlook) (first now : Merging) (v : View) (took gave : List (List Item)) → (law : MergesAs first now v took gave)
+        → AllAgree is law.by.law.ins → merge_fits now.log.moves is ≡ true }
+    ensures agrees { (g : Graph) (w : World) (node inputs : ℕ) (d : Decider) (is : List Outlook) (first now : Merging) (v : View) (took gave : List (List Item))
+        → w.moves node ≡ now.log.moves
+        → (law : MergesAs first now v took gave) → AllAgree is law.by.law.ins → Agrees
+        (node_outlook g w node (Merge inputs) d is 0) law.by.law.out_list law.by.law.out_end }
 {}

@@ -53,7 +53,17 @@ impl Model for Merging {
 
     ghost coded = { Prim.hlevel (codes, tree_coded) };
 
-    ghost view = { λ l. record { log = l.log; core = record { phase = l.phase; over = vec_items l.over; queue = l.queue.items; room = deque_capacity l.queue; asked = l.asked; left = l.left } } };
+    ghost view = { λ l. record {
+      log = l.log;
+      core = record {
+        phase = l.phase;
+        over = vec_items l.over;
+        queue = l.queue.items;
+        room = deque_capacity l.queue;
+        asked = l.asked;
+        left = l.left;
+      };
+    } };
 }
 
 impl Merging {
@@ -214,7 +224,8 @@ impl Merging {
 
     // What came first, which waits no more.
     fn next(&mut self) -> Option<Queued>
-        ensures some { IfSome result (λ x. (self.old.core.queue ≡ x ∷ self.new.core.queue) × (self.new ≡ record self.old { core = record self.old.core { queue = self.new.core.queue } })) }
+        ensures some { IfSome result (λ x. (self.old.core.queue ≡ x ∷ self.new.core.queue)
+            × (self.new ≡ record self.old { core = record self.old.core { queue = self.new.core.queue } })) }
         ensures none { IfNone result ((self.old.core.queue ≡ []) × (self.new ≡ self.old)) }
     {
         self.queue.pop_front()
@@ -310,7 +321,12 @@ impl Merging {
         requires there { port < length self.old.core.over }
         requires empty { acts.old.items ≡ [] }
         requires room { length self.old.core.over < acts.old.room }
-        ensures does { Does self.new acts.new.items (record self.old { core = record self.old.core { over = slice_set self.old.core.over port true; phase = Closed } }) (act.FailOut 0 cause ∷ open_cancels 0 (slice_set self.old.core.over port true)) }
+        ensures does { Does self.new acts.new.items (record self.old {
+          core = record self.old.core {
+            over = slice_set self.old.core.over port true;
+            phase = Closed;
+          };
+        }) (act.FailOut 0 cause ∷ open_cancels 0 (slice_set self.old.core.over port true)) }
         ensures room { acts.new.room ≡ acts.old.room }
     {
         self.over[port as usize] = true;

@@ -105,7 +105,16 @@ pub record Turned (call : Call) (old : Balancing) (acts : List Act) (new : Balan
 -- as it is before anything came
 pub record Begins (outputs : ℕ) (l : Balancing) : Type 0 where
   pub moves : l.log.moves ≡ []
-  pub core : l.core ≡ record { live = true; outs = replicate outputs Quiet; queue = []; room = outputs; open_outs = outputs; waiting = None; over = false; pulled = false }
+  pub core : l.core ≡ record {
+    live = true;
+    outs = replicate outputs Quiet;
+    queue = [];
+    room = outputs;
+    open_outs = outputs;
+    waiting = None;
+    over = false;
+    pulled = false;
+  }
 
 -- what a handler makes of the stage, and its actions
 pub record Does (new : Balancing) (acts : List Act) (to : Balancing) (list : List Act) : Type 0 where
@@ -142,14 +151,18 @@ without j l = record l { core = record l.core { outs = slice_set l.core.outs j G
 
 -- an output asked: it gets what waits, and where the input has ended all complete; or it queues, and the input is asked
 pub data Answered (j : ℕ) (old new : Balancing) (acts : List Act) : Type 0 where
-  given : (t : Tree) → old.core.waiting ≡ Some t → new.log.moves ≡ old.log.moves ++ j ∷ [] → old.core.over ≡ false → Does new acts (emptied new.log old) (Push j t ∷ []) → Answered j old new acts
-  last : (t : Tree) → old.core.waiting ≡ Some t → new.log.moves ≡ old.log.moves ++ j ∷ [] → old.core.over ≡ true → Does new acts (closed (emptied new.log old)) (Push j t ∷ at_open (λ k. Complete k) 0 old.core.outs) → Answered j old new acts
+  given : (t : Tree) → old.core.waiting ≡ Some t → new.log.moves ≡ old.log.moves ++ j ∷ [] → old.core.over ≡ false
+      → Does new acts (emptied new.log old) (Push j t ∷ []) → Answered j old new acts
+  last : (t : Tree) → old.core.waiting ≡ Some t → new.log.moves ≡ old.log.moves ++ j ∷ [] → old.core.over ≡ true
+      → Does new acts (closed (emptied new.log old)) (Push j t ∷ at_open (λ k. Complete k) 0 old.core.outs) → Answered j old new acts
   queues : old.core.waiting ≡ None → Does new acts (lined j old) (if old.core.pulled then [] else Pull 0 ∷ []) → Answered j old new acts
 
 -- an element came: the output that asked first gets it, and where another asks the input is asked again; or it waits
 pub data Took (t : Tree) (old new : Balancing) (acts : List Act) : Type 0 where
-  alone : (j : ℕ) → old.core.queue ≡ j ∷ [] → new.log.moves ≡ old.log.moves ++ j ∷ [] → Does new acts (served new.log j [] false old) (Push j t ∷ []) → Took t old new acts
-  again : (j : ℕ) (q : List ℕ) → old.core.queue ≡ j ∷ q → q ≢ [] → new.log.moves ≡ old.log.moves ++ j ∷ [] → Does new acts (served new.log j q true old) (Push j t ∷ Pull 0 ∷ []) → Took t old new acts
+  alone : (j : ℕ) → old.core.queue ≡ j ∷ [] → new.log.moves ≡ old.log.moves ++ j ∷ [] → Does new acts (served new.log j [] false old) (Push j t ∷ [])
+      → Took t old new acts
+  again : (j : ℕ) (q : List ℕ) → old.core.queue ≡ j ∷ q → q ≢ [] → new.log.moves ≡ old.log.moves ++ j ∷ []
+      → Does new acts (served new.log j q true old) (Push j t ∷ Pull 0 ∷ []) → Took t old new acts
   stays : old.core.queue ≡ [] → Does new acts (filled t old) [] → Took t old new acts
 
 -- the input has ended: what waits is given first, or all complete
@@ -194,4 +207,5 @@ pub record BalancesAs (first now : Balancing) (v : View) (took gave : List (List
 
 -- it has closed its ports, or has nothing to do, where it took l and gave these
 abbrev pub BalanceRestsOwn : View → List Tree → (ℕ → List Tree) → Type 0
-BalanceRestsOwn v l g = (EachWire IsShut (own_ins v.ins l) × EachWire IsShut (own_outs 0 v.outs g)) ⊎ OneToMany BalanceRests (own_ins v.ins l) (own_outs 0 v.outs g)
+BalanceRestsOwn v l g = (EachWire IsShut (own_ins v.ins l) × EachWire IsShut (own_outs 0 v.outs g))
+    ⊎ OneToMany BalanceRests (own_ins v.ins l) (own_outs 0 v.outs g)

@@ -68,7 +68,8 @@ without j l = record l { outs = slice_set l.outs j Gone; open_outs = l.open_outs
 -- output j was cancelled: it was the last; or it was unasked; or it was asked
 pub data Lost (j : ℕ) (old new : CopyLogic) (acts : List Act) : Type 0 where
   last : old.open_outs ≡ 1 → new ≡ record (without j old) { live = false } → acts ≡ Cancel 0 ∷ [] → Lost j old new acts
-  unasked : old.open_outs ≢ 1 → slice_get old.outs j ≡ Some Quiet → new ≡ record (without j old) { quiet = old.quiet - 1 } → acts ≡ (if old.quiet - 1 == 0 then Pull 0 ∷ [] else []) → Lost j old new acts
+  unasked : old.open_outs ≢ 1 → slice_get old.outs j ≡ Some Quiet → new ≡ record (without j old) { quiet = old.quiet - 1 }
+      → acts ≡ (if old.quiet - 1 == 0 then Pull 0 ∷ [] else []) → Lost j old new acts
   wanted : old.open_outs ≢ 1 → slice_get old.outs j ≢ Some Quiet → new ≡ without j old → acts ≡ [] → Lost j old new acts
 
 -- how it begins

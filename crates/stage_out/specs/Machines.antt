@@ -120,13 +120,15 @@ IsMachines _ = ⊥
 -- half of it.
 abbrev pub copy_starts : (ℕ → Tree → Tree) → ℕ → ℕ → List (Outlet Stage)
 copy_starts part j zero = []
-copy_starts part j (suc k) = record { machine = copying (part j); start = nothing_owed no_stage; held = owing (nothing_owed no_stage) } ∷ copy_starts part (j + 1) k
+copy_starts part j (suc k) = record { machine = copying (part j); start = nothing_owed no_stage; held = owing (nothing_owed no_stage) }
+    ∷ copy_starts part (j + 1) k
 
 -- the outputs of a partition from number j on, each at its start
 abbrev pub number_starts : Book → ℕ → ℕ → MapFn → ℕ → ℕ → List (Outlet Stage)
 number_starts book node n f j zero = []
 number_starts book node n f j (suc k) =
-    record { machine = linear book (numbering n f j); start = begin_work node Stop (numbering n f j); held = owing (begin_work node Stop (numbering n f j)) } ∷ number_starts book node n f (j + 1) k
+    record { machine = linear book (numbering n f j); start = begin_work node Stop (numbering n f j); held = owing (begin_work node Stop (numbering n f j)) }
+    ∷ number_starts book node n f (j + 1) k
 
 -- the outputs of a kind, each at its start
 abbrev pub starts_of : Book → ℕ → Kind → List (Outlet Stage)
@@ -165,7 +167,8 @@ IsMade node _ new = ⊥
 -- what each machine from number n on may give agrees with the outlook of its output
 abbrev pub EachAgrees : ℕ → (ℕ → List Outlook → Outlook) → List (Outlet Stage) → Type 0
 EachAgrees n f [] = ⊤
-EachAgrees n f (o ∷ os) = ((is : List Outlook) (l : List Tree) (e : End) (g : List Tree) (h : End) → Agrees (head_of is) l e → Stands o.machine o.start l e g h → Agrees (f n is) g h) × EachAgrees (n + 1) f os
+EachAgrees n f (o ∷ os) = ((is : List Outlook) (l : List Tree) (e : End) (g : List Tree) (h : End) → Agrees (head_of is) l e → Stands o.machine o.start l e g h
+    → Agrees (f n is) g h) × EachAgrees (n + 1) f os
 
 -- the row of a broadcast or an unzip; that of a partition says more than these rests alone
 abbrev pub CopyRow : Graph → World → ℕ → Kind → Decider → List picture.SeenWire → List picture.SeenWire → Type 0

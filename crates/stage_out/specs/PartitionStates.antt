@@ -103,7 +103,11 @@ then_of false l m w = shut
 -- the outputs from number n on
 abbrev pub dealers : Book → PartitionLogic → (ℕ → OutputState → Held Stage) → ℕ → List OutputState → List (Outlet Stage)
 dealers book l h n [] = []
-dealers book l h n (w ∷ ws) = record { machine = linear book (numbering l.parts l.fun n); start = begin_work l.node Stop (numbering l.parts l.fun n); held = h n w } ∷ dealers book l h (n + 1) ws
+dealers book l h n (w ∷ ws) = record {
+  machine = linear book (numbering l.parts l.fun n);
+  start = begin_work l.node Stop (numbering l.parts l.fun n);
+  held = h n w;
+} ∷ dealers book l h (n + 1) ws
 
 -- what each owes
 abbrev pub dues : (ℕ → OutputState → Held Stage) → ℕ → List OutputState → List (Held Stage)
@@ -158,7 +162,8 @@ pub data Noted (j : ℕ) (old new : PartitionLogic) (acts : List Act) : Type 0 w
 
 -- output j asks
 pub data AskedOf (j : ℕ) (old new : PartitionLogic) (acts : List Act) : Type 0 where
-  gets : (t : Tree) → old.to ≡ j → old.held ≡ Some t → new ≡ moved_on old.over (record old { held = None }) → acts ≡ Push j t ∷ moving_acts old.over (record old { held = None }) → AskedOf j old new acts
+  gets : (t : Tree) → old.to ≡ j → old.held ≡ Some t → new ≡ moved_on old.over (record old { held = None })
+      → acts ≡ Push j t ∷ moving_acts old.over (record old { held = None }) → AskedOf j old new acts
   notes : (old.to ≡ j → old.held ≡ None) → Noted j old new acts → AskedOf j old new acts
 
 -- the stage once output p, which asked, got an element
@@ -178,7 +183,8 @@ blaming l why = record { stage = l.node; nth = l.taken + 1; why = why }
 -- an element
 pub data Served (t : Tree) (old new : PartitionLogic) (acts : List Act) : Type 0 where
   dealt : (p : ℕ) → part_of old.parts (map_value old.fun t) ≡ Ok p → Dealt p t (record old { taken = old.taken + 1 }) new acts → Served t old new acts
-  blamed : (why : Why) → part_of old.parts (map_value old.fun t) ≡ Err why → new ≡ record old { live = false } → acts ≡ Cancel 0 ∷ at_open (λ j. FailOut j (blaming old why)) 0 old.outs → Served t old new acts
+  blamed : (why : Why) → part_of old.parts (map_value old.fun t) ≡ Err why → new ≡ record old { live = false }
+      → acts ≡ Cancel 0 ∷ at_open (λ j. FailOut j (blaming old why)) 0 old.outs → Served t old new acts
 
 -- the input has ended
 pub data EndedFor (old new : PartitionLogic) (acts : List Act) : Type 0 where
@@ -197,7 +203,8 @@ struck j l = record l { outs = slice_set l.outs j Gone; open_outs = l.open_outs 
 
 -- output j is not there any more: what is held for it is dropped
 pub data PassedOver (j : ℕ) (old new : PartitionLogic) (acts : List Act) : Type 0 where
-  dropped : (t : Tree) → old.to ≡ j → old.held ≡ Some t → new ≡ moved_on old.over (record old { held = None }) → acts ≡ moving_acts old.over (record old { held = None }) → PassedOver j old new acts
+  dropped : (t : Tree) → old.to ≡ j → old.held ≡ Some t → new ≡ moved_on old.over (record old { held = None })
+      → acts ≡ moving_acts old.over (record old { held = None }) → PassedOver j old new acts
   kept_on : (old.to ≡ j → old.held ≡ None) → new ≡ old → acts ≡ [] → PassedOver j old new acts
 
 -- output j was cancelled
@@ -207,4 +214,17 @@ pub data Lost (j : ℕ) (old new : PartitionLogic) (acts : List Act) : Type 0 wh
 
 -- how it begins
 abbrev pub begun : ℕ → ℕ → MapFn → PartitionLogic
-begun node n f = record { live = true; node = node; parts = n; fun = f; outs = replicate n Quiet; asking = 0; open_outs = n; to = 0; held = None; waits = false; over = false; taken = 0 }
+begun node n f = record {
+  live = true;
+  node = node;
+  parts = n;
+  fun = f;
+  outs = replicate n Quiet;
+  asking = 0;
+  open_outs = n;
+  to = 0;
+  held = None;
+  waits = false;
+  over = false;
+  taken = 0;
+}

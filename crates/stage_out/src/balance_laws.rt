@@ -24,8 +24,10 @@ ghost use Rattle.stage_out.specs.Balancings.{Balancing, Begins, Turned, port_sta
 /// the further moves give of what waits with the rest; moves on what waits are further moves; and each output stands as the
 /// model says, where an end is passed on only when nothing waits, and a failure when at most one element does.
 pub fn moves_give_for_every_rest()
-    ensures rest { (moves : List ℕ) (l w : List Tree) (g : ℕ → List Tree) → Handed moves l g w → (r : List Tree) (further : List ℕ) (j : ℕ) → sent_to j (moves ++ further) (l ++ r) ≡ g j ++ sent_to j further (w ++ r) }
-    ensures turn { (moves more : List ℕ) (l w r u : List Tree) (g k : ℕ → List Tree) → Handed moves l g w → Handed more (w ++ r) k u → Handed (moves ++ more) (l ++ r) (λ j. g j ++ k j) u }
+    ensures rest { (moves : List ℕ) (l w : List Tree) (g : ℕ → List Tree) → Handed moves l g w → (r : List Tree) (further : List ℕ) (j : ℕ)
+        → sent_to j (moves ++ further) (l ++ r) ≡ g j ++ sent_to j further (w ++ r) }
+    ensures turn { (moves more : List ℕ) (l w r u : List Tree) (g k : ℕ → List Tree) → Handed moves l g w → Handed more (w ++ r) k u
+        → Handed (moves ++ more) (l ++ r) (λ j. g j ++ k j) u }
     ensures stands { (moves : List ℕ) (f : Inflow) (w : List Tree) (g : ℕ → List Tree) (j : ℕ) (e : End) → Handed moves f.list g w
         → (e ≡ ended → (f.end ≡ ended) × (w ≡ [])) → ((c : Cause) → e ≡ failed c → (f.end ≡ failed c) × (length w ≤ 1)) → BalanceStands moves j f (g j) e }
 {}
@@ -37,7 +39,8 @@ pub fn a_new_balance_may_start()
 
 /// Where its port state and its law hold, a balance has closed all its ports, or has nothing to do.
 pub fn a_started_balance_rests()
-    ensures { (first now : Balancing) (v : View) (took gave : List (List Item)) → port_state now v → (law : BalancesAs first now v took gave) → BalanceRestsOwn v law.law.flow.list law.law.lists }
+    ensures { (first now : Balancing) (v : View) (took gave : List (List Item)) → port_state now v → (law : BalancesAs first now v took gave)
+        → BalanceRestsOwn v law.law.flow.list law.law.lists }
 {}
 
 /// Where the port rules allow a call of a handler and the port state holds, a balance is open, and the room that the call wants is
@@ -50,14 +53,19 @@ pub fn a_called_balance_is_open()
 /// What a handler owes to the port rules and to the law is all that is asked of a stage: its start begins the law of its
 /// histories, and every other call keeps it.
 pub fn calls_keep_the_law()
-    ensures starts { (old new : Balancing) (acts : List Act) → Obeys starts (port_state old) (port_state new) acts → Turned starts old acts new → Starts port_state BalancesAs BalanceFresh old new acts }
-    ensures handles { (call : Call) (old new : Balancing) (acts : List Act) → Obeys call (port_state old) (port_state new) acts → Turned call old acts new → Handles port_state BalancesAs call old new acts }
+    ensures starts { (old new : Balancing) (acts : List Act) → Obeys starts (port_state old) (port_state new) acts → Turned starts old acts new
+        → Starts port_state BalancesAs BalanceFresh old new acts }
+    ensures handles { (call : Call) (old new : Balancing) (acts : List Act) → Obeys call (port_state old) (port_state new) acts → Turned call old acts new
+        → Handles port_state BalancesAs call old new acts }
 {}
 
 /// Where its law holds, and what came to its input agrees with that input's outlook, its moves fit, and what it gave at each
 /// output agrees with the outlook that the model has of that output by these moves.
 pub fn a_balance_agrees_with_its_outlooks()
-    ensures fits { (is : List Outlook) (first now : Balancing) (v : View) (took gave : List (List Item)) → (law : BalancesAs first now v took gave) → Agrees (head_of is) law.law.flow.list law.law.flow.end → balance_fits (length v.outs) now.log.moves (head_of is) ≡ true }
-    ensures agrees { (g : Graph) (w : World) (node outputs : ℕ) (d : Decider) (is : List Outlook) (first now : Balancing) (v : View) (took gave : List (List Item)) → w.moves node ≡ now.log.moves
-        → (law : BalancesAs first now v took gave) → Agrees (head_of is) law.law.flow.list law.law.flow.end → (j : ℕ) → Agrees (node_outlook g w node (Balance outputs) d is j) (law.law.lists j) (law.law.ends j) }
+    ensures fits { (is : List Outlook) (first now : Balancing) (v : View) (took gave : List (List Item)) → (law : BalancesAs first now v took gave)
+        → Agrees (head_of is) law.law.flow.list law.law.flow.end → balance_fits (length v.outs) now.log.moves (head_of is) ≡ true }
+    ensures agrees { (g : Graph) (w : World) (node outputs : ℕ) (d : Decider) (is : List Outlook) (first now : Balancing) (v : View)
+        (took gave : List (List Item)) → w.moves node ≡ now.log.moves
+        → (law : BalancesAs first now v took gave) → Agrees (head_of is) law.law.flow.list law.law.flow.end → (j : ℕ)
+        → Agrees (node_outlook g w node (Balance outputs) d is j) (law.law.lists j) (law.law.ends j) }
 {}

@@ -49,7 +49,19 @@ impl Model for Balancing {
 
     ghost coded = { Prim.hlevel (codes, tree_coded) };
 
-    ghost view = { λ l. record { log = l.log; core = record { live = l.live; outs = vec_items l.outs; queue = l.queue.items; room = deque_capacity l.queue; open_outs = l.open_outs; waiting = l.waiting; over = l.over; pulled = l.pulled } } };
+    ghost view = { λ l. record {
+      log = l.log;
+      core = record {
+        live = l.live;
+        outs = vec_items l.outs;
+        queue = l.queue.items;
+        room = deque_capacity l.queue;
+        open_outs = l.open_outs;
+        waiting = l.waiting;
+        over = l.over;
+        pulled = l.pulled;
+      };
+    } };
 }
 
 impl Balancing {
@@ -218,7 +230,8 @@ impl Balancing {
         requires room { length self.old.core.outs < acts.old.room }
         ensures moves { self.new.log.moves ≡ self.old.log.moves ++ port ∷ [] }
         ensures going { self.old.core.over ≡ false → Does self.new acts.new.items (record self.old { log = self.new.log }) (act.Push port e ∷ []) }
-        ensures last { self.old.core.over ≡ true → Does self.new acts.new.items (closed (record self.old { log = self.new.log })) (act.Push port e ∷ at_open (λ k. act.Complete k) 0 self.old.core.outs) }
+        ensures last { self.old.core.over ≡ true → Does self.new acts.new.items (closed (record self.old { log = self.new.log }))
+            (act.Push port e ∷ at_open (λ k. act.Complete k) 0 self.old.core.outs) }
         ensures room { acts.new.room ≡ acts.old.room }
     {
         self.send(port, e, acts);
@@ -274,7 +287,8 @@ impl Balancing {
 
     // The output that asked first, which is in the queue no more.
     fn first(&mut self) -> Option<u8>
-        ensures some { IfSome result (λ j. (self.old.core.queue ≡ j ∷ self.new.core.queue) × (self.new ≡ record self.old { core = record self.old.core { queue = self.new.core.queue } })) }
+        ensures some { IfSome result (λ j. (self.old.core.queue ≡ j ∷ self.new.core.queue)
+            × (self.new ≡ record self.old { core = record self.old.core { queue = self.new.core.queue } })) }
         ensures none { IfNone result ((self.old.core.queue ≡ []) × (self.new ≡ self.old)) }
     {
         self.queue.pop_front()
@@ -295,7 +309,8 @@ impl Balancing {
         requires room { 2 ≤ acts.old.room }
         ensures moves { self.new.log.moves ≡ self.old.log.moves ++ port ∷ [] }
         ensures alone { self.old.core.queue ≡ [] → Does self.new acts.new.items (served self.new.log port [] false self.old) (act.Push port e ∷ []) }
-        ensures again { self.old.core.queue ≢ [] → Does self.new acts.new.items (served self.new.log port self.old.core.queue true self.old) (act.Push port e ∷ act.Pull 0 ∷ []) }
+        ensures again { self.old.core.queue ≢ [] → Does self.new acts.new.items (served self.new.log port self.old.core.queue true self.old)
+            (act.Push port e ∷ act.Pull 0 ∷ []) }
         ensures room { acts.new.room ≡ acts.old.room }
     {
         self.send(port, e, acts);

@@ -162,7 +162,8 @@ impl CopyLogic {
         requires some { 1 ≤ self.old.quiet }
         requires empty { acts.old.items ≡ [] }
         requires room { 1 ≤ acts.old.room }
-        ensures does { Does self.new acts.new.items (record self.old { outs = slice_set self.old.outs port Asks; quiet = self.old.quiet - 1 }) (if self.old.quiet - 1 == 0 then act.Pull 0 ∷ [] else []) }
+        ensures does { Does self.new acts.new.items (record self.old { outs = slice_set self.old.outs port Asks; quiet = self.old.quiet - 1 })
+            (if self.old.quiet - 1 == 0 then act.Pull 0 ∷ [] else []) }
         ensures room { acts.new.room ≡ acts.old.room }
     {
         self.outs[port as usize] = OutputState::Asks;
@@ -178,7 +179,8 @@ impl CopyLogic {
         requires pair { self.old.halves ≡ true → length self.old.outs ≡ 2 }
         requires empty { acts.old.items ≡ [] }
         requires room { length self.old.outs ≤ acts.old.room }
-        ensures does { OnOk result (Does self.new acts.new.items (record self.old { outs = served self.old.outs; quiet = self.old.open_outs }) (at_open (λ j. act.Push j (part_by self.old.halves j e)) 0 self.old.outs)) }
+        ensures does { OnOk result (Does self.new acts.new.items (record self.old { outs = served self.old.outs; quiet = self.old.open_outs })
+            (at_open (λ j. act.Push j (part_by self.old.halves j e)) 0 self.old.outs)) }
         ensures room { OnOk result (acts.new.room ≡ acts.old.room) }
     {
         self.give(alloc, e, acts)?;
@@ -191,7 +193,10 @@ impl CopyLogic {
         requires few { length self.now.outs ≤ 16 }
         requires pair { self.now.halves ≡ true → length self.now.outs ≡ 2 }
         requires room { length acts.old.items + length self.now.outs ≤ acts.old.room }
-        ensures acts { OnOk result (acts.new ≡ record acts.old { items = acts.old.items ++ at_open (λ j. act.Push j (part_by self.now.halves j e)) 0 self.now.outs }) }
+        ensures acts { OnOk result (acts.new ≡ record acts.old {
+          items = acts.old.items
+              ++ at_open (λ j. act.Push j (part_by self.now.halves j e)) 0 self.now.outs;
+        }) }
     {
         if self.halves {
             self.give_halves(alloc, e, acts)

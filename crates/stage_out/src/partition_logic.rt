@@ -52,7 +52,20 @@ impl Model for PartitionLogic {
 
     ghost coded = { Prim.hlevel (codes, tree_coded) };
 
-    ghost view = { λ l. record { live = l.live; node = l.node; parts = l.parts; fun = l.fun; outs = vec_items l.outs; asking = l.asking; open_outs = l.open_outs; to = l.to; held = l.held; waits = l.waits; over = l.over; taken = l.taken } };
+    ghost view = { λ l. record {
+      live = l.live;
+      node = l.node;
+      parts = l.parts;
+      fun = l.fun;
+      outs = vec_items l.outs;
+      asking = l.asking;
+      open_outs = l.open_outs;
+      to = l.to;
+      held = l.held;
+      waits = l.waits;
+      over = l.over;
+      taken = l.taken;
+    } };
 }
 
 impl PartitionLogic {
@@ -372,7 +385,8 @@ impl PartitionLogic {
         requires few { length self.old.outs ≤ 16 }
         requires empty { acts.old.items ≡ [] }
         requires room { room_for (length self.old.outs) ≤ acts.old.room }
-        ensures does { Parts self.new acts.new.items (record self.old { live = false }) (act.Cancel 0 ∷ at_open (λ j. act.FailOut j (record { stage = self.old.node; nth = taken; why = why })) 0 self.old.outs) }
+        ensures does { Parts self.new acts.new.items (record self.old { live = false })
+            (act.Cancel 0 ∷ at_open (λ j. act.FailOut j (record { stage = self.old.node; nth = taken; why = why })) 0 self.old.outs) }
         ensures room { acts.new.room ≡ acts.old.room }
     {
         let cause = Cause {

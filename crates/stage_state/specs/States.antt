@@ -137,4 +137,11 @@ pub record Begins (node : ℕ) (kind : Kind) (d : Decider) (new : Logic) : Type 
 
 -- a new stage that keeps, and owes these before any element
 abbrev pub new_keep : ℕ → Decider → Work → List Tree → Logic
-new_keep node d w p = record { phase = New; stage = record { node = node; decider = d; taken = 0; work = w }; pending = p; asked = false; ending = Lasting; size = None }
+new_keep node d w p = record {
+  phase = New;
+  stage = record { node = node; decider = d; taken = 0; work = w };
+  pending = p;
+  asked = false;
+  ending = Lasting;
+  size = None;
+}

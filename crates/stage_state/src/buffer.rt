@@ -44,13 +44,27 @@ impl Model for BufferLogic {
 
     ghost coded = { Prim.hlevel (codes, tree_coded) };
 
-    ghost view = { λ l. record { phase = l.phase; stage = record { node = l.node; decider = Stop; taken = 0; work = passing }; pending = l.ring.items; asked = l.asked; ending = ending_of l.over; size = Some l.ring.capacity } };
+    ghost view = { λ l. record {
+      phase = l.phase;
+      stage = record { node = l.node; decider = Stop; taken = 0; work = passing };
+      pending = l.ring.items;
+      asked = l.asked;
+      ending = ending_of l.over;
+      size = Some l.ring.capacity;
+    } };
 }
 
 impl BufferLogic {
     /// The logic of node `stage`, a buffer of `size` elements, all of whose memory it takes now.
     pub fn new(alloc: Global, stage: u32, size: u32) -> Result<BufferLogic, NoMemory>
-        ensures { IfOk result (λ l. l ≡ record { phase = New; stage = record { node = stage; decider = Stop; taken = 0; work = passing }; pending = []; asked = false; ending = Lasting; size = Some size }) }
+        ensures { IfOk result (λ l. l ≡ record {
+          phase = New;
+          stage = record { node = stage; decider = Stop; taken = 0; work = passing };
+          pending = [];
+          asked = false;
+          ending = Lasting;
+          size = Some size;
+        }) }
     {
         let ring = HeapCircularBuffer::with_capacity(alloc, size as usize)?;
         Ok(BufferLogic {

@@ -45,7 +45,14 @@ impl Model for KeepLogic {
 
     ghost use Rattle.step_work.specs.Keeping.{work_in};
 
-    ghost view = { λ l. record { phase = l.phase; stage = record { node = l.node; decider = l.decider; taken = l.taken; work = work_in l.keeping }; pending = option_to_list l.pending; asked = l.asked; ending = l.ending; size = None } };
+    ghost view = { λ l. record {
+      phase = l.phase;
+      stage = record { node = l.node; decider = l.decider; taken = l.taken; work = work_in l.keeping };
+      pending = option_to_list l.pending;
+      asked = l.asked;
+      ending = l.ending;
+      size = None;
+    } };
 }
 
 // Dropped by a call, as what it keeps is.
@@ -67,7 +74,14 @@ impl Drop for KeepLogic {
 impl KeepLogic {
     /// The logic of node `stage`, which keeps this and owes `first` before any element. It takes no memory.
     pub fn new(stage: u32, decider: Decider, keeping: StateWork, first: Option<Elem>) -> KeepLogic
-        ensures { result ≡ record { phase = New; stage = record { node = stage; decider = decider; taken = 0; work = work_in keeping }; pending = option_to_list first; asked = false; ending = Lasting; size = None } }
+        ensures { result ≡ record {
+          phase = New;
+          stage = record { node = stage; decider = decider; taken = 0; work = work_in keeping };
+          pending = option_to_list first;
+          asked = false;
+          ending = Lasting;
+          size = None;
+        } }
     {
         KeepLogic {
             node: stage,

@@ -21,10 +21,13 @@ ghost use Rattle.stage_state.specs.declared.logic.StateLogic.{StateLogic};
 /// Where its port state and its law hold, a stage that was started has closed all its ports, or has nothing to do: it waits for its
 /// input and has given all that it may, or nobody asks it; a buffer waits while it has room.
 pub fn a_started_stage_rests()
-    ensures keeps { (m : Machine Stage Tree) (start : Run Stage Tree) (took gave : List Item) (l : Logic) (v : View) → l.size ≡ None → l.phase ≢ New → port_state l v
-        → (law : Law m start (held l) (in_at v 0) (out_at v 0) took gave) → OwnRests m start (holds_at_end l.stage.work) (in_at v 0) (out_at v 0) law.in_list law.out_list }
+    ensures keeps { (m : Machine Stage Tree) (start : Run Stage Tree) (took gave : List Item) (l : Logic) (v : View) → l.size ≡ None → l.phase ≢ New
+        → port_state l v
+        → (law : Law m start (held l) (in_at v 0) (out_at v 0) took gave) → OwnRests m start (holds_at_end l.stage.work) (in_at v 0)
+        (out_at v 0) law.in_list law.out_list }
     ensures buffers { (n : ℕ) (s : Stage) (took gave : List Item) (l : Logic) (v : View) → l.size ≡ Some n → l.phase ≢ New → port_state l v
-        → (law : Law (buffer n) (begin_buffer s) (held l) (in_at v 0) (out_at v 0) took gave) → BufferOwnRests n (in_at v 0) (out_at v 0) law.in_list law.out_list }
+        → (law : Law (buffer n) (begin_buffer s) (held l) (in_at v 0) (out_at v 0) took gave)
+        → BufferOwnRests n (in_at v 0) (out_at v 0) law.in_list law.out_list }
 {}
 
 /// Where the port rules allow a call of a handler and its port state holds, a stage that was started is open.
@@ -34,5 +37,6 @@ pub fn a_called_stage_is_open()
 
 /// What a buffer of n may have given agrees with the outlook of its input behind a lane of n.
 pub fn a_buffer_is_a_lane()
-    ensures { (n : ℕ) (s : Stage) (o : Outlook) (l : List Tree) (e : End) (g : List Tree) (f : End) → Agrees o l e → Stands (buffer n) (begin_buffer s) l e g f → Agrees (lane_outlook n o) g f }
+    ensures { (n : ℕ) (s : Stage) (o : Outlook) (l : List Tree) (e : End) (g : List Tree) (f : End) → Agrees o l e → Stands (buffer n) (begin_buffer s) l e g f
+        → Agrees (lane_outlook n o) g f }
 {}

@@ -28,7 +28,8 @@ module _ {C : Type 0} (rest : C → ListFunction) (is_open : C → Bool) where
     pub holds : EachHolds f slots ss
 
   -- the input has ended: some of these substreams did, and this was put behind `before`; those of these slots are left
-  pub record Halfway (f : ListFunction) (yields : List Tree → End → Given Tree) (i : ℕ) (slots : List (Option C)) (ss : List Sub) (before after : List Tagged) : Type 0 where
+  pub record Halfway (f : ListFunction) (yields : List Tree → End → Given Tree) (i : ℕ) (slots : List (Option C)) (ss : List Sub) (before after : List Tagged)
+      : Type 0 where
     pub olds : List Sub
     pub left : List Sub
     pub are : ss ≡ olds ++ left
@@ -40,7 +41,8 @@ module _ {C : Type 0} (rest : C → ListFunction) (is_open : C → Bool) where
   -- the end of the substream of number i, with its chain in c
   abbrev pub GroupEndsAt : ℕ → Option C → Option Why → List Tagged → List Tagged → Last C → Type 0
   GroupEndsAt i c why before after new =
-      (f : ListFunction) (took : Option (List Tree)) → LastTook rest is_open f (record { ended = i; live = true; slot = c }) took → LastEnds rest is_open f (record { ended = i; live = true; slot = c }) took why before after new
+      (f : ListFunction) (took : Option (List Tree)) → LastTook rest is_open f (record { ended = i; live = true; slot = c }) took
+      → LastEnds rest is_open f (record { ended = i; live = true; slot = c }) took why before after new
 
   -- the end of the substream at place i
   abbrev pub EndsOne : List (Option C) → ℕ → Option Why → List Tagged → List Tagged → Type 0

@@ -68,13 +68,16 @@ module _ {C : Type 0} (rest : C → ListFunction) (is_open : C → Bool) where
   -- At what a chain with the list function f yields in the model, from a start that the first one owed: what it owes now, the law
   -- of the machine that joins its substreams, and that the moves of a merge are the substreams of what it gave, in order. While
   -- it is not closed, the substreams of all that is ready are those of what it gave and then of what it holds.
-  pub record TellsMachine (f : ListFunction) (yields : List Tree → End → Given Tree) (start : Run Subs Tagged) (first now : Logic C) (v : View) (took gave : List Item) : Type 0 where
+  pub record TellsMachine (f : ListFunction) (yields : List Tree → End → Given Tree) (start : Run Subs Tagged) (first now : Logic C) (v : View)
+      (took gave : List Item) : Type 0 where
     pub held : Held Subs
     pub owes : Owes rest is_open f yields now held
     pub law : Law (joined_machine yields (opening_of first.how)) (untag start) held (in_at v 0) (out_at v 0) took gave
     pub counts : (ms : List ℕ) → now.moves ≡ Some ms → length ms ≡ length law.out_list
-    pub moves : (ms : List ℕ) → now.moves ≡ Some ms → ms ≡ take (length law.out_list) (ports_given (ready_of yields (opening_of first.how) start law.in_list law.in_end))
-    pub queued : (ms : List ℕ) → now.moves ≡ Some ms → now.phase ≢ Closed → ports_given (ready_of yields (opening_of first.how) start law.in_list law.in_end) ≡ ms ++ ports_given now.pending
+    pub moves : (ms : List ℕ) → now.moves ≡ Some ms → ms ≡ take (length law.out_list)
+        (ports_given (ready_of yields (opening_of first.how) start law.in_list law.in_end))
+    pub queued : (ms : List ℕ) → now.moves ≡ Some ms → now.phase ≢ Closed → ports_given
+        (ready_of yields (opening_of first.how) start law.in_list law.in_end) ≡ ms ++ ports_given now.pending
 
   -- The law of its output, by the stage as it was at first and as it is now, whatever its chains come to in the model.
   pub record SubLaw (whole : C → ListFunction) (first now : Logic C) (v : View) (took gave : List (List Item)) : Type 0 where
@@ -86,7 +89,8 @@ module _ {C : Type 0} (rest : C → ListFunction) (is_open : C → Bool) where
     pub how : now.how ≡ first.how
     pub chain : now.chain ≡ first.chain
     pub chooses : ChoosesAs first.moves now.moves
-    pub tells : (f : ListFunction) → Same (whole first.chain) f → (yields : List Tree → End → Given Tree) → Means yields f → (start : Run Subs Tagged) → Owes rest is_open f yields first (owing (untag start))
+    pub tells : (f : ListFunction) → Same (whole first.chain) f → (yields : List Tree → End → Given Tree) → Means yields f → (start : Run Subs Tagged)
+        → Owes rest is_open f yields first (owing (untag start))
         → TellsMachine f yields start first now v took_list gave_list
 
 -- A stage that waits for its input: it is asked, its machine gave just this for what the stage took, and goes on.

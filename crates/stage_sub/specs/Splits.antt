@@ -36,17 +36,20 @@ module _ {C : Type 0} (rest : C → ListFunction) (is_open : C → Bool) (f : Li
   -- it has ended, and gave this
   abbrev pub LastEnds : Last C → Option (List Tree) → Option Why → List Tagged → List Tagged → Last C → Type 0
   LastEnds l None why before after new = (why ≡ None) × ((after ≡ before) × ((new.ended ≡ l.ended) × (new.live ≡ false)))
-  LastEnds l (Some took) None before after new = (given : List Tree) × (EndsSub f took None given × ((after ≡ before ++ map (tag l.ended) given) × ((new.ended ≡ l.ended + 1) × (new.live ≡ false))))
+  LastEnds l (Some took) None before after new = (given : List Tree) × (EndsSub f took None given
+      × ((after ≡ before ++ map (tag l.ended) given) × ((new.ended ≡ l.ended + 1) × (new.live ≡ false))))
   LastEnds l (Some took) (Some w) before after new = EndsSub f took (Some w) []
 
   -- a new one took its first element
   abbrev pub LastOpens : Last C → Tree → Option Why → List Tagged → List Tagged → Last C → Type 0
-  LastOpens l t None before after new = (after ≡ before ++ map (tag l.ended) (f.gives (t ∷ []))) × (Calm f (t ∷ []) × ((new.ended ≡ l.ended) × LastTook new (Some (t ∷ []))))
+  LastOpens l t None before after new = (after ≡ before ++ map (tag l.ended) (f.gives (t ∷ [])))
+      × (Calm f (t ∷ []) × ((new.ended ≡ l.ended) × LastTook new (Some (t ∷ []))))
   LastOpens l t (Some w) before after new = f.stop (t ∷ []) ≡ Failed w
 
   -- it took one more
   abbrev pub LastFeeds : Last C → List Tree → Tree → Option Why → List Tagged → List Tagged → Last C → Type 0
-  LastFeeds l took t None before after new = (given : List Tree) × (FeedsSub f took t None given × ((after ≡ before ++ map (tag l.ended) given) × ((new.ended ≡ l.ended) × LastTook new (Some (took ++ t ∷ [])))))
+  LastFeeds l took t None before after new = (given : List Tree) × (FeedsSub f took t None given
+      × ((after ≡ before ++ map (tag l.ended) given) × ((new.ended ≡ l.ended) × LastTook new (Some (took ++ t ∷ [])))))
   LastFeeds l took t (Some w) before after new = FeedsSub f took t (Some w) []
 
 module _ {C : Type 0} (rest : C → ListFunction) (is_open : C → Bool) (f : ListFunction) where

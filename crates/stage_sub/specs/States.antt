@@ -98,17 +98,21 @@ module _ {C : Type 0} (rest : C → ListFunction) (is_open : C → Bool) (f : Li
 -- What a stage held and what arose by the call goes out in that order, and the others are held; or nothing goes out any more.
 abbrev pub QueuesOutputs : {C : Type 0} → Machine Subs Tagged → Call → Held Subs → Logic C → Option Tagged → Logic C → Type 0
 QueuesOutputs m call shut old gave new = (gave ≡ None) × (new.phase ≡ Closed)
-QueuesOutputs m call (owing x) old gave new = (option_to_list gave ++ new.pending ≡ old.pending ++ arising m call x.state) ⊎ ((gave ≡ None) × (new.phase ≡ Closed))
+QueuesOutputs m call (owing x) old gave new = (option_to_list gave ++ new.pending ≡ old.pending ++ arising m call x.state)
+    ⊎ ((gave ≡ None) × (new.phase ≡ Closed))
 
 -- Whatever its chains come to in the model, one step of its machine: from what it owed to what it owes, the outputs in the
 -- order in which they arose. It gave one output or none, and then perhaps an end; a merge noted the number of that output's
 -- substream. No action cancels an input that an earlier one asked; and it was started.
-pub record Turned {C : Type 0} (whole rest : C → ListFunction) (is_open : C → Bool) (call : Call) (old : Logic C) (acts : List Act) (new : Logic C) : Type 0 where
+pub record Turned {C : Type 0} (whole rest : C → ListFunction) (is_open : C → Bool) (call : Call) (old : Logic C) (acts : List Act) (new : Logic C)
+    : Type 0 where
   pub gave : Option Tagged
   pub closing : End
   pub out : given_on 0 acts ≡ told (untagged (option_to_list gave)) closing
-  pub turn : (f : ListFunction) → Same (whole old.chain) f → (yields : List Tree → End → Given Tree) → Means yields f → (x : Held Subs) → Owes rest is_open f yields old x
-      → (y : Held Subs) × (Owes rest is_open f yields new y × (TurnAt (joined_machine yields (opening_of old.how)) 0 call x (given_on 0 acts) y × QueuesOutputs (substreams yields (opening_of old.how)) call x old gave new))
+  pub turn : (f : ListFunction) → Same (whole old.chain) f → (yields : List Tree → End → Given Tree) → Means yields f → (x : Held Subs)
+      → Owes rest is_open f yields old x
+      → (y : Held Subs) × (Owes rest is_open f yields new y × (TurnAt (joined_machine yields (opening_of old.how)) 0 call x (given_on 0 acts) y
+      × QueuesOutputs (substreams yields (opening_of old.how)) call x old gave new))
   pub moves : new.moves ≡ noted old.moves (port_in gave)
   pub node : new.node ≡ old.node
   pub how : new.how ≡ old.how

@@ -23,7 +23,8 @@ pub fn feed_at<C: Chain>(
 ) -> Result<Option<Why>, NoMemory>
     requires within { i < length slots.old.items }
     requires may { MayCallAll C.rest C.is_open slots.old.items }
-    ensures fed { IfOk result (λ why. (d : Option C) × ((slots.new.items ≡ slice_set slots.old.items i d) × ((f : ListFunction) (took : List Tree) (c : Option C) → slice_get slots.old.items i ≡ Some c → SlotHolds C.rest C.is_open f c took
+    ensures fed { IfOk result (λ why. (d : Option C) × ((slots.new.items ≡ slice_set slots.old.items i d)
+        × ((f : ListFunction) (took : List Tree) (c : Option C) → slice_get slots.old.items i ≡ Some c → SlotHolds C.rest C.is_open f c took
         → Fed C.rest C.is_open f took e why out.old out.new d))) }
     ensures may { OnOk result (MayCallAll C.rest C.is_open slots.new.items) }
 {
@@ -41,8 +42,10 @@ pub fn open_slot<C: Chain>(
     out: &mut Elems,
 ) -> Result<Option<Why>, NoMemory>
     requires may { MayCallAll C.rest C.is_open slots.old.items }
-    ensures begun { IfOk result (λ why. why ≡ None → (f : ListFunction) → Same (C.whole chain.now) f → (d : Option C) × ((slots.new.items ≡ slots.old.items ++ d ∷ []) × Begun C.rest C.is_open f e (Ok d) out.old out.new)) }
-    ensures fails { IfOk result (λ why. (w : Why) → why ≡ Some w → (f : ListFunction) → Same (C.whole chain.now) f → Begun C.rest C.is_open f e (Err w) out.old out.new) }
+    ensures begun { IfOk result (λ why. why ≡ None → (f : ListFunction) → Same (C.whole chain.now) f
+        → (d : Option C) × ((slots.new.items ≡ slots.old.items ++ d ∷ []) × Begun C.rest C.is_open f e (Ok d) out.old out.new)) }
+    ensures fails { IfOk result (λ why. (w : Why) → why ≡ Some w → (f : ListFunction) → Same (C.whole chain.now) f
+        → Begun C.rest C.is_open f e (Err w) out.old out.new) }
     ensures stays { IfOk result (λ why. (w : Why) → why ≡ Some w → slots.new.items ≡ slots.old.items) }
     ensures grows { IfOk result (λ why. why ≡ None → length slots.new.items ≡ length slots.old.items + 1) }
     ensures may { OnOk result (MayCallAll C.rest C.is_open slots.new.items) }

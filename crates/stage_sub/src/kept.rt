@@ -68,7 +68,8 @@ impl<C: Chain> KeptSubs<C> {
         outs: &mut Outputs,
     ) -> Result<Option<Blame>, NoMemory>
         requires may { MayCallKept C.rest C.is_open self.old }
-        ensures takes { IfOk result (λ b. (f : ListFunction) → Same (C.whole chain.now) f → (yields : List Tree → End → Given Tree) → Means yields f → (ss : List Sub) → Keeps C.rest C.is_open f yields how.now self.old ss
+        ensures takes { IfOk result (λ b. (f : ListFunction) → Same (C.whole chain.now) f → (yields : List Tree → End → Given Tree) → Means yields f
+            → (ss : List Sub) → Keeps C.rest C.is_open f yields how.now self.old ss
             → TakesBy C.rest C.is_open f yields how.now ss e b outs.old outs.new self.new) }
         ensures may { OnOk result (MayCallKept C.rest C.is_open self.new) }
     {
@@ -119,7 +120,8 @@ impl<C: Chain> KeptSubs<C> {
         outs: &mut Outputs,
     ) -> Result<Option<Blame>, NoMemory>
         requires may { MayCallKept C.rest C.is_open self.old }
-        ensures ends { IfOk result (λ b. (f : ListFunction) (yields : List Tree → End → Given Tree) → Means yields f → (ss : List Sub) → Keeps C.rest C.is_open f yields how.now self.old ss
+        ensures ends { IfOk result (λ b. (f : ListFunction) (yields : List Tree → End → Given Tree) → Means yields f → (ss : List Sub)
+            → Keeps C.rest C.is_open f yields how.now self.old ss
             → SubsReach yields (λ k. ⊤) ss (end_all ss) b outs.old outs.new) }
         ensures may { OnOk result (MayCallKept C.rest C.is_open self.new) }
     {

@@ -35,7 +35,8 @@ pub fn feed_group<C: Chain>(
 ) -> Result<Option<Blame>, NoMemory>
     requires within { i < length slots.old.items }
     requires may { MayCallAll C.rest C.is_open slots.old.items }
-    ensures feeds { IfOk result (λ b. (f : ListFunction) (yields : List Tree → End → Given Tree) → Means yields f → (ss : List Sub) → EachHolds C.rest C.is_open f slots.old.items ss
+    ensures feeds { IfOk result (λ b. (f : ListFunction) (yields : List Tree → End → Given Tree) → Means yields f → (ss : List Sub)
+        → EachHolds C.rest C.is_open f slots.old.items ss
         → SubsReach yields (EachHolds C.rest C.is_open f slots.new.items) ss (take_at i e ss) b outs.old outs.new) }
     ensures count { OnOk result (length slots.new.items ≡ length slots.old.items) }
     ensures may { OnOk result (MayCallAll C.rest C.is_open slots.new.items) }
@@ -63,8 +64,10 @@ pub fn open_group<C: Chain>(
     requires none { place_at places.old key ≡ None }
     requires within { Within (place_at places.old) slots.old.items }
     requires may { MayCallAll C.rest C.is_open slots.old.items }
-    ensures opens { IfOk result (λ b. (f : ListFunction) → Same (C.whole chain.now) f → (yields : List Tree → End → Given Tree) → Means yields f → (ss : List Sub) → Grouped C.rest C.is_open f (place_at places.old) slots.old.items ss
-        → SubsReach yields (Grouped C.rest C.is_open f (place_at places.new) slots.new.items) ss (ss ++ record { key = key; took = e ∷ []; ended = false } ∷ []) b outs.old outs.new) }
+    ensures opens { IfOk result (λ b. (f : ListFunction) → Same (C.whole chain.now) f → (yields : List Tree → End → Given Tree) → Means yields f
+        → (ss : List Sub) → Grouped C.rest C.is_open f (place_at places.old) slots.old.items ss
+        → SubsReach yields (Grouped C.rest C.is_open f (place_at places.new) slots.new.items) ss
+        (ss ++ record { key = key; took = e ∷ []; ended = false } ∷ []) b outs.old outs.new) }
     ensures within { OnOk result (Within (place_at places.new) slots.new.items) }
     ensures may { OnOk result (MayCallAll C.rest C.is_open slots.new.items) }
 {
@@ -94,7 +97,8 @@ pub fn take_group<C: Chain>(
 ) -> Result<Option<Blame>, NoMemory>
     requires within { Within (place_at places.old) slots.old.items }
     requires may { MayCallAll C.rest C.is_open slots.old.items }
-    ensures takes { IfOk result (λ b. (f : ListFunction) → Same (C.whole chain.now) f → (yields : List Tree → End → Given Tree) → Means yields f → (ss : List Sub) → Grouped C.rest C.is_open f (place_at places.old) slots.old.items ss
+    ensures takes { IfOk result (λ b. (f : ListFunction) → Same (C.whole chain.now) f → (yields : List Tree → End → Given Tree) → Means yields f
+        → (ss : List Sub) → Grouped C.rest C.is_open f (place_at places.old) slots.old.items ss
         → Arranges yields (Grouped C.rest C.is_open f (place_at places.new) slots.new.items) (by_key most by.now) ss e b outs.old outs.new) }
     ensures within { OnOk result (Within (place_at places.new) slots.new.items) }
     ensures may { OnOk result (MayCallAll C.rest C.is_open slots.new.items) }
@@ -158,7 +162,8 @@ pub fn end_groups<C: Chain>(
     scratch: &mut Elems,
 ) -> Result<Option<Blame>, NoMemory>
     requires may { MayCallAll C.rest C.is_open slots.old.items }
-    ensures ends { IfOk result (λ b. (f : ListFunction) (yields : List Tree → End → Given Tree) → Means yields f → (ss : List Sub) → EachHolds C.rest C.is_open f slots.old.items ss
+    ensures ends { IfOk result (λ b. (f : ListFunction) (yields : List Tree → End → Given Tree) → Means yields f → (ss : List Sub)
+        → EachHolds C.rest C.is_open f slots.old.items ss
         → SubsReach yields (λ now. ⊤) ss (end_all ss) b outs.old outs.new) }
     ensures may { OnOk result (MayCallAll C.rest C.is_open slots.new.items) }
     ensures count { OnOk result (length slots.new.items ≡ length slots.old.items) }

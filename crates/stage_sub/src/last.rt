@@ -66,7 +66,8 @@ impl<C: Chain> LastSubstream<C> {
         scratch: &mut Elems,
     ) -> Result<Option<Why>, NoMemory>
         requires may { MayCallLast C.rest C.is_open self.old }
-        ensures ends { IfOk result (λ why. (f : ListFunction) (took : Option (List Tree)) → LastTook C.rest C.is_open f self.old took → LastEnds C.rest C.is_open f self.old took why outs.old outs.new self.new) }
+        ensures ends { IfOk result (λ why. (f : ListFunction) (took : Option (List Tree)) → LastTook C.rest C.is_open f self.old took
+            → LastEnds C.rest C.is_open f self.old took why outs.old outs.new self.new) }
         ensures may { OnOk result (MayCallLast C.rest C.is_open self.new) }
     {
         if !self.live {
@@ -102,7 +103,8 @@ impl<C: Chain> LastSubstream<C> {
     ) -> Result<Option<Why>, NoMemory>
         requires none { self.old.live ≡ false }
         requires may { MayCallLast C.rest C.is_open self.old }
-        ensures opens { IfOk result (λ why. (f : ListFunction) → Same (C.whole chain.now) f → LastOpens C.rest C.is_open f self.old e why outs.old outs.new self.new) }
+        ensures opens { IfOk result (λ why. (f : ListFunction) → Same (C.whole chain.now) f
+            → LastOpens C.rest C.is_open f self.old e why outs.old outs.new self.new) }
         ensures may { OnOk result (MayCallLast C.rest C.is_open self.new) }
     {
         clear(scratch);
@@ -126,7 +128,8 @@ impl<C: Chain> LastSubstream<C> {
         scratch: &mut Elems,
     ) -> Result<Option<Why>, NoMemory>
         requires may { MayCallLast C.rest C.is_open self.old }
-        ensures feeds { IfOk result (λ why. (f : ListFunction) (took : List Tree) → LastTook C.rest C.is_open f self.old (Some took) → LastFeeds C.rest C.is_open f self.old took e why outs.old outs.new self.new) }
+        ensures feeds { IfOk result (λ why. (f : ListFunction) (took : List Tree) → LastTook C.rest C.is_open f self.old (Some took)
+            → LastFeeds C.rest C.is_open f self.old took e why outs.old outs.new self.new) }
         ensures may { OnOk result (MayCallLast C.rest C.is_open self.new) }
     {
         clear(scratch);
@@ -147,7 +150,8 @@ impl<C: Chain> LastSubstream<C> {
         scratch: &mut Elems,
     ) -> Result<Option<Why>, NoMemory>
         requires may { MayCallLast C.rest C.is_open self.old }
-        ensures grows { IfOk result (λ why. (f : ListFunction) → Same (C.whole chain.now) f → (took : Option (List Tree)) → LastTook C.rest C.is_open f self.old took → LastGrows C.rest C.is_open f self.old took e why outs.old outs.new self.new) }
+        ensures grows { IfOk result (λ why. (f : ListFunction) → Same (C.whole chain.now) f → (took : Option (List Tree))
+            → LastTook C.rest C.is_open f self.old took → LastGrows C.rest C.is_open f self.old took e why outs.old outs.new self.new) }
         ensures may { OnOk result (MayCallLast C.rest C.is_open self.new) }
     {
         if self.live {

@@ -25,28 +25,36 @@ use port_core::chain::Chain;
 /// At any moment, what a stage with substreams gave is what the model lets it give of what it took: of substreams joined in the
 /// order in which their outputs arise, and by its moves, where they are merged.
 pub fn substreams_stand<C: Chain>()
-    ensures concat { (f : ListFunction) (yields : List Tree → End → Given Tree) (node : ℕ) (first now : Logic C) (v : View) (took gave : List Item) → (t : TellsMachine C.rest C.is_open f yields (begin_subs yields node) first now v took gave)
-        → (g : List Tagged) × ((untagged g ≡ t.law.out_list) × Stands (substreams yields (opening_of first.how)) (begin_subs yields node) t.law.in_list t.law.in_end g t.law.out_end) }
-    ensures merge { (f : ListFunction) (yields : List Tree → End → Given Tree) (node : ℕ) (first now : Logic C) (v : View) (took gave : List Item) → (t : TellsMachine C.rest C.is_open f yields (begin_subs yields node) first now v took gave)
+    ensures concat { (f : ListFunction) (yields : List Tree → End → Given Tree) (node : ℕ) (first now : Logic C) (v : View) (took gave : List Item)
+        → (t : TellsMachine C.rest C.is_open f yields (begin_subs yields node) first now v took gave)
+        → (g : List Tagged) × ((untagged g ≡ t.law.out_list) × Stands (substreams yields (opening_of first.how))
+        (begin_subs yields node) t.law.in_list t.law.in_end g t.law.out_end) }
+    ensures merge { (f : ListFunction) (yields : List Tree → End → Given Tree) (node : ℕ) (first now : Logic C) (v : View) (took gave : List Item)
+        → (t : TellsMachine C.rest C.is_open f yields (begin_subs yields node) first now v took gave)
         → (ms : List ℕ) → now.moves ≡ Some ms → MergedStands yields node (opening_of first.how) ms t.law.in_list t.law.in_end t.law.out_list t.law.out_end }
 {}
 
 /// A new stage owes what its machine gives from the start, whatever its chains come to.
 pub fn a_new_stage_owes_its_machine<C: Chain>()
-    ensures { (f : ListFunction) (yields : List Tree → End → Given Tree) (node : ℕ) (how : OpenBy) (moves : Option (List ℕ)) (chain : C) → Owes C.rest C.is_open f yields (begun node how moves chain) (owing (untag (begin_subs yields node))) }
+    ensures { (f : ListFunction) (yields : List Tree → End → Given Tree) (node : ℕ) (how : OpenBy) (moves : Option (List ℕ)) (chain : C)
+        → Owes C.rest C.is_open f yields (begun node how moves chain) (owing (untag (begin_subs yields node))) }
 {}
 
 /// Where its port state and its law hold, a stage that was started has closed both its ports, or has nothing to do: it waits for its
 /// input and has given all that it may, or nobody asks it, where it may hold outputs behind the end of its input.
 pub fn a_started_stage_rests<C: Chain>()
-    ensures { (f : ListFunction) (yields : List Tree → End → Given Tree) (start : Run Subs Tagged) (first now : Logic C) (v : View) (took gave : List Item) → SubPortState C.rest C.is_open now v
-        → (t : TellsMachine C.rest C.is_open f yields start first now v took gave) → OwnRests (joined_machine yields (opening_of first.how)) (untag start) true (in_at v 0) (out_at v 0) t.law.in_list t.law.out_list }
+    ensures { (f : ListFunction) (yields : List Tree → End → Given Tree) (start : Run Subs Tagged) (first now : Logic C) (v : View) (took gave : List Item)
+        → SubPortState C.rest C.is_open now v
+        → (t : TellsMachine C.rest C.is_open f yields start first now v took gave)
+        → OwnRests (joined_machine yields (opening_of first.how)) (untag start) true (in_at v 0) (out_at v 0) t.law.in_list t.law.out_list }
 {}
 
 /// A stage that waits for its input is asked, and it gave all that its machine gives for what it took, which goes on.
 pub fn a_waiting_stage_gave_all<C: Chain>()
-    ensures { (f : ListFunction) (yields : List Tree → End → Given Tree) (start : Run Subs Tagged) (first now : Logic C) (v : View) (took gave : List Item) → SubPortState C.rest C.is_open now v
-        → (t : TellsMachine C.rest C.is_open f yields start first now v took gave) → in_at v 0 ≡ Pulled → GaveAll (joined_machine yields (opening_of first.how)) (untag start) (out_at v 0) t.law.in_list t.law.out_list }
+    ensures { (f : ListFunction) (yields : List Tree → End → Given Tree) (start : Run Subs Tagged) (first now : Logic C) (v : View) (took gave : List Item)
+        → SubPortState C.rest C.is_open now v
+        → (t : TellsMachine C.rest C.is_open f yields start first now v took gave) → in_at v 0 ≡ Pulled
+        → GaveAll (joined_machine yields (opening_of first.how)) (untag start) (out_at v 0) t.law.in_list t.law.out_list }
 {}
 
 /// Where the port rules allow a call of a handler and the port state holds, a stage that was started is open.

@@ -28,7 +28,8 @@ pub fn grow<C: Chain>(
     scratch: &mut Elems,
 ) -> Result<Option<Blame>, NoMemory>
     requires may { MayCallLast C.rest C.is_open last.old }
-    ensures becomes { IfOk result (λ b. (f : ListFunction) → Same (C.whole chain.now) f → (yields : List Tree → End → Given Tree) → Means yields f → (ss : List Sub) → Split C.rest C.is_open f yields last.old ss
+    ensures becomes { IfOk result (λ b. (f : ListFunction) → Same (C.whole chain.now) f → (yields : List Tree → End → Given Tree) → Means yields f
+        → (ss : List Sub) → Split C.rest C.is_open f yields last.old ss
         → SubsBecome C.rest C.is_open f yields ss (grown ss e) b outs.old outs.new last.new) }
     ensures may { OnOk result (MayCallLast C.rest C.is_open last.new) }
 {
@@ -48,7 +49,8 @@ pub fn end_and_open<C: Chain>(
     scratch: &mut Elems,
 ) -> Result<Option<Blame>, NoMemory>
     requires may { MayCallLast C.rest C.is_open last.old }
-    ensures becomes { IfOk result (λ b. (f : ListFunction) → Same (C.whole chain.now) f → (yields : List Tree → End → Given Tree) → Means yields f → (ss : List Sub) → Split C.rest C.is_open f yields last.old ss
+    ensures becomes { IfOk result (λ b. (f : ListFunction) → Same (C.whole chain.now) f → (yields : List Tree → End → Given Tree) → Means yields f
+        → (ss : List Sub) → Split C.rest C.is_open f yields last.old ss
         → SubsBecome C.rest C.is_open f yields ss (opened e e ss) b outs.old outs.new last.new) }
     ensures may { OnOk result (MayCallLast C.rest C.is_open last.new) }
 {
@@ -71,7 +73,8 @@ pub fn grow_and_end<C: Chain>(
     scratch: &mut Elems,
 ) -> Result<Option<Blame>, NoMemory>
     requires may { MayCallLast C.rest C.is_open last.old }
-    ensures becomes { IfOk result (λ b. (f : ListFunction) → Same (C.whole chain.now) f → (yields : List Tree → End → Given Tree) → Means yields f → (ss : List Sub) → Split C.rest C.is_open f yields last.old ss
+    ensures becomes { IfOk result (λ b. (f : ListFunction) → Same (C.whole chain.now) f → (yields : List Tree → End → Given Tree) → Means yields f
+        → (ss : List Sub) → Split C.rest C.is_open f yields last.old ss
         → SubsBecome C.rest C.is_open f yields ss (end_all (grown ss e)) b outs.old outs.new last.new) }
     ensures may { OnOk result (MayCallLast C.rest C.is_open last.new) }
 {
@@ -95,7 +98,8 @@ pub fn take_before<C: Chain>(
     scratch: &mut Elems,
 ) -> Result<Option<Blame>, NoMemory>
     requires may { MayCallLast C.rest C.is_open last.old }
-    ensures takes { IfOk result (λ b. (f : ListFunction) → Same (C.whole chain.now) f → (yields : List Tree → End → Given Tree) → Means yields f → (ss : List Sub) → Split C.rest C.is_open f yields last.old ss
+    ensures takes { IfOk result (λ b. (f : ListFunction) → Same (C.whole chain.now) f → (yields : List Tree → End → Given Tree) → Means yields f
+        → (ss : List Sub) → Split C.rest C.is_open f yields last.old ss
         → SubsTake C.rest C.is_open f yields (before test.now) ss e b outs.old outs.new last.new) }
     ensures may { OnOk result (MayCallLast C.rest C.is_open last.new) }
 {
@@ -117,7 +121,8 @@ pub fn take_behind<C: Chain>(
     scratch: &mut Elems,
 ) -> Result<Option<Blame>, NoMemory>
     requires may { MayCallLast C.rest C.is_open last.old }
-    ensures takes { IfOk result (λ b. (f : ListFunction) → Same (C.whole chain.now) f → (yields : List Tree → End → Given Tree) → Means yields f → (ss : List Sub) → Split C.rest C.is_open f yields last.old ss
+    ensures takes { IfOk result (λ b. (f : ListFunction) → Same (C.whole chain.now) f → (yields : List Tree → End → Given Tree) → Means yields f
+        → (ss : List Sub) → Split C.rest C.is_open f yields last.old ss
         → SubsTake C.rest C.is_open f yields (behind test.now) ss e b outs.old outs.new last.new) }
     ensures may { OnOk result (MayCallLast C.rest C.is_open last.new) }
 {
@@ -136,7 +141,8 @@ pub fn end_last<C: Chain>(
     scratch: &mut Elems,
 ) -> Result<Option<Blame>, NoMemory>
     requires may { MayCallLast C.rest C.is_open last.old }
-    ensures becomes { IfOk result (λ b. (f : ListFunction) (yields : List Tree → End → Given Tree) → Means yields f → (ss : List Sub) → Split C.rest C.is_open f yields last.old ss
+    ensures becomes { IfOk result (λ b. (f : ListFunction) (yields : List Tree → End → Given Tree) → Means yields f → (ss : List Sub)
+        → Split C.rest C.is_open f yields last.old ss
         → SubsBecome C.rest C.is_open f yields ss (end_all ss) b outs.old outs.new last.new) }
     ensures may { OnOk result (MayCallLast C.rest C.is_open last.new) }
 {

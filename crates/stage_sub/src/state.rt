@@ -66,7 +66,18 @@ impl<C: Chain> Model for SubState<C> {
 
     ghost coded = { Prim.hlevel (codes, tree_coded) };
 
-    ghost view = { λ l. record { phase = l.phase; node = l.node; taken = l.taken; how = l.how; chain = l.chain; kept = l.kept; pending = l.outs; asked = l.asked; over = l.over; moves = None } };
+    ghost view = { λ l. record {
+      phase = l.phase;
+      node = l.node;
+      taken = l.taken;
+      how = l.how;
+      chain = l.chain;
+      kept = l.kept;
+      pending = l.outs;
+      asked = l.asked;
+      over = l.over;
+      moves = None;
+    } };
 }
 
 impl<C: Chain> SubState<C> {
@@ -130,7 +141,8 @@ impl<C: Chain> SubState<C> {
     /// The element goes to its substream.
     pub fn take_in(&mut self, alloc: Global, e: Elem) -> Result<Option<Blame>, NoMemory>
         requires ready { Ready C.rest C.is_open self.old }
-        ensures takes { IfOk result (λ b. (f : ListFunction) → Same (C.whole self.old.chain) f → (yields : List Tree → End → Given Tree) → Means yields f → (ss : List Sub) → Keeps C.rest C.is_open f yields self.old.how self.old.kept ss
+        ensures takes { IfOk result (λ b. (f : ListFunction) → Same (C.whole self.old.chain) f → (yields : List Tree → End → Given Tree) → Means yields f
+            → (ss : List Sub) → Keeps C.rest C.is_open f yields self.old.how self.old.kept ss
             → TakesBy C.rest C.is_open f yields self.old.how ss e b self.old.pending self.new.pending self.new.kept) }
         ensures ready { OnOk result (Ready C.rest C.is_open self.new) }
         ensures stays { self.new ≡ record self.old { kept = self.new.kept; pending = self.new.pending } }
@@ -213,7 +225,8 @@ impl<C: Chain> SubState<C> {
     /// All substreams end.
     pub fn end_in(&mut self, alloc: Global) -> Result<Option<Blame>, NoMemory>
         requires ready { Ready C.rest C.is_open self.old }
-        ensures becomes { IfOk result (λ b. (f : ListFunction) → (yields : List Tree → End → Given Tree) → Means yields f → (ss : List Sub) → Keeps C.rest C.is_open f yields self.old.how self.old.kept ss
+        ensures becomes { IfOk result (λ b. (f : ListFunction) → (yields : List Tree → End → Given Tree) → Means yields f → (ss : List Sub)
+            → Keeps C.rest C.is_open f yields self.old.how self.old.kept ss
             → SubsReach yields (λ k. ⊤) ss (end_all ss) b self.old.pending self.new.pending) }
         ensures ready { OnOk result (Ready C.rest C.is_open self.new) }
         ensures stays { self.new ≡ record self.old { kept = self.new.kept; pending = self.new.pending } }

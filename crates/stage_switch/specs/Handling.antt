@@ -68,7 +68,8 @@ pub record TripAs (first now : Trip) (v : View) (took gave : List (List Item)) :
   pub gave_list : List Item
   pub took_is : took ≡ took_list ∷ []
   pub gave_is : gave ≡ gave_list ∷ []
-  pub law : (book : Book) (d : Decider) → Law (linear book passing) (begin_work first.node d passing) (trip_held d now) (in_at v 0) (out_at v 0) took_list gave_list
+  pub law : (book : Book) (d : Decider) → Law (linear book passing) (begin_work first.node d passing) (trip_held d now) (in_at v 0)
+      (out_at v 0) took_list gave_list
   pub node : now.node ≡ first.node
   pub order : now.order ≡ first.order
   pub count : now.count ≡ first.count

@@ -60,7 +60,8 @@ Sat = Me (Unit {0}) Known
 -- was found is one that this seat gave
 abbrev pub looked : Step (Unit {0}) → Sat → ℕ → Sat → Type 0
 looked st m r n =
-    (n ≡ (known m.0.parts m.0.all m.0.gave (orders_at r) (m.0.looks + 1), m.1)) × (AllAre r m.0.knows × (AllAre r m.0.gave × ((r ≤ 2) × (m.0.parts ≡ m.0.all → r ≢ 0 → m.0.gave ≢ []))))
+    (n ≡ (known m.0.parts m.0.all m.0.gave (orders_at r) (m.0.looks + 1), m.1)) × (AllAre r m.0.knows
+    × (AllAre r m.0.gave × ((r ≤ 2) × (m.0.parts ≡ m.0.all → r ≢ 0 → m.0.gave ≢ []))))
 
 -- an exchange of 0 to an order: the seat gave and knows that order, where no order stood; else it knows the one found
 abbrev pub ordered : Step (Unit {0}) → Sat → ℕ → Sat → Type 0

@@ -53,7 +53,8 @@ pub record IsSettled (seats : List SeatState) (stands : Option Order) : Type 0 w
 
 -- the seats of each switch at which there is a node of these kinds were settled
 abbrev pub AllSettled : List Kind → (ℕ → Option SeatState) → Type 0
-AllSettled kinds seat = (node : ℕ) (kind : Kind) (name : List ℕ) → slice_get kinds node ≡ Some kind → IsAt name kind → (seats : List SeatState) × ((stands : Option Order) × (SeatsAre kinds name seat seats × IsSettled seats stands))
+AllSettled kinds seat = (node : ℕ) (kind : Kind) (name : List ℕ) → slice_get kinds node ≡ Some kind → IsAt name kind
+    → (seats : List SeatState) × ((stands : Option Order) × (SeatsAre kinds name seat seats × IsSettled seats stands))
 
 -- All valves of a switch with moves show one order, that of a trip of the switch which took its element.
 pub record OneOrderShown (g : Graph) (w : World) (took : ℕ → ℕ) : Type 0 where

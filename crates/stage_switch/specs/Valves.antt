@@ -100,7 +100,8 @@ did (shut a) = a
 -- now on is what was given before for what came and then the rest. Where it closed, that holds of the act which it did.
 abbrev pub ValveResidual : ℕ → Call → ℕ → List Item → ValveHeld → Type 0
 ValveResidual node (cancels j) n out new = out ≡ []
-ValveResidual node call n out (passes k) = (d : Acted) → NotBefore k d → (r : Inflow) → valve_gives node (passes n) d (joined (coming call 0) r) ≡ out ++ valve_gives node (passes k) d r
+ValveResidual node call n out (passes k) = (d : Acted) → NotBefore k d → (r : Inflow)
+    → valve_gives node (passes n) d (joined (coming call 0) r) ≡ out ++ valve_gives node (passes k) d r
 ValveResidual node call n out (shut a) = (r : Inflow) → valve_gives node (passes n) a (joined (coming call 0) r) ≡ out
 
 -- what it may have given, of one input

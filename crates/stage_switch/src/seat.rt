@@ -25,7 +25,12 @@ impl Model for SwitchSeat {
 
     ghost coded = { Prim.hlevel (codes, table_id_coded) };
 
-    ghost view = { λ s. record { switch = record { id = s.seat.table_id; seats = s.seat.me.0.all }; gave = first_order s.seat.me.0.gave; knows = first_order s.seat.me.0.knows; looks = s.seat.me.0.looks } };
+    ghost view = { λ s. record {
+      switch = record { id = s.seat.table_id; seats = s.seat.me.0.all };
+      gave = first_order s.seat.me.0.gave;
+      knows = first_order s.seat.me.0.knows;
+      looks = s.seat.me.0.looks;
+    } };
 
     ghost invariant = { λ s. (s.seat.me.1 ≡ []) × (s.seat.me.0.parts ≡ 1) };
 }

@@ -18,7 +18,9 @@ ghost use Rattle.stage_switch.specs.Settling.{SeatTold, AllSettled, OneOrderShow
 /// where each node's moves fit and no trip took more elements than came, all moves of the blueprint fit. A trip that took so
 /// many elements can trip where more may come.
 pub fn switches_show_one_order()
-    ensures shown { (g : Graph) (w : World) (took : ℕ → ℕ) (seat : ℕ → Option SeatState) → ((node : ℕ) (n : Node) → slice_get g.nodes node ≡ Some n → (s : SeatState) → seat node ≡ Some s → SeatTold n.kind (w.moves node) (took node) s) → AllSettled (kinds_of g) seat → OneOrderShown g w took }
+    ensures shown { (g : Graph) (w : World) (took : ℕ → ℕ) (seat : ℕ → Option SeatState)
+        → ((node : ℕ) (n : Node) → slice_get g.nodes node ≡ Some n → (s : SeatState) → seat node ≡ Some s → SeatTold n.kind (w.moves node) (took node) s)
+        → AllSettled (kinds_of g) seat → OneOrderShown g w took }
     ensures fits { (g : Graph) (w : World) (took : ℕ → ℕ) → OneOrderShown g w took
         → ((node : ℕ) (n : Node) → slice_get g.nodes node ≡ Some n → moves_fit g w node n.kind (inputs g w node n) ≡ true)
         → ((node : ℕ) (n : Node) → slice_get g.nodes node ≡ Some n → took node ≤ length (head_of (inputs g w node n)).list) → Fits g w }
@@ -28,7 +30,8 @@ pub fn switches_show_one_order()
 /// The law of a valve, and that of a trip, tell of its seat what is asked of a node of its kind, and that it is of the switch
 /// that the node was handed.
 pub fn node_laws_tell_of_seats()
-    ensures valve { (name : List ℕ) (first now : Valve) (v : View) (took gave : List (List Item)) → (law : ValveAs first now v took gave) → IsSeatOf first.switch now.seat × ((count : ℕ) → SeatTold (kind.Valve name) now.moves count now.seat) }
+    ensures valve { (name : List ℕ) (first now : Valve) (v : View) (took gave : List (List Item)) → (law : ValveAs first now v took gave)
+        → IsSeatOf first.switch now.seat × ((count : ℕ) → SeatTold (kind.Valve name) now.moves count now.seat) }
     ensures trip { (name moves : List ℕ) (first now : Trip) (v : View) (took gave : List (List Item)) → (law : TripAs first now v took gave)
         → IsSeatOf first.switch now.seat × SeatTold (trip_kind first.order name first.count) moves (elements law.took_list) now.seat }
 {}

@@ -40,7 +40,15 @@ impl Model for Trip {
 
     ghost coded = { Prim.hlevel (codes, tree_coded, table_id_coded) };
 
-    ghost view = { λ l. record { phase = l.phase; node = l.node; taken = l.taken; order = l.order; count = l.count; switch = arc_value l.end.switch; seat = l.end.seat } };
+    ghost view = { λ l. record {
+      phase = l.phase;
+      node = l.node;
+      taken = l.taken;
+      order = l.order;
+      count = l.count;
+      switch = arc_value l.end.switch;
+      seat = l.end.seat;
+    } };
 
     ghost invariant = { λ l. IsTrip l.order l.count l.taken (arc_value l.end.switch) l.end.seat };
 }

@@ -41,14 +41,18 @@ GoesOn old new = ((book : Book) → linear book new ≡ linear book old) × (hol
 
 -- a stage of this work and decider gives this for the element t, and has the new work
 abbrev pub StepsTo : Decider → Work → Tree → List Tree → Work → Type 0
-StepsTo d old t out new = (book : Book) (node taken : ℕ) → step book (stage_of node d taken old) t ≡ record { gave = out; state = going (stage_of node d (taken + 1) new) }
+StepsTo d old t out new = (book : Book) (node taken : ℕ) → step book (stage_of node d taken old) t ≡
+    record { gave = out; state = going (stage_of node d (taken + 1) new) }
 
 -- What came of the element t: what is given, and the stage goes on; or it asks again; or it fails, and the element is to blame.
 abbrev pub Reacted : Decider → Work → Tree → Work → StateReaction → Type 0
 Reacted d old t new (Gives u) = StepsTo d old t (u ∷ []) new × GoesOn old new
 Reacted d old t new Asks = StepsTo d old t [] new × GoesOn old new
 Reacted d old t new (Fails why) =
-    ((book : Book) (node taken : ℕ) → step book (stage_of node d taken old) t ≡ record { gave = []; state = broken (record { stage = node; nth = taken + 1; why = why }) }) × GoesOn old new
+    ((book : Book) (node taken : ℕ) → step book (stage_of node d taken old) t ≡ record {
+      gave = [];
+      state = broken (record { stage = node; nth = taken + 1; why = why });
+    }) × GoesOn old new
 
 -- what the end of the input brings: nothing, a value, or a failure that blames no element
 abbrev pub FinishesBy : Work → Result (Option Tree) Why → Type 0

@@ -24,7 +24,8 @@ module _ {C : Type 0} (rest : C → ListFunction) (is_open : C → Bool) where
 
   -- one more element behind `took`: what came of it is put behind `before`, and the chain is this; or the chain fails
   abbrev pub Fed : ListFunction → List Tree → Tree → Option Why → List Tree → List Tree → Option C → Type 0
-  Fed f took t None before after slot = (given : List Tree) × ((f.gives (took ++ t ∷ []) ≡ f.gives took ++ given) × ((after ≡ before ++ given) × SlotHolds f slot (took ++ t ∷ [])))
+  Fed f took t None before after slot = (given : List Tree) × ((f.gives (took ++ t ∷ []) ≡ f.gives took ++ given)
+      × ((after ≡ before ++ given) × SlotHolds f slot (took ++ t ∷ [])))
   Fed f took t (Some w) before after slot = f.stop (took ++ t ∷ []) ≡ Failed w
 
   -- the first element of a substream

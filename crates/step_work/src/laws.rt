@@ -18,15 +18,19 @@ pub fn a_line_means_its_list_function()
 /// A list may come to a chain in two parts: what the stages gave for the first is in front of what they give for the second
 /// from where they stand then.
 pub fn a_list_may_come_in_two_parts()
-    ensures { (book : Book) (steps : Chain) (l r : List Tree) (e : End) → through book steps (l ++ r) e ≡ led_by (chain_outs book steps l) (through book (after book steps l) r e) }
+    ensures { (book : Book) (steps : Chain) (l r : List Tree) (e : End) → through book steps (l ++ r) e ≡ led_by (chain_outs book steps l)
+        (through book (after book steps l) r e) }
 {}
 
 /// A call that runs the stages from where they stand, and answers how the last one stands then, is a call of the chain by its
 /// list function.
 pub fn stages_keep_their_list_function()
-    ensures push { (book : Book) (steps : Chain) (t : Tree) (step : ChainStep) (before now : List Tree) → step ≡ chain_step (through book steps (t ∷ []) unended).end → now ≡ before ++ (through book steps (t ∷ []) unended).list
+    ensures push { (book : Book) (steps : Chain) (t : Tree) (step : ChainStep) (before now : List Tree)
+        → step ≡ chain_step (through book steps (t ∷ []) unended).end → now ≡ before ++ (through book steps (t ∷ []) unended).list
         → Pushed (list_function book steps) t step before now (list_function book (after book steps (t ∷ []))) }
-    ensures open { (book : Book) (steps : Chain) (t : Tree) → is_unended (through book (after book steps (t ∷ [])) [] unended).end ≡ goes_on (chain_step (through book steps (t ∷ []) unended).end) }
-    ensures end { (book : Book) (steps : Chain) (before now : List Tree) → is_unended (through book steps [] unended).end ≡ true → now ≡ before ++ (through book steps [] ended).list
+    ensures open { (book : Book) (steps : Chain) (t : Tree) → is_unended (through book (after book steps (t ∷ [])) [] unended).end ≡ goes_on
+        (chain_step (through book steps (t ∷ []) unended).end) }
+    ensures end { (book : Book) (steps : Chain) (before now : List Tree) → is_unended (through book steps [] unended).end ≡ true
+        → now ≡ before ++ (through book steps [] ended).list
         → FunctionFinished (list_function book steps) (end_step (through book steps [] ended).end) before now }
 {}

@@ -34,7 +34,8 @@ pub fn feed_slot<C: Chain>(
     out: &mut Elems,
 ) -> Result<Option<Why>, NoMemory>
     requires { MayCall C.rest C.is_open slot.old }
-    ensures fed { IfOk result (λ why. (f : ListFunction) (took : List Tree) → SlotHolds C.rest C.is_open f slot.old took → Fed C.rest C.is_open f took e why out.old out.new slot.new) }
+    ensures fed { IfOk result (λ why. (f : ListFunction) (took : List Tree) → SlotHolds C.rest C.is_open f slot.old took
+        → Fed C.rest C.is_open f took e why out.old out.new slot.new) }
     ensures may { OnOk result (MayCall C.rest C.is_open slot.new) }
 {
     let step = match slot {

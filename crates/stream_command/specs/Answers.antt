@@ -60,4 +60,5 @@ AnswersCommand p (Some c) a old new = AnswersTo p c.generated c a old new
 -- that of its file in whatever folder the generator leaves, and the folder tells its files after the call.
 abbrev pub IsValidFor : Plugged → Option ℕ → List ℕ → Option (List ℕ) → FolderState → FolderState → Type 0
 IsValidFor p None file trace old new = IsTrue old.tells × IsValid p file trace old
-IsValidFor p (Some n) file trace old new = IsTrue new.tells × ((between : FolderState) → Generates old between n → IsTrue between.tells → IsValid p file trace between)
+IsValidFor p (Some n) file trace old new = IsTrue new.tells × ((between : FolderState) → Generates old between n → IsTrue between.tells
+    → IsValid p file trace between)

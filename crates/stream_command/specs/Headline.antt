@@ -52,7 +52,8 @@ pub record WholeFiles (p : Plugged) (moves : List Pick) (c : AskedRun) (old new 
   pub drawn : Drawn
   pub by_moves : drawn.picks ≡ moves
   pub ran : RanOver p c old new blueprint drawn
-  pub whole : (w : World) (k : ℕ) (n : Node) (file : List ℕ) → IsWorldOf p.book blueprint.nodes.items drawn w → slice_get blueprint.nodes.items k ≡ Some n → output_of n.kind ≡ Some file
+  pub whole : (w : World) (k : ℕ) (n : Node) (file : List ℕ) → IsWorldOf p.book blueprint.nodes.items drawn w → slice_get blueprint.nodes.items k ≡ Some n
+      → output_of n.kind ≡ Some file
       → HoldsWhole new file (sink_outlook (graph_of blueprint) w k (graph_node n))
 
 -- The answer says that the sink with this file, which is node k, stands so. Sinks are answered in the order of nodes.
@@ -75,5 +76,6 @@ pub record EndedFiles (p : Plugged) (a : Answer) (c : AskedRun) (old new : Folde
   pub every : length a.sinks ≡ length (sink_places 0 blueprint.nodes.items)
   pub ended : (w : World) (k : ℕ) (n : Node) (file : List ℕ) → IsWorldOf p.book blueprint.nodes.items drawn w → AnswersSink a blueprint k n file state.Ended
       → HoldsWhole new file (sink_outlook (graph_of blueprint) w k (graph_node n))
-  pub failed : (w : World) (k : ℕ) (n : Node) (file : List ℕ) (cause : Cause) → IsWorldOf p.book blueprint.nodes.items drawn w → AnswersSink a blueprint k n file (state.Failed cause)
+  pub failed : (w : World) (k : ℕ) (n : Node) (file : List ℕ) (cause : Cause) → IsWorldOf p.book blueprint.nodes.items drawn w
+      → AnswersSink a blueprint k n file (state.Failed cause)
       → HoldsBetween new file (sink_outlook (graph_of blueprint) w k (graph_node n)) cause

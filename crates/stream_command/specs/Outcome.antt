@@ -73,12 +73,14 @@ pub record RanTo (p : Plugged) (old new : FolderState) (b : Blueprint) (trace : 
   pub sinks : a.sinks ≡ told_ends b.nodes.items stands
   pub picks_are : picked a.picks ≡ pick_places 0 b.nodes.items
   pub leaves : LeavesFiles p.book old new b trace stands a.picks a.wires (no_event_left a turns)
-  pub writes : (i : ℕ) (s : SinkStand) (n : Node) (file : List ℕ) → slice_get stands i ≡ Some s → slice_get b.nodes.items s.0 ≡ Some n → output_of n.kind ≡ Some file → FailedWritesOf s.2 (old.wfaults file) (new.wfaults file)
+  pub writes : (i : ℕ) (s : SinkStand) (n : Node) (file : List ℕ) → slice_get stands i ≡ Some s → slice_get b.nodes.items s.0 ≡ Some n
+      → output_of n.kind ≡ Some file → FailedWritesOf s.2 (old.wfaults file) (new.wfaults file)
   pub within : a.used ≤ turns
   pub pays : Pays b a.wires a.used
   pub carries : WiresCarry p.book b stands a.wires a.picks
   pub ending : IsPolytree (wiring (blueprint_wires b)) → some_unended a.sinks ≡ true → a.used ≡ turns
-  pub enough : IsPolytree (wiring (blueprint_wires b)) → (w : World) → IsWorldOf p.book b.nodes.items leaves.drawn w → need (graph_of b) (composed (graph_of b) w) ≤ turns
+  pub enough : IsPolytree (wiring (blueprint_wires b)) → (w : World) → IsWorldOf p.book b.nodes.items leaves.drawn w
+      → need (graph_of b) (composed (graph_of b) w) ≤ turns
       → (i : ℕ) (s : SinkStand) (n : Node) (file : List ℕ) → slice_get stands i ≡ Some s → slice_get b.nodes.items s.0 ≡ Some n → output_of n.kind ≡ Some file
       → (sink_outlook (graph_of b) w s.0 (graph_node n)).fails ≡ [] → (Rose (old.wfaults file) (new.wfaults file) → ⊥) → s.2 ≡ state.Ended
 
@@ -96,8 +98,10 @@ IsAbsent old new n = LacksFile old n ⊎ Rose (old.refusals n) (new.refusals n)
 abbrev pub EndedBefore : Plugged → Status → Answer → List ℕ → Option (List ℕ) → FolderState → FolderState → Type 0
 EndedBefore p (status.Missing n) a file trace old new = RanNothing old new a × (n ≡ file) × IsAbsent old new file
 EndedBefore p status.ReadFault a file trace old new = RanNothing old new a × Rose (old.rfaults file) (new.rfaults file)
-EndedBefore p (status.Refused f) a file trace old new = RanNothing old new a × ((whole : List ℕ) × ((old.file file ≡ Some whole) × (language.text_fault whole ≡ Some f)))
-EndedBefore p (status.Unfit f) a file trace old new = RanNothing old new a × ((b : Blueprint) × (SaysFile old file b × IsFirstFault b p.heads (taken_files file trace) f))
+EndedBefore p (status.Refused f) a file trace old new = RanNothing old new a × ((whole : List ℕ)
+    × ((old.file file ≡ Some whole) × (language.text_fault whole ≡ Some f)))
+EndedBefore p (status.Unfit f) a file trace old new = RanNothing old new a × ((b : Blueprint)
+    × (SaysFile old file b × IsFirstFault b p.heads (taken_files file trace) f))
 EndedBefore p status.NoMemory a file trace old new = RanNothing old new a
 EndedBefore p _ a file trace old new = ⊥
 
@@ -149,9 +153,12 @@ SomeWriteFailed old new b trace a = ((some_fault a.sinks ≡ true) × Traces old
 -- and units that suffice for all that may pass are not used up.
 abbrev pub EndedRun : Plugged → Status → Answer → Blueprint → Option (List ℕ) → ℕ → FolderState → FolderState → Type 0
 EndedRun p status.Done a b trace turns old new = RanTo p old new b trace turns a × Traces old new b trace a.picks false × (all_ended a.sinks ≡ true)
-EndedRun p status.StreamFailed a b trace turns old new = RanTo p old new b trace turns a × Traces old new b trace a.picks false × (some_fault a.sinks ≡ false) × (some_unended a.sinks ≡ false) × (some_failed a.sinks ≡ true)
-EndedRun p status.Stalled a b trace turns old new = RanTo p old new b trace turns a × Traces old new b trace a.picks false × (IsPolytree (wiring (blueprint_wires b)) → ⊥) × (some_fault a.sinks ≡ false) × (some_unended a.sinks ≡ true)
-EndedRun p status.OutOfTurns a b trace turns old new = (ran : RanTo p old new b trace turns a) × Traces old new b trace a.picks false × FallsShort p b turns a ran.leaves.drawn × (some_fault a.sinks ≡ false) × (some_unended a.sinks ≡ true)
+EndedRun p status.StreamFailed a b trace turns old new = RanTo p old new b trace turns a × Traces old new b trace a.picks false × (some_fault a.sinks ≡ false)
+    × (some_unended a.sinks ≡ false) × (some_failed a.sinks ≡ true)
+EndedRun p status.Stalled a b trace turns old new = RanTo p old new b trace turns a × Traces old new b trace a.picks false
+    × (IsPolytree (wiring (blueprint_wires b)) → ⊥) × (some_fault a.sinks ≡ false) × (some_unended a.sinks ≡ true)
+EndedRun p status.OutOfTurns a b trace turns old new = (ran : RanTo p old new b trace turns a) × Traces old new b trace a.picks false
+    × FallsShort p b turns a ran.leaves.drawn × (some_fault a.sinks ≡ false) × (some_unended a.sinks ≡ true)
 EndedRun p status.WriteFault a b trace turns old new = RanTo p old new b trace turns a × SomeWriteFailed old new b trace a × SomeCountRose old new b trace
 EndedRun p (status.Missing n) a b trace turns old new = LacksInput old new b n a ⊎ LacksOutput old new b trace n a
 EndedRun p status.NoMemory a b trace turns old new = Blank a × GaveUp p old new b trace
@@ -159,7 +166,8 @@ EndedRun p _ a b trace turns old new = ⊥
 
 -- what a call with that file answers: it ended before a run, or it ran the blueprint that the file says
 abbrev pub Told : Plugged → Answer → AskedRun → FolderState → FolderState → Type 0
-Told p a c old new = EndedBefore p a.status a c.file c.trace old new ⊎ ((b : Blueprint) × (SaysFit p old c.file c.trace b × EndedRun p a.status a b c.trace c.turns old new))
+Told p a c old new = EndedBefore p a.status a c.file c.trace old new ⊎ ((b : Blueprint)
+    × (SaysFit p old c.file c.trace b × EndedRun p a.status a b c.trace c.turns old new))
 
 -- only counts of these names rose
 abbrev pub QuietButAll : List (List ℕ) → (List ℕ → ℕ) → (List ℕ → ℕ) → Type 0
@@ -171,7 +179,8 @@ QuietAmong names old new = (n : List ℕ) → Contains names n → Grew (old n) 
 
 -- an input of this name is absent, or the opening of an output or of the trace's file of this name was refused
 abbrev pub MissesFile : FolderState → FolderState → Blueprint → Option (List ℕ) → List ℕ → Type 0
-MissesFile old new b trace n = (Contains (inputs_of_nodes b.nodes.items) n × IsAbsent old new n) ⊎ (Contains (written_files b trace) n × Rose (old.refusals n) (new.refusals n))
+MissesFile old new b trace n = (Contains (inputs_of_nodes b.nodes.items) n × IsAbsent old new n)
+    ⊎ (Contains (written_files b trace) n × Rose (old.refusals n) (new.refusals n))
 
 -- What is told of a run whatever the folder tells. Its sinks stand so, and the count of failed writes of a sink's file rose exactly where
 -- that sink stands at a failed write. There is a list of moves for each stage whose kind chooses. The units were within the turns and
@@ -182,7 +191,8 @@ pub record SinksWrote (p : Plugged) (old new : FolderState) (b : Blueprint) (tur
   pub stands_are : map (λ (s : SinkStand). s.0) stands ≡ sink_places 0 b.nodes.items
   pub sinks : a.sinks ≡ told_ends b.nodes.items stands
   pub picks_are : picked a.picks ≡ pick_places 0 b.nodes.items
-  pub writes : (i : ℕ) (s : SinkStand) (n : Node) (file : List ℕ) → slice_get stands i ≡ Some s → slice_get b.nodes.items s.0 ≡ Some n → output_of n.kind ≡ Some file → FailedWritesOf s.2 (old.wfaults file) (new.wfaults file)
+  pub writes : (i : ℕ) (s : SinkStand) (n : Node) (file : List ℕ) → slice_get stands i ≡ Some s → slice_get b.nodes.items s.0 ≡ Some n
+      → output_of n.kind ≡ Some file → FailedWritesOf s.2 (old.wfaults file) (new.wfaults file)
   pub within : a.used ≤ turns
   pub pays : Pays b a.wires a.used
   pub picture : PictureStands p.book b stands a.picks a.wires (no_event_left a turns)
@@ -200,20 +210,31 @@ RunCauses p status.Usage a b trace turns old new = ⊥
 RunCauses p status.ReadFault a b trace turns old new = ⊥
 RunCauses p (status.Refused f) a b trace turns old new = ⊥
 RunCauses p (status.Unfit f) a b trace turns old new = ⊥
-RunCauses p (status.Missing n) a b trace turns old new = MissesFile old new b trace n × QuietBut n old.refusals new.refusals × Quiet old.rfaults new.rfaults × Quiet old.wfaults new.wfaults
-RunCauses p status.NoMemory a b trace turns old new = Quiet old.refusals new.refusals × QuietButAll (inputs_of_nodes b.nodes.items) old.rfaults new.rfaults × QuietButAll (outputs_of_nodes b.nodes.items) old.wfaults new.wfaults
-RunCauses p status.WriteFault a b trace turns old new = Quiet old.refusals new.refusals × QuietButAll (inputs_of_nodes b.nodes.items) old.rfaults new.rfaults × SomeCountRose old new b trace × QuietButAll (written_files b trace) old.wfaults new.wfaults × SinksWrote p old new b turns a
-RunCauses p status.Stalled a b trace turns old new = Quiet old.refusals new.refusals × QuietButAll (inputs_of_nodes b.nodes.items) old.rfaults new.rfaults × Quiet old.wfaults new.wfaults × SinksWrote p old new b turns a × (IsPolytree (wiring (blueprint_wires b)) → ⊥)
-RunCauses p status.OutOfTurns a b trace turns old new = Quiet old.refusals new.refusals × QuietButAll (inputs_of_nodes b.nodes.items) old.rfaults new.rfaults × Quiet old.wfaults new.wfaults × SinksWrote p old new b turns a × UsedUp b turns a
-RunCauses p _ a b trace turns old new = Quiet old.refusals new.refusals × QuietButAll (inputs_of_nodes b.nodes.items) old.rfaults new.rfaults × Quiet old.wfaults new.wfaults × SinksWrote p old new b turns a
+RunCauses p (status.Missing n) a b trace turns old new = MissesFile old new b trace n × QuietBut n old.refusals new.refusals × Quiet old.rfaults new.rfaults
+    × Quiet old.wfaults new.wfaults
+RunCauses p status.NoMemory a b trace turns old new = Quiet old.refusals new.refusals × QuietButAll (inputs_of_nodes b.nodes.items) old.rfaults new.rfaults
+    × QuietButAll (outputs_of_nodes b.nodes.items) old.wfaults new.wfaults
+RunCauses p status.WriteFault a b trace turns old new = Quiet old.refusals new.refusals × QuietButAll (inputs_of_nodes b.nodes.items) old.rfaults new.rfaults
+    × SomeCountRose old new b trace × QuietButAll (written_files b trace) old.wfaults new.wfaults × SinksWrote p old new b turns a
+RunCauses p status.Stalled a b trace turns old new = Quiet old.refusals new.refusals × QuietButAll (inputs_of_nodes b.nodes.items) old.rfaults new.rfaults
+    × Quiet old.wfaults new.wfaults × SinksWrote p old new b turns a × (IsPolytree (wiring (blueprint_wires b)) → ⊥)
+RunCauses p status.OutOfTurns a b trace turns old new = Quiet old.refusals new.refusals × QuietButAll (inputs_of_nodes b.nodes.items) old.rfaults new.rfaults
+    × Quiet old.wfaults new.wfaults × SinksWrote p old new b turns a × UsedUp b turns a
+RunCauses p _ a b trace turns old new = Quiet old.refusals new.refusals × QuietButAll (inputs_of_nodes b.nodes.items) old.rfaults new.rfaults
+    × Quiet old.wfaults new.wfaults × SinksWrote p old new b turns a
 
 -- what a call raised before a run; no other file was read
 abbrev pub CausesBefore : Status → List ℕ → FolderState → FolderState → Type 0
-CausesBefore (status.Missing n) file old new = (n ≡ file) × IsAbsent old new n × QuietBut n old.refusals new.refusals × Quiet old.rfaults new.rfaults × Quiet old.wfaults new.wfaults × QuietButAll (file ∷ []) old.read new.read
-CausesBefore status.ReadFault file old new = Quiet old.refusals new.refusals × (Rose (old.rfaults file) (new.rfaults file) × QuietBut file old.rfaults new.rfaults) × Quiet old.wfaults new.wfaults × QuietButAll (file ∷ []) old.read new.read
-CausesBefore (status.Refused f) file old new = Quiet old.refusals new.refusals × Quiet old.rfaults new.rfaults × Quiet old.wfaults new.wfaults × QuietButAll (file ∷ []) old.read new.read
-CausesBefore (status.Unfit f) file old new = Quiet old.refusals new.refusals × Quiet old.rfaults new.rfaults × Quiet old.wfaults new.wfaults × QuietButAll (file ∷ []) old.read new.read
-CausesBefore status.NoMemory file old new = Quiet old.refusals new.refusals × Quiet old.rfaults new.rfaults × Quiet old.wfaults new.wfaults × QuietButAll (file ∷ []) old.read new.read
+CausesBefore (status.Missing n) file old new = (n ≡ file) × IsAbsent old new n × QuietBut n old.refusals new.refusals × Quiet old.rfaults new.rfaults
+    × Quiet old.wfaults new.wfaults × QuietButAll (file ∷ []) old.read new.read
+CausesBefore status.ReadFault file old new = Quiet old.refusals new.refusals × (Rose (old.rfaults file) (new.rfaults file)
+    × QuietBut file old.rfaults new.rfaults) × Quiet old.wfaults new.wfaults × QuietButAll (file ∷ []) old.read new.read
+CausesBefore (status.Refused f) file old new = Quiet old.refusals new.refusals × Quiet old.rfaults new.rfaults × Quiet old.wfaults new.wfaults
+    × QuietButAll (file ∷ []) old.read new.read
+CausesBefore (status.Unfit f) file old new = Quiet old.refusals new.refusals × Quiet old.rfaults new.rfaults × Quiet old.wfaults new.wfaults
+    × QuietButAll (file ∷ []) old.read new.read
+CausesBefore status.NoMemory file old new = Quiet old.refusals new.refusals × Quiet old.rfaults new.rfaults × Quiet old.wfaults new.wfaults
+    × QuietButAll (file ∷ []) old.read new.read
 CausesBefore _ file old new = ⊥
 
 -- A blueprint was run that is fit where the command's own file and that of the trace are taken, so that its files are other ones. It is

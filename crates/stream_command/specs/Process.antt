@@ -28,7 +28,8 @@ IsReported end said_old said_new =
 pub record AnswersShipped (words : List (List ℕ)) (end : RunEnd) (old new : FolderState) (said_old said_new : DrainState) : Type 0 where
   pub usage : end.status ≢ status.NoMemory → (end.status ≡ status.Usage ↔ asked_of words ≡ None)
   pub answers : AnswersCommand shipped_plugs (asked_of words) (answer_of end) old new
-  pub complete : (c : Asked) → asked_of words ≡ Some c → IsValidFor shipped_plugs c.generated c.file c.trace old new → RoseNowhere old new → RanWithoutFault end.status
+  pub complete : (c : Asked) → asked_of words ≡ Some c → IsValidFor shipped_plugs c.generated c.file c.trace old new → RoseNowhere old new
+      → RanWithoutFault end.status
   pub ran : ReceiptsOf (asked_of words) (answer_of end) end.ran
   pub islands : IslandsOf shipped_plugs (asked_of words) end.ran old new
   pub reads : (c : Asked) → asked_of words ≡ Some c → GrewAtMost (old.read c.file) text_limit (new.read c.file)
@@ -48,7 +49,8 @@ AnswersProcess {E} (Ok words) end old new said_old said_new = AnswersShipped (co
 AnswersProcess {E} (Err e) end old new said_old said_new = LacksWords end old new said_old said_new
 
 -- and the process ends with the code of that answer
-pub record EndsProcess {E : Type 0} (words : Result (Vec (Vec ℕ Global) Global) E) (code : ℕ) (old new : FolderState) (said_old said_new : DrainState) : Type 0 where
+pub record EndsProcess {E : Type 0} (words : Result (Vec (Vec ℕ Global) Global) E) (code : ℕ) (old new : FolderState) (said_old said_new : DrainState)
+    : Type 0 where
   pub end : RunEnd
   pub answers : AnswersProcess words end old new said_old said_new
   pub code_is : code ≡ end.code

@@ -31,7 +31,8 @@ NotSaid _ a text old new = ⊥
 
 -- what a call comes to by its text: the text says no blueprint, or memory was wanting, or the blueprint that it says was checked and run
 abbrev pub EndedText : Plugged → Status → Answer → List ℕ → List (List ℕ) → Option (List ℕ) → ℕ → FolderState → FolderState → Type 0
-EndedText p s a text taken trace turns old new = NotSaid s a text old new ⊎ ((b : Blueprint) × (language.Says text (plain b) × EndedParsed p s a b taken trace turns old new))
+EndedText p s a text taken trace turns old new = NotSaid s a text old new ⊎ ((b : Blueprint)
+    × (language.Says text (plain b) × EndedParsed p s a b taken trace turns old new))
 
 -- no count rose, and nothing was read
 pub record AllQuiet (old new : FolderState) : Type 0 where
@@ -48,7 +49,8 @@ CausesQuiet status.NoMemory old new = AllQuiet old new
 CausesQuiet _ old new = ⊥
 
 -- the blueprint was run, which is fit where these files are taken; of its inputs alone more was read, and these counts rose
-pub record CausesFit (p : Plugged) (s : Status) (a : Answer) (b : Blueprint) (taken : List (List ℕ)) (trace : Option (List ℕ)) (turns : ℕ) (old new : FolderState) : Type 0 where
+pub record CausesFit (p : Plugged) (s : Status) (a : Answer) (b : Blueprint) (taken : List (List ℕ)) (trace : Option (List ℕ)) (turns : ℕ)
+    (old new : FolderState) : Type 0 where
   pub fit : IsFit b p.heads taken
   pub reads : QuietButAll (inputs_of_nodes b.nodes.items) old.read new.read
   pub causes : RunCauses p s a b trace turns old new
@@ -59,4 +61,5 @@ CausesParsed p s a b taken trace turns old new = CausesQuiet s old new ⊎ Cause
 
 -- which counts rose, of a text
 abbrev pub CausesText : Plugged → Status → Answer → List ℕ → List (List ℕ) → Option (List ℕ) → ℕ → FolderState → FolderState → Type 0
-CausesText p s a text taken trace turns old new = CausesQuiet s old new ⊎ ((b : Blueprint) × (language.Says text (plain b) × CausesFit p s a b taken trace turns old new))
+CausesText p s a text taken trace turns old new = CausesQuiet s old new ⊎ ((b : Blueprint)
+    × (language.Says text (plain b) × CausesFit p s a b taken trace turns old new))

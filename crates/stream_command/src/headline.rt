@@ -15,7 +15,8 @@ use run_report::outcome::Status;
 /// Where a call answers Done and the folder tells its files, each sink's file holds exactly the text of the list that the blueprint's
 /// list functions give of the input files, by the plugs that were handed in and the moves that were answered.
 pub fn done_means_whole_files()
-    ensures { (p : Plugged) (a : Answer) (c : AskedRun) (old new : FolderState) → Told p a c old new → a.status ≡ Status.Done → IsTrue new.tells → WholeFiles p a.picks c old new }
+    ensures { (p : Plugged) (a : Answer) (c : AskedRun) (old new : FolderState) → Told p a c old new → a.status ≡ Status.Done → IsTrue new.tells
+        → WholeFiles p a.picks c old new }
 {}
 
 /// Where no kind of the blueprint chooses, the same is said without moves: the input files and the plugs alone tell the text.
@@ -27,5 +28,6 @@ pub fn done_without_choice_means_whole_files()
 /// Whatever the status of a call that answers some sink, each sink that ended has such a file; and the file of each that failed holds
 /// the text of a first part of that list, at least as long as its outlook guarantees.
 pub fn each_end_tells_its_file()
-    ensures { (p : Plugged) (a : Answer) (c : AskedRun) (old new : FolderState) → Told p a c old new → IsTrue new.tells → a.sinks ≢ [] → EndedFiles p a c old new }
+    ensures { (p : Plugged) (a : Answer) (c : AskedRun) (old new : FolderState) → Told p a c old new → IsTrue new.tells → a.sinks ≢ []
+        → EndedFiles p a c old new }
 {}

@@ -24,7 +24,8 @@ fn answer_words<R: Threads + Wait + Sync, F: Folder, C: Drain>(
     folder: &mut F,
     console: &mut C,
 ) -> RunEnd
-    ensures answers { AnswersShipped (command_words (bytes_of words.now)) result (F.state folder.old) (F.state folder.new) (C.state console.old) (C.state console.new) }
+    ensures answers { AnswersShipped (command_words (bytes_of words.now)) result (F.state folder.old) (F.state folder.new) (C.state console.old)
+        (C.state console.new) }
     ensures handles { F.handles folder.new ≡ F.handles folder.old }
 {
     match command_lines(alloc, words) {

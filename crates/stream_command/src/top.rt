@@ -59,18 +59,22 @@ pub fn run_file<R: Threads + Wait + Sync, F: Folder, C: Drain, L: Logic + Send, 
 
     // What is answered and left where the folder told its files before. What files hold then is said where it still tells them.
     ensures tells { IsTrue (F.state folder.new).tells → IsTrue (F.state folder.old).tells }
-    ensures told { IsTrue (F.state folder.old).tells → Told (plugged_by B.lists plugs.items) (answer_of result) (record { file = file.now; trace = option_copied trace.entry; turns = turns }) (F.state folder.old) (F.state folder.new) }
+    ensures told { IsTrue (F.state folder.old).tells → Told (plugged_by B.lists plugs.items) (answer_of result)
+        (record { file = file.now; trace = option_copied trace.entry; turns = turns }) (F.state folder.old) (F.state folder.new) }
 
     // A valid text and inputs and no fault give a run, or memory was wanting.
-    ensures complete { IsTrue (F.state folder.old).tells → IsValid (plugged_by B.lists plugs.items) file.now (option_copied trace.entry) (F.state folder.old) → RoseNowhere (F.state folder.old) (F.state folder.new) → RanWithoutFault result.status }
+    ensures complete { IsTrue (F.state folder.old).tells → IsValid (plugged_by B.lists plugs.items) file.now (option_copied trace.entry) (F.state folder.old)
+        → RoseNowhere (F.state folder.old) (F.state folder.new) → RanWithoutFault result.status }
 
     // Which counts rose, and what the units and the picture of the run are, whether it tells them or not.
-    ensures causes { Causes (plugged_by B.lists plugs.items) result.status (answer_of result) file.now (option_copied trace.entry) turns (F.state folder.old) (F.state folder.new) }
+    ensures causes { Causes (plugged_by B.lists plugs.items) result.status (answer_of result) file.now (option_copied trace.entry) turns (F.state folder.old)
+        (F.state folder.new) }
     ensures sinks { SinksOf result.status (answer_of result) (option_copied trace.entry) }
 
     // After a run, and only there, there is a receipt, of so many workers and as many islands as the blueprint of the file has.
     ensures ran { Receipts result.status workers result.used result.ran }
-    ensures islands { IsTrue (F.state folder.old).tells → RanFile (plugged_by B.lists plugs.items) (F.state folder.old) file.now (option_copied trace.entry) result.ran }
+    ensures islands { IsTrue (F.state folder.old).tells → RanFile (plugged_by B.lists plugs.items) (F.state folder.old) file.now
+        (option_copied trace.entry) result.ran }
 
     // A file is no want of words.
     ensures no_usage { result.status ≡ Status.Usage → ⊥ }

@@ -107,25 +107,32 @@ impl<S: Source> LineReader<S> {
 
     /// Draws the next line: lines end in LF, a last line without LF counts, CR is kept. `None` comes only at the end, `LineTooLong` only where the next line has more than 65,536 bytes, and each comes there unless the source's count of failed reads rose in this call; `ReadFault` comes only where it rose. After an error nothing that was left to draw is lost.
     pub fn next(&mut self) -> Result<Option<Line>, LineEnd>
-        ensures draws { IfOk result (λ next. IfSome next (λ line. IsSome (S.state self.old.source).whole → Draws (rest (S.state self.old.source) self.old.kept) line (rest (S.state self.new.source) self.new.kept))) }
-        ensures line { IfOk result (λ next. IfSome next (λ line. IsSome (S.state self.old.source).whole → lines (rest (S.state self.old.source) self.old.kept) ≡ line ∷ lines (rest (S.state self.new.source) self.new.kept))) }
+        ensures draws { IfOk result (λ next. IfSome next (λ line. IsSome (S.state self.old.source).whole
+            → Draws (rest (S.state self.old.source) self.old.kept) line (rest (S.state self.new.source) self.new.kept))) }
+        ensures line { IfOk result (λ next. IfSome next (λ line. IsSome (S.state self.old.source).whole
+            → lines (rest (S.state self.old.source) self.old.kept) ≡ line ∷ lines (rest (S.state self.new.source) self.new.kept))) }
         ensures short { IfOk result (λ next. IfSome next (λ line. length line ≤ 65536)) }
         ensures no_lf { IfOk result (λ next. IfSome next (λ line. IsTrue (has_no_lf line))) }
         ensures end { result ≡ Ok None → ReadToEnd (S.state self.old.source) self.old.kept (S.state self.new.source) self.new.kept }
-        ensures too_long { result ≡ Err LineEnd.LineTooLong → IsSome (S.state self.old.source).whole → FirstTooLong (lines (rest (S.state self.old.source) self.old.kept)) }
+        ensures too_long { result ≡ Err LineEnd.LineTooLong → IsSome (S.state self.old.source).whole
+            → FirstTooLong (lines (rest (S.state self.old.source) self.old.kept)) }
         ensures too_long_comes { IsSome (S.state self.old.source).whole → FirstTooLong (lines (rest (S.state self.old.source) self.old.kept)) → OnOk result ⊥ }
         ensures fault { IfErr result (λ e. CountsFault e (S.state self.old.source).faults (S.state self.new.source).faults) }
         ensures no_fault { OnOk result ((S.state self.new.source).faults ≡ (S.state self.old.source).faults) }
         ensures never_falls { (S.state self.old.source).faults ≤ (S.state self.new.source).faults }
         ensures drawn_before_fault { result ≡ Err LineEnd.ReadFault → NoEnd self.new.kept }
-        ensures nothing_lost { OnErr result (IsSome (S.state self.old.source).whole → rest (S.state self.new.source) self.new.kept ≡ rest (S.state self.old.source) self.old.kept) }
+        ensures nothing_lost { OnErr result (IsSome (S.state self.old.source).whole
+            → rest (S.state self.new.source) self.new.kept ≡ rest (S.state self.old.source) self.old.kept) }
         ensures untouched { HoldsEnd self.old.kept → self.new.source ≡ self.old.source }
         ensures few { OnOk result (length self.new.kept ≤ 4096) }
         ensures bound { length self.new.kept ≤ 69632 }
         ensures given { (S.state self.old.source).given ≤ (S.state self.new.source).given }
         ensures reads { (S.state self.new.source).given + length self.old.kept ≤ (S.state self.old.source).given + 69632 }
-        ensures read_for_line { IfOk result (λ next. IfSome next (λ line. (S.state self.new.source).given + length self.old.kept ≤ (S.state self.old.source).given + (length self.new.kept + (length line + 1)))) }
-        ensures read_at_end { result ≡ Ok None → (S.state self.new.source).given + length self.old.kept ≡ (S.state self.old.source).given + length self.new.kept }
+        ensures read_for_line { IfOk result
+            (λ next. IfSome next (λ line.
+            (S.state self.new.source).given + length self.old.kept ≤ (S.state self.old.source).given + (length self.new.kept + (length line + 1)))) }
+        ensures read_at_end { result ≡ Ok None → (S.state self.new.source).given + length self.old.kept ≡
+            (S.state self.old.source).given + length self.new.kept }
         ensures read_at_fault { OnErr result ((S.state self.new.source).given + length self.old.kept ≡ (S.state self.old.source).given + length self.new.kept) }
         ensures name { (S.state self.new.source).name ≡ (S.state self.old.source).name }
         ensures whole { (S.state self.new.source).whole ≡ (S.state self.old.source).whole }
@@ -177,7 +184,8 @@ impl<S: Source> LineReader<S> {
         requires short { length self.old.kept ≤ 65536 }
         ensures kept { IfOk result (λ n. length self.new.kept ≡ length self.old.kept + n) }
         ensures piece { IfOk result (λ n. n ≤ 4096) }
-        ensures bytes { IfOk result (λ n. IfSome (S.state self.old.source).whole (λ whole. ReadsOn whole (S.state self.old.source).given n self.old.kept self.new.kept)) }
+        ensures bytes { IfOk result (λ n. IfSome (S.state self.old.source).whole
+            (λ whole. ReadsOn whole (S.state self.old.source).given n self.old.kept self.new.kept)) }
         ensures nothing { result ≡ Ok 0 → self.new.kept ≡ self.old.kept }
         ensures end { result ≡ Ok 0 → IfSome (S.state self.old.source).whole (λ whole. length whole ≤ (S.state self.old.source).given) }
         ensures given { IfOk result (λ n. (S.state self.new.source).given ≡ (S.state self.old.source).given + n) }
@@ -274,7 +282,8 @@ fn read_at<S: Source>(source: &mut S, bytes: &mut [u8], at: usize) -> Result<usi
     requires { at + 4096 ≤ length bytes.old }
     ensures front { take at bytes.new ≡ take at bytes.old }
     ensures piece { IfOk result (λ n. n ≤ 4096) }
-    ensures bytes { IfOk result (λ n. IfSome (S.state source.old).whole (λ whole. StartsWithPiece whole (S.state source.old).given (slice_range bytes.new at (at + n)))) }
+    ensures bytes { IfOk result (λ n. IfSome (S.state source.old).whole (λ whole. StartsWithPiece whole (S.state source.old).given
+        (slice_range bytes.new at (at + n)))) }
     ensures given { IfOk result (λ n. (S.state source.new).given ≡ (S.state source.old).given + n) }
     ensures end { result ≡ Ok 0 → IfSome (S.state source.old).whole (λ whole. length whole ≤ (S.state source.old).given) }
     ensures no_fault { OnOk result ((S.state source.new).faults ≡ (S.state source.old).faults) }

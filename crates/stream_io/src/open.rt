@@ -42,7 +42,8 @@ fn open_inputs<F: Folder>(
     requires empty { sources.old.items ≡ [] }
     requires room { vec_len names ≤ vec_capacity sources.old }
     ensures opened { OnOk result (OpensAll (F.state folder.old) (F.state folder.new) names.items [] (map F.Inp.state sources.new.items) []) }
-    ensures missing { (n : List ℕ) → result ≡ Err (ListEnd.Missing n) → StopsAtInput (F.state folder.old) (F.state folder.new) names.items n (map F.Inp.state sources.new.items) [] }
+    ensures missing { (n : List ℕ) → result ≡ Err (ListEnd.Missing n) → StopsAtInput (F.state folder.old) (F.state folder.new) names.items n
+        (map F.Inp.state sources.new.items) [] }
     ensures no_memory { result ≡ Err ListEnd.NoMemory → LacksRoom (F.state folder.old) (F.state folder.new) [] (map F.Inp.state sources.new.items) [] }
     ensures handles { F.handles folder.new ≡ F.handles folder.old + length sources.new.items }
 {
@@ -66,7 +67,8 @@ fn open_outputs<F: Folder>(
     requires empty { drains.old.items ≡ [] }
     requires room { vec_len names ≤ vec_capacity drains.old }
     ensures opened { OnOk result (OpensAll (F.state folder.old) (F.state folder.new) [] names.items [] (map F.Out.state drains.new.items)) }
-    ensures missing { (n : List ℕ) → result ≡ Err (ListEnd.Missing n) → StopsAtOutput (F.state folder.old) (F.state folder.new) [] names.items n [] (map F.Out.state drains.new.items) }
+    ensures missing { (n : List ℕ) → result ≡ Err (ListEnd.Missing n) → StopsAtOutput (F.state folder.old) (F.state folder.new) [] names.items n []
+        (map F.Out.state drains.new.items) }
     ensures no_memory { result ≡ Err ListEnd.NoMemory → LacksRoom (F.state folder.old) (F.state folder.new) names.items [] (map F.Out.state drains.new.items) }
     ensures handles { F.handles folder.new ≡ F.handles folder.old + length drains.new.items }
 {
@@ -92,10 +94,14 @@ fn fill<F: Folder>(
     requires no_output { opened.old.outputs.items ≡ [] }
     requires inputs_room { vec_len inputs ≤ vec_capacity opened.old.inputs }
     requires outputs_room { vec_len outputs ≤ vec_capacity opened.old.outputs }
-    ensures opened { OnOk result (OpensAll (F.state folder.old) (F.state folder.new) inputs.items outputs.items (map F.Inp.state opened.new.inputs.items) (map F.Out.state opened.new.outputs.items)) }
-    ensures no_input { (n : List ℕ) → result ≡ Err (OpenEnd.MissingInput n) → StopsAtInput (F.state folder.old) (F.state folder.new) inputs.items n (map F.Inp.state opened.new.inputs.items) (map F.Out.state opened.new.outputs.items) }
-    ensures no_output { (n : List ℕ) → result ≡ Err (OpenEnd.MissingOutput n) → StopsAtOutput (F.state folder.old) (F.state folder.new) inputs.items outputs.items n (map F.Inp.state opened.new.inputs.items) (map F.Out.state opened.new.outputs.items) }
-    ensures no_memory { result ≡ Err OpenEnd.NoMemory → LacksRoom (F.state folder.old) (F.state folder.new) outputs.items (map F.Inp.state opened.new.inputs.items) (map F.Out.state opened.new.outputs.items) }
+    ensures opened { OnOk result (OpensAll (F.state folder.old) (F.state folder.new) inputs.items outputs.items (map F.Inp.state opened.new.inputs.items)
+        (map F.Out.state opened.new.outputs.items)) }
+    ensures no_input { (n : List ℕ) → result ≡ Err (OpenEnd.MissingInput n) → StopsAtInput (F.state folder.old) (F.state folder.new) inputs.items n
+        (map F.Inp.state opened.new.inputs.items) (map F.Out.state opened.new.outputs.items) }
+    ensures no_output { (n : List ℕ) → result ≡ Err (OpenEnd.MissingOutput n) → StopsAtOutput (F.state folder.old)
+        (F.state folder.new) inputs.items outputs.items n (map F.Inp.state opened.new.inputs.items) (map F.Out.state opened.new.outputs.items) }
+    ensures no_memory { result ≡ Err OpenEnd.NoMemory → LacksRoom (F.state folder.old) (F.state folder.new) outputs.items
+        (map F.Inp.state opened.new.inputs.items) (map F.Out.state opened.new.outputs.items) }
     ensures handles { F.handles folder.new ≡ F.handles folder.old + (length opened.new.inputs.items + length opened.new.outputs.items) }
 {
     match open_inputs(alloc, folder, inputs, &mut opened.inputs) {
@@ -120,9 +126,11 @@ pub fn open_all<F: Folder>(
     inputs: Vec<Line>,
     outputs: Vec<Line>,
 ) -> Result<Opened<F::Inp, F::Out>, OpenEnd>
-    ensures opened { IfOk result (λ o. OpensAll (F.state folder.old) (F.state folder.new) inputs.items outputs.items (map F.Inp.state o.inputs.items) (map F.Out.state o.outputs.items)) }
+    ensures opened { IfOk result (λ o. OpensAll (F.state folder.old) (F.state folder.new) inputs.items outputs.items (map F.Inp.state o.inputs.items)
+        (map F.Out.state o.outputs.items)) }
     ensures no_input { (n : List ℕ) → result ≡ Err (OpenEnd.MissingInput n) → MissesInput (F.state folder.old) (F.state folder.new) inputs.items n }
-    ensures no_output { (n : List ℕ) → result ≡ Err (OpenEnd.MissingOutput n) → RefusesOutput (F.state folder.old) (F.state folder.new) inputs.items outputs.items n }
+    ensures no_output { (n : List ℕ) → result ≡ Err (OpenEnd.MissingOutput n) → RefusesOutput (F.state folder.old)
+        (F.state folder.new) inputs.items outputs.items n }
     ensures no_memory { result ≡ Err OpenEnd.NoMemory → GivesUp (F.state folder.old) (F.state folder.new) outputs.items }
     ensures handles { IfOk result (λ o. F.handles folder.new ≡ F.handles folder.old + (length o.inputs.items + length o.outputs.items)) }
     ensures none_left { OnErr result (F.handles folder.new ≡ F.handles folder.old) }

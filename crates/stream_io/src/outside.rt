@@ -89,7 +89,8 @@ pub trait Folder {
     /// Opens the file of that name to read it from its start. It changes no file, and never ends the telling. Where it opens one there is one open handle more.
     fn open_in(&mut self, alloc: Global, name: &Line) -> Result<Self::Inp, OpenFault>
         ensures opened { IfOk result (λ h. OpensSource (state self.old) name.now (Self.Inp.state h)) }
-        ensures missing { result ≡ Err OpenFault.Missing → LacksFile (state self.old) name.now ⊎ Rose ((state self.old).refusals name.now) ((state self.new).refusals name.now) }
+        ensures missing { result ≡ Err OpenFault.Missing → LacksFile (state self.old) name.now
+            ⊎ Rose ((state self.old).refusals name.now) ((state self.new).refusals name.now) }
         ensures files { SameFiles (state self.old) (state self.new) }
         ensures faults { SameFaults (state self.old) (state self.new) }
         ensures no_refusal { OnOk result (SameRefusals (state self.old) (state self.new)) }

@@ -39,7 +39,8 @@ fn read_piece<S: Source>(source: &mut S, text: &mut Vec<u8>) -> Result<usize, Pi
     ensures limit { IfOk result (λ n. vec_len text.new ≤ text_limit) }
     ensures given { IfOk result (λ n. (S.state source.new).given ≡ (S.state source.old).given + n) }
     ensures most { (S.state source.new).given + vec_len text.old ≤ (S.state source.old).given + text_limit }
-    ensures bytes { IfOk result (λ n. IfSome (S.state source.old).whole (λ whole. text.new.items ≡ text.old.items ++ take n (drop (S.state source.old).given whole))) }
+    ensures bytes { IfOk result (λ n. IfSome (S.state source.old).whole (λ whole. text.new.items ≡ text.old.items
+        ++ take n (drop (S.state source.old).given whole))) }
     ensures within { IfOk result (λ n. IfSome (S.state source.old).whole (λ whole. (S.state source.old).given + n ≤ length whole)) }
     ensures nothing { result ≡ Ok 0 → text.new.items ≡ text.old.items }
     ensures end { result ≡ Ok 0 → IfSome (S.state source.old).whole (λ whole. length whole ≤ (S.state source.old).given) }

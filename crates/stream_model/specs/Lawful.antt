@@ -151,9 +151,12 @@ module _ (g : Graph) (w : World) where
   RoleLawful node (buffers n p) d is os = buffer_lawful node n p is os
   RoleLawful node (recovers t) d is os = stage_lawful (one_way_by g w node (recovers t) d) is os × OneToOne (RecoverLawful (w.moves node)) is os
   RoleLawful node (obeys name) d is os = stage_lawful (one_way_by g w node (obeys name) d) is os × OneToOne (ValveLawful (w.moves node)) is os
-  RoleLawful node (groups_by n f chain) d is os = stage_lawful (one_way_by g w node (groups_by n f chain) d) is os × OneToOne (SubsLawful joining.Merge (w.moves node)) is os
-  RoleLawful node (splits_when p chain j) d is os = stage_lawful (one_way_by g w node (splits_when p chain j) d) is os × OneToOne (SubsLawful j (w.moves node)) is os
-  RoleLawful node (splits_after p chain j) d is os = stage_lawful (one_way_by g w node (splits_after p chain j) d) is os × OneToOne (SubsLawful j (w.moves node)) is os
+  RoleLawful node (groups_by n f chain) d is os = stage_lawful (one_way_by g w node (groups_by n f chain) d) is os
+      × OneToOne (SubsLawful joining.Merge (w.moves node)) is os
+  RoleLawful node (splits_when p chain j) d is os = stage_lawful (one_way_by g w node (splits_when p chain j) d) is os
+      × OneToOne (SubsLawful j (w.moves node)) is os
+  RoleLawful node (splits_after p chain j) d is os = stage_lawful (one_way_by g w node (splits_after p chain j) d) is os
+      × OneToOne (SubsLawful j (w.moves node)) is os
   RoleLawful node (merges n) d is os = ManyToOne (MergeLawful (w.moves node)) is os
   RoleLawful node (concats n) d is os = ManyToOne ConcatLawful is os
   RoleLawful node (interleaves n s) d is os = ManyToOne InterleaveLawful is os

@@ -154,7 +154,8 @@ stops_at segment (suc fuel) left [] = None
 stops_at segment (suc fuel) left (t ∷ q) =
     elim t.left as (λ _. Option ℕ) [
       | zero ↦ if t.ended then stops_at segment fuel segment q else Some t.port
-      | suc n ↦ if nat_le left 1 then stops_at segment fuel segment (q ++ record t { left = n } ∷ []) else stops_at segment fuel (left - 1) (record t { left = n } ∷ q)
+      | suc n ↦ if nat_le left 1 then stops_at segment fuel segment (q ++ record t { left = n } ∷ [])
+          else stops_at segment fuel (left - 1) (record t { left = n } ∷ q)
     ]
 
 -- where the turns of an interleave stop

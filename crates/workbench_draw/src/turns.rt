@@ -130,7 +130,8 @@ fn carried_in(
     links: &[NumberedWire],
     counts: &[u64],
 ) -> Result<Vec<u64>, TurnsEnd>
-    ensures { IfOk result (λ carried. carried.items ≡ passed_all (own_elements (checked_blueprint c.now).nodes.items counts.now) (wires_of_links links.now) (number_at carried.items)) }
+    ensures { IfOk result (λ carried. carried.items ≡ passed_all (own_elements (checked_blueprint c.now).nodes.items counts.now) (wires_of_links links.now)
+        (number_at carried.items)) }
 {
     let b = c.blueprint();
     let sources = source_count(&b.nodes);

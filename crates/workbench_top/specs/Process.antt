@@ -20,6 +20,8 @@ pub record LeavesUnread (old new : FolderState) (said_old said_new told_old told
   pub puts : PutsNoMemory said_old said_new told_old told_new code
 
 -- what is answered to a process with these words, the first of which is its program's name, and with which code it ends
-abbrev pub EndsWorkbench : {E : Type 0} → Result (Vec (Vec ℕ Global) Global) E → FolderState → FolderState → DrainState → DrainState → DrainState → DrainState → ℕ → Type 0
-EndsWorkbench {E} (Ok words) old new said_old said_new told_old told_new code = Works (command_words (bytes_of words.items)) old new said_old said_new told_old told_new code
+abbrev pub EndsWorkbench : {E : Type 0} → Result (Vec (Vec ℕ Global) Global) E → FolderState → FolderState → DrainState → DrainState → DrainState → DrainState
+    → ℕ → Type 0
+EndsWorkbench {E} (Ok words) old new said_old said_new told_old told_new code = Works
+    (command_words (bytes_of words.items)) old new said_old said_new told_old told_new code
 EndsWorkbench {E} (Err e) old new said_old said_new told_old told_new code = LeavesUnread old new said_old said_new told_old told_new code

@@ -28,7 +28,8 @@ fn answer_process<S: Source, F: Folder, C: Drain, D: Drain>(
     console: &mut C,
     faults: &mut D,
 ) -> u8
-    ensures { Works (command_words (bytes_of words.now)) (F.state folder.old) (F.state folder.new) (C.state console.old) (C.state console.new) (D.state faults.old) (D.state faults.new) result }
+    ensures { Works (command_words (bytes_of words.now)) (F.state folder.old) (F.state folder.new) (C.state console.old) (C.state console.new)
+        (D.state faults.old) (D.state faults.new) result }
 {
     match command_lines(alloc, words) {
         Ok(lines) => run_workbench(alloc, &lines, input, folder, console, faults),
@@ -47,7 +48,8 @@ pub fn call_workbench<S: Source, F: Folder, C: Drain, D: Drain>(
     console: &mut C,
     faults: &mut D,
 ) -> ExitCode
-    ensures { EndsWorkbench words (F.state folder.old) (F.state folder.new) (C.state console.old) (C.state console.new) (D.state faults.old) (D.state faults.new) (exit_status result) }
+    ensures { EndsWorkbench words (F.state folder.old) (F.state folder.new) (C.state console.old) (C.state console.new) (D.state faults.old)
+        (D.state faults.new) (exit_status result) }
 {
     ExitCode::from(match words {
         Ok(words) => answer_process(alloc, &words, input, folder, console, faults),

@@ -112,7 +112,8 @@ fn task_of(
     file: &Line,
     rest: &[Line],
 ) -> Result<Option<Task>, AllocError>
-    ensures task { IfOk result (λ task. IfSome task (λ t. (t.work ≡ work) × (t.file ≡ file.now) × (map (λ n. Ok n) t.counts.items ≡ map (read_count 64) rest.now))) }
+    ensures task { IfOk result (λ task. IfSome task (λ t. (t.work ≡ work) × (t.file ≡ file.now)
+        × (map (λ n. Ok n) t.counts.items ≡ map (read_count 64) rest.now))) }
     ensures fits { IfOk result (λ task. IfSome task (λ _. is_rest work file.now rest.now ≡ true)) }
     ensures other { result ≡ Ok None → is_rest work file.now rest.now ≡ false }
 {

@@ -165,7 +165,8 @@ pub fn run_workbench<S: Source, F: Folder, C: Drain, D: Drain>(
     console: &mut C,
     faults: &mut D,
 ) -> u8
-    ensures { Works words.now (F.state folder.old) (F.state folder.new) (C.state console.old) (C.state console.new) (D.state faults.old) (D.state faults.new) result }
+    ensures { Works words.now (F.state folder.old) (F.state folder.new) (C.state console.old) (C.state console.new) (D.state faults.old)
+        (D.state faults.new) result }
 {
     let answer = answer_words(alloc, words, input, folder);
     put_answer(&answer, console, faults)

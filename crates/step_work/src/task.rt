@@ -191,6 +191,7 @@ impl LinearWork {
     }
 }
 
+#[inline(always)]
 fn map_at_once(f: &MapFn, e: &Elem) -> Option<AtOnce>
     ensures { IfSome result (λ s. Reacted (mapping f.now) e.now (mapping f.now) (outcome_of s e.now)) }
 {

@@ -293,11 +293,11 @@ impl<L: Logic, B: PlugBook> LinearLogic<L, B> {
         match said {
             AtOnce::Passes => self.give(taken, e, acts),
             AtOnce::Gives(z) => {
-                e.discard();
+                let_go(e);
                 self.give(taken, Elem::of(Form::Num(z)), acts)
             }
             AtOnce::Skips => {
-                e.discard();
+                let_go(e);
                 self.skip(taken, acts)
             }
             AtOnce::PassesLast => {
@@ -577,5 +577,14 @@ impl<L: Logic, B: PlugBook> LinearLogic<L, B> {
         self.taken = taken;
         self.course = Course::Waits;
         acts.add(Act::Pull(0));
+    }
+}
+
+// Drops an element, without a call where it is a number or a text.
+#[inline(always)]
+fn let_go(e: Elem) {
+    match e.into_form() {
+        Form::Text(line) => drop(line),
+        form => Elem::of(form).discard(),
     }
 }

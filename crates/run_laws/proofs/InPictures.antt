@@ -160,31 +160,31 @@ module _ (g : Graph) (w : World) (k : ℕ) (d : Decider) (is : List InPort) (o :
         (subst (λ (x : InView). x ≢ Cancelled) (sym here) (seat_left b (n == c) asked), open_seats (n + 1) c asked over js rest)
 
     -- an interleave
-    module _ (k : ℕ) (f l : taking.Taking) (segment : f.segment ≡ Some k) (begins : (taking_by f.segment).from (taking.place_of f) ≡ interleave_taken k) (law : Law (logic.Taking f) (logic.Taking l)) where
+    module _ (c : ℕ) (f l : taking.Taking) (segment : f.segment ≡ Some c) (begins : (taking_by f.segment).from (taking.place_of f) ≡ interleave_taken c) (law : Law (logic.Taking f) (logic.Taking l)) where
       -- where it is open its turns stop at its current input
-      own_stops : l.live ≡ true → Views is ≡ seats 0 l.over l.current l.asked → slice_get l.over l.current ≡ Some false → turns_stop k (map own_in is) ≡ Some l.current
+      own_stops : l.live ≡ true → Views is ≡ seats 0 l.over l.current l.asked → slice_get l.over l.current ≡ Some false → turns_stop c (map own_in is) ≡ Some l.current
       own_stops live views here =
           let keeps = subst (λ (b : Bool). FanKeeps (taking_by f.segment) (taking.place_of f) (taking.held_by b (taking.place_of l) l.over) law.by.law.ins law.by.law.out_list law.by.law.out_end) live law.by.law.keeps in
           let kept = subst (λ (m : Option ℕ). FanKept (taking_by m) (taking.place_of f) (taking.place_of l) (none_of l.over) law.by.law.ins law.by.law.out_list) segment keeps.1 in
-          let from = subst (λ (m : Option ℕ). (taking_by m).from (taking.place_of f) ≡ interleave_taken k) segment begins in
-          let stops = stops_here k (taking.place_of f) l law.by.law.ins law.by.law.out_list from here kept in
+          let from = subst (λ (m : Option ℕ). (taking_by m).from (taking.place_of f) ≡ interleave_taken c) segment begins in
+          let stops = stops_here c (taking.place_of f) l law.by.law.ins law.by.law.out_list from here kept in
           let flows = law_flows (FanKeeps (taking_by f.segment) (taking.place_of f) (taking.held l)) (InView_of is o) (gots_of is) (o.sent ∷ []) law.by in
-          subst (λ (vs : List picture.SeenWire). turns_stop k vs ≡ Some l.current) (ap (λ (xs : List InView). own_inputs xs law.by.law.ins) (sym views) ∙ ins_same is law.by.law.ins flows) stops
+          subst (λ (vs : List picture.SeenWire). turns_stop c vs ≡ Some l.current) (ap (λ (xs : List InView). own_inputs xs law.by.law.ins) (sym views) ∙ ins_same is law.by.law.ins flows) stops
 
-      interleave_stays : Row (logic.Taking l) → (EachWire IsShut (Wires is) × EachWire IsShut (o.wire ∷ [])) ⊎ InterleaveRests k (Wires is) o.wire
+      interleave_stays : Row (logic.Taking l) → (EachWire IsShut (Wires is) × EachWire IsShut (o.wire ∷ [])) ⊎ InterleaveRests c (Wires is) o.wire
       interleave_stays r = by l.live refl r.ports
         where
-          by : (b : Bool) → l.live ≡ b → taking.port_state_by b l (InView_of is o) → (EachWire IsShut (Wires is) × EachWire IsShut (o.wire ∷ [])) ⊎ InterleaveRests k (Wires is) o.wire
+          by : (b : Bool) → l.live ≡ b → taking.port_state_by b l (InView_of is o) → (EachWire IsShut (Wires is) × EachWire IsShut (o.wire ∷ [])) ⊎ InterleaveRests c (Wires is) o.wire
           by false live at = inl (all_closed is ri at.0, (ro.shut at.1, tt))
           by true live at = stronger (taking_stays f l (TurnRests l.current) (ap (λ (m : Option ℕ). TakingRests m l.current) (law.same ∙ segment)) r law (turn_rests is o ri ro l.current))
             where
               views : Views is ≡ seats 0 l.over l.current l.asked
               views = ap (λ (v : port.View). v.ins) at.0
 
-              stops : SomeWire IsLane (Wires is) ⊎ (turns_stop k (Wires is) ≡ Some l.current)
-              stops = turns_stop_there k l.current is ri (open_seats 0 l.current l.asked l.over is views) (own_stops live views at.1.here)
+              stops : SomeWire IsLane (Wires is) ⊎ (turns_stop c (Wires is) ≡ Some l.current)
+              stops = turns_stop_there c l.current is ri (open_seats 0 l.current l.asked l.over is views) (own_stops live views at.1.here)
 
-              stronger : (EachWire IsShut (Wires is) × EachWire IsShut (o.wire ∷ [])) ⊎ TurnRests l.current (Wires is) o.wire → (EachWire IsShut (Wires is) × EachWire IsShut (o.wire ∷ [])) ⊎ InterleaveRests k (Wires is) o.wire
+              stronger : (EachWire IsShut (Wires is) × EachWire IsShut (o.wire ∷ [])) ⊎ TurnRests l.current (Wires is) o.wire → (EachWire IsShut (Wires is) × EachWire IsShut (o.wire ∷ [])) ⊎ InterleaveRests c (Wires is) o.wire
               stronger (inl h) = inl h
               stronger (inr (inl h)) = inr (inl (h.0, (l.current, h.1, stops)))
               stronger (inr (inr h)) = inr (inr h)

@@ -210,8 +210,8 @@ module _ (book : Book) (f l : CopyLogic) (i : InPort) (os : List OutPort) (law :
   copies_lawful : ((p : ℕ) → 1 ≤ slice_index_or (i.want ∷ []) p 0 → Moments port_state MachinesLaw NoAsking no_moves (Copies f) (Copies l) (i ∷ []) os p) → BroadcastLawful i.wire (OutWires os)
   copies_lawful moments = (copies_sent, asked (some_or_none (demand i.wire)), λ all. most (some_or_none (demand i.wire)))
     where
-      then : 1 ≤ demand i.wire → Then (Copies f) (Copies l) i os
-      then some = let reach = si.reach in (moments 0 (omega (arith, some, reach))).0
+      late : 1 ≤ demand i.wire → Then (Copies f) (Copies l) i os
+      late some = let reach = si.reach in (moments 0 (omega (arith, some, reach))).0
 
       ask : (e : Then (Copies f) (Copies l) i os) → CopyAsk (Copies f) (Copies l) i os e
       ask e = copy_ask_of book (Copies f) (Copies l) i os e f refl e.old e.port_state_held e.law_held
@@ -222,14 +222,14 @@ module _ (book : Book) (f l : CopyLogic) (i : InPort) (os : List OutPort) (law :
       asked : (demand i.wire ≡ 0) ⊎ (1 ≤ demand i.wire) → EachWire (λ o. IsShut o ⊎ (demand i.wire ≤ wanted o)) (OutWires os)
       asked (inl none) = none_asked os (demand i.wire) none
       asked (inr some) =
-          let e = then some in
+          let e = late some in
           let a = ask e in
           copies_asked a.outs a.count (demand i.wire) e.given os a.even a.wants a.shut a.quiet (few e a) a.ports so
 
       most : (demand i.wire ≡ 0) ⊎ (1 ≤ demand i.wire) → demand i.wire ≤ most_wanted (OutWires os)
       most (inl none) = omega (arith, none)
       most (inr some) =
-          let e = then some in
+          let e = late some in
           let a = ask e in
           copies_most a.outs a.count (demand i.wire) e.given os a.even a.wants a.quiet a.some (few e a) a.ports so
 
@@ -336,8 +336,8 @@ module _ (book : Book) (node n : ℕ) (f : MapFn) where
         sent = all_sent (owe (number_starts book node n f 0 n) (owed (Deals l))) os 0 (OutView_of i os) law.taken c.list (take i.wire.sent i.wire.list) c.end (number_count book node n f (take i.wire.sent i.wire.list))
             (numbers_most book node n f 0 n (owed (Deals l)) (take i.wire.sent i.wire.list)) (lists_of (Deals g) (Deals l) (OutView_of i os) (i.got ∷ []) (sents_of os) started law) c.is (sent_part i si c.list c.end got) so
 
-        then : 1 ≤ demand i.wire → Then (Deals g) (Deals l) i os
-        then some = let reach = si.reach in (moments 0 (omega (arith, some, reach))).0
+        late : 1 ≤ demand i.wire → Then (Deals g) (Deals l) i os
+        late some = let reach = si.reach in (moments 0 (omega (arith, some, reach))).0
 
         ask : (e : Then (Deals g) (Deals l) i os) → DealAsk (Deals g) (Deals l) i os e
         ask e = deal_ask_of (Deals g) (Deals l) i os si started lasts c.list c.end got e g refl e.old e.port_state_held e.law_held
@@ -347,7 +347,7 @@ module _ (book : Book) (node n : ℕ) (f : MapFn) where
 
         before : 1 ≤ demand i.wire → DealtBefore book node n f 0 os (take (demand i.wire - 1) i.wire.list)
         before some =
-            let e = then some in
+            let e = late some in
             let a = ask e in
             let most = few e a in
             let less : IsPrefix (take (demand i.wire - 1) i.wire.list) (take (length a.list) i.wire.list) = prefix_take_le (demand i.wire - 1) (length a.list) i.wire.list (omega (arith, most)) in
@@ -355,7 +355,7 @@ module _ (book : Book) (node n : ℕ) (f : MapFn) where
 
         total_by : EachWire (λ o. o.shut ≡ false) (OutWires os) → 1 ≤ demand i.wire → demand i.wire ≤ total wanted (OutWires os)
         total_by none some =
-            let e = then some in
+            let e = late some in
             let a = ask e in
             let most = few e a in
             let all = all_open book node n f a.outs e.given os e.gave_on a.gave a.shut none in
@@ -408,22 +408,21 @@ first_shown y z ys zs e = (cc, cc)
 none_shown : (ws : List OutputState) (os : List OutPort) → EachPort OutRests os → map (λ (o : OutPort). o.view) os ≡ map want_view ws → asks_count ws ≡ 0 → EachWire (λ o. IsShut o ⊎ IsUnasked o) (OutWires os)
 none_shown ws [] ro e none = tt
 none_shown [] (o ∷ os) ro e none = cc
-none_shown (w ∷ ws) (o ∷ os) ro e none = by w (first_shown o.view (want_view w) (map (λ (o : OutPort). o.view) os) (map want_view ws) e) none
-  where
-    by : (w : OutputState) → (o.view ≡ want_view w) × (map (λ (o : OutPort). o.view) os ≡ map want_view ws) → asks_count (w ∷ ws) ≡ 0 → EachWire (λ o. IsShut o ⊎ IsUnasked o) (OutWires (o ∷ os))
-    by Quiet s none = (inr (ro.0.unasked s.0), none_shown ws os ro.1 s.1 none)
-    by Asks s none = absurd (omega (arith, none))
-    by Gone s none = (inl (ro.0.shut (subst OutClosed (sym s.0) tt)), none_shown ws os ro.1 s.1 none)
+none_shown (Quiet ∷ ws) (o ∷ os) ro e none =
+    let s = first_shown o.view (want_view Quiet) (map (λ (o : OutPort). o.view) os) (map want_view ws) e in
+    (inr (ro.0.unasked s.0), none_shown ws os ro.1 s.1 none)
+none_shown (Asks ∷ ws) (o ∷ os) ro e none = absurd (omega (arith, none))
+none_shown (Gone ∷ ws) (o ∷ os) ro e none =
+    let s = first_shown o.view (want_view Gone) (map (λ (o : OutPort). o.view) os) (map want_view ws) e in
+    (inl (ro.0.shut (subst OutClosed (sym s.0) tt)), none_shown ws os ro.1 s.1 none)
 
 some_shown : (ws : List OutputState) (os : List OutPort) → EachPort OutRests os → map (λ (o : OutPort). o.view) os ≡ map want_view ws → 1 ≤ open_count ws → asks_count ws ≡ 0 → SomeWire IsUnasked (OutWires os)
 some_shown [] os ro e some none = absurd (omega (arith, some))
 some_shown (w ∷ ws) [] ro e some none = cc
-some_shown (w ∷ ws) (o ∷ os) ro e some none = by w (first_shown o.view (want_view w) (map (λ (o : OutPort). o.view) os) (map want_view ws) e) some none
-  where
-    by : (w : OutputState) → (o.view ≡ want_view w) × (map (λ (o : OutPort). o.view) os ≡ map want_view ws) → 1 ≤ open_count (w ∷ ws) → asks_count (w ∷ ws) ≡ 0 → SomeWire IsUnasked (OutWires (o ∷ os))
-    by Quiet s some none = inl (ro.0.unasked s.0)
-    by Asks s some none = absurd (omega (arith, none))
-    by Gone s some none = inr (some_shown ws os ro.1 s.1 some none)
+some_shown (Quiet ∷ ws) (o ∷ os) ro e some none = inl (ro.0.unasked (first_shown o.view (want_view Quiet) (map (λ (o : OutPort). o.view) os) (map want_view ws) e).0)
+some_shown (Asks ∷ ws) (o ∷ os) ro e some none = absurd (omega (arith, none))
+some_shown (Gone ∷ ws) (o ∷ os) ro e some none =
+    inr (some_shown ws os ro.1 (first_shown o.view (want_view Gone) (map (λ (o : OutPort). o.view) os) (map want_view ws) e).1 some none)
 
 outs_closed : (os : List OutPort) → EachPort OutRests os → OutsClosed (map (λ (o : OutPort). o.view) os) → EachWire IsShut (OutWires os)
 outs_closed [] ro c = tt
@@ -486,7 +485,7 @@ module _ (book : Book) (node n : ℕ) (f : MapFn) (g l : PartitionLogic) (i : In
       at_input = ap (λ (v : port.View). in_at v 0) view
 
       stands : (w : Bool) → l.waits ≡ w → w ≡ false → IdlesOrShut i.wire × (IsLane i.wire ⊎ (i.wire.sent ≡ elements i.got))
-      stands w is no = idle_or_shut l.over (at_input ∙ ap (λ (b : Bool). input_of l.over b) (is ∙ no))
+      stands w is idle = idle_or_shut l.over (at_input ∙ ap (λ (b : Bool). input_of l.over b) (is ∙ idle))
 
       asked : l.over ≡ false → l.waits ≡ true → Row
       asked over waits = inl ((ri.waits (at_input ∙ (ap (λ (b : Bool). input_of b l.waits) over ∙ ap (λ (b : Bool). input_of false b) waits))).0)

@@ -14,13 +14,13 @@ queued_at (x ∷ xs) zero n e = let same : x ≡ n = cc in grind (arith, common_
 queued_at (x ∷ xs) (suc i) n e = let later : is_queued xs n ≡ true = queued_at xs i n e in grind (arith, common_steps, later)
 
 -- and one that is among it stands somewhere
+at_first_or_later : (x : ℕ) (xs : List ℕ) (n : ℕ) (b : Bool) → (x == n) ≡ b → is_queued (x ∷ xs) n ≡ true → (is_queued xs n ≡ true → (i : ℕ) × (slice_get xs i ≡ Some n)) → (i : ℕ) × (slice_get (x ∷ xs) i ≡ Some n)
+at_first_or_later x xs n true eb e later = let same : x ≡ n = grind (arith, nat_tests, eb) in (0, ap Some same)
+at_first_or_later x xs n false eb e later = let there : is_queued xs n ≡ true = grind (arith, common_steps, eb, e) in let h = later there in (suc h.0, h.1)
+
 at_queued : (q : List ℕ) (n : ℕ) → is_queued q n ≡ true → (i : ℕ) × (slice_get q i ≡ Some n)
 at_queued [] n e = absurd cc
-at_queued (x ∷ xs) n e = by_test (x == n) refl
-  where
-    by_test : (b : Bool) → (x == n) ≡ b → (i : ℕ) × (slice_get (x ∷ xs) i ≡ Some n)
-    by_test true eb = let same : x ≡ n = grind (arith, nat_tests, eb) in (0, ap Some same)
-    by_test false eb = let there : is_queued xs n ≡ true = grind (arith, common_steps, eb, e) in let h = at_queued xs n there in (suc h.0, h.1)
+at_queued (x ∷ xs) n e = at_first_or_later x xs n (x == n) refl e (λ there. at_queued xs n there)
 
 no_both : (b : Bool) → b ≡ true → b ≡ false → ⊥
 no_both b p q = cc

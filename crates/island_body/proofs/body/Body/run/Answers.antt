@@ -11,11 +11,11 @@ use Rattle.island_body.proofs.Telling.{wakes_same, wakes_on}
 use Rattle.island_body.proofs.body.Body.run.Goals as goal
 
 pub returns-in_err-heard-clause-breaks : goal.returns-in_err-heard-clause-breaks
-returns-in_err-heard-clause-breaks g c = on_err c.from_residual.result (goes_breaks g.S.Source.state g.D.Drain.state g.B.PlugBook.lists _ _ _ c.loop-heard.invariant.goes c.in_err-heard.ensures.breaks)
+returns-in_err-heard-clause-breaks g c = on_err c.from_residual.result (goes_breaks g.S.Source.state g.D.Drain.state g.B.PlugBook.lists _ _ _ c.loop-alloc.invariant.goes c.in_err-heard.ensures.breaks)
 
-pub loop-heard-preserved : goal.loop-heard-preserved
-loop-heard-preserved g c =
-    let i = c.loop-heard.invariant in
+pub loop-alloc-preserved : goal.loop-alloc-preserved
+loop-alloc-preserved g c =
+    let i = c.loop-alloc.invariant in
     let e = c.in_ok-heard.ensures in
     let s = c.serve_at.ensures in
     let few = (e.heard c.in-Some.w c.in-Some.is).0 in
@@ -40,12 +40,12 @@ loop-heard-preserved g c =
 pub returns-in-None-clause-looks : goal.returns-in-None-clause-looks
 returns-in-None-clause-looks g c =
     let e = c.in_ok-heard.ensures in
-    keeps_looks_on _ _ _ c.loop-heard.invariant.goes c.loop-heard.invariant.looks (keeps_looks_same _ _ e.lanes.0 e.lanes.1)
+    keeps_looks_on _ _ _ c.loop-alloc.invariant.goes c.loop-alloc.invariant.looks (keeps_looks_same _ _ e.lanes.0 e.lanes.1)
 
 pub returns-in-None-clause-wakes : goal.returns-in-None-clause-wakes
 returns-in-None-clause-wakes g c =
     let e = c.in_ok-heard.ensures in
-    wakes_on _ _ _ c.loop-heard.invariant.wakes (wakes_same _ _ e.lanes.0 e.lanes.1 e.lanes.4)
+    wakes_on _ _ _ c.loop-alloc.invariant.wakes (wakes_same _ _ e.lanes.0 e.lanes.1 e.lanes.4)
 
 pub returns-then-is_to_pause-clause-none : goal.returns-then-is_to_pause-clause-none
 returns-then-is_to_pause-clause-none g c = λ z less.
@@ -57,6 +57,6 @@ pub returns-then-is_to_pause-clause-rest : goal.returns-then-is_to_pause-clause-
 returns-then-is_to_pause-clause-rest g c = λ less calm.
     let s = c.is_to_pause.ensures c.if-is_to_pause.true in
     elim calm [
-      | inl no ↦ absurd (let t : true ≡ false = sym s.0 ∙ no in cc)
-      | inr no ↦ absurd (let t : true ≡ false = sym s.1.1 ∙ no in cc)
+      | inl none ↦ absurd (let t : true ≡ false = sym s.0 ∙ none in cc)
+      | inr none ↦ absurd (let t : true ≡ false = sym s.1.1 ∙ none in cc)
     ]

@@ -7,8 +7,8 @@ use Rattle.island_body.specs.Telling.{WakesOn}
 use Rattle.island_body.specs.Moving.{KeepsLooks}
 use Rattle.island_body.proofs.body.Body.run.Given as goal
 
-abbrev pub invariant-loop-heard : goal.invariant-loop-heard
-invariant-loop-heard g l = record {
+abbrev pub invariant-loop-alloc : goal.invariant-loop-alloc
+invariant-loop-alloc g l = record {
   stands : BodyStands l.self;
   served : AllDone l.self.island l.self.ins.items l.self.outs.items;
   goes : BodyGoes l.fn.self l.self;
@@ -22,5 +22,5 @@ invariant-loop-heard g l = record {
   same : l.count ≡ l.fn.used → l.self ≡ l.fn.self;
 }
 
-abbrev pub decreases-loop-heard : goal.decreases-loop-heard
-decreases-loop-heard g l = l.limit - l.count
+abbrev pub decreases-loop-alloc : goal.decreases-loop-alloc
+decreases-loop-alloc g l = l.limit - l.count

@@ -5,5 +5,5 @@ use Rattle.island_body.specs.Telling.{HasTold}
 use Rattle.island_body.proofs.Naming.{names_told}
 use Rattle.island_body.proofs.meeting.BodyWaking.wakes.Goals as goal
 
-pub returns-clause-names : goal.returns-clause-names
-returns-clause-names g c = λ old told. subst (NamesEach (HasTold old c.args.self.now)) (sym c.woken.ensures) (names_told old c.args.self.now told)
+pub returns : goal.returns
+returns g c = record { names = λ old told. subst (NamesEach (HasTold old c.args.self.now)) (sym c.woken.ensures) (names_told old c.args.self.now told) }

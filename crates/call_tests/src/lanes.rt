@@ -1,5 +1,5 @@
 // Lanes whose two ends are used by turns, and by two threads.
-ghost use Rattle.std.specs.Prelude.{◌≡◌, ◌+◌, true, false, IfSome};
+ghost use Rattle.std.specs.Prelude.{◌≡◌, ◌+◌, ◌≤◌, true, false, IfSome};
 ghost use Rattle.lane_core.specs.Lane.{ends, weight};
 ghost use Rattle.elem_core.specs.Items.{elements};
 ghost use Rattle.lane_core.specs.Ends.{taken_items, asked_in_all, has_cancelled, has_ended, saw_cancel, out_lane, in_lane, AreOneLane, IsSameIn, IsSameOut};
@@ -18,6 +18,7 @@ use std::thread::{Threads, join};
 fn take_number(inp: &mut LaneIn) -> Option<i64>
     ensures same { IsSameIn inp.old inp.new × (asked_in_all inp.new ≡ asked_in_all inp.old) × (has_cancelled inp.new ≡ has_cancelled inp.old) }
     ensures some { IfSome result (λ _. elements (taken_items inp.new) ≡ elements (taken_items inp.old) + 1) }
+    ensures grows { elements (taken_items inp.old) ≤ elements (taken_items inp.new) }
 {
     let Some(Item::Elem(e)) = inp.take() else {
         return None;
@@ -56,6 +57,22 @@ fn send_number(out: &mut LaneOut, n: i64) -> bool
     }
 }
 
+// Whether two numbers can be sent, and no third.
+fn fills_two(out: &mut LaneOut) -> bool
+    requires { (has_ended out.old ≡ false) × (saw_cancel out.old ≡ 0) }
+    ensures { IsSameOut out.old out.new × (has_ended out.new ≡ false) × (saw_cancel out.new ≡ 0) }
+{
+    send_number(out, 1) && send_number(out, 2) && !send_number(out, 3)
+}
+
+// Whether just these two come.
+fn empties_two(inp: &mut LaneIn) -> bool
+    ensures same { IsSameIn inp.old inp.new × (asked_in_all inp.new ≡ asked_in_all inp.old) × (has_cancelled inp.new ≡ has_cancelled inp.old) }
+    ensures taken { result ≡ true → elements (taken_items inp.old) + 2 ≤ elements (taken_items inp.new) }
+{
+    take_number(inp) == Some(1) && take_number(inp) == Some(2) && take_number(inp).is_none()
+}
+
 // Whether an item waits, and demand.
 fn are(waits: Waits, item: bool, demand: bool) -> bool {
     waits.item == item && waits.demand == demand
@@ -81,12 +98,8 @@ fn a_lane_of_two(rt: HostRuntime) -> Result<(), Fail> {
     assert!(rt; !send_number(&mut out, 1));
     inp.ask(2);
     assert!(rt; finds_room(&mut out, 2));
-    assert!(rt; send_number(&mut out, 1));
-    assert!(rt; send_number(&mut out, 2));
-    assert!(rt; !send_number(&mut out, 3));
-    assert!(rt; take_number(&mut inp) == Some(1));
-    assert!(rt; take_number(&mut inp) == Some(2));
-    assert!(rt; take_number(&mut inp).is_none());
+    assert!(rt; fills_two(&mut out));
+    assert!(rt; empties_two(&mut inp));
     inp.ask(2);
     // Without a look: an end wants no demand.
     assert!(rt; out.offer(Item::Ended).is_ok());

@@ -1,0 +1,3 @@
+pub mod Naming
+mod Gathering
+mod Scoping

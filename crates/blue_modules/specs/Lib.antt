@@ -1,0 +1,11 @@
+pub mod Text
+pub mod Plain
+pub mod Deciders
+pub mod Names
+pub mod Flatten
+pub mod Counts
+pub mod Fitness
+pub mod Rules
+pub mod ScopeFaults
+pub mod Scopes
+pub mod Samples

@@ -2,10 +2,10 @@
 use Rattle.std.proofs.Common.{◌≡◌, ℕ, ◌≤◌, Bool, true, false, cond, List, [], ◌∷◌, length, Option, Some, None, Ok, unwrap_or, refl, ap, arith}
 use Rattle.std.specs.Prelude.{codes, ◌&&◌}
 use Rattle.std.specs.Str.{bytes_eq}
-use Rattle.elem_core.specs.declared.why.Decider.TheVariants.{Stop}
+use Rattle.blue_words.specs.declared.fault.Version.{Version}
 use Rattle.blue_words.specs.Reading.{At, Reading, at_map, both, made, with_second, then_read, read_place, word, count, behind_word, begins_with}
 use Rattle.blue_kinds.specs.Functions.{said_if, one_of, map_of, number_map, quotient_map, text_map, pred_of, number_pred, greater_pred, exact_pred, text_pred, whole_pred}
-use Rattle.blue_kinds.specs.Kinds.{linear_kind, bounded_kind, making_kind, folding_kind, testing_kind, while_kind, may_decide, decider_of, decider_word}
+use Rattle.blue_kinds.specs.Kinds.{linear_kind, bounded_kind, making_kind, folding_kind, testing_kind, while_kind, may_decide, kept_decider, named_decider, decider_of, decider_word}
 use Rattle.blue_kinds.specs.Steps.{read_step}
 
 -- what is read leaves at most n words
@@ -115,18 +115,18 @@ behind_word-shrinks fixed next s [] = shrinks-none 0
 behind_word-shrinks fixed next s (w ∷ ws) =
     shrinks-if (length (w ∷ ws)) (bytes_eq w fixed) (next ws) None (shrinks-cons w ws (next ws) (s ws)) (shrinks-none (length (w ∷ ws)))
 
-decider-shrinks : (ws : List (List ℕ)) → Shrinks (length ws) (behind_word (codes "decider") (one_of decider_word) ws)
+decider-shrinks : (ws : List (List ℕ)) → Shrinks (length ws) (named_decider ws)
 decider-shrinks ws = behind_word-shrinks (codes "decider") (one_of decider_word) (shrinks-one_of decider_word) ws
 
-decider_of-shrinks : (may : Bool) (ws : List (List ℕ)) → Shrinks (length ws) (decider_of may ws)
-decider_of-shrinks may ws =
-    shrinks-if (length ws) (may && begins_with (codes "decider") ws) _ _ (decider-shrinks ws) (shrinks-some (length ws) (Ok Stop) ws (omega arith))
+decider_of-shrinks : (v : Version) (may : Bool) (ws : List (List ℕ)) → Shrinks (length ws) (decider_of v may ws)
+decider_of-shrinks v may ws =
+    shrinks-if (length ws) (may && begins_with (codes "decider") ws) _ _ (shrinks-made (length ws) (kept_decider v) (named_decider ws) (decider-shrinks ws)) (shrinks-some (length ws) (Ok None) ws (omega arith))
 
-kind_with_decider-shrinks : (w : List ℕ) (ws : List (List ℕ)) → Shrinks (length ws) (then_read (linear_kind w ws) (decider_of (may_decide w)))
-kind_with_decider-shrinks w ws =
-    shrinks-then (length ws) (linear_kind w ws) (decider_of (may_decide w)) (linear_kind-shrinks w ws) (decider_of-shrinks (may_decide w))
+kind_with_decider-shrinks : (v : Version) (w : List ℕ) (ws : List (List ℕ)) → Shrinks (length ws) (then_read (linear_kind w ws) (decider_of v (may_decide w)))
+kind_with_decider-shrinks v w ws =
+    shrinks-then (length ws) (linear_kind w ws) (decider_of v (may_decide w)) (linear_kind-shrinks w ws) (decider_of-shrinks v (may_decide w))
 
-pub read_step-shrinks : (ws : List (List ℕ)) → Shrinks (length ws) (read_step ws)
-read_step-shrinks [] = shrinks-none 0
-read_step-shrinks (w ∷ ws) =
-    shrinks-cons w ws (read_step (w ∷ ws)) (shrinks-made (length ws) _ _ (kind_with_decider-shrinks w ws))
+pub read_step-shrinks : (v : Version) (ws : List (List ℕ)) → Shrinks (length ws) (read_step v ws)
+read_step-shrinks v [] = shrinks-none 0
+read_step-shrinks v (w ∷ ws) =
+    shrinks-cons w ws (read_step v (w ∷ ws)) (shrinks-made (length ws) _ _ (kind_with_decider-shrinks v w ws))

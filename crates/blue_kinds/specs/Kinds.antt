@@ -14,6 +14,8 @@ use Rattle.stream_model.specs.declared.kind.Joining.{Joining}
 use Rattle.stream_model.specs.declared.kind.Joining.TheVariants as joining
 use Rattle.stream_model.specs.declared.kind.Kind.{Kind}
 use Rattle.stream_model.specs.declared.kind.Kind.TheVariants as k
+use Rattle.blue_words.specs.declared.fault.Version.{Version}
+use Rattle.blue_words.specs.declared.fault.Version.TheVariants.{First, Second}
 use Rattle.blue_words.specs.Reading.{At, Reading, said, made, with_second, then_read, behind_word, begins_with, before_word, word, name, file, int, count, size}
 use Rattle.blue_kinds.specs.Functions.{one_of, map_of, pred_of, expand_named, fold_named, reduce_named}
 
@@ -186,7 +188,17 @@ decider_word w =
     (if bytes_eq w (codes "resume") then Some Resume else
     (if bytes_eq w (codes "restart") then Some Restart else None))
 
--- the decider behind a kind, and `stop` where none is written
-abbrev pub decider_of : Bool → List (List ℕ) → Reading Decider
-decider_of may ws =
-    if may && begins_with (codes "decider") ws then behind_word (codes "decider") (one_of decider_word) ws else said Stop ws
+-- a decider, behind its word
+abbrev pub named_decider : List (List ℕ) → Reading Decider
+named_decider ws = behind_word (codes "decider") (one_of decider_word) ws
+
+-- a decider as it is kept: as it is written, but in version 1 `stop` says what no decider says
+abbrev pub kept_decider : Version → Decider → Option Decider
+kept_decider First Stop = None
+kept_decider First Resume = Some Resume
+kept_decider First Restart = Some Restart
+kept_decider Second d = Some d
+
+-- the decider behind a kind, where one is written; one is read only where the kind may have one
+abbrev pub decider_of : Version → Bool → List (List ℕ) → Reading (Option Decider)
+decider_of v may ws = if may && begins_with (codes "decider") ws then made (kept_decider v) (named_decider ws) else said None ws

@@ -1,22 +1,52 @@
 // Deciders, and which kinds may have one.
 ghost use Rattle.std.specs.Prelude.{◌≡◌};
-ghost use Rattle.blue_words.specs.Reading.{Reads};
+ghost use Rattle.blue_words.specs.Reading.{Reads, at_map};
 ghost use Rattle.blue_kinds.specs.Functions.{one_of};
-ghost use Rattle.blue_kinds.specs.Kinds.{may_decide, decider_word, decider_of};
+ghost use Rattle.blue_kinds.specs.Kinds.{may_decide, decider_word, kept_decider, decider_of};
 
 use crate::folds::said;
-use blue_words::fault::{FormEnd, PlaceValue};
+use blue_words::fault::{FormEnd, PlaceValue, Version};
 use blue_words::words::{Words, is_word};
 use elem_core::why::Decider;
 
-/// The decider behind a kind, and stop where none is written; one is read only where the kind may have one.
-pub fn read_decider(may: bool, words: &mut Words) -> Result<PlaceValue<Decider>, FormEnd>
-    ensures { Reads result (decider_of may words.old) words.new }
+/// The decider behind a kind, where one is written; one is read only where the kind may have one. In version 1 `stop` says what no
+/// decider says.
+pub fn read_decider(
+    version: Version,
+    may: bool,
+    words: &mut Words,
+) -> Result<PlaceValue<Option<Decider>>, FormEnd>
+    ensures { Reads result (decider_of version may words.old) words.new }
 {
     if may && words.skip(b"decider") {
-        read_decider_word(words)
+        let decider = read_decider_word(words)?;
+        Ok(kept_place(version, decider))
     } else {
-        Ok(Ok(Decider::Stop))
+        Ok(Ok(None))
+    }
+}
+
+fn kept_place(version: Version, decider: PlaceValue<Decider>) -> PlaceValue<Option<Decider>>
+    ensures { result ≡ at_map (kept_decider version) decider }
+{
+    match decider {
+        Ok(decider) => Ok(kept_decider(version, decider)),
+        Err(kind) => Err(kind),
+    }
+}
+
+// Choice: docs/DECISIONS.md#written-stop
+// A decider as it is kept.
+fn kept_decider(version: Version, decider: Decider) -> Option<Decider>
+    ensures { result ≡ kept_decider version decider }
+{
+    match version {
+        Version::First => match decider {
+            Decider::Stop => None,
+            Decider::Resume => Some(Decider::Resume),
+            Decider::Restart => Some(Decider::Restart),
+        },
+        Version::Second => Some(decider),
     }
 }
 

@@ -33,14 +33,14 @@ graphic_digit b h =
     let high = leb-true b 57 parts.1 in
     and_from _ _ (le-leb 33 b (omega arith)) (le-leb b 126 (omega arith))
 
-graphic_digits : (ds : List ℕ) → list_all is_ascii_digit ds ≡ true → list_all is_ascii_graphic ds ≡ true
+pub graphic_digits : (ds : List ℕ) → list_all is_ascii_digit ds ≡ true → list_all is_ascii_graphic ds ≡ true
 graphic_digits [] h = refl
 graphic_digits (d ∷ ds) h =
     let parts = and_parts (is_ascii_digit d) (list_all is_ascii_digit ds) h in
     and_from _ _ (graphic_digit d parts.0) (graphic_digits ds parts.1)
 
 -- the decimal of a number is digits, at most as many as any digits of that number
-decimal_digits : (n : ℕ) → n < 2 ^ 64 → list_all is_ascii_digit (decimal n) ≡ true
+pub decimal_digits : (n : ℕ) → n < 2 ^ 64 → list_all is_ascii_digit (decimal n) ≡ true
 decimal_digits n h = digits_decimal own n h
 
 decimal_are_digits : (n : ℕ) → n < 2 ^ 64 → are_digits (decimal n) ≡ true

@@ -12,3 +12,7 @@ pub mod SameWords
 pub mod Sorting
 pub mod Tables
 pub mod Texts
+pub mod Rebuilding
+pub mod Fitting
+pub mod Limits
+pub mod Wording

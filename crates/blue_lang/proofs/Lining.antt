@@ -15,6 +15,7 @@ use Rattle.blue_words.proofs.Plain.{lacks-all}
 use Rattle.blue_words.proofs.Cutting.{cut_at-append, lines-cut}
 use Rattle.blue_lang.specs.Spaced.{spaced}
 use Rattle.blue_lang.specs.Canonical.{line_text}
+use Rattle.blue_words.specs.declared.fault.Version.{Version}
 use Rattle.blue_lang.specs.Declarations.{declared_by, declared_in}
 use Rattle.blue_lang.proofs.Respelling.{Words, AllWords}
 use Rattle.blue_lang.proofs.Declaring.{joined}
@@ -94,10 +95,10 @@ words_joined w (v ∷ vs) h =
     ap kept_parts cut ∙ (kept_word w (slice_split is_space (v ++ spaced vs)) k.0 ∙ ap (λ x. w ∷ x) (words_joined v vs parts.1))
 
 -- a line of words declares what the words declare
-pub joined_declares : (ws : Words) → 0 < length ws → AllWords ws → declared_in (joined ws) ≡ declared_by ws
-joined_declares [] l h = absurd (omega arith)
-joined_declares (w ∷ ws) l h =
-    ap (λ t. cond t (declared_by (words (joined (w ∷ ws)))) (Err BadLine)) (plain_joined (w ∷ ws) h) ∙ ap declared_by (words_joined w ws h)
+pub joined_declares : (v : Version) (ws : Words) → 0 < length ws → AllWords ws → declared_in v (joined ws) ≡ declared_by v ws
+joined_declares v [] l h = absurd (omega arith)
+joined_declares v (w ∷ ws) l h =
+    ap (λ t. cond t (declared_by v (words (joined (w ∷ ws)))) (Err BadLine)) (plain_joined (w ∷ ws) h) ∙ ap (declared_by v) (words_joined w ws h)
 
 -- ---- the words of a plain line are words, and no longer than it
 abbrev all_graphic : Words → Bool

@@ -1,5 +1,5 @@
 -- The words of kinds and deciders, each in its one spelling. A table's last row goes on to the next.
-use Rattle.std.specs.Prelude.{ℕ, List, [], ◌∷◌, ◌++◌, codes}
+use Rattle.std.specs.Prelude.{ℕ, List, [], ◌∷◌, ◌++◌, Option, Some, None, codes}
 use Rattle.std.specs.Fmt.{decimal, signed_decimal}
 use Rattle.elem_core.specs.declared.why.Decider.{Decider}
 use Rattle.elem_core.specs.declared.why.Decider.TheVariants.{Stop, Resume, Restart}
@@ -94,7 +94,7 @@ kind_words k.Ignore = codes "ignore" ∷ []
 kind_words kind = stage_words kind
 
 -- the word of a side
-abbrev side_word : Side → List ℕ
+abbrev pub side_word : Side → List ℕ
 side_word at_source = codes "source"
 side_word at_stage = codes "stage"
 side_word at_sink = codes "sink"
@@ -103,8 +103,13 @@ side_word at_sink = codes "sink"
 abbrev pub sort_word : Kind → List ℕ
 sort_word k = side_word (side_by (role_of k))
 
--- a decider is written where it is not `stop`
-abbrev pub decider_words : Decider → List (List ℕ)
-decider_words Stop = []
-decider_words Resume = codes "decider" ∷ codes "resume" ∷ []
-decider_words Restart = codes "decider" ∷ codes "restart" ∷ []
+-- the word of a decider
+abbrev pub set_decider_word : Decider → List ℕ
+set_decider_word Stop = codes "stop"
+set_decider_word Resume = codes "resume"
+set_decider_word Restart = codes "restart"
+
+-- a decider, where one is set
+abbrev pub decider_words : Option Decider → List (List ℕ)
+decider_words None = []
+decider_words (Some d) = codes "decider" ∷ set_decider_word d ∷ []

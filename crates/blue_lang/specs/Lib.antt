@@ -1,10 +1,10 @@
 pub mod Functions
 pub mod Kinds
 pub mod Spaced
-pub mod Blueprints
 pub mod Canonical
 pub mod Declarations
 pub mod Ends
 pub mod Plain
 pub mod Progress
 pub mod Spelling
+pub mod Texts

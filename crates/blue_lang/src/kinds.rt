@@ -4,7 +4,7 @@ ghost use Rattle.std.specs.Fmt.{decimal, signed_decimal};
 ghost use Rattle.stream_model.specs.declared.kind.Kind.{Kind};
 ghost use Rattle.blue_lang.specs.Spaced.{spaced};
 ghost use Rattle.blue_lang.specs.Functions.{map_words, pred_words};
-ghost use Rattle.blue_lang.specs.Kinds.{base_word, policy_word, joining_word, each_words, fan_words, edge_words, stage_words, kind_words, sort_word, decider_words};
+ghost use Rattle.blue_lang.specs.Kinds.{base_word, policy_word, joining_word, each_words, fan_words, edge_words, stage_words, kind_words, sort_word, set_decider_word, decider_words};
 
 use crate::functions::{expand_word, fold_word, reduce_word, write_map, write_pred};
 use crate::words::{
@@ -215,13 +215,22 @@ pub fn sort_word(kind: &Kind) -> &'static [u8]
     }
 }
 
-/// Appends a decider where it is not stop, each of its words behind a space.
-pub fn write_decider(out: &mut Vec<u8>, decider: Decider) -> Result<(), NoMemory>
+fn set_decider_word(decider: Decider) -> &'static [u8]
+    ensures { result.now ≡ set_decider_word decider }
+{
+    match decider {
+        Decider::Stop => b"stop",
+        Decider::Resume => b"resume",
+        Decider::Restart => b"restart",
+    }
+}
+
+/// Appends a decider where one is set, each of its words behind a space.
+pub fn write_decider(out: &mut Vec<u8>, decider: Option<Decider>) -> Result<(), NoMemory>
     ensures { OnOk result (out.new.items ≡ out.old.items ++ spaced (decider_words decider)) }
 {
     match decider {
-        Decider::Stop => Ok(()),
-        Decider::Resume => write_two(out, b"decider", b"resume"),
-        Decider::Restart => write_two(out, b"decider", b"restart"),
+        Some(decider) => write_two(out, b"decider", set_decider_word(decider)),
+        None => Ok(()),
     }
 }

@@ -1,27 +1,25 @@
 // How a text is read.
-ghost use Rattle.std.specs.Prelude.{◌≡◌, ◌≤◌, [], length, IfOk, OnOk, Err, Some};
+ghost use Rattle.std.specs.Prelude.{◌≡◌, ◌≤◌, [], length, IfOk, OnOk, Ok, Err, Some, true};
 ghost use Rattle.elem_core.specs.Text.{lines};
 ghost use Rattle.blue_words.specs.declared.fault.BlueKind.{BlueKind};
 ghost use Rattle.blue_words.specs.declared.fault.BlueFault.{BlueFault};
-ghost use Rattle.blue_words.specs.Reading.{at_map};
-ghost use Rattle.blue_lang.specs.Blueprints.{Says, SaysLines, text_fault, first_fault, line_fault, is_version, are_version, has_room, declaration_fault, blueprint_of};
-ghost use Rattle.blue_lang.specs.Declarations.{declared_in};
-ghost use Rattle.blue_lang.specs.Plain.{plain, plain_declaration};
-ghost use Rattle.blue_lang.specs.Progress.{with_declaration, Declares, ReadsLine};
+ghost use Rattle.blue_modules.specs.Text.{plain_text};
+ghost use Rattle.blue_lang.specs.Declarations.{is_misplaced};
 ghost use Rattle.blue_lang.specs.Ends.{stop_end};
+ghost use Rattle.blue_lang.specs.Plain.{plain_declaration};
+ghost use Rattle.blue_lang.specs.Progress.{sofar, context, with_declaration, DeclaresWords, Declares, ReadsLine};
+ghost use Rattle.blue_lang.specs.Texts.{Says, SaysLines, text_fault, first_fault, line_fault, said_fault, words_fault, declaration_fault, has_room, version_named, version_word, version_of_words, version_of};
 
 use crate::declarations::{Declaration, read_declaration};
-use blue_words::fault::{BlueFault, BlueKind, PlaceValue};
+use crate::progress::{Progress, add, has_room, is_begun, is_inside, none_yet};
+use blue_modules::text::BlueText;
+use blue_words::fault::{BlueFault, BlueKind, Version};
 use blue_words::lines::{is_passed_over, is_plain, next_line};
-use blue_words::words::Words;
-use elem_core::why::NoMemory;
+use blue_words::words::{Words, is_word};
 use std::alloc::Global;
-use stream_model::blueprint::Blueprint;
-use stream_model::limit::{
-    MAX_CHAINS, MAX_NODES, MAX_STEPS, MAX_SWITCHES, MAX_TEXT, MAX_TEXT_LINE, MAX_WIRES,
-};
+use stream_model::limit::{MAX_TEXT, MAX_TEXT_LINE};
 
-/// Why a text gave no blueprint.
+/// Why a text says nothing.
 #[derive(Clone, Copy)]
 pub enum ParseEnd {
     /// The text has a fault; it is the first.
@@ -39,20 +37,13 @@ enum Stop {
     NoMemory,
 }
 
-// What is read of a text: whether a line said something, and what is declared so far.
-#[derive(Drop)]
-struct Progress {
-    begun: bool,
-    blueprint: Blueprint,
-}
-
-/// The blueprint that a text says, in one pass over its bytes, or the first fault of the text. Want of memory may come in
-/// its place at any text.
+/// What a text of either version says, in one pass over its bytes, or the first fault of the text. Want of memory may come in its
+/// place at any text.
 ///
 /// A text is lines ended by LF; a last one without LF counts. Its first fault is that of the first line at fault; a text
 /// of more than 1,048,576 bytes is at fault as a whole. Akka Streams has no text for a graph, so its rules are this project's.
-pub fn parse(alloc: Global, text: &[u8]) -> Result<Blueprint, ParseEnd>
-    ensures ok { IfOk result (λ b. Says text.now (plain b)) }
+pub fn parse(alloc: Global, text: &[u8]) -> Result<BlueText, ParseEnd>
+    ensures ok { IfOk result (λ t. Says text.now (plain_text t)) }
     ensures fault { (f : BlueFault) → result ≡ Err (ParseEnd.Fault f) → text_fault text.now ≡ Some f }
 {
     if text.len() > MAX_TEXT {
@@ -62,15 +53,12 @@ pub fn parse(alloc: Global, text: &[u8]) -> Result<Blueprint, ParseEnd>
     read_text(alloc, text)
 }
 
-fn read_text(alloc: Global, text: &[u8]) -> Result<Blueprint, ParseEnd>
+fn read_text(alloc: Global, text: &[u8]) -> Result<BlueText, ParseEnd>
     requires { length text.now ≤ 1048576 }
-    ensures ok { IfOk result (λ b. SaysLines (lines text.now) (plain b)) }
+    ensures ok { IfOk result (λ t. SaysLines (lines text.now) (plain_text t)) }
     ensures fault { (f : BlueFault) → result ≡ Err (ParseEnd.Fault f) → first_fault [] (lines text.now) ≡ Some f }
 {
-    let mut progress = Progress {
-        begun: false,
-        blueprint: empty(alloc),
-    };
+    let mut progress = none_yet(alloc);
     let mut rest = text;
     let mut number = 0;
     while let Some((line, after)) = next_line(rest) {
@@ -80,11 +68,13 @@ fn read_text(alloc: Global, text: &[u8]) -> Result<Blueprint, ParseEnd>
             Err(stop) => return Err(fault_at(stop, number)),
         }
     }
-    if progress.begun {
-        Ok(progress.blueprint)
-    } else {
-        Err(fault_at(Stop::Fault(BlueKind::BadVersion), 0))
+    if !is_begun(&progress) {
+        return Err(fault_at(Stop::Fault(BlueKind::BadVersion), 0));
     }
+    if is_inside(&progress) {
+        return Err(fault_at(Stop::Fault(BlueKind::BadLine), 0));
+    }
+    Ok(progress.text)
 }
 
 fn fault_at(stop: Stop, line: u32) -> ParseEnd
@@ -96,20 +86,9 @@ fn fault_at(stop: Stop, line: u32) -> ParseEnd
     }
 }
 
-fn empty(alloc: Global) -> Blueprint
-    ensures { plain result ≡ blueprint_of [] }
-{
-    Blueprint {
-        switches: Vec::new(alloc),
-        chains: Vec::new(alloc),
-        nodes: Vec::new(alloc),
-        wires: Vec::new(alloc),
-    }
-}
-
 fn read_line(alloc: Global, progress: &mut Progress, line: &[u8]) -> Result<(), Stop>
-    ensures ok { OnOk result (ReadsLine progress.old.begun (plain progress.old.blueprint) line.now progress.new.begun (plain progress.new.blueprint)) }
-    ensures fault { (k : BlueKind) → result ≡ Err (Stop.Fault k) → line_fault progress.old.begun (plain progress.old.blueprint) line.now ≡ Some k }
+    ensures ok { OnOk result (ReadsLine progress.old.version (sofar progress.old) line.now progress.new.version (sofar progress.new)) }
+    ensures fault { (k : BlueKind) → result ≡ Err (Stop.Fault k) → line_fault progress.old.version (context (sofar progress.old)) line.now ≡ Some k }
 {
     if line.len() > MAX_TEXT_LINE {
         return Err(Stop::Fault(BlueKind::TooLong));
@@ -117,85 +96,138 @@ fn read_line(alloc: Global, progress: &mut Progress, line: &[u8]) -> Result<(), 
     if is_passed_over(line) {
         return Ok(());
     }
-    if progress.begun {
-        return declare(alloc, &mut progress.blueprint, line);
+    match progress.version {
+        Some(version) => declare(alloc, progress, version, line),
+        None => match version_of(line) {
+            Some(version) => {
+                progress.version = Some(version);
+                Ok(())
+            }
+            None => Err(Stop::Fault(BlueKind::BadVersion)),
+        },
     }
-    if !is_version(line) {
-        return Err(Stop::Fault(BlueKind::BadVersion));
-    }
-    progress.begun = true;
-    Ok(())
 }
 
-fn is_version(line: &[u8]) -> bool
+// The version that a line names.
+fn version_of(line: &[u8]) -> Option<Version>
     requires { length line.now ≤ 1024 }
-    ensures { result ≡ is_version line.now }
+    ensures { result ≡ version_of line.now }
 {
     if !is_plain(line) {
-        return false;
+        return None;
     }
     let mut words = Words::of(line);
-    are_version(&mut words)
+    version_of_words(&mut words)
 }
 
-fn are_version(words: &mut Words) -> bool
-    ensures { result ≡ are_version words.old }
+fn version_of_words(words: &mut Words) -> Option<Version>
+    ensures { result ≡ version_of_words words.old }
 {
-    words.skip(b"streams") && words.skip(b"1") && words.is_empty()
+    let Some(word) = words.next() else {
+        return None;
+    };
+    if is_word(word, b"streams") {
+        version_word(words)
+    } else {
+        None
+    }
+}
+
+fn version_word(words: &mut Words) -> Option<Version>
+    ensures { result ≡ version_word words.old }
+{
+    let Some(word) = words.next() else {
+        return None;
+    };
+    if words.is_empty() {
+        version_named(word)
+    } else {
+        None
+    }
+}
+
+fn version_named(word: &[u8]) -> Option<Version>
+    ensures { result ≡ version_named word.now }
+{
+    if is_word(word, b"1") {
+        return Some(Version::First);
+    }
+    if is_word(word, b"2") {
+        return Some(Version::Second);
+    }
+    None
+}
+
+// Choice: docs/DECISIONS.md#first-word-decides-place
+// Whether a line with this first word may not stand here: in a module, and outside of one.
+fn is_misplaced(inside: bool, defaulted: bool, word: &[u8]) -> bool
+    ensures { result ≡ is_misplaced inside defaulted word.now }
+{
+    if inside {
+        is_word(word, b"module")
+            || is_word(word, b"switch")
+            || is_word(word, b"chain")
+            || is_word(word, b"default")
+    } else if is_word(word, b"default") {
+        defaulted
+    } else {
+        is_word(word, b"end") || is_word(word, b"in") || is_word(word, b"out")
+    }
 }
 
 // Adds what a line declares that is not passed over, behind the version line.
-fn declare(alloc: Global, blueprint: &mut Blueprint, line: &[u8]) -> Result<(), Stop>
+fn declare(
+    alloc: Global,
+    progress: &mut Progress,
+    version: Version,
+    line: &[u8],
+) -> Result<(), Stop>
     requires { length line.now ≤ 1024 }
-    ensures ok { OnOk result (Declares (plain blueprint.old) (declared_in line.now) (plain blueprint.new)) }
-    ensures fault { (k : BlueKind) → result ≡ Err (Stop.Fault k) → declaration_fault (plain blueprint.old) (declared_in line.now) ≡ Some k }
+    ensures ok { OnOk result (Declares version (sofar progress.old) line.now (sofar progress.new)) }
+    ensures version { progress.new.version ≡ progress.old.version }
+    ensures fault { (k : BlueKind) → result ≡ Err (Stop.Fault k) → said_fault version (context (sofar progress.old)) line.now ≡ Some k }
 {
-    match read_declaration(alloc, line) {
-        Ok(place) => declare_place(blueprint, place),
+    if !is_plain(line) {
+        return Err(Stop::Fault(BlueKind::BadLine));
+    }
+    let mut words = Words::of(line);
+    declare_words(alloc, progress, version, &mut words)
+}
+
+fn declare_words(
+    alloc: Global,
+    progress: &mut Progress,
+    version: Version,
+    words: &mut Words,
+) -> Result<(), Stop>
+    ensures ok { OnOk result (DeclaresWords version (sofar progress.old) words.old (sofar progress.new)) }
+    ensures version { progress.new.version ≡ progress.old.version }
+    ensures fault { (k : BlueKind) → result ≡ Err (Stop.Fault k) → words_fault version (context (sofar progress.old)) words.old ≡ Some k }
+{
+    let Some(word) = words.next() else {
+        return Err(Stop::Fault(BlueKind::BadLine));
+    };
+    if is_misplaced(is_inside(progress), progress.defaulted, word) {
+        return Err(Stop::Fault(BlueKind::BadLine));
+    }
+    match read_declaration(alloc, version, word, words) {
+        Ok(Ok(declaration)) => declare_one(alloc, progress, declaration),
+        Ok(Err(kind)) => Err(Stop::Fault(kind)),
         Err(_) => Err(Stop::NoMemory),
     }
 }
 
-fn declare_place(blueprint: &mut Blueprint, place: PlaceValue<Declaration>) -> Result<(), Stop>
-    ensures ok { OnOk result (Declares (plain blueprint.old) (at_map plain_declaration place) (plain blueprint.new)) }
-    ensures fault { (k : BlueKind) → result ≡ Err (Stop.Fault k) → declaration_fault (plain blueprint.old) (at_map plain_declaration place) ≡ Some k }
+fn declare_one(alloc: Global, progress: &mut Progress, declaration: Declaration) -> Result<(), Stop>
+    ensures room { OnOk result (has_room (context (sofar progress.old)) (plain_declaration declaration) ≡ true) }
+    ensures adds { OnOk result (sofar progress.new ≡ with_declaration (sofar progress.old) (plain_declaration declaration)) }
+    ensures version { progress.new.version ≡ progress.old.version }
+    ensures fault { (k : BlueKind) → result ≡ Err (Stop.Fault k) → declaration_fault (context (sofar progress.old)) (Ok (plain_declaration declaration)) ≡ Some k }
 {
-    match place {
-        Ok(declaration) => {
-            if !has_room(blueprint, &declaration) {
-                return Err(Stop::Fault(BlueKind::TooMany));
-            }
-            match add(blueprint, declaration) {
-                Ok(()) => Ok(()),
-                Err(_) => Err(Stop::NoMemory),
-            }
-        }
-        Err(kind) => Err(Stop::Fault(kind)),
+    if !has_room(progress, &declaration) {
+        return Err(Stop::Fault(BlueKind::TooMany));
     }
-}
-
-// Whether the limits allow one declaration more.
-fn has_room(blueprint: &Blueprint, declaration: &Declaration) -> bool
-    ensures { result ≡ has_room (plain blueprint.now) (plain_declaration declaration.now) }
-{
-    match declaration {
-        Declaration::Switch(_) => blueprint.switches.len() < MAX_SWITCHES,
-        Declaration::Chain(chain) => {
-            blueprint.chains.len() < MAX_CHAINS && chain.steps.len() <= MAX_STEPS
-        }
-        Declaration::Node(_) => blueprint.nodes.len() < MAX_NODES,
-        Declaration::Wire(_) => blueprint.wires.len() < MAX_WIRES,
+    match add(alloc, progress, declaration) {
+        Ok(()) => Ok(()),
+        Err(_) => Err(Stop::NoMemory),
     }
-}
-
-fn add(blueprint: &mut Blueprint, declaration: Declaration) -> Result<(), NoMemory>
-    ensures { OnOk result (plain blueprint.new ≡ with_declaration (plain blueprint.old) (Some (plain_declaration declaration))) }
-{
-    match declaration {
-        Declaration::Switch(name) => blueprint.switches.push(name)?,
-        Declaration::Chain(chain) => blueprint.chains.push(chain)?,
-        Declaration::Node(node) => blueprint.nodes.push(node)?,
-        Declaration::Wire(wire) => blueprint.wires.push(wire)?,
-    }
-    Ok(())
 }

@@ -1,36 +1,87 @@
-// The canonical text of a blueprint.
+// The canonical text of what a text says.
 ghost use Rattle.std.specs.Prelude.{◌≡◌, ◌++◌, ◌∷◌, [], map, OnOk, IfOk, codes};
+ghost use Rattle.std.specs.List.{flat_map};
+ghost use Rattle.blue_modules.specs.Text.{plain_module, plain_chain_text, plain_text};
 ghost use Rattle.blue_lang.specs.Spaced.{spaced};
-ghost use Rattle.blue_lang.specs.Kinds.{kind_words, decider_words};
-ghost use Rattle.blue_lang.specs.Canonical.{switch_words, step_words, later_words, steps_words, chain_line, node_words, port_word, lane_words, wire_words, line_text, lines_text, canonical};
-ghost use Rattle.blue_lang.specs.Plain.{plain, plain_chain};
+ghost use Rattle.blue_lang.specs.Kinds.{kind_words, sort_word, decider_words};
+ghost use Rattle.blue_lang.specs.Declarations.{switch, chain, port, part};
+ghost use Rattle.blue_lang.specs.Canonical.{size_words, attrs_words, mark_word, place_word, lane_words, step_words, later_words, steps_words, direction_word, port_words, entry_words, declaration_words, sets_some, default_lines, module_lines, line_text, declared_text, canonical};
 
 use crate::kinds::{sort_word, write_decider, write_kind};
 use crate::words::{write_word, write_word_count};
+use blue_modules::text::{
+    Attrs, BlueText, ChainText, Entry, LaneMark, Module, NodeText, PortDecl, PortMark, StepText,
+    UseText, WireText,
+};
 use elem_core::line::Line;
 use elem_core::why::{Decider, NoMemory};
 use itoa::Buffer;
 use std::alloc::Global;
-use stream_model::blueprint::{Blueprint, ChainDecl, Node, Step, WireDecl};
 use stream_model::kind::Kind;
 
-/// The canonical text of a blueprint: the version line, then its switches, chains, nodes and wires, each in their order; one
-/// space between words, numbers without leading zeros, a decider only where it is not stop, and each lane with its size.
+/// The canonical text, of version 2, so printing migrates: the version line, what is set for the whole text, switches, chains,
+/// modules, and the text's own body, each in its order; one space between words, numbers without leading zeros, a decider where one
+/// was written.
 /// Akka Streams has no text for a graph, so its form is this project's.
-pub fn print(alloc: Global, blueprint: &Blueprint) -> Result<Vec<u8>, NoMemory>
-    ensures { IfOk result (λ text. text.items ≡ canonical (plain blueprint.now)) }
+pub fn print(alloc: Global, text: &BlueText) -> Result<Vec<u8>, NoMemory>
+    ensures { IfOk result (λ bytes. bytes.items ≡ canonical (plain_text text.now)) }
 {
     let mut out = Vec::new(alloc);
-    out.extend_from_slice(b"streams 1\n")?;
-    print_switches(&mut out, &blueprint.switches)?;
-    print_chains(&mut out, &blueprint.chains)?;
-    print_nodes(&mut out, &blueprint.nodes)?;
-    print_wires(&mut out, &blueprint.wires)?;
+    out.extend_from_slice(b"streams 2\n")?;
+    print_default(&mut out, text.attrs)?;
+    print_switches(&mut out, &text.switches)?;
+    print_chains(&mut out, &text.chains)?;
+    print_modules(&mut out, &text.modules)?;
+    print_entries(&mut out, &text.body)?;
     Ok(out)
 }
 
+// Whether something is set.
+fn sets_some(attrs: Attrs) -> bool
+    ensures { result ≡ sets_some attrs }
+{
+    attrs.size.is_some() || attrs.decider.is_some()
+}
+
+#[tactic(auto, using(crate::proofs::Printing::declared_one))]
+fn print_default(out: &mut Vec<u8>, attrs: Attrs) -> Result<(), NoMemory>
+    ensures { OnOk result (out.new.items ≡ out.old.items ++ declared_text (default_lines attrs)) }
+{
+    if sets_some(attrs) {
+        print_setting(out, attrs)
+    } else {
+        Ok(())
+    }
+}
+
+fn print_setting(out: &mut Vec<u8>, attrs: Attrs) -> Result<(), NoMemory>
+    ensures { OnOk result (out.new.items ≡ out.old.items ++ line_text (codes "default" ∷ attrs_words attrs)) }
+{
+    out.extend_from_slice(b"default")?;
+    print_attrs(out, attrs)?;
+    out.push(b'\n')?;
+    Ok(())
+}
+
+fn print_attrs(out: &mut Vec<u8>, attrs: Attrs) -> Result<(), NoMemory>
+    ensures { OnOk result (out.new.items ≡ out.old.items ++ spaced (attrs_words attrs)) }
+{
+    print_size(out, attrs.size)?;
+    write_decider(out, attrs.decider)?;
+    Ok(())
+}
+
+fn print_size(out: &mut Vec<u8>, size: Option<u32>) -> Result<(), NoMemory>
+    ensures { OnOk result (out.new.items ≡ out.old.items ++ spaced (size_words size)) }
+{
+    match size {
+        Some(size) => write_word_count(out, b"async", u64::from(size)),
+        None => Ok(()),
+    }
+}
+
 fn print_switches(out: &mut Vec<u8>, switches: &[Line]) -> Result<(), NoMemory>
-    ensures { OnOk result (out.new.items ≡ out.old.items ++ lines_text (map switch_words switches.now)) }
+    ensures { OnOk result (out.new.items ≡ out.old.items ++ declared_text (map switch switches.now)) }
 {
     for switch in switches {
         print_switch(out, switch)?;
@@ -39,7 +90,7 @@ fn print_switches(out: &mut Vec<u8>, switches: &[Line]) -> Result<(), NoMemory>
 }
 
 fn print_switch(out: &mut Vec<u8>, switch: &Line) -> Result<(), NoMemory>
-    ensures { OnOk result (out.new.items ≡ out.old.items ++ line_text (switch_words switch.now)) }
+    ensures { OnOk result (out.new.items ≡ out.old.items ++ line_text (codes "switch" ∷ switch.now ∷ [])) }
 {
     out.extend_from_slice(b"switch")?;
     write_word(out, switch.bytes())?;
@@ -47,8 +98,8 @@ fn print_switch(out: &mut Vec<u8>, switch: &Line) -> Result<(), NoMemory>
     Ok(())
 }
 
-fn print_chains(out: &mut Vec<u8>, chains: &[ChainDecl]) -> Result<(), NoMemory>
-    ensures { OnOk result (out.new.items ≡ out.old.items ++ lines_text (map chain_line (map plain_chain chains.now))) }
+fn print_chains(out: &mut Vec<u8>, chains: &[ChainText]) -> Result<(), NoMemory>
+    ensures { OnOk result (out.new.items ≡ out.old.items ++ declared_text (map chain (map plain_chain_text chains.now))) }
 {
     for chain in chains {
         print_chain(out, chain)?;
@@ -56,8 +107,8 @@ fn print_chains(out: &mut Vec<u8>, chains: &[ChainDecl]) -> Result<(), NoMemory>
     Ok(())
 }
 
-fn print_chain(out: &mut Vec<u8>, chain: &ChainDecl) -> Result<(), NoMemory>
-    ensures { OnOk result (out.new.items ≡ out.old.items ++ line_text (chain_line (plain_chain chain.now))) }
+fn print_chain(out: &mut Vec<u8>, chain: &ChainText) -> Result<(), NoMemory>
+    ensures { OnOk result (out.new.items ≡ out.old.items ++ line_text (codes "chain" ∷ (plain_chain_text chain.now).name ∷ steps_words (plain_chain_text chain.now).steps)) }
 {
     out.extend_from_slice(b"chain")?;
     write_word(out, chain.name.bytes())?;
@@ -66,7 +117,7 @@ fn print_chain(out: &mut Vec<u8>, chain: &ChainDecl) -> Result<(), NoMemory>
     Ok(())
 }
 
-fn print_steps(out: &mut Vec<u8>, steps: &[Step]) -> Result<(), NoMemory>
+fn print_steps(out: &mut Vec<u8>, steps: &[StepText]) -> Result<(), NoMemory>
     ensures { OnOk result (out.new.items ≡ out.old.items ++ spaced (steps_words steps.now)) }
 {
     match steps.split_first() {
@@ -79,7 +130,7 @@ fn print_steps(out: &mut Vec<u8>, steps: &[Step]) -> Result<(), NoMemory>
     }
 }
 
-fn print_later(out: &mut Vec<u8>, steps: &[Step]) -> Result<(), NoMemory>
+fn print_later(out: &mut Vec<u8>, steps: &[StepText]) -> Result<(), NoMemory>
     ensures { OnOk result (out.new.items ≡ out.old.items ++ spaced (later_words steps.now)) }
 {
     for step in steps {
@@ -88,20 +139,20 @@ fn print_later(out: &mut Vec<u8>, steps: &[Step]) -> Result<(), NoMemory>
     Ok(())
 }
 
-fn print_later_step(out: &mut Vec<u8>, step: &Step) -> Result<(), NoMemory>
+fn print_later_step(out: &mut Vec<u8>, step: &StepText) -> Result<(), NoMemory>
     ensures { OnOk result (out.new.items ≡ out.old.items ++ spaced (codes "|" ∷ step_words step.now)) }
 {
     write_word(out, b"|")?;
     print_step(out, step)
 }
 
-fn print_step(out: &mut Vec<u8>, step: &Step) -> Result<(), NoMemory>
+fn print_step(out: &mut Vec<u8>, step: &StepText) -> Result<(), NoMemory>
     ensures { OnOk result (out.new.items ≡ out.old.items ++ spaced (step_words step.now)) }
 {
     print_decided(out, &step.kind, step.decider)
 }
 
-fn print_decided(out: &mut Vec<u8>, kind: &Kind, decider: Decider) -> Result<(), NoMemory>
+fn print_decided(out: &mut Vec<u8>, kind: &Kind, decider: Option<Decider>) -> Result<(), NoMemory>
     ensures { OnOk result (out.new.items ≡ out.old.items ++ spaced (kind_words kind.now ++ decider_words decider)) }
 {
     write_kind(out, kind)?;
@@ -109,17 +160,83 @@ fn print_decided(out: &mut Vec<u8>, kind: &Kind, decider: Decider) -> Result<(),
     Ok(())
 }
 
-fn print_nodes(out: &mut Vec<u8>, nodes: &[Node]) -> Result<(), NoMemory>
-    ensures { OnOk result (out.new.items ≡ out.old.items ++ lines_text (map node_words nodes.now)) }
+fn print_modules(out: &mut Vec<u8>, modules: &[Module]) -> Result<(), NoMemory>
+    ensures { OnOk result (out.new.items ≡ out.old.items ++ declared_text (flat_map module_lines (map plain_module modules.now))) }
 {
-    for node in nodes {
-        print_node(out, node)?;
+    for of in modules {
+        print_module(out, of)?;
     }
     Ok(())
 }
 
-fn print_node(out: &mut Vec<u8>, node: &Node) -> Result<(), NoMemory>
-    ensures { OnOk result (out.new.items ≡ out.old.items ++ line_text (node_words node.now)) }
+// A module: its line, its ports, its body and its end.
+fn print_module(out: &mut Vec<u8>, of: &Module) -> Result<(), NoMemory>
+    ensures { OnOk result (out.new.items ≡ out.old.items ++ declared_text (module_lines (plain_module of.now))) }
+{
+    print_opening(out, &of.name, of.attrs)?;
+    print_ports(out, &of.ports)?;
+    print_entries(out, &of.body)?;
+    out.extend_from_slice(b"end\n")?;
+    Ok(())
+}
+
+fn print_opening(out: &mut Vec<u8>, name: &Line, attrs: Attrs) -> Result<(), NoMemory>
+    ensures { OnOk result (out.new.items ≡ out.old.items ++ line_text (codes "module" ∷ name.now ∷ attrs_words attrs)) }
+{
+    out.extend_from_slice(b"module")?;
+    write_word(out, name.bytes())?;
+    print_attrs(out, attrs)?;
+    out.push(b'\n')?;
+    Ok(())
+}
+
+fn print_ports(out: &mut Vec<u8>, ports: &[PortDecl]) -> Result<(), NoMemory>
+    ensures { OnOk result (out.new.items ≡ out.old.items ++ declared_text (map port ports.now)) }
+{
+    for port in ports {
+        print_port(out, port)?;
+    }
+    Ok(())
+}
+
+fn direction_word(output: bool) -> &'static [u8]
+    ensures { result.now ≡ direction_word output }
+{
+    if output { b"out" } else { b"in" }
+}
+
+fn print_port(out: &mut Vec<u8>, port: &PortDecl) -> Result<(), NoMemory>
+    ensures { OnOk result (out.new.items ≡ out.old.items ++ line_text (port_words port.now)) }
+{
+    out.extend_from_slice(direction_word(port.output))?;
+    write_word(out, port.name.bytes())?;
+    write_word(out, b"=")?;
+    print_place(out, &port.node, &port.port)?;
+    out.push(b'\n')?;
+    Ok(())
+}
+
+fn print_entries(out: &mut Vec<u8>, entries: &[Entry]) -> Result<(), NoMemory>
+    ensures { OnOk result (out.new.items ≡ out.old.items ++ declared_text (map part entries.now)) }
+{
+    for entry in entries {
+        print_entry(out, entry)?;
+    }
+    Ok(())
+}
+
+fn print_entry(out: &mut Vec<u8>, entry: &Entry) -> Result<(), NoMemory>
+    ensures { OnOk result (out.new.items ≡ out.old.items ++ line_text (entry_words entry.now)) }
+{
+    match entry {
+        Entry::Node(node) => print_node(out, node),
+        Entry::Instance(instance) => print_use(out, instance),
+        Entry::Wire(wire) => print_wire(out, wire),
+    }
+}
+
+fn print_node(out: &mut Vec<u8>, node: &NodeText) -> Result<(), NoMemory>
+    ensures { OnOk result (out.new.items ≡ out.old.items ++ line_text (sort_word (node.now).kind ∷ (node.now).name ∷ (kind_words (node.now).kind ++ decider_words (node.now).decider))) }
 {
     out.extend_from_slice(sort_word(&node.kind))?;
     write_word(out, node.name.bytes())?;
@@ -128,41 +245,55 @@ fn print_node(out: &mut Vec<u8>, node: &Node) -> Result<(), NoMemory>
     Ok(())
 }
 
-fn print_wires(out: &mut Vec<u8>, wires: &[WireDecl]) -> Result<(), NoMemory>
-    ensures { OnOk result (out.new.items ≡ out.old.items ++ lines_text (map wire_words wires.now)) }
+fn print_use(out: &mut Vec<u8>, instance: &UseText) -> Result<(), NoMemory>
+    ensures { OnOk result (out.new.items ≡ out.old.items ++ line_text (codes "use" ∷ (instance.now).name ∷ (instance.now).of ∷ attrs_words (instance.now).attrs)) }
 {
-    for wire in wires {
-        print_wire(out, wire)?;
-    }
+    out.extend_from_slice(b"use")?;
+    write_word(out, instance.name.bytes())?;
+    write_word(out, instance.of.bytes())?;
+    print_attrs(out, instance.attrs)?;
+    out.push(b'\n')?;
     Ok(())
 }
 
-fn print_wire(out: &mut Vec<u8>, wire: &WireDecl) -> Result<(), NoMemory>
-    ensures { OnOk result (out.new.items ≡ out.old.items ++ line_text (wire_words wire.now)) }
+fn print_wire(out: &mut Vec<u8>, wire: &WireText) -> Result<(), NoMemory>
+    ensures { OnOk result (out.new.items ≡ out.old.items ++ line_text (codes "wire" ∷ place_word (wire.now).from (wire.now).output ∷ codes "->" ∷ place_word (wire.now).to (wire.now).input ∷ lane_words (wire.now).lane)) }
 {
     out.extend_from_slice(b"wire")?;
-    print_port(out, &wire.from, wire.output)?;
+    print_place(out, &wire.from, &wire.output)?;
     write_word(out, b"->")?;
-    print_port(out, &wire.to, wire.input)?;
+    print_place(out, &wire.to, &wire.input)?;
     print_lane(out, wire.lane)?;
     out.push(b'\n')?;
     Ok(())
 }
 
-fn print_port(out: &mut Vec<u8>, name: &Line, number: u32) -> Result<(), NoMemory>
-    ensures { OnOk result (out.new.items ≡ out.old.items ++ spaced (port_word name.now number ∷ [])) }
+fn print_place(out: &mut Vec<u8>, name: &Line, mark: &PortMark) -> Result<(), NoMemory>
+    ensures { OnOk result (out.new.items ≡ out.old.items ++ spaced (place_word name.now mark.now ∷ [])) }
 {
     write_word(out, name.bytes())?;
     out.push(b'.')?;
-    let mut buffer = Buffer::new();
-    out.extend_from_slice(buffer.format(number).as_bytes())
+    print_mark(out, mark)
 }
 
-fn print_lane(out: &mut Vec<u8>, lane: Option<u32>) -> Result<(), NoMemory>
+fn print_mark(out: &mut Vec<u8>, mark: &PortMark) -> Result<(), NoMemory>
+    ensures { OnOk result (out.new.items ≡ out.old.items ++ mark_word mark.now) }
+{
+    match mark {
+        PortMark::Num(number) => {
+            let mut buffer = Buffer::new();
+            out.extend_from_slice(buffer.format(*number).as_bytes())
+        }
+        PortMark::Name(name) => out.extend_from_slice(name.bytes()),
+    }
+}
+
+fn print_lane(out: &mut Vec<u8>, lane: LaneMark) -> Result<(), NoMemory>
     ensures { OnOk result (out.new.items ≡ out.old.items ++ spaced (lane_words lane)) }
 {
     match lane {
-        Some(size) => write_word_count(out, b"async", u64::from(size)),
-        None => Ok(()),
+        LaneMark::Fused => Ok(()),
+        LaneMark::Inherited => write_word(out, b"async"),
+        LaneMark::Own(size) => write_word_count(out, b"async", u64::from(size)),
     }
 }

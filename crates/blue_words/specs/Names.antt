@@ -1,6 +1,6 @@
 -- The words of a blueprint that are not fixed: names, file names, and words of any kind.
 use Rattle.std.specs.Prelude.{ℕ, Bool, false, ◌&&◌, ◌||◌, ◌==◌, nat_lt, nat_le, List, [], ◌∷◌, length}
-use Rattle.std.specs.Char.{is_ascii_alphanumeric, is_ascii_digit, is_ascii_graphic, is_ascii_lowercase}
+use Rattle.std.specs.Char.{is_ascii_alphabetic, is_ascii_alphanumeric, is_ascii_digit, is_ascii_graphic, is_ascii_lowercase}
 use Rattle.std.specs.List.{list_all}
 use Rattle.elem_core.specs.Bytes.{point_byte}
 
@@ -25,3 +25,8 @@ is_file_name (b ∷ bs) = is_ascii_alphanumeric b && nat_le (length bs) 63 && li
 -- one byte or more, each from 0x21 to 0x7e
 abbrev pub is_word : List ℕ → Bool
 is_word bs = nat_lt 0 (length bs) && list_all is_ascii_graphic bs
+
+-- the first byte is a letter
+abbrev pub begins_with_letter : List ℕ → Bool
+begins_with_letter [] = false
+begins_with_letter (b ∷ bs) = is_ascii_alphabetic b

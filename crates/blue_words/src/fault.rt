@@ -21,6 +21,15 @@ pub enum BlueKind {
     TooMany,
 }
 
+/// A version of the language, which the first line of a text names.
+#[derive(Clone, Copy)]
+pub enum Version {
+    /// Without modules.
+    First,
+    /// With modules, and with what they and the text set for the lanes and the stages in them.
+    Second,
+}
+
 /// The first fault of a text: what it is, and in which line, from 1; 0 where no line is to blame.
 #[derive(Clone, Copy)]
 pub struct BlueFault {

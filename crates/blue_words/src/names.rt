@@ -2,7 +2,7 @@
 ghost use Rattle.std.specs.Prelude.{◌≡◌};
 ghost use Rattle.std.specs.Char.{is_ascii_graphic};
 ghost use Rattle.std.specs.List.{list_all};
-ghost use Rattle.blue_words.specs.Names.{is_file_byte, is_file_name, is_name, is_name_byte, is_word};
+ghost use Rattle.blue_words.specs.Names.{begins_with_letter, is_file_byte, is_file_name, is_name, is_name_byte, is_word};
 
 const NAME_LIMIT: usize = 32;
 
@@ -67,4 +67,14 @@ fn are_graphic(bytes: &[u8]) -> bool
     ensures { result ≡ list_all is_ascii_graphic bytes.now }
 {
     bytes.iter().all(|b| b.is_ascii_graphic())
+}
+
+/// Whether the first byte is a letter.
+pub fn begins_with_letter(bytes: &[u8]) -> bool
+    ensures { result ≡ begins_with_letter bytes.now }
+{
+    match bytes.first() {
+        Some(first) => first.is_ascii_alphabetic(),
+        None => false,
+    }
 }

@@ -1,7 +1,8 @@
 use Rattle.std.proofs.Common.{◌≡◌, ◌++◌, drop, map}
-use Rattle.blue_lang.specs.Canonical.{lines_text, switch_words}
+use Rattle.blue_lang.specs.Declarations.{switch}
+use Rattle.blue_lang.specs.Canonical.{declared_text}
 use Rattle.blue_lang.proofs.print.print_switches.Given as goal
 
 abbrev pub invariant-loop-switch : goal.invariant-loop-switch
 invariant-loop-switch l =
-    l.out.items ++ lines_text (map switch_words (drop l.switch-index l.switches)) ≡ l.initial.out.items ++ lines_text (map switch_words l.switches)
+    l.out.items ++ declared_text (map switch (drop l.switch-index l.switches)) ≡ l.initial.out.items ++ declared_text (map switch l.switches)

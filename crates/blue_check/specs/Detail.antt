@@ -1,13 +1,14 @@
 -- What a report says of a fault beside its number.
 use Rattle.std.specs.Prelude.{ℕ, Bool, true, false, List, [], ◌∷◌, ◌++◌, codes}
 use Rattle.std.specs.Fmt.{decimal}
+use Rattle.elem_core.specs.Bytes.{space_byte}
 use Rattle.elem_core.specs.Sort.{Sort, num_type, text_type, seq_type, pair_type}
 use Rattle.blue_names.specs.declared.spot.Spot.{Spot}
 use Rattle.blue_names.specs.declared.spot.Spot.TheVariants as at
 use Rattle.blue_names.specs.declared.want.Want.{Want}
 use Rattle.blue_names.specs.declared.want.Want.TheVariants.{Is, AnySeq, AnyPair}
 use Rattle.blue_check.specs.declared.fault.CheckFault.{CheckFault}
-use Rattle.blue_check.specs.declared.fault.CheckFault.TheVariants.{TwoNames, NoSuchName, NoSuchPort, PortTwice, PortOpen, TypeClash, ClosedWalk, TooDeep, NoSuchPlug, PlugTwice, BadSize}
+use Rattle.blue_check.specs.declared.fault.CheckFault.TheVariants.{TwoNames, NoSuchName, NoSuchPort, PortTwice, PortOpen, TypeClash, ClosedWalk, TooDeep, NoSuchPlug, PlugTwice, BadSize, NoSuchModule, PortName, TooLarge}
 
 -- the text of a type: `num`, `text`, `[T]` or `(T,U)`
 abbrev pub type_text : Sort → List ℕ
@@ -37,16 +38,24 @@ abbrev pub side_text : Bool → List ℕ
 side_text true = codes " output "
 side_text false = codes " input "
 
--- what is told of a broken rule beside its number: a name, a wire, a port, the types of a clash or a place
+-- what is at fault
+abbrev pub fault_words : CheckFault → List ℕ
+fault_words (TwoNames l) = l
+fault_words (NoSuchName l) = l
+fault_words (NoSuchPort i) = wire_text i
+fault_words (PortTwice i) = wire_text i
+fault_words (PortOpen l o p) = l ++ side_text o ++ decimal p
+fault_words (TypeClash i t w) = wire_text i ++ codes " " ++ type_text t ++ codes " " ++ want_text w
+fault_words (ClosedWalk i) = wire_text i
+fault_words (TooDeep l) = l
+fault_words (NoSuchPlug l) = l
+fault_words (PlugTwice l) = l
+fault_words (BadSize s) = spot_text s
+fault_words (NoSuchModule l) = l
+fault_words (PortName l p) = l ++ codes " " ++ p
+fault_words TooLarge = []
+
+-- what is told of a broken rule beside its number: a name, a wire, a port, the types of a clash or a place, behind a space; of some nothing
 abbrev pub detail_text : CheckFault → List ℕ
-detail_text (TwoNames l) = l
-detail_text (NoSuchName l) = l
-detail_text (NoSuchPort i) = wire_text i
-detail_text (PortTwice i) = wire_text i
-detail_text (PortOpen l o p) = l ++ side_text o ++ decimal p
-detail_text (TypeClash i t w) = wire_text i ++ codes " " ++ type_text t ++ codes " " ++ want_text w
-detail_text (ClosedWalk i) = wire_text i
-detail_text (TooDeep l) = l
-detail_text (NoSuchPlug l) = l
-detail_text (PlugTwice l) = l
-detail_text (BadSize s) = spot_text s
+detail_text TooLarge = []
+detail_text f = space_byte ∷ fault_words f

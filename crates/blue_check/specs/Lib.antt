@@ -7,6 +7,7 @@ pub mod Components
 pub mod Number
 pub mod Wires
 pub mod Fitness
+pub mod Meaning
 pub mod Judging
 pub mod Checked
 pub mod Ending

@@ -1,9 +1,9 @@
 -- The numbers of faults.
 use Rattle.std.specs.Prelude.{ℕ}
 use Rattle.blue_check.specs.declared.fault.CheckFault.{CheckFault}
-use Rattle.blue_check.specs.declared.fault.CheckFault.TheVariants.{TwoNames, NoSuchName, NoSuchPort, PortTwice, PortOpen, TypeClash, ClosedWalk, TooDeep, NoSuchPlug, PlugTwice, BadSize}
+use Rattle.blue_check.specs.declared.fault.CheckFault.TheVariants.{TwoNames, NoSuchName, NoSuchPort, PortTwice, PortOpen, TypeClash, ClosedWalk, TooDeep, NoSuchPlug, PlugTwice, BadSize, NoSuchModule, PortName, TooLarge}
 
--- the number of a broken rule, 1 to 11, by which the report names it
+-- the number of a broken rule, 1 to 14, by which the report names it
 abbrev pub number_of_fault : CheckFault → ℕ
 number_of_fault (TwoNames l) = 1
 number_of_fault (NoSuchName l) = 2
@@ -16,3 +16,6 @@ number_of_fault (TooDeep l) = 8
 number_of_fault (NoSuchPlug l) = 9
 number_of_fault (PlugTwice l) = 10
 number_of_fault (BadSize s) = 11
+number_of_fault (NoSuchModule l) = 12
+number_of_fault (PortName l p) = 13
+number_of_fault TooLarge = 14

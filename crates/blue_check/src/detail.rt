@@ -1,7 +1,7 @@
 // What a report says of a fault beside its number.
 ghost use Rattle.std.specs.Prelude.{◌≡◌, ◌++◌, ◌∷◌, [], OnOk, codes};
 ghost use Rattle.std.specs.Fmt.{decimal};
-ghost use Rattle.blue_check.specs.Detail.{type_text, want_text, wire_text, spot_text, side_text, detail_text};
+ghost use Rattle.blue_check.specs.Detail.{type_text, want_text, wire_text, spot_text, side_text, fault_words, detail_text};
 
 use crate::fault::CheckFault;
 use blue_names::spot::Spot;
@@ -96,10 +96,32 @@ fn put_clash(bytes: &mut Vec<u8>, wire: u32, left: &ElemType, want: &Want) -> Re
     put_want(bytes, want)
 }
 
+/// Appends two names.
+fn put_names(bytes: &mut Vec<u8>, first: &[u8], second: &[u8]) -> Result<(), NoMemory>
+    ensures { OnOk result (bytes.new.items ≡ bytes.old.items ++ (first.now ++ codes " " ++ second.now)) }
+{
+    bytes.extend_from_slice(first)?;
+    bytes.extend_from_slice(b" ")?;
+    bytes.extend_from_slice(second)
+}
+
 // Choice: docs/DECISIONS.md#detail-comes-first
-/// Appends what a report says of a fault beside its number.
+/// Appends what a report says of a fault behind its number, with a space before it; of some faults that is nothing.
 pub fn put_detail(bytes: &mut Vec<u8>, fault: &CheckFault) -> Result<(), NoMemory>
     ensures { OnOk result (bytes.new.items ≡ bytes.old.items ++ detail_text fault.now) }
+{
+    match fault {
+        CheckFault::TooLarge => Ok(()),
+        _ => {
+            bytes.push(b' ')?;
+            put_words(bytes, fault)
+        }
+    }
+}
+
+/// Appends what is at fault.
+fn put_words(bytes: &mut Vec<u8>, fault: &CheckFault) -> Result<(), NoMemory>
+    ensures { OnOk result (bytes.new.items ≡ bytes.old.items ++ fault_words fault.now) }
 {
     match fault {
         CheckFault::TwoNames(name) => bytes.extend_from_slice(name.bytes()),
@@ -113,5 +135,8 @@ pub fn put_detail(bytes: &mut Vec<u8>, fault: &CheckFault) -> Result<(), NoMemor
         CheckFault::NoSuchPlug(name) => bytes.extend_from_slice(name.bytes()),
         CheckFault::PlugTwice(name) => bytes.extend_from_slice(name.bytes()),
         CheckFault::BadSize(spot) => put_spot(bytes, *spot),
+        CheckFault::NoSuchModule(name) => bytes.extend_from_slice(name.bytes()),
+        CheckFault::PortName(name, port) => put_names(bytes, name.bytes(), port.bytes()),
+        CheckFault::TooLarge => Ok(()),
     }
 }

@@ -7,7 +7,7 @@ use blue_names::want::Want;
 use elem_core::elem_type::ElemType;
 use elem_core::line::Line;
 
-/// The first rule that a blueprint breaks, at its least place.
+/// The first rule that a text or its blueprint breaks, at its least place.
 pub enum CheckFault {
     /// A name is declared twice, or a file is wanted twice.
     TwoNames(Line),
@@ -31,6 +31,13 @@ pub enum CheckFault {
     PlugTwice(Line),
     /// A size is out of its limits.
     BadSize(Spot),
+    /// A `use` names no module that its body may use.
+    NoSuchModule(Line),
+    /// A module has two inputs or two outputs of one name, or a place names a port that is none: of which module, node or instance,
+    /// and the port as it is written.
+    PortName(Line, Line),
+    /// The blueprint would have more nodes or wires than one may have.
+    TooLarge,
 }
 
 // Dropped by a call, wherever it is dropped: else each of its variants is a path of each function that drops it.
@@ -41,19 +48,22 @@ impl Drop for CheckFault {
             | CheckFault::NoSuchName(_)
             | CheckFault::TooDeep(_)
             | CheckFault::NoSuchPlug(_)
-            | CheckFault::PlugTwice(_) => {}
+            | CheckFault::PlugTwice(_)
+            | CheckFault::NoSuchModule(_) => {}
+            CheckFault::PortName(_, _) => {}
             CheckFault::PortOpen(_, _, _) => {}
             CheckFault::TypeClash(_, _, _) => {}
             CheckFault::NoSuchPort(_)
             | CheckFault::PortTwice(_)
             | CheckFault::ClosedWalk(_)
-            | CheckFault::BadSize(_) => {}
+            | CheckFault::BadSize(_)
+            | CheckFault::TooLarge => {}
         }
     }
 }
 
 impl CheckFault {
-    /// The number, from 1 to 11, by which reports name the rule.
+    /// The number, from 1 to 14, by which reports name the rule.
     pub fn number(&self) -> u8
         ensures { result ≡ number_of_fault self.now }
     {
@@ -69,6 +79,9 @@ impl CheckFault {
             CheckFault::NoSuchPlug(_) => 9,
             CheckFault::PlugTwice(_) => 10,
             CheckFault::BadSize(_) => 11,
+            CheckFault::NoSuchModule(_) => 12,
+            CheckFault::PortName(_, _) => 13,
+            CheckFault::TooLarge => 14,
         }
     }
 }

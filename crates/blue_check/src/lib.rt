@@ -1,7 +1,7 @@
 //! The rules of a fit blueprint, in their order: walks over its wires, the check itself, and its islands' labels.
 //!
 //! - `classes`, `closed`, `components`, `depth`, `forest`, `marks`, `ranks`: Walks along wires: the first wire on a closed one, and whether any is closed when directions are ignored.
-//! - `check`, `checked`, `detail`, `fault`, `judge`, `picks`, `rules`: Whether a blueprint can be run: the first rule that it breaks, or the blueprint as one that was checked.
+//! - `check`, `checked`, `detail`, `fault`, `flatten`, `judge`, `picks`, `rules`: Whether a text has a blueprint and it can be run: the first rule that is broken, or the blueprint as one that was checked.
 //! - `fill`, `homes`, `island_labels`, `islands`, `lanes`, `plan`: Which nodes of a blueprint run together: its islands, and the lanes that join them.
 //!
 //! # The islands of a blueprint
@@ -21,6 +21,7 @@ pub mod depth;
 pub mod detail;
 pub mod fault;
 mod fill;
+pub mod flatten;
 pub mod forest;
 pub mod homes;
 pub mod island_labels;

@@ -27,7 +27,7 @@ abbrev pub status_text : Status → ℕ → List ℕ
 status_text status.Done used = codes "done"
 status_text status.Usage used = codes "usage: streams (FILE | --gen N) [--workers N] [--turns N] [--trace FILE]"
 status_text (status.Refused f) used = codes "refused line " ++ decimal f.line ++ codes " fault " ++ decimal (number_of_kind f.kind)
-status_text (status.Unfit f) used = codes "unfit " ++ decimal (number_of_fault f) ++ codes " " ++ detail_text f
+status_text (status.Unfit f) used = codes "unfit " ++ decimal (number_of_fault f) ++ detail_text f
 status_text status.StreamFailed used = codes "failed"
 status_text status.Stalled used = codes "stalled"
 status_text status.OutOfTurns used = codes "out of turns " ++ decimal used

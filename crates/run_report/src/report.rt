@@ -95,10 +95,10 @@ fn put_refused<D: Drain>(console: &mut D, fault: BlueFault) -> Result<(), Failed
 /// Puts the line of a rule that is broken, of which this is the detail.
 fn put_unfit<D: Drain>(console: &mut D, fault: &CheckFault, detail: &[u8]) -> Result<(), Failed>
     requires { detail.now ≡ detail_text fault.now }
-    ensures ok { OnOk result (Puts (D.state console.old) (D.state console.new) (codes "unfit " ++ decimal (number_of_fault fault.now) ++ codes " "
-        ++ detail_text fault.now ++ codes "\n")) }
+    ensures ok { OnOk result (Puts (D.state console.old) (D.state console.new)
+        (codes "unfit " ++ decimal (number_of_fault fault.now) ++ detail_text fault.now ++ codes "\n")) }
     ensures err { OnErr result (PutsPart (D.state console.old) (D.state console.new)
-        (codes "unfit " ++ decimal (number_of_fault fault.now) ++ codes " " ++ detail_text fault.now ++ codes "\n")) }
+        (codes "unfit " ++ decimal (number_of_fault fault.now) ++ detail_text fault.now ++ codes "\n")) }
 {
     let mut number = Buffer::new();
     put_parts(
@@ -106,7 +106,6 @@ fn put_unfit<D: Drain>(console: &mut D, fault: &CheckFault, detail: &[u8]) -> Re
         &[
             b"unfit ",
             number.format(fault.number()).as_bytes(),
-            b" ",
             detail,
             b"\n",
         ],

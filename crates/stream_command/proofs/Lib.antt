@@ -1,4 +1,8 @@
+pub mod SinksTold
 pub mod RunAnswering
+pub mod TextRead
+pub mod ReadBefore
+pub mod CallAnswering
 pub mod Completing
 pub mod Surely
 pub mod Receipts

@@ -4,8 +4,11 @@ use Rattle.std.specs.Prelude.{if◌then◌else◌, ◌||◌, Option, Some, None,
 use Rattle.std.specs.List.{list_any}
 use Rattle.stream_model.specs.declared.blueprint.Blueprint.{Blueprint}
 use Rattle.blue_check.specs.Fitness.{IsFit}
-use Rattle.blue_lang.specs.Plain.{plain}
-use Rattle.blue_lang.specs.Blueprints as language
+use Rattle.blue_modules.specs.Plain.{plain}
+use Rattle.blue_modules.specs.Text.{PlainText}
+use Rattle.blue_modules.specs.Fitness.{IsFlat}
+use Rattle.blue_check.specs.Meaning.{Denotes}
+use Rattle.blue_lang.specs.Texts as language
 use Rattle.run_blueprint.specs.Stands.{SinkStand, is_write_fault, is_unended, is_failed}
 use Rattle.island_runs.specs.declared.ran.Ran.{Ran}
 use Rattle.stream_io.specs.Text.{ReadsFile}
@@ -15,8 +18,8 @@ use Rattle.run_report.specs.declared.outcome.Status.TheVariants as status
 use Rattle.stream_io.specs.State.{FolderState}
 use Rattle.stream_command.specs.AfterRun.{status_after}
 use Rattle.stream_command.specs.Outcome.{taken_files, SaysFit}
-use Rattle.stream_command.proofs.RunAnswering.{says_read}
-use Rattle.stream_command.specs.RunReceipts.{HasReceipt, Receipts, RanIslands, RanText, RanFile}
+use Rattle.stream_command.proofs.TextRead.{denotes_read}
+use Rattle.stream_command.specs.RunReceipts.{HasReceipt, Receipts, RanIslands, RanSaid, RanText, RanFile}
 use Rattle.stream_command.specs.Asked.{Plugged}
 
 -- a status that is another's tells what that tells
@@ -63,18 +66,23 @@ of_fit plugged b c taken ran same fit h = told_on (λ (r : Ran). HasIslands b r.
 pub of_checked : (plugged : Plugged) (b c : Blueprint) (taken : List (List ℕ)) (ran : Option Ran) → c ≡ b → IfSome ran (λ (r : Ran). RanIslands plugged c taken r) → IfSome ran (λ (r : Ran). RanIslands plugged b taken r)
 of_checked plugged b c taken ran same h = subst (λ (x : Blueprint). IfSome ran (λ (r : Ran). RanIslands plugged x taken r)) same h
 
+-- that of what is said
+pub of_said : (plugged : Plugged) (t : PlainText) (b : Blueprint) (taken : List (List ℕ)) (ran : Option Ran) → IsFlat t (plain b) → IfSome ran (λ (r : Ran). RanIslands plugged b taken r) → RanSaid plugged t taken ran
+of_said plugged t b taken ran flat h = told_on (λ (r : Ran). RanIslands plugged b taken r) (λ (r : Ran). (c : Blueprint) × (IsFlat t (plain c) × RanIslands plugged c taken r)) (λ r i. (b, (flat, i))) ran h
+
 -- that of a text
-pub of_text : (plugged : Plugged) (text : List ℕ) (b : Blueprint) (taken : List (List ℕ)) (ran : Option Ran) → language.Says text (plain b) → IfSome ran (λ (r : Ran). RanIslands plugged b taken r) → RanText plugged text taken ran
-of_text plugged text b taken ran says h = told_on (λ (r : Ran). RanIslands plugged b taken r) (λ (r : Ran). (c : Blueprint) × (language.Says text (plain c) × RanIslands plugged c taken r)) (λ r i. (b, (says, i))) ran h
+pub of_text : (plugged : Plugged) (text : List ℕ) (t : PlainText) (taken : List (List ℕ)) (ran : Option Ran) → language.Says text t → RanSaid plugged t taken ran → RanText plugged text taken ran
+of_text plugged text t taken ran says h = told_on (λ (r : Ran). (c : Blueprint) × (IsFlat t (plain c) × RanIslands plugged c taken r)) (λ (r : Ran). (c : Blueprint) × (Denotes (language.Says text) c × RanIslands plugged c taken r))
+    (λ r i. (i.0, (record { text = t; says = says; flat = i.1.0 }, i.1.1))) ran h
 
 -- that of a file that was read
 pub of_file : (plugged : Plugged) (old mid : FolderState) (file text : List ℕ) (trace : Option (List ℕ)) (taken : List (List ℕ)) (ran : Option Ran) → IsTrue old.tells → ReadsFile old mid file text → taken ≡ taken_files file trace → RanText plugged text taken ran → RanFile plugged old file trace ran
 of_file plugged old mid file text trace taken ran tells read same h =
-    told_on (λ (r : Ran). (c : Blueprint) × (language.Says text (plain c) × RanIslands plugged c taken r)) (λ (r : Ran). (c : Blueprint) × (SaysFit plugged old file trace c × HasIslands c r.islands))
+    told_on (λ (r : Ran). (c : Blueprint) × (Denotes (language.Says text) c × RanIslands plugged c taken r)) (λ (r : Ran). (c : Blueprint) × (SaysFit plugged old file trace c × HasIslands c r.islands))
     (λ r i. (
       i.0,
       (
-        record { says = says_read old mid file text i.0 tells read i.1.0; fit = subst (λ (t : List (List ℕ)). IsFit i.0 plugged.heads t) same i.1.1.fit },
+        record { says = denotes_read old mid file text i.0 tells read i.1.0; fit = subst (λ (t : List (List ℕ)). IsFit i.0 plugged.heads t) same i.1.1.fit },
         i.1.1.islands,
       ),
     ))

@@ -16,9 +16,10 @@ use Rattle.stream_model.specs.Outlook.{Outlook, Allows}
 use Rattle.stream_model.specs.View.{outputs_of}
 use Rattle.stream_io.specs.State.{FolderState}
 use Rattle.blue_names.specs.Picks.{picks, needs_picks}
-use Rattle.blue_lang.specs.Plain.{PlainBlueprint, plain}
-use Rattle.blue_lang.specs.Blueprints as language
-use Rattle.blue_lang.proofs.Texts.{one_blueprint}
+use Rattle.blue_modules.specs.Plain.{PlainBlueprint}
+use Rattle.blue_modules.specs.Flatten.{flat}
+use Rattle.blue_lang.specs.Texts as language
+use Rattle.blue_lang.proofs.Texts.{one_text}
 use Rattle.materializer.specs.Files.{output_of, is_sink}
 use Rattle.materializer.specs.Graphs.{graph_of, graph_node}
 use Rattle.interpreter.specs.Picks.{Pick}
@@ -187,8 +188,9 @@ module _ (p : Plugged) (a : Answer) (c : AskedRun) (old new : FolderState) (tell
 -- the same nodes, where both are said by one file
 same_nodes : (folder : FolderState) (file : List ℕ) (b d : Blueprint) → SaysFile folder file b → SaysFile folder file d → b.nodes.items ≡ d.nodes.items
 same_nodes folder file b d x y =
-    let text : x.whole ≡ y.whole = some_one (sym x.there ∙ y.there) in
-    ap (λ (q : PlainBlueprint). q.nodes) (one_blueprint y.whole (plain b) (plain d) (subst (λ (t : List ℕ). language.Says t (plain b)) text x.says) y.says)
+    let whole : x.says.whole ≡ y.says.whole = some_one (sym x.says.there ∙ y.says.there) in
+    let text : x.text ≡ y.text = one_text y.says.whole x.text y.text (subst (λ (t : List ℕ). language.Says t x.text) whole x.says.says) y.says.says in
+    ap (λ (q : PlainBlueprint). q.nodes) (x.flat.is ∙ (ap flat text ∙ sym y.flat.is))
 
 abbrev TellsAs : Status → Plugged → Answer → AskedRun → FolderState → FolderState → Type 0
 TellsAs s p a c old new = EndedBefore p s a c.file c.trace old new ⊎ ((b : Blueprint) × (SaysFit p old c.file c.trace b × EndedRun p s a b c.trace c.turns old new))

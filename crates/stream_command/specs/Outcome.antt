@@ -10,9 +10,10 @@ use Rattle.stream_io.specs.Counts.{Rose, Grew}
 use Rattle.stream_io.specs.State.{FolderState, SameFiles, LacksFile}
 use Rattle.stream_model.specs.declared.blueprint.Blueprint.{Blueprint}
 use Rattle.stream_model.specs.declared.blueprint.Node.{Node}
-use Rattle.blue_lang.specs.Blueprints as language
-use Rattle.blue_lang.specs.Plain.{plain}
-use Rattle.blue_check.specs.Fitness.{IsFit, IsFirstFault}
+use Rattle.blue_lang.specs.Texts as language
+use Rattle.blue_modules.specs.Text.{PlainText}
+use Rattle.blue_check.specs.Fitness.{IsFit}
+use Rattle.blue_check.specs.Meaning.{Denotes, BreaksRule}
 use Rattle.blue_check.specs.Wires.{blueprint_wires}
 use Rattle.blue_check.specs.Forest.{wiring}
 use Rattle.materializer.specs.Files.{output_of, inputs_of_nodes, outputs_of_nodes}
@@ -32,11 +33,15 @@ use Rattle.run_report.specs.declared.outcome.Status.TheVariants as status
 use Rattle.stream_command.specs.Asked.{AskedRun, Plugged}
 use Rattle.stream_command.specs.AfterRun.{told_ends, all_ended, some_failed, some_unended, some_fault, no_event_left}
 
--- the command's file says this blueprint
-pub record SaysFile (folder : FolderState) (file : List ℕ) (b : Blueprint) : Type 0 where
+-- the command's file says this
+pub record SaysText (folder : FolderState) (file : List ℕ) (t : PlainText) : Type 0 where
   pub whole : List ℕ
   pub there : folder.file file ≡ Some whole
-  pub says : language.Says whole (plain b)
+  pub says : language.Says whole t
+
+-- and this is its blueprint: what is left when each instance of a module is replaced by the module's body
+abbrev pub SaysFile : FolderState → List ℕ → Blueprint → Type 0
+SaysFile folder file b = Denotes (SaysText folder file) b
 
 -- the files that no source and no sink may name: the command's own, and that of the trace, where one is wanted
 -- Choice: docs/DECISIONS.md#own-file-is-taken
@@ -100,8 +105,8 @@ EndedBefore p (status.Missing n) a file trace old new = RanNothing old new a × 
 EndedBefore p status.ReadFault a file trace old new = RanNothing old new a × Rose (old.rfaults file) (new.rfaults file)
 EndedBefore p (status.Refused f) a file trace old new = RanNothing old new a × ((whole : List ℕ)
     × ((old.file file ≡ Some whole) × (language.text_fault whole ≡ Some f)))
-EndedBefore p (status.Unfit f) a file trace old new = RanNothing old new a × ((b : Blueprint)
-    × (SaysFile old file b × IsFirstFault b p.heads (taken_files file trace) f))
+EndedBefore p (status.Unfit f) a file trace old new = RanNothing old new a × ((t : PlainText)
+    × (SaysText old file t × BreaksRule t p.heads (taken_files file trace) f))
 EndedBefore p status.NoMemory a file trace old new = RanNothing old new a
 EndedBefore p _ a file trace old new = ⊥
 

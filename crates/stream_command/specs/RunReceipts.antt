@@ -2,8 +2,11 @@
 use Rattle.std.specs.Prelude.{◌≡◌, ℕ, true, false, List, Option, Some, None, IfSome}
 use Rattle.stream_model.specs.declared.blueprint.Blueprint.{Blueprint}
 use Rattle.blue_check.specs.Fitness.{IsFit}
-use Rattle.blue_lang.specs.Blueprints as language
-use Rattle.blue_lang.specs.Plain.{plain}
+use Rattle.blue_modules.specs.Plain.{plain}
+use Rattle.blue_modules.specs.Text.{PlainText}
+use Rattle.blue_lang.specs.Texts as language
+use Rattle.blue_modules.specs.Fitness.{IsFlat}
+use Rattle.blue_check.specs.Meaning.{Denotes}
 use Rattle.island_runs.specs.declared.ran.Ran.{Ran}
 use Rattle.run_blueprint.specs.Receipt.{HasIslands}
 use Rattle.run_report.specs.declared.outcome.Status.{Status}
@@ -34,10 +37,14 @@ pub record RanIslands (p : Plugged) (b : Blueprint) (taken : List (List ℕ)) (r
   pub fit : IsFit b p.heads taken
   pub islands : HasIslands b r.islands
 
--- those of the blueprint that this text says
-abbrev pub RanText : Plugged → List ℕ → List (List ℕ) → Option Ran → Type 0
-RanText p text taken ran = IfSome ran (λ r. (b : Blueprint) × (language.Says text (plain b) × RanIslands p b taken r))
+-- those of the blueprint of what is said
+abbrev pub RanSaid : Plugged → PlainText → List (List ℕ) → Option Ran → Type 0
+RanSaid p t taken ran = IfSome ran (λ r. (b : Blueprint) × (IsFlat t (plain b) × RanIslands p b taken r))
 
--- those of the blueprint that this file says
+-- those of the blueprint of what this text says
+abbrev pub RanText : Plugged → List ℕ → List (List ℕ) → Option Ran → Type 0
+RanText p text taken ran = IfSome ran (λ r. (b : Blueprint) × (Denotes (language.Says text) b × RanIslands p b taken r))
+
+-- those of the blueprint of what this file says
 abbrev pub RanFile : Plugged → FolderState → List ℕ → Option (List ℕ) → Option Ran → Type 0
 RanFile p folder file trace ran = IfSome ran (λ r. (b : Blueprint) × (SaysFit p folder file trace b × HasIslands b r.islands))

@@ -1,5 +1,10 @@
 // The answer of a call, from the blueprint's file to the status and what is told of a run.
-ghost use Rattle.std.specs.Prelude.{ℕ, List, ◌≡◌, ◌<◌, ◌≤◌, ◌||◌, [], ◌⊎◌, Option, map, length, IfOk, IfSome, IsTrue, Some, None, vec_len, vec_capacity};
+ghost use Rattle.std.specs.Prelude.{ℕ, List, ◌≡◌, ◌<◌, ◌≤◌, ◌||◌, [], ◌⊎◌, Option, map, length, IfOk, IfSome, IsTrue, Some, None, Err, vec_len, vec_capacity};
+ghost use Rattle.blue_modules.specs.Plain.{plain};
+ghost use Rattle.blue_modules.specs.Text.{plain_text};
+ghost use Rattle.blue_modules.specs.Fitness.{IsFlat};
+ghost use Rattle.blue_check.specs.declared.fault.CheckFault.{CheckFault};
+ghost use Rattle.blue_check.specs.Meaning.{modules_fault};
 ghost use Rattle.blue_check.specs.Checked.{checked_blueprint};
 ghost use Rattle.blue_check.specs.Fitness.{IsFit};
 ghost use Rattle.run_blueprint.specs.Stands.{is_unended, is_write_fault, is_failed};
@@ -15,8 +20,8 @@ ghost use Rattle.stream_io.specs.Counts.{GrewAtMost};
 ghost use Rattle.stream_command.specs.Outcome.{taken_files, Blank, EndedRun, Told, RunCauses, Causes, SinksOf, QuietButAll, QuietAmong};
 ghost use Rattle.stream_io.specs.Text.{text_limit};
 ghost use Rattle.run_blueprint.specs.Receipt.{HasIslands};
-ghost use Rattle.stream_command.specs.RunReceipts.{Receipts, RanIslands, RanText, RanFile};
-ghost use Rattle.stream_command.specs.Texts.{EndedParsed, EndedText, CausesParsed, CausesText};
+ghost use Rattle.stream_command.specs.RunReceipts.{Receipts, RanIslands, RanSaid, RanText, RanFile};
+ghost use Rattle.stream_command.specs.Texts.{EndedParsed, EndedSaid, EndedText, CausesParsed, CausesSaid, CausesText};
 ghost use Rattle.materializer.specs.HandedPlugs.{GivesAsListed, HasPlugs};
 ghost use Rattle.stream_command.specs.Asked.{plugged_by};
 
@@ -24,7 +29,9 @@ use blue_check::check::{CheckEnd, check};
 use blue_check::checked::Checked;
 use blue_check::detail::put_detail;
 use blue_check::fault::CheckFault;
+use blue_check::flatten::flatten;
 use blue_lang::parse::{ParseEnd, parse};
+use blue_modules::text::BlueText;
 use elem_core::line::Line;
 use elem_core::why::NoMemory;
 use interpreter::island::SinkStand;
@@ -332,7 +339,52 @@ fn run_parsed<R: Threads + Wait + Sync, F: Folder, L: Logic + Send, B: PlugBook 
     }
 }
 
-/// Runs the blueprint that a text says, where these files are taken.
+/// The blueprint of what a text says, which is let go, so that it takes no memory in the run.
+fn blueprint_of(alloc: Global, text: BlueText) -> Result<Blueprint, CheckEnd>
+    ensures flat { IfOk result (λ b. IsFlat (plain_text text) (plain b)) }
+    ensures fault { (f : CheckFault) → result ≡ Err (CheckEnd.Fault f) → modules_fault (plain_text text) ≡ Some f }
+{
+    flatten(alloc, &text)
+}
+
+/// Runs the blueprint of what a text says, where these files are taken.
+fn run_said<R: Threads + Wait + Sync, F: Folder, L: Logic + Send, B: PlugBook + Send>(
+    rt: &R,
+    alloc: Global,
+    folder: &mut F,
+    text: BlueText,
+    taken: &[Line],
+    trace: Option<Line>,
+    workers: u32,
+    turns: u32,
+    plugs: Vec<Plug<L>>,
+) -> CallEnd
+    requires listed { All (GivesAsListed L.gives B.lists) plugs.items }
+    requires taken { (t : List ℕ) → trace ≡ Some t → Contains taken.now t }
+    requires workers { (0 < workers) × (workers ≤ 64) }
+    requires turns { turns ≤ MOST_COUNT }
+    ensures told { IsTrue (F.state folder.old).tells → EndedSaid (plugged_by B.lists plugs.items) result.status
+        (of_outcome result) (plain_text text) taken.now trace turns (F.state folder.old) (F.state folder.new) }
+    ensures tells { IsTrue (F.state folder.new).tells → IsTrue (F.state folder.old).tells }
+    ensures causes { CausesSaid (plugged_by B.lists plugs.items) result.status (of_outcome result) (plain_text text) taken.now trace turns (F.state folder.old)
+        (F.state folder.new) }
+    ensures sinks { SinksOf result.status (of_outcome result) trace }
+    ensures detail { result.detail.items ≡ detail_of result.status }
+    ensures reads { QuietAmong taken.now (F.state folder.old).read (F.state folder.new).read }
+    ensures ran { Receipts result.status workers result.used result.ran }
+    ensures islands { RanSaid (plugged_by B.lists plugs.items) (plain_text text) taken.now result.ran }
+    ensures handles { F.handles folder.new ≡ F.handles folder.old }
+{
+    match blueprint_of(alloc, text) {
+        Ok(b) => run_parsed::<R, F, L, B>(
+            rt, alloc, folder, b, taken, trace, workers, turns, plugs,
+        ),
+        Err(CheckEnd::Fault(fault)) => unfit(alloc, fault),
+        Err(CheckEnd::NoMemory) => without_run(alloc, Status::NoMemory),
+    }
+}
+
+/// Runs the blueprint of a text, where these files are taken.
 fn run_text<R: Threads + Wait + Sync, F: Folder, L: Logic + Send, B: PlugBook + Send>(
     rt: &R,
     alloc: Global,
@@ -361,8 +413,8 @@ fn run_text<R: Threads + Wait + Sync, F: Folder, L: Logic + Send, B: PlugBook + 
     ensures handles { F.handles folder.new ≡ F.handles folder.old }
 {
     match parse(alloc, text) {
-        Ok(b) => run_parsed::<R, F, L, B>(
-            rt, alloc, folder, b, taken, trace, workers, turns, plugs,
+        Ok(said) => run_said::<R, F, L, B>(
+            rt, alloc, folder, said, taken, trace, workers, turns, plugs,
         ),
         Err(ParseEnd::Fault(fault)) => without_run(alloc, Status::Refused(fault)),
         Err(ParseEnd::NoMemory) => without_run(alloc, Status::NoMemory),

@@ -7,7 +7,7 @@ use Rattle.materializer.specs.HandedPlugs.{HasPlugs}
 use Rattle.stream_command.specs.AfterRun.{of_outcome}
 use Rattle.stream_command.specs.Asked.{plugged_by}
 use Rattle.stream_command.specs.Outcome.{EndedRun}
-use Rattle.stream_command.proofs.RunAnswering.{reads_checked}
+use Rattle.stream_command.proofs.CallAnswering.{reads_checked}
 use Rattle.stream_command.proofs.Plugs.{has_plugs}
 use Rattle.stream_command.proofs.answer.run_checked.Goals as goal
 

@@ -7,7 +7,7 @@ use Rattle.stream_command.specs.Outcome.{taken_files}
 use Rattle.stream_command.specs.Texts.{EndedText, CausesText}
 use Rattle.stream_io.proofs.Quiets.{tells_before, tells_behind}
 use Rattle.run_report.specs.declared.outcome.Status.TheVariants as status
-use Rattle.stream_command.proofs.RunAnswering.{told_text, causes_text, causes_before, unread_but, reads_text, sinks_text, among_of}
+use Rattle.stream_command.proofs.CallAnswering.{told_text, causes_text, causes_before, unread_but, reads_text, sinks_text, among_of}
 use Rattle.stream_command.proofs.Receipts.{of_file}
 use Rattle.stream_command.specs.RunReceipts.{RanText}
 use Rattle.stream_command.proofs.answer.run_file.Goals as goal

@@ -3,7 +3,8 @@ use Rattle.std.proofs.Common.{◌≡◌, ◌∙◌, inl, inr, ap, sym, subst, Er
 use Rattle.stream_command.specs.AfterRun.{AfterRun, of_outcome}
 use Rattle.stream_command.specs.Asked.{plugged_by}
 use Rattle.stream_io.proofs.Quiets.{tells_before}
-use Rattle.stream_command.proofs.RunAnswering.{as_many_stands, run_told, run_causes, run_sinks, missing_input, missing_output, missing_causes, wanted, wanted_tells, wanted_causes, wanted_draws}
+use Rattle.stream_command.proofs.SinksTold.{as_many_stands}
+use Rattle.stream_command.proofs.RunAnswering.{run_told, run_causes, run_sinks, missing_input, missing_output, missing_causes, wanted, wanted_tells, wanted_causes, wanted_draws}
 use Rattle.stream_command.proofs.Receipts.{after_run}
 use Rattle.stream_command.specs.RunReceipts.{Receipts}
 use Rattle.stream_command.proofs.answer.run_fit.Goals as goal

@@ -5,7 +5,7 @@ use Rattle.blue_check.specs.Ending.{IsCheckEnd}
 use Rattle.blue_check.specs.Fitness.{IsFit, IsFirstFault}
 use Rattle.stream_command.specs.Asked.{plugged_by}
 use Rattle.stream_command.specs.AfterRun.{of_outcome}
-use Rattle.stream_command.proofs.RunAnswering.{apart_of, causes_parsed, reads_parsed, unfit_told}
+use Rattle.stream_command.proofs.CallAnswering.{apart_of, causes_parsed, reads_parsed, unfit_told}
 use Rattle.stream_command.proofs.answer.run_parsed.Goals as goal
 
 pub returns-in-Ok-check-clause-causes : goal.returns-in-Ok-check-clause-causes

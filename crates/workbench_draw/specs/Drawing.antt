@@ -18,7 +18,7 @@ drawing_head =
 -- the lines of a drawing in its braces
 abbrev pub drawing_text : Drawing → List ℕ
 drawing_text d =
-    drawing_head ++ lines_text d.islands.items ++ lines_text d.nodes.items ++ lines_text d.wires.items ++ lines_text d.others.items
+    drawing_head ++ lines_text d.areas.items ++ lines_text d.nodes.items ++ lines_text d.wires.items ++ lines_text d.others.items
     ++ codes "}\n"
 
 -- the text is a drawing with a line for each node and a line for each wire

@@ -4,6 +4,7 @@ ghost use Rattle.std.specs.List.{flat_map};
 ghost use Rattle.blue_check.specs.Checked.{checked_blueprint};
 ghost use Rattle.workbench_draw.specs.Drawing.{IsDrawingOf, drawing_head, drawing_text};
 
+use crate::frames::frame_lines;
 use crate::lines::{Blamed, island_lines, node_lines, other_lines, wire_lines};
 use crate::place::place_of;
 use crate::types::types_of;
@@ -15,13 +16,13 @@ use elem_core::elem_type::ElemType;
 use elem_core::line::Line;
 use elem_core::why::NoMemory;
 use std::alloc::Global;
-use stream_model::blueprint::Blueprint;
+use stream_model::blueprint::{Blueprint, Node};
 
 // Choice: docs/DECISIONS.md#drawings-are-lines
-/// The lines of a drawing.
+/// The lines of a drawing: `areas` has those of islands, or of instances.
 #[derive(Drop)]
 struct Drawing {
-    islands: Vec<Vec<u8>>,
+    areas: Vec<Vec<u8>>,
     nodes: Vec<Vec<u8>>,
     wires: Vec<Vec<u8>>,
     others: Vec<Vec<u8>>,
@@ -52,7 +53,7 @@ fn text_of(alloc: Global, drawing: &Drawing) -> Result<Vec<u8>, NoMemory>
 {
     let mut out = Vec::new(alloc);
     put_head(&mut out)?;
-    put_lines(&mut out, &drawing.islands)?;
+    put_lines(&mut out, &drawing.areas)?;
     put_lines(&mut out, &drawing.nodes)?;
     put_lines(&mut out, &drawing.wires)?;
     put_lines(&mut out, &drawing.others)?;
@@ -69,6 +70,21 @@ fn drawn(alloc: Global, b: &Blueprint, drawing: &Drawing) -> Result<Vec<u8>, NoM
     text_of(alloc, drawing)
 }
 
+/// The lines of the areas of a drawing: of islands where there are several, and of instances where there is one.
+fn area_lines(
+    alloc: Global,
+    nodes: &[Node],
+    islands: &[IslandPlan],
+) -> Result<Vec<Vec<u8>>, NoMemory> {
+    if islands.len() > 1 {
+        island_lines(alloc, nodes, islands)
+    } else if islands.len() == 1 {
+        frame_lines(alloc, nodes)
+    } else {
+        Ok(Vec::new(alloc))
+    }
+}
+
 /// The text of a drawing with an area round each island where there are several, and the types on wires as far as they are known.
 fn draw_all(
     alloc: Global,
@@ -79,9 +95,8 @@ fn draw_all(
 ) -> Result<Vec<u8>, NoMemory>
     ensures { IfOk result (λ text. IsDrawingOf b.now text.items) }
 {
-    let several: &[IslandPlan] = if islands.len() > 1 { islands } else { &[] };
     let drawing = Drawing {
-        islands: island_lines(alloc, &b.nodes, several)?,
+        areas: area_lines(alloc, &b.nodes, islands)?,
         nodes: node_lines(alloc, b, blamed)?,
         wires: wire_lines(alloc, b, types, blamed)?,
         others: other_lines(alloc, &b.nodes, blamed)?,
@@ -91,7 +106,7 @@ fn draw_all(
 
 /// The graph of a checked blueprint in the DOT language: a line for each node with its kind and the chain that it runs, files as notes,
 /// and one for each wire with its type and the numbers of its ports, a lane dashed and with its size; a dotted line from each trip to
-/// the valves of its switch; and where there are several islands an area round each.
+/// the valves of its switch; and where there are several islands an area round each, else a frame round each instance of a module.
 pub fn draw(alloc: Global, c: &Checked) -> Result<Vec<u8>, NoMemory>
     ensures { IfOk result (λ text. IsDrawingOf (checked_blueprint c.now) text.items) }
 {

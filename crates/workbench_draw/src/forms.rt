@@ -9,6 +9,9 @@ use blue_words::words::is_word;
 /// The form of a whole line.
 pub(crate) const LINE: &[u8] = b"LINE";
 
+/// The same in a text of version 2.
+pub(crate) const SECOND_LINE: &[u8] = b"LINE2";
+
 /// The steps that a chain may have, which are stages too.
 const STEPS: &[u8] =
     b"map F?decider, filter P?decider, filter_not P?decider, take_while P?decider, drop_while P?decider, take N, drop N, limit N, grouped N^, map_concat X?decider, fold O?decider, scan O?decider, reduce R?decider";
@@ -31,6 +34,12 @@ fn forms_of_lines(symbol: &[u8]) -> Option<&'static [u8]> {
         Some(
             b"switch NAME, chain NAME STEP?more, source NAME SOURCE, stage NAME STAGE, sink NAME SINK, wire NAME.N -> NAME.N?lane",
         )
+    } else if is_word(symbol, SECOND_LINE) {
+        Some(
+            b"default ATTRS, switch NAME, chain NAME STEP?more, module NAME?attrs, source NAME SOURCE, stage NAME STAGE, sink NAME SINK, use NAME NAME?attrs, wire PLACE -> PLACE?lane, in NAME = PLACE, out NAME = PLACE, end",
+        )
+    } else if is_word(symbol, b"ATTRS") || is_word(symbol, b"?attrs") {
+        Some(b"async N^?decider, decider DECIDER")
     } else if is_word(symbol, b"SOURCE") {
         Some(b"lines FILE, range K K, empty BASE, failed BASE")
     } else if is_word(symbol, b"SINK") {
@@ -146,6 +155,14 @@ fn is_port(word: &[u8]) -> bool {
     }
 }
 
+/// Whether a word is a place of version 2: a name, a point, and a number or a name.
+fn is_marked(word: &[u8]) -> bool {
+    match cut_at(word, b'.') {
+        Some((name, mark)) => is_name(name) && (is_name(mark) || size_place(mark).is_ok()),
+        None => false,
+    }
+}
+
 /// Whether a symbol is a place: a word that is not fixed.
 fn is_place(symbol: &[u8]) -> bool {
     match symbol.first() {
@@ -168,6 +185,8 @@ fn is_value_of(symbol: &[u8], word: &[u8]) -> bool {
         size_place(word).is_ok()
     } else if is_word(symbol, b"NAME.N") {
         is_port(word)
+    } else if is_word(symbol, b"PLACE") {
+        is_marked(word)
     } else {
         true
     }
@@ -181,7 +200,7 @@ pub(crate) fn fits(symbol: &[u8], word: &[u8], exact: bool) -> bool {
     } else if exact {
         is_value_of(symbol, word)
     } else {
-        !is_word(symbol, b"NAME.N") || cut_at(word, b'.').is_some()
+        !(is_word(symbol, b"NAME.N") || is_word(symbol, b"PLACE")) || cut_at(word, b'.').is_some()
     }
 }
 

@@ -1,15 +1,18 @@
 // Whether a text says a blueprint that can be run.
 ghost use Rattle.std.specs.Prelude.{◌≡◌, ◌∷◌, [], IfOk, IfErr};
 ghost use Rattle.blue_check.specs.Checked.{checked_blueprint};
-ghost use Rattle.blue_lang.specs.Plain.{plain};
-ghost use Rattle.blue_lang.specs.Blueprints.{Says};
+ghost use Rattle.blue_modules.specs.Text.{plain_text};
+ghost use Rattle.blue_check.specs.Meaning.{Denotes};
+ghost use Rattle.blue_lang.specs.Texts.{Says};
 ghost use Rattle.stream_model.specs.Heads.{shipped_heads};
 ghost use Rattle.workbench_draw.specs.Judging.{IsFitText, IsUnready};
 
 use blue_check::check::{CheckEnd, check};
 use blue_check::checked::Checked;
 use blue_check::fault::CheckFault;
+use blue_check::flatten::flatten;
 use blue_lang::parse::{ParseEnd, parse};
+use blue_modules::text::BlueText;
 use blue_words::fault::BlueFault;
 use elem_core::line::Line;
 use elem_core::why::NoMemory;
@@ -23,7 +26,7 @@ use stream_model::heads::shipped_heads;
 pub enum Unready {
     /// The text has a fault; it is the first.
     Refused(BlueFault),
-    /// The blueprint breaks a rule; it is the first, at its least place.
+    /// The text or its blueprint breaks a rule; it is the first, at its least place.
     Unfit(CheckFault),
     /// Memory was refused.
     NoMemory,
@@ -38,7 +41,7 @@ fn taken_of(alloc: Global, file: &Line) -> Result<Vec<Line>, NoMemory>
     Ok(taken)
 }
 
-/// Checks the blueprint that a text says.
+/// Checks the blueprint of a text.
 fn check_said(
     alloc: Global,
     text: &[u8],
@@ -47,7 +50,7 @@ fn check_said(
     file: &Line,
     b: Blueprint,
 ) -> Result<Checked, Unready>
-    requires says { Says text.now (plain b) }
+    requires says { Denotes (Says text.now) b }
     requires heads { heads.now ≡ shipped_heads }
     requires taken { taken.now ≡ file.now ∷ [] }
     ensures fit { IfOk result (λ c. IsFitText text.now file.now (checked_blueprint c)) }
@@ -60,8 +63,35 @@ fn check_said(
     }
 }
 
+/// The blueprint of what a text says.
+#[tactic(auto, using(crate::proofs::Judged::denotes))]
+fn flat_said(alloc: Global, text: &[u8], file: &Line, said: &BlueText) -> Result<Blueprint, Unready>
+    requires { Says text.now (plain_text said.now) }
+    ensures denotes { IfOk result (λ b. Denotes (Says text.now) b) }
+    ensures unready { IfErr result (IsUnready text.now file.now) }
+{
+    match flatten(alloc, said) {
+        Ok(b) => Ok(b),
+        Err(CheckEnd::Fault(fault)) => Err(Unready::Unfit(fault)),
+        Err(CheckEnd::NoMemory) => Err(Unready::NoMemory),
+    }
+}
+
+/// The blueprint of the text of that name's file, or why there is none: the first fault of the text, or the first rule on modules
+/// that it breaks. Want of memory may come in the place of each.
+pub fn blueprint_of(alloc: Global, text: &[u8], file: &Line) -> Result<Blueprint, Unready>
+    ensures denotes { IfOk result (λ b. Denotes (Says text.now) b) }
+    ensures unready { IfErr result (IsUnready text.now file.now) }
+{
+    match parse(alloc, text) {
+        Ok(said) => flat_said(alloc, text, file, &said),
+        Err(ParseEnd::Fault(fault)) => Err(Unready::Refused(fault)),
+        Err(ParseEnd::NoMemory) => Err(Unready::NoMemory),
+    }
+}
+
 /// The checked blueprint of the text of that name's file, with the plugs of `streams`, or why there is none: the first fault of the
-/// text, or the first rule that the blueprint breaks. Want of memory may come in the place of each.
+/// text, or the first rule that it or its blueprint breaks. Want of memory may come in the place of each.
 pub fn judge_text(alloc: Global, text: &[u8], file: &Line) -> Result<Checked, Unready>
     ensures fit { IfOk result (λ c. IsFitText text.now file.now (checked_blueprint c)) }
     ensures unready { IfErr result (IsUnready text.now file.now) }
@@ -72,9 +102,8 @@ pub fn judge_text(alloc: Global, text: &[u8], file: &Line) -> Result<Checked, Un
     let Ok(heads) = shipped_heads(alloc) else {
         return Err(Unready::NoMemory);
     };
-    match parse(alloc, text) {
+    match blueprint_of(alloc, text, file) {
         Ok(b) => check_said(alloc, text, &heads, &taken, file, b),
-        Err(ParseEnd::Fault(fault)) => Err(Unready::Refused(fault)),
-        Err(ParseEnd::NoMemory) => Err(Unready::NoMemory),
+        Err(why) => Err(why),
     }
 }

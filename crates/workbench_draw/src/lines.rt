@@ -41,7 +41,7 @@ fn put_escaped(out: &mut Vec<u8>, bytes: &[u8]) -> Result<(), NoMemory> {
 }
 
 /// Appends a name in quotes.
-fn put_quoted(out: &mut Vec<u8>, name: &[u8]) -> Result<(), NoMemory> {
+pub(crate) fn put_quoted(out: &mut Vec<u8>, name: &[u8]) -> Result<(), NoMemory> {
     out.push(b'"')?;
     put_escaped(out, name)?;
     out.push(b'"')?;
@@ -66,7 +66,12 @@ const LABEL_WIDTH: usize = 40;
 /// Appends the words of a kind and its decider, each behind a space.
 fn put_words(out: &mut Vec<u8>, kind: &Kind, decider: Decider) -> Result<(), NoMemory> {
     write_kind(out, kind)?;
-    write_decider(out, decider)
+    let told = match decider {
+        Decider::Stop => None,
+        Decider::Resume => Some(Decider::Resume),
+        Decider::Restart => Some(Decider::Restart),
+    };
+    write_decider(out, told)
 }
 
 /// The words of a kind and its decider.
@@ -436,7 +441,7 @@ fn add_blamed(
     let sort: &[u8] = match b.place.sort {
         Sort::Switch => b"switch ",
         Sort::Chain => b"chain ",
-        Sort::Node | Sort::Wire => return Ok(()),
+        _ => return Ok(()),
     };
     let mut out = Vec::new(alloc);
     out.extend_from_slice(b"  \"at fault\" [label=\"")?;

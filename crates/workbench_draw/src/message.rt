@@ -5,18 +5,25 @@ ghost use Rattle.elem_core.specs.Prefix.{IsPrefix};
 ghost use Rattle.workbench_draw.specs.Message.{report_line, BeginsWithReport};
 
 use crate::judge::Unready;
-use crate::place::place_of;
+use crate::modules::broken_at;
+use crate::origins::{TextPlace, origin};
+use crate::place::{FaultPlace, Sort, place_of};
 use crate::sayings::{Saying, of_rule, of_text};
-use crate::source::{SourceLine, line_numbered, line_of};
+use crate::source::{SourceLine, is_second, line_numbered, line_of};
 use crate::walk::put_misfit;
+use blue_check::check::CheckEnd;
 use blue_check::detail::put_detail;
 use blue_check::fault::CheckFault;
+use blue_check::flatten::flatten;
 use blue_lang::parse::parse;
+use blue_modules::counts::{Counted, book_of};
+use blue_modules::text::BlueText;
 use blue_words::fault::{BlueFault, BlueKind, kind_number};
 use elem_core::line::Line;
 use elem_core::why::NoMemory;
 use itoa::Buffer;
 use std::alloc::Global;
+use stream_model::blueprint::Blueprint;
 
 /// How many bytes of a line are shown.
 const SHOWN: usize = 200;
@@ -73,7 +80,6 @@ fn unfit_line(alloc: Global, fault: &CheckFault) -> Result<Vec<u8>, NoMemory>
     let mut out = Vec::new(alloc);
     out.extend_from_slice(b"unfit ")?;
     put_number(&mut out, u64::from(fault.number()))?;
-    out.extend_from_slice(b" ")?;
     put_detail(&mut out, fault)?;
     out.extend_from_slice(b"\n")?;
     Ok(out)
@@ -89,6 +95,11 @@ pub fn put_saying(
         put_source_line(out, &line)?;
         out.push(b'\n')?;
     }
+    put_words(out, saying)
+}
+
+/// Appends what a fault means and what to do.
+fn put_words(out: &mut Vec<u8>, saying: Saying) -> Result<(), NoMemory> {
     out.extend_from_slice(saying.means)?;
     out.push(b'\n')?;
     out.extend_from_slice(saying.advice)?;
@@ -104,30 +115,107 @@ fn words_of_rule(
     fault: &CheckFault,
 ) -> Result<Vec<u8>, NoMemory> {
     let mut out = Vec::new(alloc);
-    let line = match parse(alloc, text) {
-        Ok(b) => match place_of(&b, file, fault) {
-            Some(place) => line_of(text, place),
-            None => None,
-        },
-        Err(_) => None,
-    };
-    put_saying(&mut out, line, of_rule(fault))?;
+    if let Ok(said) = parse(alloc, text) {
+        match flatten(alloc, &said) {
+            Ok(b) => {
+                if let Some(place) = place_of(&b, file, fault) {
+                    put_declared(alloc, &mut out, text, &said, &b, place)?;
+                }
+            }
+            Err(CheckEnd::Fault(_same)) => {
+                put_line_of(&mut out, text, broken_at(&said, fault))?;
+            }
+            Err(CheckEnd::NoMemory) => {}
+        }
+    }
+    put_words(&mut out, of_rule(fault))?;
     Ok(out)
 }
 
-/// Appends at which word of its line a fault is, where it is at a word, and what may stand there.
+/// Appends the line of a declaration, where it has one.
+fn put_line_of(out: &mut Vec<u8>, text: &[u8], place: Option<TextPlace>) -> Result<(), NoMemory> {
+    let Some(place) = place else {
+        return Ok(());
+    };
+    let Some(line) = line_of(text, place) else {
+        return Ok(());
+    };
+    put_source_line(out, &line)?;
+    out.push(b'\n')?;
+    Ok(())
+}
+
+/// Appends the line in which a part of a blueprint is declared, and the part by its flattened name, where the line stands in a module.
+fn put_declared(
+    alloc: Global,
+    out: &mut Vec<u8>,
+    text: &[u8],
+    said: &BlueText,
+    b: &Blueprint,
+    place: FaultPlace,
+) -> Result<(), NoMemory> {
+    let book = book_of(alloc, &said.modules)?;
+    let Some(declared) = declared_at(&book, said, place) else {
+        return Ok(());
+    };
+    let Some(line) = line_of(text, declared) else {
+        return Ok(());
+    };
+    put_source_line(out, &line)?;
+    if declared.body.is_some() {
+        put_instance(out, b, place)?;
+    }
+    out.push(b'\n')?;
+    Ok(())
+}
+
+/// Where a part of the blueprint of a text is declared.
+pub fn declared_at(book: &[Counted<'_>], said: &BlueText, place: FaultPlace) -> Option<TextPlace> {
+    match place.sort {
+        Sort::Node | Sort::Wire => origin(book, None, &said.body, place),
+        _ => Some(TextPlace {
+            body: None,
+            sort: place.sort,
+            number: place.number,
+        }),
+    }
+}
+
+/// Appends which part of the blueprint it is.
+fn put_instance(out: &mut Vec<u8>, b: &Blueprint, place: FaultPlace) -> Result<(), NoMemory> {
+    out.extend_from_slice(b" (as ")?;
+    match place.sort {
+        Sort::Node => {
+            if let Some(node) = b.nodes.get(place.number) {
+                out.extend_from_slice(node.name.bytes())?;
+            }
+        }
+        _ => {
+            if let Some(wire) = b.wires.get(place.number) {
+                out.extend_from_slice(wire.from.bytes())?;
+                out.extend_from_slice(b" -> ")?;
+                out.extend_from_slice(wire.to.bytes())?;
+            }
+        }
+    }
+    out.push(b')')?;
+    Ok(())
+}
+
+/// Appends at which word of its line a fault is, where it is at a word, and what may stand there in a text of version 1, or of 2.
 fn put_word_at(
     alloc: Global,
     out: &mut Vec<u8>,
     line: Option<SourceLine<'_>>,
+    second: bool,
     kind: BlueKind,
 ) -> Result<(), NoMemory> {
     let Some(line) = line else {
         return Ok(());
     };
     match kind {
-        BlueKind::BadLine => put_misfit(alloc, out, line.bytes, false),
-        BlueKind::BadName | BlueKind::BadNumber => put_misfit(alloc, out, line.bytes, true),
+        BlueKind::BadLine => put_misfit(alloc, out, line.bytes, second, false),
+        BlueKind::BadName | BlueKind::BadNumber => put_misfit(alloc, out, line.bytes, second, true),
         _ => Ok(()),
     }
 }
@@ -137,7 +225,7 @@ fn words_of_text(alloc: Global, text: &[u8], fault: BlueFault) -> Result<Vec<u8>
     let mut out = Vec::new(alloc);
     let line = line_numbered(text, fault.line);
     put_saying(&mut out, line, of_text(fault.kind))?;
-    put_word_at(alloc, &mut out, line, fault.kind)?;
+    put_word_at(alloc, &mut out, line, is_second(text), fault.kind)?;
     Ok(out)
 }
 

@@ -1,4 +1,4 @@
-// Where the place of a fault is declared.
+// The part of a blueprint at which a fault is.
 use blue_check::fault::CheckFault;
 use blue_names::claims::{file_of, plug_of};
 use blue_names::spot::Spot;
@@ -10,13 +10,25 @@ use stream_model::kind::Kind;
 /// What a line declares.
 #[derive(Clone, Copy, PartialEq, Eq)]
 pub enum Sort {
+    /// A switch.
     Switch,
+    /// A chain.
     Chain,
+    /// A source, a stage or a sink.
     Node,
+    /// A wire.
     Wire,
+    /// The beginning of a module.
+    Module,
+    /// An instance of a module.
+    Use,
+    /// A port of a module.
+    Port,
+    /// The end of a module.
+    End,
 }
 
-/// A declaration: which of its sort, from 0.
+/// A part of a blueprint: which of its sort, from 0.
 #[derive(Clone, Copy, PartialEq, Eq)]
 pub struct FaultPlace {
     /// What is declared.
@@ -26,7 +38,7 @@ pub struct FaultPlace {
 }
 
 impl FaultPlace {
-    /// The declaration of that sort and number.
+    /// The part of that sort and number.
     pub fn of(sort: Sort, number: usize) -> FaultPlace {
         FaultPlace { sort, number }
     }
@@ -154,7 +166,7 @@ fn sized(spot: Spot) -> FaultPlace {
 }
 
 // Choice: docs/DECISIONS.md#place-is-looked-for
-/// Where the place of a fault of a blueprint is declared, if it is. `own` is the blueprint's own file.
+/// The part of a blueprint at which a fault of it is, if it is at one. `own` is the blueprint's own file.
 pub fn place_of(b: &Blueprint, own: &Line, fault: &CheckFault) -> Option<FaultPlace> {
     let node = match fault {
         CheckFault::TwoNames(name) => return told_again(b, name, own),
@@ -167,6 +179,7 @@ pub fn place_of(b: &Blueprint, own: &Line, fault: &CheckFault) -> Option<FaultPl
         CheckFault::PortOpen(name, _, _) | CheckFault::TooDeep(name) => named(&b.nodes, name, 0),
         CheckFault::NoSuchPlug(name) => plugged(&b.nodes, name, 0),
         CheckFault::PlugTwice(name) => plugged_again(&b.nodes, name),
+        CheckFault::NoSuchModule(_) | CheckFault::PortName(_, _) | CheckFault::TooLarge => None,
     };
     node.map(|i| FaultPlace::of(Sort::Node, i))
 }

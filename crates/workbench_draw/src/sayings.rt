@@ -16,11 +16,11 @@ pub fn of_text(kind: BlueKind) -> Saying {
     match kind {
         BlueKind::BadVersion => Saying {
             means: b"The first line that says something is not the version line.",
-            advice: b"Begin the blueprint with the line `streams 1`.",
+            advice: b"Begin the blueprint with the line `streams 2`, or `streams 1` where it has no modules.",
         },
         BlueKind::BadLine => Saying {
-            means: b"The line has not the form of a declaration: a word is unknown, missing or too many, or a byte is none of a word.",
-            advice: b"Compare it with the forms of switch, chain, source, stage, sink and wire.",
+            means: b"The line has not the form of a declaration, or may not stand there: a word is unknown, missing or too many, a byte is none of a word, or a module has no end.",
+            advice: b"Compare it with the forms of switch, chain, source, stage, sink and wire; switches, chains, modules and the one default stand outside of modules, and in, out and end inside.",
         },
         BlueKind::BadName => Saying {
             means: b"Where a name or the name of a file is to stand is a word that is none.",
@@ -36,7 +36,7 @@ pub fn of_text(kind: BlueKind) -> Saying {
         },
         BlueKind::TooMany => Saying {
             means: b"More is declared than the limits allow.",
-            advice: b"A blueprint has at most 1024 nodes, 2048 wires, 64 switches and 256 chains, and a chain at most 32 steps.",
+            advice: b"A text has at most 1024 nodes, 2048 wires, 64 switches, 256 chains, 64 modules and 256 uses, a chain at most 32 steps, and a module at most 64 ports.",
         },
     }
 }
@@ -64,6 +64,25 @@ fn of_names(fault: &CheckFault) -> Option<Saying> {
     }
 }
 
+/// What a fault of modules means.
+fn of_modules(fault: &CheckFault) -> Option<Saying> {
+    match fault {
+        CheckFault::NoSuchModule(_) => Some(Saying {
+            means: b"No module of this name is declared before.",
+            advice: b"Declare it, mend its spelling, or put its module before the one that uses it.",
+        }),
+        CheckFault::PortName(_, _) => Some(Saying {
+            means: b"The module has two ports of one direction and name, or there is no such port in that direction.",
+            advice: b"The port of a node is a number, and that of an instance a name of its module: an `out` where a wire begins, an `in` where it ends.",
+        }),
+        CheckFault::TooLarge => Some(Saying {
+            means: b"With each instance in place of its use there would be more than 1024 nodes or 2048 wires.",
+            advice: b"Use modules less often, or make them smaller.",
+        }),
+        _ => None,
+    }
+}
+
 /// What a fault of ports means.
 fn of_ports(fault: &CheckFault) -> Option<Saying> {
     match fault {
@@ -86,6 +105,9 @@ fn of_ports(fault: &CheckFault) -> Option<Saying> {
 /// What a fault of a blueprint means: the rule that it breaks.
 pub fn of_rule(fault: &CheckFault) -> Saying {
     if let Some(saying) = of_names(fault) {
+        return saying;
+    }
+    if let Some(saying) = of_modules(fault) {
         return saying;
     }
     if let Some(saying) = of_ports(fault) {

@@ -1,8 +1,9 @@
 // The lines of a text in which declarations stand.
 ghost use Rattle.std.specs.Prelude.{IsTrue};
 
-use crate::place::{FaultPlace, Sort};
-use blue_words::lines::{is_plain, next_line};
+use crate::origins::TextPlace;
+use crate::place::Sort;
+use blue_words::lines::{is_passed_over, is_plain, next_line};
 use blue_words::words::{Words, is_word};
 use stream_model::limit::MAX_TEXT_LINE;
 
@@ -23,6 +24,21 @@ fn sort_of(word: &[u8]) -> Option<Sort> {
         Some(Sort::Chain)
     } else if is_word(word, b"source") || is_word(word, b"stage") || is_word(word, b"sink") {
         Some(Sort::Node)
+    } else if is_word(word, b"use") {
+        Some(Sort::Use)
+    } else {
+        module_sort_of(word)
+    }
+}
+
+/// What a word declares that a line of a module begins with.
+fn module_sort_of(word: &[u8]) -> Option<Sort> {
+    if is_word(word, b"module") {
+        Some(Sort::Module)
+    } else if is_word(word, b"in") || is_word(word, b"out") {
+        Some(Sort::Port)
+    } else if is_word(word, b"end") {
+        Some(Sort::End)
     } else {
         None
     }
@@ -37,14 +53,41 @@ fn declared(line: &[u8]) -> Option<Sort> {
     sort_of(words.next()?)
 }
 
+/// Where the lines of a text are: in which module, if in one, and how many modules have begun.
+#[derive(Clone, Copy)]
+struct Standing {
+    body: Option<usize>,
+    begun: usize,
+}
+
+/// Where the next line is behind one that declares something of that sort.
+fn behind(at: Standing, sort: Option<Sort>) -> Standing {
+    match sort {
+        Some(Sort::Module) => Standing {
+            body: Some(at.begun),
+            begun: at.begun.saturating_add(1),
+        },
+        Some(Sort::End) => Standing {
+            body: None,
+            begun: at.begun,
+        },
+        _ => at,
+    }
+}
+
 /// The line in which something is declared.
-pub fn line_of(text: &[u8], place: FaultPlace) -> Option<SourceLine<'_>> {
+pub fn line_of(text: &[u8], place: TextPlace) -> Option<SourceLine<'_>> {
     let mut rest = text;
     let mut number: usize = 0;
     let mut left = place.number;
+    let mut at = Standing {
+        body: None,
+        begun: 0,
+    };
     while let Some((line, after)) = next_line(rest) {
         number = number.saturating_add(1);
-        if declared(line) == Some(place.sort) {
+        let sort = declared(line);
+        if sort == Some(place.sort) && at.body == place.body {
             if left == 0 {
                 return Some(SourceLine {
                     number,
@@ -53,9 +96,31 @@ pub fn line_of(text: &[u8], place: FaultPlace) -> Option<SourceLine<'_>> {
             }
             left -= 1;
         }
+        at = behind(at, sort);
         rest = after;
     }
     None
+}
+
+/// Whether the words of a line are those of the version line of version 2.
+fn names_second(line: &[u8]) -> bool {
+    if line.len() > MAX_TEXT_LINE || !is_plain(line) {
+        return false;
+    }
+    let mut words = Words::of(line);
+    words.skip(b"streams") && words.skip(b"2") && words.is_empty()
+}
+
+/// Whether a text is one of version 2: by its first line that says something.
+pub fn is_second(text: &[u8]) -> bool {
+    let mut rest = text;
+    while let Some((line, after)) = next_line(rest) {
+        if !is_passed_over(line) {
+            return names_second(line);
+        }
+        rest = after;
+    }
+    false
 }
 
 /// The line of that number.

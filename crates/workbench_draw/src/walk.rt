@@ -1,5 +1,5 @@
 // At which word of a line no form was left, and what may stand there.
-use crate::forms::{LINE, first_symbol, fits, form_begun, forms_of, is_optional};
+use crate::forms::{LINE, SECOND_LINE, first_symbol, fits, form_begun, forms_of, is_optional};
 use crate::message::{put_number, put_shown};
 use blue_words::lines::is_plain;
 use blue_words::words::Words;
@@ -202,12 +202,13 @@ fn put_odd_byte(out: &mut Vec<u8>, line: &[u8]) -> Result<(), NoMemory> {
     Ok(())
 }
 
-/// Appends at which word of a line no form was left, and what may stand there; nothing where each word fits. With `exact` the names,
-/// files and numbers are looked at too.
+/// Appends at which word of a line no form was left, and what may stand there; nothing where each word fits. With `second` the text is
+/// one of version 2, and with `exact` the names, files and numbers are looked at too.
 pub(crate) fn put_misfit(
     alloc: Global,
     out: &mut Vec<u8>,
     line: &[u8],
+    second: bool,
     exact: bool,
 ) -> Result<(), NoMemory> {
     if line.len() > MAX_TEXT_LINE {
@@ -228,7 +229,7 @@ pub(crate) fn put_misfit(
         may_end: false,
         exact,
     };
-    walk.left.push(LINE)?;
+    walk.left.push(if second { SECOND_LINE } else { LINE })?;
     if walk.is_stuck()? {
         walk.put(out)?;
     }

@@ -1,9 +1,9 @@
 -- Answers on a text that says a blueprint which breaks no rule.
 use Rattle.std.proofs.Common.{◌≡◌, ◌≤◌, ◌⊎◌, ◌∙◌, inl, inr, ℕ, List, [], length, sym, subst}
 use Rattle.blue_lang.proofs.Roundtrip.{canonical_says}
-use Rattle.blue_lang.specs.Blueprints.{Says}
+use Rattle.blue_lang.specs.Texts.{Says}
 use Rattle.blue_lang.specs.Canonical.{canonical}
-use Rattle.blue_lang.specs.Plain.{PlainBlueprint}
+use Rattle.blue_modules.specs.Text.{PlainText}
 use Rattle.stream_model.specs.declared.blueprint.Blueprint.{Blueprint}
 use Rattle.workbench_draw.specs.Judging.{IsFitText}
 use Rattle.workbench_draw.specs.Drawing.{IsDrawingOf}
@@ -32,13 +32,13 @@ misses text file counts b a fit ends said = elim ends [
   | inr memory ↦ inr (inr (inr memory))
 ]
 
--- the canonical text of a row's blueprint is said, and is read again as that blueprint
-pub says_row : (text said : List ℕ) (b : PlainBlueprint) (a : Answer) → Says text b → a.ending ≡ ending.Done → a.said.items ≡ said → a.told.items ≡ [] → said ≡ canonical b → length said ≤ 1048576 → SaysRow text a
+-- the canonical text of a row is said, and is read again as the same
+pub says_row : (text said : List ℕ) (b : PlainText) (a : Answer) → Says text b → a.ending ≡ ending.Done → a.said.items ≡ said → a.told.items ≡ [] → said ≡ canonical b → length said ≤ 1048576 → SaysRow text a
 says_row text said b a says done same told is short =
     let whole : a.said.items ≡ canonical b = same ∙ is in
     record {
       ending = done;
-      blueprint = b;
+      meant = b;
       says = says;
       said = whole;
       told = told;

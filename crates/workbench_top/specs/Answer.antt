@@ -2,9 +2,10 @@
 use Rattle.std.specs.Prelude.{◌≡◌, ℕ, ◌⊎◌, List, [], Some}
 use Rattle.stream_model.specs.declared.blueprint.Blueprint.{Blueprint}
 use Rattle.blue_words.specs.declared.fault.BlueFault.{BlueFault}
-use Rattle.blue_lang.specs.Blueprints.{Says, text_fault}
+use Rattle.blue_lang.specs.Texts.{Says, text_fault}
 use Rattle.blue_lang.specs.Canonical.{canonical}
-use Rattle.blue_lang.specs.Plain.{PlainBlueprint, plain}
+use Rattle.blue_modules.specs.Text.{PlainText}
+use Rattle.blue_check.specs.Meaning.{Denotes}
 use Rattle.workbench_top.specs.declared.task.TaskKind.{TaskKind}
 use Rattle.workbench_top.specs.declared.task.TaskKind.TheVariants.{Check, Format, Draw, Explain, Turns}
 use Rattle.workbench_draw.specs.declared.judge.Unready.{Unready}
@@ -43,7 +44,7 @@ pub record Blames (text file : List ℕ) (a : Answer) : Type 0 where
   pub is : IsUnready text file why
   pub blame : IsBlame why a
 
--- the text says a blueprint that breaks no rule, and nothing is said or told
+-- the text and its blueprint break no rule, and nothing is said or told
 pub record PassesAnswer (text file : List ℕ) (a : Answer) : Type 0 where
   pub ending : a.ending ≡ ending.Done
   pub blueprint : Blueprint
@@ -55,12 +56,12 @@ pub record PassesAnswer (text file : List ℕ) (a : Answer) : Type 0 where
 abbrev pub Checks : List ℕ → List ℕ → Answer → Type 0
 Checks text file a = PassesAnswer text file a ⊎ Blames text file a
 
--- the canonical text of the blueprint that the text says is said
+-- the canonical text of what the text says is said
 pub record SaysCanonical (text : List ℕ) (a : Answer) : Type 0 where
   pub ending : a.ending ≡ ending.Done
-  pub blueprint : PlainBlueprint
-  pub says : Says text blueprint
-  pub said : a.said.items ≡ canonical blueprint
+  pub meant : PlainText
+  pub says : Says text meant
+  pub said : a.said.items ≡ canonical meant
 
 -- the first fault of the text is told
 pub record RefusesText (text : List ℕ) (a : Answer) : Type 0 where
@@ -72,18 +73,18 @@ pub record RefusesText (text : List ℕ) (a : Answer) : Type 0 where
 abbrev pub Formats : List ℕ → Answer → Type 0
 Formats text a = SaysCanonical text a ⊎ (RefusesText text a ⊎ (a.ending ≡ ending.NoMemory))
 
--- a drawing of the blueprint that the text says is said, which breaks no rule
+-- a drawing of the blueprint of the text is said, which breaks no rule
 pub record DrawsFit (text file : List ℕ) (a : Answer) : Type 0 where
   pub ending : a.ending ≡ ending.Done
   pub blueprint : Blueprint
   pub fit : IsFitText text file blueprint
   pub said : IsDrawingOf blueprint a.said.items
 
--- a drawing of the blueprint that the text says is said, and the rule is told that it breaks
+-- a drawing of the blueprint of the text is said, and the rule is told that it breaks
 pub record DrawsUnfit (text file : List ℕ) (a : Answer) : Type 0 where
   pub ending : a.ending ≡ ending.Faulty
   pub blueprint : Blueprint
-  pub says : Says text (plain blueprint)
+  pub says : Denotes (Says text) blueprint
   pub said : IsDrawingOf blueprint a.said.items
   pub why : Unready
   pub is : IsUnready text file why

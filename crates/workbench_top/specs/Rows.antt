@@ -2,9 +2,9 @@
 use Rattle.std.specs.Prelude.{◌≡◌, ℕ, ◌+◌, ◌==◌, ◌⊎◌, if◌then◌else◌, List, [], ◌∷◌, ◌++◌, codes}
 use Rattle.std.specs.Fmt.{decimal}
 use Rattle.elem_core.specs.Bytes.{line_feed, space_byte}
-use Rattle.blue_lang.specs.Blueprints.{Says}
+use Rattle.blue_lang.specs.Texts.{Says}
 use Rattle.blue_lang.specs.Canonical.{canonical}
-use Rattle.blue_lang.specs.Plain.{PlainBlueprint}
+use Rattle.blue_modules.specs.Text.{PlainText}
 use Rattle.workbench_top.specs.Answer.{RefusesText}
 use Rattle.workbench_top.specs.declared.answer.Answer.{Answer}
 use Rattle.workbench_top.specs.declared.answer.Ending.TheVariants as ending
@@ -49,13 +49,13 @@ later_lines n (p ∷ q ∷ ps) = stage_between n (n + 1) p ++ later_lines (n + 1
 abbrev pub row_text : List ℕ → List ℕ → List ℕ
 row_text source parts = codes "streams 1\nsource in " ++ (source ++ (line_feed ∷ later_lines 0 (row_parts parts)))
 
--- The canonical text of the blueprint that this text says is said, and is read again as that blueprint.
+-- The canonical text of what this text says is said, and is read again as the same.
 pub record SaysRow (text : List ℕ) (a : Answer) : Type 0 where
   pub ending : a.ending ≡ ending.Done
-  pub blueprint : PlainBlueprint
-  pub says : Says text blueprint
-  pub said : a.said.items ≡ canonical blueprint
-  pub again : Says a.said.items blueprint
+  pub meant : PlainText
+  pub says : Says text meant
+  pub said : a.said.items ≡ canonical meant
+  pub again : Says a.said.items meant
   pub told : a.told.items ≡ []
 
 -- `row`, of a row of this text

@@ -3,7 +3,10 @@ use crate::scene::Scene;
 use crate::sinks::put_sink_line;
 use crate::statuses::put_status;
 use crate::wires::put_wire_line;
+use blue_check::flatten::flatten;
 use blue_lang::parse::parse;
+use blue_modules::counts::book_of;
+use blue_modules::text::BlueText;
 use blue_words::lines::next_line;
 use blue_words::words::is_word;
 use elem_core::line::Line;
@@ -82,11 +85,18 @@ fn of_fault(
 fn of_run(
     alloc: Global,
     text: &[u8],
+    said: &BlueText,
     b: &Blueprint,
     line: &[u8],
     later: &[u8],
 ) -> Result<Option<Vec<u8>>, NoMemory> {
-    let scene = Scene { text, blueprint: b };
+    let book = book_of(alloc, &said.modules)?;
+    let scene = Scene {
+        text,
+        said,
+        book: &book,
+        blueprint: b,
+    };
     let mut out = Vec::new(alloc);
     if put_status(&mut out, Some(scene), line)? && put_lines(alloc, &mut out, scene, later)? {
         Ok(Some(out))
@@ -121,7 +131,10 @@ pub fn explain(
         return of_fault(alloc, text, file, line);
     }
     match parse(alloc, text) {
-        Ok(b) => of_run(alloc, text, &b, line, later),
+        Ok(said) => match flatten(alloc, &said) {
+            Ok(b) => of_run(alloc, text, &said, &b, line, later),
+            Err(_) => of_words(alloc, line, later),
+        },
         Err(_) => of_words(alloc, line, later),
     }
 }

@@ -1,17 +1,17 @@
 // The blueprint of a row of stages.
 ghost use Rattle.std.specs.Prelude.{◌≡◌, ◌+◌, ◌++◌, IfOk, OnOk};
-ghost use Rattle.blue_lang.specs.Blueprints.{Says};
-ghost use Rattle.blue_lang.specs.Plain.{plain};
+ghost use Rattle.blue_lang.specs.Texts.{Says};
+ghost use Rattle.blue_modules.specs.Text.{plain_text};
 ghost use Rattle.workbench_top.specs.Rows.{SaysRow, PrintsRow, row_parts, place_name, stage_line, row_wire_line, stage_between, sink_lines, later_lines, row_text};
 
 use crate::answer::Answer;
 use crate::texts::refused;
 use blue_lang::parse::{ParseEnd, parse};
 use blue_lang::print::print;
+use blue_modules::text::BlueText;
 use blue_words::lines::cut_at;
 use elem_core::why::NoMemory;
 use std::alloc::{AllocError, Global};
-use stream_model::blueprint::Blueprint;
 use stream_model::limit::MAX_TEXT;
 use workbench_draw::message::put_number;
 
@@ -100,11 +100,11 @@ fn text_of_row(alloc: Global, source: &[u8], parts: &[u8]) -> Result<Vec<u8>, No
 
 /// The answer that says the canonical text of a row's blueprint, which is far shorter than a text may be.
 #[tactic(auto, using(crate::proofs::Saying::says_row))]
-fn row_said(alloc: Global, text: &[u8], b: &Blueprint) -> Result<Answer, NoMemory>
-    requires { Says text.now (plain b.now) }
+fn row_said(alloc: Global, text: &[u8], meant: &BlueText) -> Result<Answer, NoMemory>
+    requires { Says text.now (plain_text meant.now) }
     ensures { IfOk result (SaysRow text.now) }
 {
-    let said = print(alloc, b)?;
+    let said = print(alloc, meant)?;
     if said.len() > MAX_TEXT {
         return Err(AllocError);
     }
@@ -119,7 +119,7 @@ pub fn answer_row(alloc: Global, source: &[u8], parts: &[u8]) -> Answer
         return Answer::without_memory(alloc);
     };
     match parse(alloc, &text) {
-        Ok(b) => match row_said(alloc, &text, &b) {
+        Ok(meant) => match row_said(alloc, &text, &meant) {
             Ok(answer) => answer,
             Err(_) => Answer::without_memory(alloc),
         },

@@ -1,25 +1,28 @@
 // The blueprint of which a report tells, with its text.
+use blue_modules::counts::Counted;
+use blue_modules::text::BlueText;
 use elem_core::why::NoMemory;
 use stream_model::blueprint::{Blueprint, Node, WireDecl};
-use workbench_draw::message::put_source_line;
+use workbench_draw::message::{declared_at, put_source_line};
 use workbench_draw::place::{FaultPlace, Sort};
 use workbench_draw::source::line_of;
 
-/// A blueprint and its text.
+/// A blueprint and its text, with what that says and its modules, the latest first.
 #[derive(Clone, Copy)]
 pub(crate) struct Scene<'a> {
     pub(crate) text: &'a [u8],
+    pub(crate) said: &'a BlueText,
+    pub(crate) book: &'a [Counted<'a>],
     pub(crate) blueprint: &'a Blueprint,
 }
 
-/// Appends what is declared in a line of the text, in parentheses.
-fn put_place(
-    out: &mut Vec<u8>,
-    scene: Scene<'_>,
-    sort: Sort,
-    number: usize,
-) -> Result<(), NoMemory> {
-    if let Some(line) = line_of(scene.text, FaultPlace::of(sort, number)) {
+/// Appends the line of the text in which a node is declared, in parentheses.
+fn put_line(out: &mut Vec<u8>, scene: Scene<'_>, number: usize) -> Result<(), NoMemory> {
+    let place = FaultPlace::of(Sort::Node, number);
+    let Some(declared) = declared_at(scene.book, scene.said, place) else {
+        return Ok(());
+    };
+    if let Some(line) = line_of(scene.text, declared) {
         out.extend_from_slice(b" (")?;
         put_source_line(out, &line)?;
         out.push(b')')?;
@@ -58,7 +61,7 @@ pub(crate) fn put_node(
     match scene.node(number) {
         Some(node) => {
             out.extend_from_slice(node.name.bytes())?;
-            put_place(out, scene, Sort::Node, number)?;
+            put_line(out, scene, number)?;
             Ok(true)
         }
         None => Ok(false),

@@ -2,8 +2,9 @@
 ghost use Rattle.std.specs.Prelude.{◌≡◌, ◌⊎◌, [], IfOk, IfSome, Some};
 ghost use Rattle.blue_check.specs.Checked.{checked_blueprint};
 ghost use Rattle.workbench_draw.specs.Judging.{IsFitText, IsUnready};
-ghost use Rattle.blue_lang.specs.Blueprints.{Says, text_fault};
-ghost use Rattle.blue_lang.specs.Plain.{plain};
+ghost use Rattle.blue_lang.specs.Texts.{Says, text_fault};
+ghost use Rattle.blue_modules.specs.Text.{plain_text};
+ghost use Rattle.blue_check.specs.Meaning.{Denotes};
 ghost use Rattle.workbench_draw.specs.Message.{BeginsWithReport};
 ghost use Rattle.workbench_top.specs.Answer.{IsBlame, Blames, Checks, RefusesText, SaysCanonical, Formats, DrawsFit, DrawsUnfit, DrawsAnswer, Counts};
 
@@ -13,6 +14,7 @@ use blue_check::checked::Checked;
 use blue_check::fault::CheckFault;
 use blue_lang::parse::{ParseEnd, parse};
 use blue_lang::print::print;
+use blue_modules::text::BlueText;
 use blue_words::fault::BlueFault;
 use blue_words::lines::{is_passed_over, next_line};
 use elem_core::line::Line;
@@ -21,7 +23,7 @@ use itoa::Buffer;
 use std::alloc::Global;
 use stream_model::blueprint::Blueprint;
 use workbench_draw::draw::{draw, draw_unfit};
-use workbench_draw::judge::{Unready, judge_text};
+use workbench_draw::judge::{Unready, blueprint_of, judge_text};
 use workbench_draw::message::message_of;
 use workbench_draw::turns::{TurnsEnd, count_units};
 
@@ -87,12 +89,12 @@ fn lost_comments(alloc: Global, text: &[u8]) -> Result<Vec<u8>, NoMemory> {
     }
 }
 
-/// The answer that says the canonical text of a blueprint.
-fn formatted(alloc: Global, text: &[u8], b: &Blueprint) -> Result<Answer, NoMemory>
-    requires { Says text.now (plain b.now) }
+/// The answer that says the canonical text of what a text says.
+fn formatted(alloc: Global, text: &[u8], meant: &BlueText) -> Result<Answer, NoMemory>
+    requires { Says text.now (plain_text meant.now) }
     ensures { IfOk result (SaysCanonical text.now) }
 {
-    let said = print(alloc, b)?;
+    let said = print(alloc, meant)?;
     let told = lost_comments(alloc, text)?;
     Ok(Answer {
         ending: Ending::Done,
@@ -106,7 +108,7 @@ pub fn format_text(alloc: Global, text: &[u8], file: &Line) -> Answer
     ensures { Formats text.now result }
 {
     match parse(alloc, text) {
-        Ok(b) => match formatted(alloc, text, &b) {
+        Ok(meant) => match formatted(alloc, text, &meant) {
             Ok(answer) => answer,
             Err(_) => Answer::without_memory(alloc),
         },
@@ -141,7 +143,7 @@ fn drawn_unfit(
     told: Vec<u8>,
     b: &Blueprint,
 ) -> Result<Answer, NoMemory>
-    requires says { Says text.now (plain b.now) }
+    requires says { Denotes (Says text.now) b.now }
     requires is { IsUnready text.now file.now (Unready.Unfit fault.now) }
     requires told { BeginsWithReport (Unready.Unfit fault.now) told.items }
     ensures { IfOk result (DrawsUnfit text.now file.now) }
@@ -154,7 +156,7 @@ fn drawn_unfit(
     })
 }
 
-/// The same, where the blueprint is read again.
+/// The same, where the text is read again; none where it has no blueprint.
 fn drawn_again(
     alloc: Global,
     text: &[u8],
@@ -168,14 +170,14 @@ fn drawn_again(
         return Ok(None);
     };
     let told = message_of(alloc, text, file, why)?;
-    match parse(alloc, text) {
+    match blueprint_of(alloc, text, file) {
         Ok(b) => Ok(Some(drawn_unfit(alloc, text, file, fault, told, &b)?)),
         Err(_) => Ok(None),
     }
 }
 
 /// The answer to `draw`: the graph; where the blueprint breaks a rule the graph, in red at its place, and the rule; or the first fault
-/// of the text.
+/// of the text or of its modules.
 pub fn draw_text(alloc: Global, text: &[u8], file: &Line) -> Answer
     ensures { DrawsAnswer text.now file.now result }
 {

@@ -3,6 +3,7 @@ ghost use Rattle.std.specs.Prelude.{◌<◌};
 
 use blue_check::check::{CheckEnd, check};
 use blue_check::detail::put_detail;
+use blue_check::flatten::flatten;
 use blue_lang::parse::{ParseEnd, parse};
 use blue_lang::print::print;
 use blue_words::fault::{BlueFault, kind_number};
@@ -146,7 +147,7 @@ fn said(alloc: Global, code: u32, said: Vec<u8>) -> Came {
 /// The canonical text of what a text says, or the number and the line of its first fault.
 fn printed(alloc: Global, text: &[u8]) -> Result<Came, Fault> {
     match parse(alloc, text) {
-        Ok(blueprint) => Ok(said(alloc, 0, print(alloc, &blueprint)?)),
+        Ok(meant) => Ok(said(alloc, 0, print(alloc, &meant)?)),
         Err(end) => refused(alloc, end),
     }
 }
@@ -164,19 +165,35 @@ fn refused(alloc: Global, end: ParseEnd) -> Result<Came, Fault> {
     }
 }
 
-/// The two tests of the blueprint that a text says, or the number and the detail of the first rule that it breaks.
+/// The two tests of the blueprint of a text, or the number and the detail of the first rule that it breaks.
 fn checked(alloc: Global, text: &[u8], plugs: u32) -> Result<Came, Fault> {
     match parse(alloc, text) {
-        Ok(blueprint) => judged(alloc, blueprint, plugs),
+        Ok(meant) => match flatten(alloc, &meant) {
+            Ok(blueprint) => judged(alloc, blueprint, plugs),
+            Err(end) => unfit(alloc, end),
+        },
         Err(end) => refused(alloc, end),
     }
 }
 
+/// The number and the detail of a rule that is broken.
+fn unfit(alloc: Global, end: CheckEnd) -> Result<Came, Fault> {
+    let mut text = Vec::new(alloc);
+    let CheckEnd::Fault(fault) = end else {
+        return Ok(said(alloc, NO_MEMORY, text));
+    };
+    let mut detail = Vec::new(alloc);
+    put_detail(&mut detail, &fault)?;
+    text.extend_from_slice(detail.strip_prefix(b" ").unwrap_or(&detail))?;
+    text.push(b'\n')?;
+    Ok(said(alloc, u32::from(fault.number()), text))
+}
+
 fn judged(alloc: Global, blueprint: Blueprint, plugs: u32) -> Result<Came, Fault> {
     let heads = dedups(alloc, plugs)?;
-    let mut text = Vec::new(alloc);
-    let code = match check(alloc, blueprint, &heads, &[]) {
+    match check(alloc, blueprint, &heads, &[]) {
         Ok(checked) => {
+            let mut text = Vec::new(alloc);
             let tree: &[u8] = if checked.is_polytree() {
                 b"tree "
             } else {
@@ -189,16 +206,10 @@ fn judged(alloc: Global, blueprint: Blueprint, plugs: u32) -> Result<Came, Fault
             };
             text.extend_from_slice(tree)?;
             text.extend_from_slice(picks)?;
-            0
+            Ok(said(alloc, 0, text))
         }
-        Err(CheckEnd::Fault(fault)) => {
-            put_detail(&mut text, &fault)?;
-            text.push(b'\n')?;
-            u32::from(fault.number())
-        }
-        Err(CheckEnd::NoMemory) => NO_MEMORY,
-    };
-    Ok(said(alloc, code, text))
+        Err(end) => unfit(alloc, end),
+    }
 }
 
 /// So many plugs of one name.

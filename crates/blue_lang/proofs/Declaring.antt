@@ -37,7 +37,7 @@ use Rattle.blue_kinds.specs.Steps.{read_chain}
 use Rattle.blue_lang.specs.Spaced.{spaced}
 use Rattle.blue_lang.specs.Kinds.{kind_words, sort_word, decider_words}
 use Rattle.blue_lang.specs.Canonical.{attrs_words, mark_word, place_word, lane_words, steps_words, direction_word, declaration_words}
-use Rattle.blue_lang.specs.Declarations.{Declaration, sets, switch, chain, opens, port, part, ends, is_nil, set_decider, read_attrs, read_some_attrs, read_mark, cut_place, read_port_place, bare_lane, read_lane_size, read_lane, read_end, read_wire, undecided, read_decided, read_node, read_use, read_behind, port_from, read_port, chain_words, read_opening, inner_declaration, module_declaration, later_declaration, declaration, read_whole, declared_by}
+use Rattle.blue_lang.specs.Declarations.{Declaration, sets, switch, chain, opens, port, part, ends, is_nil, set_decider, read_attrs, read_some_attrs, read_mark, cut_place, read_port_place, bare_lane, read_lane_size, read_lane, read_end, wire_from, read_wire, undecided, read_decided, read_node, read_use, read_behind, port_from, read_port, chain_words, read_opening, inner_declaration, module_declaration, later_declaration, declaration, read_whole, declared_by}
 use Rattle.blue_lang.proofs.Respelling.{Words, AllWords, Tabled, behind_word_respelled, made_of, made_place, then_of, both_of, same_value, same_rest, same_place, some_if_read}
 use Rattle.blue_lang.proofs.Lexical.{name_respelled, size_respelled, count_decimal, size_below, name_ok, length-name-le, decimal_digits, graphic_digits}
 use Rattle.blue_lang.proofs.KindTables.{source_tabled, sink_tabled, stage_tabled}
@@ -436,12 +436,6 @@ lane_kept v (w ∷ ws) l h = lane_size_kept v ws l (some_if_read (bytes_eq w (co
 -- ---- wires
 abbrev wire_part : WireText → Declaration
 wire_part w = part (Wire w)
-
-abbrev Ends : Type 0
-Ends = (List ℕ × PortMark) × ((List ℕ × PortMark) × LaneMark)
-
-abbrev wire_from : Ends → WireText
-wire_from r = record { from = r.0.0; output = r.0.1; to = r.1.0.0; input = r.1.0.1; lane = r.1.1 }
 
 abbrev end_lane : Version → Words → Reading ((List ℕ × PortMark) × LaneMark)
 end_lane v vs = then_read (read_end v vs) (read_lane v)

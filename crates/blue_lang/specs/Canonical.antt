@@ -17,7 +17,7 @@ use Rattle.blue_lang.specs.Spaced.{spaced}
 use Rattle.blue_lang.specs.Kinds.{kind_words, sort_word, decider_words}
 use Rattle.blue_lang.specs.Declarations.{Declaration, sets, switch, chain, opens, port, part, ends}
 
--- what is set for lanes and stages
+-- the size that is set for lanes, where one is
 abbrev pub size_words : Option ℕ → List (List ℕ)
 size_words None = []
 size_words (Some n) = codes "async" ∷ decimal n ∷ []
@@ -26,7 +26,7 @@ size_words (Some n) = codes "async" ∷ decimal n ∷ []
 abbrev pub attrs_words : Attrs → List (List ℕ)
 attrs_words a = size_words a.size ++ decider_words a.decider
 
--- a place: the name of a node or of an instance, a point, and its port
+-- a port as a place has it: its number, or its name
 abbrev pub mark_word : PortMark → List ℕ
 mark_word (Num n) = decimal n
 mark_word (Name p) = p

@@ -1,5 +1,5 @@
 -- The first rule that a text breaks, and the blueprint that is left of one that breaks none.
-use Rattle.std.specs.Prelude.{◌≡◌, Bool, ◌||◌, nat_lt, List, [], length, Option, None}
+use Rattle.std.specs.Prelude.{◌≡◌, Bool, ◌||◌, nat_lt, List, length, Option, None}
 use Rattle.std.specs.Option.{option_map, option_or}
 use Rattle.stream_model.specs.declared.limit.TheConstants.{MAX_NODES, MAX_WIRES}
 use Rattle.blue_modules.specs.Plain.{PlainBlueprint}

@@ -1,5 +1,5 @@
 -- What a text of the language says, as plain values.
-use Rattle.std.specs.Prelude.{ℕ, List, map, Option, None}
+use Rattle.std.specs.Prelude.{ℕ, List, map, None}
 use Rattle.blue_modules.specs.declared.text.Attrs.{Attrs}
 use Rattle.blue_modules.specs.declared.text.Entry.{Entry}
 use Rattle.blue_modules.specs.declared.text.PortDecl.{PortDecl}

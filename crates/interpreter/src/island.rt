@@ -46,7 +46,6 @@ use stream_model::outcome::{EndState, PickList, WireCount};
 
 /// The nodes and wires of one island, and the wires that have an event. After `NoMemory` it is only dropped or taken apart.
 /// Akka calls this an island too, and runs it by a `GraphInterpreterShell`.
-#[derive(Drop)]
 pub struct Island<S: Source, D: Drain, L: Logic, B: PlugBook> {
     engine: Engine<IslandNode<S, D, L, B>>,
     acts: Acts,
@@ -59,6 +58,22 @@ pub struct Island<S: Source, D: Drain, L: Logic, B: PlugBook> {
     broken: bool,
     // The lists of its end, which are empty and have room for all of it: it is taken apart without memory.
     room: IslandEnd<S, D>,
+}
+
+// Dropped by a call, wherever it is dropped: else each crate above proves the drop of each of its parts again.
+impl<S: Source, D: Drain, L: Logic, B: PlugBook> Drop for Island<S, D, L, B> {
+    fn drop(self) {
+        let Island {
+            engine: _,
+            acts: _,
+            numbers: _,
+            places: _,
+            ways: _,
+            used: _,
+            broken: _,
+            room: _,
+        } = self;
+    }
 }
 
 impl<S: Source, D: Drain, L: Logic, B: PlugBook> Model for Island<S, D, L, B> {
@@ -364,9 +379,17 @@ impl<S: Source, D: Drain, L: Logic, B: PlugBook> Island<S, D, L, B> {
         ensures readers { IfOk result (λ e. e.readers.items ≡ readers_of self.net.nodes) }
         ensures writers { IfOk result (λ e. e.writers.items ≡ writers_of self.net.nodes) }
     {
-        let numbers = self.numbers;
-        let places = self.places;
-        Ok(leave(self.engine, &numbers, &places, self.room))
+        let Island {
+            engine,
+            acts: _,
+            numbers,
+            places,
+            ways: _,
+            used: _,
+            broken: _,
+            room,
+        } = self;
+        Ok(leave(engine, &numbers, &places, room))
     }
 }
 

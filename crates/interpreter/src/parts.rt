@@ -3,7 +3,7 @@ ghost use Rattle.std.specs.Prelude.{◌≡◌, ◌<◌, ◌≤◌, ◌^◌, [], 
 ghost use Rattle.fused_net.specs.Net.{port_at};
 ghost use Rattle.fused_net.specs.Laws.{Wired};
 ghost use Rattle.nodes.specs.Kinds.{IsMaker, maker_of, writes_of};
-ghost use Rattle.interpreter.specs.Parts.{input_count_at, output_count_at, ins_in, outs_in, IsUnused, AllUnused, IsWiring, IsSized, ends_of, wire_number, Becomes, AllBecome, written};
+ghost use Rattle.interpreter.specs.Parts.{input_count_at, output_count_at, ins_in, outs_in, IsUnused, AllUnused, IsWiring, IsSized, ends_of, wire_number, BecomesOf, Becomes, AllBecome, written};
 ghost use Rattle.interpreter.specs.declared.parts.Place.{Place};
 
 use elem_core::why::NoMemory;
@@ -28,6 +28,7 @@ use stream_io::line_reader::LineReader;
 use stream_io::outside::{Drain, Source};
 use stream_model::kind::Kind;
 
+// Choice: docs/DECISIONS.md#islands-name-nodes
 /// A wire of an island, by its number in the blueprint, from an output to an input; `from` and `to` are places among the
 /// island's nodes. Akka calls this a `Connection`, with its `id` and its owners.
 #[derive(Clone, Copy)]
@@ -46,7 +47,6 @@ pub struct Link {
 
 // Choice: docs/DECISIONS.md#work-has-its-ports
 /// What stands at a place of an island. Akka calls this a `GraphStageLogic`, before its `preStart`.
-#[derive(Drop)]
 pub enum Work<S: Source, D: Drain, L: Logic, B: PlugBook> {
     /// A source of the lines that a reader reads.
     Reading(LineReader<S>),
@@ -70,13 +70,36 @@ pub enum Work<S: Source, D: Drain, L: Logic, B: PlugBook> {
     LaneOut(u32),
 }
 
+// Dropped by a call, wherever it is dropped: else each crate above proves the drop of each of its parts again.
+impl<S: Source, D: Drain, L: Logic, B: PlugBook> Drop for Work<S, D, L, B> {
+    fn drop(self) {
+        match self {
+            Work::Reading(_) => {}
+            Work::Making(_) => {}
+            Work::Linear(_) => {}
+            Work::State(_) => {}
+            Work::Sub(_) => {}
+            Work::FanIn(_, _) => {}
+            Work::FanOut(_, _) => {}
+            Work::Writing(_, _) => {}
+            Work::LaneIn(_) | Work::LaneOut(_) => {}
+        }
+    }
+}
+
 /// A work with the number of its node in the blueprint. Akka calls this a `GraphStageLogic`, with its `stageId`.
-#[derive(Drop)]
 pub struct Seated<S: Source, D: Drain, L: Logic, B: PlugBook> {
     /// The number of its node.
     pub node: u32,
     /// What it does.
     pub work: Work<S, D, L, B>,
+}
+
+// Dropped by a call, as its work is.
+impl<S: Source, D: Drain, L: Logic, B: PlugBook> Drop for Seated<S, D, L, B> {
+    fn drop(self) {
+        let Seated { node: _, work: _ } = self;
+    }
 }
 
 /// The parts of an island. Akka calls these the logics and connections that a `GraphInterpreterShell` is made from.
@@ -99,32 +122,41 @@ pub struct Place {
     pub outputs: u32,
 }
 
-/// The node of a work that did nothing yet.
-pub fn build<S: Source, D: Drain, L: Logic, B: PlugBook>(
-    alloc: Global,
-    seated: Seated<S, D, L, B>,
-) -> IslandNode<S, D, L, B>
-    requires { IsUnused seated.work }
-    ensures { Becomes seated result }
-{
-    let Seated { node, work } = seated;
-    match work {
-        Work::Reading(reader) => IslandNode::Reading(LinesSource::new(node, reader)),
-        Work::Making(kind) => IslandNode::Making(maker(node, kind)),
-        Work::Linear(logic) => IslandNode::Linear(logic),
-        Work::State(logic) => IslandNode::State(logic),
-        Work::Sub(logic) => IslandNode::Sub(logic),
-        Work::FanIn(logic, _) => IslandNode::FanIn(logic),
-        Work::FanOut(logic, _) => IslandNode::FanOut(logic),
-        Work::LaneIn(wire) => IslandNode::Entering(Entering::new(wire)),
-        Work::LaneOut(wire) => IslandNode::Leaving(Leaving::new(wire)),
-        Work::Writing(kind, drain) => {
-            let writes = written(kind);
-            match drain {
-                Some(drain) => IslandNode::Writing(FileSink::new(alloc, node, writes, drain)),
-                None => IslandNode::Ignoring(IgnoreSink::new(node)),
+impl<S: Source, D: Drain, L: Logic, B: PlugBook> Work<S, D, L, B> {
+    // The node of this number, which did nothing yet.
+    fn into_node(self, alloc: Global, node: u32) -> IslandNode<S, D, L, B>
+        requires { IsUnused self }
+        ensures { BecomesOf node self result }
+    {
+        match self {
+            Work::Reading(reader) => IslandNode::Reading(LinesSource::new(node, reader)),
+            Work::Making(kind) => IslandNode::Making(maker(node, kind)),
+            Work::Linear(logic) => IslandNode::Linear(logic),
+            Work::State(logic) => IslandNode::State(logic),
+            Work::Sub(logic) => IslandNode::Sub(logic),
+            Work::FanIn(logic, _) => IslandNode::FanIn(logic),
+            Work::FanOut(logic, _) => IslandNode::FanOut(logic),
+            Work::LaneIn(wire) => IslandNode::Entering(Entering::new(wire)),
+            Work::LaneOut(wire) => IslandNode::Leaving(Leaving::new(wire)),
+            Work::Writing(kind, drain) => {
+                let writes = written(kind);
+                match drain {
+                    Some(drain) => IslandNode::Writing(FileSink::new(alloc, node, writes, drain)),
+                    None => IslandNode::Ignoring(IgnoreSink::new(node)),
+                }
             }
         }
+    }
+}
+
+impl<S: Source, D: Drain, L: Logic, B: PlugBook> Seated<S, D, L, B> {
+    /// The node of a work that did nothing yet.
+    pub fn build(self, alloc: Global) -> IslandNode<S, D, L, B>
+        requires { IsUnused self.work }
+        ensures { Becomes self result }
+    {
+        let Seated { node, work } = self;
+        work.into_node(alloc, node)
     }
 }
 
@@ -177,7 +209,7 @@ pub fn build_all<S: Source, D: Drain, L: Logic, B: PlugBook>(
 {
     let mut nodes = nodes;
     for seated in places {
-        nodes.push_reserved(build(alloc, seated));
+        nodes.push_reserved(seated.build(alloc));
     }
     nodes
 }

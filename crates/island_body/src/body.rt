@@ -32,7 +32,6 @@ use std::alloc::{AllocError, Global};
 use stream_io::outside::{Drain, Source};
 
 /// An island with the ends of its lanes. Rule: Akka Streams 2.6 reference, chapter on asynchronous boundaries.
-#[derive(Drop)]
 pub struct Body<S: Source, D: Drain, L: Logic, B: PlugBook> {
     pub(crate) island: Island<S, D, L, B>,
     // Those that take, and those that send, each in the order of their wires.
@@ -44,6 +43,20 @@ pub struct Body<S: Source, D: Drain, L: Logic, B: PlugBook> {
     pub(crate) spent: u32,
     // The islands at the other ends, and which of them are to be woken.
     pub(crate) peers: Peers,
+}
+
+// Dropped by a call, wherever it is dropped: else each crate above proves the drop of each of its parts again.
+impl<S: Source, D: Drain, L: Logic, B: PlugBook> Drop for Body<S, D, L, B> {
+    fn drop(self) {
+        let Body {
+            island: _,
+            ins: _,
+            outs: _,
+            ways: _,
+            spent: _,
+            peers: _,
+        } = self;
+    }
 }
 
 impl<S: Source, D: Drain, L: Logic, B: PlugBook> Body<S, D, L, B> {
@@ -541,7 +554,15 @@ impl<S: Source, D: Drain, L: Logic, B: PlugBook> Body<S, D, L, B> {
         ensures readers { result.readers.items ≡ readers_of self.island.net.nodes }
         ensures writers { result.writers.items ≡ writers_of self.island.net.nodes }
     {
-        match self.island.finish() {
+        let Body {
+            island,
+            ins: _,
+            outs: _,
+            ways: _,
+            spent: _,
+            peers: _,
+        } = self;
+        match island.finish() {
             Ok(end) => end,
             Err(AllocError) => unreachable!(),
         }

@@ -25,12 +25,21 @@ use stream_io::outside::{Drain, Source};
 
 /// The end of a lane that takes, and the number of the wire that the lane is. What it takes is handed on to its island where the
 /// stage there is asked. Rule: Akka Streams 2.6 reference, chapter on asynchronous boundaries.
-#[derive(Drop)]
 pub struct IslandInput {
     /// The number of the wire that the lane is.
     pub wire: u32,
     /// The end of the lane that takes, with its buffer.
     pub boundary: InputBoundary,
+}
+
+// Dropped by a call, wherever it is dropped: else each crate above proves the drop of each of its parts again.
+impl Drop for IslandInput {
+    fn drop(self) {
+        let IslandInput {
+            wire: _,
+            boundary: _,
+        } = self;
+    }
 }
 
 impl IslandInput {

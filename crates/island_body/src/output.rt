@@ -24,12 +24,18 @@ use stream_io::outside::{Drain, Source};
 
 /// The end of a lane that sends, and the number of the wire that the lane is. What its island hands out is sent at once: the
 /// stage there is asked only where demand is left. Rule: Akka Streams 2.6 reference, chapter on asynchronous boundaries.
-#[derive(Drop)]
 pub struct OutputBoundary {
     /// The number of the wire that the lane is.
     pub wire: u32,
     /// The end of the lane that sends.
     pub lane: LaneOut,
+}
+
+// Dropped by a call, wherever it is dropped: else each crate above proves the drop of each of its parts again.
+impl Drop for OutputBoundary {
+    fn drop(self) {
+        let OutputBoundary { wire: _, lane: _ } = self;
+    }
 }
 
 impl OutputBoundary {

@@ -10,7 +10,6 @@ use std::alloc::Global;
 use stream_io::outside::{Drain, Source};
 
 /// Of all that is left of each kind the island that leaves it, in order of the blueprint's nodes, and of its wires.
-#[derive(Drop)]
 pub struct EndHomes {
     /// Of each sink.
     pub sinks: Vec<usize>,
@@ -24,6 +23,20 @@ pub struct EndHomes {
     pub readers: Vec<usize>,
     /// Of each sink that has a file.
     pub writers: Vec<usize>,
+}
+
+// Dropped by a call, wherever it is dropped: else each of its lists is let go on each way out of a function that holds it.
+impl Drop for EndHomes {
+    fn drop(self) {
+        let EndHomes {
+            sinks: _,
+            wires: _,
+            picks: _,
+            seats: _,
+            readers: _,
+            writers: _,
+        } = self;
+    }
 }
 
 /// All that bringing back takes of memory.

@@ -5,7 +5,7 @@ ghost use Rattle.scatter.specs.Shares.{items_at};
 ghost use Rattle.island_parts.specs.Split.{IsSpace, AreSpaces};
 
 use elem_core::why::NoMemory;
-use interpreter::parts::{Link, Place};
+use interpreter::parts::{Link, Parts, Place, Seated};
 use interpreter::room::IslandRoom;
 use plug_logic::book::PlugBook;
 use plug_logic::logic::Logic;
@@ -14,10 +14,31 @@ use std::vec::IntoIter;
 use stream_io::outside::{Drain, Source};
 
 /// An island before its places are there.
-#[derive(Drop)]
 pub struct Space<S: Source, D: Drain, L: Logic, B: PlugBook> {
     pub(crate) links: Vec<Link>,
     pub(crate) room: IslandRoom<S, D, L, B>,
+}
+
+// Dropped by a call, wherever it is dropped: else each crate above proves the drop of each of its parts again.
+impl<S: Source, D: Drain, L: Logic, B: PlugBook> Drop for Space<S, D, L, B> {
+    fn drop(self) {
+        let Space { links: _, room: _ } = self;
+    }
+}
+
+impl<S: Source, D: Drain, L: Logic, B: PlugBook> Space<S, D, L, B> {
+    /// The parts of an island at whose places these stand, and its room.
+    pub(crate) fn island(
+        self,
+        nodes: Vec<Seated<S, D, L, B>>,
+    ) -> (Parts<S, D, L, B>, IslandRoom<S, D, L, B>)
+        ensures nodes { result.0.nodes.items ≡ nodes.items }
+        ensures links { result.0.links.items ≡ self.links.items }
+        ensures room { result.1 ≡ self.room }
+    {
+        let Space { links, room } = self;
+        (Parts { nodes, links }, room)
+    }
 }
 
 /// The space of an island of these places and links.

@@ -20,7 +20,6 @@ use std::alloc::{AllocError, Global};
 use stream_io::outside::{Drain, Source};
 
 /// All that the islands of a blueprint take of memory before they start, but what their nodes need.
-#[derive(Drop)]
 pub struct Split<S: Source, D: Drain, L: Logic, B: PlugBook> {
     // The island of each place: of the nodes, of those where lanes come in, of those where they go out.
     pub(crate) homes: Vec<usize>,
@@ -29,6 +28,18 @@ pub struct Split<S: Source, D: Drain, L: Logic, B: PlugBook> {
     pub(crate) spaces: Vec<Space<S, D, L, B>>,
     // It is empty, and has room for all islands.
     pub(crate) islands: Vec<(Parts<S, D, L, B>, IslandRoom<S, D, L, B>)>,
+}
+
+// Dropped by a call, wherever it is dropped: else each of its lists is let go on each way out of a function that holds it.
+impl<S: Source, D: Drain, L: Logic, B: PlugBook> Drop for Split<S, D, L, B> {
+    fn drop(self) {
+        let Split {
+            homes: _,
+            lists: _,
+            spaces: _,
+            islands: _,
+        } = self;
+    }
 }
 
 /// The sum of two numbers of places; one that is out of range is want of memory.
@@ -78,19 +89,6 @@ pub fn split_of<S: Source, D: Drain, L: Logic, B: PlugBook>(
     })
 }
 
-/// The parts and the room of an island.
-fn island<S: Source, D: Drain, L: Logic, B: PlugBook>(
-    nodes: Vec<Seated<S, D, L, B>>,
-    space: Space<S, D, L, B>,
-) -> (Parts<S, D, L, B>, IslandRoom<S, D, L, B>)
-    ensures nodes { result.0.nodes.items ≡ nodes.items }
-    ensures links { result.0.links.items ≡ space.links.items }
-    ensures room { result.1 ≡ space.room }
-{
-    let Space { links, room } = space;
-    (Parts { nodes, links }, room)
-}
-
 /// The parts and the rooms of islands, in order, into an empty list that has room for them.
 fn join_lists<S: Source, D: Drain, L: Logic, B: PlugBook>(
     lists: Vec<Vec<Seated<S, D, L, B>>>,
@@ -105,26 +103,28 @@ fn join_lists<S: Source, D: Drain, L: Logic, B: PlugBook>(
     let mut rest = spaces.into_iter();
     let mut islands = islands;
     for nodes in lists {
-        islands.push_reserved(island(nodes, take_next(&mut rest)));
+        islands.push_reserved(take_next(&mut rest).island(nodes));
     }
     islands
 }
 
-/// The parts and the room of each island, in order, once all places are there, those of nodes first, then those where lanes come
-/// in, then those where they go out. It takes no memory.
-pub fn join<S: Source, D: Drain, L: Logic, B: PlugBook>(
-    split: Split<S, D, L, B>,
-    seats: Vec<Seated<S, D, L, B>>,
-) -> Vec<(Parts<S, D, L, B>, IslandRoom<S, D, L, B>)>
-    requires ready { IsReady (vec_len split.lists) split }
-    requires each { vec_len seats ≡ vec_len split.homes }
-    ensures { AreIslands split seats.items result.items }
-{
-    let Split {
-        homes,
-        lists,
-        spaces,
-        islands,
-    } = split;
-    join_lists(scatter(&homes, seats, lists), spaces, islands)
+impl<S: Source, D: Drain, L: Logic, B: PlugBook> Split<S, D, L, B> {
+    /// The parts and the room of each island, in order, once all places are there, those of nodes first, then those where lanes come
+    /// in, then those where they go out. It takes no memory.
+    pub fn join(
+        self,
+        seats: Vec<Seated<S, D, L, B>>,
+    ) -> Vec<(Parts<S, D, L, B>, IslandRoom<S, D, L, B>)>
+        requires ready { IsReady (vec_len self.lists) self }
+        requires each { vec_len seats ≡ vec_len self.homes }
+        ensures { AreIslands self seats.items result.items }
+    {
+        let Split {
+            homes,
+            lists,
+            spaces,
+            islands,
+        } = self;
+        join_lists(scatter(&homes, seats, lists), spaces, islands)
+    }
 }

@@ -16,7 +16,7 @@ use interpreter::parts::{Parts, Seated};
 use interpreter::room::IslandRoom;
 use island_parts::laws::islands_have_parts;
 use island_parts::room::EndHomes;
-use island_parts::split::{Split, join, split_of};
+use island_parts::split::{Split, split_of};
 use island_parts::whole::whole_seats;
 use materializer::parts::places_of;
 use materializer::plug_board::hand_out;
@@ -31,7 +31,6 @@ use stream_io::outside::{Drain, Source};
 use stream_model::blueprint::Blueprint;
 
 /// The islands of a blueprint, but for their handles: all that they take of memory before its files are opened.
-#[derive(Drop)]
 pub struct Plans<S: Source, D: Drain, L: Logic, B: PlugBook> {
     seats: Vec<Seat<S, D, L, B>>,
     // It is empty, and has room for what stands at all places: the nodes, and both ends of each lane.
@@ -48,6 +47,23 @@ pub struct Plans<S: Source, D: Drain, L: Logic, B: PlugBook> {
     pub ends: EndHomes,
     /// The kill switches.
     pub board: Board,
+}
+
+// Dropped by a call, wherever it is dropped: else each crate above proves the drop of each of its parts again.
+impl<S: Source, D: Drain, L: Logic, B: PlugBook> Drop for Plans<S, D, L, B> {
+    fn drop(self) {
+        let Plans {
+            seats: _,
+            places: _,
+            split: _,
+            blueprint: _,
+            lanes: _,
+            homes: _,
+            count: _,
+            ends: _,
+            board: _,
+        } = self;
+    }
 }
 
 /// The islands of a blueprint, whose nodes hold their handles.
@@ -137,15 +153,26 @@ impl<S: Source, D: Drain, L: Logic, B: PlugBook> Plans<S, D, L, B> {
         ensures board { result.board ≡ self.board }
     {
         islands_have_parts::<S, D, L, B>();
-        let nodes = fill_all(alloc, self.seats, self.places, sources, drains);
-        let islands = join(self.split, whole_seats(nodes, &self.lanes));
+        let Plans {
+            seats,
+            places,
+            split,
+            blueprint: _,
+            lanes,
+            homes,
+            count,
+            ends,
+            board,
+        } = self;
+        let nodes = fill_all(alloc, seats, places, sources, drains);
+        let islands = split.join(whole_seats(nodes, &lanes));
         Filled {
             islands,
-            lanes: self.lanes,
-            homes: self.homes,
-            count: self.count,
-            ends: self.ends,
-            board: self.board,
+            lanes,
+            homes,
+            count,
+            ends,
+            board,
         }
     }
 }

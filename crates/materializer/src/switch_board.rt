@@ -21,7 +21,6 @@ use stream_model::kind::Kind;
 
 // Choice: docs/DECISIONS.md#switches-by-mention
 /// The kill switches that the valves and trips of a blueprint name. The place of a switch is its least node.
-#[derive(Drop)]
 pub struct Board {
     // Of each node the place of its switch.
     places: Vec<Option<usize>>,
@@ -29,6 +28,17 @@ pub struct Board {
     switches: Vec<Option<Arc<Switch>>>,
     // At each place an empty list, with room for all seats of its switch.
     seats: Vec<Vec<SwitchSeat>>,
+}
+
+// Dropped by a call, wherever it is dropped: else each crate above proves the drop of each of its parts again.
+impl Drop for Board {
+    fn drop(self) {
+        let Board {
+            places: _,
+            switches: _,
+            seats: _,
+        } = self;
+    }
 }
 
 /// Whether a node of this kind is at the switch of that name.

@@ -87,12 +87,13 @@ impl Acts {
         if self.items.len() != 1 {
             return None;
         }
-        let Act::Pull(i) = &self.items[0] else {
+        let Act::Pull(_) = &self.items[0] else {
             return None;
         };
-        let i = *i;
-        self.items.pop();
-        Some(i)
+        match self.items.pop() {
+            Some(Act::Pull(i)) => Some(i),
+            _ => unreachable!(),
+        }
     }
 
     /// Takes out the action where exactly one is held and it pushes, and says at which output and what; else the list stays. It takes no memory.
@@ -109,7 +110,7 @@ impl Acts {
         };
         match self.items.pop() {
             Some(Act::Push(j, e)) => Some((j, e)),
-            _ => None,
+            _ => unreachable!(),
         }
     }
 

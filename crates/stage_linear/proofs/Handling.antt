@@ -1,15 +1,16 @@
 -- Each call of a linear stage keeps the law of its output.
 use Rattle.std.specs.Prelude.{Result, OnOk}
-use Rattle.std.proofs.Common.{Bool, ◌≡◌, List, [], ◌∷◌, ◌++◌, length, refl, sym, ap, subst, ◌∙◌}
+use Rattle.std.proofs.Common.{ℕ, ◌+◌, Bool, ◌≡◌, List, [], ◌∷◌, ◌++◌, length, refl, sym, ap, subst, ◌∙◌}
 use Rattle.elem_core.specs.Tree.{Tree}
 use Rattle.elem_core.specs.declared.item.Item.{Item}
+use Rattle.elem_core.specs.declared.item.Item.TheVariants as item
 use Rattle.port_core.specs.declared.act.Act.{Act}
 use Rattle.port_core.specs.declared.view.InView.{InView}
 use Rattle.port_core.specs.declared.view.InView.TheVariants.{Idle, Pulled, Finished, Cancelled}
 use Rattle.port_core.specs.declared.view.OutView.{OutView}
 use Rattle.port_core.specs.declared.view.OutView.TheVariants as outlet
 use Rattle.port_core.specs.View.{View, in_at, out_at, ActsAllowed, acted_all}
-use Rattle.port_core.specs.Call.{Call, starts, CallAllowed, Meets, seen, brought_to, given_on, Obeys}
+use Rattle.port_core.specs.Call.{Call, starts, arrives, CallAllowed, Meets, seen, brought_to, given_on, Obeys}
 use Rattle.stage_core.specs.Histories as histories
 use Rattle.stage_core.specs.Handling.{Starts, Handles}
 use Rattle.stage_core.proofs.OneOnes.{given_one, brought_one, one_input, at_first, first_port, fresh_ports}
@@ -26,6 +27,10 @@ use Rattle.stage_core.specs.declared.phase.Phase.TheVariants.{New, Open, Closed}
 use Rattle.stage_linear.specs.declared.course.Course.{Course}
 use Rattle.stage_linear.specs.States.{Logic, held, held_in, port_state, port_state_in, Turned}
 use Rattle.stage_linear.specs.Handling.{LinearFresh, LinearPortState, LinearLaw}
+use Rattle.stage_linear.specs.Outcomes.{CameTo}
+use Rattle.stage_linear.proofs.Rows.{called_open}
+use Rattle.stage_linear.proofs.Pushes.{waits, came_turned}
+use Rattle.stage_linear.proofs.Ports.{came_obeys}
 
 -- the law of its output once a call's actions are done
 law_after : (book : Book) (call : Call) (first old new : Logic) (v : View) (acts : List Act) (took gave : List (List Item)) → port_state old v → CallAllowed call v → ActsAllowed (seen call v) acts → Turned book call old acts new → LinearLaw book first old v took gave
@@ -66,6 +71,17 @@ pub handles : {T E : Type 0} (book : Book) (call : Call) (old new : Logic) (acts
     → OnOk r (Handles LinearPortState (LinearLaw book) call old new acts)
 handles book call old new acts r m o t =
     subst (λ c. OnOk r (Handles LinearPortState (LinearLaw book) c old new acts)) (first_call call old m.0 m.1.0 m.1.1) (on_ok_two r o t (λ a b. handled book (at_first call) old new acts a b))
+
+-- a call was handled whose port is its one
+pub handles_at : (book : Book) (call : Call) (old new : Logic) (acts : List Act) → Meets call (LinearPortState old) → Obeys (at_first call) (port_state old) (port_state new) acts → Turned book (at_first call) old acts new → Handles LinearPortState (LinearLaw book) call old new acts
+handles_at book call old new acts m o t = subst (λ c. Handles LinearPortState (LinearLaw book) c old new acts) (first_call call old m.0 m.1.0 m.1.1) (handled book (at_first call) old new acts o t)
+
+-- an element came to an outcome
+pub handles_came : (book : Book) (p : ℕ) (t : Tree) (k : ℕ) (old new : Logic) (acts : List Act) → Meets (arrives p (item.Elem t)) (LinearPortState old) → k ≡ old.stage.taken + 1 → CameTo book old k t acts new → Handles LinearPortState (LinearLaw book) (arrives p (item.Elem t)) old new acts
+handles_came book p t k old new acts m e came =
+    let h : old.phase ≡ Open = called_open old (arrives p (item.Elem t)) m.0 m.1.1.started (λ e. cc) m.1.0 m.1.1.ports in
+    let w = waits old t h (met_first (arrives p (item.Elem t)) old m) in
+    handles_at book (arrives p (item.Elem t)) old new acts m (came_obeys book old new acts t k h w came) (came_turned book old new acts t k h w e came)
 
 -- ---- the run begins
 

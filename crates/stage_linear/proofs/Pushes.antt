@@ -1,5 +1,5 @@
 -- An element that came to an outcome is one step of the stage's machine.
-use Rattle.std.specs.Prelude.{if◌then◌else◌}
+use Rattle.std.specs.Prelude.{if◌then◌else◌, Option, Some, None, IfSome}
 use Rattle.std.proofs.Common.{◌≡◌, ℕ, ◌+◌, Bool, true, List, [], ◌∷◌, refl, sym, ap, ◌∙◌, subst, arith}
 use Rattle.elem_core.specs.Tree.{Tree}
 use Rattle.elem_core.specs.declared.item.Item.{Item}
@@ -24,11 +24,13 @@ use Rattle.stage_linear.specs.declared.course.Course.{Course}
 use Rattle.stage_linear.specs.declared.course.Course.TheVariants as course
 use Rattle.step_work.specs.declared.task.LinearReaction.{LinearReaction}
 use Rattle.step_work.specs.declared.task.LinearReaction.TheVariants.{Gives, GivesAll, Skips, EndsWith, EndsWithAll, Ends, Blames, Fails}
-use Rattle.step_work.specs.Tasks.{HasMore, SameMachine, GoesOn, Spreads, Stays, ReactedBy}
+use Rattle.step_work.specs.declared.task.AtOnce.{AtOnce}
+use Rattle.step_work.specs.Tasks.{outcome_of, HasMore, SameMachine, GoesOn, Spreads, Stays, ReactedBy}
 use Rattle.port_core.specs.declared.act.Act.{Act}
-use Rattle.stage_linear.specs.Outcomes.{working, answered, answer_acts, CameTo}
+use Rattle.stage_linear.specs.Outcomes.{working, answered, answer_acts, CameTo, Said}
 use Rattle.stage_linear.specs.States.{Logic, held, port_state, port_state_in, Turned}
 use Rattle.stage_linear.proofs.States.{of_logic}
+use Rattle.stage_linear.proofs.Workers.{stays_on}
 
 -- ---- where an element may come, the stage waits and holds nothing
 
@@ -175,3 +177,20 @@ pushed book l w b t k o h q e r =
 
 pub came_turned : (book : Book) (l new : Logic) (acts : List Act) (t : Tree) (k : ℕ) → l.phase ≡ Open → Waits l → k ≡ l.stage.taken + 1 → CameTo book l k t acts new → Turned book (arrives 0 (item.Elem t)) l acts new
 came_turned book l new acts t k h q e r = rw (r.acted, r.stands) (pushed book l r.work r.ready t k r.outcome h q e r.reacted)
+
+-- ---- what is known at once
+
+pub said_of : (book : Book) (l : Logic) (w : Work) (b : Bool) (t : Tree) (x : Option AtOnce) → b ≡ true → IfSome x (λ s. ReactedBy book l.stage.work t w (outcome_of s t)) → IfSome x (λ s. Said book l t (outcome_of s t) (working l w b))
+said_of book l w b t None h r = tt
+said_of book l w b t (Some s) h r = record { work = w; ready = b; reacted = r; stays = stays_on b (outcome_of s t) h; stands = refl }
+
+pub came_said : (book : Book) (l mid new : Logic) (acts : List Act) (t : Tree) (k : ℕ) (o : LinearReaction) → Said book l t o mid → new ≡ answered mid k o → acts ≡ answer_acts mid k o → CameTo book l k t acts new
+came_said book l mid new acts t k o s p q = record {
+  work = s.work;
+  ready = s.ready;
+  outcome = o;
+  reacted = s.reacted;
+  stays = s.stays;
+  stands = p ∙ ap (λ (m : Logic). answered m k o) s.stands;
+  acted = q ∙ ap (λ (m : Logic). answer_acts m k o) s.stands;
+}

@@ -38,6 +38,10 @@ impl<L: Logic, B: PlugBook> Stage for LinearLogic<L, B> {
 
     fn on_pull(&mut self, alloc: Global, _port: u8, acts: &mut Acts) -> Result<(), NoMemory> {
         a_called_stage_is_open();
+        if self.holds_none() {
+            self.ask(0, acts);
+            return Ok(());
+        }
         self.on_pull(alloc, 0, acts)
     }
 
@@ -49,7 +53,14 @@ impl<L: Logic, B: PlugBook> Stage for LinearLogic<L, B> {
         acts: &mut Acts,
     ) -> Result<(), NoMemory> {
         a_called_stage_is_open();
-        self.on_push(alloc, 0, e, acts)
+        let taken = self.next_number()?;
+        match self.at_once(&e) {
+            Some(said) => {
+                self.answer_at_once(taken, said, e, acts);
+                Ok(())
+            }
+            None => self.react(alloc, taken, e, acts),
+        }
     }
 
     fn on_finish(&mut self, alloc: Global, _port: u8, acts: &mut Acts) -> Result<(), NoMemory> {

@@ -7,7 +7,7 @@ ghost use Rattle.plug_logic.specs.Gives.{listed};
 ghost use Rattle.stream_model.specs.Linear.{finish_of};
 ghost use Rattle.stream_model.specs.declared.kind.Kind.TheVariants as kind;
 ghost use Rattle.stage_linear.specs.declared.course.Course.TheVariants as course;
-ghost use Rattle.stage_linear.specs.Outcomes.{answered, answer_acts, CameTo};
+ghost use Rattle.stage_linear.specs.Outcomes.{answered, answer_acts, CameTo, Said};
 ghost use Rattle.stage_linear.specs.Plugs.{Is};
 ghost use Rattle.stage_linear.specs.Pending.{spread, first_acts, leaving, leaving_acts, ended_with, ended_acts, ended_by, closed_acts, given_on_from, last_acts, behind_last, behind_last_acts, StaysReady};
 ghost use Rattle.step_work.specs.Tasks.{HasMore, outcome_of};
@@ -139,6 +139,23 @@ impl<L: Logic, B: PlugBook> LinearLogic<L, B> {
         Ok(())
     }
 
+    /// Nothing is held that could be given: asks the input.
+    #[inline(always)]
+    pub fn ask(&mut self, port: u8, acts: &mut Acts)
+        requires open { self.old.phase ≡ Open }
+        requires port { port ≡ 0 }
+        requires meets { Meets (pulls 0) (port_state self.old) }
+        requires none { self.old.pending ≡ [] }
+        requires empty { acts.old.items ≡ [] }
+        requires room { 4 ≤ acts.old.room }
+        ensures ports { Obeys (pulls 0) (port_state self.old) (port_state self.new) acts.new.items }
+        ensures gives { Turned B.lists (pulls 0) self.old acts.new.items self.new }
+        ensures room { acts.new.room ≡ acts.old.room }
+    {
+        self.course = Course::Waits;
+        acts.add(Act::Pull(port));
+    }
+
     /// The output was asked.
     pub fn on_pull(&mut self, alloc: Global, port: u8, acts: &mut Acts) -> Result<(), NoMemory>
         requires open { self.old.phase ≡ Open }
@@ -153,8 +170,7 @@ impl<L: Logic, B: PlugBook> LinearLogic<L, B> {
         match self.next_pending() {
             Some(e) => self.give_pending(alloc, e, acts),
             None => {
-                self.course = Course::Waits;
-                acts.add(Act::Pull(port));
+                self.ask(port, acts);
                 Ok(())
             }
         }
@@ -219,27 +235,6 @@ impl<L: Logic, B: PlugBook> LinearLogic<L, B> {
         Ok(())
     }
 
-    /// An element came. Resume and Restart leave out one that the function has no value for.
-    pub fn on_push(
-        &mut self,
-        alloc: Global,
-        port: u8,
-        e: Elem,
-        acts: &mut Acts,
-    ) -> Result<(), NoMemory>
-        requires open { self.old.phase ≡ Open }
-        requires port { port ≡ 0 }
-        requires meets { Meets (arrives 0 (item.Elem e)) (port_state self.old) }
-        requires empty { acts.old.items ≡ [] }
-        requires room { 4 ≤ acts.old.room }
-        ensures ports { OnOk result (Obeys (arrives 0 (item.Elem e)) (port_state self.old) (port_state self.new) acts.new.items) }
-        ensures gives { OnOk result (Turned B.lists (arrives 0 (item.Elem e)) self.old acts.new.items self.new) }
-        ensures room { acts.new.room ≡ acts.old.room }
-    {
-        let taken = self.next_number()?;
-        self.take_in(alloc, taken, e, acts)
-    }
-
     /// The run is over: the log of its moves, of which it made none. It takes no memory.
     pub fn close(self, alloc: Global) -> PickLog
         ensures { result.moves ≡ [] }
@@ -247,9 +242,9 @@ impl<L: Logic, B: PlugBook> LinearLogic<L, B> {
         PickLog::new(alloc)
     }
 
-    // The number of the next element. Past 64 bits there is none: that counts as want of memory.
     // Choice: docs/DECISIONS.md#elements-past-64-bits
-    fn next_number(&self) -> Result<u64, NoMemory>
+    /// The number of the next element. Past 64 bits there is none: that counts as want of memory.
+    pub(crate) fn next_number(&self) -> Result<u64, NoMemory>
         ensures { IfOk result (λ n. n ≡ self.now.stage.taken + 1) }
     {
         match self.taken.checked_add(1) {
@@ -258,33 +253,19 @@ impl<L: Logic, B: PlugBook> LinearLogic<L, B> {
         }
     }
 
-    // Element number `taken`, the short way where its task says at once what comes of it.
-    fn take_in(
-        &mut self,
-        alloc: Global,
-        taken: u64,
-        e: Elem,
-        acts: &mut Acts,
-    ) -> Result<(), NoMemory>
-        requires none { self.old.pending ≡ [] }
+    /// What comes of this element, where it is known at once. `None` leaves the stage as it is; no plug is called.
+    #[inline(always)]
+    pub(crate) fn at_once(&mut self, e: &Elem) -> Option<AtOnce>
         requires more { HasMore self.old.stage.work }
         requires ready { self.old.ready ≡ true }
-        requires empty { acts.old.items ≡ [] }
-        requires room { 4 ≤ acts.old.room }
-        ensures came { OnOk result (CameTo B.lists self.old taken e acts.new.items self.new) }
-        ensures room { acts.new.room ≡ acts.old.room }
+        ensures said { IfSome result (λ s. Said B.lists self.old e.now (outcome_of s e.now) self.new) }
+        ensures unsaid { IfNone result (self.new ≡ self.old) }
     {
-        match self.worker.at_once(&e) {
-            Some(said) => {
-                self.answer_at_once(taken, said, e, acts);
-                Ok(())
-            }
-            None => self.react(alloc, taken, e, acts),
-        }
+        self.worker.at_once(e)
     }
 
-    // What element number `taken`, which is `e`, came to at once.
-    fn answer_at_once(&mut self, taken: u64, said: AtOnce, e: Elem, acts: &mut Acts)
+    /// What element number `taken`, which is `e`, came to at once.
+    pub(crate) fn answer_at_once(&mut self, taken: u64, said: AtOnce, e: Elem, acts: &mut Acts)
         requires empty { acts.old.items ≡ [] }
         requires room { 4 ≤ acts.old.room }
         ensures stage { self.new ≡ answered self.old taken (outcome_of said e) }
@@ -308,9 +289,16 @@ impl<L: Logic, B: PlugBook> LinearLogic<L, B> {
         }
     }
 
-    // Element number `taken` comes to what the worker makes of it. Out of line, so that `on_push` keeps a small frame.
+    /// Element number `taken` comes to what the worker makes of it. Resume and Restart leave out one that the function has no value for.
+    /// Out of line, so that `on_push` keeps a small frame.
     #[inline(never)]
-    fn react(&mut self, alloc: Global, taken: u64, e: Elem, acts: &mut Acts) -> Result<(), NoMemory>
+    pub(crate) fn react(
+        &mut self,
+        alloc: Global,
+        taken: u64,
+        e: Elem,
+        acts: &mut Acts,
+    ) -> Result<(), NoMemory>
         requires none { self.old.pending ≡ [] }
         requires more { HasMore self.old.stage.work }
         requires ready { self.old.ready ≡ true }
@@ -559,7 +547,8 @@ impl<L: Logic, B: PlugBook> LinearLogic<L, B> {
         }
     }
 
-    fn holds_none(&self) -> bool
+    /// Whether nothing is held that could be given.
+    pub fn holds_none(&self) -> bool
         ensures { IsTrue result ↔ (self.now.pending ≡ []) }
     {
         match &self.pending {

@@ -201,6 +201,7 @@ fn map_at_once(f: &MapFn, e: &Elem) -> Option<AtOnce>
     }
 }
 
+#[inline(always)]
 fn filter_at_once(p: &Pred, e: &Elem) -> AtOnce
     ensures { Reacted (filtering p.now true) e.now (filtering p.now true) (outcome_of result e.now) }
 {
@@ -211,6 +212,7 @@ fn filter_at_once(p: &Pred, e: &Elem) -> AtOnce
     }
 }
 
+#[inline(always)]
 fn filter_not_at_once(p: &Pred, e: &Elem) -> AtOnce
     ensures { Reacted (filtering p.now false) e.now (filtering p.now false) (outcome_of result e.now) }
 {

@@ -1,5 +1,5 @@
 -- What a blueprint that breaks no rule tells of its ports, its kinds and its wires.
-use Rattle.std.proofs.Common.{◌≡◌, ℕ, ◌+◌, ◌<◌, ◌^◌, Bool, true, false, not, ◌&&◌, List, [], ◌∷◌, map, Option, Some, None, refl, ap, sym, ◌∙◌, arith}
+use Rattle.std.proofs.Common.{◌≡◌, ℕ, ◌+◌, ◌<◌, ◌≤◌, ◌^◌, Bool, true, false, not, ◌&&◌, List, [], ◌∷◌, map, Option, Some, None, refl, ap, sym, ◌∙◌, arith}
 use Rattle.std.specs.Prelude.{slice_get, nat_le}
 use Rattle.std.specs.List.{list_all, All}
 use Rattle.std.specs.Option.{option_or, option_map}
@@ -15,6 +15,7 @@ use Rattle.stream_model.specs.declared.blueprint.Blueprint.{Blueprint}
 use Rattle.stream_model.specs.declared.blueprint.ChainDecl.{ChainDecl}
 use Rattle.stream_model.specs.declared.blueprint.Node.{Node}
 use Rattle.stream_model.specs.declared.blueprint.WireDecl.{WireDecl}
+use Rattle.stream_model.specs.declared.kind.TheConstants.{MAX_FAN}
 use Rattle.blue_names.specs.First.{first_from, when}
 use Rattle.blue_names.specs.Ports.{port_missing, port_twice, port_open}
 use Rattle.blue_names.specs.Sizes.{sizes_fit, chain_wrong, node_wrong, wire_wrong, size_wrong}
@@ -82,8 +83,11 @@ fit_joined b plugs taken fit =
 
 -- ---- kinds that have few ports
 
-within : (n : ℕ) → (nat_le 2 n && nat_le n 16) ≡ true → n < 2 ^ 8
-within n h = let parts = and_parts (nat_le 2 n) (nat_le n 16) h in grind (arith, nat_tests, parts.1)
+at_most : (n m : ℕ) → nat_le n m ≡ true → n ≤ m
+at_most n m h = grind (arith, nat_tests, h)
+
+within : (n : ℕ) → (nat_le 2 n && nat_le n MAX_FAN) ≡ true → n < 2 ^ 8
+within n h = let parts = and_parts (nat_le 2 n) (nat_le n MAX_FAN) h in let most : n ≤ MAX_FAN = at_most n MAX_FAN parts.1 in omega (arith, most)
 
 few_inputs : (k : Kind) → sizes_fit k ≡ true → inputs_of k < 2 ^ 8
 few_inputs (Merge n) h = within n h

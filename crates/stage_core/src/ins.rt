@@ -1,5 +1,6 @@
 // How the inputs of a stage with several stand, and a cancel of each that is open.
 ghost use Rattle.std.specs.Prelude.{◌≡◌, ◌≤◌, ◌+◌, ◌++◌, false, length, IfOk, replicate, vec_items};
+ghost use Rattle.stream_model.specs.declared.kind.TheConstants.{MAX_FAN};
 ghost use Rattle.stage_core.specs.Seats.{open_cancels};
 
 use elem_core::why::NoMemory;
@@ -20,7 +21,7 @@ pub fn open_inputs(alloc: Global, inputs: u32) -> Result<Vec<bool>, NoMemory>
 
 /// Each input that has not ended is cancelled.
 pub fn cancel_open(over: &[bool], acts: &mut Acts)
-    requires few { length over.now ≤ 16 }
+    requires few { length over.now ≤ MAX_FAN }
     requires room { length acts.old.items + length over.now ≤ acts.old.room }
     ensures { acts.new ≡ record acts.old { items = acts.old.items ++ open_cancels 0 over.now } }
 {

@@ -1,5 +1,6 @@
 // How the outputs of a stage with several stand, and what is done at each that is open.
 ghost use Rattle.std.specs.Prelude.{◌≡◌, ◌≤◌, ◌+◌, ◌++◌, length, IfOk, replicate, vec_items};
+ghost use Rattle.stream_model.specs.declared.kind.TheConstants.{MAX_FAN};
 ghost use Rattle.port_core.specs.declared.act.Act.TheVariants as act;
 ghost use Rattle.stage_core.specs.declared.outs.OutputState.TheVariants.{Quiet};
 ghost use Rattle.stage_core.specs.OpenOuts.{at_open};
@@ -33,7 +34,7 @@ pub fn quiet_outs(alloc: Global, outputs: u8) -> Result<Vec<OutputState>, NoMemo
 
 /// Each open output completes.
 pub fn complete_open(outs: &[OutputState], acts: &mut Acts)
-    requires few { length outs.now ≤ 16 }
+    requires few { length outs.now ≤ MAX_FAN }
     requires room { length acts.old.items + length outs.now ≤ acts.old.room }
     ensures acts { acts.new ≡ record acts.old { items = acts.old.items ++ at_open (λ j. act.Complete j) 0 outs.now } }
 {
@@ -46,7 +47,7 @@ pub fn complete_open(outs: &[OutputState], acts: &mut Acts)
 
 /// Each open output fails by this cause.
 pub fn fail_open(outs: &[OutputState], cause: Cause, acts: &mut Acts)
-    requires few { length outs.now ≤ 16 }
+    requires few { length outs.now ≤ MAX_FAN }
     requires room { length acts.old.items + length outs.now ≤ acts.old.room }
     ensures acts { acts.new ≡ record acts.old { items = acts.old.items ++ at_open (λ j. act.FailOut j cause) 0 outs.now } }
 {

@@ -13,10 +13,11 @@ use elem_core::item::Item;
 use elem_core::why::{Cause, NoMemory};
 use port_core::acts::Acts;
 use std::alloc::Global;
+use stream_model::kind::MAX_FAN;
 
 // Choice: docs/DECISIONS.md#room-of-actions
-/// The most actions that one call appends: two for each port of a stage with 16 inputs or outputs, and for its other port.
-pub const MOST_ACTS: u32 = 34;
+/// The most actions that one call appends: two for each port of a stage with `MAX_FAN` inputs or outputs, and for its other port.
+pub const MOST_ACTS: u32 = 2 * (MAX_FAN + 1);
 
 // Choice: docs/DECISIONS.md#handlers-have-two-clauses
 /// A node of a fused graph: a source, a stage or a sink. Each call is a handler; what it wants done at its ports it appends

@@ -15,6 +15,7 @@ use Rattle.stream_model.specs.FanIn.{Tagged, Inflow, AllAgree, FanStands, concat
 use Rattle.stream_model.specs.Picks.{merge_fits}
 use Rattle.stream_model.proofs.FanTraces.{concat_trace, interleave_trace, sorted_trace}
 use Rattle.stream_model.proofs.PickTraces.{zip_trace}
+use Rattle.stream_model.specs.declared.kind.TheConstants.{MAX_FAN}
 use Rattle.stage_core.specs.Zips.{ZipStandsOf}
 use Rattle.stage_core.proofs.FanTurns.{fan_history_stands}
 use Rattle.stage_core.proofs.ZipTurns.{zip_history_stands}
@@ -120,7 +121,7 @@ ordered_tells world node kind first now o t s moves e = let none = ordered_unmov
 
 -- ---- a new stage
 
-taking_begins : (node : ℕ) (kind : Kind) (d : Decider) (n : ℕ) (segment : Option ℕ) (l : Taking) → 2 ≤ n → n ≤ 16 → taking.Begins n segment l → inputs_of kind ≡ n → TakesAs kind (logic.Taking l) → Begins node kind d (logic.Taking l)
+taking_begins : (node : ℕ) (kind : Kind) (d : Decider) (n : ℕ) (segment : Option ℕ) (l : Taking) → 2 ≤ n → n ≤ MAX_FAN → taking.Begins n segment l → inputs_of kind ≡ n → TakesAs kind (logic.Taking l) → Begins node kind d (logic.Taking l)
 taking_begins node kind d n segment l two few b is takes = record {
   fresh = b.live;
   takes = takes;
@@ -134,10 +135,10 @@ interleave_takes : (l : Taking) (k : ℕ) → l.segment ≡ Some k → l.current
 interleave_takes l k s c n =
     ap (λ x. (taking_by x).from (taking.place_of l)) s ∙ ap (λ p. (interleaving k).from (record { current = p; left = l.left })) c ∙ ap (λ p. (interleaving k).from (record { current = 0; left = p })) n
 
-concat_begins : (node n : ℕ) (d : Decider) (l : Taking) → 2 ≤ n → n ≤ 16 → taking.Begins n None l → Begins node (Concat n) d (logic.Taking l)
+concat_begins : (node n : ℕ) (d : Decider) (l : Taking) → 2 ≤ n → n ≤ MAX_FAN → taking.Begins n None l → Begins node (Concat n) d (logic.Taking l)
 concat_begins node n d l two few b = taking_begins node (Concat n) d n None l two few b refl (b.by, concat_takes l b.by b.current)
 
-interleave_begins : (node n k : ℕ) (d : Decider) (l : Taking) → 2 ≤ n → n ≤ 16 → taking.Begins n (Some k) l → Begins node (Interleave n k) d (logic.Taking l)
+interleave_begins : (node n k : ℕ) (d : Decider) (l : Taking) → 2 ≤ n → n ≤ MAX_FAN → taking.Begins n (Some k) l → Begins node (Interleave n k) d (logic.Taking l)
 interleave_begins node n k d l two few b = taking_begins node (Interleave n k) d n (Some k) l two few b refl (b.by, interleave_takes l k b.by b.current (b.whole k refl))
 
 sorted_begins : (node : ℕ) (d : Decider) → Begins node MergeSorted d (logic.Sorting new_pair)

@@ -16,6 +16,7 @@ use Rattle.stream_model.specs.FanIn.{Inflow}
 use Rattle.stream_model.specs.View as picture
 use Rattle.elem_core.specs.Prefix.{IsPrefix}
 use Rattle.stream_model.specs.Rests.{SortedRests, ZipRests}
+use Rattle.stream_model.specs.declared.kind.TheConstants.{MAX_FAN}
 use Rattle.stage_core.specs.declared.stage.TheConstants.{MOST_ACTS}
 use Rattle.stage_core.specs.Handling.{Starts, Handles}
 use Rattle.stage_core.specs.Histories.{given_all, brought_by, AllEmpty}
@@ -88,7 +89,7 @@ pub called_fits : (l : InLogic) (c : Call) (v : View) → CallAllowed c v → po
 called_fits (logic.Taking l) c v m r = by_live l.live r
   where
     by_live : (b : Bool) → taking.port_state_by b l v → room_of (logic.Taking l) ≤ MOST_ACTS
-    by_live true r = let few : length l.over ≤ 16 = r.1.few in omega (arith, few)
+    by_live true r = let few : length l.over ≤ MAX_FAN = r.1.few in omega (arith, few)
     by_live false r = absurd (none_called c v m r)
 called_fits (logic.Sorting l) c v m r = omega arith
 called_fits (logic.Zipping l) c v m r = omega arith

@@ -18,6 +18,7 @@ use Rattle.port_core.specs.Asking.{PullsStand}
 use Rattle.port_core.specs.Call.{Call, starts, pulls, arrives, cancels, CallAllowed, seen, Obeys, Meets, given_on}
 use Rattle.stream_model.specs.Outlook.{ended, failed}
 use Rattle.stream_model.specs.FanIn.{Tagged, tag, Inflow, flow}
+use Rattle.stream_model.specs.declared.kind.TheConstants.{MAX_FAN}
 use Rattle.stage_core.specs.Held.{told}
 use Rattle.stage_core.specs.Inflows.{nothing_came, joined_all, coming}
 use Rattle.stage_core.specs.Fans.{FanPlace, AllFew, untagged, fan_gives, FanTurn, FanClose, completes, fails}
@@ -209,7 +210,7 @@ module _ (old : Taking) (port : ℕ) (h : old.live ≡ true) (sound : Sound old)
   linked_then : HasFollowers over (relinked port old.next)
   linked_then = relinks old.over port (slice_get_within old.over port false open_port) old.next sound.linked
 
-  few_then : length over ≤ 16
+  few_then : length over ≤ MAX_FAN
   few_then = let l = length-set old.over port true in let k = sound.few in omega (arith, l, k)
 
   order_kept : (segment : Option ℕ) (c : ℕ) → InOrder segment old.over c → InOrder segment over c
@@ -379,7 +380,7 @@ seats_idle (suc k) n c = by_mark (n == c) (seats_idle k (n + 1) c)
     by_mark false e = ap (λ (xs : List InView). inlet.Idle ∷ xs) e
 
 -- the row of a new one
-pub new_row : (inputs : ℕ) (segment : Option ℕ) (l : Taking) → 2 ≤ inputs → inputs ≤ 16 → Begins inputs segment l → port_state l (record { ins = replicate inputs inlet.Idle; outs = Unpulled ∷ [] })
+pub new_row : (inputs : ℕ) (segment : Option ℕ) (l : Taking) → 2 ≤ inputs → inputs ≤ MAX_FAN → Begins inputs segment l → port_state l (record { ins = replicate inputs inlet.Idle; outs = Unpulled ∷ [] })
 new_row inputs segment l two few b =
     let ins : seats 0 l.over l.current l.asked ≡ replicate inputs inlet.Idle = ap (λ o. seats 0 o l.current l.asked) b.over ∙ ap (λ c. seats 0 (replicate inputs false) c l.asked) b.current ∙ ap (λ a. seats 0 (replicate inputs false) 0 a) b.unasked
     ∙ seats_idle inputs 0 0 in

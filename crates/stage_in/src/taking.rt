@@ -1,4 +1,5 @@
 ghost use Rattle.std.specs.Prelude.{◌≡◌, ◌≢◌, ◌≤◌, ◌<◌, ◌∷◌, ◌+◌, ℕ, [], length, OnOk, IfOk, IsOk, IfSome, IfNone, Some, true, false, slice_set, map, vec_items};
+ghost use Rattle.stream_model.specs.declared.kind.TheConstants.{MAX_FAN};
 ghost use Rattle.elem_core.specs.declared.item.Item.TheVariants as item;
 ghost use Rattle.port_core.specs.declared.act.Act.TheVariants as act;
 ghost use Rattle.port_core.specs.Call.{Obeys, Meets, starts, pulls, arrives, cancels};
@@ -54,7 +55,7 @@ impl Model for Taking {
 impl Taking {
     /// A stage with `inputs` inputs: by segments of so many elements, or with none, one input after another.
     pub fn new(alloc: Global, inputs: u32, segment: Option<u32>) -> Result<Taking, NoMemory>
-        requires fan { (2 ≤ inputs) × (inputs ≤ 16) }
+        requires fan { (2 ≤ inputs) × (inputs ≤ MAX_FAN) }
         ensures { IfOk result (Begins inputs segment) }
     {
         let over = open_inputs(alloc, inputs)?;
@@ -202,7 +203,7 @@ impl Taking {
 
     // An input has failed: so does the output, and the other inputs are cancelled.
     fn fail(&mut self, port: u8, cause: Cause, acts: &mut Acts)
-        requires few { length self.old.over ≤ 16 }
+        requires few { length self.old.over ≤ MAX_FAN }
         requires there { port < length self.old.over }
         requires empty { acts.old.items ≡ [] }
         requires room { length self.old.over < acts.old.room }
@@ -217,7 +218,7 @@ impl Taking {
 
     // All inputs are cancelled.
     fn leave(&mut self, acts: &mut Acts)
-        requires few { length self.old.over ≤ 16 }
+        requires few { length self.old.over ≤ MAX_FAN }
         requires empty { acts.old.items ≡ [] }
         requires room { length self.old.over ≤ acts.old.room }
         ensures does { Does self.new acts.new.items (record self.old { live = false }) (open_cancels 0 self.old.over) }
@@ -297,7 +298,7 @@ impl Taking {
 
 // Of each of so many inputs the one behind it, around them.
 fn ring(alloc: Global, inputs: u32) -> Result<Vec<u8>, NoMemory>
-    requires few { inputs ≤ 16 }
+    requires few { inputs ≤ MAX_FAN }
     ensures { IfOk result (λ next. InputRing inputs (vec_items next)) }
 {
     let mut next = Vec::with_capacity(alloc, inputs as usize)?;
@@ -309,7 +310,7 @@ fn ring(alloc: Global, inputs: u32) -> Result<Vec<u8>, NoMemory>
 
 fn behind(c: u32, inputs: u32) -> u8
     requires there { c < inputs }
-    requires few { inputs ≤ 16 }
+    requires few { inputs ≤ MAX_FAN }
     ensures { result ≡ behind_input inputs c }
 {
     if c + 1 == inputs { 0 } else { (c + 1) as u8 }

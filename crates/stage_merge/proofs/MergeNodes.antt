@@ -50,8 +50,8 @@ pub called_fits : (l : Merging) (c : Call) (v : View) → CallAllowed c v → po
 called_fits l c v may r = by_phase l.core.phase r
   where
     by_phase : (f : Phase) → port_state_by f l.core v → room_for (length l.core.over) ≤ MOST_ACTS
-    by_phase New r = let few : length l.core.over ≤ 16 = r.1.0.few in omega (arith, few)
-    by_phase Open r = let few : length l.core.over ≤ 16 = r.1.few in omega (arith, few)
+    by_phase New r = let few : length l.core.over ≤ MAX_FAN = r.1.0.few in omega (arith, few)
+    by_phase Open r = let few : length l.core.over ≤ MAX_FAN = r.1.few in omega (arith, few)
     by_phase Closed r = absurd (none_called c v may r)
 
 -- ---- between two calls

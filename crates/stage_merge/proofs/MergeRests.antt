@@ -8,6 +8,7 @@ use Rattle.elem_core.specs.Tree.{Tree}
 use Rattle.port_core.specs.declared.view.OutView.TheVariants.{Unpulled}
 use Rattle.port_core.specs.View as port
 use Rattle.stream_model.specs.FanIn.{Inflow, Finds}
+use Rattle.stream_model.specs.declared.kind.TheConstants.{MAX_FAN}
 use Rattle.stream_model.specs.Outlook.{End}
 use Rattle.stream_model.specs.Picks.{count_of}
 use Rattle.stream_model.proofs.Fitting.{at_get, yes_one, no_one}
@@ -126,7 +127,7 @@ none_waits n (suc k) = ap (λ (fs : List Inflow). nothing_came ∷ fs) (none_wai
 abbrev begun : ℕ → Core
 begun k = record { phase = New; over = replicate k false; queue = []; room = k; asked = false; left = k }
 
-pub new_row : (inputs : ℕ) (l : Merging) → 2 ≤ inputs → inputs ≤ 16 → Begins inputs l → port_state l (record { ins = idles (replicate inputs false); outs = Unpulled ∷ [] })
+pub new_row : (inputs : ℕ) (l : Merging) → 2 ≤ inputs → inputs ≤ MAX_FAN → Begins inputs l → port_state l (record { ins = idles (replicate inputs false); outs = Unpulled ∷ [] })
 new_row k l two few b =
     let long = length-replicate k false in
     let s : Sound (begun k) = record { count = sym (all_open k); some = λ e. omega (arith, two); empty = λ e. refl; once = λ m. omega arith; there = tt; few = omega (arith, long, few); roomy = omega (arith, long) } in

@@ -19,6 +19,7 @@ use Rattle.port_core.specs.Asking.{PullsStand, NoCancel}
 use Rattle.port_core.specs.Call.{Call, starts, pulls, arrives, cancels, CallAllowed, seen, Obeys, Meets, given_on}
 use Rattle.stream_model.specs.FanIn.{Inflow, flow}
 use Rattle.stream_model.specs.Picks.{used_up}
+use Rattle.stream_model.specs.declared.kind.TheConstants.{MAX_FAN}
 use Rattle.stage_core.specs.Inflows.{joined_all, coming}
 use Rattle.stage_core.specs.Merges.{MergeHeld, waits, shut, MergeTurn, MergeClose, completes, fails, MergeTurnAt}
 use Rattle.stage_core.proofs.Inflows.{joined_all-nothing_came}
@@ -96,7 +97,7 @@ still_count bs i h = let e = one_less bs i h in omega (arith, e)
 
 module _ (i : ℕ) (t : Tree) (l : Core) (moves : List ℕ) (now : Picks) (now_is : now.moves ≡ moves ++ i ∷ [])
     (open_now : l.phase ≡ Open) (off : l.asked ≡ false) (count : l.left ≡ open_count l.over)
-    (once : (m : ℕ) → length (of_port m (queued i t ∷ l.queue)) ≤ 1) (here : i < length l.over) (there : PortsThere l.over l.queue) (few : length l.over ≤ 16) (roomy : length l.over ≤ l.room) where
+    (once : (m : ℕ) → length (of_port m (queued i t ∷ l.queue)) ≤ 1) (here : i < length l.over) (there : PortsThere l.over l.queue) (few : length l.over ≤ MAX_FAN) (roomy : length l.over ≤ l.room) where
   abbrev before : View
   before = record { ins = places 0 l.over (queued i t ∷ l.queue); outs = outlet.Available ∷ [] }
 
@@ -462,7 +463,7 @@ pulls_stand n [] = tt
 pulls_stand n (true ∷ bs) = pulls_stand (n + 1) bs
 pulls_stand n (false ∷ bs) = (no_cancel n (n + 1) bs, pulls_stand (n + 1) bs)
 
-pub few_new : (old : Merging) → old.core.phase ≡ New → Meets starts (port_state old) → length old.core.over ≤ 16
+pub few_new : (old : Merging) → old.core.phase ≡ New → Meets starts (port_state old) → length old.core.over ≤ MAX_FAN
 few_new old h m = (subst (λ f. port_state_by f old.core m.0) h m.1.1).1.0.few
 
 pub started : (old new : Merging) (acts : List Act) → old.core.phase ≡ New → Meets starts (port_state old) → Does new acts (record old { core = record old.core { phase = Open } }) (pull_acts 0 old.core.over) → Handled starts old acts new

@@ -12,6 +12,7 @@ use Rattle.port_core.specs.View.{View}
 use Rattle.port_core.specs.Asking.{PullsStand}
 use Rattle.port_core.specs.Call.{Call, given_on}
 use Rattle.stream_model.specs.FanIn.{Inflow}
+use Rattle.stream_model.specs.declared.kind.TheConstants.{MAX_FAN}
 use Rattle.stage_core.specs.Merges.{MergeHeld, waits, shut, MergeTurnAt, MergeKeeps}
 use Rattle.stage_core.specs.PortsLaws.{InPortsLaw}
 use Rattle.stage_core.specs.declared.phase.Phase.{Phase}
@@ -92,7 +93,7 @@ pub record Sound (l : Core) : Type 0 where
   pub empty : l.asked ≡ true → l.queue ≡ []
   pub once : (n : ℕ) → length (of_port n l.queue) ≤ 1
   pub there : PortsThere l.over l.queue
-  pub few : length l.over ≤ 16
+  pub few : length l.over ≤ MAX_FAN
   pub roomy : length l.over ≤ l.room
 
 -- nothing came to it

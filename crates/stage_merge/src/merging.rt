@@ -187,7 +187,7 @@ impl Merging {
 
     // All inputs are asked.
     fn begin(&mut self, acts: &mut Acts)
-        requires few { length self.old.core.over ≤ 16 }
+        requires few { length self.old.core.over ≤ MAX_FAN }
         requires empty { acts.old.items ≡ [] }
         requires room { length self.old.core.over ≤ acts.old.room }
         ensures does { Does self.new acts.new.items (record self.old { core = record self.old.core { phase = Open } }) (pull_acts 0 self.old.core.over) }
@@ -317,7 +317,7 @@ impl Merging {
 
     // An input has failed: so does the output, and the other inputs are cancelled.
     fn fail(&mut self, port: u8, cause: Cause, acts: &mut Acts)
-        requires few { length self.old.core.over ≤ 16 }
+        requires few { length self.old.core.over ≤ MAX_FAN }
         requires there { port < length self.old.core.over }
         requires empty { acts.old.items ≡ [] }
         requires room { length self.old.core.over < acts.old.room }
@@ -337,7 +337,7 @@ impl Merging {
 
     // All inputs are cancelled.
     fn leave(&mut self, acts: &mut Acts)
-        requires few { length self.old.core.over ≤ 16 }
+        requires few { length self.old.core.over ≤ MAX_FAN }
         requires empty { acts.old.items ≡ [] }
         requires room { length self.old.core.over ≤ acts.old.room }
         ensures does { Does self.new acts.new.items (record self.old { core = record self.old.core { phase = Closed } }) (open_cancels 0 self.old.core.over) }
@@ -349,7 +349,7 @@ impl Merging {
 
     // Asks every input that has not ended.
     fn ask_all(&self, acts: &mut Acts)
-        requires few { length self.now.core.over ≤ 16 }
+        requires few { length self.now.core.over ≤ MAX_FAN }
         requires room { length acts.old.items + length self.now.core.over ≤ acts.old.room }
         ensures { acts.new ≡ record acts.old { items = acts.old.items ++ pull_acts 0 self.now.core.over } }
     {

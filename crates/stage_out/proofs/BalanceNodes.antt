@@ -172,7 +172,7 @@ pub called_fits : (l : Balancing) (c : Call) (v : View) → CallAllowed c v → 
 called_fits l c v may r = by_live l.core.live r
   where
     by_live : (b : Bool) → port_state_by b l.core v → room_for (length l.core.outs) ≤ MOST_ACTS
-    by_live true r = let few : length l.core.outs ≤ 16 = r.1.few in omega (arith, few)
+    by_live true r = let few : length l.core.outs ≤ MAX_FAN = r.1.few in omega (arith, few)
     by_live false r = absurd (none_called c v may r)
 
 -- an open one has one input, and an output for each mark

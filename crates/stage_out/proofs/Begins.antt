@@ -1,5 +1,6 @@
 -- A new stage may be started.
 use Rattle.std.specs.Prelude.{replicate}
+use Rattle.stream_model.specs.declared.kind.TheConstants.{MAX_FAN}
 use Rattle.std.proofs.Common.{◌≡◌, ℕ, zero, suc, ◌≤◌, Bool, true, List, [], ◌∷◌, length, map, refl, sym, ap, ◌∙◌, arith}
 use Rattle.elem_core.specs.declared.function.MapFn.{MapFn}
 use Rattle.port_core.specs.declared.view.OutView.{OutView}
@@ -32,7 +33,7 @@ pub so_many : (n : ℕ) → length (replicate n Quiet) ≡ n
 so_many zero = refl
 so_many (suc n) = ap suc (so_many n)
 
-pub partition_begins : (node n : ℕ) (f : MapFn) → 2 ≤ n → n ≤ 16 → part.port_state (part.begun node n f) (unpulled_outs n)
+pub partition_begins : (node n : ℕ) (f : MapFn) → 2 ≤ n → n ≤ MAX_FAN → part.port_state (part.begun node n f) (unpulled_outs n)
 partition_begins node n f low high = (
   ap (λ (ys : List OutView). record { ins = Idle ∷ []; outs = ys }) (sym (quiet_views n)),
   record {
@@ -53,7 +54,7 @@ idle_some (suc n) h = refl
 copy_views : (n : ℕ) → 2 ≤ n → unpulled_outs n ≡ record { ins = input_by n ∷ []; outs = map want_view (replicate n Quiet) }
 copy_views n low = rw (idle_some n low, quiet_views n) refl
 
-pub copy_begins : (n : ℕ) (halves : Bool) → 2 ≤ n → n ≤ 16 → (halves ≡ true → n ≡ 2) → copy.port_state (copy.begun n halves) (unpulled_outs n)
+pub copy_begins : (n : ℕ) (halves : Bool) → 2 ≤ n → n ≤ MAX_FAN → (halves ≡ true → n ≡ 2) → copy.port_state (copy.begun n halves) (unpulled_outs n)
 copy_begins n halves low high two = (
   copy_views n low,
   record {

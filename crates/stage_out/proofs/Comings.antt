@@ -19,6 +19,7 @@ use Rattle.port_core.specs.Asking.{PullsStand}
 use Rattle.port_core.specs.Call.{pulls, arrives, cancels, Meets, given_on}
 use Rattle.stream_model.specs.Outlook.{End, unended, ended, failed}
 use Rattle.stream_model.specs.FanIn.{Inflow}
+use Rattle.stream_model.specs.declared.kind.TheConstants.{MAX_FAN}
 use Rattle.stage_core.specs.Handling.{Pulls}
 use Rattle.stage_core.specs.Inflows.{flow_of, joined, nothing_came}
 use Rattle.stage_core.proofs.Inflows.{joined-nothing_came}
@@ -269,10 +270,10 @@ module _ (old : Balancing) (h : old.core.live ≡ true) (sound : Sound old.core)
         named = refl;
       })
 
-pub few_brought : (l : Balancing) (i : ℕ) (b : Item) → l.core.live ≡ true → Meets (arrives i b) (port_state l) → length l.core.outs ≤ 16
+pub few_brought : (l : Balancing) (i : ℕ) (b : Item) → l.core.live ≡ true → Meets (arrives i b) (port_state l) → length l.core.outs ≤ MAX_FAN
 few_brought l i b h m = (found (arrives i b) l h m).sound.few
 
-pub few_asked : (l : Balancing) (j : ℕ) → l.core.live ≡ true → Meets (pulls j) (port_state l) → length l.core.outs ≤ 16
+pub few_asked : (l : Balancing) (j : ℕ) → l.core.live ≡ true → Meets (pulls j) (port_state l) → length l.core.outs ≤ MAX_FAN
 few_asked l j h m = (found (pulls j) l h m).sound.few
 
 pub finished : (old new : Balancing) (acts : List Act) (i : ℕ) → old.core.live ≡ true → Meets (arrives i item.Ended) (port_state old) → Ended old new acts → Handled (arrives i item.Ended) old acts new

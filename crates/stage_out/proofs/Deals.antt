@@ -21,6 +21,7 @@ use Rattle.port_core.specs.Asking.{PullsStand}
 use Rattle.port_core.specs.Call.{Call, starts, pulls, arrives, cancels, CallAllowed, seen, Obeys, Meets, given_on}
 use Rattle.stream_model.specs.Machine.{going, done}
 use Rattle.stream_model.specs.Linear.{Book}
+use Rattle.stream_model.specs.declared.kind.TheConstants.{MAX_FAN}
 use Rattle.stage_core.specs.Held.{shut}
 use Rattle.stage_core.specs.Turn.{TurnAt}
 use Rattle.stage_core.specs.Outs.{TurnsAt}
@@ -248,7 +249,7 @@ held_none old s e = subst (λ h. Holding h old) e s.holds
 
 -- ---- an output is asked
 
-pub asked_there : (l : PartitionLogic) (j : ℕ) → l.live ≡ true → Meets (pulls j) (port_state l) → (j < length l.outs) × ((length l.outs ≤ 16) × (l.asking ≤ 16))
+pub asked_there : (l : PartitionLogic) (j : ℕ) → l.live ≡ true → Meets (pulls j) (port_state l) → (j < length l.outs) × ((length l.outs ≤ MAX_FAN) × (l.asking ≤ MAX_FAN))
 asked_there l j h m =
     let f = found (pulls j) l h m in
     let a = asks_le l.outs in let e = f.sound.asking_is in let k = f.sound.few in
@@ -415,7 +416,7 @@ there_by l j (inr q) = slice_get_within l.outs j Asks q
 pub some_asks : (l : PartitionLogic) → Sound l → (p : ℕ) → slice_index_or l.outs p Gone ≡ Asks → 1 ≤ l.asking
 some_asks l s p e = let a = asks_some l.outs p e in let k = s.asking_is in omega (arith, a, k)
 
-pub lost_there : (l : PartitionLogic) (j : ℕ) → l.live ≡ true → Meets (cancels j) (port_state l) → (j < length l.outs) × ((length l.outs ≤ 16) × ((1 ≤ l.open_outs) × (slice_index_or l.outs j Gone ≡ Asks → 1 ≤ l.asking)))
+pub lost_there : (l : PartitionLogic) (j : ℕ) → l.live ≡ true → Meets (cancels j) (port_state l) → (j < length l.outs) × ((length l.outs ≤ MAX_FAN) × ((1 ≤ l.open_outs) × (slice_index_or l.outs j Gone ≡ Asks → 1 ≤ l.asking)))
 lost_there l j h m =
     let f = found (cancels j) l h m in
     (there_by l j (is_open l.outs j f.may), (f.sound.few, (f.sound.some, some_asks l f.sound j)))

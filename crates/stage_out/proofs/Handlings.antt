@@ -22,6 +22,7 @@ use Rattle.port_core.specs.Call.{Call, starts, pulls, CallAllowed, seen, Obeys, 
 use Rattle.stream_model.specs.Outlook.{End, unended, ended, failed}
 use Rattle.stream_model.specs.FanIn.{Inflow}
 use Rattle.stream_model.specs.Picks.{all_below, sent_to}
+use Rattle.stream_model.specs.declared.kind.TheConstants.{MAX_FAN}
 use Rattle.stage_core.specs.Handling.{Pulls}
 use Rattle.stage_core.specs.Held.{told}
 use Rattle.stage_core.specs.Inflows.{joined, nothing_came, coming}
@@ -389,8 +390,8 @@ module _ (old mid : Balancing) (is : mid ≡ record old { log = mid.log }) where
   pub mid_there : (j : ℕ) → j < length old.core.outs → j < length mid.core.outs
   mid_there j h = subst (λ (l : Balancing). j < length l.core.outs) (sym is) h
 
-  pub mid_few : length old.core.outs ≤ 16 → length mid.core.outs ≤ 16
-  mid_few h = subst (λ (l : Balancing). length l.core.outs ≤ 16) (sym is) h
+  pub mid_few : length old.core.outs ≤ MAX_FAN → length mid.core.outs ≤ MAX_FAN
+  mid_few h = subst (λ (l : Balancing). length l.core.outs ≤ MAX_FAN) (sym is) h
 
   pub mid_fits : length old.core.queue < old.core.room → length mid.core.queue < mid.core.room
   mid_fits h = subst (λ (l : Balancing). length l.core.queue < l.core.room) (sym is) h

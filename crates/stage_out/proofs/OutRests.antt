@@ -15,6 +15,7 @@ use Rattle.stream_model.specs.Linear.{Book, Stage}
 use Rattle.stream_model.specs.Outlook.{End}
 use Rattle.stream_model.specs.View.{SomeWire}
 use Rattle.stream_model.specs.Rests.{IsUnasked}
+use Rattle.stream_model.specs.declared.kind.TheConstants.{MAX_FAN}
 use Rattle.stage_core.specs.Held.{told, Held}
 use Rattle.stage_core.specs.Outs.{Outlet, OutsLaw}
 use Rattle.stage_core.specs.OwnPorts.{own_input}
@@ -198,12 +199,12 @@ pub called_fits : (l : OutMachines) (call : Call) (v : port.View) → CallAllowe
 called_fits (Copies l) call v may r = by_live l.live r
   where
     by_live : (b : Bool) → copy.port_state_by b l v → room_for (length l.outs) ≤ MOST_ACTS
-    by_live true r = let few : length l.outs ≤ 16 = r.1.few in omega (arith, few)
+    by_live true r = let few : length l.outs ≤ MAX_FAN = r.1.few in omega (arith, few)
     by_live false r = absurd (none_called call v may r)
 called_fits (Deals l) call v may r = by_live l.live r
   where
     by_live : (b : Bool) → part.port_state_by b l v → room_for (length l.outs) ≤ MOST_ACTS
-    by_live true r = let few : length l.outs ≤ 16 = r.1.few in omega (arith, few)
+    by_live true r = let few : length l.outs ≤ MAX_FAN = r.1.few in omega (arith, few)
     by_live false r = absurd (none_called call v may r)
 
 -- the same of a call that may come

@@ -16,6 +16,7 @@ use Rattle.port_core.specs.View.{View, in_at, IsInOpen, IsOutOpen, ActsAllowed, 
 use Rattle.port_core.specs.Asking.{PullsStand}
 use Rattle.port_core.specs.Call.{Call, starts, pulls, arrives, cancels, CallAllowed, seen, Obeys, Meets, given_on}
 use Rattle.stream_model.specs.Linear.{Stage}
+use Rattle.stream_model.specs.declared.kind.TheConstants.{MAX_FAN}
 use Rattle.stage_core.specs.Held.{shut}
 use Rattle.stage_core.specs.Turn.{none_lost, TurnAt}
 use Rattle.stage_core.specs.Outs.{TurnsAt}
@@ -264,7 +265,7 @@ module _ (old : CopyLogic) (j : ℕ) (h : old.live ≡ true) (sound : Sound old)
   abbrev outs : List OutputState
   outs = slice_set old.outs j Gone
 
-  few_then : length outs ≤ 16
+  few_then : length outs ≤ MAX_FAN
   few_then = let l = length-set old.outs j Gone in let k = sound.few in omega (arith, l, k)
 
   open_then : (slice_get old.outs j ≡ Some Quiet) ⊎ (slice_get old.outs j ≡ Some Asks) → open_count old.outs ≡ suc (open_count outs)

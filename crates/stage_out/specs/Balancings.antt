@@ -15,6 +15,7 @@ use Rattle.stream_model.specs.FanIn.{Inflow}
 use Rattle.stream_model.specs.Picks.{all_below}
 use Rattle.stream_model.specs.View.{EachWire}
 use Rattle.stream_model.specs.Rests.{IsShut, OneToMany, BalanceRests}
+use Rattle.stream_model.specs.declared.kind.TheConstants.{MAX_FAN}
 use Rattle.stage_core.specs.Handling.{PullsAs}
 use Rattle.stage_core.specs.Seats.{end_by}
 use Rattle.stage_core.specs.declared.outs.OutputState.{OutputState}
@@ -66,7 +67,7 @@ pub record Sound (l : Core) : Type 0 where
   pub holds : Holding l.waiting l
   pub count : l.open_outs ≡ open_count l.outs
   pub some : 1 ≤ l.open_outs
-  pub few : length l.outs ≤ 16
+  pub few : length l.outs ≤ MAX_FAN
   pub roomy : length l.outs ≤ l.room
 
 -- its port state, by whether its ports are open

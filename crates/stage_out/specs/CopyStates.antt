@@ -8,6 +8,7 @@ use Rattle.port_core.specs.View.{View}
 use Rattle.port_core.specs.Asking.{PullsStand}
 use Rattle.port_core.specs.Call.{Call}
 use Rattle.stream_model.specs.Linear.{Stage}
+use Rattle.stream_model.specs.declared.kind.TheConstants.{MAX_FAN}
 use Rattle.stage_core.specs.Outs.{TurnsAt}
 use Rattle.stage_core.specs.declared.outs.OutputState.{OutputState}
 use Rattle.stage_core.specs.declared.outs.OutputState.TheVariants.{Quiet, Gone}
@@ -37,7 +38,7 @@ pub record Sound (l : CopyLogic) : Type 0 where
   pub quiet_is : l.quiet ≡ quiet_count l.outs
   pub open_is : l.open_outs ≡ open_count l.outs
   pub some : 1 ≤ l.open_outs
-  pub few : length l.outs ≤ 16
+  pub few : length l.outs ≤ MAX_FAN
   pub pair : l.halves ≡ true → length l.outs ≡ 2
 
 -- its port state, by whether its ports are open

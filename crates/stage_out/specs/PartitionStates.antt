@@ -15,6 +15,7 @@ use Rattle.port_core.specs.Asking.{PullsStand}
 use Rattle.port_core.specs.Call.{Call}
 use Rattle.stream_model.specs.Machine.{State, going, done}
 use Rattle.stream_model.specs.Linear.{Book, Stage, numbering, linear, begin_work}
+use Rattle.stream_model.specs.declared.kind.TheConstants.{MAX_FAN}
 use Rattle.stage_core.specs.Held.{Held, owing, shut}
 use Rattle.stage_core.specs.Outs.{Outlet, TurnsAt}
 use Rattle.stage_core.specs.declared.outs.OutputState.{OutputState}
@@ -58,7 +59,7 @@ pub record Sound (l : PartitionLogic) : Type 0 where
   pub open_is : l.open_outs ≡ open_count l.outs
   pub some : 1 ≤ l.open_outs
   pub parts : 1 ≤ l.parts
-  pub few : length l.outs ≤ 16
+  pub few : length l.outs ≤ MAX_FAN
   pub holds : Holding l.held l
   pub wants : l.waits ≡ true → (1 ≤ l.asking) ⊎ (l.open_outs < length l.outs)
 

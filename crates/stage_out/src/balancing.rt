@@ -201,7 +201,7 @@ impl Balancing {
     fn answer(&mut self, port: u8, acts: &mut Acts)
         requires noted { 2 ≤ self.old.log.room }
         requires there { port < length self.old.core.outs }
-        requires few { length self.old.core.outs ≤ 16 }
+        requires few { length self.old.core.outs ≤ MAX_FAN }
         requires fits { length self.old.core.queue < self.old.core.room }
         requires empty { acts.old.items ≡ [] }
         requires room { length self.old.core.outs < acts.old.room }
@@ -225,7 +225,7 @@ impl Balancing {
     // The element that waited goes out; behind an end it was the last.
     fn release(&mut self, port: u8, e: Elem, acts: &mut Acts)
         requires noted { 2 ≤ self.old.log.room }
-        requires few { length self.old.core.outs ≤ 16 }
+        requires few { length self.old.core.outs ≤ MAX_FAN }
         requires empty { acts.old.items ≡ [] }
         requires room { length self.old.core.outs < acts.old.room }
         ensures moves { self.new.log.moves ≡ self.old.log.moves ++ port ∷ [] }
@@ -323,7 +323,7 @@ impl Balancing {
 
     // The input has ended: all complete, or what waits goes out first.
     fn finish(&mut self, acts: &mut Acts)
-        requires few { length self.old.core.outs ≤ 16 }
+        requires few { length self.old.core.outs ≤ MAX_FAN }
         requires empty { acts.old.items ≡ [] }
         requires room { length self.old.core.outs ≤ acts.old.room }
         ensures ended { Ended self.old self.new acts.new.items }
@@ -337,7 +337,7 @@ impl Balancing {
     }
 
     fn complete_all(&mut self, acts: &mut Acts)
-        requires few { length self.old.core.outs ≤ 16 }
+        requires few { length self.old.core.outs ≤ MAX_FAN }
         requires room { length acts.old.items + length self.old.core.outs ≤ acts.old.room }
         ensures does { Does self.new acts.new.items (closed self.old) (acts.old.items ++ at_open (λ k. act.Complete k) 0 self.old.core.outs) }
         ensures room { acts.new.room ≡ acts.old.room }
@@ -347,7 +347,7 @@ impl Balancing {
     }
 
     fn fail(&mut self, cause: Cause, acts: &mut Acts)
-        requires few { length self.old.core.outs ≤ 16 }
+        requires few { length self.old.core.outs ≤ MAX_FAN }
         requires empty { acts.old.items ≡ [] }
         requires room { length self.old.core.outs ≤ acts.old.room }
         ensures does { Does self.new acts.new.items (closed self.old) (at_open (λ k. act.FailOut k cause) 0 self.old.core.outs) }

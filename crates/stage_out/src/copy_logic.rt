@@ -175,7 +175,7 @@ impl CopyLogic {
 
     // Each open output gets its part, and is not asked any more.
     fn serve(&mut self, alloc: Global, e: Elem, acts: &mut Acts) -> Result<(), NoMemory>
-        requires few { length self.old.outs ≤ 16 }
+        requires few { length self.old.outs ≤ MAX_FAN }
         requires pair { self.old.halves ≡ true → length self.old.outs ≡ 2 }
         requires empty { acts.old.items ≡ [] }
         requires room { length self.old.outs ≤ acts.old.room }
@@ -190,7 +190,7 @@ impl CopyLogic {
     }
 
     fn give(&self, alloc: Global, e: Elem, acts: &mut Acts) -> Result<(), NoMemory>
-        requires few { length self.now.outs ≤ 16 }
+        requires few { length self.now.outs ≤ MAX_FAN }
         requires pair { self.now.halves ≡ true → length self.now.outs ≡ 2 }
         requires room { length acts.old.items + length self.now.outs ≤ acts.old.room }
         ensures acts { OnOk result (acts.new ≡ record acts.old {
@@ -208,7 +208,7 @@ impl CopyLogic {
     // The last open output gets the element itself, and each other a copy.
     // Choice: docs/DECISIONS.md#last-output-gets-it
     fn give_copies(&self, alloc: Global, e: Elem, acts: &mut Acts) -> Result<(), NoMemory>
-        requires few { length self.now.outs ≤ 16 }
+        requires few { length self.now.outs ≤ MAX_FAN }
         requires room { length acts.old.items + length self.now.outs ≤ acts.old.room }
         ensures acts { OnOk result (acts.new ≡ record acts.old { items = acts.old.items ++ at_open (λ j. act.Push j e) 0 self.now.outs }) }
     {
@@ -249,7 +249,7 @@ impl CopyLogic {
     }
 
     fn complete_all(&mut self, acts: &mut Acts)
-        requires few { length self.old.outs ≤ 16 }
+        requires few { length self.old.outs ≤ MAX_FAN }
         requires empty { acts.old.items ≡ [] }
         requires room { length self.old.outs ≤ acts.old.room }
         ensures does { Does self.new acts.new.items (record self.old { live = false }) (at_open (λ j. act.Complete j) 0 self.old.outs) }
@@ -260,7 +260,7 @@ impl CopyLogic {
     }
 
     fn fail_all(&mut self, cause: Cause, acts: &mut Acts)
-        requires few { length self.old.outs ≤ 16 }
+        requires few { length self.old.outs ≤ MAX_FAN }
         requires empty { acts.old.items ≡ [] }
         requires room { length self.old.outs ≤ acts.old.room }
         ensures does { Does self.new acts.new.items (record self.old { live = false }) (at_open (λ j. act.FailOut j cause) 0 self.old.outs) }

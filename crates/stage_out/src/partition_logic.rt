@@ -194,8 +194,8 @@ impl PartitionLogic {
     // The output is asked: it gets what is held for it.
     fn ask(&mut self, port: u8, acts: &mut Acts)
         requires there { port < length self.old.outs }
-        requires few { length self.old.outs ≤ 16 }
-        requires count { self.old.asking ≤ 16 }
+        requires few { length self.old.outs ≤ MAX_FAN }
+        requires count { self.old.asking ≤ MAX_FAN }
         requires empty { acts.old.items ≡ [] }
         requires room { room_for (length self.old.outs) ≤ acts.old.room }
         ensures does { AskedOf port self.old self.new acts.new.items }
@@ -222,7 +222,7 @@ impl PartitionLogic {
 
     // It holds nothing more: it ends where its input has ended, and else goes on.
     fn move_on(&mut self, acts: &mut Acts)
-        requires few { length self.old.outs ≤ 16 }
+        requires few { length self.old.outs ≤ MAX_FAN }
         requires room { length acts.old.items + length self.old.outs < acts.old.room }
         ensures stage { self.new ≡ moved_on self.old.over self.old }
         ensures acts { acts.new ≡ record acts.old { items = acts.old.items ++ moving_acts self.old.over self.old } }
@@ -248,7 +248,7 @@ impl PartitionLogic {
     }
 
     fn complete_all(&mut self, acts: &mut Acts)
-        requires few { length self.old.outs ≤ 16 }
+        requires few { length self.old.outs ≤ MAX_FAN }
         requires room { length acts.old.items + length self.old.outs < acts.old.room }
         ensures stage { self.new ≡ record self.old { live = false } }
         ensures acts { acts.new ≡ record acts.old { items = acts.old.items ++ at_open (λ j. act.Complete j) 0 self.old.outs } }
@@ -260,7 +260,7 @@ impl PartitionLogic {
     // The output asks, and nothing is held for it.
     fn note(&mut self, port: u8, acts: &mut Acts)
         requires there { port < length self.old.outs }
-        requires count { self.old.asking ≤ 16 }
+        requires count { self.old.asking ≤ MAX_FAN }
         requires empty { acts.old.items ≡ [] }
         requires room { 1 ≤ acts.old.room }
         ensures does { Noted port self.old self.new acts.new.items }
@@ -276,7 +276,7 @@ impl PartitionLogic {
 
     fn count(&mut self, port: u8)
         requires there { port < length self.old.outs }
-        requires count { self.old.asking ≤ 16 }
+        requires count { self.old.asking ≤ MAX_FAN }
         ensures stage { self.new ≡ with_asks port self.old }
     {
         self.outs[port as usize] = OutputState::Asks;
@@ -294,7 +294,7 @@ impl PartitionLogic {
 
     // An element goes to the output that has its number.
     fn serve(&mut self, alloc: Global, e: Elem, acts: &mut Acts) -> Result<(), NoMemory>
-        requires few { length self.old.outs ≤ 16 }
+        requires few { length self.old.outs ≤ MAX_FAN }
         requires some { (p : ℕ) → slice_index_or self.old.outs p Gone ≡ Asks → 1 ≤ self.old.asking }
         requires parts { 1 ≤ self.old.parts }
         requires empty { acts.old.items ≡ [] }
@@ -382,7 +382,7 @@ impl PartitionLogic {
     // Element number `taken` is to blame for this.
     // Choice: docs/DECISIONS.md#reasons-fail-all
     fn blame(&mut self, taken: u64, why: Why, acts: &mut Acts)
-        requires few { length self.old.outs ≤ 16 }
+        requires few { length self.old.outs ≤ MAX_FAN }
         requires empty { acts.old.items ≡ [] }
         requires room { room_for (length self.old.outs) ≤ acts.old.room }
         ensures does { Parts self.new acts.new.items (record self.old { live = false })
@@ -399,7 +399,7 @@ impl PartitionLogic {
     }
 
     fn fail_all(&mut self, cause: Cause, acts: &mut Acts)
-        requires few { length self.old.outs ≤ 16 }
+        requires few { length self.old.outs ≤ MAX_FAN }
         requires empty { acts.old.items ≡ [] }
         requires room { length self.old.outs < acts.old.room }
         ensures does { Parts self.new acts.new.items (record self.old { live = false }) (at_open (λ j. act.FailOut j cause) 0 self.old.outs) }
@@ -409,7 +409,7 @@ impl PartitionLogic {
     }
 
     fn fail_from(&mut self, cause: Cause, acts: &mut Acts)
-        requires few { length self.old.outs ≤ 16 }
+        requires few { length self.old.outs ≤ MAX_FAN }
         requires room { length acts.old.items + length self.old.outs < acts.old.room }
         ensures stage { self.new ≡ record self.old { live = false } }
         ensures acts { acts.new ≡ record acts.old { items = acts.old.items ++ at_open (λ j. act.FailOut j cause) 0 self.old.outs } }
@@ -421,7 +421,7 @@ impl PartitionLogic {
     // The input has ended: so does each output, now or once what is held went out.
     // Choice: docs/DECISIONS.md#partition-ends-together
     fn end(&mut self, acts: &mut Acts)
-        requires few { length self.old.outs ≤ 16 }
+        requires few { length self.old.outs ≤ MAX_FAN }
         requires empty { acts.old.items ≡ [] }
         requires room { length self.old.outs < acts.old.room }
         ensures does { EndedFor self.old self.new acts.new.items }
@@ -446,7 +446,7 @@ impl PartitionLogic {
     // The output was cancelled.
     fn lose(&mut self, port: u8, acts: &mut Acts)
         requires there { port < length self.old.outs }
-        requires few { length self.old.outs ≤ 16 }
+        requires few { length self.old.outs ≤ MAX_FAN }
         requires some { 1 ≤ self.old.open_outs }
         requires asks { slice_index_or self.old.outs port Gone ≡ Asks → 1 ≤ self.old.asking }
         requires empty { acts.old.items ≡ [] }
@@ -488,7 +488,7 @@ impl PartitionLogic {
     }
 
     fn pass_over(&mut self, port: u8, acts: &mut Acts)
-        requires few { length self.old.outs ≤ 16 }
+        requires few { length self.old.outs ≤ MAX_FAN }
         requires empty { acts.old.items ≡ [] }
         requires room { length self.old.outs < acts.old.room }
         ensures does { PassedOver port self.old self.new acts.new.items }

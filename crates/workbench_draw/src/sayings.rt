@@ -128,7 +128,7 @@ pub fn of_rule(fault: &CheckFault) -> Saying {
         },
         _ => Saying {
             means: b"A size is out of its limits.",
-            advice: b"Groups and buffers hold 1 to 4096, a fan has 2 to 16 ports, a segment and a trip 1 to 4000000000, a group_by 1 to 1024 keys; a lane is a power of two up to 1024.",
+            advice: b"Groups and buffers hold 1 to 4096, a fan has 2 to 64 ports, a segment and a trip 1 to 4000000000, a group_by 1 to 1024 keys; a lane is a power of two up to 1024.",
         },
     }
 }

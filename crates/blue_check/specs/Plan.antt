@@ -39,7 +39,7 @@ island_wires homes ws k = numbers_from 0 (is_wire_of homes k) ws
 -- the lane of wire n, where it has one: from the island of its output to that of its input
 abbrev pub lane_sized : List ℕ → ℕ → Edge → Option ℕ → List LanePlan
 lane_sized homes n w None = []
-lane_sized homes n w (Some s) = record { wire = n; size = s; from = slice_index homes w.from; to = slice_index homes w.to } ∷ []
+lane_sized homes n w (Some s) = record { wire = n; size = s; keep = w.keep; from = slice_index homes w.from; to = slice_index homes w.to } ∷ []
 
 -- the lane of wire n, where it has one: from the island of its output to that of its input
 abbrev pub lane_plan_of : List ℕ → ℕ → Edge → List LanePlan

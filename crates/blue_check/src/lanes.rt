@@ -25,6 +25,7 @@ fn put_lane(
             lanes.push(LanePlan {
                 wire: numbered(wire)?,
                 size,
+                keep: link.keep,
                 from: numbered(rank_of(homes, link.from))?,
                 to: numbered(rank_of(homes, link.to))?,
             })?;

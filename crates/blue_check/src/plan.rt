@@ -26,6 +26,8 @@ pub struct LanePlan {
     pub wire: u32,
     /// How many elements it has room for.
     pub size: u32,
+    /// Whether a failure on it waits behind the elements that came before it.
+    pub keep: bool,
     /// The island of the node whose output it is.
     pub from: u32,
     /// The island of the node whose input it is.

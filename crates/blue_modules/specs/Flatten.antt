@@ -100,7 +100,7 @@ flat_lane around (Own n) = Some n
 
 -- a wire between the two places that its ends stand for
 abbrev pub wire_between : List ℕ → NodePort → NodePort → Option ℕ → WireDecl
-wire_between prefix a b lane = record { from = prefix ++ a.0; output = a.1; to = prefix ++ b.0; input = b.1; lane = lane }
+wire_between prefix a b lane = record { from = prefix ++ a.0; output = a.1; to = prefix ++ b.0; input = b.1; lane = lane; keep = false }
 
 -- a wire of a body, with the names of the instances around it before those of its ends
 abbrev pub flat_wire : List PlainModule → List Entry → List ℕ → Around → WireText → WireDecl

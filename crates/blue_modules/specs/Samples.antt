@@ -72,7 +72,7 @@ flat_node name kind decider = record { name = name; kind = kind; decider = decid
 
 -- a wire of the blueprint, between outputs and inputs of number 0
 abbrev pub flat_wire : List ℕ → List ℕ → Option ℕ → WireDecl
-flat_wire from to lane = record { from = from; output = 0; to = to; input = 0; lane = lane }
+flat_wire from to lane = record { from = from; output = 0; to = to; input = 0; lane = lane; keep = false }
 
 -- the nodes of the blueprint of that text, where the module's stages have this decider
 abbrev pub flat_nodes : Decider → List blueprint.Node

@@ -16,7 +16,7 @@ node_number name nodes = unwrap_or (number_from name 0 (map (λ n. n.name) nodes
 
 -- a wire by the numbers of its nodes
 abbrev pub wire_of : List Node → WireDecl → Edge
-wire_of nodes w = record { from = node_number w.from nodes; output = w.output; to = node_number w.to nodes; input = w.input; lane = w.lane }
+wire_of nodes w = record { from = node_number w.from nodes; output = w.output; to = node_number w.to nodes; input = w.input; lane = w.lane; keep = w.keep }
 
 -- the wires by the numbers of their nodes
 -- Choice: docs/DECISIONS.md#names-before-numbers

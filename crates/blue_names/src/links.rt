@@ -25,6 +25,8 @@ pub struct NumberedWire {
     pub input: u32,
     /// The size of its lane, where it is one.
     pub lane: Option<u32>,
+    /// Whether a failure on that lane waits behind the elements that came before it.
+    pub keep: bool,
 }
 
 /// The number of the node of that name, or 0 where there is none.
@@ -51,6 +53,7 @@ pub fn links_of(
             to: node_number(&table, &wire.to),
             input: wire.input,
             lane: wire.lane,
+            keep: wire.keep,
         })?;
     }
     Ok(links)

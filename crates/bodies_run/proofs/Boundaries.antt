@@ -9,8 +9,8 @@ use Rattle.lane_core.proofs.Keeps.{carried, given_count, most, more, least, few_
 
 pub boundary_keeps : (b : InputBoundary) → BoundaryKeeps b
 boundary_keeps b =
-    let k = carried _ _ _ _ _ _ _ _ _ _ b.flow in
-    let n = given_count _ _ _ _ _ _ _ _ _ _ b.flow in
+    let k = carried _ _ _ _ _ _ _ _ _ _ _ b.flow in
+    let n = given_count _ _ _ _ _ _ _ _ _ _ _ b.flow in
     record {
       taken_list = k.taken_list;
       taken_end = k.taken_end;

@@ -1,6 +1,6 @@
 -- The lanes between bodies that went on.
 use Rattle.std.specs.Prelude.{slice_get, Option, None}
-use Rattle.std.proofs.Common.{◌≡◌, ℕ, ◌<◌, zero, suc, false, List, [], ◌∷◌, length, map, Some, refl, sym, ap, ◌∙◌, subst}
+use Rattle.std.proofs.Common.{◌≡◌, ℕ, ◌<◌, zero, suc, Bool, false, List, [], ◌∷◌, length, map, Some, refl, sym, ap, ◌∙◌, subst}
 use Rattle.std.proofs.lemmas.Option.{slice_get_within}
 use Rattle.stream_io.specs.State.{SourceState, DrainState}
 use Rattle.stream_model.specs.Graph.{Graph, Edge}
@@ -12,6 +12,7 @@ use Rattle.interpreter.specs.Island.{Kept}
 use Rattle.interpreter.specs.declared.parts.Seated.{Seated}
 use Rattle.lane_core.specs.declared.room.Waits.{Waits}
 use Rattle.lane_core.specs.Ends.{asked_in_all, in_size}
+use Rattle.lane_core.specs.Boundary.{keeps_all}
 use Rattle.bodies_run.specs.Ends.{out_end, in_end}
 use Rattle.bodies_run.proofs.StandLanes.{lane_keeps, lane_quiet}
 use Rattle.island_body.specs.Serving.{Serves, IsServed}
@@ -88,6 +89,7 @@ module _ {S D L B : Type 0} where
           out_wire = o.1.1 ∙ x.out_wire;
           inp_wire = i.1.1 ∙ x.inp_wire;
           size_is = (t.lanes.ins_same c.inp x.inp i.0 x.inp_at i.1.0).1 ∙ x.size_is;
+          keep_is = (t.lanes.ins_same c.inp x.inp i.0 x.inp_at i.1.0).2 ∙ x.keep_is;
           near_is = x.near_is ∙ sym (outs_way x.from.island a.0.island u f.island.outs);
           far_is = x.far_is ∙ sym (ins_way x.to.island b.0.island u t.island.ins);
         }
@@ -137,22 +139,22 @@ module _ {S D L B : Type 0} where
     in_stands = (stood c.to x.to x.to_at).stand.ins_stand c.inp x.inp x.inp_at
 
     module _ (w : Waits) (joined : BodiesJoined x.from c.out x.to c.inp w) where
-      abbrev Kept_by : ℕ → WireState → WireState → ℕ → Type 0
-      Kept_by z near far n = (k : LaneKeeps z near far n) × ((k.out ≡ out_end x.out.lane) × (k.inp ≡ in_end x.inp.boundary.lane))
+      abbrev Kept_by : Bool → ℕ → WireState → WireState → ℕ → Type 0
+      Kept_by keep z near far n = (k : LaneKeeps keep z near far n) × ((k.out ≡ out_end x.out.lane) × (k.inp ≡ in_end x.inp.boundary.lane))
 
-      kept_there : Kept_by (in_size x.inp.boundary.lane) (cell_out x.from.island u) (cell_in x.to.island u) (asked_in_all x.inp.boundary.lane)
+      kept_there : Kept_by (keeps_all x.inp.boundary) (in_size x.inp.boundary.lane) (cell_out x.from.island u) (cell_in x.to.island u) (asked_in_all x.inp.boundary.lane)
       kept_there =
           lane_keeps sources drains book x.out.lane x.inp.boundary x.from.island x.to.island u (stood c.from x.from x.from_at).settled (stood c.to x.to x.to_at).settled
           (subst (λ (q : ℕ). Leaves x.from.island q) x.out_wire out_stands.leaves) (subst (λ (q : ℕ). Enters x.to.island q) x.inp_wire in_stands.enters) (boundary_keeps x.inp.boundary) (joined.history x.out x.inp x.out_at x.inp_at)
           (subst (λ (q : ℕ). Serves x.out.lane x.from.island q) x.out_wire out_stands.serves) (subst (λ (q : ℕ). Feeds x.inp.boundary x.to.island q) x.inp_wire in_stands.feeds)
 
-      pub kept_here : (n : ℕ) → n ≡ asked_in_all x.inp.boundary.lane → Kept_by size near_here far_here n
-      kept_here n is = four Kept_by (in_size x.inp.boundary.lane) size (asked_in_all x.inp.boundary.lane) n (cell_out x.from.island u) near_here (cell_in x.to.island u) far_here x.size_is near_cell far_cell (sym is) kept_there
+      pub kept_here : (n : ℕ) → n ≡ asked_in_all x.inp.boundary.lane → Kept_by v.keep size near_here far_here n
+      kept_here n is = subst (λ (z : Bool). Kept_by z size near_here far_here n) x.keep_is (four (Kept_by (keeps_all x.inp.boundary)) (in_size x.inp.boundary.lane) size (asked_in_all x.inp.boundary.lane) n (cell_out x.from.island u) near_here (cell_in x.to.island u) far_here x.size_is near_cell far_cell (sym is) kept_there)
 
-      abbrev Quiet_by : ℕ → WireState → WireState → ℕ → Type 0
-      Quiet_by z near far n = WireQuiet (Some z) near far n
+      abbrev Quiet_by : Bool → ℕ → WireState → WireState → ℕ → Type 0
+      Quiet_by keep z near far n = WireQuiet keep (Some z) near far n
 
-      pub quiet_here : AllOf (BodyKeeps sources drains book) now → x.from.island.net.queue ≡ [] → x.to.island.net.queue ≡ [] → w.item ≡ false → w.demand ≡ false → (n : ℕ) → n ≡ asked_in_all x.inp.boundary.lane → Quiet_by size near_here far_here n
+      pub quiet_here : AllOf (BodyKeeps sources drains book) now → x.from.island.net.queue ≡ [] → x.to.island.net.queue ≡ [] → w.item ≡ false → w.demand ≡ false → (n : ℕ) → n ≡ asked_in_all x.inp.boundary.lane → Quiet_by v.keep size near_here far_here n
       quiet_here keep none none' item demand n is =
           let from = (keep c.from x.from x.from_at).served.outs_served c.out x.out (slice_get_within x.from.outs.items c.out x.out x.out_at) x.out_at tt in
           let to = (keep c.to x.to x.to_at).served.ins_fed c.inp x.inp (slice_get_within x.to.ins.items c.inp x.inp x.inp_at) x.inp_at tt in
@@ -161,7 +163,7 @@ module _ {S D L B : Type 0} where
           (subst (λ (q : ℕ). Serves x.out.lane x.from.island q) x.out_wire out_stands.serves) (subst (λ (q : ℕ). Feeds x.inp.boundary x.to.island q) x.inp_wire in_stands.feeds)
           none none' (subst (λ (q : ℕ). IsServed x.out.lane x.from.island q) x.out_wire from) (subst (λ (q : ℕ). IsFed x.inp.boundary x.to.island q) x.inp_wire to)
           w (joined.waits_are x.out x.inp x.out_at x.inp_at) item demand kept_there.0 kept_there.1.0 kept_there.1.1 in
-          four Quiet_by (in_size x.inp.boundary.lane) size (asked_in_all x.inp.boundary.lane) n (cell_out x.from.island u) near_here (cell_in x.to.island u) far_here x.size_is near_cell far_cell (sym is) (kept_there.0, quiet)
+          subst (λ (z : Bool). Quiet_by z size near_here far_here n) x.keep_is (four (Quiet_by (keeps_all x.inp.boundary)) (in_size x.inp.boundary.lane) size (asked_in_all x.inp.boundary.lane) n (cell_out x.from.island u) near_here (cell_in x.to.island u) far_here x.size_is near_cell far_cell (sym is) (kept_there.0, quiet))
 
   -- nothing is pending
   no_queue : (b : Body S D L B) → is_pending b ≡ false → b.island.net.queue ≡ []

@@ -12,7 +12,7 @@ use Rattle.stage_core.specs.Law.{GaveAs}
 use Rattle.run_laws.specs.Items.{end_of_items}
 use Rattle.run_laws.proofs.Histories.{standing_told}
 use Rattle.lane_core.specs.declared.boundary.InputBoundary.{InputBoundary}
-use Rattle.lane_core.specs.Boundary.{given, BoundaryKeeps}
+use Rattle.lane_core.specs.Boundary.{given, keeps_all, BoundaryKeeps}
 use Rattle.run_laws.specs.Ends.{InKeeps, Met}
 use Rattle.bodies_run.specs.Ends.{out_end, in_end}
 
@@ -30,7 +30,7 @@ are_met o i h = record {
   once = zero_or_one i.cancelled (has_cancelled i) i.asked_is.1;
 }
 
-pub boundary_keeps : (b : InputBoundary) (c : WireState) (l : List Tree) (e : End) → BoundaryKeeps b → c.wire.sent ≡ given b → c.wire.sent ≡ told l e → GaveAs c.wire.out e → InKeeps (in_size b.lane) c (in_end b.lane)
+pub boundary_keeps : (b : InputBoundary) (c : WireState) (l : List Tree) (e : End) → BoundaryKeeps b → c.wire.sent ≡ given b → c.wire.sent ≡ told l e → GaveAs c.wire.out e → InKeeps (keeps_all b) (in_size b.lane) c (in_end b.lane)
 boundary_keeps b c l e k is told_is as_known =
     let same : e ≡ k.given_end = sym (standing_told l e) ∙ (ap end_of_items (sym told_is ∙ (is ∙ k.given_is)) ∙ standing_told k.given_list k.given_end) in
     let count : elements c.wire.sent ≡ elements (given b) = ap elements is in

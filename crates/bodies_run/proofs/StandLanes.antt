@@ -22,7 +22,7 @@ use Rattle.lane_core.specs.Ends.{sent, seen_count, saw_cancel, taken_items, aske
 use Rattle.lane_core.specs.declared.boundary.InputBoundary.{InputBoundary}
 use Rattle.lane_core.specs.declared.state.State.{State}
 use Rattle.lane_core.specs.declared.state.State.TheVariants.{Flowing, Closed, Cancelled}
-use Rattle.lane_core.specs.Boundary.{given, state, BoundaryKeeps}
+use Rattle.lane_core.specs.Boundary.{given, state, keeps_all, BoundaryKeeps}
 use Rattle.lane_core.specs.Flow.{cancelled_by}
 use Rattle.interpreter.specs.Island.{Kept}
 use Rattle.interpreter.specs.Boundary.{Enters, Leaves, way_in, way_out, cell_in, cell_out}
@@ -91,7 +91,7 @@ module _ {S D L B : Type 0} (sources : S → SourceState) (drains : D → DrainS
 -- ---- the end that takes
 
 module _ {S D L B : Type 0} (sources : S → SourceState) (drains : D → DrainState) (book : Book) (b : InputBoundary) (j : Kept S D L B) (u : ℕ) (s : Settled node_port_state (node_law sources drains book) node_asking node_moves j.net) (l : Enters j u) (k : BoundaryKeeps b) (f : Feeds b j u) where
-  pub in_keeps : InKeeps (in_size b.lane) (cell_in j u) (in_end b.lane)
+  pub in_keeps : InKeeps (keeps_all b) (in_size b.lane) (cell_in j u) (in_end b.lane)
   in_keeps =
       let g = gave_there sources drains book j.net s (way_in j u) l.place l.stage in
       boundary_keeps b (cell_in j u) g.list g.end k f.given_is g.is g.known
@@ -143,7 +143,7 @@ met_quiet o b w h waits item demand = record {
 }
 
 module _ {S D L B : Type 0} (sources : S → SourceState) (drains : D → DrainState) (book : Book) (o : LaneOut) (b : InputBoundary) (i j : Kept S D L B) (u : ℕ) (s : Settled node_port_state (node_law sources drains book) node_asking node_moves i.net) (t : Settled node_port_state (node_law sources drains book) node_asking node_moves j.net) (l : Leaves i u) (e : Enters j u) (k : BoundaryKeeps b) (h : IsLaneHistory o b.lane) (serves : Serves o i u) (feeds : Feeds b j u) where
-  pub lane_keeps : (k : LaneKeeps (in_size b.lane) (cell_out i u) (cell_in j u) (asked_in_all b.lane)) × ((k.out ≡ out_end o) × (k.inp ≡ in_end b.lane))
+  pub lane_keeps : (k : LaneKeeps (keeps_all b) (in_size b.lane) (cell_out i u) (cell_in j u) (asked_in_all b.lane)) × ((k.out ≡ out_end o) × (k.inp ≡ in_end b.lane))
   lane_keeps = (
     record {
       out = out_end o;
@@ -157,7 +157,7 @@ module _ {S D L B : Type 0} (sources : S → SourceState) (drains : D → DrainS
   )
 
   pub lane_quiet : i.net.queue ≡ [] → j.net.queue ≡ [] → IsServed o i u → IsFed b j u → (w : Waits) → WaitsAre o b.lane w → w.item ≡ false → w.demand ≡ false
-      → (x : LaneKeeps (in_size b.lane) (cell_out i u) (cell_in j u) (asked_in_all b.lane)) → x.out ≡ out_end o → x.inp ≡ in_end b.lane → LaneQuiet (in_size b.lane) (cell_out i u) (cell_in j u) (asked_in_all b.lane) x
+      → (x : LaneKeeps (keeps_all b) (in_size b.lane) (cell_out i u) (cell_in j u) (asked_in_all b.lane)) → x.out ≡ out_end o → x.inp ≡ in_end b.lane → LaneQuiet (keeps_all b) (in_size b.lane) (cell_out i u) (cell_in j u) (asked_in_all b.lane) x
   lane_quiet none none' served fed w waits item demand x out inp = record {
     out = rw out (out_quiet sources drains book o i u s l serves b none h served);
     inp = rw inp (in_quiet sources drains book b j u t e k feeds none' fed);

@@ -10,6 +10,7 @@ use Rattle.interpreter.specs.Boundary.{way_in, way_out}
 use Rattle.interpreter.specs.Parts.{ends_of, AllBecome}
 use Rattle.interpreter.specs.declared.parts.Seated.{Seated}
 use Rattle.lane_core.specs.Ends.{asked_in_all, in_size}
+use Rattle.lane_core.specs.Boundary.{keeps_all}
 use Rattle.island_body.specs.declared.output.OutputBoundary.{OutputBoundary}
 use Rattle.island_body.specs.declared.input.IslandInput.{IslandInput}
 use Rattle.bodies_run.specs.Islands.{seats_by_islands, seats_in, links_in, AreSeated, IsGraphOf}
@@ -51,7 +52,7 @@ pub record GoesOutOf (homes : List ℕ) (ws : List Edge) (k u : ℕ) : Type 0 wh
 
 module _ {S D L B : Type 0} where
   -- At this crossing lie the two ends of the lane that is wire u: the output end at the body of the island that it goes out of, the input
-  -- end at that of the island that it comes into, each at its connection.
+  -- end at that of the island that it comes into, each at its connection; that end keeps what came before a failure where the lane does.
   pub record IsCrossingOf (homes : List ℕ) (ws : List Edge) (bodies : List (Body S D L B)) (u : ℕ) (v : Edge) (size : ℕ) (c : Crossing) : Type 0 where
     pub from_is : c.from ≡ slice_index homes v.from
     pub to_is : c.to ≡ slice_index homes v.to
@@ -66,6 +67,7 @@ module _ {S D L B : Type 0} where
     pub out_wire : out.wire ≡ u
     pub inp_wire : inp.wire ≡ u
     pub size_is : in_size inp.boundary.lane ≡ size
+    pub keep_is : keeps_all inp.boundary ≡ v.keep
     pub near_is : ((seats_by_islands homes ws).near u).at ≡ way_out from.island u
     pub far_is : ((seats_by_islands homes ws).far u).at ≡ way_in to.island u
 

@@ -9,7 +9,7 @@ ghost use Rattle.stream_model.specs.Outlook.{End};
 ghost use Rattle.stage_core.specs.Held.{told};
 ghost use Rattle.stage_core.specs.Law.{GaveAs};
 ghost use Rattle.lane_core.specs.declared.boundary.InputBoundary.{InputBoundary};
-ghost use Rattle.lane_core.specs.Boundary.{given, BoundaryKeeps};
+ghost use Rattle.lane_core.specs.Boundary.{given, keeps_all, BoundaryKeeps};
 ghost use Rattle.run_laws.specs.Ends.{InKeeps, Met};
 ghost use Rattle.bodies_run.specs.Ends.{out_end, in_end};
 
@@ -22,5 +22,5 @@ pub fn ends_that_met_are_known()
 /// An input boundary is what an account wants of an input end, where the connection behind its stage carries what it handed on.
 pub fn an_input_boundary_keeps_its_end()
     ensures { (b : InputBoundary) (c : WireState) (l : List Tree) (e : End) → BoundaryKeeps b → c.wire.sent ≡ given b → c.wire.sent ≡ told l e
-        → GaveAs c.wire.out e → InKeeps (in_size b.lane) c (in_end b.lane) }
+        → GaveAs c.wire.out e → InKeeps (keeps_all b) (in_size b.lane) c (in_end b.lane) }
 {}

@@ -6,7 +6,7 @@ ghost use Rattle.lane_core.specs.declared.lane_out.LaneOut.{LaneOut};
 ghost use Rattle.lane_core.specs.declared.room.Waits.{Waits};
 ghost use Rattle.lane_core.specs.Ends.{asked_in_all, in_size, IsLaneHistory, WaitsAre};
 ghost use Rattle.lane_core.specs.declared.boundary.InputBoundary.{InputBoundary};
-ghost use Rattle.lane_core.specs.Boundary.{BoundaryKeeps};
+ghost use Rattle.lane_core.specs.Boundary.{keeps_all, BoundaryKeeps};
 ghost use Rattle.interpreter.specs.Island.{Kept};
 ghost use Rattle.interpreter.specs.Boundary.{Enters, Leaves, cell_in, cell_out};
 ghost use Rattle.island_body.specs.Serving.{Serves, IsServed};
@@ -25,7 +25,7 @@ pub fn an_end_is_kept<S: Source, D: Drain, L: Logic, B: PlugBook>()
     ensures out { (o : LaneOut) (i : Kept S D L B) (u : ℕ) → Settled node_port_state (node_law S.state D.state B.lists) node_asking node_moves i.net
         → Leaves i u → Serves o i u → OutKeeps (cell_out i u) (out_end o) }
     ensures inp { (b : InputBoundary) (j : Kept S D L B) (u : ℕ) → Settled node_port_state (node_law S.state D.state B.lists) node_asking node_moves j.net
-        → Enters j u → BoundaryKeeps b → Feeds b j u → InKeeps (in_size b.lane) (cell_in j u) (in_end b.lane) }
+        → Enters j u → BoundaryKeeps b → Feeds b j u → InKeeps (keeps_all b) (in_size b.lane) (cell_in j u) (in_end b.lane) }
     ensures out_quiet { (o : LaneOut) (b : InputBoundary) (i : Kept S D L B) (u : ℕ)
         → Settled node_port_state (node_law S.state D.state B.lists) node_asking node_moves i.net → Leaves i u → i.net.queue ≡ [] → IsLaneHistory o b.lane
         → Serves o i u → IsServed o i u → OutQuiet (cell_out i u) (out_end o) }
@@ -39,7 +39,7 @@ pub fn a_lane_is_kept<S: Source, D: Drain, L: Logic, B: PlugBook>()
         (node_law S.state D.state B.lists) node_asking node_moves i.net → Settled node_port_state
         (node_law S.state D.state B.lists) node_asking node_moves j.net → Leaves i u → Enters j u
         → BoundaryKeeps b → IsLaneHistory o b.lane → Serves o i u → Feeds b j u
-        → (k : LaneKeeps (in_size b.lane) (cell_out i u) (cell_in j u) (asked_in_all b.lane)) × ((k.out ≡ out_end o) × (k.inp ≡ in_end b.lane)) }
+        → (k : LaneKeeps (keeps_all b) (in_size b.lane) (cell_out i u) (cell_in j u) (asked_in_all b.lane)) × ((k.out ≡ out_end o) × (k.inp ≡ in_end b.lane)) }
 {}
 
 /// And it is quiet where no event is left at either stage, neither end has anything to do, and nothing waits between them.
@@ -49,6 +49,6 @@ pub fn a_lane_is_quiet<S: Source, D: Drain, L: Logic, B: PlugBook>()
         (node_law S.state D.state B.lists) node_asking node_moves j.net → Leaves i u → Enters j u → i.net.queue ≡ [] → j.net.queue ≡ []
         → BoundaryKeeps b → IsLaneHistory o b.lane → Serves o i u → Feeds b j u → IsServed o i u → IsFed b j u → (w : Waits) → WaitsAre o b.lane w
         → w.item ≡ false → w.demand ≡ false
-        → (k : LaneKeeps (in_size b.lane) (cell_out i u) (cell_in j u) (asked_in_all b.lane)) → k.out ≡ out_end o → k.inp ≡ in_end b.lane
-        → LaneQuiet (in_size b.lane) (cell_out i u) (cell_in j u) (asked_in_all b.lane) k }
+        → (k : LaneKeeps (keeps_all b) (in_size b.lane) (cell_out i u) (cell_in j u) (asked_in_all b.lane)) → k.out ≡ out_end o → k.inp ≡ in_end b.lane
+        → LaneQuiet (keeps_all b) (in_size b.lane) (cell_out i u) (cell_in j u) (asked_in_all b.lane) k }
 {}

@@ -32,5 +32,6 @@ pub fn wire(alloc: Global, from: u8, to: u8, lane: Option<u32>) -> Result<WireDe
         to: name(alloc, to)?,
         input: 0,
         lane,
+        keep: false,
     })
 }

@@ -26,6 +26,7 @@ fn wire(from: usize, to: usize) -> NumberedWire {
         to,
         input: 0,
         lane: None,
+        keep: false,
     }
 }
 

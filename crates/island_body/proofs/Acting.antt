@@ -6,7 +6,8 @@ use Rattle.stream_io.specs.State.{SourceState, DrainState}
 use Rattle.nodes.specs.Nodes.{node_port_state, node_law, node_asking, node_moves, node_gone, node_passive, KeepsNode}
 use Rattle.fused_net.specs.Laws.{Settled}
 use Rattle.fused_net.specs.Outside.{StandsStill, BreaksAside}
-use Rattle.lane_core.specs.Ends.{taken_items, IsSameIn, IsSameOut}
+use Rattle.lane_core.specs.Ends.{taken_items, IsSameOut}
+use Rattle.lane_core.specs.Boundary.{IsSameEnd}
 use Rattle.lane_core.specs.Boundary.{given, waits, state}
 use Rattle.interpreter.specs.Island.{Kept}
 use Rattle.interpreter.specs.Boundary.{Enters, Leaves, way_in, way_out}
@@ -30,13 +31,13 @@ use Rattle.stream_model.specs.Linear.{Book}
 pub at_index : {A : Type 0} (xs : List A) (k : ℕ) (x : A) → k < length xs → x ≡ get_or xs k x → slice_get xs k ≡ Some x
 at_index xs k x h e = get_here xs k x h ∙ ap (λ z. Some z) (sym e)
 
-pub in_lanes : (ins : List IslandInput) (outs : List OutputBoundary) (k : ℕ) (x y : IslandInput) → slice_get ins k ≡ Some x → y.wire ≡ x.wire → IsSameIn x.boundary.lane y.boundary.lane → SameLanes ins (set ins k y) outs outs
+pub in_lanes : (ins : List IslandInput) (outs : List OutputBoundary) (k : ℕ) (x y : IslandInput) → slice_get ins k ≡ Some x → y.wire ≡ x.wire → IsSameEnd x.boundary y.boundary → SameLanes ins (set ins k y) outs outs
 in_lanes ins outs k x y at wire same = record {
   ins_wires = map_set (λ (z : IslandInput). z.wire) ins k x y at wire;
   outs_wires = refl;
   ins_same = λ j u v eu ev. elim (at_set ins k j x y v at ev) [
-    | inl here ↦ (let was : x ≡ u = some_same x u (sym at ∙ (ap (λ (n : ℕ). slice_get ins n) (sym here.0) ∙ eu)) in subst (λ (z : IslandInput). IsSameIn z.boundary.lane v.boundary.lane) was (subst (λ (z : IslandInput). IsSameIn x.boundary.lane z.boundary.lane) (sym here.1) same))
-    | inr there ↦ (let is : u ≡ v = some_same u v (sym eu ∙ there.1) in subst (λ (z : IslandInput). IsSameIn u.boundary.lane z.boundary.lane) is (refl, refl))
+    | inl here ↦ (let was : x ≡ u = some_same x u (sym at ∙ (ap (λ (n : ℕ). slice_get ins n) (sym here.0) ∙ eu)) in subst (λ (z : IslandInput). IsSameEnd z.boundary v.boundary) was (subst (λ (z : IslandInput). IsSameEnd x.boundary z.boundary) (sym here.1) same))
+    | inr there ↦ (let is : u ≡ v = some_same u v (sym eu ∙ there.1) in subst (λ (z : IslandInput). IsSameEnd u.boundary z.boundary) is (refl, refl, refl))
   ];
   outs_same = λ j o p eo ep. let is : o ≡ p = some_same o p (sym eo ∙ ep) in subst (λ (z : OutputBoundary). IsSameOut o.lane z.lane) is (refl, refl);
 }
@@ -45,7 +46,7 @@ pub out_lanes : (ins : List IslandInput) (outs : List OutputBoundary) (k : ℕ) 
 out_lanes ins outs k x y at wire same = record {
   ins_wires = refl;
   outs_wires = map_set (λ (z : OutputBoundary). z.wire) outs k x y at wire;
-  ins_same = λ j u v eu ev. let is : u ≡ v = some_same u v (sym eu ∙ ev) in subst (λ (z : IslandInput). IsSameIn u.boundary.lane z.boundary.lane) is (refl, refl);
+  ins_same = λ j u v eu ev. let is : u ≡ v = some_same u v (sym eu ∙ ev) in subst (λ (z : IslandInput). IsSameEnd u.boundary z.boundary) is (refl, refl, refl);
   outs_same = λ j o p eo ep. elim (at_set outs k j x y p at ep) [
     | inl here ↦ (let was : x ≡ o = some_same x o (sym at ∙ (ap (λ (n : ℕ). slice_get outs n) (sym here.0) ∙ eo)) in subst (λ (z : OutputBoundary). IsSameOut z.lane p.lane) was (subst (λ (z : OutputBoundary). IsSameOut x.lane z.lane) (sym here.1) same))
     | inr there ↦ (let is : o ≡ p = some_same o p (sym eo ∙ there.1) in subst (λ (z : OutputBoundary). IsSameOut o.lane z.lane) is (refl, refl))
@@ -80,7 +81,7 @@ module _ {S D L B : Type 0} where
         table = rw (ins_is, outs_is, ways_is, same) (table_goes b.island nb.island goes (in_wires b.ins.items) (out_wires b.outs.items) b.ways.items s.table);
       }
 
-  pub in_goes : (b nb : Body S D L B) (k : ℕ) (x y : IslandInput) → slice_get b.ins.items k ≡ Some x → IslandGoes b.island nb.island → y.wire ≡ x.wire → IsSameIn x.boundary.lane y.boundary.lane
+  pub in_goes : (b nb : Body S D L B) (k : ℕ) (x y : IslandInput) → slice_get b.ins.items k ≡ Some x → IslandGoes b.island nb.island → y.wire ≡ x.wire → IsSameEnd x.boundary y.boundary
       → nb.ins.items ≡ set b.ins.items k y → nb.outs.items ≡ b.outs.items → nb.ways ≡ b.ways → BodyGoes b nb
   in_goes b nb k x y at goes wire same ins_is outs_is ways_is = record {
     island = goes;
@@ -252,6 +253,6 @@ module _ {S D L B : Type 0} (sources : S → SourceState) (drains : D → DrainS
       same_lanes ins outs = record {
         ins_wires = refl;
         outs_wires = refl;
-        ins_same = λ j u v eu ev. let is : u ≡ v = some_same u v (sym eu ∙ ev) in subst (λ (z : IslandInput). IsSameIn u.boundary.lane z.boundary.lane) is (refl, refl);
+        ins_same = λ j u v eu ev. let is : u ≡ v = some_same u v (sym eu ∙ ev) in subst (λ (z : IslandInput). IsSameEnd u.boundary z.boundary) is (refl, refl, refl);
         outs_same = λ j o p eo ep. let is : o ≡ p = some_same o p (sym eo ∙ ep) in subst (λ (z : OutputBoundary). IsSameOut o.lane z.lane) is (refl, refl);
       }

@@ -4,7 +4,8 @@ use Rattle.stream_io.specs.State.{SourceState, DrainState}
 use Rattle.fused_net.specs.Costs.{total_cost}
 use Rattle.fused_net.specs.Laws.{Settled, AllKept}
 use Rattle.nodes.specs.Nodes.{node_port_state, node_law, node_asking, node_moves, KeepsNode}
-use Rattle.lane_core.specs.Ends.{IsSameIn, IsSameOut}
+use Rattle.lane_core.specs.Ends.{IsSameOut}
+use Rattle.lane_core.specs.Boundary.{IsSameEnd}
 use Rattle.interpreter.specs.Island.{Kept, IslandKeeps}
 use Rattle.interpreter.specs.Boundary.{way_in, way_out}
 use Rattle.island_body.specs.declared.output.OutputBoundary.{OutputBoundary}
@@ -18,7 +19,7 @@ use Rattle.stream_model.specs.Linear.{Book}
 pub record SameLanes (ins ins' : List IslandInput) (outs outs' : List OutputBoundary) : Type 0 where
   pub ins_wires : in_wires ins' ≡ in_wires ins
   pub outs_wires : out_wires outs' ≡ out_wires outs
-  pub ins_same : (k : ℕ) (x y : IslandInput) → slice_get ins k ≡ Some x → slice_get ins' k ≡ Some y → IsSameIn x.boundary.lane y.boundary.lane
+  pub ins_same : (k : ℕ) (x y : IslandInput) → slice_get ins k ≡ Some x → slice_get ins' k ≡ Some y → IsSameEnd x.boundary y.boundary
   pub outs_same : (k : ℕ) (o p : OutputBoundary) → slice_get outs k ≡ Some o → slice_get outs' k ≡ Some p → IsSameOut o.lane p.lane
 
 -- there is one

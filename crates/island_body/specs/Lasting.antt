@@ -79,7 +79,7 @@ lanes_on xs ys zs os ps qs k l = record {
   ins_wires = l.ins_wires ∙ k.ins_wires;
   outs_wires = l.outs_wires ∙ k.outs_wires;
   ins_same = λ n x z ex ez. let y = there_before ys zs n z (map_count (λ (w : IslandInput). w.wire) ys zs l.ins_wires) ez in let f = k.ins_same n x y.0 ex y.1
-      in let g = l.ins_same n y.0 z y.1 ez in (g.0 ∙ f.0, g.1 ∙ f.1);
+      in let g = l.ins_same n y.0 z y.1 ez in (g.0 ∙ f.0, g.1 ∙ f.1, g.2 ∙ f.2);
   outs_same = λ n x z ex ez. let y = there_before ps qs n z (map_count (λ (w : OutputBoundary). w.wire) ps qs l.outs_wires) ez
       in let f = k.outs_same n x y.0 ex y.1 in let g = l.outs_same n y.0 z y.1 ez in (g.0 ∙ f.0, g.1 ∙ f.1);
 }
@@ -100,7 +100,7 @@ out_met_still o = record { wire = refl; lane = out_kept o.lane }
 
 -- an input boundary that does nothing is one that only met
 pub in_met_still : (x : IslandInput) → InMet x x
-in_met_still x = record { wire = refl; lane = in_kept x.boundary.lane; given_is = refl; waits_is = refl; over_is = refl; state_is = refl }
+in_met_still x = record { wire = refl; lane = in_kept x.boundary.lane; given_is = refl; waits_is = refl; over_is = refl; state_is = refl; keep_is = refl }
 
 out_met_on : (o p q : OutputBoundary) → OutMet o p → OutMet p q → OutMet o q
 out_met_on o p q f g = record {
@@ -131,6 +131,7 @@ in_met_on x y z f g = record {
   waits_is = g.waits_is ∙ f.waits_is;
   over_is = g.over_is ∙ f.over_is;
   state_is = g.state_is ∙ f.state_is;
+  keep_is = g.keep_is ∙ f.keep_is;
 }
 
 module _ {S D L B : Type 0} where
@@ -216,7 +217,7 @@ module _ {S D L B : Type 0} where
   lanes_met a c m = record {
     ins_wires = maps_same (λ (x : IslandInput). x.wire) a.ins.items c.ins.items m.ins_count (λ k x y ex ey. (m.ins_met k x y ex ey).wire);
     outs_wires = maps_same (λ (o : OutputBoundary). o.wire) a.outs.items c.outs.items m.outs_count (λ k x y ex ey. (m.outs_met k x y ex ey).wire);
-    ins_same = λ k x y ex ey. (m.ins_met k x y ex ey).lane.same;
+    ins_same = λ k x y ex ey. let t = m.ins_met k x y ex ey in (t.lane.same.0, t.lane.same.1, t.keep_is);
     outs_same = λ k x y ex ey. (m.outs_met k x y ex ey).lane.same;
   }
 

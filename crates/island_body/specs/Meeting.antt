@@ -3,7 +3,7 @@ use Rattle.std.specs.Prelude.{◌≡◌, ℕ, ◌<◌, length, slice_get, Some}
 use Rattle.lane_core.specs.declared.room.Waits.{Waits}
 use Rattle.lane_core.specs.Ends.{AreOneLane, IsLaneHistory, WaitsAre}
 use Rattle.lane_core.specs.Meeting.{KeepsOut, KeepsIn, AreTold}
-use Rattle.lane_core.specs.Boundary.{given, waits, is_over, state}
+use Rattle.lane_core.specs.Boundary.{given, waits, is_over, state, keeps_all}
 use Rattle.island_body.specs.declared.output.OutputBoundary.{OutputBoundary}
 use Rattle.island_body.specs.declared.input.IslandInput.{IslandInput}
 use Rattle.island_body.specs.declared.body.Body.{Body}
@@ -21,6 +21,7 @@ pub record InMet (x y : IslandInput) : Type 0 where
   pub waits_is : waits y.boundary ≡ waits x.boundary
   pub over_is : is_over y.boundary ≡ is_over x.boundary
   pub state_is : state y.boundary ≡ state x.boundary
+  pub keep_is : keeps_all y.boundary ≡ keeps_all x.boundary
 
 module _ {S D L B : Type 0} where
   -- a body that only met

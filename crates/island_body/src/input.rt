@@ -4,8 +4,8 @@ ghost use Rattle.elem_core.specs.declared.item.Item.{Item};
 ghost use Rattle.fused_net.specs.Costs.{Uses};
 ghost use Rattle.port_core.specs.declared.view.OutView.TheVariants as outlet;
 ghost use Rattle.lane_core.specs.Lane.{ends};
-ghost use Rattle.lane_core.specs.Ends.{taken_items, asked_in_all, ask_calls, has_cancelled, found_sent, told_sent, IsSameIn};
-ghost use Rattle.lane_core.specs.Boundary.{given, waits, is_over, state, BoundaryKeeps};
+ghost use Rattle.lane_core.specs.Ends.{taken_items, asked_in_all, ask_calls, has_cancelled, found_sent, told_sent};
+ghost use Rattle.lane_core.specs.Boundary.{given, waits, is_over, state, IsSameEnd, BoundaryKeeps};
 ghost use Rattle.lane_core.specs.declared.state.State.TheVariants.{Flowing, Closed, Cancelled};
 ghost use Rattle.port_core.specs.View.{output_closed};
 ghost use Rattle.interpreter.specs.BoundaryPlaces.{wanted_at, moved_at};
@@ -60,7 +60,7 @@ impl IslandInput {
     /// Takes the next item off the lane, where one was sent and no end was taken; false comes exactly where none was. Nothing is
     /// handed on by it. It takes no memory.
     pub fn look(&mut self) -> bool
-        ensures wire { (self.new.wire ≡ self.old.wire) × IsSameIn self.old.boundary.lane self.new.boundary.lane
+        ensures wire { (self.new.wire ≡ self.old.wire) × IsSameEnd self.old.boundary self.new.boundary
             × (asked_in_all self.new.boundary.lane ≡ asked_in_all self.old.boundary.lane)
             × (ask_calls self.new.boundary.lane ≡ ask_calls self.old.boundary.lane)
             × (has_cancelled self.new.boundary.lane ≡ has_cancelled self.old.boundary.lane) }
@@ -102,7 +102,7 @@ impl IslandInput {
         requires asked { asked ≡ true → wanted_at (cell_in island.old self.old.wire) ≡ wanted.Asked }
         ensures feeds { Feeds self.new.boundary island.new self.new.wire }
         ensures live { (cell_in island.new self.new.wire).wire.out ≢ outlet.Cancelled }
-        ensures wire { (self.new.wire ≡ self.old.wire) × IsSameIn self.old.boundary.lane self.new.boundary.lane
+        ensures wire { (self.new.wire ≡ self.old.wire) × IsSameEnd self.old.boundary self.new.boundary
             × (taken_items self.new.boundary.lane ≡ taken_items self.old.boundary.lane)
             × (has_cancelled self.new.boundary.lane ≡ has_cancelled self.old.boundary.lane) }
         ensures asks { ask_calls self.new.boundary.lane ≡ ask_calls self.old.boundary.lane + cond result 1 0 }
@@ -137,7 +137,7 @@ impl IslandInput {
         requires asked { HasGiven self.old.boundary island.old self.old.wire }
         ensures feeds { Feeds self.new.boundary island.new self.new.wire }
         ensures fed { IsFed self.new.boundary island.new self.new.wire }
-        ensures wire { (self.new.wire ≡ self.old.wire) × IsSameIn self.old.boundary.lane self.new.boundary.lane
+        ensures wire { (self.new.wire ≡ self.old.wire) × IsSameEnd self.old.boundary self.new.boundary
             × (taken_items self.new.boundary.lane ≡ taken_items self.old.boundary.lane)
             × (has_cancelled self.new.boundary.lane ≡ has_cancelled self.old.boundary.lane) }
         ensures asks { ask_calls self.new.boundary.lane ≡ ask_calls self.old.boundary.lane + cond result 1 0 }
@@ -166,7 +166,7 @@ impl IslandInput {
         requires feeds { Feeds self.old.boundary island.old self.old.wire }
         ensures feeds { Feeds self.new.boundary island.new self.new.wire }
         ensures fed { IsFed self.new.boundary island.new self.new.wire }
-        ensures wire { (self.new.wire ≡ self.old.wire) × IsSameIn self.old.boundary.lane self.new.boundary.lane
+        ensures wire { (self.new.wire ≡ self.old.wire) × IsSameEnd self.old.boundary self.new.boundary
             × (taken_items self.new.boundary.lane ≡ taken_items self.old.boundary.lane) }
         ensures least { (ask_calls self.old.boundary.lane ≤ ask_calls self.new.boundary.lane)
             × (has_cancelled self.old.boundary.lane ≤ has_cancelled self.new.boundary.lane) }
@@ -197,7 +197,7 @@ impl IslandInput {
         requires keeps { BoundaryKeeps self.old.boundary }
         ensures feeds { Feeds self.new.boundary island.new self.new.wire }
         ensures fed { IsFed self.new.boundary island.new self.new.wire }
-        ensures wire { (self.new.wire ≡ self.old.wire) × IsSameIn self.old.boundary.lane self.new.boundary.lane
+        ensures wire { (self.new.wire ≡ self.old.wire) × IsSameEnd self.old.boundary self.new.boundary
             × (taken_items self.new.boundary.lane ≡ taken_items self.old.boundary.lane) }
         ensures least { (ask_calls self.old.boundary.lane ≤ ask_calls self.new.boundary.lane)
             × (has_cancelled self.old.boundary.lane ≤ has_cancelled self.new.boundary.lane) }

@@ -3,7 +3,7 @@ use Rattle.std.specs.Prelude.{◌≡◌, ℕ, ◌<◌, ◌≤◌, false, List, [
 use Rattle.std.specs.declared.vec.Vec.{Vec}
 use Rattle.std.specs.declared.alloc.Global.{Global}
 use Rattle.lane_core.specs.Ends.{sent, seen_count, saw_cancel, finds, has_ended, out_size, taken_items, asked_in_all, has_cancelled, in_size, AreOneLane}
-use Rattle.lane_core.specs.Boundary.{given, waits, is_over, state}
+use Rattle.lane_core.specs.Boundary.{given, waits, is_over, state, keeps_all}
 use Rattle.lane_core.specs.declared.state.State.TheVariants.{Flowing}
 use Rattle.island_body.specs.declared.input.IslandInput.{IslandInput}
 use Rattle.island_body.specs.declared.output.OutputBoundary.{OutputBoundary}
@@ -31,13 +31,15 @@ AreRising lanes = (m n : ℕ) (l k : LanePlan) → m < n → slice_get lanes m �
 abbrev pub CanAllHaveEnds : List LanePlan → Type 0
 CanAllHaveEnds lanes = (n : ℕ) (l : LanePlan) → slice_get lanes n ≡ Some l → (1 ≤ l.size) × (l.size ≤ 1024)
 
--- The two ends of this lane, at which nothing has passed: the input has asked for as many elements as there are places.
+-- The two ends of this lane, at which nothing has passed: the input has asked for as many elements as there are places,
+-- and keeps what came before a failure where the lane does.
 pub record AreEnds (l : LanePlan) (o : OutputBoundary) (i : IslandInput) : Type 0 where
   pub out_wire : o.wire ≡ l.wire
   pub in_wire : i.wire ≡ l.wire
   pub one : AreOneLane o.lane i.boundary.lane
   pub out_size_is : out_size o.lane ≡ l.size
   pub in_size_is : in_size i.boundary.lane ≡ l.size
+  pub keep_is : keeps_all i.boundary ≡ l.keep
   pub none_sent : sent o.lane ≡ []
   pub none_seen : seen_count o.lane ≡ 0
   pub no_cancel_seen : saw_cancel o.lane ≡ 0

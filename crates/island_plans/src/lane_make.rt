@@ -25,7 +25,7 @@ fn make(alloc: Global, plan: &LanePlan) -> Result<(OutputBoundary, IslandInput),
     ensures { IfOk result (λ r. AreEnds plan.now r.0 r.1) }
 {
     let (out, inp) = lane(alloc, plan.size)?;
-    let boundary = InputBoundary::new(alloc, inp)?;
+    let boundary = InputBoundary::new(alloc, inp, plan.keep)?;
     Ok((
         OutputBoundary::new(plan.wire, out),
         IslandInput::new(plan.wire, boundary),

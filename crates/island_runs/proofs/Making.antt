@@ -99,6 +99,7 @@ module _ {S D L B : Type 0} where
             out_wire = o.1.1 ∙ (x.ends.out_wire ∙ zero_plus);
             inp_wire = i.1.1 ∙ (x.ends.in_wire ∙ zero_plus);
             size_is = (n.lanes.ins_same c.inp x.inp i.0 x.inp_at i.1.0).1 ∙ x.ends.in_size_is;
+            keep_is = (n.lanes.ins_same c.inp x.inp i.0 x.inp_at i.1.0).2 ∙ x.ends.keep_is;
             near_is = sym g.way ∙ sym (out_goes m.island f.0.island m.goes u);
             far_is = sym h.way ∙ sym (in_goes n.island t.0.island n.goes u);
           }

@@ -129,7 +129,7 @@ module _ {S D L B : Type 0} (sources : S → SourceState) (drains : D → DrainS
       let most = taken_paid account cost 0 g.wires (λ k v size at is.
       let none : 0 + k ≡ k = omega arith in
       let keeps = lanes k v size at is in
-      let few = taken_most size (account.near k) (account.far k) (all k) keeps.0 in
+      let few = taken_most v.keep size (account.near k) (account.far k) (all k) keeps.0 in
       let paid = keeps.1 in
       let there : elements (account.near k).wire.sent ≤ cost k + size = omega (arith, few, paid) in
       subst (λ (j : ℕ). elements (account.near j).wire.sent ≤ cost j + size) (sym none) there) in

@@ -13,7 +13,7 @@ use Rattle.stage_core.specs.Held.{told}
 use Rattle.stage_core.proofs.Told.{told-append}
 use Rattle.lane_core.specs.declared.state.State.{State}
 use Rattle.lane_core.specs.declared.state.State.TheVariants.{Flowing, Closed, Cancelled}
-use Rattle.lane_core.specs.Flow.{is_failure, pending_by, cancelled_by, Flow, AsksByHalves}
+use Rattle.lane_core.specs.Flow.{drops, pending_by, cancelled_by, Flow, AsksByHalves}
 
 -- ---- counts
 
@@ -45,11 +45,15 @@ both a b p q = let r = elements_append a b in let l = length-append a b in omega
 open_none : {E : List Item} {over : Bool} → length E ≡ cond over 1 0 → over ≡ false → E ≡ []
 open_none {E = E} {over = over} l o = none_of E (l ∙ ap (λ (b : Bool). cond b 1 0) o)
 
+drops_none : (keep : Bool) → drops keep [] ≡ false
+drops_none true = refl
+drops_none false = refl
+
 one_over : (over : Bool) → ◌≡◌ {A = ℕ} 1 (cond over 1 0) → over ≡ true
 one_over true e = refl
 one_over false e = absurd (omega (arith, e))
 
-module _ (s : ℕ) (T G L : List Item) (W : List Tree) (E : List Item) (P : Option Item) (over : Bool) (S : State) (c : ℕ) (f : Flow s T G L W E P over S c) where
+module _ (keep : Bool) (s : ℕ) (T G L : List Item) (W : List Tree) (E : List Item) (P : Option Item) (over : Bool) (S : State) (c : ℕ) (f : Flow keep s T G L W E P over S c) where
   -- all that was taken is at least what was handed on and what waits
   pub count : elements T ≡ elements G + (elements L + length W)
   count =
@@ -68,8 +72,8 @@ module _ (s : ℕ) (T G L : List Item) (W : List Tree) (E : List Item) (P : Opti
   flows_not : S ≡ Flowing → S ≢ Cancelled
   flows_not e = λ x. let two : Flowing ≡ Cancelled = sym e ∙ x in cc
 
-  none_failed : over ≡ false → is_failure E ≡ false
-  none_failed o = ap is_failure (no_end o)
+  none_failed : over ≡ false → drops keep E ≡ false
+  none_failed o = ap (drops keep) (no_end o) ∙ drops_none keep
 
   lost_none : S ≡ Flowing → over ≡ false → L ≡ []
   lost_none e o = f.none_lost (flows_not e) (none_failed o)
@@ -78,7 +82,7 @@ module _ (s : ℕ) (T G L : List Item) (W : List Tree) (E : List Item) (P : Opti
   few_wait e = let n = f.few (flows_not e) in omega (arith, n)
 
   -- an element came, and waits
-  pub took_elem : (e : Tree) (T' : List Item) (W' : List Tree) → S ≡ Flowing → over ≡ false → length W < s → T' ≡ T ++ item.Elem e ∷ [] → W' ≡ W ++ e ∷ [] → Flow s T' G L W' E P over S c
+  pub took_elem : (e : Tree) (T' : List Item) (W' : List Tree) → S ≡ Flowing → over ≡ false → length W < s → T' ≡ T ++ item.Elem e ∷ [] → W' ≡ W ++ e ∷ [] → Flow keep s T' G L W' E P over S c
   took_elem e T' W' fl o less t w =
       let nothing : E ≡ [] = no_end o in
       record {
@@ -93,7 +97,7 @@ module _ (s : ℕ) (T G L : List Item) (W : List Tree) (E : List Item) (P : Opti
         none_waits = λ n. absurd (n fl);
         none_lost = f.none_lost;
         few = λ n. let l = ap length (lost_none fl o) in let v = ap length w in let a = length-append W (e ∷ []) in omega (arith, l, v, a, less);
-        failure = λ x. let no : is_failure E ≡ false = none_failed o in absurd cc;
+        failure = λ x. let no : drops keep E ≡ false = none_failed o in absurd cc;
       }
     where
       moved : E ≡ [] → (G ++ (L ++ (told W unended ++ E))) ++ item.Elem e ∷ [] ≡ G ++ (L ++ (told (W ++ e ∷ []) unended ++ E))
@@ -109,7 +113,7 @@ module _ (s : ℕ) (T G L : List Item) (W : List Tree) (E : List Item) (P : Opti
       by Cancelled e = e
 
   -- an element came behind the cancel, and is dropped
-  pub dropped_elem : (e : Tree) (T' L' : List Item) → S ≢ Flowing → over ≡ false → T' ≡ T ++ item.Elem e ∷ [] → L' ≡ L ++ item.Elem e ∷ [] → Flow s T' G L' W E P over S c
+  pub dropped_elem : (e : Tree) (T' L' : List Item) → S ≢ Flowing → over ≡ false → T' ≡ T ++ item.Elem e ∷ [] → L' ≡ L ++ item.Elem e ∷ [] → Flow keep s T' G L' W E P over S c
   dropped_elem e T' L' fl o t l =
       let is : S ≡ Cancelled = was_cancelled fl o in
       record {
@@ -141,43 +145,43 @@ module _ (s : ℕ) (T G L : List Item) (W : List Tree) (E : List Item) (P : Opti
 
   -- an end came: a failure finds nothing waiting, since it drops what waits
   pub took_end : (x : Item) (T' L' E' : List Item) (W' : List Tree) (P' : Option Item) → ends x ≡ true → over ≡ false → T' ≡ T ++ x ∷ [] → E' ≡ E ++ x ∷ []
-      → (is_failure (x ∷ []) ≡ false → (L' ≡ L) × (W' ≡ W)) → (is_failure (x ∷ []) ≡ true → (L' ≡ L ++ told W unended) × (W' ≡ [])) → option_to_list P' ≡ pending_by S E' → Flow s T' G L' W' E' P' true S c
-  took_end x T' L' E' W' P' h o t en keeps drops p =
+      → (drops keep (x ∷ []) ≡ false → (L' ≡ L) × (W' ≡ W)) → (drops keep (x ∷ []) ≡ true → (L' ≡ L ++ told W unended) × (W' ≡ [])) → option_to_list P' ≡ pending_by S E' → Flow keep s T' G L' W' E' P' true S c
+  took_end x T' L' E' W' P' h o t en keeps lets_go p =
       let nothing : E ≡ [] = no_end o in
       let now : E' ≡ x ∷ [] = en ∙ ap (λ (l : List Item). l ++ x ∷ []) nothing in
       record {
         taken_is = t ∙ (ap (λ (l : List Item). l ++ x ∷ []) f.taken_is ∙ (ended_taken x nothing ∙ (ap (λ (l : List Item). G ++ (L ++ (told W unended ++ l))) (sym en) ∙ regrouped)));
         gave_elements = f.gave_elements;
-        lost_elements = by_lost (is_failure (x ∷ [])) refl;
+        lost_elements = by_lost (drops keep (x ∷ [])) refl;
         one_end = ap length now;
         no_element = ap elements now ∙ end_weight x h;
         pending_is = p;
         cancelled_is = f.cancelled_is;
         closed = λ e. refl;
-        none_waits = λ n. by_none n (is_failure (x ∷ [])) refl;
-        none_lost = λ n fl. let old : L ≡ [] = f.none_lost n (none_failed o) in (keeps (sym (ap is_failure now) ∙ fl)).0 ∙ old;
-        few = λ n. let old = f.few n in by_few old (is_failure (x ∷ [])) refl;
-        failure = λ fl. (drops (sym (ap is_failure now) ∙ fl)).1;
+        none_waits = λ n. by_none n (drops keep (x ∷ [])) refl;
+        none_lost = λ n fl. let old : L ≡ [] = f.none_lost n (none_failed o) in (keeps (sym (ap (drops keep) now) ∙ fl)).0 ∙ old;
+        few = λ n. let old = f.few n in by_few old (drops keep (x ∷ [])) refl;
+        failure = λ fl. (lets_go (sym (ap (drops keep) now) ∙ fl)).1;
       }
     where
-      same : (b : Bool) → is_failure (x ∷ []) ≡ b → L' ++ told W' unended ≡ L ++ told W unended
+      same : (b : Bool) → drops keep (x ∷ []) ≡ b → L' ++ told W' unended ≡ L ++ told W unended
       same false e = ap (λ (l : List Item). l ++ told W' unended) (keeps e).0 ∙ ap (λ (v : List Tree). L ++ told v unended) (keeps e).1
-      same true e = ap (λ (l : List Item). l ++ told W' unended) (drops e).0 ∙ (ap (λ (v : List Tree). (L ++ told W unended) ++ told v unended) (drops e).1 ∙ append-nil (L ++ told W unended))
+      same true e = ap (λ (l : List Item). l ++ told W' unended) (lets_go e).0 ∙ (ap (λ (v : List Tree). (L ++ told W unended) ++ told v unended) (lets_go e).1 ∙ append-nil (L ++ told W unended))
 
       regrouped : G ++ (L ++ (told W unended ++ E')) ≡ G ++ (L' ++ (told W' unended ++ E'))
-      regrouped = ap (λ (l : List Item). G ++ l) (sym (append_assoc L (told W unended) E') ∙ (ap (λ (l : List Item). l ++ E') (sym (same (is_failure (x ∷ [])) refl)) ∙ append_assoc L' (told W' unended) E'))
+      regrouped = ap (λ (l : List Item). G ++ l) (sym (append_assoc L (told W unended) E') ∙ (ap (λ (l : List Item). l ++ E') (sym (same (drops keep (x ∷ [])) refl)) ∙ append_assoc L' (told W' unended) E'))
 
-      by_lost : (b : Bool) → is_failure (x ∷ []) ≡ b → elements L' ≡ length L'
+      by_lost : (b : Bool) → drops keep (x ∷ []) ≡ b → elements L' ≡ length L'
       by_lost false e = subst (λ (l : List Item). elements l ≡ length l) (sym (keeps e).0) f.lost_elements
-      by_lost true e = subst (λ (l : List Item). elements l ≡ length l) (sym (drops e).0) (both L (told W unended) f.lost_elements (elements_told W ∙ sym (length_told W)))
+      by_lost true e = subst (λ (l : List Item). elements l ≡ length l) (sym (lets_go e).0) (both L (told W unended) f.lost_elements (elements_told W ∙ sym (length_told W)))
 
-      by_none : S ≢ Flowing → (b : Bool) → is_failure (x ∷ []) ≡ b → W' ≡ []
+      by_none : S ≢ Flowing → (b : Bool) → drops keep (x ∷ []) ≡ b → W' ≡ []
       by_none n false e = (keeps e).1 ∙ f.none_waits n
-      by_none n true e = (drops e).1
+      by_none n true e = (lets_go e).1
 
-      by_few : length L + length W ≤ s → (b : Bool) → is_failure (x ∷ []) ≡ b → length L' + length W' ≤ s
+      by_few : length L + length W ≤ s → (b : Bool) → drops keep (x ∷ []) ≡ b → length L' + length W' ≤ s
       by_few old false e = let l = ap length (keeps e).0 in let w = ap length (keeps e).1 in omega (arith, l, w, old)
-      by_few old true e = let l = ap length (drops e).0 in let w = ap length (drops e).1 in let a = length-append L (told W unended) in let b = length_told W in omega (arith, l, w, a, b, old)
+      by_few old true e = let l = ap length (lets_go e).0 in let w = ap length (lets_go e).1 in let a = length-append L (told W unended) in let b = length_told W in omega (arith, l, w, a, b, old)
 
   -- where it is open, the end that came waits; and where it is not, nothing does
   pub pending_some : (x : Item) (E' : List Item) → over ≡ false → S ≡ Flowing → E' ≡ E ++ x ∷ [] → option_to_list (Some x) ≡ pending_by S E'
@@ -205,14 +209,14 @@ module _ (s : ℕ) (T G L : List Item) (W : List Tree) (E : List Item) (P : Opti
 
   -- where an element waits, none was dropped
   waits_none_lost : (e : Tree) (V : List Tree) → W ≡ e ∷ V → L ≡ []
-  waits_none_lost e V w = f.none_lost (flows_not (flows_on e V w)) (by (is_failure E) refl)
+  waits_none_lost e V w = f.none_lost (flows_not (flows_on e V w)) (by (drops keep E) refl)
     where
-      by : (b : Bool) → is_failure E ≡ b → is_failure E ≡ false
+      by : (b : Bool) → drops keep E ≡ b → drops keep E ≡ false
       by false is = is
       by true is = let z : W ≡ [] = f.failure is in absurd cc
 
   -- the first that waits is handed on
-  pub gave_elem : (e : Tree) (V : List Tree) (G' : List Item) → W ≡ e ∷ V → G' ≡ G ++ item.Elem e ∷ [] → Flow s T G' L V E P over S c
+  pub gave_elem : (e : Tree) (V : List Tree) (G' : List Item) → W ≡ e ∷ V → G' ≡ G ++ item.Elem e ∷ [] → Flow keep s T G' L V E P over S c
   gave_elem e V G' w g =
       let none : L ≡ [] = waits_none_lost e V w in
       let flowing : S ≡ Flowing = flows_on e V w in
@@ -244,7 +248,7 @@ module _ (s : ℕ) (T G L : List Item) (W : List Tree) (E : List Item) (P : Opti
       by Cancelled is e = let no : x ∷ [] ≡ [] = e ∙ ap (λ (y : State). pending_by y E) is in absurd cc
 
   -- the end is handed on, where no element waits
-  pub gave_end : (x : Item) (P' : Option Item) → P ≡ Some x → W ≡ [] → P' ≡ None → Flow s T G L W E P' over Closed c
+  pub gave_end : (x : Item) (P' : Option Item) → P ≡ Some x → W ≡ [] → P' ≡ None → Flow keep s T G L W E P' over Closed c
   gave_end x P' p w q =
       let at = end_is x p in
       record {
@@ -263,7 +267,7 @@ module _ (s : ℕ) (T G L : List Item) (W : List Tree) (E : List Item) (P : Opti
       }
 
   -- the lane is cancelled, and what waits is dropped
-  pub cancelled : (L' : List Item) (W' : List Tree) (P' : Option Item) (c' : ℕ) → L' ≡ L ++ told W unended → W' ≡ [] → P' ≡ None → c' ≡ 1 → Flow s T G L' W' E P' over Cancelled c'
+  pub cancelled : (L' : List Item) (W' : List Tree) (P' : Option Item) (c' : ℕ) → L' ≡ L ++ told W unended → W' ≡ [] → P' ≡ None → c' ≡ 1 → Flow keep s T G L' W' E P' over Cancelled c'
   cancelled L' W' P' c' l w p one = record {
     taken_is = f.taken_is ∙ (ap (λ (x : List Item). G ++ x) (sym (append_assoc L (told W unended) E)) ∙ rw (l, w) refl);
     gave_elements = f.gave_elements;
@@ -280,8 +284,8 @@ module _ (s : ℕ) (T G L : List Item) (W : List Tree) (E : List Item) (P : Opti
   }
 
 -- the lane's end may be another that has the same size and took the same
-pub at_lane : (s s' : ℕ) (T T' G L : List Item) (W : List Tree) (E : List Item) (P : Option Item) (over : Bool) (S : State) (c c' : ℕ) → s' ≡ s → T' ≡ T → c' ≡ c → Flow s T G L W E P over S c → Flow s' T' G L W E P over S c'
-at_lane s s' T T' G L W E P over S c c' es et ec f = rw (es, et, ec) f
+pub at_lane : (keep : Bool) (s s' : ℕ) (T T' G L : List Item) (W : List Tree) (E : List Item) (P : Option Item) (over : Bool) (S : State) (c c' : ℕ) → s' ≡ s → T' ≡ T → c' ≡ c → Flow keep s T G L W E P over S c → Flow keep s' T' G L W E P over S c'
+at_lane keep s s' T T' G L W E P over S c c' es et ec f = rw (es, et, ec) f
 
 -- ---- asks
 
@@ -310,20 +314,20 @@ module _ (s half asked calls pushed passed : ℕ) (a : AsksByHalves s half asked
   may_ask taken waits lost t w z few h = let x = a.asked_is in let y = a.pushed_is in (omega (arith, x, y, t, w, h), omega (arith, x, y, z, few, h))
 
 -- an element that came was asked for, so it has a place
-pub place : (s : ℕ) (T G L : List Item) (W : List Tree) (E : List Item) (P : Option Item) (over : Bool) (S : State) (c : ℕ) → Flow s T G L W E P over S c → (half asked calls passed : ℕ) → AsksByHalves s half asked calls (elements G) passed
+pub place : (keep : Bool) (s : ℕ) (T G L : List Item) (W : List Tree) (E : List Item) (P : Option Item) (over : Bool) (S : State) (c : ℕ) → Flow keep s T G L W E P over S c → (half asked calls passed : ℕ) → AsksByHalves s half asked calls (elements G) passed
     → (T' : List Item) (w asked' : ℕ) → elements T' ≡ elements T + w → w ≡ 1 → elements T' ≤ asked' → asked' ≡ asked → length W < s
-place s T G L W E P over S c f half asked calls passed a T' w asked' t one few same =
-    room s half asked calls (elements G) passed a (elements T) (length W) (elements L) (count s T G L W E P over S c f) (omega (arith, t, one, few, same))
+place keep s T G L W E P over S c f half asked calls passed a T' w asked' t one few same =
+    room s half asked calls (elements G) passed a (elements T) (length W) (elements L) (count keep s T G L W E P over S c f) (omega (arith, t, one, few, same))
 
 -- so many elements were handed on that the lane may be asked for as many
-pub may_refill : (s : ℕ) (T G L : List Item) (W : List Tree) (E : List Item) (P : Option Item) (over : Bool) (S : State) (c : ℕ) → Flow s T G L W E P over S c → (half asked calls passed : ℕ) → AsksByHalves s half asked calls (elements G) passed
+pub may_refill : (keep : Bool) (s : ℕ) (T G L : List Item) (W : List Tree) (E : List Item) (P : Option Item) (over : Bool) (S : State) (c : ℕ) → Flow keep s T G L W E P over S c → (half asked calls passed : ℕ) → AsksByHalves s half asked calls (elements G) passed
     → (e : Tree) (V : List Tree) → W ≡ e ∷ V → s ≤ 1024 → (H : List Item) → elements (G ++ H) < MOST_COUNT → passed + 1 ≡ half → (asked + half ≤ elements T + s) × (asked + half < 2 ^ 62) × (c ≡ 0)
-may_refill s T G L W E P over S c f half asked calls passed a e V w few H less h =
-    let n = count s T G L W E P over S c f in
+may_refill keep s T G L W E P over S c f half asked calls passed a e V w few H less h =
+    let n = count keep s T G L W E P over S c f in
     let some = ap length w in
     let given = elements_append G H in
     let m = may_ask s half asked calls (elements G) passed a (elements T) (length W) (elements L) n (omega (arith, some)) few (omega (arith, given, less)) h in
-    (m.0, m.1, f.cancelled_is ∙ ap (λ (z : State). cancelled_by z) (flows_on s T G L W E P over S c f e V w))
+    (m.0, m.1, f.cancelled_is ∙ ap (λ (z : State). cancelled_by z) (flows_on keep s T G L W E P over S c f e V w))
 
 -- one element more was handed on, and the lane was asked for half of its places or was not
 pub asks_on : (s s' half asked asked' calls calls' passed passed' : ℕ) (G G' : List Item) (e : Tree) (b : Bool) → AsksByHalves s half asked calls (elements G) passed → s' ≡ s → G' ≡ G ++ item.Elem e ∷ []

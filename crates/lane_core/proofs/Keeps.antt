@@ -13,7 +13,8 @@ use Rattle.stage_core.specs.Held.{told, end_items}
 use Rattle.stage_core.proofs.Told.{told-append, told-end}
 use Rattle.lane_core.specs.declared.state.State.{State}
 use Rattle.lane_core.specs.declared.state.State.TheVariants.{Flowing, Closed, Cancelled}
-use Rattle.lane_core.specs.Flow.{is_failure, handed_by, Flow, AsksByHalves}
+use Rattle.lane_core.specs.Flow.{is_failure, drops, handed_by, Flow, AsksByHalves}
+use Rattle.stream_model.specs.Lane.{loss_of}
 use Rattle.lane_core.proofs.Flows.{elements_append}
 
 few_elements : (l : List Item) → elements l ≤ length l
@@ -49,6 +50,10 @@ end_by (item.Failed d ∷ []) l e = record { end = failed d; is = refl; fails = 
 end_by (item.Elem t ∷ []) l e = absurd (omega (arith, e))
 end_by (x ∷ y ∷ E) l e = absurd (omega (arith, l))
 
+drops_normal : (keep : Bool) (E : List Item) → is_failure E ≡ false → drops keep E ≡ false
+drops_normal true E h = refl
+drops_normal false E h = h
+
 one_at_most : (over : Bool) (n : ℕ) → n ≡ cond over 1 0 → n ≤ 1
 one_at_most true n e = omega (arith, e)
 one_at_most false n e = omega (arith, e)
@@ -69,7 +74,7 @@ nil_of : {A : Type 0} → (x : List A) → length x ≡ 0 → x ≡ []
 nil_of [] h = refl
 nil_of (y ∷ x) h = absurd (omega (arith, h))
 
-module _ (s : ℕ) (T G L : List Item) (W : List Tree) (E : List Item) (P : Option Item) (over : Bool) (S : State) (c : ℕ) (f : Flow s T G L W E P over S c) (g : ListOf G) (l : ListOf L) (e : EndBy E) where
+module _ (keep : Bool) (s : ℕ) (T G L : List Item) (W : List Tree) (E : List Item) (P : Option Item) (over : Bool) (S : State) (c : ℕ) (f : Flow keep s T G L W E P over S c) (g : ListOf G) (l : ListOf L) (e : EndBy E) where
   abbrev all : List Tree
   all = g.list ++ (l.list ++ W)
 
@@ -82,7 +87,7 @@ module _ (s : ℕ) (T G L : List Item) (W : List Tree) (E : List Item) (P : Opti
           ap (λ (x : List Item). told g.list unended ++ (told l.list unended ++ x)) (sym (told-end W e.end))
           ∙ (ap (λ (x : List Item). told g.list unended ++ x) (sym (told-append l.list W e.end)) ∙ sym (told-append g.list (l.list ++ W) e.end))
 
-  some_given : S ≢ Closed → G ++ handed_by S E ≡ told g.list unended → Carried s T (G ++ handed_by S E) S
+  some_given : S ≢ Closed → G ++ handed_by S E ≡ told g.list unended → Carried (loss_of keep s) T (G ++ handed_by S E) S
   some_given unclosed given = record { taken_list = all; taken_end = e.end; given_list = g.list; given_end = unended; taken_is = all_told; given_is = given; carries = prefix_append g.list (l.list ++ W); goes_on = λ n. refl; closed = λ is. absurd (unclosed is) }
 
   none_handed : handed_by S E ≡ [] → G ++ handed_by S E ≡ told g.list unended
@@ -97,22 +102,33 @@ module _ (s : ℕ) (T G L : List Item) (W : List Tree) (E : List Item) (P : Opti
   lost_length : length l.list + length W ≤ s → length all ≤ length g.list + s
   lost_length h = let a = length-append g.list (l.list ++ W) in let b = length-append l.list W in omega (arith, a, b, h)
 
-  closed_carries : S ≡ Closed → (z : End) → e.end ≡ z → Carries s all z g.list z
+  nothing_left : S ≡ Closed → L ≡ [] → l.list ++ W ≡ []
+  nothing_left is none =
+      let short : length l.list ≡ 0 = l.count ∙ ap length none in
+      ap (λ (x : List Tree). x ++ W) (nil_of l.list short) ∙ none_waits is
+
+  closed_carries : S ≡ Closed → (z : End) → e.end ≡ z → Carries (loss_of keep s) all z g.list z
   closed_carries is unended at = prefix_append g.list (l.list ++ W)
   closed_carries is ended at =
-      let none : L ≡ [] = f.none_lost (closed_not is) (e.normal at) in
-      let short : length l.list ≡ 0 = l.count ∙ ap length none in
-      let nothing : l.list ++ W ≡ [] = ap (λ (x : List Tree). x ++ W) (nil_of l.list short) ∙ none_waits is in
-      (refl, sym (ap (λ (x : List Tree). g.list ++ x) nothing ∙ append-nil g.list))
-  closed_carries is (failed d) at =
-      let few = f.few (closed_not is) in
-      let same = l.count in
-      (refl, prefix_append g.list (l.list ++ W), lost_length (omega (arith, few, same)))
+      let none : L ≡ [] = f.none_lost (closed_not is) (drops_normal keep E (e.normal at)) in
+      (refl, sym (ap (λ (x : List Tree). g.list ++ x) (nothing_left is none) ∙ append-nil g.list))
+  closed_carries is (failed d) at = (refl, prefix_append g.list (l.list ++ W), few_lost keep refl)
+    where
+      few_lost : (b : Bool) → keep ≡ b → length all ≤ length g.list + loss_of b s
+      few_lost true k =
+          let none : L ≡ [] = f.none_lost (closed_not is) (ap (λ (x : Bool). drops x E) k) in
+          let n = ap length (nothing_left is none) in
+          let a = length-append g.list (l.list ++ W) in
+          omega (arith, a, n)
+      few_lost false k =
+          let few = f.few (closed_not is) in
+          let same = l.count in
+          lost_length (omega (arith, few, same))
 
-  carried_by : Carried s T (G ++ handed_by S E) S
+  carried_by : Carried (loss_of keep s) T (G ++ handed_by S E) S
   carried_by = by S refl
     where
-      by : (z : State) → S ≡ z → Carried s T (G ++ handed_by S E) S
+      by : (z : State) → S ≡ z → Carried (loss_of keep s) T (G ++ handed_by S E) S
       by Flowing is = some_given (λ x. let two : Flowing ≡ Closed = sym is ∙ x in cc) (none_handed (ap (λ (x : State). handed_by x E) is))
       by Cancelled is = some_given (λ x. let two : Cancelled ≡ Closed = sym is ∙ x in cc) (none_handed (ap (λ (x : State). handed_by x E) is))
       by Closed is = record {
@@ -127,9 +143,9 @@ module _ (s : ℕ) (T G L : List Item) (W : List Tree) (E : List Item) (P : Opti
         closed = λ z none. let short = e.none none in let one = f.one_end in let over_one = ap (λ (b : Bool). cond {A = ℕ} b 1 0) (f.closed is) in absurd (omega (arith, short, one, over_one));
       }
 
-module _ (s : ℕ) (T G L : List Item) (W : List Tree) (E : List Item) (P : Option Item) (over : Bool) (S : State) (c : ℕ) (f : Flow s T G L W E P over S c) where
-  pub carried : Carried s T (G ++ handed_by S E) S
-  carried = carried_by s T G L W E P over S c f (list_of G f.gave_elements) (list_of L f.lost_elements) (end_by E (one_at_most over (length E) f.one_end) f.no_element)
+module _ (keep : Bool) (s : ℕ) (T G L : List Item) (W : List Tree) (E : List Item) (P : Option Item) (over : Bool) (S : State) (c : ℕ) (f : Flow keep s T G L W E P over S c) where
+  pub carried : Carried (loss_of keep s) T (G ++ handed_by S E) S
+  carried = carried_by keep s T G L W E P over S c f (list_of G f.gave_elements) (list_of L f.lost_elements) (end_by E (one_at_most over (length E) f.one_end) f.no_element)
 
   -- an end is no element
   handed_none : elements (handed_by S E) ≡ 0

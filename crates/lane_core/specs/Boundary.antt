@@ -3,9 +3,9 @@ use Rattle.std.specs.Prelude.{◌≡◌, ◌≢◌, ◌+◌, ◌/◌, ◌<◌, �
 use Rattle.elem_core.specs.Tree.{Tree}
 use Rattle.elem_core.specs.Items.{elements}
 use Rattle.elem_core.specs.declared.item.Item.{Item}
-use Rattle.lane_core.specs.Ends.{taken_items, asked_in_all, ask_calls, has_cancelled, in_size}
+use Rattle.lane_core.specs.Ends.{taken_items, asked_in_all, ask_calls, has_cancelled, in_lane, in_size}
 use Rattle.stream_model.specs.Outlook.{End, unended}
-use Rattle.stream_model.specs.Lane.{Carries}
+use Rattle.stream_model.specs.Lane.{loss_of, Carries}
 use Rattle.stage_core.specs.Held.{told}
 use Rattle.lane_core.specs.Flow.{handed_by, cancelled_by, AsksByHalves}
 use Rattle.lane_core.specs.declared.state.State.{State}
@@ -28,6 +28,14 @@ is_over b = b.over
 abbrev pub state : InputBoundary → State
 state b = b.state
 
+-- whether what was taken before a failure is handed on before it
+abbrev pub keeps_all : InputBoundary → Bool
+keeps_all b = b.keep
+
+-- the same end of the same lane, which keeps what it did before a failure
+abbrev pub IsSameEnd : InputBoundary → InputBoundary → Type 0
+IsSameEnd b c = (in_lane c.lane ≡ in_lane b.lane) × (in_size c.lane ≡ in_size b.lane) × (keeps_all c ≡ keeps_all b)
+
 -- What an island keeps of it: what was taken off its lane and what was handed on are each a list and its end, and the one is of the
 -- other what a lane of its size carries; an end was handed on exactly where it is closed, and the lane was cancelled exactly where it
 -- says so. It asked by halves. So it asked for as many elements as there are places, for no more than these and one for each that was
@@ -39,7 +47,7 @@ pub record BoundaryKeeps (b : InputBoundary) : Type 0 where
   pub given_end : End
   pub taken_is : taken_items b.lane ≡ told taken_list taken_end
   pub given_is : given b ≡ told given_list given_end
-  pub carries : Carries (in_size b.lane) taken_list taken_end given_list given_end
+  pub carries : Carries (loss_of b.keep (in_size b.lane)) taken_list taken_end given_list given_end
   pub goes_on : state b ≢ Closed → given_end ≡ unended
   pub closed : state b ≡ Closed → given_end ≢ unended
   pub cancelled : has_cancelled b.lane ≡ cancelled_by (state b)

@@ -17,6 +17,11 @@ is_failure (item.Elem e ∷ is) = false
 is_failure (item.Ended ∷ is) = false
 is_failure (item.Failed c ∷ is) = true
 
+-- whether the end that was taken drops what waits: a failure does, unless the lane keeps what came before it
+abbrev pub drops : Bool → List Item → Bool
+drops true end = false
+drops false end = is_failure end
+
 -- of the end that was taken, if one was: what waits to be handed on
 abbrev pub pending_by : State → List Item → List Item
 pending_by Flowing end = end
@@ -36,10 +41,10 @@ cancelled_by Closed = 0
 cancelled_by Cancelled = 1
 
 -- Of a lane of s places all that was taken is, in this order: the elements that were handed on, those that were dropped, those that
--- wait, and the end, if one was taken. A failure drops what waits, which is never more than s elements; so does a cancel; nothing
--- else is dropped. The end waits behind the elements until it is handed on.
-pub record Flow (s : ℕ) (taken gave lost : List Item) (waits : List Tree) (end : List Item) (pending : Option Item) (over : Bool) (state : State)
-    (cancelled : ℕ) : Type 0 where
+-- wait, and the end, if one was taken. A failure drops what waits, which is never more than s elements, unless the lane keeps it; so
+-- does a cancel; nothing else is dropped. The end waits behind the elements until it is handed on.
+pub record Flow (keep : Bool) (s : ℕ) (taken gave lost : List Item) (waits : List Tree) (end : List Item) (pending : Option Item) (over : Bool)
+    (state : State) (cancelled : ℕ) : Type 0 where
   pub taken_is : taken ≡ gave ++ (lost ++ (told waits unended ++ end))
   pub gave_elements : elements gave ≡ length gave
   pub lost_elements : elements lost ≡ length lost
@@ -49,9 +54,9 @@ pub record Flow (s : ℕ) (taken gave lost : List Item) (waits : List Tree) (end
   pub cancelled_is : cancelled ≡ cancelled_by state
   pub closed : state ≡ Closed → over ≡ true
   pub none_waits : state ≢ Flowing → waits ≡ []
-  pub none_lost : state ≢ Cancelled → is_failure end ≡ false → lost ≡ []
+  pub none_lost : state ≢ Cancelled → drops keep end ≡ false → lost ≡ []
   pub few : state ≢ Cancelled → length lost + length waits ≤ s
-  pub failure : is_failure end ≡ true → waits ≡ []
+  pub failure : drops keep end ≡ true → waits ≡ []
 
 -- It asked for the lane's s places first, and for half of them, but at least for one, each time that so many elements were handed
 -- on: `pushed` is how many were, and `passed` how many of these were not asked for again.

@@ -22,10 +22,12 @@ use elem_core::trace::Trace;
 use std::alloc::{AllocError, Global};
 use std::cmp::max;
 
+// Choice: docs/DECISIONS.md#keep-beside-the-size
 /// The input end of a lane with its batching buffer. It asks for as many elements as the lane has places at first, and for half
 /// of them, but at least one, each time that so many were handed on. What it takes off the lane waits until it is handed on: an
-/// element where one was asked, a normal end behind the elements, a failure at once, with what waited dropped. Rule: Akka
-/// Streams 2.6 reference, chapter on asynchronous boundaries; half of the size: own.
+/// element where one was asked, a normal end behind the elements, a failure at once, with what waited dropped, or, where the lane
+/// keeps what came before it, behind the elements too. Rule: Akka Streams 2.6 reference, chapter on asynchronous boundaries; half
+/// of the size, and what is kept: own.
 #[derive(Drop)]
 pub struct InputBoundary {
     pub(crate) lane: LaneIn,
@@ -33,6 +35,8 @@ pub struct InputBoundary {
     pending: Option<Item>,
     over: bool,
     state: State,
+    // Whether what came before a failure is handed on before it.
+    keep: bool,
     half: u64,
     // How many elements were handed on and not asked for again.
     passed: u64,
@@ -42,7 +46,7 @@ pub struct InputBoundary {
     ghost wide: { buffer.capacity ≡ in_size lane },
     ghost halves: { half ≡ max 1 (in_size lane / 2) },
     ghost asking: { AsksByHalves (in_size lane) half (asked_in_all lane) (ask_calls lane) (elements gave.items) passed },
-    ghost flow: { Flow (in_size lane) (taken_items lane) gave.items lost.items buffer.items ending.items pending over state (has_cancelled lane) },
+    ghost flow: { Flow keep (in_size lane) (taken_items lane) gave.items lost.items buffer.items ending.items pending over state (has_cancelled lane) },
 }
 
 /// What was handed on, and whether the lane was asked for more.
@@ -55,14 +59,14 @@ pub struct Passed {
 }
 
 impl InputBoundary {
-    ghost use Rattle.lane_core.specs.Boundary.{given, waits, is_over, state, BoundaryKeeps};
+    ghost use Rattle.lane_core.specs.Boundary.{given, waits, is_over, state, keeps_all, BoundaryKeeps};
 
     /// The boundary at this end of a lane, to which nothing came and which asked for nothing. It takes the memory of all places,
     /// and asks for as many elements.
-    pub fn new(alloc: Global, lane: LaneIn) -> Result<InputBoundary, AllocError>
+    pub fn new(alloc: Global, lane: LaneIn, keep: bool) -> Result<InputBoundary, AllocError>
         requires unused { (taken_items lane ≡ []) × (asked_in_all lane ≡ 0) × (ask_calls lane ≡ 0) × (has_cancelled lane ≡ 0) }
         ensures lane { IfOk result (λ b. IsSameIn lane b.lane × (taken_items b.lane ≡ []) × (asked_in_all b.lane ≡ in_size lane) × (has_cancelled b.lane ≡ 0)) }
-        ensures nothing { IfOk result (λ b. (given b ≡ []) × (waits b ≡ []) × (is_over b ≡ false) × (state b ≡ Flowing)) }
+        ensures nothing { IfOk result (λ b. (given b ≡ []) × (waits b ≡ []) × (is_over b ≡ false) × (state b ≡ Flowing) × (keeps_all b ≡ keep)) }
     {
         let mut lane = lane;
         let size = lane.size() as u64;
@@ -74,6 +78,7 @@ impl InputBoundary {
             pending: None,
             over: false,
             state: State::Flowing,
+            keep,
             half: max(1, size / 2),
             passed: 0,
             gave: Trace::empty(),
@@ -102,7 +107,7 @@ impl InputBoundary {
     pub fn look(&mut self) -> bool
         ensures lane { IsSameIn self.old.lane self.new.lane × (asked_in_all self.new.lane ≡ asked_in_all self.old.lane)
             × (ask_calls self.new.lane ≡ ask_calls self.old.lane) × (has_cancelled self.new.lane ≡ has_cancelled self.old.lane) }
-        ensures given { (given self.new ≡ given self.old) × (state self.new ≡ state self.old) }
+        ensures given { (given self.new ≡ given self.old) × (state self.new ≡ state self.old) × (keeps_all self.new ≡ keeps_all self.old) }
         ensures took { result ≡ true → (is_over self.old ≡ false) × ((x : Item) × ((taken_items self.new.lane ≡ taken_items self.old.lane ++ x ∷ [])
             × (is_over self.new ≡ ends x))) }
         ensures still { result ≡ false → waits self.new ≡ waits self.old }
@@ -127,7 +132,7 @@ impl InputBoundary {
             Some(end) => {
                 self.over = true;
                 self.ending = self.ending.and(&end);
-                make_way(&end, &mut self.buffer, &mut self.lost);
+                make_way(self.keep, &end, &mut self.buffer, &mut self.lost);
                 if let State::Flowing = self.state {
                     self.pending = Some(end);
                 }
@@ -143,6 +148,7 @@ impl InputBoundary {
         requires few { asked ≡ true → elements (given self.old) < MOST_COUNT }
         ensures lane { IsSameIn self.old.lane self.new.lane × (taken_items self.new.lane ≡ taken_items self.old.lane)
             × (has_cancelled self.new.lane ≡ has_cancelled self.old.lane) }
+        ensures keep { keeps_all self.new ≡ keeps_all self.old }
         ensures some { IfSome result (λ r. given self.new ≡ given self.old ++ r.item ∷ []) }
         ensures ends { IfSome result (λ r. state self.new ≡ cond (ends r.item) Closed Flowing) }
         ensures wanted { IfSome result (λ r. ends r.item ≡ false → asked ≡ true) }
@@ -168,7 +174,7 @@ impl InputBoundary {
     fn next_end(&mut self) -> Option<Passed>
         requires none { waits self.old ≡ [] }
         ensures lane { self.new.lane ≡ self.old.lane }
-        ensures over { is_over self.new ≡ is_over self.old }
+        ensures over { (is_over self.new ≡ is_over self.old) × (keeps_all self.new ≡ keeps_all self.old) }
         ensures some { IfSome result (λ r. (given self.new ≡ given self.old ++ r.item ∷ []) × (ends r.item ≡ true) × (r.asks ≡ false)
             × (state self.new ≡ Closed)) }
         ensures none { IfNone result ((self.new ≡ self.old) × (state self.old ≡ Flowing → taken_items self.old.lane ≡ given self.old)) }
@@ -184,7 +190,8 @@ impl InputBoundary {
         ensures lane { IsSameIn self.old.lane self.new.lane × (taken_items self.new.lane ≡ taken_items self.old.lane)
             × (asked_in_all self.new.lane ≡ asked_in_all self.old.lane) × (ask_calls self.new.lane ≡ ask_calls self.old.lane)
             × (has_cancelled self.new.lane ≡ 1) }
-        ensures given { (given self.new ≡ given self.old) × (state self.new ≡ Cancelled) × (waits self.new ≡ []) }
+        ensures given { (given self.new ≡ given self.old) × (state self.new ≡ Cancelled) × (waits self.new ≡ [])
+            × (keeps_all self.new ≡ keeps_all self.old) }
         ensures known { (found_sent self.new.lane ≡ found_sent self.old.lane) × (told_sent self.new.lane ≡ told_sent self.old.lane)
             × (is_over self.new ≡ is_over self.old) }
     {
@@ -201,7 +208,7 @@ impl InputBoundary {
         ensures out { KeepsOut out.old out.new }
         ensures lane { KeepsIn self.old.lane self.new.lane }
         ensures given { (given self.new ≡ given self.old) × (waits self.new ≡ waits self.old) × (is_over self.new ≡ is_over self.old)
-            × (state self.new ≡ state self.old) }
+            × (state self.new ≡ state self.old) × (keeps_all self.new ≡ keeps_all self.old) }
         ensures ok { IsOk result }
         ensures learnt { learnt out.new ≡ asked_in_all self.new.lane }
         ensures told { AreTold out.new self.new.lane }

@@ -1,7 +1,7 @@
 // The elements that wait, first come first.
 ghost use Rattle.std.specs.Prelude.{◌≡◌, ◌<◌, ◌++◌, [], ◌∷◌, true, false, IfSome, IfNone, length};
 ghost use Rattle.stage_core.specs.Held.{told};
-ghost use Rattle.lane_core.specs.Flow.{is_failure};
+ghost use Rattle.lane_core.specs.Flow.{drops};
 ghost use Rattle.stream_model.specs.Outlook.{unended};
 
 use circular_buffer::HeapCircularBuffer;
@@ -38,12 +38,20 @@ pub(crate) fn drop_all(held: &mut HeapCircularBuffer<Elem>, lost: &mut Trace<Ite
     }
 }
 
-// An end came: behind a normal one what waits goes on waiting, and a failure drops it.
-pub(crate) fn make_way(end: &Item, held: &mut HeapCircularBuffer<Elem>, lost: &mut Trace<Item>)
+// An end came: behind a normal one what waits goes on waiting, and a failure drops it, unless the lane keeps it.
+pub(crate) fn make_way(
+    keep: bool,
+    end: &Item,
+    held: &mut HeapCircularBuffer<Elem>,
+    lost: &mut Trace<Item>,
+)
     ensures capacity { held.new.capacity ≡ held.old.capacity }
-    ensures normal { is_failure (end.now ∷ []) ≡ false → (lost.new.items ≡ lost.old.items) × (held.new.items ≡ held.old.items) }
-    ensures failure { is_failure (end.now ∷ []) ≡ true → (lost.new.items ≡ lost.old.items ++ told held.old.items unended) × (held.new.items ≡ []) }
+    ensures normal { drops keep (end.now ∷ []) ≡ false → (lost.new.items ≡ lost.old.items) × (held.new.items ≡ held.old.items) }
+    ensures failure { drops keep (end.now ∷ []) ≡ true → (lost.new.items ≡ lost.old.items ++ told held.old.items unended) × (held.new.items ≡ []) }
 {
+    if keep {
+        return;
+    }
     if let Item::Failed(_) = end {
         drop_all(held, lost);
     }

@@ -3,7 +3,7 @@ use Rattle.std.proofs.Common.{◌≡◌, ℕ, zero, suc, ◌<◌, Bool, true, fa
 use Rattle.std.specs.Prelude.{slice_get}
 use Rattle.std.specs.Option.{option_map}
 use Rattle.elem_core.specs.Sort.{Sort, pair_type}
-use Rattle.stream_model.specs.Composed.{inputs_of, count_from, received, lane_of, incoming, ports_of, given_on, sent_on, next, composed, IsRanked}
+use Rattle.stream_model.specs.Composed.{inputs_of, count_from, received, wire_loss, incoming, ports_of, given_on, sent_on, next, composed, IsRanked}
 use Rattle.stream_model.specs.Graph.{Graph, Edge, find_wire}
 use Rattle.stream_model.specs.Graph as graph
 use Rattle.stream_model.specs.Node.{World, node_outlook}
@@ -81,7 +81,7 @@ module _ (plugs : List PlugHead) (chains : List ChainDecl) (nodes : List Node) (
     comes_typed k p i h =
         let number = i.into.number in
         subst (λ o. AllTyped i.type (incoming g w sent o).list) (sym i.into.finds)
-        (received_typed (lane_of g w (slice_get g.wires number)) (sent number) i.type (h.typed i.into.wire i.into.at i.type i.on_wire))
+        (received_typed (wire_loss g w (slice_get g.wires number)) (sent number) i.type (h.typed i.into.wire i.into.at i.type i.on_wire))
 
     module _ (rank : ℕ → ℕ) (ranked : IsRanked g rank) (passes : PassesRules plugs chains nodes g) (keeps : KeepsPlugTypes plugs w.book) where
       pub settles : (i : ℕ) → i < length g.wires → HasSettled plugs chains nodes g i

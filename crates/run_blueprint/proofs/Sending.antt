@@ -17,10 +17,10 @@ use Rattle.port_core.specs.Reading.{inp_of, got_of}
 use Rattle.stream_model.specs.declared.kind.Kind.TheVariants as kind
 use Rattle.stream_model.specs.declared.outcome.EndState.{EndState}
 use Rattle.stream_model.specs.declared.outcome.EndState.TheVariants.{Ended, Failed, Unended, WriteFault}
-use Rattle.stream_model.specs.Composed.{inputs_of, count_from, received, lane_of, incoming, ports_of, composed, sink_outlook}
+use Rattle.stream_model.specs.Composed.{inputs_of, count_from, received, wire_loss, incoming, ports_of, composed, sink_outlook}
 use Rattle.stream_model.specs.Graph.{Graph, Edge, find_wire}
 use Rattle.stream_model.specs.Graph as graph
-use Rattle.stream_model.specs.Lane.{Carries}
+use Rattle.stream_model.specs.Lane.{loss_of, lane_loss, Carries}
 use Rattle.stream_model.specs.Linear.{Book, Work, passing, work_of}
 use Rattle.stream_model.specs.Node.{World, head_of, of_work}
 use Rattle.stream_model.specs.Outlook.{Outlook, End, unended, ended, failed, Agrees}
@@ -54,12 +54,12 @@ record Holds (lane : Option ℕ) (near far : ℕ) : Type 0 where
   least : far ≤ near
   most : near ≤ far + lane_size lane
 
-wire_holds : (lane : Option ℕ) (near far : WireState) (asked : ℕ) (q : Bool) → IsSound near.wire q → WireKeeps lane near far asked → Holds lane (elements near.wire.sent) (elements far.wire.sent)
-wire_holds None near far asked q sound k = let same : elements far.wire.sent ≡ elements near.wire.sent = ap (λ (c : WireState). elements c.wire.sent) k in record { least = omega (arith, same); most = omega (arith, same) }
-wire_holds (Some s) near far asked q sound k =
+wire_holds : (keep : Bool) (lane : Option ℕ) (near far : WireState) (asked : ℕ) (q : Bool) → IsSound near.wire q → WireKeeps keep lane near far asked → Holds lane (elements near.wire.sent) (elements far.wire.sent)
+wire_holds keep None near far asked q sound k = let same : elements far.wire.sent ≡ elements near.wire.sent = ap (λ (c : WireState). elements c.wire.sent) k in record { least = omega (arith, same); most = omega (arith, same) }
+wire_holds keep (Some s) near far asked q sound k =
     let pushed : elements far.wire.sent ≡ length k.in_keeps.pushed_list = ap elements k.in_keeps.pushed_is ∙ elements_told k.in_keeps.pushed_list k.in_keeps.pushed_end in
     let taken : elements k.inp.taken ≡ length k.in_keeps.taken_list = ap elements k.in_keeps.taken_is ∙ elements_told k.in_keeps.taken_list k.in_keeps.taken_end in
-    let carried_on : length k.in_keeps.pushed_list ≤ length k.in_keeps.taken_list = prefix_length (carries_part s k.in_keeps.taken_list k.in_keeps.taken_end k.in_keeps.pushed_list k.in_keeps.pushed_end k.in_keeps.carries) in
+    let carried_on : length k.in_keeps.pushed_list ≤ length k.in_keeps.taken_list = prefix_length (carries_part (loss_of keep s) k.in_keeps.taken_list k.in_keeps.taken_end k.in_keeps.pushed_list k.in_keeps.pushed_end k.in_keeps.carries) in
     let met : elements k.inp.taken ≤ elements k.out.sent = elements_prefix k.inp.taken k.out.sent k.met.taken in
     let given : elements k.out.sent ≤ elements near.wire.got = elements_prefix k.out.sent near.wire.got k.out_keeps.part in
     let came : elements near.wire.got ≤ elements near.wire.sent = no_fewer near.wire q sound in
@@ -141,14 +141,14 @@ module _ {S D L B : Type 0} (sources : S → SourceState) (drains : D → DrainS
   far_sound : (q : _) × IsSound (a.far u).wire q
   far_sound = run.keeps.far_sound u (slice_get-below g.wires u v at)
 
-  keeps : WireKeeps v.lane (a.near u) (a.far u) (a.asked u)
+  keeps : WireKeeps v.keep v.lane (a.near u) (a.far u) (a.asked u)
   keeps = run.keeps.wires u v at
 
   holds : Holds v.lane (elements (a.near u).wire.sent) (elements (a.far u).wire.sent)
-  holds = wire_holds v.lane (a.near u) (a.far u) (a.asked u) near_sound.0 near_sound.1 keeps
+  holds = wire_holds v.keep v.lane (a.near u) (a.far u) (a.asked u) near_sound.0 near_sound.1 keeps
 
-  brings : ArrivedOf v.lane (a.near u).wire.sent (a.far u).wire.got
-  brings = wire_brings v.lane (a.near u) (a.far u) (a.asked u) near_sound.0 far_sound.0 near_sound.1 far_sound.1 keeps
+  brings : ArrivedOf (lane_loss v.keep v.lane) (a.near u).wire.sent (a.far u).wire.got
+  brings = wire_brings v.keep v.lane (a.near u) (a.far u) (a.asked u) near_sound.0 far_sound.0 near_sound.1 far_sound.1 keeps
 
   module _ (o : Outlook) (sent : AgreesWith o (a.near u).wire.sent) (k : ℕ) (n : graph.Node) (ni : slice_get g.nodes k ≡ Some n) (one : inputs_of n.kind ≡ 1) (to : v.to ≡ k) where
     found : find_wire k 0 g.wires ≡ Some u
@@ -164,7 +164,7 @@ module _ {S D L B : Type 0} (sources : S → SourceState) (drains : D → DrainS
 
       all_there : end ≡ Ended → elements (a.near u).wire.sent ≤ elements (a.far u).wire.sent
       all_there is =
-          let all : elements (a.near u).wire.sent ≡ length list.list = all_came (lane_size v.lane) (a.near u).wire.sent sent.list list.list sent.end (end_seen end) sent.is (brings list.list (end_seen end) got_is) (ap end_seen is) in
+          let all : elements (a.near u).wire.sent ≡ length list.list = all_came (lane_size (lane_loss v.keep v.lane)) (a.near u).wire.sent sent.list list.list sent.end (end_seen end) sent.is (brings list.list (end_seen end) got_is) (ap end_seen is) in
           let came : elements (a.far u).wire.got ≡ length list.list = ap elements got_is ∙ elements_told list.list (end_seen end) in
           let less : elements (a.far u).wire.got ≤ elements (a.far u).wire.sent = no_fewer (a.far u).wire far_sound.0 far_sound.1 in
           omega (arith, all, came, less)
@@ -180,7 +180,7 @@ module _ {S D L B : Type 0} (sources : S → SourceState) (drains : D → DrainS
         let ins : (knows g a k n).ins ≡ (a.far u).wire.inp ∷ [] = read_one g inp_of a.far k (inputs_of n.kind) u one found in
         let row : OneInOf (sink_port_state_in now.started now.end) ((a.far u).wire.inp ∷ []) (knows g a k n).outs = subst (λ (l : List InView). OneInOf (sink_port_state_in now.started now.end) l (knows g a k n).outs) ins kept.port_state_holds in
         let waits : (a.far u).wire.inp ≡ Pulled = sink_waits_as now.started now.end (a.far u).wire.inp (knows g a k n).outs goes row in
-        let rests = in_rests u (a.near u) (a.far u) (a.asked u) [] (still.near u within) (still.far u within) (run.keeps.near_marked u within) (run.keeps.far_marked u within) v.lane keeps (still.quiet u v at) in
+        let rests = in_rests u (a.near u) (a.far u) (a.asked u) [] (still.near u within) (still.far u within) (run.keeps.near_marked u within) (run.keeps.far_marked u within) v.keep v.lane keeps (still.quiet u v at) in
         (rests.waits waits).1 ∙ sym (resting_same (a.far u).wire false (still.far u within) refl waits)
 
   -- what was sent to a sink that keeps nothing may pass by its outlook
@@ -191,7 +191,7 @@ module _ {S D L B : Type 0} (sources : S → SourceState) (drains : D → DrainS
     comes : Agrees (head_of (ports_of g w (composed g w) k (count_from 0 1))) sent.list sent.end
     comes =
         subst (λ (x : Option ℕ). Agrees (incoming g w (composed g w) x) sent.list sent.end) (sym ignored)
-        (subst (λ (x : Option Edge). Agrees (received g w (lane_of g w x) (composed g w u)) sent.list sent.end) (sym at) (received_agrees g w v.lane (composed g w u) sent.list sent.end sent.agrees))
+        (subst (λ (x : Option Edge). Agrees (received g w (wire_loss g w x) (composed g w u)) sent.list sent.end) (sym at) (received_agrees g w (lane_loss v.keep v.lane) (composed g w u) sent.list sent.end sent.agrees))
 
     passes : Agrees (sink_outlook g w k n) sent.list sent.end
     passes =
@@ -205,9 +205,9 @@ module _ {S D L B : Type 0} (sources : S → SourceState) (drains : D → DrainS
         let law : IgnoreLaw first now (knows g a k n) (took g a k n) (gave g a k n) = kept.law_holds in
         let came : took g a k n ≡ (a.far u).wire.got ∷ [] = read_one g got_of a.far k (inputs_of n.kind) u (ap inputs_of shape) ignored in
         let got : (a.far u).wire.got ≡ told law.elems law.in_end = heads_same (a.far u).wire.got (told law.elems law.in_end) (sym came ∙ law.took_is) in
-        let brought : Carries (lane_size v.lane) (list_of (a.near u).wire.sent) (end_of_items (a.near u).wire.sent) law.elems law.in_end = brings law.elems law.in_end got in
+        let brought : Carries (lane_size (lane_loss v.keep v.lane)) (list_of (a.near u).wire.sent) (end_of_items (a.near u).wire.sent) law.elems law.in_end = brings law.elems law.in_end got in
         let list : list_of (a.near u).wire.sent ≡ sent.list = ap list_of sent.is ∙ list_of_told sent.list sent.end in
         let end : end_of_items (a.near u).wire.sent ≡ sent.end = ap end_of_items sent.is ∙ standing_told sent.list sent.end in
-        let carries : Carries (lane_size v.lane) sent.list sent.end law.elems law.in_end = rw (list, end) at brought in
+        let carries : Carries (lane_size (lane_loss v.keep v.lane)) sent.list sent.end law.elems law.in_end = rw (list, end) at brought in
         let count : elements (a.near u).wire.sent ≡ length sent.list = ap elements sent.is ∙ elements_told sent.list sent.end in
-        rw count (ignore_told now.end (sink_outlook g w k n) sent.list sent.end (lane_size v.lane) law.elems law.in_end law.ends carries passes)
+        rw count (ignore_told now.end (sink_outlook g w k n) sent.list sent.end (lane_size (lane_loss v.keep v.lane)) law.elems law.in_end law.ends carries passes)

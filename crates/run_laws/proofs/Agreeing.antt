@@ -8,7 +8,7 @@ use Rattle.elem_core.proofs.Prefixes.{prefix_nil, prefix_trans, prefix_whole}
 use Rattle.port_core.specs.View.{View}
 use Rattle.port_core.specs.Cell.{WireState}
 use Rattle.stream_model.specs.Outlook.{Outlook, End, unended, ended, failed, Agrees}
-use Rattle.stream_model.specs.Lane.{Carries}
+use Rattle.stream_model.specs.Lane.{lane_loss, Carries}
 use Rattle.stream_model.specs.Graph.{Graph, Edge, find_wire, find_source}
 use Rattle.stream_model.specs.Graph as graph
 use Rattle.stream_model.specs.Node.{World, nothing}
@@ -77,12 +77,12 @@ module _ {N : Type 0} (port_state : N → View → Type 0) (law : N → N → Vi
   pub node_laws : (k : ℕ) (n : graph.Node) → slice_get g.nodes k ≡ Some n → TellsAt k n → RunLaws g w k n (took g a k n) (gave g a k n)
   node_laws k n e tells = let m = keeps.each_node k n e in laws k n m.first m.now (knows g a k n) (took g a k n) (gave g a k n) (made k n m.first e m.first_at) (tells m.first m.now m.first_at m.now_at) (length_ins g got_of a.far k 0 (inputs_of n.kind)) m.law_holds
 
-  pub brings : (u : ℕ) (v : Edge) → slice_get g.wires u ≡ Some v → ArrivedOf v.lane (a.near u).wire.sent (a.far u).wire.got
+  pub brings : (u : ℕ) (v : Edge) → slice_get g.wires u ≡ Some v → ArrivedOf (lane_loss v.keep v.lane) (a.near u).wire.sent (a.far u).wire.got
   brings u v e =
       let h = slice_get-below g.wires u v e in
       let n = keeps.near_sound u h in
       let f = keeps.far_sound u h in
-      wire_brings v.lane (a.near u) (a.far u) (a.asked u) n.0 f.0 n.1 f.1 (keeps.wires u v e)
+      wire_brings v.keep v.lane (a.near u) (a.far u) (a.asked u) n.0 f.0 n.1 f.1 (keeps.wires u v e)
 
   -- by any outlooks of the wires
   module _ (sent : ℕ → Outlook) where
@@ -95,7 +95,7 @@ module _ {N : Type 0} (port_state : N → View → Type 0) (law : N → N → Vi
     input_passes k None f b = nothing_passes
     input_passes k (Some i) f b =
         let v = f i refl in
-        let passes = brought_passes g w (sent i) v.0.lane (a.near i).wire.sent (a.far i).wire.got (b i v.0 v.1.0 v.1.1) (brings i v.0 v.1.0) in
+        let passes = brought_passes g w (sent i) (lane_loss v.0.keep v.0.lane) (a.near i).wire.sent (a.far i).wire.got (b i v.0 v.1.0 v.1.1) (brings i v.0 v.1.0) in
         rw (v.1.0) passes
 
     inputs_pass : (k : ℕ) (ps : List ℕ) → ((u : ℕ) (v : Edge) → slice_get g.wires u ≡ Some v → v.to ≡ k → SentAgrees u) → AllMayPass (ports_of g w sent k ps) (read_ins g got_of a.far k ps)

@@ -1,5 +1,5 @@
 -- What the node at the input of a wire got, of what was sent at its output, also where the wire is a lane.
-use Rattle.std.proofs.Common.{◌≡◌, ◌≢◌, ℕ, ◌+◌, ◌≤◌, List, length, Option, None, Some, refl, sym, ap, subst, ◌∙◌, arith}
+use Rattle.std.proofs.Common.{◌≡◌, ◌≢◌, ℕ, Bool, true, false, ◌+◌, ◌≤◌, List, length, Option, None, Some, refl, sym, ap, subst, ◌∙◌, arith}
 use Rattle.elem_core.specs.Prefix.{IsPrefix}
 use Rattle.elem_core.specs.Tree.{Tree}
 use Rattle.elem_core.specs.Items.{elements}
@@ -7,7 +7,7 @@ use Rattle.elem_core.proofs.Prefixes.{prefix_trans, prefix_length, prefix_refl}
 use Rattle.elem_core.specs.declared.item.Item.{Item}
 use Rattle.port_core.specs.Joint.{IsSound}
 use Rattle.stream_model.specs.Outlook.{End, unended, ended, failed}
-use Rattle.stream_model.specs.Lane.{Carries}
+use Rattle.stream_model.specs.Lane.{loss_of, lane_loss, Carries}
 use Rattle.stage_core.specs.Held.{told}
 use Rattle.port_core.specs.Cell.{WireState}
 use Rattle.run_laws.specs.Account.{WireKeeps}
@@ -41,17 +41,17 @@ carries_first s t e l f k (failed d) c b =
     let is : f ≡ failed d = sym (standing_told l f) ∙ all.1 in
     subst (λ (x : List Tree). Carries s t e x (failed d)) same (subst (λ (x : End). Carries s t e l x) is c)
 
-pub lane_brings : (s : ℕ) (near far : WireState) (p q : _) (o : OutEnd) (i : InEnd) → IsSound near.wire p → IsSound far.wire q → OutKeeps near o → InKeeps s far i → Met s o i → ArrivedOf (Some s) near.wire.sent far.wire.got
-lane_brings s near far p q o i sn sf out inn met l e is =
+pub lane_brings : (keep : Bool) (s : ℕ) (near far : WireState) (p q : _) (o : OutEnd) (i : InEnd) → IsSound near.wire p → IsSound far.wire q → OutKeeps near o → InKeeps keep s far i → Met s o i → ArrivedOf (Some (loss_of keep s)) near.wire.sent far.wire.got
+lane_brings keep s near far p q o i sn sf out inn met l e is =
     let first : Begun l e (told inn.pushed_list inn.pushed_end) = begun l e far.wire.got (told inn.pushed_list inn.pushed_end) is (subst (λ (x : List Item). IsPrefix far.wire.got x) inn.pushed_is (got_begins far.wire q sf)) in
-    let took : Carries s inn.taken_list inn.taken_end l e = carries_first s inn.taken_list inn.taken_end inn.pushed_list inn.pushed_end l e inn.carries first in
+    let took : Carries (loss_of keep s) inn.taken_list inn.taken_end l e = carries_first (loss_of keep s) inn.taken_list inn.taken_end inn.pushed_list inn.pushed_end l e inn.carries first in
     let part : IsPrefix i.taken near.wire.sent = prefix_trans met.taken (prefix_trans out.part (got_begins near.wire p sn)) in
-    carries_sent s inn.taken_list inn.taken_end l e near.wire.sent took (begun inn.taken_list inn.taken_end i.taken near.wire.sent inn.taken_is part)
+    carries_sent (loss_of keep s) inn.taken_list inn.taken_end l e near.wire.sent took (begun inn.taken_list inn.taken_end i.taken near.wire.sent inn.taken_is part)
 
 -- any wire
-pub wire_brings : (lane : Option ℕ) (near far : WireState) (asked : ℕ) (p q : _) → IsSound near.wire p → IsSound far.wire q → WireKeeps lane near far asked → ArrivedOf lane near.wire.sent far.wire.got
-wire_brings None near far asked p q sn sf k = rw k (fused_brings near.wire p sn)
-wire_brings (Some s) near far asked p q sn sf k = lane_brings s near far p q k.out k.inp sn sf k.out_keeps k.in_keeps k.met
+pub wire_brings : (keep : Bool) (lane : Option ℕ) (near far : WireState) (asked : ℕ) (p q : _) → IsSound near.wire p → IsSound far.wire q → WireKeeps keep lane near far asked → ArrivedOf (lane_loss keep lane) near.wire.sent far.wire.got
+wire_brings keep None near far asked p q sn sf k = rw k (fused_brings near.wire p sn)
+wire_brings keep (Some s) near far asked p q sn sf k = lane_brings keep s near far p q k.out k.inp sn sf k.out_keeps k.in_keeps k.met
 
 -- where a normal end came, all came
 carries_all : (s : ℕ) (t : List Tree) (e : End) (l : List Tree) (f : End) → Carries s t e l f → f ≡ ended → l ≡ t
@@ -64,6 +64,16 @@ carries_few : (s : ℕ) (t : List Tree) (e : End) (l : List Tree) (f : End) → 
 carries_few s t e l unended c n = absurd (n refl)
 carries_few s t e l ended c n = let same = ap length c.1 in omega (arith, same)
 carries_few s t e l (failed d) c n = c.2
+
+-- what a lane carries that keeps what came before a failure, one that does not may carry
+loss_few : (keep : Bool) (s : ℕ) → loss_of keep s ≤ s
+loss_few true s = omega arith
+loss_few false s = omega arith
+
+pub carries_loss : (keep : Bool) (s : ℕ) (t : List Tree) (e : End) (l : List Tree) (f : End) → Carries (loss_of keep s) t e l f → Carries s t e l f
+carries_loss keep s t e l unended c = c
+carries_loss keep s t e l ended c = c
+carries_loss keep s t e l (failed d) c = let few = loss_few keep s in let count = c.2 in (c.0, c.1, omega (arith, few, count))
 
 -- the counts of a wire that brings this of what was sent, which is of a list that may pass
 module _ (s : ℕ) (sent got : List Item) (list m l : List Tree) (f e : End) (brought : Carries s (list_of sent) (end_of_items sent) l e)

@@ -17,6 +17,7 @@ use Rattle.port_core.specs.Cell.{WireState}
 use Rattle.port_core.specs.Marks.{wanted}
 use Rattle.port_core.specs.Counts.{ready_bit, free_bit, extra, spent}
 use Rattle.stream_model.specs.Outlook.{End, unended, ended, failed}
+use Rattle.stream_model.specs.Lane.{loss_of}
 use Rattle.stage_core.specs.Held.{told}
 use Rattle.run_laws.proofs.Coming.{elements_told, elements_prefix, no_fewer}
 use Rattle.run_laws.proofs.Histories.{got_begins}
@@ -71,8 +72,8 @@ few_wanted n true = omega arith
 few_wanted n false = omega arith
 
 -- of a lane, what was sent and not taken has a place
-pub taken_most : (s : ℕ) (near far : WireState) (asked : ℕ) (k : LaneKeeps s near far asked) → elements near.wire.sent ≤ length k.inp.taken + s
-taken_most s near far asked k =
+pub taken_most : (keep : Bool) (s : ℕ) (near far : WireState) (asked : ℕ) (k : LaneKeeps keep s near far asked) → elements near.wire.sent ≤ length k.inp.taken + s
+taken_most keep s near far asked k =
     let some : elements near.wire.sent ≤ wanted near = few_wanted (elements near.wire.sent) near.asked in
     let wants = k.out_keeps.wants in
     let seen = k.met.seen in
@@ -80,7 +81,7 @@ taken_most s near far asked k =
     let few = few_elements k.inp.taken in
     omega (arith, some, wants, seen, bound, few)
 
-module _ (s : ℕ) (near far : WireState) (p q : Bool) (asked : ℕ) (sn : IsSound near.wire p) (sf : IsSound far.wire q) (k : LaneKeeps s near far asked) where
+module _ (keep : Bool) (s : ℕ) (near far : WireState) (p q : Bool) (asked : ℕ) (sn : IsSound near.wire p) (sf : IsSound far.wire q) (k : LaneKeeps keep s near far asked) where
   -- no more was taken than was sent, and no more was pushed on than was taken
   taken_few : elements k.inp.taken ≤ elements near.wire.sent
   taken_few = elements_prefix k.inp.taken near.wire.sent (prefix_trans k.met.taken (prefix_trans k.out_keeps.part (got_begins near.wire p sn)))
@@ -94,7 +95,7 @@ module _ (s : ℕ) (near far : WireState) (p q : Bool) (asked : ℕ) (sn : IsSou
 
   pushed_few : elements far.wire.sent ≤ elements k.inp.taken
   pushed_few =
-      let part = prefix_length (carries_part s k.in_keeps.taken_list k.in_keeps.taken_end k.in_keeps.pushed_list k.in_keeps.pushed_end k.in_keeps.carries) in
+      let part = prefix_length (carries_part (loss_of keep s) k.in_keeps.taken_list k.in_keeps.taken_end k.in_keeps.pushed_list k.in_keeps.pushed_end k.in_keeps.carries) in
       let took = ap elements k.in_keeps.taken_is ∙ elements_told k.in_keeps.taken_list k.in_keeps.taken_end in
       let pushed = ap elements k.in_keeps.pushed_is ∙ elements_told k.in_keeps.pushed_list k.in_keeps.pushed_end in
       omega (arith, part, took, pushed)

@@ -159,10 +159,10 @@ module _ {N : Type 0} (port_state : N → View → Type 0) (law : N → N → Vi
         let sf = keeps.far_sound u h in
         let p = passes u h in
         let t = heard u v e in
-        in_stands u (a.near u) (a.far u) (a.asked u) (outlook u).list sn.0 sf.0 sn.1 sf.1 p.list p.end p.is p.part t.0 t.1.0 t.1.1 v.lane (keeps.wires u v e)
+        in_stands u (a.near u) (a.far u) (a.asked u) (outlook u).list sn.0 sf.0 sn.1 sf.1 p.list p.end p.is p.part t.0 t.1.0 t.1.1 v.keep v.lane (keeps.wires u v e)
 
     port_out : (u : ℕ) (v : Edge) → slice_get g.wires u ≡ Some v → OutStands (out_port a g outlook u v)
-    port_out u v e = out_stands u (a.near u) (a.far u) (a.asked u) (outlook u).list v.lane (keeps.wires u v e)
+    port_out u v e = out_stands u (a.near u) (a.far u) (a.asked u) (outlook u).list v.keep v.lane (keeps.wires u v e)
 
     ins_stand : (k : ℕ) (n : graph.Node) → slice_get g.nodes k ≡ Some n → EachPort InStands (In k n)
     ins_stand k n e = each_in a g outlook k InStands port_in (count_from 0 (inputs_of n.kind)) (all_in k n e)
@@ -199,10 +199,10 @@ module _ {N : Type 0} (port_state : N → View → Type 0) (law : N → N → Vi
 
   module _ (still : IsStill g a) where
     rest_in : (u : ℕ) (v : Edge) → slice_get g.wires u ≡ Some v → InRests (in_port a g outlook u v)
-    rest_in u v e = let h = slice_get-below g.wires u v e in in_rests u (a.near u) (a.far u) (a.asked u) (outlook u).list (still.near u h) (still.far u h) (keeps.near_marked u h) (keeps.far_marked u h) v.lane (keeps.wires u v e) (still.quiet u v e)
+    rest_in u v e = let h = slice_get-below g.wires u v e in in_rests u (a.near u) (a.far u) (a.asked u) (outlook u).list (still.near u h) (still.far u h) (keeps.near_marked u h) (keeps.far_marked u h) v.keep v.lane (keeps.wires u v e) (still.quiet u v e)
 
     rest_out : (u : ℕ) (v : Edge) → slice_get g.wires u ≡ Some v → OutRests (out_port a g outlook u v)
-    rest_out u v e = let h = slice_get-below g.wires u v e in out_rests u (a.near u) (a.far u) (a.asked u) (outlook u).list (still.near u h) (still.far u h) (keeps.near_marked u h) (keeps.far_marked u h) v.lane (still.quiet u v e)
+    rest_out u v e = let h = slice_get-below g.wires u v e in out_rests u (a.near u) (a.far u) (a.asked u) (outlook u).list (still.near u h) (still.far u h) (keeps.near_marked u h) (keeps.far_marked u h) v.keep v.lane (still.quiet u v e)
 
     ins_rest : (k : ℕ) (n : graph.Node) → slice_get g.nodes k ≡ Some n → EachPort InRests (In k n)
     ins_rest k n e = each_in a g outlook k InRests rest_in (count_from 0 (inputs_of n.kind)) (all_in k n e)

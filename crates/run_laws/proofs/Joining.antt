@@ -98,10 +98,10 @@ module _ {N : Type 0} (port_state : N → View → Type 0) (law : N → N → Vi
       }
 
   -- each wire keeps what it does
-  wires_keep : (u : ℕ) (v : Edge) → slice_get g.wires u ≡ Some v → WireKeeps v.lane (all.near u) (all.far u) (all.asked u)
+  wires_keep : (u : ℕ) (v : Edge) → slice_get g.wires u ≡ Some v → WireKeeps v.keep v.lane (all.near u) (all.far u) (all.asked u)
   wires_keep u v e = by v.lane refl
     where
-      by : (lane : Option ℕ) → v.lane ≡ lane → WireKeeps lane (all.near u) (all.far u) (all.asked u)
+      by : (lane : Option ℕ) → v.lane ≡ lane → WireKeeps v.keep lane (all.near u) (all.far u) (all.asked u)
       by None is = rw (covers.fused u v e is) refl
       by (Some size) is = lanes u v size e is
 
@@ -126,6 +126,6 @@ module _ {N : Type 0} (port_state : N → View → Type 0) (law : N → N → Vi
     quiet = λ u v e. by u v e v.lane refl;
   }
     where
-      by : (u : ℕ) (v : Edge) → slice_get g.wires u ≡ Some v → (lane : Option ℕ) → v.lane ≡ lane → WireQuiet lane ((joined_account nets s asked).near u) ((joined_account nets s asked).far u) (asked u)
+      by : (u : ℕ) (v : Edge) → slice_get g.wires u ≡ Some v → (lane : Option ℕ) → v.lane ≡ lane → WireQuiet v.keep lane ((joined_account nets s asked).near u) ((joined_account nets s asked).far u) (asked u)
       by u v e None is = tt
       by u v e (Some size) is = rest u v size e is

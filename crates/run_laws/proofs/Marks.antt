@@ -15,7 +15,7 @@ use Rattle.port_core.specs.declared.view.OutView.TheVariants as outlet
 use Rattle.port_core.specs.Cell.{WireState}
 use Rattle.port_core.specs.Marks.{IsMarked, wanted}
 use Rattle.stream_model.specs.Outlook.{End, unended, ended, failed}
-use Rattle.stream_model.specs.Lane.{Carries}
+use Rattle.stream_model.specs.Lane.{loss_of, Carries}
 use Rattle.stage_core.specs.Held.{told}
 use Rattle.stage_core.specs.Law.{TookAs, GaveAs}
 use Rattle.stage_core.specs.Row.{InClosed, OutClosed}
@@ -82,7 +82,7 @@ below m n h = grind (arith, nat_tests)
 not_below : (m n : ℕ) → n ≤ m → nat_le (suc m) n ≡ false
 not_below m n h = grind (arith, nat_tests)
 
-module _ (s : ℕ) (near far : WireState) (o : OutEnd) (i : InEnd) (out : OutKeeps near o) (inn : InKeeps s far i) (met : Met s o i) where
+module _ (keep : Bool) (s : ℕ) (near far : WireState) (o : OutEnd) (i : InEnd) (out : OutKeeps near o) (inn : InKeeps keep s far i) (met : Met s o i) where
   -- the mark of the lane: its input end asked for more than was pushed at its output
   abbrev mark : Bool
   mark = nat_le (suc (elements near.wire.sent)) i.asked
@@ -123,7 +123,7 @@ module _ (s : ℕ) (near far : WireState) (o : OutEnd) (i : InEnd) (out : OutKee
   end_came : far.wire.out ≡ outlet.Closed → near.wire.inp ≡ Finished
   end_came e =
       let n : inn.pushed_end ≡ unended → ⊥ = shut_ends inn.pushed_end (rw e at inn.pushed_as) in
-      let one : inn.taken_end ≡ inn.pushed_end = carries_end s inn.taken_list inn.taken_end inn.pushed_list inn.pushed_end inn.carries n in
+      let one : inn.taken_end ≡ inn.pushed_end = carries_end (loss_of keep s) inn.taken_list inn.taken_end inn.pushed_list inn.pushed_end inn.carries n in
       let part : IsPrefix i.taken near.wire.got = prefix_trans met.taken out.part in
       let lists : IsPrefix (told inn.taken_list inn.taken_end) (told out.came_list out.came_end) = rw (inn.taken_is, out.came_is) at part in
       let two : out.came_end ≡ inn.taken_end = end_stays inn.taken_list out.came_list inn.taken_end out.came_end (λ x. n (sym one ∙ x)) lists in

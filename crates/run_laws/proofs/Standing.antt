@@ -28,9 +28,9 @@ module _ (u : ℕ) (lane : Option ℕ) (near far : WireState) (asked : ℕ) (lis
 
 module _ (u : ℕ) (near far : WireState) (asked : ℕ) (list : List Tree) (p q : Bool) (sn : IsSound near.wire p) (sf : IsSound far.wire q)
     (m : List Tree) (f : End) (sent_told : near.wire.sent ≡ told m f) (part : IsPrefix m list) (l : List Tree) (e : End) (got_told : far.wire.got ≡ told l e) where
-  pub in_stands : (lane : Option ℕ) → WireKeeps lane near far asked → InStands (in_of u lane near far asked list)
-  in_stands None k =
-      let brought : Carries 0 (list_of near.wire.sent) (end_of_items near.wire.sent) l e = wire_brings None near far asked p q sn sf k l e got_told in
+  pub in_stands : (keep : Bool) (lane : Option ℕ) → WireKeeps keep lane near far asked → InStands (in_of u lane near far asked list)
+  in_stands keep None k =
+      let brought : Carries 0 (list_of near.wire.sent) (end_of_items near.wire.sent) l e = wire_brings keep None near far asked p q sn sf k l e got_told in
       record {
         came = came_few 0 near.wire.sent far.wire.got list m l f e brought sent_told part got_told;
         part = parts 0 near.wire.sent far.wire.got list m l f e brought sent_told part got_told;
@@ -41,26 +41,26 @@ module _ (u : ℕ) (near far : WireState) (asked : ℕ) (list : List Tree) (p q 
         ended_few = few 0 near.wire.sent far.wire.got list m l f e brought sent_told part got_told;
         reach = rw k (omega arith);
       }
-  in_stands (Some s) k = stands_in u s near far p q asked list m l f e sn sf sent_told part got_told k
+  in_stands keep (Some s) k = stands_in keep u s near far p q asked list m l f e sn sf sent_told part got_told k
 
-pub out_stands : (u : ℕ) (near far : WireState) (asked : ℕ) (list : List Tree) (lane : Option ℕ) → WireKeeps lane near far asked → OutStands (out_of u lane near far asked list)
-out_stands u near far asked list None k = record { count = refl; wants = omega arith }
-out_stands u near far asked list (Some s) k = stands_out u s near far asked list k
+pub out_stands : (u : ℕ) (near far : WireState) (asked : ℕ) (list : List Tree) (keep : Bool) (lane : Option ℕ) → WireKeeps keep lane near far asked → OutStands (out_of u lane near far asked list)
+out_stands u near far asked list keep None k = record { count = refl; wants = omega arith }
+out_stands u near far asked list keep (Some s) k = stands_out keep u s near far asked list k
 
 module _ (u : ℕ) (near far : WireState) (asked : ℕ) (list : List Tree) (sn : IsSound near.wire false) (sf : IsSound far.wire false) (mn : IsMarked near) (mf : IsMarked far) where
-  pub in_rests : (lane : Option ℕ) → WireKeeps lane near far asked → WireQuiet lane near far asked → InRests (in_of u lane near far asked list)
-  in_rests None k quiet = record {
+  pub in_rests : (keep : Bool) (lane : Option ℕ) → WireKeeps keep lane near far asked → WireQuiet keep lane near far asked → InRests (in_of u lane near far asked list)
+  in_rests keep None k quiet = record {
     waits = λ e. let w = waits far mf sf e in rw (sym k) ((w.0.mark, w.0.still), ap elements w.1);
     idles = λ e. let i = idles far mf sf e in rw (sym k) (inr ((i.mark, i.still), ap elements (all_idle far.wire sf e)));
     shut = λ c. rw (sym k) (in_shut far.wire false sf c);
     over_sent = λ e. rw (sym k) (inr (over_same far.wire false sf e));
   }
-  in_rests (Some s) k quiet = rests_in u s near far asked list sn sf mn mf quiet.0 quiet.1
+  in_rests keep (Some s) k quiet = rests_in keep u s near far asked list sn sf mn mf quiet.0 quiet.1
 
-  pub out_rests : (lane : Option ℕ) → WireQuiet lane near far asked → OutRests (out_of u lane near far asked list)
-  out_rests None quiet = record {
+  pub out_rests : (keep : Bool) (lane : Option ℕ) → WireQuiet keep lane near far asked → OutRests (out_of u lane near far asked list)
+  out_rests keep None quiet = record {
     asked = λ e. let i = is_asked near mn sn e in (i.mark, i.still);
     unasked = λ e. let i = is_unasked near mn sn e in (i.mark, i.still);
     shut = λ c. out_shut near.wire false sn c;
   }
-  out_rests (Some s) quiet = rests_out u s near far asked list sn sf mn mf quiet.0 quiet.1
+  out_rests keep (Some s) quiet = rests_out keep u s near far asked list sn sf mn mf quiet.0 quiet.1

@@ -231,7 +231,7 @@ module _ {N : Type 0} (port_state : N → View → Type 0) (law : N → N → Vi
       by v e None is = let c = connection_cost (all.near u).wire (is_queued (nets (s.near u).island).queue (s.near u).at) near_sound in omega (arith, c)
       by v e (Some z) is =
           let k = lanes u v z e is in
-          let c = paid z (all.near u) (all.far u) (is_queued (nets (s.near u).island).queue (s.near u).at) (is_queued (nets (s.far u).island).queue (s.far u).at) (asked u) near_sound far_sound k.0 in
+          let c = paid v.keep z (all.near u) (all.far u) (is_queued (nets (s.near u).island).queue (s.near u).at) (is_queued (nets (s.far u).island).queue (s.far u).at) (asked u) near_sound far_sound k.0 in
           let same = k.1 in
           omega (arith, c, same)
 

@@ -89,14 +89,14 @@ WantedAt Idle want had = want ≤ had
 WantedAt _ want had = ⊤
 
 -- A wire that is no lane has one connection. A lane has two, and what is kept of its two ends and known of both joins them.
-abbrev pub WireKeeps : Option ℕ → WireState → WireState → ℕ → Type 0
-WireKeeps None near far asked = far ≡ near
-WireKeeps (Some size) near far asked = LaneKeeps size near far asked
+abbrev pub WireKeeps : Bool → Option ℕ → WireState → WireState → ℕ → Type 0
+WireKeeps keep None near far asked = far ≡ near
+WireKeeps keep (Some size) near far asked = LaneKeeps keep size near far asked
 
 -- where no island has an event, a lane rests
-abbrev pub WireQuiet : Option ℕ → WireState → WireState → ℕ → Type 0
-WireQuiet None near far asked = ⊤
-WireQuiet (Some size) near far asked = (keeps : LaneKeeps size near far asked) × LaneQuiet size near far asked keeps
+abbrev pub WireQuiet : Bool → Option ℕ → WireState → WireState → ℕ → Type 0
+WireQuiet keep None near far asked = ⊤
+WireQuiet keep (Some size) near far asked = (keeps : LaneKeeps keep size near far asked) × LaneQuiet keep size near far asked keeps
 
 module _ {N : Type 0} (port_state : N → View → Type 0) (law : N → N → View → List (List Item) → List (List Item) → Type 0) (asking : N → View → Type 0)
     (moves : N → List ℕ) where
@@ -162,7 +162,7 @@ module _ {N : Type 0} (port_state : N → View → Type 0) (law : N → N → Vi
       pub far_sound : (u : ℕ) → u < length g.wires → (q : _) × IsSound (a.far u).wire q
       pub near_marked : (u : ℕ) → u < length g.wires → IsMarked (a.near u)
       pub far_marked : (u : ℕ) → u < length g.wires → IsMarked (a.far u)
-      pub wires : (u : ℕ) (v : Edge) → slice_get g.wires u ≡ Some v → WireKeeps v.lane (a.near u) (a.far u) (a.asked u)
+      pub wires : (u : ℕ) (v : Edge) → slice_get g.wires u ≡ Some v → WireKeeps v.keep v.lane (a.near u) (a.far u) (a.asked u)
 
 -- the nodes as they were handed in are those of the blueprint, by what a kind of nodes says of its first
 abbrev pub AllMade : {N : Type 0} → (ℕ → graph.Node → N → Type 0) → Graph → Account N → Type 0
@@ -172,4 +172,4 @@ AllMade FirstOf g a = (k : ℕ) (n : graph.Node) (first : _) → slice_get g.nod
 pub record IsStill {N : Type 0} (g : Graph) (a : Account N) : Type 0 where
   pub near : (u : ℕ) → u < length g.wires → IsSound (a.near u).wire false
   pub far : (u : ℕ) → u < length g.wires → IsSound (a.far u).wire false
-  pub quiet : (u : ℕ) (v : Edge) → slice_get g.wires u ≡ Some v → WireQuiet v.lane (a.near u) (a.far u) (a.asked u)
+  pub quiet : (u : ℕ) (v : Edge) → slice_get g.wires u ≡ Some v → WireQuiet v.keep v.lane (a.near u) (a.far u) (a.asked u)

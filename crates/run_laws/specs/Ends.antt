@@ -1,6 +1,6 @@
 -- The two ends of a lane as a run tells of them, what an island keeps of each beside the connection of its boundary stage, and
 -- what is known of both once they were brought together. Of the ends themselves these are plain lists and numbers.
-use Rattle.std.specs.Prelude.{◌≡◌, ℕ, ◌+◌, ◌≤◌, List}
+use Rattle.std.specs.Prelude.{◌≡◌, ℕ, ◌+◌, ◌≤◌, Bool, List}
 use Rattle.elem_core.specs.Prefix.{IsPrefix}
 use Rattle.elem_core.specs.Tree.{Tree}
 use Rattle.elem_core.specs.Items.{elements}
@@ -8,7 +8,7 @@ use Rattle.elem_core.specs.declared.item.Item.{Item}
 use Rattle.port_core.specs.Cell.{WireState}
 use Rattle.port_core.specs.Marks.{wanted}
 use Rattle.stream_model.specs.Outlook.{End}
-use Rattle.stream_model.specs.Lane.{Carries}
+use Rattle.stream_model.specs.Lane.{loss_of, Carries}
 use Rattle.stage_core.specs.Held.{told}
 use Rattle.stage_core.specs.Law.{TookAs, GaveAs}
 
@@ -38,11 +38,11 @@ pub record OutKeeps (c : WireState) (e : OutEnd) : Type 0 where
   pub part : IsPrefix e.sent c.wire.got
   pub wants : wanted c ≤ e.seen
 
--- What an island keeps of an input end of a lane of size s, whose boundary stage is at the output of this connection: what was
--- pushed there is of what was taken what a lane of that size carries, the rest waits in a buffer that a failure empties; at first
+-- What an island keeps of an input end of a lane of size s, which keeps what came before a failure or not, whose boundary stage is at the output of this connection: what was
+-- pushed there is of what was taken what such a lane carries, the rest waits in a buffer that a failure empties unless it keeps; at first
 -- it asked for so many elements as the lane has places, and for no more than these and one for each that was pushed, and behind
 -- the first ask once at most for each element that was pushed.
-pub record InKeeps (s : ℕ) (c : WireState) (e : InEnd) : Type 0 where
+pub record InKeeps (keep : Bool) (s : ℕ) (c : WireState) (e : InEnd) : Type 0 where
   pub taken_list : List Tree
   pub taken_end : End
   pub pushed_list : List Tree
@@ -50,7 +50,7 @@ pub record InKeeps (s : ℕ) (c : WireState) (e : InEnd) : Type 0 where
   pub taken_is : e.taken ≡ told taken_list taken_end
   pub pushed_is : c.wire.sent ≡ told pushed_list pushed_end
   pub pushed_as : GaveAs c.wire.out pushed_end
-  pub carries : Carries s taken_list taken_end pushed_list pushed_end
+  pub carries : Carries (loss_of keep s) taken_list taken_end pushed_list pushed_end
   pub asks : e.asked ≤ elements c.wire.sent + s
   pub least : s ≤ e.asked
   pub calls : e.calls ≤ elements c.wire.sent + 1
@@ -66,12 +66,12 @@ pub record Met (s : ℕ) (o : OutEnd) (i : InEnd) : Type 0 where
   pub finds : o.finds ≤ i.calls + i.cancelled
   pub once : i.cancelled ≤ 1
 
--- A lane of size s between these two connections, of which its input end asked for so many elements: its two ends, what the
--- islands keep of them, and what is known of both.
-pub record LaneKeeps (s : ℕ) (near far : WireState) (asked : ℕ) : Type 0 where
+-- A lane of size s, which keeps what came before a failure or not, between these two connections, of which its input end asked for
+-- so many elements: its two ends, what the islands keep of them, and what is known of both.
+pub record LaneKeeps (keep : Bool) (s : ℕ) (near far : WireState) (asked : ℕ) : Type 0 where
   pub out : OutEnd
   pub inp : InEnd
   pub out_keeps : OutKeeps near out
-  pub in_keeps : InKeeps s far inp
+  pub in_keeps : InKeeps keep s far inp
   pub met : Met s out inp
   pub asked_is : inp.asked ≡ asked

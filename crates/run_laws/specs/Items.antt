@@ -22,15 +22,15 @@ end_of_items (item.Elem t ∷ is) = end_of_items is
 end_of_items (item.Ended ∷ is) = ended
 end_of_items (item.Failed c ∷ is) = failed c
 
--- how many elements a wire may lose at a failure: as many as a lane has places, and none where it is no lane
+-- the number of a lane, its size or its loss, and 0 where a wire is no lane
 abbrev pub lane_size : Option ℕ → ℕ
 lane_size None = 0
 lane_size (Some s) = s
 
 -- of what was sent at one end of a wire, its other end got this: a first part; where it ended all; where it failed all but
--- as many elements as the lane has places
+-- as many elements as its lane may lose
 abbrev pub ArrivedOf : Option ℕ → List Item → List Item → Type 0
-ArrivedOf lane sent got = (l : List Tree) (e : End) → got ≡ told l e → Carries (lane_size lane) (list_of sent) (end_of_items sent) l e
+ArrivedOf loss sent got = (l : List Tree) (e : End) → got ≡ told l e → Carries (lane_size loss) (list_of sent) (end_of_items sent) l e
 
 -- whatever list and end a history is, it may pass
 abbrev pub MayPass : Outlook → List Item → Type 0

@@ -1,5 +1,5 @@
 -- The ends of a lane where no island has an event.
-use Rattle.std.specs.Prelude.{◌≡◌, ℕ, ◌<◌}
+use Rattle.std.specs.Prelude.{◌≡◌, ℕ, ◌<◌, Bool}
 use Rattle.port_core.specs.declared.view.InView.TheVariants.{Idle, Cancelled}
 use Rattle.port_core.specs.declared.view.OutView.TheVariants as outlet
 use Rattle.port_core.specs.Cell.{WireState}
@@ -30,7 +30,7 @@ pub record MetQuiet (o : OutEnd) (i : InEnd) : Type 0 where
   pub refused_is : o.refused ≡ i.cancelled
 
 -- nothing is left to take off a lane or to see at it
-pub record LaneQuiet (s : ℕ) (near far : WireState) (asked : ℕ) (keeps : LaneKeeps s near far asked) : Type 0 where
+pub record LaneQuiet (keep : Bool) (s : ℕ) (near far : WireState) (asked : ℕ) (keeps : LaneKeeps keep s near far asked) : Type 0 where
   pub out : OutQuiet near keeps.out
   pub inp : InQuiet far keeps.inp
   pub met : MetQuiet keeps.out keeps.inp

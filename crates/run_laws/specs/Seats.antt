@@ -50,12 +50,12 @@ module _ {N : Type 0} (g : Graph) (nets : ℕ → Net N) (s : Seats) where
   -- of each lane what is kept of its ends and known of both, between the connections at its places
   abbrev pub LanesKeep : (ℕ → ℕ) → Type 0
   LanesKeep asked = (u : ℕ) (v : Edge) (size : ℕ) → slice_get g.wires u ≡ Some v → v.lane ≡ Some size
-      → LaneKeeps size (wire_at (nets (s.near u).island) (s.near u).at) (wire_at (nets (s.far u).island) (s.far u).at) (asked u)
+      → LaneKeeps v.keep size (wire_at (nets (s.near u).island) (s.near u).at) (wire_at (nets (s.far u).island) (s.far u).at) (asked u)
 
   -- and where no island has an event, each lane rests
   abbrev pub LanesRest : (ℕ → ℕ) → Type 0
   LanesRest asked = (u : ℕ) (v : Edge) (size : ℕ) → slice_get g.wires u ≡ Some v → v.lane ≡ Some size
-      → WireQuiet (Some size) (wire_at (nets (s.near u).island) (s.near u).at) (wire_at (nets (s.far u).island) (s.far u).at) (asked u)
+      → WireQuiet v.keep (Some size) (wire_at (nets (s.near u).island) (s.near u).at) (wire_at (nets (s.far u).island) (s.far u).at) (asked u)
 
 -- the place of a node or a connection, by its number, where one island has all
 abbrev pub at_home : ℕ → IslandPlace

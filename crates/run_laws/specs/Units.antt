@@ -30,5 +30,5 @@ module _ {N : Type 0} (g : Graph) (nets : ℕ → Net N) (s : Seats) where
   -- of each lane, by what is kept of it: so many items were taken off it, and so many looks found new demand or a cancel, in all
   abbrev pub LanesCost : (ℕ → ℕ) → (ℕ → ℕ) → Type 0
   LanesCost asked cost = (u : ℕ) (v : Edge) (size : ℕ) → slice_get g.wires u ≡ Some v → v.lane ≡ Some size
-      → (k : LaneKeeps size (wire_at (nets (s.near u).island) (s.near u).at) (wire_at (nets (s.far u).island) (s.far u).at) (asked u))
+      → (k : LaneKeeps v.keep size (wire_at (nets (s.near u).island) (s.near u).at) (wire_at (nets (s.far u).island) (s.far u).at) (asked u))
       × (cost u ≡ length k.inp.taken + k.out.finds)

@@ -18,6 +18,7 @@ ghost use Rattle.run_laws.specs.Units.{over_lanes, Owned, LanesCost};
 ghost use Rattle.run_laws.specs.Wires.{far_port, near_port};
 ghost use Rattle.stream_model.specs.Graph.{Graph};
 ghost use Rattle.stream_model.specs.Joined.{IsJoined};
+ghost use Rattle.stream_model.specs.Lane.{loss_of};
 ghost use Rattle.stream_model.specs.Shape.{count_needed};
 ghost use Rattle.fused_net.specs.Costs.{sum_below, total_cost};
 ghost use Rattle.fused_net.specs.Net.{Net};
@@ -43,20 +44,21 @@ pub fn nets_rest<S: Stage>()
 {}
 
 /// Of what was sent at the output of a lane, the node at its input got a first part; where a normal end came all, and where a
-/// failure came all but as many elements as the lane has places.
+/// failure came all but as many elements as the lane may lose.
 pub fn a_lane_brings_what_was_sent()
-    ensures { (s : ℕ) (near far : WireState) (p q : Bool) (asked : ℕ) → IsSound near.wire p → IsSound far.wire q → LaneKeeps s near far asked
-        → ArrivedOf (Some s) near.wire.sent far.wire.got }
+    ensures { (keep : Bool) (s : ℕ) (near far : WireState) (p q : Bool) (asked : ℕ) → IsSound near.wire p → IsSound far.wire q → LaneKeeps keep s near far asked
+        → ArrivedOf (Some (loss_of keep s)) near.wire.sent far.wire.got }
 {}
 
 /// At every moment a lane stands for the nodes at its ends as any wire does: no more came than was sent; a lane that is not asked
 /// was sent as many elements as it has places; what is wanted of it beyond its places the node at its input has asked for; and
 /// what the node at its output was asked for is wanted of it.
 pub fn a_lane_stands_as_a_wire()
-    ensures input { (u s : ℕ) (near far : WireState) (p q : Bool) (asked : ℕ) (list m l : List Tree) (f e : End) → IsSound near.wire p → IsSound far.wire q
+    ensures input { (keep : Bool) (u s : ℕ) (near far : WireState) (p q : Bool) (asked : ℕ) (list m l : List Tree) (f e : End) → IsSound near.wire p
+        → IsSound far.wire q
         → near.wire.sent ≡ told m f → IsPrefix m list → far.wire.got ≡ told l e
-        → LaneKeeps s near far asked → InStands (far_port u s near far asked list) }
-    ensures output { (u s : ℕ) (near far : WireState) (asked : ℕ) (list : List Tree) → LaneKeeps s near far asked
+        → LaneKeeps keep s near far asked → InStands (far_port u s near far asked list) }
+    ensures output { (keep : Bool) (u s : ℕ) (near far : WireState) (asked : ℕ) (list : List Tree) → LaneKeeps keep s near far asked
         → OutStands (near_port u s near far asked list) }
 {}
 
@@ -64,18 +66,21 @@ pub fn a_lane_stands_as_a_wire()
 /// the lane is asked and open; one that was asked at its output finds it asked, one that was not finds it not asked; and a lane
 /// that either of the two nodes has closed is shut.
 pub fn a_quiet_lane_rests()
-    ensures input { (u s : ℕ) (near far : WireState) (asked : ℕ) (list : List Tree) → IsSound near.wire false → IsSound far.wire false → IsMarked near
+    ensures input { (keep : Bool) (u s : ℕ) (near far : WireState) (asked : ℕ) (list : List Tree) → IsSound near.wire false → IsSound far.wire false
+        → IsMarked near
         → IsMarked far
-        → (k : LaneKeeps s near far asked) → LaneQuiet s near far asked k → InRests (far_port u s near far asked list) }
-    ensures output { (u s : ℕ) (near far : WireState) (asked : ℕ) (list : List Tree) → IsSound near.wire false → IsSound far.wire false → IsMarked near
+        → (k : LaneKeeps keep s near far asked) → LaneQuiet keep s near far asked k → InRests (far_port u s near far asked list) }
+    ensures output { (keep : Bool) (u s : ℕ) (near far : WireState) (asked : ℕ) (list : List Tree) → IsSound near.wire false → IsSound far.wire false
+        → IsMarked near
         → IsMarked far
-        → (k : LaneKeeps s near far asked) → LaneQuiet s near far asked k → OutRests (near_port u s near far asked list) }
+        → (k : LaneKeeps keep s near far asked) → LaneQuiet keep s near far asked k → OutRests (near_port u s near far asked list) }
 {}
 
 /// What a lane costs: the events of its two connections, the items that were taken off it, and the finds of new demand or a
 /// cancel are together below six times the elements that were sent, and twelve.
 pub fn a_lane_is_paid()
-    ensures { (s : ℕ) (near far : WireState) (p q : Bool) (asked : ℕ) → IsSound near.wire p → IsSound far.wire q → (k : LaneKeeps s near far asked)
+    ensures { (keep : Bool) (s : ℕ) (near far : WireState) (p q : Bool) (asked : ℕ) → IsSound near.wire p → IsSound far.wire q
+        → (k : LaneKeeps keep s near far asked)
         → (spent near.wire p + spent far.wire q) + (length k.inp.taken + k.out.finds) < 6 * elements near.wire.sent + 12 }
 {}
 

@@ -59,4 +59,6 @@ pub struct WireDecl {
     pub input: u32,
     /// The size of its lane, in elements, where it is an asynchronous boundary.
     pub lane: Option<u32>,
+    /// Whether a failure on that lane waits behind the elements that came before it.
+    pub keep: bool,
 }

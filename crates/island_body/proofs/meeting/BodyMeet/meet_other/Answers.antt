@@ -15,5 +15,5 @@ returns-clause-met g c =
     let at_out = at_index a.outs.items c.args.out o c.requires.out_there c.index_mut-2.ensures.value in
     they_meet a b _ _ c.args.out c.args.inp o (record { wire = o.wire; lane = c.meet.new.out }) x (record { wire = x.wire; boundary = c.meet.new.self }) c.in_ok-waits.waits at_out at_in refl refl
     (out_only a _ c.args.out o _ at_out (record { wire = refl; lane = m.out }) refl refl refl refl refl refl)
-    (in_only b _ c.args.inp x _ at_in (record { wire = refl; lane = m.lane; given_is = m.given.0; waits_is = m.given.1; over_is = m.given.2; state_is = m.given.3 }) refl refl refl refl refl refl)
+    (in_only b _ c.args.inp x _ at_in (record { wire = refl; lane = m.lane; given_is = m.given.0; waits_is = m.given.1; over_is = m.given.2; state_is = m.given.3; keep_is = m.given.4 }) refl refl refl refl refl refl)
     m.history m.waits m.told

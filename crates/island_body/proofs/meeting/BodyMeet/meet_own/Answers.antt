@@ -12,5 +12,5 @@ returns-clause-met g c =
     let m = c.in_ok-waits.ensures in
     let at_in = at_index b.ins.items c.args.inp x c.requires.inp_there c.index_mut.ensures.value in
     let at_out = at_index b.outs.items c.args.out o c.requires.out_there c.index_mut-2.ensures.value in
-    let both = both_only b _ c.args.out c.args.inp o _ x _ at_out at_in (record { wire = refl; lane = m.out }) (record { wire = refl; lane = m.lane; given_is = m.given.0; waits_is = m.given.1; over_is = m.given.2; state_is = m.given.3 }) refl refl refl refl refl refl in
+    let both = both_only b _ c.args.out c.args.inp o _ x _ at_out at_in (record { wire = refl; lane = m.out }) (record { wire = refl; lane = m.lane; given_is = m.given.0; waits_is = m.given.1; over_is = m.given.2; state_is = m.given.3; keep_is = m.given.4 }) refl refl refl refl refl refl in
     they_meet b b _ _ c.args.out c.args.inp o (record { wire = o.wire; lane = c.meet.new.out }) x (record { wire = x.wire; boundary = c.meet.new.self }) c.in_ok-waits.waits at_out at_in refl refl both both m.history m.waits m.told

@@ -8,8 +8,8 @@ use Rattle.lane_core.proofs.boundary.InputBoundary.keeps.Goals as goal
 pub returns : goal.returns
 returns c =
     let b = c.args.self.now in
-    let k = carried _ _ _ _ _ _ _ _ _ _ b.flow in
-    let n = given_count _ _ _ _ _ _ _ _ _ _ b.flow in
+    let k = carried _ _ _ _ _ _ _ _ _ _ _ b.flow in
+    let n = given_count _ _ _ _ _ _ _ _ _ _ _ b.flow in
     record {
       taken_list = k.taken_list;
       taken_end = k.taken_end;

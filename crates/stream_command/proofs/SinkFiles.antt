@@ -1,20 +1,27 @@
 -- From what is told of a call to what the files of its sinks hold.
 use Rattle.std.proofs.Common.{◌≡◌, ◌≢◌, ℕ, zero, suc, ◌+◌, Bool, true, false, List, [], ◌∷◌, ◌⊎◌, inl, inr, refl, sym, ap, ◌∙◌, subst, arith, length, slice_get}
-use Rattle.std.specs.Prelude.{IsTrue, Some, ◌==◌, ◌||◌, ◌&&◌, if◌then◌else◌}
+use Rattle.std.specs.Prelude.{IsTrue, Option, Some, ◌==◌, ◌||◌, ◌&&◌, if◌then◌else◌}
 use Rattle.std.proofs.lemmas.List.{length-map}
 use Rattle.elem_core.specs.Text.{text_lines}
+use Rattle.elem_core.specs.Tree.{Tree}
 use Rattle.elem_core.specs.declared.why.Cause.{Cause}
 use Rattle.stream_model.specs.declared.blueprint.Blueprint.{Blueprint}
 use Rattle.stream_model.specs.declared.blueprint.Node.{Node}
 use Rattle.stream_model.specs.declared.kind.Kind.{Kind}
 use Rattle.stream_model.specs.declared.kind.Kind.TheVariants.{ToLines, Head, Last}
+use Rattle.stream_model.specs.declared.head.PlugHead.{PlugHead}
 use Rattle.stream_model.specs.declared.outcome.EndState.{EndState}
 use Rattle.stream_model.specs.declared.outcome.EndState.TheVariants as state
-use Rattle.stream_model.specs.Composed.{sink_outlook}
+use Rattle.stream_model.specs.Composed.{sink_outlook, IsRanked}
+use Rattle.stream_model.specs.Exact.{LosesNothing, ReachesLast}
+use Rattle.stream_model.specs.Graph.{Graph}
+use Rattle.stream_model.specs.Graph as graph
+use Rattle.stream_model.specs.Linear.{Keeping, every_one, first_one, last_one, sinks, role_of}
 use Rattle.stream_model.specs.Node.{World}
-use Rattle.stream_model.specs.Outlook.{Outlook, Allows}
+use Rattle.stream_model.specs.Outlook.{Outlook, Agrees, Allows, failed}
 use Rattle.stream_model.specs.View.{outputs_of}
 use Rattle.stream_io.specs.State.{FolderState}
+use Rattle.blue_check.specs.Fitness.{IsFit}
 use Rattle.blue_names.specs.Picks.{picks, needs_picks}
 use Rattle.blue_modules.specs.Plain.{PlainBlueprint}
 use Rattle.blue_modules.specs.Flatten.{flat}
@@ -34,8 +41,8 @@ use Rattle.run_report.specs.declared.outcome.Status.{Status}
 use Rattle.run_report.specs.declared.outcome.Status.TheVariants as status
 use Rattle.stream_command.specs.AfterRun.{told_end, told_ends, is_ended, all_ended}
 use Rattle.stream_command.specs.Asked.{Plugged, AskedRun}
-use Rattle.stream_command.specs.Headline.{HoldsWhole, HoldsBetween, RanOver, WholeFiles, AnswersSink, EndedFiles}
-use Rattle.stream_command.specs.Outcome.{SaysFile, SaysFit, RanTo, LacksInput, LacksOutput, EndedBefore, EndedRun, Told}
+use Rattle.stream_command.specs.Headline.{HoldsWhole, HoldsBetween, RanOver, WholeFiles, AnswersSink, EndedFiles, FailedWhole}
+use Rattle.stream_command.specs.Outcome.{SaysFile, SaysFit, taken_files, RanTo, LacksInput, LacksOutput, EndedBefore, EndedRun, Told}
 
 some_one : {A : Type 0} {a b : A} → Some a ≡ Some b → a ≡ b
 some_one e = cc
@@ -247,3 +254,34 @@ unchosen_whole p a c old new b told e tells says none = unchosen_by p a c old ne
 
 pub ends_tell : (p : Plugged) (a : Answer) (c : AskedRun) (old new : FolderState) → Told p a c old new → IsTrue new.tells → a.sinks ≢ [] → EndedFiles p a c old new
 ends_tell p a c old new told tells some = ended_by p a c old new some tells a.status told
+
+-- ---- a failure that reaches a sink behind all that passes
+
+file_role : (k : Kind) (file : List ℕ) → output_of k ≡ Some file → (to : Option (List ℕ)) × ((keeps : Keeping) × (role_of k ≡ sinks to keeps))
+file_role (ToLines f) file e = (Some f, (every_one, refl))
+file_role (Head f) file e = (Some f, (first_one, refl))
+file_role (Last f) file e = (Some f, (last_one, refl))
+file_role _ file e = absurd cc
+
+module _ (ranked : (b : Blueprint) (plugs : List PlugHead) (taken : List (List ℕ)) → IsFit b plugs taken → (rank : ℕ → ℕ) × IsRanked (graph_of b) rank)
+    (found : (c : Cause) (o : Outlook) (l : List Tree) → LosesNothing c o → Agrees o l (failed c) → l ≡ o.list)
+    (reaches : (g : Graph) (w : World) (c : Cause) (rank : ℕ → ℕ) → IsRanked g rank → (k : ℕ) (n : graph.Node) (file : Option (List ℕ)) (keeps : Keeping) → role_of n.kind ≡ sinks file keeps
+    → ReachesLast g c k n → LosesNothing c (sink_outlook g w k n)) where
+  whole_between : (new : FolderState) (file : List ℕ) (o : Outlook) (cause : Cause) → LosesNothing cause o → HoldsBetween new file o cause → new.file file ≡ Some (text_lines o.list)
+  whole_between new file o cause last holds = holds.text ∙ ap (λ (l : List Tree). Some (text_lines l)) (found cause o holds.list last (holds.most, holds.least))
+
+  pub failed_whole : (p : Plugged) (a : Answer) (c : AskedRun) (old new : FolderState) → Told p a c old new → IsTrue new.tells → a.sinks ≢ [] → FailedWhole p a c old new
+  failed_whole p a c old new told tells some =
+      let e = ends_tell p a c old new told tells some in
+      let rank = ranked e.blueprint p.heads (taken_files c.file c.trace) e.ran.said.fit in
+      record {
+        blueprint = e.blueprint;
+        drawn = e.drawn;
+        by_moves = e.by_moves;
+        ran = e.ran;
+        every = e.every;
+        whole = λ w k n file cause is x last.
+            let role = file_role n.kind file x.writes in
+            whole_between new file (sink_outlook (graph_of e.blueprint) w k (graph_node n)) cause
+            (reaches (graph_of e.blueprint) w cause rank.0 rank.1 k (graph_node n) role.0 role.1.0 role.1.1 last) (e.failed w k n file cause is x);
+      }

@@ -9,6 +9,7 @@ use Rattle.stream_model.specs.declared.blueprint.Node.{Node}
 use Rattle.stream_model.specs.declared.outcome.EndState.{EndState}
 use Rattle.stream_model.specs.declared.outcome.EndState.TheVariants as state
 use Rattle.stream_model.specs.Composed.{sink_outlook}
+use Rattle.stream_model.specs.Exact.{ReachesLast}
 use Rattle.stream_model.specs.Fits.{Fits}
 use Rattle.stream_model.specs.Node.{World}
 use Rattle.stream_model.specs.Outlook.{Outlook, Allows}
@@ -79,3 +80,15 @@ pub record EndedFiles (p : Plugged) (a : Answer) (c : AskedRun) (old new : Folde
   pub failed : (w : World) (k : ℕ) (n : Node) (file : List ℕ) (cause : Cause) → IsWorldOf p.book blueprint.nodes.items drawn w
       → AnswersSink a blueprint k n file (state.Failed cause)
       → HoldsBetween new file (sink_outlook (graph_of blueprint) w k (graph_node n)) cause
+
+-- Of a call whose answer has every sink: the file of a sink that failed holds the text of that whole list too, where the failure reaches
+-- it behind all that passes.
+pub record FailedWhole (p : Plugged) (a : Answer) (c : AskedRun) (old new : FolderState) : Type 0 where
+  pub blueprint : Blueprint
+  pub drawn : Drawn
+  pub by_moves : drawn.picks ≡ a.picks
+  pub ran : RanOver p c old new blueprint drawn
+  pub every : length a.sinks ≡ length (sink_places 0 blueprint.nodes.items)
+  pub whole : (w : World) (k : ℕ) (n : Node) (file : List ℕ) (cause : Cause) → IsWorldOf p.book blueprint.nodes.items drawn w
+      → AnswersSink a blueprint k n file (state.Failed cause)
+      → ReachesLast (graph_of blueprint) cause k (graph_node n) → new.file file ≡ Some (text_lines (sink_outlook (graph_of blueprint) w k (graph_node n)).list)

@@ -1,4 +1,4 @@
-// What the sinks' files hold after a call, in three short laws: each function has no body, and its contract is the law. Each follows
+// What the sinks' files hold after a call, in four short laws: each function does nothing, and its contract is the law. Each follows
 // from `told` of `run_file` alone, and `run_streams` hands that on in its clause `answers`.
 ghost use Rattle.std.specs.Prelude.{◌≡◌, ◌≢◌, [], false, IsTrue};
 ghost use Rattle.blue_names.specs.Picks.{needs_picks};
@@ -6,10 +6,12 @@ ghost use Rattle.run_report.specs.Answer.{Answer};
 ghost use Rattle.stream_io.specs.State.{FolderState};
 ghost use Rattle.stream_model.specs.declared.blueprint.Blueprint.{Blueprint};
 ghost use Rattle.stream_command.specs.Asked.{AskedRun, Plugged};
-ghost use Rattle.stream_command.specs.Headline.{WholeFiles, EndedFiles};
+ghost use Rattle.stream_command.specs.Headline.{WholeFiles, EndedFiles, FailedWhole};
 ghost use Rattle.stream_command.specs.Outcome.{SaysFile, Told};
 
+use materializer::laws::fit_blueprints_are_whole;
 use run_report::outcome::Status;
+use stream_model::laws::failures_lose_nothing;
 
 // Choice: docs/DECISIONS.md#headline
 /// Where a call answers Done and the folder tells its files, each sink's file holds exactly the text of the list that the blueprint's
@@ -31,3 +33,13 @@ pub fn each_end_tells_its_file()
     ensures { (p : Plugged) (a : Answer) (c : AskedRun) (old new : FolderState) → Told p a c old new → IsTrue new.tells → a.sinks ≢ []
         → EndedFiles p a c old new }
 {}
+
+/// With no lane that does not keep, no buffer, no stage that holds outputs, no partition and no fan-in between the stage that failed and
+/// a sink, that sink's file holds exactly the text of the list: nothing that came before the failure is lost.
+pub fn kept_failures_mean_whole_files()
+    ensures { (p : Plugged) (a : Answer) (c : AskedRun) (old new : FolderState) → Told p a c old new → IsTrue new.tells → a.sinks ≢ []
+        → FailedWhole p a c old new }
+{
+    fit_blueprints_are_whole();
+    failures_lose_nothing();
+}

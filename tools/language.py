@@ -129,7 +129,10 @@ def declaration(words, version=1):
         found = places("PORT -> PORT" if version == 1 else "PLACE -> PLACE", words)
         if words[:1] == ["async"]:
             del words[0]
-            found += places("N32", words) if words else []
+            if words and not (version == 2 and words[0] == "keep"):
+                found += places("N32", words)
+            if version == 2 and words[:1] == ["keep"]:
+                del words[0]
     elif version == 2:
         found = module_line(first, words)
     else:

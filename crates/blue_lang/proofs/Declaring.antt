@@ -1,6 +1,6 @@
 -- Declarations are read again from their canonical words.
 use Rattle.std.proofs.Common.{◌≡◌, ℕ, ◌+◌, ◌≤◌, ◌<◌, ◌^◌, Bool, true, false, cond, ltb, leb, List, [], ◌∷◌, ◌++◌, length, Option, Some, None, Ok, Err, refl, sym, ap, subst, ◌∙◌, ⊎_elim, append_assoc, append-nil, length-append, arith}
-use Rattle.std.specs.Prelude.{codes}
+use Rattle.std.specs.Prelude.{if◌then◌else◌, codes}
 use Rattle.std.specs.Char.{is_ascii_alphabetic, is_ascii_digit, is_ascii_graphic, is_ascii_lowercase, is_ascii_uppercase}
 use Rattle.std.specs.Fmt.{decimal}
 use Rattle.std.specs.List.{list_all}
@@ -36,8 +36,8 @@ use Rattle.blue_kinds.specs.Kinds.{source_kind, sink_kind, stage_kind, named_dec
 use Rattle.blue_kinds.specs.Steps.{read_chain}
 use Rattle.blue_lang.specs.Spaced.{spaced}
 use Rattle.blue_lang.specs.Kinds.{kind_words, sort_word, decider_words}
-use Rattle.blue_lang.specs.Canonical.{attrs_words, mark_word, place_word, lane_words, steps_words, direction_word, declaration_words}
-use Rattle.blue_lang.specs.Declarations.{Declaration, sets, switch, chain, opens, port, part, ends, is_nil, set_decider, read_attrs, read_some_attrs, read_mark, cut_place, read_port_place, bare_lane, read_lane_size, read_lane, read_end, wire_from, read_wire, undecided, read_decided, read_node, read_use, read_behind, port_from, read_port, chain_words, read_opening, inner_declaration, module_declaration, later_declaration, declaration, read_whole, declared_by}
+use Rattle.blue_lang.specs.Canonical.{attrs_words, mark_word, place_word, keep_words, lane_words, steps_words, direction_word, declaration_words}
+use Rattle.blue_lang.specs.Declarations.{Declaration, sets, switch, chain, opens, port, part, ends, is_nil, set_decider, read_attrs, read_some_attrs, read_mark, cut_place, read_port_place, bare_lane, is_keep, read_keep, read_lane_size, read_lane, read_end, wire_from, read_wire, undecided, read_decided, read_node, read_use, read_behind, port_from, read_port, chain_words, read_opening, inner_declaration, module_declaration, later_declaration, declaration, read_whole, declared_by}
 use Rattle.blue_lang.proofs.Respelling.{Words, AllWords, Tabled, behind_word_respelled, made_of, made_place, then_of, both_of, same_value, same_rest, same_place, some_if_read}
 use Rattle.blue_lang.proofs.Lexical.{name_respelled, size_respelled, count_decimal, size_below, name_ok, length-name-le, decimal_digits, graphic_digits}
 use Rattle.blue_lang.proofs.KindTables.{source_tabled, sink_tabled, stage_tabled}
@@ -405,39 +405,75 @@ behind_kept v word (w ∷ ws) rest r h a =
     place_kept v ws rest r (some_if_read (bytes_eq w word) (read_port_place v ws) r rest h).1 (and_parts (is_word w) (list_all is_word ws) a).1
 
 -- ---- lanes
-pub record KeptLane (l : LaneMark) : Type 0 where
-  pub again : read_lane Second (lane_words l) ≡ Some (Ok l, [])
-  pub words : AllWords (lane_words l)
-  pub short : length (spaced (lane_words l)) ≤ 17
+-- a lane and its mark
+pub record KeptLane (l : LaneMark × Bool) : Type 0 where
+  pub again : read_lane Second (lane_words l.0 l.1) ≡ Some (Ok l, [])
+  pub words : AllWords (lane_words l.0 l.1)
+  pub short : length (spaced (lane_words l.0 l.1)) ≤ 22
 
-own_lane : (n : ℕ) → n < 2 ^ 32 → KeptLane (Own n)
-own_lane n l =
-    let k = count_decimal n l in
+keep_again : (k : Bool) → read_keep Second (keep_words k) ≡ Some (Ok k, [])
+keep_again true = refl
+keep_again false = refl
+
+keep_are : (k : Bool) → AllWords (keep_words k)
+keep_are true = refl
+keep_are false = refl
+
+keep_short : (k : Bool) → length (spaced (keep_words k)) ≤ 5
+keep_short true = omega arith
+keep_short false = omega arith
+
+-- a number is no such mark
+not_keep : (n : ℕ) → n < 2 ^ 32 → bytes_eq (decimal n) (codes "keep") ≡ false
+not_keep n l = by (bytes_eq (decimal n) (codes "keep")) refl
+  where
+    by : (b : Bool) → bytes_eq (decimal n) (codes "keep") ≡ b → bytes_eq (decimal n) (codes "keep") ≡ false
+    by false e = e
+    by true e =
+        let few : n < 2 ^ 64 = omega arith in
+        let same : decimal n ≡ codes "keep" = (bytes_eq-Decides (decimal n) (codes "keep")).0 e in
+        let none : begins_with_letter (codes "keep") ≡ false = ap begins_with_letter (sym same) ∙ digits_no_letter (decimal n) (decimal_digits n few) in
+        absurd cc
+
+own_lane : (n : ℕ) (k : Bool) → n < 2 ^ 32 → KeptLane (Own n, k)
+own_lane n k l =
+    let c = count_decimal n l in
     record {
-      again = ap (λ x. Some (at_map Own x, [])) k.0;
-      words = and_from _ _ refl (and_from _ _ k.2 refl);
-      short = omega (arith, k.1, length-append (decimal n) []);
+      again = ap (λ b. if b then said (Inherited, true) (keep_words k) else then_read (made Own (size (decimal n ∷ keep_words k))) (read_keep Second)) (not_keep n l)
+          ∙ (ap (λ x. then_read (made Own (Some (x, keep_words k))) (read_keep Second)) c.0 ∙ ap (with_second (Ok (Own n))) (keep_again k));
+      words = and_from _ _ refl (and_from _ _ c.2 (keep_are k));
+      short = omega (arith, c.1, length-append (decimal n) (spaced (keep_words k)), keep_short k);
     }
 
-bare_kept : (v : Version) → KeptLane (bare_lane v)
-bare_kept First = own_lane 16 (omega arith)
-bare_kept Second = record { again = refl; words = refl; short = omega arith }
+inherited_kept : (k : Bool) → KeptLane (Inherited, k)
+inherited_kept true = record { again = refl; words = refl; short = omega arith }
+inherited_kept false = record { again = refl; words = refl; short = omega arith }
 
-lane_size_kept : (v : Version) (vs : Words) (l : LaneMark) → read_lane_size v vs ≡ Some (Ok l, []) → KeptLane l
-lane_size_kept v [] l h = subst KeptLane (same_value (bare_lane v) l [] [] h) (bare_kept v)
-lane_size_kept v (u ∷ us) l h =
-    let m = made_of Own (size (u ∷ us)) l [] h in
-    subst KeptLane m.2 (own_lane m.0 (size_below u m.0 (same_place (read_count 32 u) (Ok m.0) us [] m.1)))
+bare_kept : (v : Version) (k : Bool) → KeptLane (bare_lane v, k)
+bare_kept First k = own_lane 16 k (omega arith)
+bare_kept Second k = inherited_kept k
 
-lane_kept : (v : Version) (us : Words) (l : LaneMark) → read_lane v us ≡ Some (Ok l, []) → KeptLane l
-lane_kept v [] l h = subst KeptLane (same_value Fused l [] [] h) (record { again = refl; words = refl; short = omega arith })
+lane_size_at : (v : Version) (u : List ℕ) (us : Words) (l : LaneMark × Bool) (b : Bool)
+    → (if b then said (bare_lane v, true) us else then_read (made Own (size (u ∷ us))) (read_keep v)) ≡ Some (Ok l, []) → KeptLane l
+lane_size_at v u us l true h = subst KeptLane (same_value (bare_lane v, true) l us [] h) (bare_kept v true)
+lane_size_at v u us l false h =
+    let p = then_of (made Own (size (u ∷ us))) (read_keep v) l [] h in
+    let m = made_of Own (size (u ∷ us)) l.0 p.0 p.1 in
+    subst KeptLane (ap (λ x. (x, l.1)) m.2) (own_lane m.0 l.1 (size_below u m.0 (same_place (read_count 32 u) (Ok m.0) us p.0 m.1)))
+
+lane_size_kept : (v : Version) (vs : Words) (l : LaneMark × Bool) → read_lane_size v vs ≡ Some (Ok l, []) → KeptLane l
+lane_size_kept v [] l h = subst KeptLane (same_value (bare_lane v, false) l [] [] h) (bare_kept v false)
+lane_size_kept v (u ∷ us) l h = lane_size_at v u us l (is_keep v u) h
+
+lane_kept : (v : Version) (us : Words) (l : LaneMark × Bool) → read_lane v us ≡ Some (Ok l, []) → KeptLane l
+lane_kept v [] l h = subst KeptLane (same_value (Fused, false) l [] [] h) (record { again = refl; words = refl; short = omega arith })
 lane_kept v (w ∷ ws) l h = lane_size_kept v ws l (some_if_read (bytes_eq w (codes "async")) (read_lane_size v ws) l [] h).1
 
 -- ---- wires
 abbrev wire_part : WireText → Declaration
 wire_part w = part (Wire w)
 
-abbrev end_lane : Version → Words → Reading ((List ℕ × PortMark) × LaneMark)
+abbrev end_lane : Version → Words → Reading ((List ℕ × PortMark) × (LaneMark × Bool))
 end_lane v vs = then_read (read_end v vs) (read_lane v)
 
 wire_declared : (v : Version) (ws : Words) (d : Declaration) → made wire_part (read_wire v ws) ≡ Some (Ok d, []) → AllWords ws → KeptDeclaration d
@@ -450,7 +486,7 @@ wire_declared v ws d h a =
     let q = then_of (read_end v p.0) (read_lane v) r.1 [] p.2 in
     let end = behind_kept v (codes "->") p.0 q.0 r.1.0 q.1 start.1 in
     let size_is = lane_kept v q.0 r.1.1 q.2 in
-    let last : Words = lane_words r.1.1 in
+    let last : Words = lane_words r.1.1.0 r.1.1.1 in
     let to : List ℕ = place_word r.1.0.0 r.1.0.1 in
     let from : List ℕ = place_word r.0.0 r.0.1 in
     let tail : Words = from ∷ codes "->" ∷ to ∷ last in

@@ -5,6 +5,7 @@ pub mod KindTables
 pub mod Lexical
 pub mod Lining
 pub mod Printing
+pub mod Keeping
 pub mod Reading
 pub mod Respelling
 pub mod Roundtrip

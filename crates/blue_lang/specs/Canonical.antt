@@ -35,11 +35,16 @@ mark_word (Name p) = p
 abbrev pub place_word : List ℕ → PortMark → List ℕ
 place_word name mark = name ++ point_byte ∷ mark_word mark
 
--- a lane, with its size where it has one of its own
-abbrev pub lane_words : LaneMark → List (List ℕ)
-lane_words Fused = []
-lane_words Inherited = codes "async" ∷ []
-lane_words (Own n) = codes "async" ∷ decimal n ∷ []
+-- the mark of a lane that keeps what came before a failure
+abbrev pub keep_words : Bool → List (List ℕ)
+keep_words false = []
+keep_words true = codes "keep" ∷ []
+
+-- a lane, with its size where it has one of its own, and its mark
+abbrev pub lane_words : LaneMark → Bool → List (List ℕ)
+lane_words Fused keep = []
+lane_words Inherited keep = codes "async" ∷ keep_words keep
+lane_words (Own n) keep = codes "async" ∷ decimal n ∷ keep_words keep
 
 -- ---- chains
 -- the words of a step
@@ -61,7 +66,7 @@ steps_words (s ∷ ss) = step_words s ++ later_words ss
 abbrev pub entry_words : Entry → List (List ℕ)
 entry_words (Node n) = sort_word n.kind ∷ n.name ∷ (kind_words n.kind ++ decider_words n.decider)
 entry_words (Instance u) = codes "use" ∷ u.name ∷ u.of ∷ attrs_words u.attrs
-entry_words (Wire w) = codes "wire" ∷ place_word w.from w.output ∷ codes "->" ∷ place_word w.to w.input ∷ lane_words w.lane
+entry_words (Wire w) = codes "wire" ∷ place_word w.from w.output ∷ codes "->" ∷ place_word w.to w.input ∷ lane_words w.lane w.keep
 
 -- the first word of a port line: an input's or an output's
 abbrev pub direction_word : Bool → List ℕ

@@ -80,14 +80,24 @@ abbrev pub bare_lane : Version → LaneMark
 bare_lane First = Own 16
 bare_lane Second = Inherited
 
--- the size of a lane, where one is written
-abbrev pub read_lane_size : Version → List (List ℕ) → Reading LaneMark
-read_lane_size v [] = said (bare_lane v) []
-read_lane_size v (w ∷ ws) = made Own (size (w ∷ ws))
+-- the mark of a lane that keeps what came before a failure is a word of version 2
+abbrev pub is_keep : Version → List ℕ → Bool
+is_keep First w = false
+is_keep Second w = bytes_eq w (codes "keep")
 
--- whether a wire has a lane, and its size
-abbrev pub read_lane : Version → List (List ℕ) → Reading LaneMark
-read_lane v [] = said Fused []
+-- whether that word comes next
+abbrev pub read_keep : Version → List (List ℕ) → Reading Bool
+read_keep v [] = said false []
+read_keep v (w ∷ ws) = if is_keep v w then said true ws else said false (w ∷ ws)
+
+-- the size of a lane, where one is written, and its mark
+abbrev pub read_lane_size : Version → List (List ℕ) → Reading (LaneMark × Bool)
+read_lane_size v [] = said (bare_lane v, false) []
+read_lane_size v (w ∷ ws) = if is_keep v w then said (bare_lane v, true) ws else then_read (made Own (size (w ∷ ws))) (read_keep v)
+
+-- whether a wire has a lane, its size and its mark
+abbrev pub read_lane : Version → List (List ℕ) → Reading (LaneMark × Bool)
+read_lane v [] = said (Fused, false) []
 read_lane v (w ∷ ws) = behind_word (codes "async") (read_lane_size v) (w ∷ ws)
 
 -- ---- what stands in bodies
@@ -96,8 +106,8 @@ abbrev pub read_end : Version → List (List ℕ) → Reading (List ℕ × PortM
 read_end v ws = behind_word (codes "->") (read_port_place v) ws
 
 -- a wire, of its two ends and its lane
-abbrev pub wire_from : (List ℕ × PortMark) × ((List ℕ × PortMark) × LaneMark) → WireText
-wire_from r = record { from = r.0.0; output = r.0.1; to = r.1.0.0; input = r.1.0.1; lane = r.1.1 }
+abbrev pub wire_from : (List ℕ × PortMark) × ((List ℕ × PortMark) × (LaneMark × Bool)) → WireText
+wire_from r = record { from = r.0.0; output = r.0.1; to = r.1.0.0; input = r.1.0.1; lane = r.1.1.0; keep = r.1.1.1 }
 
 -- a wire's two ends and its lane
 abbrev pub read_wire : Version → List (List ℕ) → Reading WireText

@@ -1,9 +1,9 @@
 // Places, and what names them: wires, instances, and the ports of modules.
-ghost use Rattle.std.specs.Prelude.{◌≡◌, IfOk};
+ghost use Rattle.std.specs.Prelude.{◌≡◌, IfOk, Some, Ok};
 ghost use Rattle.blue_modules.specs.declared.text.PortMark.TheVariants.{Num};
 ghost use Rattle.blue_words.specs.Numbers.{read_count};
 ghost use Rattle.blue_words.specs.Reading.{Reads, at_map};
-ghost use Rattle.blue_lang.specs.Declarations.{read_mark, read_port_place, bare_lane, read_lane, read_lane_size, read_end, wire_from, read_wire, read_use, read_behind, port_from, read_port};
+ghost use Rattle.blue_lang.specs.Declarations.{read_mark, read_port_place, bare_lane, is_keep, read_keep, read_lane, read_lane_size, read_end, wire_from, read_wire, read_use, read_behind, port_from, read_port};
 
 use crate::attrs::read_attrs;
 use blue_modules::text::{LaneMark, PortDecl, PortMark, UseText, WireText};
@@ -88,12 +88,12 @@ fn bare_lane(version: Version) -> LaneMark
     }
 }
 
-// Whether a wire has a lane, and its size.
-fn read_lane(version: Version, words: &mut Words) -> Result<PlaceValue<LaneMark>, FormEnd>
+// Whether a wire has a lane, its size, and whether it keeps what came before a failure.
+fn read_lane(version: Version, words: &mut Words) -> Result<PlaceValue<(LaneMark, bool)>, FormEnd>
     ensures { Reads result (read_lane version words.old) words.new }
 {
     let Some(word) = words.next() else {
-        return Ok(Ok(LaneMark::Fused));
+        return Ok(Ok((LaneMark::Fused, false)));
     };
     if is_word(word, b"async") {
         read_lane_size(version, words)
@@ -102,27 +102,58 @@ fn read_lane(version: Version, words: &mut Words) -> Result<PlaceValue<LaneMark>
     }
 }
 
-fn read_lane_size(version: Version, words: &mut Words) -> Result<PlaceValue<LaneMark>, FormEnd>
-    ensures { Reads result (read_lane_size version words.old) words.new }
+// Whether the word is the mark of a lane that keeps what came before a failure.
+fn is_keep(version: Version, word: &[u8]) -> bool
+    ensures { result ≡ is_keep version word.now }
 {
-    match words.next() {
-        Some(word) => Ok(size_place(word).map(LaneMark::Own)),
-        None => Ok(Ok(bare_lane(version))),
+    match version {
+        Version::First => false,
+        Version::Second => is_word(word, b"keep"),
     }
 }
 
+// Whether that word comes next; then it is passed.
+#[tactic(auto, using(crate::proofs::Keeping::none_kept, crate::proofs::Keeping::kept_word))]
+fn skip_keep(version: Version, words: &mut Words) -> bool
+    ensures { Some (Ok result, words.new) ≡ read_keep version words.old }
+{
+    match version {
+        Version::First => false,
+        Version::Second => words.skip(b"keep"),
+    }
+}
+
+// The size of a lane, where one is written, and its mark.
+fn read_lane_size(
+    version: Version,
+    words: &mut Words,
+) -> Result<PlaceValue<(LaneMark, bool)>, FormEnd>
+    ensures { Reads result (read_lane_size version words.old) words.new }
+{
+    let Some(word) = words.next() else {
+        return Ok(Ok((bare_lane(version), false)));
+    };
+    if is_keep(version, word) {
+        return Ok(Ok((bare_lane(version), true)));
+    }
+    let size = size_place(word).map(LaneMark::Own);
+    let keep = skip_keep(version, words);
+    Ok(both(size, Ok(keep)))
+}
+
 fn wire_from(
-    parts: PlaceValue<((Line, PortMark), ((Line, PortMark), LaneMark))>,
+    parts: PlaceValue<((Line, PortMark), ((Line, PortMark), (LaneMark, bool)))>,
 ) -> PlaceValue<WireText>
     ensures { result ≡ at_map wire_from parts }
 {
     match parts {
-        Ok(((from, output), ((to, input), lane))) => Ok(WireText {
+        Ok(((from, output), ((to, input), (lane, keep)))) => Ok(WireText {
             from,
             output,
             to,
             input,
             lane,
+            keep,
         }),
         Err(kind) => Err(kind),
     }

@@ -5,7 +5,7 @@ ghost use Rattle.blue_modules.specs.Text.{plain_module, plain_chain_text, plain_
 ghost use Rattle.blue_lang.specs.Spaced.{spaced};
 ghost use Rattle.blue_lang.specs.Kinds.{kind_words, sort_word, decider_words};
 ghost use Rattle.blue_lang.specs.Declarations.{switch, chain, port, part};
-ghost use Rattle.blue_lang.specs.Canonical.{size_words, attrs_words, mark_word, place_word, lane_words, step_words, later_words, steps_words, direction_word, port_words, entry_words, declaration_words, sets_some, default_lines, module_lines, line_text, declared_text, canonical};
+ghost use Rattle.blue_lang.specs.Canonical.{size_words, attrs_words, mark_word, place_word, keep_words, lane_words, step_words, later_words, steps_words, direction_word, port_words, entry_words, declaration_words, sets_some, default_lines, module_lines, line_text, declared_text, canonical};
 
 use crate::kinds::{sort_word, write_decider, write_kind};
 use crate::words::{write_word, write_word_count};
@@ -108,7 +108,8 @@ fn print_chains(out: &mut Vec<u8>, chains: &[ChainText]) -> Result<(), NoMemory>
 }
 
 fn print_chain(out: &mut Vec<u8>, chain: &ChainText) -> Result<(), NoMemory>
-    ensures { OnOk result (out.new.items ≡ out.old.items ++ line_text (codes "chain" ∷ (plain_chain_text chain.now).name ∷ steps_words (plain_chain_text chain.now).steps)) }
+    ensures { OnOk result (out.new.items ≡ out.old.items ++ line_text (codes "chain" ∷ (plain_chain_text chain.now).name
+        ∷ steps_words (plain_chain_text chain.now).steps)) }
 {
     out.extend_from_slice(b"chain")?;
     write_word(out, chain.name.bytes())?;
@@ -236,7 +237,8 @@ fn print_entry(out: &mut Vec<u8>, entry: &Entry) -> Result<(), NoMemory>
 }
 
 fn print_node(out: &mut Vec<u8>, node: &NodeText) -> Result<(), NoMemory>
-    ensures { OnOk result (out.new.items ≡ out.old.items ++ line_text (sort_word (node.now).kind ∷ (node.now).name ∷ (kind_words (node.now).kind ++ decider_words (node.now).decider))) }
+    ensures { OnOk result (out.new.items ≡ out.old.items ++ line_text (sort_word (node.now).kind ∷ (node.now).name
+        ∷ (kind_words (node.now).kind ++ decider_words (node.now).decider))) }
 {
     out.extend_from_slice(sort_word(&node.kind))?;
     write_word(out, node.name.bytes())?;
@@ -246,7 +248,8 @@ fn print_node(out: &mut Vec<u8>, node: &NodeText) -> Result<(), NoMemory>
 }
 
 fn print_use(out: &mut Vec<u8>, instance: &UseText) -> Result<(), NoMemory>
-    ensures { OnOk result (out.new.items ≡ out.old.items ++ line_text (codes "use" ∷ (instance.now).name ∷ (instance.now).of ∷ attrs_words (instance.now).attrs)) }
+    ensures { OnOk result (out.new.items ≡ out.old.items ++ line_text (codes "use" ∷ (instance.now).name ∷ (instance.now).of
+        ∷ attrs_words (instance.now).attrs)) }
 {
     out.extend_from_slice(b"use")?;
     write_word(out, instance.name.bytes())?;
@@ -257,13 +260,14 @@ fn print_use(out: &mut Vec<u8>, instance: &UseText) -> Result<(), NoMemory>
 }
 
 fn print_wire(out: &mut Vec<u8>, wire: &WireText) -> Result<(), NoMemory>
-    ensures { OnOk result (out.new.items ≡ out.old.items ++ line_text (codes "wire" ∷ place_word (wire.now).from (wire.now).output ∷ codes "->" ∷ place_word (wire.now).to (wire.now).input ∷ lane_words (wire.now).lane)) }
+    ensures { OnOk result (out.new.items ≡ out.old.items ++ line_text (codes "wire" ∷ place_word (wire.now).from (wire.now).output ∷ codes "->"
+        ∷ place_word (wire.now).to (wire.now).input ∷ lane_words (wire.now).lane (wire.now).keep)) }
 {
     out.extend_from_slice(b"wire")?;
     print_place(out, &wire.from, &wire.output)?;
     write_word(out, b"->")?;
     print_place(out, &wire.to, &wire.input)?;
-    print_lane(out, wire.lane)?;
+    print_lane(out, wire.lane, wire.keep)?;
     out.push(b'\n')?;
     Ok(())
 }
@@ -288,12 +292,23 @@ fn print_mark(out: &mut Vec<u8>, mark: &PortMark) -> Result<(), NoMemory>
     }
 }
 
-fn print_lane(out: &mut Vec<u8>, lane: LaneMark) -> Result<(), NoMemory>
-    ensures { OnOk result (out.new.items ≡ out.old.items ++ spaced (lane_words lane)) }
+fn print_lane(out: &mut Vec<u8>, lane: LaneMark, keep: bool) -> Result<(), NoMemory>
+    ensures { OnOk result (out.new.items ≡ out.old.items ++ spaced (lane_words lane keep)) }
 {
     match lane {
-        LaneMark::Fused => Ok(()),
-        LaneMark::Inherited => write_word(out, b"async"),
-        LaneMark::Own(size) => write_word_count(out, b"async", u64::from(size)),
+        LaneMark::Fused => return Ok(()),
+        LaneMark::Inherited => write_word(out, b"async")?,
+        LaneMark::Own(size) => write_word_count(out, b"async", u64::from(size))?,
+    }
+    print_keep(out, keep)
+}
+
+fn print_keep(out: &mut Vec<u8>, keep: bool) -> Result<(), NoMemory>
+    ensures { OnOk result (out.new.items ≡ out.old.items ++ spaced (keep_words keep)) }
+{
+    if keep {
+        write_word(out, b"keep")
+    } else {
+        Ok(())
     }
 }

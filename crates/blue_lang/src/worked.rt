@@ -1,5 +1,5 @@
 // Worked values of the definitions of version 2: each function has no body, and its contract is the equations.
-ghost use Rattle.std.specs.Prelude.{◌≡◌, [], ◌∷◌, Some, None, codes};
+ghost use Rattle.std.specs.Prelude.{◌≡◌, [], ◌∷◌, Some, None, codes, true, false};
 ghost use Rattle.elem_core.specs.Text.{lines};
 ghost use Rattle.elem_core.specs.declared.why.Decider.TheVariants.{Stop};
 ghost use Rattle.blue_modules.specs.declared.text.PortMark.TheVariants.{Num, Name};
@@ -38,13 +38,25 @@ pub fn forms_of_version_2()
 
 /// What a lane says without a size: its version decides.
 pub fn lanes_without_sizes()
-    ensures first { (text_of (declarations (lines (codes "streams 1\nwire a.0 -> b.0 async\n")))).body ≡ Wire (record { from = codes "a"; output = Num 0; to = codes "b"; input = Num 0; lane = Own 16 }) ∷ [] }
-    ensures second { (text_of (declarations (lines (codes "streams 2\nwire a.0 -> b.i async\n")))).body ≡ Wire (record { from = codes "a"; output = Num 0; to = codes "b"; input = Name (codes "i"); lane = Inherited }) ∷ [] }
-    ensures instance { (text_of (declarations (lines (codes "streams 2\nuse a m decider stop\n")))).body ≡ Instance (record { name = codes "a"; of = codes "m"; attrs = record { size = None; decider = Some Stop } }) ∷ [] }
+    ensures first { (text_of (declarations (lines (codes "streams 1\nwire a.0 -> b.0 async\n")))).body ≡ Wire
+        (record { from = codes "a"; output = Num 0; to = codes "b"; input = Num 0; lane = Own 16; keep = false }) ∷ [] }
+    ensures second { (text_of (declarations (lines (codes "streams 2\nwire a.0 -> b.i async\n")))).body ≡ Wire
+        (record { from = codes "a"; output = Num 0; to = codes "b"; input = Name (codes "i"); lane = Inherited; keep = false }) ∷ [] }
+    ensures keeps { (text_of (declarations (lines (codes "streams 2\nwire a.0 -> b.0 async keep\n")))).body ≡ Wire
+        (record { from = codes "a"; output = Num 0; to = codes "b"; input = Num 0; lane = Inherited; keep = true }) ∷ [] }
+    ensures keeps_so_many { (text_of (declarations (lines (codes "streams 2\nwire a.0 -> b.0 async 4 keep\n")))).body ≡ Wire
+        (record { from = codes "a"; output = Num 0; to = codes "b"; input = Num 0; lane = Own 4; keep = true }) ∷ [] }
+    ensures keeps_twice { text_fault (codes "streams 2\nwire a.0 -> b.0 async keep keep\n") ≡ Some (record { kind = BadLine; line = 2 }) }
+    ensures keeps_in_first { text_fault (codes "streams 1\nwire a.0 -> b.0 async 4 keep\n") ≡ Some (record { kind = BadLine; line = 2 }) }
+    ensures instance { (text_of (declarations (lines (codes "streams 2\nuse a m decider stop\n")))).body ≡ Instance
+        (record { name = codes "a"; of = codes "m"; attrs = record { size = None; decider = Some Stop } }) ∷ [] }
 {}
 
 /// Printing migrates: a text of version 1 is written as one of version 2, with its nodes and wires in the order in which they stand.
 pub fn printing_migrates()
-    ensures first { canonical (text_of (declarations (lines (codes "streams 1\nwire  a.00 -> b.0 async\nstage a map num decider stop\n")))) ≡ codes "streams 2\nwire a.0 -> b.0 async 16\nstage a map num\n" }
-    ensures second { canonical (text_of (declarations (lines (codes "streams 2\nmodule m\nstage a map num decider stop\nout o = a.007\nend\ndefault async 4\n")))) ≡ codes "streams 2\ndefault async 4\nmodule m\nout o = a.7\nstage a map num decider stop\nend\n" }
+    ensures first { canonical (text_of (declarations (lines (codes "streams 1\nwire  a.00 -> b.0 async\nstage a map num decider stop\n")))) ≡
+        codes "streams 2\nwire a.0 -> b.0 async 16\nstage a map num\n" }
+    ensures second { canonical
+        (text_of (declarations (lines (codes "streams 2\nmodule m\nstage a map num decider stop\nout o = a.007\nend\ndefault async 4\n")))) ≡
+        codes "streams 2\ndefault async 4\nmodule m\nout o = a.7\nstage a map num decider stop\nend\n" }
 {}

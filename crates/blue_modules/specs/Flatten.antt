@@ -99,13 +99,14 @@ flat_lane around Inherited = Some around.size
 flat_lane around (Own n) = Some n
 
 -- a wire between the two places that its ends stand for
-abbrev pub wire_between : List ℕ → NodePort → NodePort → Option ℕ → WireDecl
-wire_between prefix a b lane = record { from = prefix ++ a.0; output = a.1; to = prefix ++ b.0; input = b.1; lane = lane; keep = false }
+abbrev pub wire_between : List ℕ → NodePort → NodePort → Option ℕ → Bool → WireDecl
+wire_between prefix a b lane keep = record { from = prefix ++ a.0; output = a.1; to = prefix ++ b.0; input = b.1; lane = lane; keep = keep }
 
 -- a wire of a body, with the names of the instances around it before those of its ends
 abbrev pub flat_wire : List PlainModule → List Entry → List ℕ → Around → WireText → WireDecl
 flat_wire ms body prefix around w =
-    wire_between prefix (place (port_through true ms) body w.from w.output) (place (port_through false ms) body w.to w.input) (flat_lane around w.lane)
+    wire_between prefix (place (port_through true ms) body w.from w.output) (place (port_through false ms) body w.to w.input)
+    (flat_lane around w.lane) w.keep
 
 -- how an instance is replaced, beneath instances of these names and with this around it
 abbrev pub Replacing : Type 0

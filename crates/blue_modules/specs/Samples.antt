@@ -28,7 +28,7 @@ use_entry name of = Instance (record { name = name; of = of; attrs = no_attrs })
 
 -- a wire of a body
 abbrev pub wire_entry : List ℕ → PortMark → List ℕ → PortMark → LaneMark → Entry
-wire_entry from output to input lane = Wire (record { from = from; output = output; to = to; input = input; lane = lane })
+wire_entry from output to input lane = Wire (record { from = from; output = output; to = to; input = input; lane = lane; keep = false })
 
 -- ports of a module
 abbrev pub input_port : List ℕ → List ℕ → PortMark → PortDecl

@@ -143,7 +143,7 @@ fn flat_wire(
         to,
         input,
         lane: flat_lane(around, wire.lane),
-        keep: false,
+        keep: wire.keep,
     })
 }
 

@@ -67,6 +67,8 @@ pub struct WireText {
     pub input: PortMark,
     /// Its lane.
     pub lane: LaneMark,
+    /// Whether a failure on that lane waits behind the elements that came before it.
+    pub keep: bool,
 }
 
 // By hand, so that a drop is one call, proved in this crate once and for all above.
@@ -78,6 +80,7 @@ impl Drop for WireText {
             to: _,
             input: _,
             lane: _,
+            keep: _,
         } = self;
     }
 }

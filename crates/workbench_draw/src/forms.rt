@@ -36,7 +36,7 @@ fn forms_of_lines(symbol: &[u8]) -> Option<&'static [u8]> {
         )
     } else if is_word(symbol, SECOND_LINE) {
         Some(
-            b"default ATTRS, switch NAME, chain NAME STEP?more, module NAME?attrs, source NAME SOURCE, stage NAME STAGE, sink NAME SINK, use NAME NAME?attrs, wire PLACE -> PLACE?lane, in NAME = PLACE, out NAME = PLACE, end",
+            b"default ATTRS, switch NAME, chain NAME STEP?more, module NAME?attrs, source NAME SOURCE, stage NAME STAGE, sink NAME SINK, use NAME NAME?attrs, wire PLACE -> PLACE?kept, in NAME = PLACE, out NAME = PLACE, end",
         )
     } else if is_word(symbol, b"ATTRS") || is_word(symbol, b"?attrs") {
         Some(b"async N^?decider, decider DECIDER")
@@ -48,6 +48,12 @@ fn forms_of_lines(symbol: &[u8]) -> Option<&'static [u8]> {
         Some(b"num, text")
     } else if is_word(symbol, b"?lane") {
         Some(b"async?size")
+    } else if is_word(symbol, b"?kept") {
+        Some(b"async?mark")
+    } else if is_word(symbol, b"?mark") {
+        Some(b"N^?keep, keep")
+    } else if is_word(symbol, b"?keep") {
+        Some(b"keep")
     } else if is_word(symbol, b"?size") {
         Some(b"N^")
     } else if is_word(symbol, b"?more") {

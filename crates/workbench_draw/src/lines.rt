@@ -252,7 +252,17 @@ fn put_ports(out: &mut Vec<u8>, nodes: &[Node], wire: &WireDecl) -> Result<(), N
     Ok(())
 }
 
-/// Appends the style and the label of a wire: its type, where it is known, and the size of its lane, which is dashed.
+/// Appends the size of a lane, and whether it keeps what came before a failure.
+fn put_lane(out: &mut Vec<u8>, size: u32, keep: bool) -> Result<(), NoMemory> {
+    out.extend_from_slice(b"lane ")?;
+    put_number(out, u64::from(size))?;
+    if keep {
+        out.extend_from_slice(b" keep")?;
+    }
+    Ok(())
+}
+
+/// Appends the style and the label of a wire: its type, where it is known, and its lane, which is dashed.
 fn put_label(
     out: &mut Vec<u8>,
     wire: &WireDecl,
@@ -266,12 +276,10 @@ fn put_label(
         put_type(out, t)?;
     }
     if let Some(size) = wire.lane {
-        out.extend_from_slice(if carried.is_some() {
-            b", lane "
-        } else {
-            b"lane "
-        })?;
-        put_number(out, u64::from(size))?;
+        if carried.is_some() {
+            out.extend_from_slice(b", ")?;
+        }
+        put_lane(out, size, wire.keep)?;
     }
     Ok(())
 }

@@ -25,4 +25,5 @@ pub mod Spending
 pub mod Preparing
 pub mod Running
 pub mod Settling
+pub mod Cancelling
 pub mod Stopping

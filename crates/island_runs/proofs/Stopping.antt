@@ -29,7 +29,7 @@ use Rattle.island_runs.specs.Whole.{IsLeftBy}
 use Rattle.stage_switch.specs.Settling.{AllSettled}
 use Rattle.materializer.specs.Board.{AreAtSwitches, numbered_from, seat_in}
 use Rattle.materializer.specs.declared.switch_board.Board.{Board}
-use Rattle.island_runs.specs.Leaving.{Moment, RunLeaves, LeavesBroken}
+use Rattle.island_runs.specs.Leaving.{Moment, RunLeaves, LeavesBroken, CancelsCross}
 use Rattle.island_runs.specs.declared.run.Stopped.{Stopped}
 use Rattle.island_runs.proofs.Settling.{kept_seats, seats_numbered, settled_run}
 use Rattle.stream_model.specs.Linear.{Book}
@@ -65,15 +65,16 @@ module _ {S D L B : Type 0} (sources : S → SourceState) (drains : D → DrainS
   }
 
   -- bodies that were taken apart between two events, where the seats that their nodes left were settled
-  pub leaves : (budget : ℕ) (s : Stopped S D) (e : IslandEnd S D) (near : ℕ → WireState) → (s.at_rest ≡ true → IsStill (graph_of b) acc) → IsLeftBy (blueprint_wires b) near last e → s.end ≡ record e { seats = s.end.seats }
+  pub leaves : (budget : ℕ) (s : Stopped S D) (e : IslandEnd S D) (near : ℕ → WireState) → (s.at_rest ≡ true → IsStill (graph_of b) acc) → CancelsCross (graph_of b) acc → IsLeftBy (blueprint_wires b) near last e → s.end ≡ record e { seats = s.end.seats }
       → AllSettled (map (λ (n : blue.Node). n.kind) b.nodes.items) (seat_in (map node_seat last)) → s.wires.items ≡ picture_counts acc (graph_of b) → s.used ≤ budget → (s.at_rest ≡ false → s.used ≡ budget)
       → all_sent (picture_counts acc (graph_of b)) + taken_off (blueprint_wires b) (picture_counts acc (graph_of b)) ≤ s.used → s.used + length (blueprint_wires b) ≤ count_needed (graph_of b) (picture_counts acc (graph_of b)) → RunLeaves L B sources drains book b ss ds budget s
-  leaves budget s e near still l same_end settled wires within spent least most = record {
+  leaves budget s e near still cancels l same_end settled wires within spent least most = record {
     account = alone;
     nodes = last;
     moment = moment;
     still = λ h. still_alone (graph_of b) acc left.firsts last (still (is_so s.at_rest h));
     settled = settled_run b last alone (λ (k : ℕ). refl) settled;
+    cancels = cancels;
     sinks = ap (λ (x : IslandEnd S D). x.sinks.items) same_end ∙ l.sinks;
     picks = ap (λ (x : IslandEnd S D). map pick_of x.picks.items) same_end ∙ l.picks;
     wires = wires ∙ sym same;

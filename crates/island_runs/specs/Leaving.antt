@@ -1,10 +1,13 @@
 -- What the run of a blueprint leaves, by an account of its nodes and wires at its end. Where they stood, in one island or in many,
 -- it does not say.
-use Rattle.std.specs.Prelude.{◌≡◌, ℕ, ◌+◌, ◌≤◌, false, IsTrue, List, map, length, slice_get}
+use Rattle.std.specs.Prelude.{◌≡◌, ℕ, ◌+◌, ◌≤◌, false, IsTrue, List, map, length, slice_get, Some}
 use Rattle.stream_model.specs.declared.blueprint.Blueprint.{Blueprint}
 use Rattle.blue_check.specs.Wires.{blueprint_wires}
 use Rattle.stream_model.specs.Composed.{count_from}
+use Rattle.stream_model.specs.Graph.{Graph, Edge}
 use Rattle.stream_model.specs.Shape.{count_needed}
+use Rattle.port_core.specs.declared.view.InView.TheVariants.{Cancelled}
+use Rattle.port_core.specs.declared.view.OutView.TheVariants as outlet
 use Rattle.stream_io.specs.State.{SourceState, DrainState}
 use Rattle.nodes.specs.declared.node.IslandNode.{IslandNode}
 use Rattle.nodes.specs.Nodes.{KeepsNode}
@@ -39,8 +42,13 @@ pub record Moment {S D L B : Type 0} (sources : S → SourceState) (drains : D �
   pub as_many : length nodes ≡ length firsts
   pub run : IsRun sources drains book (graph_of b) account
 
+-- A cancel crosses a lane from its input: where the connection at a lane's output is cancelled, the node at its input had cancelled.
+abbrev pub CancelsCross : {N : Type 0} → Graph → Account N → Type 0
+CancelsCross g a = (u : ℕ) (v : Edge) (size : ℕ) → slice_get g.wires u ≡ Some v → v.lane ≡ Some size → (a.near u).wire.inp ≡ Cancelled
+    → (a.far u).wire.out ≡ outlet.Cancelled
+
 -- The run was one of so many units at most, and was taken apart. No event is left where it says so, and else all units were used. The
--- seats of its valves and trips were settled.
+-- seats of its valves and trips were settled. No lane was cancelled but by the node at its input.
 -- At least so many were used as elements were pushed and were taken off lanes, and one less at least for each wire than its part of the count over what was
 -- sent.
 pub record RunLeaves {S D : Type 0} (L B : Type 0) (sources : S → SourceState) (drains : D → DrainState) (book : Book) (b : Blueprint) (ss : List S)
@@ -50,6 +58,7 @@ pub record RunLeaves {S D : Type 0} (L B : Type 0) (sources : S → SourceState)
   pub moment : Moment sources drains book b ss ds account nodes
   pub still : IsTrue s.at_rest → IsStill (graph_of b) account
   pub settled : AreSettled (graph_of b) account
+  pub cancels : CancelsCross (graph_of b) account
   pub sinks : s.end.sinks.items ≡ sinks_of nodes
   pub picks : map pick_of s.end.picks.items ≡ picks_of (count_from 0 (length nodes)) nodes
   pub wires : s.wires.items ≡ picture_counts account (graph_of b)

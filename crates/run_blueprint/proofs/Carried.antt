@@ -7,14 +7,15 @@ use Rattle.elem_core.specs.Prefix.{IsPrefix}
 use Rattle.elem_core.proofs.Prefixes.{prefix_refl}
 use Rattle.elem_core.specs.declared.item.Item.{Item}
 use Rattle.stream_model.specs.declared.kind.Kind.{Kind}
-use Rattle.stream_model.specs.declared.kind.Kind.TheVariants.{Lines, ToLines}
+use Rattle.stream_model.specs.declared.kind.Kind.TheVariants.{Lines, ToLines, Head}
+use Rattle.stream_model.specs.declared.outcome.EndState.TheVariants.{Ended}
 use Rattle.stream_model.specs.declared.outcome.WireCount.{WireCount}
 use Rattle.stream_model.specs.Composed.{next, IsRanked}
 use Rattle.stream_model.specs.Graph.{Graph, Edge}
 use Rattle.stream_model.specs.Graph as graph
 use Rattle.stream_model.specs.Linear.{Book}
 use Rattle.stream_model.specs.Node.{World}
-use Rattle.stream_model.specs.Outlook.{Outlook, End, unended}
+use Rattle.stream_model.specs.Outlook.{Outlook, End, unended, Agrees}
 use Rattle.stream_model.proofs.Compositions.{slice_get-below}
 use Rattle.stage_core.specs.Held.{told}
 use Rattle.stream_model.specs.Shape.{sent_at}
@@ -61,6 +62,10 @@ is_lines : (k : Kind) → ((name : List ℕ) × (k ≡ Lines name)) ⊎ ((name :
 is_lines (Lines name) = inl (name, refl)
 is_lines _ = inr (λ name e. cc)
 
+-- a list that was told agrees as it stands
+pub agrees_told : (o : Outlook) (items : List Item) → AgreesWith o items → Agrees o (list_of items) (end_of_items items)
+agrees_told o items a = rw (a.is, list_of_told a.list a.end, standing_told a.list a.end) a.agrees
+
 -- ---- what was sent on each wire is a list, and how it stands
 
 module _ (g : Graph) (rank : ℕ → ℕ) (ranked : IsRanked g rank) (w : World) (items : ℕ → List Item) (from : (i : ℕ) (v : Edge) → slice_get g.wires i ≡ Some v → (n : graph.Node) × (slice_get g.nodes v.from ≡ Some n))
@@ -98,7 +103,9 @@ module _ (book : Book) (b : Blueprint) (stands : List SinkStand) (wires : List W
     → ((u : ℕ) (x : Edge) → slice_get (blueprint_wires b) u ≡ Some x → x.to ≡ v.from → AgreesWith (sent u) (items u)) → AgreesWith (next (graph_of b) w sent j) (items j))
     (stood : (i : ℕ) (v : Edge) (c : WireCount) → slice_get (blueprint_wires b) i ≡ Some v → slice_get wires i ≡ Some c → Stood v c (items i))
     (sinks : (k : ℕ) (s : SinkStand) (i : ℕ) (v : Edge) (c : WireCount) → slice_get stands k ≡ Some s → slice_get (blueprint_wires b) i ≡ Some v → v.to ≡ s.0 → slice_get wires i ≡ Some c
-    → ShutBy s.2 v.lane c.shut × OverBy s.2 v.lane c.shut (end_of_items (items i)))
+    → ShutBy s.2 v.lane c.shut × OverBy s.2 c.shut (end_of_items (items i)))
+    (lanes : (k : ℕ) (s : SinkStand) (n : Node) (i : ℕ) (v : Edge) (c : WireCount) → slice_get stands k ≡ Some s → slice_get b.nodes.items s.0 ≡ Some n → ((file : List ℕ) → n.kind ≢ Head file) → slice_get (blueprint_wires b) i ≡ Some v → v.to ≡ s.0 → slice_get wires i ≡ Some c → s.2 ≡ Ended
+    → c.shut ≡ true)
     (writers : (k : ℕ) (s : SinkStand) (n : Node) (file : List ℕ) (i : ℕ) (v : Edge) (c : WireCount) → slice_get stands k ≡ Some s → slice_get b.nodes.items s.0 ≡ Some n → n.kind ≡ ToLines file
     → slice_get (blueprint_wires b) i ≡ Some v → v.to ≡ s.0 → slice_get wires i ≡ Some c → AskedBy s.2 v.lane s.1 c) where
   abbrev lists : ℕ → List Tree
@@ -124,9 +131,10 @@ module _ (book : Book) (b : Blueprint) (stands : List SinkStand) (wires : List W
         (s.carries.type, (s.carries.settles, subst (λ l. AllTyped s.carries.type l) (sym list) s.typed));
     given = λ w same has j v n at is other.
         let a = gives w same has (λ u. exact (lists u) (ends u)) j v (graph_node n) at (mapped_at graph_node b.nodes.items v.from n is) other (λ u x ux to. agrees_exactly (items u) (told_there u x ux)) in
-        rw (a.is, list_of_told a.list a.end, standing_told a.list a.end) a.agrees;
+        agrees_told (next (graph_of b) w (λ u. exact (lists u) (ends u)) j) (items j) a;
     shut_is = λ i v c at is. (stood i v c at is).over;
     lane_asks = λ i v c s at is. (stood i v c at is).asks s;
     sink_shut = sinks;
+    lane_shut = lanes;
     sink_asked = writers;
   }

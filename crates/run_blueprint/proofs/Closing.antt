@@ -34,7 +34,7 @@ use Rattle.nodes.specs.Sink.{Sink, SinkStandsAs}
 use Rattle.nodes.specs.Ignoring.{Ignorer}
 use Rattle.nodes.specs.declared.node.IslandNode.{IslandNode}
 use Rattle.nodes.specs.declared.node.IslandNode.TheVariants as node
-use Rattle.interpreter.specs.Picks.{pick_of}
+use Rattle.interpreter.specs.Picks.{Pick, pick_of}
 use Rattle.run_laws.specs.Account.{Account, IsStill, took}
 use Rattle.run_laws.specs.Items.{end_of_items, AgreesWith}
 use Rattle.run_laws.specs.Pictures as pictures
@@ -60,9 +60,9 @@ use Rattle.stream_io.specs.Names.{drain_names}
 use Rattle.run_blueprint.specs.Checked.{PassesRules}
 use Rattle.run_blueprint.specs.Plugs.{KeepsPlugTypes}
 use Rattle.run_blueprint.specs.Sent.{SendsItsType}
-use Rattle.run_blueprint.specs.Carrying.{WiresCarry, PictureStands, ShutBy, OverBy, AskedBy, as_passed}
+use Rattle.run_blueprint.specs.Carrying.{WiresCarry, AgreesWithFiles, PictureStands, ShutBy, OverBy, AskedBy, as_passed}
 use Rattle.run_blueprint.specs.Choosing.{picked}
-use Rattle.run_blueprint.proofs.Carried.{IsTold, unread, passes_exactly, told_sent, carries}
+use Rattle.run_blueprint.proofs.Carried.{IsTold, unread, agrees_told, passes_exactly, told_sent, carries}
 use Rattle.run_blueprint.specs.Drawing.{Drawn, IsSource, WasRead, IsWorldOf, DrawsFirst}
 use Rattle.island_runs.specs.Leaving.{Moment, RunLeaves, HasAsMany}
 use Rattle.run_blueprint.specs.Opening.{Opens}
@@ -81,7 +81,7 @@ use Rattle.run_blueprint.proofs.Places.{contains_at, contained_at, mapped_at, un
 use Rattle.run_blueprint.proofs.Profiles.{some_one, stand_in, writer_there, sinks_filtered, StandsAt, Profile, ended_along}
 use Rattle.run_blueprint.proofs.Handles.{IsSinkInto, HandleLaws, fault_kind, writer_kind, SourceFacts, SinkFacts, source_facts, sink_facts, profiles, as_many, stands_are}
 use Rattle.run_blueprint.proofs.Sending.{sink_sent, sink_rests, ignorer_told}
-use Rattle.run_blueprint.proofs.SinkWires.{ended_shut, lane_asked, sink_shut, sink_asked}
+use Rattle.run_blueprint.proofs.SinkWires.{ended_shut, lane_asked, sink_shut, lane_shut, sink_asked}
 use Rattle.run_blueprint.proofs.Shuts.{Shuts}
 use Rattle.run_blueprint.proofs.Traces.{unlisted, lone_of, calm_trace}
 use Rattle.run_blueprint.proofs.Shutting.{TakenApart, unwritten, read_grew, faults_grew, writes_grew, file_held, other_files, other_reads, other_writes, other_draws, refused, tells_old, readers_many, writers_many}
@@ -474,11 +474,20 @@ module _ {S D L B : Type 0} (sources : S → SourceState) (drains : D → DrainS
 
   -- how the wire of a sink stands, by how the sink does
   sink_stood : (i : ℕ) (s : SinkStand) (u : ℕ) (v : Edge) (c : WireCount) → slice_get st.end.sinks.items i ≡ Some s → slice_get (blueprint_wires b) u ≡ Some v → v.to ≡ s.0 → slice_get st.wires.items u ≡ Some c
-      → ShutBy s.2 v.lane c.shut × OverBy s.2 v.lane c.shut (end_of_items (left.near u).wire.sent)
+      → ShutBy s.2 v.lane c.shut × OverBy s.2 c.shut (end_of_items (left.near u).wire.sent)
   sink_stood i s u v c at wire to is =
       let h = sink_here i s at in
       let one : inputs_of h.node.kind ≡ 1 = sink_one h.node.kind h.shape in
-      rw (wire_at u v c wire is) (sink_shut sources drains book g left run u v wire s.0 (graph_node h.node) h.now (mapped_at graph_node nodes s.0 h.node h.at) one to h.now_at s h.stands)
+      rw (wire_at u v c wire is) (sink_shut sources drains book g left run u v wire s.0 (graph_node h.node) h.now (mapped_at graph_node nodes s.0 h.node h.at) one to h.now_at l.cancels s h.stands)
+
+  -- that of one that ended, and takes more than one element
+  ended_stood : (i : ℕ) (s : SinkStand) (n : blue.Node) (u : ℕ) (v : Edge) (c : WireCount) → slice_get st.end.sinks.items i ≡ Some s → slice_get nodes s.0 ≡ Some n → ((file : List ℕ) → n.kind ≢ kind.Head file)
+      → slice_get (blueprint_wires b) u ≡ Some v → v.to ≡ s.0 → slice_get st.wires.items u ≡ Some c → s.2 ≡ Ended → c.shut ≡ true
+  ended_stood i s n u v c at here other wire to is over =
+      let h = sink_here i s at in
+      let same : h.node ≡ n = some_one h.node n (sym h.at ∙ here) in
+      let one : inputs_of n.kind ≡ 1 = subst (λ (x : blue.Node). inputs_of x.kind ≡ 1) same (sink_one h.node.kind h.shape) in
+      rw (wire_at u v c wire is) (lane_shut sources drains book g left run u v wire s.0 (graph_node n) h.now (mapped_at graph_node nodes s.0 n here) one to h.now_at l.cancels s h.stands over other)
 
   writer_stood : (i : ℕ) (s : SinkStand) (n : blue.Node) (file : List ℕ) (u : ℕ) (v : Edge) (c : WireCount) → slice_get st.end.sinks.items i ≡ Some s → slice_get nodes s.0 ≡ Some n → n.kind ≡ kind.ToLines file
       → slice_get (blueprint_wires b) u ≡ Some v → v.to ≡ s.0 → slice_get st.wires.items u ≡ Some c → AskedBy s.2 v.lane s.1 c
@@ -486,7 +495,7 @@ module _ {S D L B : Type 0} (sources : S → SourceState) (drains : D → DrainS
       let found = stand_of i s n file at here (ap output_of shape) in
       let f = found.0 in
       let asked : AskedBy f.now.end v.lane f.now.count (wire_count v.lane (left.near u) (left.asked u)) =
-      sink_asked sources drains book g left run u v wire s.0 (graph_node n) file f.first f.now (mapped_at graph_node nodes s.0 n here) shape to f.there in
+      sink_asked sources drains book g left run u v wire s.0 (graph_node n) file f.first f.now (mapped_at graph_node nodes s.0 n here) shape to f.there l.cancels in
       subst (λ (t : SinkStand). AskedBy t.2 v.lane t.1 c) (sym found.1) (rw (wire_at u v c wire is) asked)
 
   -- it is of its type where the plugs keep to theirs
@@ -498,7 +507,7 @@ module _ {S D L B : Type 0} (sources : S → SourceState) (drains : D → DrainS
       laws.types plugs b.chains.items nodes g (unread book moved) by.0 left run told_moves (laws.fits b plugs taken g fit refl refl refl) keeps by.1 i v at)
       (λ w is has sent j v n at from other came. laws.gives g w left (run_at w is) (picks_told sources drains book handles b can ss ds left last between old mid opens w has) sent j v n at from other came)
       (λ u v c at is. rw (wire_at u v c at is) (record { over = ended_shut sources drains book g left run u v at; asks = lane_asked sources drains book g left run u v at }))
-      sink_stood writer_stood
+      sink_stood ended_stood writer_stood
 
   -- the picture of the run
   abbrev picture : List WireCount
@@ -646,12 +655,21 @@ module _ {S D L B : Type 0} (sources : S → SourceState) (drains : D → DrainS
         let le : sent_at st.wires.items (0 + k) ≤ length (composed g w (0 + k)).list = omega (arith, sent, within) in
         le)
 
+    -- what passed each wire agrees with what may pass it
+    carried_so : (c : WiresCarry book b st.end.sinks.items st.wires.items drawn.picks) × AgreesWithFiles drawn c
+    carried_so = (carried, λ w is i v at. agrees_told (composed g w i) (left.near i).wire.sent (sent_agrees i v at w is))
+
+    carried_told : (c : WiresCarry book b st.end.sinks.items st.wires.items (map pick_of st.end.picks.items)) × AgreesWithFiles drawn c
+    carried_told = subst (λ (ps : List Pick). (c : WiresCarry book b st.end.sinks.items st.wires.items ps) × AgreesWithFiles drawn c) (sym l.picks) carried_so
+
     leaves_files : LeavesFiles book old new b trace st.end.sinks.items (map pick_of st.end.picks.items) st.wires.items st.at_rest
     leaves_files =
         let ranked = laws.ranked b can.plugs can.taken can.fit in
         record {
           drawn = drawn;
           chose = sym l.picks;
+          carries = carried_told.0;
+          passed = carried_told.1;
           fits = λ w is. laws.moves g w ranked.0 left (run_at w is.book_is) settled (world_tells w is) ranked.1;
           read = λ k file is. was_read k file (source_at k file is);
           world = world;

@@ -1,4 +1,5 @@
--- A connection on which an end was sent is closed; and how one stands whose input waits, at any moment.
+-- A connection on which an end was sent is closed, one that is closed without was cancelled; and how one stands whose input waits, at
+-- any moment.
 use Rattle.std.specs.Prelude.{Option, None, Some, if◌then◌else◌}
 use Rattle.std.proofs.Common.{◌≡◌, ◌≢◌, ℕ, ◌+◌, Bool, true, false, not, List, [], ◌∷◌, ◌++◌, refl, sym, ap, subst, ◌∙◌, arith}
 use Rattle.elem_core.specs.Tree.{Tree}
@@ -12,11 +13,12 @@ use Rattle.port_core.specs.Decoding.{is_open}
 use Rattle.port_core.specs.Joint.{Joint, idle, asking, asked, moving, ending, closing, leaving, finished, parted, cancelled, joint_wire, Histories, under_way, IsSound}
 use Rattle.port_core.specs.Marks.{IsMarked}
 use Rattle.port_core.specs.Wire.{JointPorts, end_item}
-use Rattle.port_core.specs.declared.view.InView.TheVariants.{Pulled}
+use Rattle.port_core.specs.declared.view.InView.TheVariants.{Pulled, Finished, Cancelled}
+use Rattle.port_core.specs.declared.view.OutView.TheVariants as outlet
 use Rattle.port_core.proofs.Marking.{cell}
 use Rattle.stage_core.specs.Held.{told}
 use Rattle.stage_core.specs.Law.{TookAs}
-use Rattle.stream_model.specs.Outlook.{End, unended}
+use Rattle.stream_model.specs.Outlook.{End, unended, ended, failed}
 use Rattle.run_laws.specs.Items.{end_of_items}
 use Rattle.run_laws.proofs.Coming.{elements_append}
 use Rattle.run_laws.proofs.Histories.{standing_told}
@@ -51,8 +53,6 @@ pub end_shuts : (w : JointPorts) (q : Bool) → IsSound w q → (l : List Tree) 
 end_shuts w q h l e is seen over =
     subst (λ (v : JointPorts). not (is_open v.conn) ≡ true) (sym h.is) (ends_j h.joint w.sent w.got l e h.histories is (subst (λ (v : JointPorts). TookAs v.inp e) h.is seen) over)
 
--- ---- its input waits
-
 ends_behind : (t : ConnStep) (c : Option Cause) → end_of_items (under_way t ++ end_item c ∷ []) ≡ unended → ⊥
 ends_behind quiet None e = cc
 ends_behind quiet (Some c) e = cc
@@ -68,23 +68,50 @@ closing_ends t c s g l e h is goes none =
     let all : s ≡ told l unended ++ (under_way t ++ end_item c ∷ []) = h ∙ ap (λ (y : List Item). y ++ (under_way t ++ end_item c ∷ [])) (is ∙ ap (told l) goes) in
     ends_behind t c (sym (told_on l (under_way t ++ end_item c ∷ [])) ∙ sym (ap end_of_items all) ∙ none)
 
-over_j : (j : Joint) (s g : List Item) (l : List Tree) (e : End) → Histories j s g → g ≡ told l e → e ≡ unended → (joint_wire j s g).inp ≡ Pulled → not (is_open (joint_wire j s g).conn) ≡ true → end_of_items s ≡ unended → ⊥
-over_j idle s g l e h is goes p shut none = cc
-over_j asking s g l e h is goes p shut none = cc
-over_j asked s g l e h is goes p shut none = cc
-over_j (moving x) s g l e h is goes p shut none = cc
-over_j (ending c) s g l e h is goes p shut none = cc
-over_j (closing t c) s g l e h is goes p shut none = closing_ends t c s g l e h is goes none
-over_j (leaving true t) s g l e h is goes p shut none = cc
-over_j (leaving false t) s g l e h is goes p shut none = cc
-over_j (finished t c) s g l e h is goes p shut none = cc
-over_j (parted t c) s g l e h is goes p shut none = cc
-over_j (cancelled t c) s g l e h is goes p shut none = cc
+-- ---- one that is closed and on which no end was sent
 
--- where it is closed then, its end was sent
-pub waits_over : (w : JointPorts) (q : Bool) → IsSound w q → (l : List Tree) (e : End) → w.got ≡ told l e → e ≡ unended → w.inp ≡ Pulled → not (is_open w.conn) ≡ true → end_of_items w.sent ≡ unended → ⊥
-waits_over w q h l e is goes p shut none =
-    over_j h.joint w.sent w.got l e h.histories is goes (sym (ap (λ (v : JointPorts). v.inp) h.is) ∙ p) (subst (λ (v : JointPorts). not (is_open v.conn) ≡ true) h.is shut) none
+finished_ends : (s g : List Item) (l : List Tree) (e : End) → s ≡ g → g ≡ told l e → TookAs Finished e → end_of_items s ≡ unended → ⊥
+finished_ends s g l unended h is seen none = seen
+finished_ends s g l ended h is seen none = let same : ended ≡ unended = sym (standing_told l ended) ∙ ap end_of_items (sym is ∙ sym h) ∙ none in cc
+finished_ends s g l (failed c) h is seen none = let same : failed c ≡ unended = sym (standing_told l (failed c)) ∙ ap end_of_items (sym is ∙ sym h) ∙ none in cc
+
+left_j : (j : Joint) (s g : List Item) (l : List Tree) (e : End) → Histories j s g → g ≡ told l e → TookAs (joint_wire j s g).inp e → not (is_open (joint_wire j s g).conn) ≡ true → end_of_items s ≡ unended → (joint_wire j s g).inp ≡ Cancelled
+left_j idle s g l e h is seen shut none = cc
+left_j asking s g l e h is seen shut none = cc
+left_j asked s g l e h is seen shut none = cc
+left_j (moving x) s g l e h is seen shut none = cc
+left_j (ending c) s g l e h is seen shut none = absurd (closing_ends quiet c s g l e h is seen none)
+left_j (closing t c) s g l e h is seen shut none = absurd (closing_ends t c s g l e h is seen none)
+left_j (leaving true t) s g l e h is seen shut none = refl
+left_j (leaving false t) s g l e h is seen shut none = refl
+left_j (finished t c) s g l e h is seen shut none = absurd (finished_ends s g l e h is seen none)
+left_j (parted t c) s g l e h is seen shut none = refl
+left_j (cancelled t c) s g l e h is seen shut none = refl
+
+-- its input cancelled it
+pub shut_left : (w : JointPorts) (q : Bool) → IsSound w q → (l : List Tree) (e : End) → w.got ≡ told l e → TookAs w.inp e → not (is_open w.conn) ≡ true → end_of_items w.sent ≡ unended → w.inp ≡ Cancelled
+shut_left w q h l e is seen shut none =
+    let inp : w.inp ≡ (joint_wire h.joint w.sent w.got).inp = ap (λ (v : JointPorts). v.inp) h.is in
+    inp ∙ left_j h.joint w.sent w.got l e h.histories is (subst (λ (v : JointPorts). TookAs v.inp e) h.is seen) (subst (λ (v : JointPorts). not (is_open v.conn) ≡ true) h.is shut) none
+
+-- one whose output knows of a cancel was cancelled by its input
+out_left_j : (j : Joint) (s g : List Item) → (joint_wire j s g).out ≡ outlet.Cancelled → (joint_wire j s g).inp ≡ Cancelled
+out_left_j idle s g e = cc
+out_left_j asking s g e = cc
+out_left_j asked s g e = cc
+out_left_j (moving x) s g e = cc
+out_left_j (ending c) s g e = cc
+out_left_j (closing t c) s g e = cc
+out_left_j (leaving true t) s g e = cc
+out_left_j (leaving false t) s g e = cc
+out_left_j (finished t c) s g e = cc
+out_left_j (parted t c) s g e = cc
+out_left_j (cancelled t c) s g e = refl
+
+pub out_left : (w : JointPorts) (q : Bool) → IsSound w q → w.out ≡ outlet.Cancelled → w.inp ≡ Cancelled
+out_left w q h e = ap (λ (v : JointPorts). v.inp) h.is ∙ out_left_j h.joint w.sent w.got (sym (ap (λ (v : JointPorts). v.out) h.is) ∙ e)
+
+-- ---- its input waits
 
 marks_j : (j : Joint) (s g : List Item) (b : Bool) → Histories j s g → IsMarked (cell (joint_wire j s g) b) → (joint_wire j s g).inp ≡ Pulled → not (is_open (joint_wire j s g).conn) ≡ false
     → elements s ≡ (if b then elements g else elements g + 1)

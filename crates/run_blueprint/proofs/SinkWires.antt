@@ -1,6 +1,6 @@
 -- How the wires of a run stand at any moment: of those on which an end was sent, of lanes, and of the wire of a sink by how it stands.
 use Rattle.std.specs.Prelude.{slice_get, slice_index_or, if◌then◌else◌}
-use Rattle.std.proofs.Common.{◌≡◌, ℕ, zero, suc, ◌+◌, ◌≤◌, Bool, true, false, not, List, [], ◌∷◌, length, Option, None, Some, refl, sym, ap, ◌∙◌, subst, arith}
+use Rattle.std.proofs.Common.{◌≡◌, ◌≢◌, ℕ, zero, suc, ◌+◌, ◌≤◌, Bool, true, false, not, List, [], ◌∷◌, length, Option, None, Some, refl, sym, ap, ◌∙◌, subst, arith}
 use Rattle.elem_core.specs.Tree.{Tree}
 use Rattle.elem_core.specs.Items.{elements}
 use Rattle.elem_core.specs.declared.item.Item.{Item}
@@ -13,10 +13,12 @@ use Rattle.port_core.specs.View.{View}
 use Rattle.port_core.specs.declared.view.InView.{InView}
 use Rattle.port_core.specs.declared.view.InView.TheVariants.{Idle, Pulled, Finished, Cancelled}
 use Rattle.port_core.specs.declared.view.OutView.{OutView}
+use Rattle.port_core.specs.declared.view.OutView.TheVariants as outlet
 use Rattle.stage_core.specs.Held.{told}
 use Rattle.stage_core.specs.Law.{TookAs}
 use Rattle.stage_core.specs.Row.{InClosed}
 use Rattle.stream_io.specs.State.{SourceState, DrainState}
+use Rattle.stream_model.specs.declared.kind.Kind.{Kind}
 use Rattle.stream_model.specs.declared.kind.Kind.TheVariants as kind
 use Rattle.stream_model.specs.declared.outcome.EndState.{EndState}
 use Rattle.stream_model.specs.declared.outcome.EndState.TheVariants.{Ended, Failed, Unended, WriteFault}
@@ -24,7 +26,7 @@ use Rattle.stream_model.specs.Composed.{inputs_of}
 use Rattle.stream_model.specs.Graph.{Graph, Edge, find_wire}
 use Rattle.stream_model.specs.Graph as graph
 use Rattle.stream_model.specs.Linear.{Book}
-use Rattle.stream_model.specs.Outlook.{End, unended}
+use Rattle.stream_model.specs.Outlook.{End, unended, ended}
 use Rattle.stream_model.proofs.Compositions.{slice_get-below}
 use Rattle.nodes.specs.declared.node.IslandNode.{IslandNode}
 use Rattle.nodes.specs.declared.node.IslandNode.TheVariants as node
@@ -38,10 +40,11 @@ use Rattle.nodes.specs.Sink.{Sink, sink_port_state_in, SinkStandsAs, WritesOf, W
 use Rattle.run_laws.specs.Account.{Account, knows, took, gave, WireKeeps, NodeKeeps}
 use Rattle.run_laws.specs.Items.{end_of_items}
 use Rattle.run_laws.specs.KindLaws.{IsHistoryOf}
-use Rattle.run_laws.specs.Made.{FirstWriting}
+use Rattle.run_laws.specs.Made.{FirstOf, FirstWriting}
 use Rattle.run_laws.specs.Ports.{wire_count}
 use Rattle.run_laws.specs.Runs.{IsRun}
 use Rattle.run_laws.specs.Sinks.{IsSinkAt}
+use Rattle.island_runs.specs.Leaving.{CancelsCross}
 use Rattle.run_laws.proofs.Coming.{elements_told}
 use Rattle.run_laws.proofs.Drawing.{in_there}
 use Rattle.run_laws.proofs.Hearing.{node_hears}
@@ -50,7 +53,7 @@ use Rattle.run_laws.proofs.Nodes.{kept_as, one_input, read_one}
 use Rattle.run_laws.proofs.Resting.{in_shut}
 use Rattle.run_blueprint.specs.Carrying.{ShutBy, OverBy, AskedBy}
 use Rattle.run_blueprint.specs.Stands.{SinkStand}
-use Rattle.run_blueprint.proofs.EndShuts.{end_shuts, waits_over, waits_marked}
+use Rattle.run_blueprint.proofs.EndShuts.{end_shuts, shut_left, out_left, waits_marked}
 use Rattle.run_blueprint.proofs.Profiles.{some_one, stand_in}
 
 -- ---- what a sink knows of its input, by how it stands
@@ -100,16 +103,74 @@ some_index [] p x y e = cc
 some_index (i ∷ l) zero x y e = cc
 some_index (i ∷ l) (suc p) x y e = some_index l p x y e
 
-goes_unended : (i : InView) (e : End) → i ≡ Pulled → TookAs i e → e ≡ unended
-goes_unended Pulled e is seen = seen
-goes_unended Idle e is seen = cc
-goes_unended Finished e is seen = cc
-goes_unended Cancelled e is seen = cc
+goes_on_there : (i : InView) → i ≡ Pulled → i ≡ Cancelled → ⊥
+goes_on_there i waits left = let same : Pulled ≡ Cancelled = sym waits ∙ left in cc
+
+-- an end came where one is known
+over_known : (i : InView) (e : End) → TookAs i e → e ≡ ended → i ≡ Finished
+over_known Idle e seen is = let none : unended ≡ ended = sym seen ∙ is in cc
+over_known Pulled e seen is = let none : unended ≡ ended = sym seen ∙ is in cc
+over_known Finished e seen is = refl
+over_known Cancelled e seen is = let none : unended ≡ ended = sym seen ∙ is in cc
 
 heads_same : (x y : List Item) → x ∷ [] ≡ y ∷ [] → x ≡ y
 heads_same x y e = cc
 
+-- ---- a sink that ended, and takes more than one element, saw the end of its input
+
+-- a sink of another kind than head does not write the first element alone
+not_first : (k : Kind) → ((file : List ℕ) → k ≢ kind.Head file) → writes_of k ≡ First → ⊥
+not_first (kind.Head file) other is = other file refl
+not_first (kind.ToLines file) other is = cc
+not_first (kind.Last file) other is = cc
+not_first _ other is = cc
+
+end_of : (m : Writes) (n : ℕ) (kept : Option Tree) (l : List Tree) (e : End) (wrote : List Tree) → (m ≡ First → ⊥) → WritesOf m n kept Ended l e wrote → e ≡ ended
+end_of Each n kept l e wrote other w = w.1
+end_of First n kept l e wrote other w = absurd (other refl)
+end_of Last n kept l e wrote other w = w.1.1.1
+
+first_of : (l : List InView) (i : InView) → l ≡ i ∷ [] → slice_index_or l 0 Cancelled ≡ i
+first_of l i is = ap (λ (x : List InView). slice_index_or x 0 Cancelled) is
+
+-- by its law
+law_ends : {D : Type 0} (drains : D → DrainState) (first now : Sink D) (v : View) (took gave : List (List Item)) → SinkLaw drains first now v took gave → (first.writes ≡ First → ⊥) → now.end ≡ Ended → (i : InView) → v.ins ≡ i ∷ [] → i ≡ Finished
+law_ends drains first now v took gave law other over i ins =
+    let wrote : WritesOf now.writes now.node now.kept Ended law.elems law.in_end law.wrote = subst (λ (e : EndState). WritesOf now.writes now.node now.kept e law.elems law.in_end law.wrote) over law.writes in
+    let end : law.in_end ≡ ended = end_of now.writes now.node now.kept law.elems law.in_end law.wrote (λ is. other (sym law.writes_same ∙ is)) wrote in
+    over_known i law.in_end (subst (λ (x : InView). TookAs x law.in_end) (first_of v.ins i ins) law.took_as) end
+
+ignorer_ends : (b : Bool) (e : EndState) (i : InView) (outs : List OutView) → e ≡ Ended → OneInOf (ignore_port_state_in b e) (i ∷ []) outs → i ≡ Finished
+ignorer_ends true Ended Finished [] is r = refl
+ignorer_ends true Unended Pulled [] is r = cc
+ignorer_ends true (Failed c) Finished [] is r = refl
+ignorer_ends _ e i [] is r = absurd r
+ignorer_ends _ e i (y ∷ outs) is r = absurd r
+
+ended_sees : {S D L B : Type 0} (sources : S → SourceState) (drains : D → DrainState) (book : Book) (chains : List graph.Chain) (k : ℕ) (n : graph.Node) (first now : IslandNode S D L B) (s : SinkStand) (v : View) (took gave : List (List Item)) (i : InView)
+    → stand_in now ≡ Some s → s.2 ≡ Ended → ((file : List ℕ) → n.kind ≢ kind.Head file) → FirstOf sources chains k n first → node_law sources drains book first now v took gave → node_port_state now v → v.ins ≡ i ∷ [] → i ≡ Finished
+ended_sees sources drains book chains k n (node.Writing f) (node.Writing x) s v took gave i is over other made law r ins =
+    let end : x.end ≡ Ended = ap (λ (t : SinkStand). t.2) (some_one (x.node, x.count, x.end) s is) ∙ over in
+    law_ends drains f x v took gave law (λ first. not_first n.kind other (sym made.writes ∙ first)) end i ins
+ended_sees sources drains book chains k n (node.Ignoring f) (node.Ignoring x) s v took gave i is over other made law r ins =
+    let end : x.end ≡ Ended = ap (λ (t : SinkStand). t.2) (some_one (x.node, 0, x.end) s is) ∙ over in
+    ignorer_ends x.started x.end i v.outs end (subst (λ (l : List InView). OneInOf (ignore_port_state_in x.started x.end) l v.outs) ins r)
+ended_sees sources drains book chains k n first (node.Reading x) s v took gave i is over other made law r ins = absurd cc
+ended_sees sources drains book chains k n first (node.Making x) s v took gave i is over other made law r ins = absurd cc
+ended_sees sources drains book chains k n first (node.Linear x) s v took gave i is over other made law r ins = absurd cc
+ended_sees sources drains book chains k n first (node.State x) s v took gave i is over other made law r ins = absurd cc
+ended_sees sources drains book chains k n first (node.Sub x) s v took gave i is over other made law r ins = absurd cc
+ended_sees sources drains book chains k n first (node.FanIn x) s v took gave i is over other made law r ins = absurd cc
+ended_sees sources drains book chains k n first (node.FanOut x) s v took gave i is over other made law r ins = absurd cc
+ended_sees sources drains book chains k n first (node.Entering x) s v took gave i is over other made law r ins = absurd cc
+ended_sees sources drains book chains k n first (node.Leaving x) s v took gave i is over other made law r ins = absurd cc
+ended_sees sources drains book chains k n _ now s v took gave i is over other made law r ins = absurd law
+
 -- ---- the wire, by the connections at its ends
+
+-- a cancel crosses a lane from its input
+abbrev Crosses : Option ℕ → WireState → WireState → Type 0
+Crosses lane near far = (s : ℕ) → lane ≡ Some s → near.wire.inp ≡ Cancelled → far.wire.out ≡ outlet.Cancelled
 
 module _ (near far : WireState) (asked : ℕ) (p q : Bool) (sn : IsSound near.wire p) (sf : IsSound far.wire q) where
   shut_by : (e : EndState) (lane : Option ℕ) → WireKeeps lane near far asked → Sees e far.wire.inp → ShutBy e lane (not (is_open near.wire.conn))
@@ -121,14 +182,21 @@ module _ (near far : WireState) (asked : ℕ) (p q : Bool) (sn : IsSound near.wi
   shut_by WriteFault None k h = rw (sym k) (in_shut far.wire q sf h)
   shut_by WriteFault (Some s) k h = tt
 
-  over_by : (e : EndState) (lane : Option ℕ) → WireKeeps lane near far asked → (l : List Tree) (f : End) → near.wire.got ≡ told l f → TookAs near.wire.inp f → Sees e far.wire.inp → OverBy e lane (not (is_open near.wire.conn)) (end_of_items near.wire.sent)
-  over_by Unended None k l f is seen h = λ shut none.
-      let waits : near.wire.inp ≡ Pulled = subst (λ (c : WireState). c.wire.inp ≡ Pulled) k h in
-      waits_over near.wire p sn l f is (goes_unended near.wire.inp f waits seen) waits shut none
-  over_by Unended (Some s) k l f is seen h = tt
-  over_by Ended lane k l f is seen h = tt
-  over_by (Failed c) lane k l f is seen h = tt
-  over_by WriteFault lane k l f is seen h = tt
+  -- where a cancel crosses it from its input, one that was cancelled was so by its node there
+  left_by : (lane : Option ℕ) → WireKeeps lane near far asked → Crosses lane near far → near.wire.inp ≡ Cancelled → far.wire.inp ≡ Cancelled
+  left_by None k crosses left = subst (λ (c : WireState). c.wire.inp ≡ Cancelled) (sym k) left
+  left_by (Some s) k crosses left = out_left far.wire q sf (crosses s refl left)
+
+  over_by : (e : EndState) (lane : Option ℕ) → WireKeeps lane near far asked → Crosses lane near far → (l : List Tree) (f : End) → near.wire.got ≡ told l f → TookAs near.wire.inp f → Sees e far.wire.inp → OverBy e (not (is_open near.wire.conn)) (end_of_items near.wire.sent)
+  over_by Unended lane k crosses l f is seen h = λ shut none. goes_on_there far.wire.inp h (left_by lane k crosses (shut_left near.wire p sn l f is seen shut none))
+  over_by Ended lane k crosses l f is seen h = tt
+  over_by (Failed c) lane k crosses l f is seen h = tt
+  over_by WriteFault lane k crosses l f is seen h = tt
+
+  -- one whose end came at its input
+  over_there : (lane : Option ℕ) → WireKeeps lane near far asked → far.wire.inp ≡ Finished → not (is_open near.wire.conn) ≡ true
+  over_there None k h = rw (sym k) (in_shut far.wire q sf (subst InClosed (sym h) tt))
+  over_there (Some s) k h = lane_over s near far k.out k.inp k.out_keeps k.in_keeps k.met p q sn sf h
 
   asked_by : (e : EndState) (lane : Option ℕ) (count : ℕ) → WireKeeps lane near far asked → IsMarked near → Sees e far.wire.inp → (e ≡ Unended → elements far.wire.got ≡ count) → AskedBy e lane count (wire_count lane near asked)
   asked_by Unended None count k m h wrote = λ none.
@@ -198,7 +266,7 @@ module _ {S D L B : Type 0} (sources : S → SourceState) (drains : D → DrainS
   lane_asked s is unasked = asks_by (a.near u) (a.far u) (a.asked u) near_sound.0 far_sound.0 near_sound.1 far_sound.1 v.lane s keeps is unasked
 
   -- the wire of a sink
-  module _ (k : ℕ) (n : graph.Node) (now : IslandNode S D L B) (ni : slice_get g.nodes k ≡ Some n) (one : inputs_of n.kind ≡ 1) (to : v.to ≡ k) (here : a.nodes k ≡ Some now) where
+  module _ (k : ℕ) (n : graph.Node) (now : IslandNode S D L B) (ni : slice_get g.nodes k ≡ Some n) (one : inputs_of n.kind ≡ 1) (to : v.to ≡ k) (here : a.nodes k ≡ Some now) (cancels : CancelsCross g a) where
     found : find_wire k 0 g.wires ≡ Some u
     found = one_input g run.joined k n u v ni one at to
 
@@ -209,15 +277,25 @@ module _ {S D L B : Type 0} (sources : S → SourceState) (drains : D → DrainS
         let row : node_port_state now (knows g a k n) = subst (λ (x : IslandNode S D L B). node_port_state x (knows g a k n)) same kept.port_state_holds in
         sink_sees now s (knows g a k n) (a.far u).wire.inp is row (read_one g inp_of a.far k (inputs_of n.kind) u one found)
 
-    pub sink_shut : (s : SinkStand) → stand_in now ≡ Some s → ShutBy s.2 v.lane (wire_count v.lane (a.near u) (a.asked u)).shut × OverBy s.2 v.lane (wire_count v.lane (a.near u) (a.asked u)).shut (end_of_items (a.near u).wire.sent)
+    pub sink_shut : (s : SinkStand) → stand_in now ≡ Some s → ShutBy s.2 v.lane (wire_count v.lane (a.near u) (a.asked u)).shut × OverBy s.2 (wire_count v.lane (a.near u) (a.asked u)).shut (end_of_items (a.near u).wire.sent)
     sink_shut s is =
         let c = came_near in (
           shut_by (a.near u) (a.far u) (a.asked u) near_sound.0 far_sound.0 near_sound.1 far_sound.1 s.2 v.lane keeps (sees s is),
-          over_by (a.near u) (a.far u) (a.asked u) near_sound.0 far_sound.0 near_sound.1 far_sound.1 s.2 v.lane keeps c.0 c.1 c.2 c.3 (sees s is),
+          over_by (a.near u) (a.far u) (a.asked u) near_sound.0 far_sound.0 near_sound.1 far_sound.1 s.2 v.lane keeps (λ size lane. cancels u v size at lane) c.0 c.1 c.2 c.3 (sees s is),
         )
 
+    -- one that ended, and takes more than one element
+    pub lane_shut : (s : SinkStand) → stand_in now ≡ Some s → s.2 ≡ Ended → ((file : List ℕ) → n.kind ≢ kind.Head file) → (wire_count v.lane (a.near u) (a.asked u)).shut ≡ true
+    lane_shut s is over other =
+        let kept = run.keeps.each_node k n ni in
+        let same : kept.now ≡ now = some_one kept.now now (sym kept.now_at ∙ here) in
+        let row : node_port_state now (knows g a k n) = subst (λ (x : IslandNode S D L B). node_port_state x (knows g a k n)) same kept.port_state_holds in
+        let law : node_law sources drains book kept.first now (knows g a k n) (took g a k n) (gave g a k n) = subst (λ (x : IslandNode S D L B). node_law sources drains book kept.first x (knows g a k n) (took g a k n) (gave g a k n)) same kept.law_holds in
+        let finished : (a.far u).wire.inp ≡ Finished = ended_sees sources drains book g.chains k n kept.first now s (knows g a k n) (took g a k n) (gave g a k n) (a.far u).wire.inp is over other (run.made k n kept.first ni kept.first_at) law row (read_one g inp_of a.far k (inputs_of n.kind) u one found) in
+        over_there (a.near u) (a.far u) (a.asked u) near_sound.0 far_sound.0 near_sound.1 far_sound.1 v.lane keeps finished
+
   -- of a sink of lines
-  module _ (k : ℕ) (n : graph.Node) (file : List ℕ) (first now : Sink D) (ni : slice_get g.nodes k ≡ Some n) (shape : n.kind ≡ kind.ToLines file) (to : v.to ≡ k) (there : IsSinkAt a k first now) where
+  module _ (k : ℕ) (n : graph.Node) (file : List ℕ) (first now : Sink D) (ni : slice_get g.nodes k ≡ Some n) (shape : n.kind ≡ kind.ToLines file) (to : v.to ≡ k) (there : IsSinkAt a k first now) (cancels : CancelsCross g a) where
     wrote_all : now.end ≡ Unended → elements (a.far u).wire.got ≡ now.count
     wrote_all goes =
         let kept = kept_as node_port_state (node_law sources drains book) node_asking node_moves g a run.keeps k n (node.Writing first) (node.Writing now) ni there.at_first there.at_last in
@@ -232,5 +310,5 @@ module _ {S D L B : Type 0} (sources : S → SourceState) (drains : D → DrainS
 
     pub sink_asked : AskedBy now.end v.lane now.count (wire_count v.lane (a.near u) (a.asked u))
     sink_asked =
-        let view = sees k n (node.Writing now) ni (ap inputs_of shape) to there.at_last (now.node, now.count, now.end) refl in
+        let view = sees k n (node.Writing now) ni (ap inputs_of shape) to there.at_last cancels (now.node, now.count, now.end) refl in
         asked_by (a.near u) (a.far u) (a.asked u) near_sound.0 far_sound.0 near_sound.1 far_sound.1 now.end v.lane now.count keeps (run.keeps.near_marked u (slice_get-below g.wires u v at)) view wrote_all

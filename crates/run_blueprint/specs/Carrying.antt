@@ -2,11 +2,11 @@
 use Rattle.std.specs.Prelude.{◌≡◌, ◌≢◌, ℕ, ◌+◌, ◌≤◌, Bool, true, false, if◌then◌else◌, IsTrue, List, length, slice_get, Option, None, Some, ⊤}
 use Rattle.elem_core.specs.Sort.{Sort}
 use Rattle.elem_core.specs.Tree.{Tree}
-use Rattle.stream_model.specs.declared.kind.Kind.TheVariants.{Lines, ToLines}
+use Rattle.stream_model.specs.declared.kind.Kind.TheVariants.{Lines, ToLines, Head}
 use Rattle.stream_model.specs.declared.outcome.WireCount.{WireCount}
 use Rattle.stream_model.specs.declared.outcome.EndState.{EndState}
 use Rattle.stream_model.specs.declared.outcome.EndState.TheVariants.{Ended, Failed, Unended, WriteFault}
-use Rattle.stream_model.specs.Composed.{next}
+use Rattle.stream_model.specs.Composed.{next, composed}
 use Rattle.stream_model.specs.Graph.{Edge}
 use Rattle.stream_model.specs.Node.{World}
 use Rattle.stream_model.specs.Lawful.{IsLawful}
@@ -25,6 +25,7 @@ use Rattle.run_blueprint.specs.Stands.{SinkStand, has_ended_at}
 use Rattle.run_blueprint.specs.Types.{AllTyped}
 use Rattle.interpreter.specs.Picks.{Pick}
 use Rattle.run_blueprint.specs.Choosing.{HasPicks}
+use Rattle.run_blueprint.specs.Drawing.{Drawn, IsWorldOf}
 use Rattle.stream_model.specs.Linear.{Book}
 use Rattle.run_blueprint.specs.Plugs.{KeepsPlugTypes}
 
@@ -33,7 +34,7 @@ abbrev pub settled_type : Blueprint → List PlugHead → Edge → Option Sort
 settled_type b plugs v = wire_type plugs b.chains.items b.nodes.items (graph_of b) v
 
 -- The wire of a sink is shut where the sink has ended or a write of it failed, but for a lane, through which the sink's cancel may be
--- on its way; and where the sink failed, also a lane.
+-- on its way; and where the sink failed, also a lane (`lane_shut` of `WiresCarry` says more of a lane).
 abbrev pub ShutBy : EndState → Option ℕ → Bool → Type 0
 ShutBy Unended lane shut = ⊤
 ShutBy Ended None shut = shut ≡ true
@@ -42,13 +43,12 @@ ShutBy (Failed c) lane shut = shut ≡ true
 ShutBy WriteFault None shut = shut ≡ true
 ShutBy WriteFault (Some s) shut = ⊤
 
--- where the wire of a sink that goes on is shut, and is no lane, its end was sent
-abbrev pub OverBy : EndState → Option ℕ → Bool → End → Type 0
-OverBy Unended None shut e = shut ≡ true → e ≢ unended
-OverBy Unended (Some s) shut e = ⊤
-OverBy Ended lane shut e = ⊤
-OverBy (Failed c) lane shut e = ⊤
-OverBy WriteFault lane shut e = ⊤
+-- where the wire of a sink that goes on is shut, its end was sent
+abbrev pub OverBy : EndState → Bool → End → Type 0
+OverBy Unended shut e = shut ≡ true → e ≢ unended
+OverBy Ended shut e = ⊤
+OverBy (Failed c) shut e = ⊤
+OverBy WriteFault shut e = ⊤
 
 -- On the wire of a sink that goes on and wrote `count` lines, where it is open and no lane, an element is asked for exactly where all
 -- that was sent was written; else one is on its way.
@@ -63,7 +63,8 @@ AskedBy WriteFault lane count c = ⊤
 -- check settles for the wire (`typed`). What a node gave that is no source of lines agrees with what it gives of the lists that
 -- passed on its inputs, by every world that has what the stages chose (`given`). A wire on which an end was sent is shut (`shut_is`);
 -- a lane is not asked only where as many elements were sent as it has places (`lane_asks`); and the wire of a sink stands by how the
--- sink does (`sink_shut`, `sink_asked`).
+-- sink does (`sink_shut`, `sink_asked`): also a lane is shut where its sink has ended, unless that takes one element alone and so may
+-- have cancelled it (`lane_shut`). What a source of lines gave, `AgreesWithFiles` says.
 pub record WiresCarry (book : Book) (b : Blueprint) (stands : List SinkStand) (wires : List WireCount) (picks : List Pick) : Type 0 where
   pub lists : ℕ → List Tree
   pub ends : ℕ → End
@@ -79,7 +80,10 @@ pub record WiresCarry (book : Book) (b : Blueprint) (stands : List SinkStand) (w
       → c.asked ≡ false → s ≤ c.sent
   pub sink_shut : (k : ℕ) (s : SinkStand) (i : ℕ) (v : Edge) (c : WireCount) → slice_get stands k ≡ Some s → slice_get (blueprint_wires b) i ≡ Some v
       → v.to ≡ s.0 → slice_get wires i ≡ Some c
-      → ShutBy s.2 v.lane c.shut × OverBy s.2 v.lane c.shut (ends i)
+      → ShutBy s.2 v.lane c.shut × OverBy s.2 c.shut (ends i)
+  pub lane_shut : (k : ℕ) (s : SinkStand) (n : Node) (i : ℕ) (v : Edge) (c : WireCount) → slice_get stands k ≡ Some s → slice_get b.nodes.items s.0 ≡ Some n
+      → ((file : List ℕ) → n.kind ≢ Head file) → slice_get (blueprint_wires b) i ≡ Some v → v.to ≡ s.0 → slice_get wires i ≡ Some c → s.2 ≡ Ended
+      → c.shut ≡ true
   pub sink_asked : (k : ℕ) (s : SinkStand) (n : Node) (file : List ℕ) (i : ℕ) (v : Edge) (c : WireCount) → slice_get stands k ≡ Some s
       → slice_get b.nodes.items s.0 ≡ Some n → n.kind ≡ ToLines file
       → slice_get (blueprint_wires b) i ≡ Some v → v.to ≡ s.0 → slice_get wires i ≡ Some c → AskedBy s.2 v.lane s.1 c
@@ -88,6 +92,14 @@ pub record WiresCarry (book : Book) (b : Blueprint) (stands : List SinkStand) (w
 abbrev pub as_passed : {book : Book} → {b : Blueprint} → {stands : List SinkStand} → {wires : List WireCount} → {picks : List Pick}
     → WiresCarry book b stands wires picks → ℕ → Outlook
 as_passed c u = exact (c.lists u) (c.ends u)
+
+-- What passed each wire, also that of a source of lines, agrees with the wire's composed outlook, by every world that has the input
+-- files as they were read and what the stages chose. So a source of lines sent an end only behind all lines of its file, or a failure
+-- for which the file or a failed read gives the cause.
+abbrev pub AgreesWithFiles : {book : Book} → {b : Blueprint} → {stands : List SinkStand} → {wires : List WireCount} → {picks : List Pick} → Drawn
+    → WiresCarry book b stands wires picks → Type 0
+AgreesWithFiles {book} {b} d c = (w : World) → IsWorldOf book b.nodes.items d w → (i : ℕ) (v : Edge) → slice_get (blueprint_wires b) i ≡ Some v
+    → Agrees (composed (graph_of b) w i) (c.lists i) (c.ends i)
 
 -- The picture of a run by what passed its wires, whatever the folder tells of its files. By every world that has the plugs of the run
 -- and what its stages chose it is lawful, and where no event was left it rests; then a sink's input is shut exactly where the sink has

@@ -27,7 +27,7 @@ use Rattle.materializer.specs.Files.{output_of, inputs_of_nodes, outputs_of_node
 use Rattle.stream_io.specs.Quiet.{Quiet}
 use Rattle.stream_io.specs.Opening.{GivesUp}
 use Rattle.interpreter.specs.Picks.{Pick, pick_of}
-use Rattle.run_blueprint.specs.Carrying.{PictureStands}
+use Rattle.run_blueprint.specs.Carrying.{WiresCarry, AgreesWithFiles, PictureStands}
 use Rattle.run_blueprint.specs.Choosing.{pick_places, picked}
 use Rattle.run_blueprint.specs.Drawing.{Drawn, IsSource, WasRead, WereRead, IsWorldOf, DrawsFirst}
 use Rattle.run_blueprint.specs.Sending.{SentOn}
@@ -61,7 +61,8 @@ pub record IgnoreLeaves (book : Book) (b : Blueprint) (d : Drawn) (wires : List 
 
 -- The inputs were read, and each sink wrote what its outlook lets it write. No other file but that of the trace is changed, where the
 -- folder still tells its files. The lines that were
--- drawn are the first of each input, and little more than those was read. The picture is lawful; and where no event was left it
+-- drawn are the first of each input, and little more than those was read. Each wire stands by what was sent on it and by how its sink
+-- stands, and what was sent agrees with its composed outlook. The picture is lawful; and where no event was left it
 -- rests, and a sink's input is shut exactly where the sink has ended; in a polytree every sink has ended then. The stages chose
 -- these moves, which fit what may come in on their inputs. There is a world that has the input files as they were read, and these
 -- moves.
@@ -82,6 +83,8 @@ pub record LeavesFiles (book : Book) (old new : FolderState) (b : Blueprint) (tr
   pub draws : (k : ℕ) (file : List ℕ) (u : ℕ) (v : Edge) → IsSource b.nodes.items k file → slice_get (blueprint_wires b) u ≡ Some v → v.from ≡ k
       → DrawsFirst (drawn.bytes k) (drawn.given k) (drawn.faulted k) (sent_at wires u)
   pub fits : (w : World) → IsWorldOf book b.nodes.items drawn w → Fits (graph_of b) w
+  pub carries : WiresCarry book b sinks wires picks
+  pub passed : AgreesWithFiles drawn carries
   -- the picture, by the composed outlooks
   pub lawful : (w : World) → IsWorldOf book b.nodes.items drawn w → IsLawful (graph_of b) w wires (composed (graph_of b) w)
   pub rest : IsTrue at_rest → (w : World) → IsWorldOf book b.nodes.items drawn w → Rests (graph_of b) w wires (composed (graph_of b) w)

@@ -102,6 +102,8 @@ module _ (plugged : Plugged) (old mid new : FolderState) (file t : List ℕ) (r 
       others = λ still n never aside. l.others still n never aside ∙ r.files.files tells n;
       draws = l.draws;
       fits = l.fits;
+      carries = l.carries;
+      passed = l.passed;
       lawful = l.lawful;
       rest = l.rest;
       matching = l.matching;
@@ -119,7 +121,6 @@ module _ (plugged : Plugged) (old mid new : FolderState) (file t : List ℕ) (r 
       writes = λ i s n f at here shape. writes_later s.2 (old.wfaults f) (mid.wfaults f) (new.wfaults f) (r.wfaults f) (ran.writes i s n f at here shape);
       within = ran.within;
       pays = ran.pays;
-      carries = ran.carries;
       ending = ran.ending;
       enough = λ tree w is suffices i s n f at here shape fails calm. ran.enough tree w is suffices i s n f at here shape fails (λ rose. calm (rose_later (old.wfaults f) (mid.wfaults f) (new.wfaults f) (r.wfaults f) rose));
     }

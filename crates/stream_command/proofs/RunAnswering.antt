@@ -26,7 +26,7 @@ use Rattle.materializer.specs.Files.{output_of, sinks_of_nodes, inputs_of_nodes,
 use Rattle.stream_io.specs.Quiet.{Quiet}
 use Rattle.stream_io.specs.Opening.{MissesInput, RefusesOutput}
 use Rattle.interpreter.specs.Picks.{Pick, pick_of}
-use Rattle.run_blueprint.specs.Carrying.{WiresCarry, PictureStands}
+use Rattle.run_blueprint.specs.Carrying.{PictureStands}
 use Rattle.run_blueprint.specs.Choosing.{pick_places, picked}
 use Rattle.run_blueprint.specs.Drawing.{Drawn, IsWorldOf}
 use Rattle.run_blueprint.specs.Stands.{SinkStand, is_write_fault, is_unended, is_failed}
@@ -108,6 +108,8 @@ module _ (plugged : Plugged) (old new : FolderState) (b : Blueprint) (trace : Op
     others = l.others;
     draws = l.draws;
     fits = l.fits;
+    carries = l.carries;
+    passed = l.passed;
     lawful = l.lawful;
     rest = λ h. l.rest (more h);
     matching = λ h. l.matching (more h);
@@ -223,9 +225,6 @@ module _ (plugged : Plugged) (b : Blueprint) (trace : Option (List ℕ)) (ran : 
   pictured : PictureStands plugged.book b stands a.picks a.wires (no_event_left a turns)
   pictured = picture_less plugged.book b stands a.picks a.wires (no_event_left a turns) ran.at_rest over_rests (rw (after.wires, after.picks) runs.picture)
 
-  carries : WiresCarry plugged.book b stands a.wires a.picks
-  carries = pictured.carries
-
   picks_are : picked a.picks ≡ pick_places 0 b.nodes.items
   picks_are = ap picked after.picks ∙ runs.picks_are
 
@@ -284,7 +283,6 @@ module _ (plugged : Plugged) (b : Blueprint) (trace : Option (List ℕ)) (ran : 
       writes = runs.writes;
       within = within;
       pays = pays;
-      carries = carries;
       ending = tree_spent ran.at_rest refl;
       enough = tree_enough;
     }

@@ -20,7 +20,7 @@ use Rattle.materializer.specs.Files.{output_of, inputs_of_nodes, outputs_of_node
 use Rattle.materializer.specs.Graphs.{graph_of, graph_node}
 use Rattle.stream_io.specs.Quiet.{Quiet, QuietBut}
 use Rattle.stream_io.specs.Opening.{Empties}
-use Rattle.run_blueprint.specs.Carrying.{WiresCarry, PictureStands}
+use Rattle.run_blueprint.specs.Carrying.{PictureStands}
 use Rattle.run_blueprint.specs.Choosing.{pick_places, picked}
 use Rattle.run_blueprint.specs.Drawing.{Drawn, IsWorldOf}
 use Rattle.run_blueprint.specs.Stands.{SinkStand, sink_places}
@@ -68,8 +68,8 @@ pub record RanNothing (old new : FolderState) (a : Answer) : Type 0 where
 -- The blueprint was run, by so many units at most, and its sinks stand so; the files are left as a run leaves them. No event was
 -- left where it stalled or used fewer units. There is a list of moves for each stage whose kind chooses, in order of nodes, and no
 -- other, by which the sinks and the picture are told; where no kind chooses there is none, and all of it is told by the input files
--- alone. The units pay for what passed the wires, each wire carried only elements of its type, and it stands by what was sent on it and by how
--- its sink stands. In a polytree a sink has not ended only
+-- alone. The units pay for what passed the wires. Each wire carried only elements of its type, and what its composed outlook lets pass;
+-- it stands by what was sent on it and by how its sink stands (`carries` and `passed` of `leaves`). In a polytree a sink has not ended only
 -- where the units were used up; and where they suffice for all that may pass, each sink of whose outlook no failure is part has
 -- ended, unless a write to its file failed.
 pub record RanTo (p : Plugged) (old new : FolderState) (b : Blueprint) (trace : Option (List ℕ)) (turns : ℕ) (a : Answer) : Type 0 where
@@ -82,7 +82,6 @@ pub record RanTo (p : Plugged) (old new : FolderState) (b : Blueprint) (trace : 
       → output_of n.kind ≡ Some file → FailedWritesOf s.2 (old.wfaults file) (new.wfaults file)
   pub within : a.used ≤ turns
   pub pays : Pays b a.wires a.used
-  pub carries : WiresCarry p.book b stands a.wires a.picks
   pub ending : IsPolytree (wiring (blueprint_wires b)) → some_unended a.sinks ≡ true → a.used ≡ turns
   pub enough : IsPolytree (wiring (blueprint_wires b)) → (w : World) → IsWorldOf p.book b.nodes.items leaves.drawn w
       → need (graph_of b) (composed (graph_of b) w) ≤ turns

@@ -102,6 +102,8 @@ module _ (book : Book) (b : Blueprint) (stands : List SinkStand) (wires : List W
     (gives : (w : World) → w.book ≡ book → HasPicks picks w → (sent : ℕ → Outlook) (j : ℕ) (v : Edge) (n : graph.Node) → slice_get (blueprint_wires b) j ≡ Some v → slice_get (graph_of b).nodes v.from ≡ Some n → ((name : List ℕ) → n.kind ≢ Lines name)
     → ((u : ℕ) (x : Edge) → slice_get (blueprint_wires b) u ≡ Some x → x.to ≡ v.from → AgreesWith (sent u) (items u)) → AgreesWith (next (graph_of b) w sent j) (items j))
     (stood : (i : ℕ) (v : Edge) (c : WireCount) → slice_get (blueprint_wires b) i ≡ Some v → slice_get wires i ≡ Some c → Stood v c (items i))
+    (lefts : (i : ℕ) (v : Edge) (c : WireCount) → slice_get (blueprint_wires b) i ≡ Some v → slice_get wires i ≡ Some c → c.shut ≡ true → end_of_items (items i) ≡ unended
+    → (j : ℕ) (x : Edge) (d : WireCount) → slice_get (blueprint_wires b) j ≡ Some x → x.from ≡ v.to → slice_get wires j ≡ Some d → d.shut ≡ true)
     (sinks : (k : ℕ) (s : SinkStand) (i : ℕ) (v : Edge) (c : WireCount) → slice_get stands k ≡ Some s → slice_get (blueprint_wires b) i ≡ Some v → v.to ≡ s.0 → slice_get wires i ≡ Some c
     → ShutBy s.2 v.lane c.shut × OverBy s.2 c.shut (end_of_items (items i)))
     (lanes : (k : ℕ) (s : SinkStand) (n : Node) (i : ℕ) (v : Edge) (c : WireCount) → slice_get stands k ≡ Some s → slice_get b.nodes.items s.0 ≡ Some n → ((file : List ℕ) → n.kind ≢ Head file) → slice_get (blueprint_wires b) i ≡ Some v → v.to ≡ s.0 → slice_get wires i ≡ Some c → s.2 ≡ Ended
@@ -133,6 +135,7 @@ module _ (book : Book) (b : Blueprint) (stands : List SinkStand) (wires : List W
         let a = gives w same has (λ u. exact (lists u) (ends u)) j v (graph_node n) at (mapped_at graph_node b.nodes.items v.from n is) other (λ u x ux to. agrees_exactly (items u) (told_there u x ux)) in
         agrees_told (next (graph_of b) w (λ u. exact (lists u) (ends u)) j) (items j) a;
     shut_is = λ i v c at is. (stood i v c at is).over;
+    left_shut = lefts;
     lane_asks = λ i v c s at is. (stood i v c at is).asks s;
     sink_shut = sinks;
     lane_shut = lanes;

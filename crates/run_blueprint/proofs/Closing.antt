@@ -81,7 +81,7 @@ use Rattle.run_blueprint.proofs.Places.{contains_at, contained_at, mapped_at, un
 use Rattle.run_blueprint.proofs.Profiles.{some_one, stand_in, writer_there, sinks_filtered, StandsAt, Profile, ended_along}
 use Rattle.run_blueprint.proofs.Handles.{IsSinkInto, HandleLaws, fault_kind, writer_kind, SourceFacts, SinkFacts, source_facts, sink_facts, profiles, as_many, stands_are}
 use Rattle.run_blueprint.proofs.Sending.{sink_sent, sink_rests, ignorer_told}
-use Rattle.run_blueprint.proofs.SinkWires.{ended_shut, lane_asked, sink_shut, lane_shut, sink_asked}
+use Rattle.run_blueprint.proofs.SinkWires.{ended_shut, left_shut, lane_asked, sink_shut, lane_shut, sink_asked}
 use Rattle.run_blueprint.proofs.Shuts.{Shuts}
 use Rattle.run_blueprint.proofs.Traces.{unlisted, lone_of, calm_trace}
 use Rattle.run_blueprint.proofs.Shutting.{TakenApart, unwritten, read_grew, faults_grew, writes_grew, file_held, other_files, other_reads, other_writes, other_draws, refused, tells_old, readers_many, writers_many}
@@ -498,6 +498,13 @@ module _ {S D L B : Type 0} (sources : S → SourceState) (drains : D → DrainS
       sink_asked sources drains book g left run u v wire s.0 (graph_node n) file f.first f.now (mapped_at graph_node nodes s.0 n here) shape to f.there l.cancels in
       subst (λ (t : SinkStand). AskedBy t.2 v.lane t.1 c) (sym found.1) (rw (wire_at u v c wire is) asked)
 
+  -- one that was cancelled, and those behind it
+  left_stood : (u : ℕ) (v : Edge) (c : WireCount) → slice_get (blueprint_wires b) u ≡ Some v → slice_get st.wires.items u ≡ Some c → c.shut ≡ true → end_of_items (left.near u).wire.sent ≡ unended
+      → (j : ℕ) (x : Edge) (d : WireCount) → slice_get (blueprint_wires b) j ≡ Some x → x.from ≡ v.to → slice_get st.wires.items j ≡ Some d → d.shut ≡ true
+  left_stood u v c at is shut none j x d behind from there =
+      let closed : (wire_count v.lane (left.near u) (left.asked u)).shut ≡ true = subst (λ (w : WireCount). w.shut ≡ true) (wire_at u v c at is) shut in
+      rw (wire_at j x d behind there) (left_shut sources drains book g left run u v at l.cancels closed none j x behind from)
+
   -- it is of its type where the plugs keep to theirs
   abbrev carried : WiresCarry book b st.end.sinks.items st.wires.items drawn.picks
   carried =
@@ -507,7 +514,7 @@ module _ {S D L B : Type 0} (sources : S → SourceState) (drains : D → DrainS
       laws.types plugs b.chains.items nodes g (unread book moved) by.0 left run told_moves (laws.fits b plugs taken g fit refl refl refl) keeps by.1 i v at)
       (λ w is has sent j v n at from other came. laws.gives g w left (run_at w is) (picks_told sources drains book handles b can ss ds left last between old mid opens w has) sent j v n at from other came)
       (λ u v c at is. rw (wire_at u v c at is) (record { over = ended_shut sources drains book g left run u v at; asks = lane_asked sources drains book g left run u v at }))
-      sink_stood ended_stood writer_stood
+      left_stood sink_stood ended_stood writer_stood
 
   -- the picture of the run
   abbrev picture : List WireCount

@@ -29,6 +29,7 @@ pub mod Shutting
 pub mod Units
 pub mod Sending
 pub mod EndShuts
+pub mod Cancelled
 pub mod SinkWires
 pub mod Worlds
 pub mod Choosing

@@ -1,6 +1,6 @@
 -- How the wires of a run stand at any moment: of those on which an end was sent, of lanes, and of the wire of a sink by how it stands.
 use Rattle.std.specs.Prelude.{slice_get, slice_index_or, if◌then◌else◌}
-use Rattle.std.proofs.Common.{◌≡◌, ◌≢◌, ℕ, zero, suc, ◌+◌, ◌≤◌, Bool, true, false, not, List, [], ◌∷◌, length, Option, None, Some, refl, sym, ap, ◌∙◌, subst, arith}
+use Rattle.std.proofs.Common.{◌≡◌, ◌≢◌, ℕ, zero, suc, ◌+◌, ◌<◌, ◌≤◌, Bool, true, false, not, List, [], ◌∷◌, length, Option, None, Some, refl, sym, ap, ◌∙◌, subst, arith}
 use Rattle.elem_core.specs.Tree.{Tree}
 use Rattle.elem_core.specs.Items.{elements}
 use Rattle.elem_core.specs.declared.item.Item.{Item}
@@ -8,7 +8,7 @@ use Rattle.port_core.specs.Cell.{WireState}
 use Rattle.port_core.specs.Decoding.{is_open}
 use Rattle.port_core.specs.Joint.{IsSound}
 use Rattle.port_core.specs.Marks.{IsMarked}
-use Rattle.port_core.specs.Reading.{inp_of, got_of}
+use Rattle.port_core.specs.Reading.{inp_of, out_of, got_of}
 use Rattle.port_core.specs.View.{View}
 use Rattle.port_core.specs.declared.view.InView.{InView}
 use Rattle.port_core.specs.declared.view.InView.TheVariants.{Idle, Pulled, Finished, Cancelled}
@@ -16,6 +16,7 @@ use Rattle.port_core.specs.declared.view.OutView.{OutView}
 use Rattle.port_core.specs.declared.view.OutView.TheVariants as outlet
 use Rattle.stage_core.specs.Held.{told}
 use Rattle.stage_core.specs.Law.{TookAs}
+use Rattle.stage_core.specs.OpenOuts.{OutsClosed}
 use Rattle.stage_core.specs.Row.{InClosed}
 use Rattle.stream_io.specs.State.{SourceState, DrainState}
 use Rattle.stream_model.specs.declared.kind.Kind.{Kind}
@@ -23,7 +24,8 @@ use Rattle.stream_model.specs.declared.kind.Kind.TheVariants as kind
 use Rattle.stream_model.specs.declared.outcome.EndState.{EndState}
 use Rattle.stream_model.specs.declared.outcome.EndState.TheVariants.{Ended, Failed, Unended, WriteFault}
 use Rattle.stream_model.specs.Composed.{inputs_of}
-use Rattle.stream_model.specs.Graph.{Graph, Edge, find_wire}
+use Rattle.stream_model.specs.View.{outputs_of}
+use Rattle.stream_model.specs.Graph.{Graph, Edge, find_wire, find_source}
 use Rattle.stream_model.specs.Graph as graph
 use Rattle.stream_model.specs.Linear.{Book}
 use Rattle.stream_model.specs.Outlook.{End, unended, ended}
@@ -50,9 +52,11 @@ use Rattle.run_laws.proofs.Drawing.{in_there}
 use Rattle.run_laws.proofs.Hearing.{node_hears}
 use Rattle.run_laws.proofs.Marks.{lane_least, lane_over}
 use Rattle.run_laws.proofs.Nodes.{kept_as, one_input, read_one}
-use Rattle.run_laws.proofs.Resting.{in_shut}
+use Rattle.run_laws.proofs.Agreeing.{read_there}
+use Rattle.run_laws.proofs.Resting.{in_shut, out_shut}
 use Rattle.run_blueprint.specs.Carrying.{ShutBy, OverBy, AskedBy}
 use Rattle.run_blueprint.specs.Stands.{SinkStand}
+use Rattle.run_blueprint.proofs.Cancelled.{closes_outs, closed_there}
 use Rattle.run_blueprint.proofs.EndShuts.{end_shuts, shut_left, out_left, waits_marked}
 use Rattle.run_blueprint.proofs.Profiles.{some_one, stand_in}
 
@@ -260,6 +264,27 @@ module _ {S D L B : Type 0} (sources : S → SourceState) (drains : D → DrainS
   -- where an end was sent it is shut
   pub ended_shut : (end_of_items (a.near u).wire.sent ≡ unended → ⊥) → (wire_count v.lane (a.near u) (a.asked u)).shut ≡ true
   ended_shut over = let c = came_near in end_shuts (a.near u).wire near_sound.0 near_sound.1 c.0 c.1 c.2 c.3 over
+
+  -- where it was cancelled, the wires that go out of the node at its input are shut
+  pub left_shut : CancelsCross g a → (wire_count v.lane (a.near u) (a.asked u)).shut ≡ true → end_of_items (a.near u).wire.sent ≡ unended
+      → (j : ℕ) (x : Edge) → slice_get g.wires j ≡ Some x → x.from ≡ v.to → (wire_count x.lane (a.near j) (a.asked j)).shut ≡ true
+  left_shut cancels shut none j x behind from =
+      let c = came_near in
+      let near : (a.near u).wire.inp ≡ Cancelled = shut_left (a.near u).wire near_sound.0 near_sound.1 c.0 c.1 c.2 c.3 shut none in
+      let far : (a.far u).wire.inp ≡ Cancelled = left_by (a.near u) (a.far u) (a.asked u) near_sound.0 far_sound.0 near_sound.1 far_sound.1 v.lane keeps (λ size lane. cancels u v size at lane) near in
+      let t = run.joined.target u v at in
+      let kept = run.keeps.each_node v.to t.0 t.1 in
+      let first : 0 + v.input ≡ v.input = omega arith in
+      let there : slice_get (knows g a v.to t.0).ins v.input ≡ Some (a.far u).wire.inp = in_there g inp_of a.far v.to 0 (inputs_of t.0.kind) v.input u t.2 (rw first t.3) in
+      let closed : OutsClosed (knows g a v.to t.0).outs = closes_outs kept.now (knows g a v.to t.0) v.input kept.port_state_holds (there ∙ ap Some far) in
+      let s = run.joined.source j x behind in
+      let same : s.0 ≡ t.0 = some_one s.0 t.0 (sym s.1 ∙ ap (slice_get g.nodes) from ∙ t.1) in
+      let second : 0 + x.output ≡ x.output = omega arith in
+      let below : x.output < outputs_of t.0.kind = subst (λ (m : graph.Node). x.output < outputs_of m.kind) same s.2 in
+      let found : find_source v.to (0 + x.output) g.wires ≡ Some j = rw second (subst (λ (k : ℕ). find_source k x.output g.wires ≡ Some j) from s.3) in
+      let out : slice_get (knows g a v.to t.0).outs x.output ≡ Some (a.near j).wire.out = read_there g out_of a.near v.to 0 (outputs_of t.0.kind) x.output j below found in
+      let sound = run.keeps.near_sound j (slice_get-below g.wires j x behind) in
+      out_shut (a.near j).wire sound.0 sound.1 (closed_there (knows g a v.to t.0).outs x.output (a.near j).wire.out closed out)
 
   -- a lane that is not asked
   pub lane_asked : (s : ℕ) → v.lane ≡ Some s → (wire_count v.lane (a.near u) (a.asked u)).asked ≡ false → s ≤ elements (a.near u).wire.sent

@@ -297,8 +297,8 @@ out_left (fan_out.Balances l) v p h e = balance_left l.core.live l.core v p h e
 
 -- ---- any node
 
-no_input : (p : ℕ) → slice_get ([] {A = InView}) p ≡ Some Cancelled → ⊥
-no_input p e = cc
+no_input : (y : OutView) (p : ℕ) → slice_get (output_only y).ins p ≡ Some Cancelled → ⊥
+no_input y p e = cc
 
 pub closes_outs : {S D L B : Type 0} (x : IslandNode S D L B) (v : View) (p : ℕ) → node_port_state x v → slice_get v.ins p ≡ Some Cancelled → OutsClosed v.outs
 closes_outs (node.Reading x) v p h e = source_left (lines_port_state_in x.phase) v.ins v.outs p h e
@@ -310,7 +310,7 @@ closes_outs (node.FanIn x) v p h e = in_left x v p h e
 closes_outs (node.FanOut x) v p h e = out_left x v p h e
 closes_outs (node.Writing x) v p h e = sink_left (sink_port_state_in x.started x.end) v.ins v.outs h
 closes_outs (node.Ignoring x) v p h e = sink_left (ignore_port_state_in x.started x.end) v.ins v.outs h
-closes_outs (node.Entering x) v p h e = open_left v (output_only h.0) p h.1 (no_input p) e
+closes_outs (node.Entering x) v p h e = open_left v (output_only h.0) p h.1 (no_input h.0 p) e
 closes_outs (node.Leaving x) v p h e = subst (λ (w : View). OutsClosed w.outs) (sym h.1) tt
 
 -- an output that is closed is so at its place

@@ -311,7 +311,7 @@ closes_outs (node.FanOut x) v p h e = out_left x v p h e
 closes_outs (node.Writing x) v p h e = sink_left (sink_port_state_in x.started x.end) v.ins v.outs h
 closes_outs (node.Ignoring x) v p h e = sink_left (ignore_port_state_in x.started x.end) v.ins v.outs h
 closes_outs (node.Entering x) v p h e = open_left v (output_only h.0) p h.1 (no_input h.0 p) e
-closes_outs (node.Leaving x) v p h e = subst (λ (w : View). OutsClosed w.outs) (sym h.1) tt
+closes_outs (node.Leaving x) v p h e = subst (λ (w : View). OutsClosed w.outs) (sym h.1.0) tt
 
 -- an output that is closed is so at its place
 pub closed_there : (os : List OutView) (p : ℕ) (y : OutView) → OutsClosed os → slice_get os p ≡ Some y → OutClosed y

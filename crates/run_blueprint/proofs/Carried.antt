@@ -7,7 +7,7 @@ use Rattle.elem_core.specs.Prefix.{IsPrefix}
 use Rattle.elem_core.proofs.Prefixes.{prefix_refl}
 use Rattle.elem_core.specs.declared.item.Item.{Item}
 use Rattle.stream_model.specs.declared.kind.Kind.{Kind}
-use Rattle.stream_model.specs.declared.kind.Kind.TheVariants.{Lines, ToLines, Head}
+use Rattle.stream_model.specs.declared.kind.Kind.TheVariants.{Lines, ToLines, Head, Ignore}
 use Rattle.stream_model.specs.declared.outcome.EndState.TheVariants.{Ended}
 use Rattle.stream_model.specs.declared.outcome.WireCount.{WireCount}
 use Rattle.stream_model.specs.Composed.{next, IsRanked}
@@ -28,6 +28,7 @@ use Rattle.stream_model.specs.declared.blueprint.Node.{Node}
 use Rattle.stream_model.specs.declared.head.PlugHead.{PlugHead}
 use Rattle.blue_check.specs.Fitness.{IsFit}
 use Rattle.blue_check.specs.Wires.{blueprint_wires}
+use Rattle.materializer.specs.Files.{output_of}
 use Rattle.materializer.specs.Graphs.{graph_node, graph_of}
 use Rattle.run_blueprint.specs.Plugs.{KeepsPlugTypes}
 use Rattle.run_blueprint.specs.Sent.{exact, SendsItsType}
@@ -35,7 +36,7 @@ use Rattle.run_blueprint.specs.Types.{AllTyped}
 use Rattle.run_blueprint.proofs.TypeSending.{exact_agrees}
 use Rattle.run_blueprint.proofs.Settling.{all_by_rank}
 use Rattle.interpreter.specs.Picks.{Pick}
-use Rattle.run_blueprint.specs.Carrying.{WiresCarry, ShutBy, OverBy, AskedBy}
+use Rattle.run_blueprint.specs.Carrying.{WiresCarry, ShutBy, OverBy, AskedBy, SinkTook, IgnorerTook}
 use Rattle.run_blueprint.specs.Stands.{SinkStand}
 use Rattle.run_blueprint.specs.Choosing.{HasPicks}
 use Rattle.run_blueprint.proofs.Places.{mapped_at, place_of}
@@ -109,7 +110,11 @@ module _ (book : Book) (b : Blueprint) (stands : List SinkStand) (wires : List W
     (lanes : (k : ℕ) (s : SinkStand) (n : Node) (i : ℕ) (v : Edge) (c : WireCount) → slice_get stands k ≡ Some s → slice_get b.nodes.items s.0 ≡ Some n → ((file : List ℕ) → n.kind ≢ Head file) → slice_get (blueprint_wires b) i ≡ Some v → v.to ≡ s.0 → slice_get wires i ≡ Some c → s.2 ≡ Ended
     → c.shut ≡ true)
     (writers : (k : ℕ) (s : SinkStand) (n : Node) (file : List ℕ) (i : ℕ) (v : Edge) (c : WireCount) → slice_get stands k ≡ Some s → slice_get b.nodes.items s.0 ≡ Some n → n.kind ≡ ToLines file
-    → slice_get (blueprint_wires b) i ≡ Some v → v.to ≡ s.0 → slice_get wires i ≡ Some c → AskedBy s.2 v.lane s.1 c) where
+    → slice_get (blueprint_wires b) i ≡ Some v → v.to ≡ s.0 → slice_get wires i ≡ Some c → AskedBy s.2 v.lane s.1 c)
+    (takers : (k : ℕ) (s : SinkStand) (n : Node) (file : List ℕ) (i : ℕ) (v : Edge) → slice_get stands k ≡ Some s → slice_get b.nodes.items s.0 ≡ Some n → output_of n.kind ≡ Some file → slice_get (blueprint_wires b) i ≡ Some v → v.to ≡ s.0
+    → SinkTook v.lane (list_of (items i)) (end_of_items (items i)) n.kind s)
+    (ignorers : (k : ℕ) (s : SinkStand) (n : Node) (i : ℕ) (v : Edge) → slice_get stands k ≡ Some s → slice_get b.nodes.items s.0 ≡ Some n → n.kind ≡ Ignore → slice_get (blueprint_wires b) i ≡ Some v → v.to ≡ s.0
+    → IgnorerTook v.lane (list_of (items i)) (end_of_items (items i)) s) where
   abbrev lists : ℕ → List Tree
   lists u = list_of (items u)
 
@@ -140,4 +145,6 @@ module _ (book : Book) (b : Blueprint) (stands : List SinkStand) (wires : List W
     sink_shut = sinks;
     lane_shut = lanes;
     sink_asked = writers;
+    sink_took = takers;
+    ignorer_took = ignorers;
   }

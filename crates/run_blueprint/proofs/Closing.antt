@@ -36,7 +36,7 @@ use Rattle.nodes.specs.declared.node.IslandNode.{IslandNode}
 use Rattle.nodes.specs.declared.node.IslandNode.TheVariants as node
 use Rattle.interpreter.specs.Picks.{Pick, pick_of}
 use Rattle.run_laws.specs.Account.{Account, IsStill, took}
-use Rattle.run_laws.specs.Items.{end_of_items, AgreesWith}
+use Rattle.run_laws.specs.Items.{list_of, end_of_items, AgreesWith}
 use Rattle.run_laws.specs.Pictures as pictures
 use Rattle.run_laws.specs.Ports.{wire_count}
 use Rattle.run_laws.proofs.Coming.{elements_told}
@@ -60,7 +60,7 @@ use Rattle.stream_io.specs.Names.{drain_names}
 use Rattle.run_blueprint.specs.Checked.{PassesRules}
 use Rattle.run_blueprint.specs.Plugs.{KeepsPlugTypes}
 use Rattle.run_blueprint.specs.Sent.{SendsItsType}
-use Rattle.run_blueprint.specs.Carrying.{WiresCarry, AgreesWithFiles, PictureStands, ShutBy, OverBy, AskedBy, as_passed}
+use Rattle.run_blueprint.specs.Carrying.{WiresCarry, AgreesWithFiles, PictureStands, ShutBy, OverBy, AskedBy, SinkTook, IgnorerTook, as_passed}
 use Rattle.run_blueprint.specs.Choosing.{picked}
 use Rattle.run_blueprint.proofs.Carried.{IsTold, unread, agrees_told, passes_exactly, told_sent, carries}
 use Rattle.run_blueprint.specs.Drawing.{Drawn, IsSource, WasRead, IsWorldOf, DrawsFirst}
@@ -81,7 +81,7 @@ use Rattle.run_blueprint.proofs.Places.{contains_at, contained_at, mapped_at, un
 use Rattle.run_blueprint.proofs.Profiles.{some_one, stand_in, writer_there, sinks_filtered, StandsAt, Profile, ended_along}
 use Rattle.run_blueprint.proofs.Handles.{IsSinkInto, HandleLaws, fault_kind, writer_kind, SourceFacts, SinkFacts, source_facts, sink_facts, profiles, as_many, stands_are}
 use Rattle.run_blueprint.proofs.Sending.{sink_sent, sink_rests, ignorer_told}
-use Rattle.run_blueprint.proofs.SinkWires.{ended_shut, left_shut, lane_asked, sink_shut, lane_shut, sink_asked}
+use Rattle.run_blueprint.proofs.SinkWires.{ended_shut, left_shut, lane_asked, sink_shut, lane_shut, sink_asked, sink_took, ignorer_took}
 use Rattle.run_blueprint.proofs.Shuts.{Shuts}
 use Rattle.run_blueprint.proofs.Traces.{unlisted, lone_of, calm_trace}
 use Rattle.run_blueprint.proofs.Shutting.{TakenApart, unwritten, read_grew, faults_grew, writes_grew, file_held, other_files, other_reads, other_writes, other_draws, refused, tells_old, readers_many, writers_many}
@@ -498,6 +498,38 @@ module _ {S D L B : Type 0} (sources : S → SourceState) (drains : D → DrainS
       sink_asked sources drains book g left run u v wire s.0 (graph_node n) file f.first f.now (mapped_at graph_node nodes s.0 n here) shape to f.there l.cancels in
       subst (λ (t : SinkStand). AskedBy t.2 v.lane t.1 c) (sym found.1) (rw (wire_at u v c wire is) asked)
 
+  -- what came to a sink with a file
+  took_there : (i : ℕ) (s : SinkStand) (n : blue.Node) (file : List ℕ) (u : ℕ) (v : Edge) → slice_get st.end.sinks.items i ≡ Some s → slice_get nodes s.0 ≡ Some n → output_of n.kind ≡ Some file
+      → slice_get (blueprint_wires b) u ≡ Some v → v.to ≡ s.0 → SinkTook v.lane (list_of (left.near u).wire.sent) (end_of_items (left.near u).wire.sent) n.kind s
+  took_there i s n file u v at here shape wire to =
+      let found = stand_of i s n file at here shape in
+      let f = found.0 in
+      let h = sink_here i s at in
+      let same : h.node ≡ n = some_one h.node n (sym h.at ∙ here) in
+      let one : inputs_of n.kind ≡ 1 = subst (λ (x : blue.Node). inputs_of x.kind ≡ 1) same (sink_one h.node.kind h.shape) in
+      let is : (f.now.node, f.now.count, f.now.end) ≡ s = ap (λ (j : ℕ). (j, f.now.count, f.now.end)) f.place ∙ sym found.1 in
+      subst (λ (t : SinkStand). SinkTook v.lane (list_of (left.near u).wire.sent) (end_of_items (left.near u).wire.sent) n.kind t) is
+      (sink_took sources drains book g left run u v wire s.0 (graph_node n) f.first f.now (mapped_at graph_node nodes s.0 n here) one to f.there)
+
+  -- a sink that keeps nothing, by its place among the stands
+  ignorer_of : (i : ℕ) (s : SinkStand) (n : blue.Node) → slice_get st.end.sinks.items i ≡ Some s → slice_get nodes s.0 ≡ Some n → n.kind ≡ kind.Ignore
+      → (first : Ignorer) × ((now : Ignorer) × (IsIgnorerAt left s.0 first now × ((now.node, 0, now.end) ≡ s)))
+  ignorer_of i s n at here shape =
+      let h = sink_here i s at in
+      let there = laws.ignorer g left run s.0 (graph_node n) (mapped_at graph_node nodes s.0 n here) shape in
+      let now = there.1.0 in
+      let is : h.now ≡ node.Ignoring now = some_one h.now (node.Ignoring now) (sym h.now_at ∙ there.1.1.at_last) in
+      let told : stand_in {S = S} {D = D} {L = L} {B = B} (node.Ignoring now) ≡ Some s = ap stand_in (sym is) ∙ h.stands in
+      (there.0, (now, (there.1.1, some_one (now.node, 0, now.end) s told)))
+
+  -- what came to it
+  ignored_there : (i : ℕ) (s : SinkStand) (n : blue.Node) (u : ℕ) (v : Edge) → slice_get st.end.sinks.items i ≡ Some s → slice_get nodes s.0 ≡ Some n → n.kind ≡ kind.Ignore
+      → slice_get (blueprint_wires b) u ≡ Some v → v.to ≡ s.0 → IgnorerTook v.lane (list_of (left.near u).wire.sent) (end_of_items (left.near u).wire.sent) s
+  ignored_there i s n u v at here shape wire to =
+      let x = ignorer_of i s n at here shape in
+      subst (λ (t : SinkStand). IgnorerTook v.lane (list_of (left.near u).wire.sent) (end_of_items (left.near u).wire.sent) t) x.1.1.1
+      (ignorer_took sources drains book g left run u v wire s.0 (graph_node n) x.0 x.1.0 (mapped_at graph_node nodes s.0 n here) (ap inputs_of shape) to x.1.1.0)
+
   -- one that was cancelled, and those behind it
   left_stood : (u : ℕ) (v : Edge) (c : WireCount) → slice_get (blueprint_wires b) u ≡ Some v → slice_get st.wires.items u ≡ Some c → c.shut ≡ true → end_of_items (left.near u).wire.sent ≡ unended
       → (j : ℕ) (x : Edge) (d : WireCount) → slice_get (blueprint_wires b) j ≡ Some x → x.from ≡ v.to → slice_get st.wires.items j ≡ Some d → d.shut ≡ true
@@ -514,7 +546,7 @@ module _ {S D L B : Type 0} (sources : S → SourceState) (drains : D → DrainS
       laws.types plugs b.chains.items nodes g (unread book moved) by.0 left run told_moves (laws.fits b plugs taken g fit refl refl refl) keeps by.1 i v at)
       (λ w is has sent j v n at from other came. laws.gives g w left (run_at w is) (picks_told sources drains book handles b can ss ds left last between old mid opens w has) sent j v n at from other came)
       (λ u v c at is. rw (wire_at u v c at is) (record { over = ended_shut sources drains book g left run u v at; asks = lane_asked sources drains book g left run u v at }))
-      left_stood sink_stood ended_stood writer_stood
+      left_stood sink_stood ended_stood writer_stood took_there ignored_there
 
   -- the picture of the run
   abbrev picture : List WireCount
@@ -633,24 +665,15 @@ module _ {S D L B : Type 0} (sources : S → SourceState) (drains : D → DrainS
     -- a sink without a file
     ignore_leaves : (i : ℕ) (s : SinkStand) (n : blue.Node) → slice_get st.end.sinks.items i ≡ Some s → slice_get nodes s.0 ≡ Some n → n.kind ≡ kind.Ignore → IgnoreLeaves book b drawn st.wires.items s.0 n s.1 s.2
     ignore_leaves i s n at here shape =
-        let at_graph : slice_get g.nodes s.0 ≡ Some (graph_node n) = mapped_at graph_node nodes s.0 n here in
-        let there = laws.ignorer g left run s.0 (graph_node n) at_graph shape in
-        let now = there.1.0 in
-        let among : slice_get (filter_map stand_in last) i ≡ Some s = subst (λ (x : List SinkStand). slice_get x i ≡ Some s) (l.sinks ∙ sinks_filtered last) at in
-        let from = unfiltered_at stand_in last i s among in
-        let below : from.0 < length nodes = subst (λ m. from.0 < m) (sym (as_many sources drains book handles b ss ds left last between old mid opens)) (place_within last from.0 from.1.0 from.1.1.0) in
-        let m = place_of nodes from.0 below in
-        let place : s.0 ≡ from.0 = no_stand from.0 (is_sink m.0) (stand_in from.1.0) s (profile from.0 m.0 from.1.0 m.1 from.1.1.0).stand from.1.1.1 in
-        let found : slice_get last s.0 ≡ Some from.1.0 = subst (λ j. slice_get last j ≡ Some from.1.0) (sym place) from.1.1.0 in
-        let is : from.1.0 ≡ node.Ignoring now = place_one last s.0 from.1.0 (node.Ignoring now) found (sym (between.node_at s.0) ∙ there.1.1.at_last) in
-        let told : stand_in {S = S} {D = D} {L = L} {B = B} (node.Ignoring now) ≡ Some s = ap stand_in (sym is) ∙ from.1.1.1 in
-        let same : (now.node, 0, now.end) ≡ s = some_one (now.node, 0, now.end) s told in
+        let x = ignorer_of i s n at here shape in
+        let now = x.1.0 in
+        let same : (now.node, 0, now.end) ≡ s = x.1.1.1 in
         record {
           none = ap (λ (t : SinkStand). t.1) (sym same);
           tells = λ w is_world u v wire to.
               subst (λ (e : EndState). IgnoreTells (sink_outlook g w s.0 (graph_node n)) e (sent_at st.wires.items u)) (ap (λ (t : SinkStand). t.2) same)
               (subst (λ (c : ℕ). IgnoreTells (sink_outlook g w s.0 (graph_node n)) now.end c) (sym (wire_count_at u v wire))
-              (ignorer_told sources drains book g left run u v wire w (sent_agrees u v wire w is_world) s.0 (graph_node n) at_graph shape to there.0 now there.1.1));
+              (ignorer_told sources drains book g left run u v wire w (sent_agrees u v wire w is_world) s.0 (graph_node n) (mapped_at graph_node nodes s.0 n here) shape to x.0 now x.1.1.0));
         }
 
     needed : (w : World) → IsWorldOf book nodes drawn w → count_needed g st.wires.items ≤ need g (composed g w)

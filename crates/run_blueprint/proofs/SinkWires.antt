@@ -1,6 +1,6 @@
 -- How the wires of a run stand at any moment: of those on which an end was sent, of lanes, and of the wire of a sink by how it stands.
 use Rattle.std.specs.Prelude.{slice_get, slice_index_or, if◌then◌else◌}
-use Rattle.std.proofs.Common.{◌≡◌, ◌≢◌, ℕ, zero, suc, ◌+◌, ◌<◌, ◌≤◌, Bool, true, false, not, List, [], ◌∷◌, length, Option, None, Some, refl, sym, ap, ◌∙◌, subst, arith}
+use Rattle.std.proofs.Common.{◌≡◌, ◌≢◌, ℕ, zero, suc, ◌+◌, ◌<◌, ◌≤◌, Bool, true, false, not, List, [], ◌∷◌, length, length-append, Option, None, Some, refl, sym, ap, ◌∙◌, subst, arith}
 use Rattle.elem_core.specs.Tree.{Tree}
 use Rattle.elem_core.specs.Items.{elements}
 use Rattle.elem_core.specs.declared.item.Item.{Item}
@@ -27,6 +27,7 @@ use Rattle.stream_model.specs.Composed.{inputs_of}
 use Rattle.stream_model.specs.View.{outputs_of}
 use Rattle.stream_model.specs.Graph.{Graph, Edge, find_wire, find_source}
 use Rattle.stream_model.specs.Graph as graph
+use Rattle.stream_model.specs.Lane.{Carries}
 use Rattle.stream_model.specs.Linear.{Book}
 use Rattle.stream_model.specs.Outlook.{End, unended, ended}
 use Rattle.stream_model.proofs.Compositions.{slice_get-below}
@@ -34,19 +35,20 @@ use Rattle.nodes.specs.declared.node.IslandNode.{IslandNode}
 use Rattle.nodes.specs.declared.node.IslandNode.TheVariants as node
 use Rattle.nodes.specs.declared.sink.Writes.{Writes}
 use Rattle.nodes.specs.declared.sink.Writes.TheVariants.{Each, First, Last}
-use Rattle.nodes.specs.Ignoring.{ignore_port_state_in}
+use Rattle.nodes.specs.Ignoring.{Ignorer, IgnoreLaw, ignore_port_state_in}
 use Rattle.nodes.specs.Kinds.{writes_of}
 use Rattle.nodes.specs.Nodes.{node_port_state, node_law, node_asking, node_moves}
 use Rattle.nodes.specs.Ports.{OneInOf}
 use Rattle.nodes.specs.Sink.{Sink, sink_port_state_in, SinkStandsAs, WritesOf, WritesEach, SinkLaw}
 use Rattle.run_laws.specs.Account.{Account, knows, took, gave, WireKeeps, NodeKeeps}
-use Rattle.run_laws.specs.Items.{end_of_items}
+use Rattle.run_laws.specs.Items.{list_of, end_of_items, lane_size}
 use Rattle.run_laws.specs.KindLaws.{IsHistoryOf}
 use Rattle.run_laws.specs.Made.{FirstOf, FirstWriting}
 use Rattle.run_laws.specs.Ports.{wire_count}
 use Rattle.run_laws.specs.Runs.{IsRun}
-use Rattle.run_laws.specs.Sinks.{IsSinkAt}
+use Rattle.run_laws.specs.Sinks.{IsSinkAt, IsIgnorerAt}
 use Rattle.island_runs.specs.Leaving.{CancelsCross}
+use Rattle.run_laws.proofs.Carrying.{wire_brings}
 use Rattle.run_laws.proofs.Coming.{elements_told}
 use Rattle.run_laws.proofs.Drawing.{in_there}
 use Rattle.run_laws.proofs.Hearing.{node_hears}
@@ -54,7 +56,7 @@ use Rattle.run_laws.proofs.Marks.{lane_least, lane_over}
 use Rattle.run_laws.proofs.Nodes.{kept_as, one_input, read_one}
 use Rattle.run_laws.proofs.Agreeing.{read_there}
 use Rattle.run_laws.proofs.Resting.{in_shut, out_shut}
-use Rattle.run_blueprint.specs.Carrying.{ShutBy, OverBy, AskedBy}
+use Rattle.run_blueprint.specs.Carrying.{ShutBy, OverBy, AskedBy, LinesWritten, SinkTook, IgnorerTook}
 use Rattle.run_blueprint.specs.Stands.{SinkStand}
 use Rattle.run_blueprint.proofs.Cancelled.{closes_outs, closed_there}
 use Rattle.run_blueprint.proofs.EndShuts.{end_shuts, shut_left, out_left, waits_marked}
@@ -139,7 +141,7 @@ first_of l i is = ap (λ (x : List InView). slice_index_or x 0 Cancelled) is
 
 -- by its law
 law_ends : {D : Type 0} (drains : D → DrainState) (first now : Sink D) (v : View) (took gave : List (List Item)) → SinkLaw drains first now v took gave → (first.writes ≡ First → ⊥) → now.end ≡ Ended → (i : InView) → v.ins ≡ i ∷ [] → i ≡ Finished
-law_ends drains first now v took gave law other over i ins =
+law_ends drains first now v _ _ law other over i ins =
     let wrote : WritesOf now.writes now.node now.kept Ended law.elems law.in_end law.wrote = subst (λ (e : EndState). WritesOf now.writes now.node now.kept e law.elems law.in_end law.wrote) over law.writes in
     let end : law.in_end ≡ ended = end_of now.writes now.node now.kept law.elems law.in_end law.wrote (λ is. other (sym law.writes_same ∙ is)) wrote in
     over_known i law.in_end (subst (λ (x : InView). TookAs x law.in_end) (first_of v.ins i ins) law.took_as) end
@@ -227,6 +229,16 @@ each_wrote Last n count kept Unended old new l f wrote each goes w s = cc
 each_wrote m n count kept Ended old new l f wrote each goes w s = cc
 each_wrote m n count kept (Failed c) old new l f wrote each goes w s = cc
 each_wrote m n count kept WriteFault old new l f wrote each goes w s = cc
+
+-- how many lines a sink wrote
+lines_written : (e : EndState) (old new : DrainState) (wrote : List Tree) (n : ℕ) → SinkStandsAs e old new wrote n → LinesWritten e wrote n
+lines_written Unended old new wrote n s = sym s.count
+lines_written Ended old new wrote n s = sym s.count
+lines_written (Failed c) old new wrote n s = sym s.count
+lines_written WriteFault old new wrote n s =
+    let all : length wrote ≡ length s.before + 1 = ap length s.wrote_is ∙ length-append s.before (s.last ∷ []) in
+    let less : n ≡ length s.before = s.count in
+    omega (arith, all, less)
 
 -- ---- a wire of a run
 
@@ -318,6 +330,39 @@ module _ {S D L B : Type 0} (sources : S → SourceState) (drains : D → DrainS
         let law : node_law sources drains book kept.first now (knows g a k n) (took g a k n) (gave g a k n) = subst (λ (x : IslandNode S D L B). node_law sources drains book kept.first x (knows g a k n) (took g a k n) (gave g a k n)) same kept.law_holds in
         let finished : (a.far u).wire.inp ≡ Finished = ended_sees sources drains book g.chains k n kept.first now s (knows g a k n) (took g a k n) (gave g a k n) (a.far u).wire.inp is over other (run.made k n kept.first ni kept.first_at) law row (read_one g inp_of a.far k (inputs_of n.kind) u one found) in
         over_there (a.near u) (a.far u) (a.asked u) near_sound.0 far_sound.0 near_sound.1 far_sound.1 v.lane keeps finished
+
+  -- what came to the node at its input
+  brought : (l : List Tree) (e : End) → (a.far u).wire.got ≡ told l e → Carries (lane_size v.lane) (list_of (a.near u).wire.sent) (end_of_items (a.near u).wire.sent) l e
+  brought = wire_brings v.lane (a.near u) (a.far u) (a.asked u) near_sound.0 far_sound.0 near_sound.1 far_sound.1 keeps
+
+  -- to a sink with a file
+  pub sink_took : (k : ℕ) (n : graph.Node) (first now : Sink D) → slice_get g.nodes k ≡ Some n → inputs_of n.kind ≡ 1 → v.to ≡ k → IsSinkAt a k first now
+      → SinkTook v.lane (list_of (a.near u).wire.sent) (end_of_items (a.near u).wire.sent) n.kind (now.node, now.count, now.end)
+  sink_took k n first now ni one to there =
+      let kept = kept_as node_port_state (node_law sources drains book) node_asking node_moves g a run.keeps k n (node.Writing first) (node.Writing now) ni there.at_first there.at_last in
+      let law : SinkLaw drains first now (knows g a k n) (took g a k n) (gave g a k n) = kept.law_holds in
+      let its : FirstWriting k n.kind first = run.made k n (node.Writing first) ni there.at_first in
+      let came : took g a k n ≡ (a.far u).wire.got ∷ [] = read_one g got_of a.far k (inputs_of n.kind) u one (one_input g run.joined k n u v ni one at to) in
+      let got : (a.far u).wire.got ≡ told law.elems law.in_end = heads_same (a.far u).wire.got (told law.elems law.in_end) (sym came ∙ law.took_is) in
+      record {
+        came = law.elems;
+        seen = law.in_end;
+        carried = brought law.elems law.in_end got;
+        kept = now.kept;
+        wrote = law.wrote;
+        writes = subst (λ (m : Writes). WritesOf m now.node now.kept now.end law.elems law.in_end law.wrote) (law.writes_same ∙ its.writes) law.writes;
+        lines = lines_written now.end (drains first.drain) (drains now.drain) law.wrote now.count law.stands;
+      }
+
+  -- to one that keeps nothing
+  pub ignorer_took : (k : ℕ) (n : graph.Node) (first now : Ignorer) → slice_get g.nodes k ≡ Some n → inputs_of n.kind ≡ 1 → v.to ≡ k → IsIgnorerAt a k first now
+      → IgnorerTook v.lane (list_of (a.near u).wire.sent) (end_of_items (a.near u).wire.sent) (now.node, 0, now.end)
+  ignorer_took k n first now ni one to there =
+      let kept = kept_as node_port_state (node_law sources drains book) node_asking node_moves g a run.keeps k n (node.Ignoring first) (node.Ignoring now) ni there.at_first there.at_last in
+      let law : IgnoreLaw first now (knows g a k n) (took g a k n) (gave g a k n) = kept.law_holds in
+      let came : took g a k n ≡ (a.far u).wire.got ∷ [] = read_one g got_of a.far k (inputs_of n.kind) u one (one_input g run.joined k n u v ni one at to) in
+      let got : (a.far u).wire.got ≡ told law.elems law.in_end = heads_same (a.far u).wire.got (told law.elems law.in_end) (sym came ∙ law.took_is) in
+      record { came = law.elems; seen = law.in_end; carried = brought law.elems law.in_end got; none = refl; ends = law.ends }
 
   -- of a sink of lines
   module _ (k : ℕ) (n : graph.Node) (file : List ℕ) (first now : Sink D) (ni : slice_get g.nodes k ≡ Some n) (shape : n.kind ≡ kind.ToLines file) (to : v.to ≡ k) (there : IsSinkAt a k first now) (cancels : CancelsCross g a) where

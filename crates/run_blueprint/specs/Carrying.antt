@@ -2,12 +2,14 @@
 use Rattle.std.specs.Prelude.{◌≡◌, ◌≢◌, ℕ, ◌+◌, ◌≤◌, Bool, true, false, if◌then◌else◌, IsTrue, List, length, slice_get, Option, None, Some, ⊤}
 use Rattle.elem_core.specs.Sort.{Sort}
 use Rattle.elem_core.specs.Tree.{Tree}
-use Rattle.stream_model.specs.declared.kind.Kind.TheVariants.{Lines, ToLines, Head}
+use Rattle.stream_model.specs.declared.kind.Kind.{Kind}
+use Rattle.stream_model.specs.declared.kind.Kind.TheVariants.{Lines, ToLines, Head, Ignore}
 use Rattle.stream_model.specs.declared.outcome.WireCount.{WireCount}
 use Rattle.stream_model.specs.declared.outcome.EndState.{EndState}
 use Rattle.stream_model.specs.declared.outcome.EndState.TheVariants.{Ended, Failed, Unended, WriteFault}
 use Rattle.stream_model.specs.Composed.{next, composed}
 use Rattle.stream_model.specs.Graph.{Edge}
+use Rattle.stream_model.specs.Lane.{Carries}
 use Rattle.stream_model.specs.Node.{World}
 use Rattle.stream_model.specs.Lawful.{IsLawful}
 use Rattle.stream_model.specs.Outlook.{Outlook, End, unended, Agrees}
@@ -16,8 +18,13 @@ use Rattle.stream_model.specs.Shape.{sent_at}
 use Rattle.stream_model.specs.declared.blueprint.Blueprint.{Blueprint}
 use Rattle.stream_model.specs.declared.blueprint.Node.{Node}
 use Rattle.stream_model.specs.declared.head.PlugHead.{PlugHead}
+use Rattle.nodes.specs.Ignoring.{EndsWith}
+use Rattle.nodes.specs.Kinds.{writes_of}
+use Rattle.nodes.specs.Sink.{WritesOf}
+use Rattle.run_laws.specs.Items.{lane_size}
 use Rattle.blue_check.specs.Fitness.{IsFit}
 use Rattle.blue_check.specs.Wires.{blueprint_wires}
+use Rattle.materializer.specs.Files.{output_of}
 use Rattle.materializer.specs.Graphs.{graph_of}
 use Rattle.run_blueprint.specs.Checked.{wire_type}
 use Rattle.run_blueprint.specs.Sent.{exact}
@@ -59,13 +66,38 @@ AskedBy Ended lane count c = ⊤
 AskedBy (Failed d) lane count c = ⊤
 AskedBy WriteFault lane count c = ⊤
 
+-- so many lines of these were written, or one less where the write of the last one failed
+abbrev pub LinesWritten : EndState → List Tree → ℕ → Type 0
+LinesWritten WriteFault wrote n = length wrote ≡ n + 1
+LinesWritten _ wrote n = length wrote ≡ n
+
+-- What came to a sink with a file of the list and the end that passed its wire: all of it but what is on its way, and but what a
+-- failure may have robbed of a lane. The sink wrote of that what its kind writes, so many lines, and it stands so.
+pub record SinkTook (lane : Option ℕ) (list : List Tree) (end : End) (shape : Kind) (s : SinkStand) : Type 0 where
+  pub came : List Tree
+  pub seen : End
+  pub carried : Carries (lane_size lane) list end came seen
+  pub kept : Option Tree
+  pub wrote : List Tree
+  pub writes : WritesOf (writes_of shape) s.0 kept s.2 came seen wrote
+  pub lines : LinesWritten s.2 wrote s.1
+
+-- what came to a sink that keeps nothing, which ends as that does
+pub record IgnorerTook (lane : Option ℕ) (list : List Tree) (end : End) (s : SinkStand) : Type 0 where
+  pub came : List Tree
+  pub seen : End
+  pub carried : Carries (lane_size lane) list end came seen
+  pub none : s.1 ≡ 0
+  pub ends : EndsWith s.2 seen
+
 -- On each wire a list passed, and it stands so: as many elements as the picture counts (`counted`), all of the type that the
 -- check settles for the wire (`typed`). What a node gave that is no source of lines agrees with what it gives of the lists that
 -- passed on its inputs, by every world that has what the stages chose (`given`). A wire on which an end was sent is shut (`shut_is`);
 -- a lane is not asked only where as many elements were sent as it has places (`lane_asks`); and the wire of a sink stands by how the
 -- sink does (`sink_shut`, `sink_asked`): also a lane is shut where its sink has ended, unless that takes one element alone and so may
 -- have cancelled it (`lane_shut`). A wire that is shut though no end was sent on it was cancelled, and then each wire behind it is shut,
--- those that go out of the node to which it leads (`left_shut`). What a source of lines gave, `AgreesWithFiles` says.
+-- those that go out of the node to which it leads (`left_shut`). Each sink stands by what came to it of what passed its wire
+-- (`sink_took`, `ignorer_took`). What a source of lines gave, `AgreesWithFiles` says.
 pub record WiresCarry (book : Book) (b : Blueprint) (stands : List SinkStand) (wires : List WireCount) (picks : List Pick) : Type 0 where
   pub lists : ℕ → List Tree
   pub ends : ℕ → End
@@ -90,6 +122,10 @@ pub record WiresCarry (book : Book) (b : Blueprint) (stands : List SinkStand) (w
   pub sink_asked : (k : ℕ) (s : SinkStand) (n : Node) (file : List ℕ) (i : ℕ) (v : Edge) (c : WireCount) → slice_get stands k ≡ Some s
       → slice_get b.nodes.items s.0 ≡ Some n → n.kind ≡ ToLines file
       → slice_get (blueprint_wires b) i ≡ Some v → v.to ≡ s.0 → slice_get wires i ≡ Some c → AskedBy s.2 v.lane s.1 c
+  pub sink_took : (k : ℕ) (s : SinkStand) (n : Node) (file : List ℕ) (i : ℕ) (v : Edge) → slice_get stands k ≡ Some s → slice_get b.nodes.items s.0 ≡ Some n
+      → output_of n.kind ≡ Some file → slice_get (blueprint_wires b) i ≡ Some v → v.to ≡ s.0 → SinkTook v.lane (lists i) (ends i) n.kind s
+  pub ignorer_took : (k : ℕ) (s : SinkStand) (n : Node) (i : ℕ) (v : Edge) → slice_get stands k ≡ Some s → slice_get b.nodes.items s.0 ≡ Some n
+      → n.kind ≡ Ignore → slice_get (blueprint_wires b) i ≡ Some v → v.to ≡ s.0 → IgnorerTook v.lane (lists i) (ends i) s
 
 -- what passed each wire, as all that may pass it
 abbrev pub as_passed : {book : Book} → {b : Blueprint} → {stands : List SinkStand} → {wires : List WireCount} → {picks : List Pick}

@@ -35,5 +35,6 @@ pub mod Worlds
 pub mod Choosing
 pub mod Carried
 pub mod Drawns
+pub mod ShutWires
 pub mod Closing
 pub mod Breaking

@@ -1,6 +1,6 @@
-// Laws of types: each function has no body, and its contract is the law. A type is what the check of a blueprint settles,
-// and an element is of it or not.
-ghost use Rattle.std.specs.Prelude.{◌≡◌, ℕ, List, [], ◌∷◌, map, slice_get, Ok, Err, Some, true};
+// Laws of types, and of wires that are told shut: each function has no body, and its contract is the law. A type is what the check of a
+// blueprint settles, and an element is of it or not.
+ghost use Rattle.std.specs.Prelude.{◌≡◌, ℕ, Bool, List, [], ◌∷◌, length, map, slice_get, Option, Ok, Err, Some, true};
 ghost use Rattle.elem_core.specs.Sort.{Sort, num_type, pair_type};
 ghost use Rattle.elem_core.specs.Tree.{Tree};
 ghost use Rattle.elem_core.specs.Values.{map_value, pred_value, expansion, fold_zero, fold_step, reduce_step, part_of};
@@ -12,12 +12,16 @@ ghost use Rattle.elem_core.specs.declared.function.Pred.{Pred};
 ghost use Rattle.elem_core.specs.declared.function.ReduceOp.{ReduceOp};
 ghost use Rattle.elem_core.specs.declared.why.Decider.{Decider};
 ghost use Rattle.elem_core.specs.declared.why.Why.TheVariants.{NotANumber};
-ghost use Rattle.stream_model.specs.Composed.{IsRanked};
+ghost use Rattle.stream_io.specs.State.{FolderState};
+ghost use Rattle.stream_model.specs.Composed.{IsRanked, composed};
 ghost use Rattle.stream_model.specs.Graph.{Graph, Edge};
+ghost use Rattle.stream_model.specs.Linear.{Book};
 ghost use Rattle.stream_model.specs.Node.{World, node_outlook};
 ghost use Rattle.stream_model.specs.Outlook.{Outlook};
 ghost use Rattle.stream_model.specs.declared.kind.Kind.{Kind};
 ghost use Rattle.stream_model.specs.declared.kind.Kind.TheVariants as kind;
+ghost use Rattle.stream_model.specs.declared.outcome.EndState.TheVariants.{Unended};
+ghost use Rattle.stream_model.specs.declared.outcome.WireCount.{WireCount};
 ghost use Rattle.fused_net.specs.Laws.{Settled};
 ghost use Rattle.fused_net.specs.Net.{Net, wire_at};
 ghost use Rattle.nodes.specs.Nodes.{node_port_state, node_law, node_asking, node_moves};
@@ -37,11 +41,15 @@ ghost use Rattle.blue_names.specs.Rounds.{half_type};
 ghost use Rattle.blue_names.specs.StageTypes.{source_type, stage_typed};
 ghost use Rattle.blue_check.specs.Fitness.{IsFit};
 ghost use Rattle.blue_check.specs.Wires.{blueprint_wires};
-ghost use Rattle.materializer.specs.Graphs.{graph_node, graph_chain};
+ghost use Rattle.interpreter.specs.Picks.{Pick};
+ghost use Rattle.materializer.specs.Graphs.{graph_node, graph_chain, graph_of};
 ghost use Rattle.run_blueprint.specs.Checked.{PassesRules, HasKnownSteps, CarriesType};
+ghost use Rattle.run_blueprint.specs.Drawing.{IsWorldOf};
 ghost use Rattle.run_blueprint.specs.Kinds.{is_known, shape_of, joining, single};
 ghost use Rattle.run_blueprint.specs.Plugs.{KeepsPlugTypes};
+ghost use Rattle.run_blueprint.specs.Running.{LeavesFiles};
 ghost use Rattle.run_blueprint.specs.Sent.{SendsItsType};
+ghost use Rattle.run_blueprint.specs.Stands.{SinkStand};
 ghost use Rattle.run_blueprint.specs.Types.{HasType, AllTyped, OutlooksTyped, TakesSort};
 
 use plug_logic::book::PlugBook;
@@ -118,4 +126,15 @@ pub fn every_wire_carries_its_type<S: Source, D: Drain, L: Logic, B: PlugBook>()
         → Materializes S.state g net.firsts net.ends → TellsPicks w (account_of net) → PassesRules plugs chains nodes g → KeepsPlugTypes plugs w.book
         → IsRanked g rank
         → (i : ℕ) (v : Edge) → slice_get g.wires i ≡ Some v → SendsItsType plugs chains nodes g w i v (wire_at net i).wire.sent }
+{}
+
+/// Whenever a run stopped whose folder had told its files, also where its units were used up: the wire of a sink that goes on, lane or
+/// not, is told shut only where all was sent that may pass it, unless its outlook has a failure.
+pub fn a_shut_wire_carried_all()
+    ensures { (book : Book) (old new : FolderState) (b : Blueprint) (trace : Option (List ℕ)) (sinks : List SinkStand) (picks : List Pick)
+        (wires : List WireCount) (at_rest : Bool) (l : LeavesFiles book old new b trace sinks picks wires at_rest) (w : World)
+        → IsWorldOf book b.nodes.items l.drawn w
+        → (k : ℕ) (s : SinkStand) (i : ℕ) (v : Edge) (c : WireCount) → slice_get sinks k ≡ Some s → s.2 ≡ Unended
+        → slice_get (blueprint_wires b) i ≡ Some v → v.to ≡ s.0 → slice_get wires i ≡ Some c → c.shut ≡ true
+        → (composed (graph_of b) w i).fails ≡ [] → c.sent ≡ length (composed (graph_of b) w i).list }
 {}

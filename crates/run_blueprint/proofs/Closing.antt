@@ -15,7 +15,7 @@ use Rattle.stream_model.specs.declared.outcome.EndState.TheVariants.{Ended, Fail
 use Rattle.stream_model.specs.Graph.{Graph, Edge, find_wire}
 use Rattle.stream_model.specs.Graph as graph
 use Rattle.stream_model.specs.Node.{World}
-use Rattle.stream_model.specs.Outlook.{Outlook}
+use Rattle.stream_model.specs.Outlook.{Outlook, unended}
 use Rattle.stream_model.specs.Composed.{next, composed, sink_outlook, IsRanked, inputs_of}
 use Rattle.stream_model.specs.Fits.{Fits}
 use Rattle.stream_model.proofs.Compositions.{found_first}

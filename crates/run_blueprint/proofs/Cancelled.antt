@@ -1,6 +1,6 @@
 -- A node that cancelled one of its inputs has closed each of its outputs, whatever its kind is.
 use Rattle.std.specs.Prelude.{slice_get, Option, None, Some}
-use Rattle.std.proofs.Common.{◌≡◌, ℕ, zero, suc, ◌+◌, ◌==◌, Bool, true, false, List, [], ◌∷◌, refl, sym, ap, subst, ◌∙◌}
+use Rattle.std.proofs.Common.{◌≡◌, ℕ, zero, suc, ◌+◌, ◌==◌, Bool, true, false, List, [], ◌∷◌, refl, sym, subst}
 use Rattle.elem_core.specs.Tree.{Tree}
 use Rattle.port_core.specs.View.{View, OneOneOf}
 use Rattle.port_core.specs.declared.view.InView.{InView}
@@ -45,11 +45,10 @@ use Rattle.stage_out.specs.PartitionStates as part
 use Rattle.stage_out.specs.OutLogics as out
 use Rattle.stage_out.specs.declared.logic.OutLogic.{OutLogic}
 use Rattle.stage_out.specs.declared.logic.OutLogic.TheVariants as fan_out
-use Rattle.stage_out.specs.declared.machines.OutMachines.{OutMachines}
 use Rattle.stage_out.specs.declared.machines.OutMachines.TheVariants.{Copies, Deals}
 use Rattle.nodes.specs.Ignoring.{ignore_port_state_in}
 use Rattle.nodes.specs.Nodes.{node_port_state}
-use Rattle.nodes.specs.OnePort.{input_only, output_only}
+use Rattle.nodes.specs.OnePort.{output_only}
 use Rattle.nodes.specs.Ports.{OneOutOf, OneInOf}
 use Rattle.nodes.specs.Sink.{sink_port_state_in}
 use Rattle.nodes.specs.Source.{lines_port_state_in}

@@ -189,7 +189,8 @@ MissesFile old new b trace n = (Contains (inputs_of_nodes b.nodes.items) n × Is
 -- What is told of a run whatever the folder tells. Its sinks stand so, and the count of failed writes of a sink's file rose exactly where
 -- that sink stands at a failed write. There is a list of moves for each stage whose kind chooses. The units were within the turns and
 -- pay for what passed the wires; each wire carried only elements of its type and stands by what was sent on it and by how its sink
--- stands, and the picture stands by what passed: it is lawful, and where no event was left it rests. In a polytree a sink has not ended only where the units were used up.
+-- stands, and each sink by what came to it; and the picture stands by what passed: it is lawful, and where no event was left it rests.
+-- In a polytree a sink has not ended only where the units were used up.
 pub record SinksWrote (p : Plugged) (old new : FolderState) (b : Blueprint) (turns : ℕ) (a : Answer) : Type 0 where
   pub stands : List SinkStand
   pub stands_are : map (λ (s : SinkStand). s.0) stands ≡ sink_places 0 b.nodes.items

@@ -7,9 +7,7 @@ use Rattle.stream_model.specs.Linear.{Book}
 use Rattle.stream_model.specs.declared.blueprint.Blueprint.{Blueprint}
 use Rattle.blue_check.specs.Wires.{blueprint_wires}
 use Rattle.port_core.specs.Cell.{WireState}
-use Rattle.port_core.specs.declared.view.InView.{InView}
 use Rattle.port_core.specs.declared.view.InView.TheVariants as inlet
-use Rattle.port_core.specs.declared.view.OutView.{OutView}
 use Rattle.port_core.specs.declared.view.OutView.TheVariants as outlet
 use Rattle.fused_net.specs.Net.{wire_at}
 use Rattle.interpreter.specs.Boundary.{cell_in, cell_out}

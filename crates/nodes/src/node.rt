@@ -144,7 +144,32 @@ impl<S: Source, D: Drain, L: Logic, B: PlugBook> IslandNode<S, D, L, B> {
         }
     }
 
-    // The handler of every other kind, out of line, so that a linear stage's keeps a small frame.
+    // The handler of every other kind, in place, so that the element gets its place on the way to them alone.
+    #[inline(always)]
+    fn push_else(
+        &mut self,
+        alloc: Global,
+        port: u8,
+        e: Elem,
+        acts: &mut Acts,
+    ) -> Result<(), NoMemory>
+        requires rest { IsNotLinear self.old }
+        requires meets { Meets (arrives port (item.Elem e)) (node_port_state self.old) }
+        requires empty { acts.old.items ≡ [] }
+        requires room { MOST_ACTS ≤ acts.old.room }
+        ensures handles { OnOk result (Handles node_port_state (node_law S.state D.state B.lists)
+            (arrives port (item.Elem e)) self.old self.new acts.new.items) }
+        ensures pulls { OnOk result (PullsAs (arrives port (item.Elem e)) (node_port_state self.old) (node_asking self.new) acts.new.items) }
+        ensures grows { OnOk result (IsPrefix (node_moves self.old) (node_moves self.new)) }
+        ensures passive { OnOk result (StaysPassive (node_passive self.old) (node_passive self.new) acts.new.items) }
+        ensures gone { OnOk result (node_gone self.new ≡ node_gone self.old) }
+        ensures room { OnOk result (acts.new.room ≡ acts.old.room) }
+        ensures kept { OnErr result (KeepsNode S.state D.state self.old self.new) }
+    {
+        self.push_rest(alloc, port, e, acts)
+    }
+
+    // The same, out of line, so that a linear stage's keeps a small frame.
     #[inline(never)]
     fn push_rest(
         &mut self,
@@ -232,7 +257,7 @@ impl<S: Source, D: Drain, L: Logic, B: PlugBook> Stage for IslandNode<S, D, L, B
     ) -> Result<(), NoMemory> {
         match self {
             IslandNode::Linear(logic) => Stage::on_push(logic, alloc, port, e, acts),
-            _ => self.push_rest(alloc, port, e, acts),
+            _ => self.push_else(alloc, port, e, acts),
         }
     }
 

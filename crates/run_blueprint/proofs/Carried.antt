@@ -13,6 +13,7 @@ use Rattle.stream_model.specs.declared.outcome.WireCount.{WireCount}
 use Rattle.stream_model.specs.Composed.{next, IsRanked}
 use Rattle.stream_model.specs.Graph.{Graph, Edge}
 use Rattle.stream_model.specs.Graph as graph
+use Rattle.stream_model.specs.Lane.{lane_loss}
 use Rattle.stream_model.specs.Linear.{Book}
 use Rattle.stream_model.specs.Node.{World}
 use Rattle.stream_model.specs.Outlook.{Outlook, End, unended, Agrees}
@@ -112,9 +113,9 @@ module _ (book : Book) (b : Blueprint) (stands : List SinkStand) (wires : List W
     (writers : (k : ℕ) (s : SinkStand) (n : Node) (file : List ℕ) (i : ℕ) (v : Edge) (c : WireCount) → slice_get stands k ≡ Some s → slice_get b.nodes.items s.0 ≡ Some n → n.kind ≡ ToLines file
     → slice_get (blueprint_wires b) i ≡ Some v → v.to ≡ s.0 → slice_get wires i ≡ Some c → AskedBy s.2 v.lane s.1 c)
     (takers : (k : ℕ) (s : SinkStand) (n : Node) (file : List ℕ) (i : ℕ) (v : Edge) → slice_get stands k ≡ Some s → slice_get b.nodes.items s.0 ≡ Some n → output_of n.kind ≡ Some file → slice_get (blueprint_wires b) i ≡ Some v → v.to ≡ s.0
-    → SinkTook v.lane (list_of (items i)) (end_of_items (items i)) n.kind s)
+    → SinkTook (lane_loss v.keep v.lane) (list_of (items i)) (end_of_items (items i)) n.kind s)
     (ignorers : (k : ℕ) (s : SinkStand) (n : Node) (i : ℕ) (v : Edge) → slice_get stands k ≡ Some s → slice_get b.nodes.items s.0 ≡ Some n → n.kind ≡ Ignore → slice_get (blueprint_wires b) i ≡ Some v → v.to ≡ s.0
-    → IgnorerTook v.lane (list_of (items i)) (end_of_items (items i)) s) where
+    → IgnorerTook (lane_loss v.keep v.lane) (list_of (items i)) (end_of_items (items i)) s) where
   abbrev lists : ℕ → List Tree
   lists u = list_of (items u)
 

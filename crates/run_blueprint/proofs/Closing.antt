@@ -19,6 +19,7 @@ use Rattle.stream_model.specs.Outlook.{Outlook, unended}
 use Rattle.stream_model.specs.Composed.{next, composed, sink_outlook, IsRanked, inputs_of}
 use Rattle.stream_model.specs.Fits.{Fits}
 use Rattle.stream_model.proofs.Compositions.{found_first}
+use Rattle.stream_model.specs.Lane.{lane_loss}
 use Rattle.stream_model.specs.Lawful.{IsLawful}
 use Rattle.stream_model.specs.OneWay as oneway
 use Rattle.stream_model.specs.Rests.{Rests, SinksMatch}
@@ -500,7 +501,7 @@ module _ {S D L B : Type 0} (sources : S → SourceState) (drains : D → DrainS
 
   -- what came to a sink with a file
   took_there : (i : ℕ) (s : SinkStand) (n : blue.Node) (file : List ℕ) (u : ℕ) (v : Edge) → slice_get st.end.sinks.items i ≡ Some s → slice_get nodes s.0 ≡ Some n → output_of n.kind ≡ Some file
-      → slice_get (blueprint_wires b) u ≡ Some v → v.to ≡ s.0 → SinkTook v.lane (list_of (left.near u).wire.sent) (end_of_items (left.near u).wire.sent) n.kind s
+      → slice_get (blueprint_wires b) u ≡ Some v → v.to ≡ s.0 → SinkTook (lane_loss v.keep v.lane) (list_of (left.near u).wire.sent) (end_of_items (left.near u).wire.sent) n.kind s
   took_there i s n file u v at here shape wire to =
       let found = stand_of i s n file at here shape in
       let f = found.0 in
@@ -508,7 +509,7 @@ module _ {S D L B : Type 0} (sources : S → SourceState) (drains : D → DrainS
       let same : h.node ≡ n = some_one h.node n (sym h.at ∙ here) in
       let one : inputs_of n.kind ≡ 1 = subst (λ (x : blue.Node). inputs_of x.kind ≡ 1) same (sink_one h.node.kind h.shape) in
       let is : (f.now.node, f.now.count, f.now.end) ≡ s = ap (λ (j : ℕ). (j, f.now.count, f.now.end)) f.place ∙ sym found.1 in
-      subst (λ (t : SinkStand). SinkTook v.lane (list_of (left.near u).wire.sent) (end_of_items (left.near u).wire.sent) n.kind t) is
+      subst (λ (t : SinkStand). SinkTook (lane_loss v.keep v.lane) (list_of (left.near u).wire.sent) (end_of_items (left.near u).wire.sent) n.kind t) is
       (sink_took sources drains book g left run u v wire s.0 (graph_node n) f.first f.now (mapped_at graph_node nodes s.0 n here) one to f.there)
 
   -- a sink that keeps nothing, by its place among the stands
@@ -524,10 +525,10 @@ module _ {S D L B : Type 0} (sources : S → SourceState) (drains : D → DrainS
 
   -- what came to it
   ignored_there : (i : ℕ) (s : SinkStand) (n : blue.Node) (u : ℕ) (v : Edge) → slice_get st.end.sinks.items i ≡ Some s → slice_get nodes s.0 ≡ Some n → n.kind ≡ kind.Ignore
-      → slice_get (blueprint_wires b) u ≡ Some v → v.to ≡ s.0 → IgnorerTook v.lane (list_of (left.near u).wire.sent) (end_of_items (left.near u).wire.sent) s
+      → slice_get (blueprint_wires b) u ≡ Some v → v.to ≡ s.0 → IgnorerTook (lane_loss v.keep v.lane) (list_of (left.near u).wire.sent) (end_of_items (left.near u).wire.sent) s
   ignored_there i s n u v at here shape wire to =
       let x = ignorer_of i s n at here shape in
-      subst (λ (t : SinkStand). IgnorerTook v.lane (list_of (left.near u).wire.sent) (end_of_items (left.near u).wire.sent) t) x.1.1.1
+      subst (λ (t : SinkStand). IgnorerTook (lane_loss v.keep v.lane) (list_of (left.near u).wire.sent) (end_of_items (left.near u).wire.sent) t) x.1.1.1
       (ignorer_took sources drains book g left run u v wire s.0 (graph_node n) x.0 x.1.0 (mapped_at graph_node nodes s.0 n here) (ap inputs_of shape) to x.1.1.0)
 
   -- one that was cancelled, and those behind it

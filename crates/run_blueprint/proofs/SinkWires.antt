@@ -27,7 +27,7 @@ use Rattle.stream_model.specs.Composed.{inputs_of}
 use Rattle.stream_model.specs.View.{outputs_of}
 use Rattle.stream_model.specs.Graph.{Graph, Edge, find_wire, find_source}
 use Rattle.stream_model.specs.Graph as graph
-use Rattle.stream_model.specs.Lane.{Carries}
+use Rattle.stream_model.specs.Lane.{lane_loss, Carries}
 use Rattle.stream_model.specs.Linear.{Book}
 use Rattle.stream_model.specs.Outlook.{End, unended, ended}
 use Rattle.stream_model.proofs.Compositions.{slice_get-below}
@@ -178,33 +178,33 @@ ended_sees sources drains book chains k n _ now s v took gave i is over other ma
 abbrev Crosses : Option ℕ → WireState → WireState → Type 0
 Crosses lane near far = (s : ℕ) → lane ≡ Some s → near.wire.inp ≡ Cancelled → far.wire.out ≡ outlet.Cancelled
 
-module _ (near far : WireState) (asked : ℕ) (p q : Bool) (sn : IsSound near.wire p) (sf : IsSound far.wire q) where
-  shut_by : (e : EndState) (lane : Option ℕ) → WireKeeps lane near far asked → Sees e far.wire.inp → ShutBy e lane (not (is_open near.wire.conn))
+module _ (keep : Bool) (near far : WireState) (asked : ℕ) (p q : Bool) (sn : IsSound near.wire p) (sf : IsSound far.wire q) where
+  shut_by : (e : EndState) (lane : Option ℕ) → WireKeeps keep lane near far asked → Sees e far.wire.inp → ShutBy e lane (not (is_open near.wire.conn))
   shut_by Unended lane k h = tt
   shut_by Ended None k h = rw (sym k) (in_shut far.wire q sf h)
   shut_by Ended (Some s) k h = tt
   shut_by (Failed c) None k h = rw (sym k) (in_shut far.wire q sf (subst InClosed (sym h) tt))
-  shut_by (Failed c) (Some s) k h = lane_over s near far k.out k.inp k.out_keeps k.in_keeps k.met p q sn sf h
+  shut_by (Failed c) (Some s) k h = lane_over keep s near far k.out k.inp k.out_keeps k.in_keeps k.met p q sn sf h
   shut_by WriteFault None k h = rw (sym k) (in_shut far.wire q sf h)
   shut_by WriteFault (Some s) k h = tt
 
   -- where a cancel crosses it from its input, one that was cancelled was so by its node there
-  left_by : (lane : Option ℕ) → WireKeeps lane near far asked → Crosses lane near far → near.wire.inp ≡ Cancelled → far.wire.inp ≡ Cancelled
+  left_by : (lane : Option ℕ) → WireKeeps keep lane near far asked → Crosses lane near far → near.wire.inp ≡ Cancelled → far.wire.inp ≡ Cancelled
   left_by None k crosses left = subst (λ (c : WireState). c.wire.inp ≡ Cancelled) (sym k) left
   left_by (Some s) k crosses left = out_left far.wire q sf (crosses s refl left)
 
-  over_by : (e : EndState) (lane : Option ℕ) → WireKeeps lane near far asked → Crosses lane near far → (l : List Tree) (f : End) → near.wire.got ≡ told l f → TookAs near.wire.inp f → Sees e far.wire.inp → OverBy e (not (is_open near.wire.conn)) (end_of_items near.wire.sent)
+  over_by : (e : EndState) (lane : Option ℕ) → WireKeeps keep lane near far asked → Crosses lane near far → (l : List Tree) (f : End) → near.wire.got ≡ told l f → TookAs near.wire.inp f → Sees e far.wire.inp → OverBy e (not (is_open near.wire.conn)) (end_of_items near.wire.sent)
   over_by Unended lane k crosses l f is seen h = λ shut none. goes_on_there far.wire.inp h (left_by lane k crosses (shut_left near.wire p sn l f is seen shut none))
   over_by Ended lane k crosses l f is seen h = tt
   over_by (Failed c) lane k crosses l f is seen h = tt
   over_by WriteFault lane k crosses l f is seen h = tt
 
   -- one whose end came at its input
-  over_there : (lane : Option ℕ) → WireKeeps lane near far asked → far.wire.inp ≡ Finished → not (is_open near.wire.conn) ≡ true
+  over_there : (lane : Option ℕ) → WireKeeps keep lane near far asked → far.wire.inp ≡ Finished → not (is_open near.wire.conn) ≡ true
   over_there None k h = rw (sym k) (in_shut far.wire q sf (subst InClosed (sym h) tt))
-  over_there (Some s) k h = lane_over s near far k.out k.inp k.out_keeps k.in_keeps k.met p q sn sf h
+  over_there (Some s) k h = lane_over keep s near far k.out k.inp k.out_keeps k.in_keeps k.met p q sn sf h
 
-  asked_by : (e : EndState) (lane : Option ℕ) (count : ℕ) → WireKeeps lane near far asked → IsMarked near → Sees e far.wire.inp → (e ≡ Unended → elements far.wire.got ≡ count) → AskedBy e lane count (wire_count lane near asked)
+  asked_by : (e : EndState) (lane : Option ℕ) (count : ℕ) → WireKeeps keep lane near far asked → IsMarked near → Sees e far.wire.inp → (e ≡ Unended → elements far.wire.got ≡ count) → AskedBy e lane count (wire_count lane near asked)
   asked_by Unended None count k m h wrote = λ none.
       let waits : near.wire.inp ≡ Pulled = subst (λ (c : WireState). c.wire.inp ≡ Pulled) k h in
       let all : elements near.wire.got ≡ count = subst (λ (c : WireState). elements c.wire.got ≡ count) k (wrote refl) in
@@ -214,11 +214,11 @@ module _ (near far : WireState) (asked : ℕ) (p q : Bool) (sn : IsSound near.wi
   asked_by (Failed c) lane count k m h wrote = tt
   asked_by WriteFault lane count k m h wrote = tt
 
-  asks_by : (lane : Option ℕ) (s : ℕ) → WireKeeps lane near far asked → lane ≡ Some s → (wire_count lane near asked).asked ≡ false → s ≤ elements near.wire.sent
+  asks_by : (lane : Option ℕ) (s : ℕ) → WireKeeps keep lane near far asked → lane ≡ Some s → (wire_count lane near asked).asked ≡ false → s ≤ elements near.wire.sent
   asks_by None s k is unasked = cc
   asks_by (Some z) s k is unasked =
       let size : z ≡ s = some_one z s is in
-      let least : z ≤ elements near.wire.sent = lane_least z near far k.out k.inp k.out_keeps k.in_keeps k.met (rw k.asked_is unasked) in
+      let least : z ≤ elements near.wire.sent = lane_least keep z near far k.out k.inp k.out_keeps k.in_keeps k.met (rw k.asked_is unasked) in
       omega (arith, size, least)
 
 -- how many elements came to a sink that goes on and writes each
@@ -249,7 +249,7 @@ module _ {S D L B : Type 0} (sources : S → SourceState) (drains : D → DrainS
   far_sound : (q : _) × IsSound (a.far u).wire q
   far_sound = run.keeps.far_sound u (slice_get-below g.wires u v at)
 
-  keeps : WireKeeps v.lane (a.near u) (a.far u) (a.asked u)
+  keeps : WireKeeps v.keep v.lane (a.near u) (a.far u) (a.asked u)
   keeps = run.keeps.wires u v at
 
   -- what came at its input end is a list and its end, as is known there
@@ -265,13 +265,13 @@ module _ {S D L B : Type 0} (sources : S → SourceState) (drains : D → DrainS
       let seen : TookAs (a.far u).wire.inp h.end = subst (λ (x : InView). TookAs x h.end) (some_index (knows g a v.to t.0).ins v.input (a.far u).wire.inp Cancelled inp) h.as_seen in
       (h.list, h.end, h.is, seen)
 
-  came_by : (lane : Option ℕ) → WireKeeps lane (a.near u) (a.far u) (a.asked u) → (l : List Tree) × (e : End) × ((a.near u).wire.got ≡ told l e) × TookAs (a.near u).wire.inp e
-  came_by None k = let c = came_far in (c.0, c.1, subst (λ (x : WireState). x.wire.got ≡ told c.0 c.1) k c.2, subst (λ (x : WireState). TookAs x.wire.inp c.1) k c.3)
-  came_by (Some s) k = (k.out_keeps.came_list, k.out_keeps.came_end, k.out_keeps.came_is, k.out_keeps.came_as)
+  came_by : (keep : Bool) (lane : Option ℕ) → WireKeeps keep lane (a.near u) (a.far u) (a.asked u) → (l : List Tree) × (e : End) × ((a.near u).wire.got ≡ told l e) × TookAs (a.near u).wire.inp e
+  came_by keep None k = let c = came_far in (c.0, c.1, subst (λ (x : WireState). x.wire.got ≡ told c.0 c.1) k c.2, subst (λ (x : WireState). TookAs x.wire.inp c.1) k c.3)
+  came_by keep (Some s) k = (k.out_keeps.came_list, k.out_keeps.came_end, k.out_keeps.came_is, k.out_keeps.came_as)
 
   -- at its output end
   came_near : (l : List Tree) × (e : End) × ((a.near u).wire.got ≡ told l e) × TookAs (a.near u).wire.inp e
-  came_near = came_by v.lane keeps
+  came_near = came_by v.keep v.lane keeps
 
   -- where an end was sent it is shut
   pub ended_shut : (end_of_items (a.near u).wire.sent ≡ unended → ⊥) → (wire_count v.lane (a.near u) (a.asked u)).shut ≡ true
@@ -283,7 +283,7 @@ module _ {S D L B : Type 0} (sources : S → SourceState) (drains : D → DrainS
   left_shut cancels shut none j x behind from =
       let c = came_near in
       let near : (a.near u).wire.inp ≡ Cancelled = shut_left (a.near u).wire near_sound.0 near_sound.1 c.0 c.1 c.2 c.3 shut none in
-      let far : (a.far u).wire.inp ≡ Cancelled = left_by (a.near u) (a.far u) (a.asked u) near_sound.0 far_sound.0 near_sound.1 far_sound.1 v.lane keeps (λ size lane. cancels u v size at lane) near in
+      let far : (a.far u).wire.inp ≡ Cancelled = left_by v.keep (a.near u) (a.far u) (a.asked u) near_sound.0 far_sound.0 near_sound.1 far_sound.1 v.lane keeps (λ size lane. cancels u v size at lane) near in
       let t = run.joined.target u v at in
       let kept = run.keeps.each_node v.to t.0 t.1 in
       let first : 0 + v.input ≡ v.input = omega arith in
@@ -300,7 +300,7 @@ module _ {S D L B : Type 0} (sources : S → SourceState) (drains : D → DrainS
 
   -- a lane that is not asked
   pub lane_asked : (s : ℕ) → v.lane ≡ Some s → (wire_count v.lane (a.near u) (a.asked u)).asked ≡ false → s ≤ elements (a.near u).wire.sent
-  lane_asked s is unasked = asks_by (a.near u) (a.far u) (a.asked u) near_sound.0 far_sound.0 near_sound.1 far_sound.1 v.lane s keeps is unasked
+  lane_asked s is unasked = asks_by v.keep (a.near u) (a.far u) (a.asked u) near_sound.0 far_sound.0 near_sound.1 far_sound.1 v.lane s keeps is unasked
 
   -- the wire of a sink
   module _ (k : ℕ) (n : graph.Node) (now : IslandNode S D L B) (ni : slice_get g.nodes k ≡ Some n) (one : inputs_of n.kind ≡ 1) (to : v.to ≡ k) (here : a.nodes k ≡ Some now) (cancels : CancelsCross g a) where
@@ -317,8 +317,8 @@ module _ {S D L B : Type 0} (sources : S → SourceState) (drains : D → DrainS
     pub sink_shut : (s : SinkStand) → stand_in now ≡ Some s → ShutBy s.2 v.lane (wire_count v.lane (a.near u) (a.asked u)).shut × OverBy s.2 (wire_count v.lane (a.near u) (a.asked u)).shut (end_of_items (a.near u).wire.sent)
     sink_shut s is =
         let c = came_near in (
-          shut_by (a.near u) (a.far u) (a.asked u) near_sound.0 far_sound.0 near_sound.1 far_sound.1 s.2 v.lane keeps (sees s is),
-          over_by (a.near u) (a.far u) (a.asked u) near_sound.0 far_sound.0 near_sound.1 far_sound.1 s.2 v.lane keeps (λ size lane. cancels u v size at lane) c.0 c.1 c.2 c.3 (sees s is),
+          shut_by v.keep (a.near u) (a.far u) (a.asked u) near_sound.0 far_sound.0 near_sound.1 far_sound.1 s.2 v.lane keeps (sees s is),
+          over_by v.keep (a.near u) (a.far u) (a.asked u) near_sound.0 far_sound.0 near_sound.1 far_sound.1 s.2 v.lane keeps (λ size lane. cancels u v size at lane) c.0 c.1 c.2 c.3 (sees s is),
         )
 
     -- one that ended, and takes more than one element
@@ -329,15 +329,15 @@ module _ {S D L B : Type 0} (sources : S → SourceState) (drains : D → DrainS
         let row : node_port_state now (knows g a k n) = subst (λ (x : IslandNode S D L B). node_port_state x (knows g a k n)) same kept.port_state_holds in
         let law : node_law sources drains book kept.first now (knows g a k n) (took g a k n) (gave g a k n) = subst (λ (x : IslandNode S D L B). node_law sources drains book kept.first x (knows g a k n) (took g a k n) (gave g a k n)) same kept.law_holds in
         let finished : (a.far u).wire.inp ≡ Finished = ended_sees sources drains book g.chains k n kept.first now s (knows g a k n) (took g a k n) (gave g a k n) (a.far u).wire.inp is over other (run.made k n kept.first ni kept.first_at) law row (read_one g inp_of a.far k (inputs_of n.kind) u one found) in
-        over_there (a.near u) (a.far u) (a.asked u) near_sound.0 far_sound.0 near_sound.1 far_sound.1 v.lane keeps finished
+        over_there v.keep (a.near u) (a.far u) (a.asked u) near_sound.0 far_sound.0 near_sound.1 far_sound.1 v.lane keeps finished
 
   -- what came to the node at its input
-  brought : (l : List Tree) (e : End) → (a.far u).wire.got ≡ told l e → Carries (lane_size v.lane) (list_of (a.near u).wire.sent) (end_of_items (a.near u).wire.sent) l e
-  brought = wire_brings v.lane (a.near u) (a.far u) (a.asked u) near_sound.0 far_sound.0 near_sound.1 far_sound.1 keeps
+  brought : (l : List Tree) (e : End) → (a.far u).wire.got ≡ told l e → Carries (lane_size (lane_loss v.keep v.lane)) (list_of (a.near u).wire.sent) (end_of_items (a.near u).wire.sent) l e
+  brought = wire_brings v.keep v.lane (a.near u) (a.far u) (a.asked u) near_sound.0 far_sound.0 near_sound.1 far_sound.1 keeps
 
   -- to a sink with a file
   pub sink_took : (k : ℕ) (n : graph.Node) (first now : Sink D) → slice_get g.nodes k ≡ Some n → inputs_of n.kind ≡ 1 → v.to ≡ k → IsSinkAt a k first now
-      → SinkTook v.lane (list_of (a.near u).wire.sent) (end_of_items (a.near u).wire.sent) n.kind (now.node, now.count, now.end)
+      → SinkTook (lane_loss v.keep v.lane) (list_of (a.near u).wire.sent) (end_of_items (a.near u).wire.sent) n.kind (now.node, now.count, now.end)
   sink_took k n first now ni one to there =
       let kept = kept_as node_port_state (node_law sources drains book) node_asking node_moves g a run.keeps k n (node.Writing first) (node.Writing now) ni there.at_first there.at_last in
       let law : SinkLaw drains first now (knows g a k n) (took g a k n) (gave g a k n) = kept.law_holds in
@@ -356,7 +356,7 @@ module _ {S D L B : Type 0} (sources : S → SourceState) (drains : D → DrainS
 
   -- to one that keeps nothing
   pub ignorer_took : (k : ℕ) (n : graph.Node) (first now : Ignorer) → slice_get g.nodes k ≡ Some n → inputs_of n.kind ≡ 1 → v.to ≡ k → IsIgnorerAt a k first now
-      → IgnorerTook v.lane (list_of (a.near u).wire.sent) (end_of_items (a.near u).wire.sent) (now.node, 0, now.end)
+      → IgnorerTook (lane_loss v.keep v.lane) (list_of (a.near u).wire.sent) (end_of_items (a.near u).wire.sent) (now.node, 0, now.end)
   ignorer_took k n first now ni one to there =
       let kept = kept_as node_port_state (node_law sources drains book) node_asking node_moves g a run.keeps k n (node.Ignoring first) (node.Ignoring now) ni there.at_first there.at_last in
       let law : IgnoreLaw first now (knows g a k n) (took g a k n) (gave g a k n) = kept.law_holds in
@@ -381,4 +381,4 @@ module _ {S D L B : Type 0} (sources : S → SourceState) (drains : D → DrainS
     pub sink_asked : AskedBy now.end v.lane now.count (wire_count v.lane (a.near u) (a.asked u))
     sink_asked =
         let view = sees k n (node.Writing now) ni (ap inputs_of shape) to there.at_last cancels (now.node, now.count, now.end) refl in
-        asked_by (a.near u) (a.far u) (a.asked u) near_sound.0 far_sound.0 near_sound.1 far_sound.1 now.end v.lane now.count keeps (run.keeps.near_marked u (slice_get-below g.wires u v at)) view wrote_all
+        asked_by v.keep (a.near u) (a.far u) (a.asked u) near_sound.0 far_sound.0 near_sound.1 far_sound.1 now.end v.lane now.count keeps (run.keeps.near_marked u (slice_get-below g.wires u v at)) view wrote_all

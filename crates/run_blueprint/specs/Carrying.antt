@@ -9,7 +9,7 @@ use Rattle.stream_model.specs.declared.outcome.EndState.{EndState}
 use Rattle.stream_model.specs.declared.outcome.EndState.TheVariants.{Ended, Failed, Unended, WriteFault}
 use Rattle.stream_model.specs.Composed.{next, composed}
 use Rattle.stream_model.specs.Graph.{Edge}
-use Rattle.stream_model.specs.Lane.{Carries}
+use Rattle.stream_model.specs.Lane.{lane_loss, Carries}
 use Rattle.stream_model.specs.Node.{World}
 use Rattle.stream_model.specs.Lawful.{IsLawful}
 use Rattle.stream_model.specs.Outlook.{Outlook, End, unended, Agrees}
@@ -72,21 +72,22 @@ LinesWritten WriteFault wrote n = length wrote ≡ n + 1
 LinesWritten _ wrote n = length wrote ≡ n
 
 -- What came to a sink with a file of the list and the end that passed its wire: all of it but what is on its way, and but what a
--- failure may have robbed of a lane. The sink wrote of that what its kind writes, so many lines, and it stands so.
-pub record SinkTook (lane : Option ℕ) (list : List Tree) (end : End) (shape : Kind) (s : SinkStand) : Type 0 where
+-- failure may have robbed of a lane, `loss` elements at most. The sink wrote of that what its kind writes, so many lines, and it stands
+-- so.
+pub record SinkTook (loss : Option ℕ) (list : List Tree) (end : End) (shape : Kind) (s : SinkStand) : Type 0 where
   pub came : List Tree
   pub seen : End
-  pub carried : Carries (lane_size lane) list end came seen
+  pub carried : Carries (lane_size loss) list end came seen
   pub kept : Option Tree
   pub wrote : List Tree
   pub writes : WritesOf (writes_of shape) s.0 kept s.2 came seen wrote
   pub lines : LinesWritten s.2 wrote s.1
 
 -- what came to a sink that keeps nothing, which ends as that does
-pub record IgnorerTook (lane : Option ℕ) (list : List Tree) (end : End) (s : SinkStand) : Type 0 where
+pub record IgnorerTook (loss : Option ℕ) (list : List Tree) (end : End) (s : SinkStand) : Type 0 where
   pub came : List Tree
   pub seen : End
-  pub carried : Carries (lane_size lane) list end came seen
+  pub carried : Carries (lane_size loss) list end came seen
   pub none : s.1 ≡ 0
   pub ends : EndsWith s.2 seen
 
@@ -123,9 +124,9 @@ pub record WiresCarry (book : Book) (b : Blueprint) (stands : List SinkStand) (w
       → slice_get b.nodes.items s.0 ≡ Some n → n.kind ≡ ToLines file
       → slice_get (blueprint_wires b) i ≡ Some v → v.to ≡ s.0 → slice_get wires i ≡ Some c → AskedBy s.2 v.lane s.1 c
   pub sink_took : (k : ℕ) (s : SinkStand) (n : Node) (file : List ℕ) (i : ℕ) (v : Edge) → slice_get stands k ≡ Some s → slice_get b.nodes.items s.0 ≡ Some n
-      → output_of n.kind ≡ Some file → slice_get (blueprint_wires b) i ≡ Some v → v.to ≡ s.0 → SinkTook v.lane (lists i) (ends i) n.kind s
+      → output_of n.kind ≡ Some file → slice_get (blueprint_wires b) i ≡ Some v → v.to ≡ s.0 → SinkTook (lane_loss v.keep v.lane) (lists i) (ends i) n.kind s
   pub ignorer_took : (k : ℕ) (s : SinkStand) (n : Node) (i : ℕ) (v : Edge) → slice_get stands k ≡ Some s → slice_get b.nodes.items s.0 ≡ Some n
-      → n.kind ≡ Ignore → slice_get (blueprint_wires b) i ≡ Some v → v.to ≡ s.0 → IgnorerTook v.lane (lists i) (ends i) s
+      → n.kind ≡ Ignore → slice_get (blueprint_wires b) i ≡ Some v → v.to ≡ s.0 → IgnorerTook (lane_loss v.keep v.lane) (lists i) (ends i) s
 
 -- what passed each wire, as all that may pass it
 abbrev pub as_passed : {book : Book} → {b : Blueprint} → {stands : List SinkStand} → {wires : List WireCount} → {picks : List Pick}

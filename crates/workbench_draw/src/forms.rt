@@ -51,7 +51,7 @@ fn forms_of_lines(symbol: &[u8]) -> Option<&'static [u8]> {
     } else if is_word(symbol, b"?kept") {
         Some(b"async?mark")
     } else if is_word(symbol, b"?mark") {
-        Some(b"N^?keep, keep")
+        Some(b"keep, N^?keep")
     } else if is_word(symbol, b"?keep") {
         Some(b"keep")
     } else if is_word(symbol, b"?size") {

@@ -331,6 +331,12 @@ clear_both net n r P h p at =
     let there = get_there net.nodes n h in
     (λ t. (p, λ x xi. (at x xi).0 t), λ b. (at there.0 there.1).1 (b.1 there.0 there.1))
 
+pub clear_one : {S D L B : Type 0} (net : Net (IslandNode S D L B)) (n : ℕ) (r : Bool) → n < length net.nodes → AtNode net n (λ x. (IsTrue r → node_waits x ≡ []) × (node_waits x ≡ [] → IsTrue r))
+    → (IsTrue r → AtNode net n (λ x. node_waits x ≡ [])) × (AtNode net n (λ x. node_waits x ≡ []) → IsTrue r)
+clear_one net n r h at =
+    let there = get_there net.nodes n h in
+    (λ t x xi. (at x xi).0 t, λ b. (at there.0 there.1).1 (b there.0 there.1))
+
 -- the stage where a lane goes out has nothing to tell when it asks
 asking_free : {S D L B : Type 0} (sources : S → SourceState) (drains : D → DrainState) (book : Book) (x first : IslandNode S D L B) (v w : View) (t g : List (List Item)) → IsLeaving first → node_law sources drains book first x v t g → node_asking x w
 asking_free sources drains book (node.Leaving x) (node.Leaving f) v w t g h law = tt

@@ -92,6 +92,19 @@ fn end_act(port: u8, cause: Option<Cause>) -> Act
     }
 }
 
+/// Whether nothing waits to be handed out where a lane goes out. It takes no memory.
+pub fn is_clear<S: Source, D: Drain, L: Logic, B: PlugBook>(
+    engine: &Engine<IslandNode<S, D, L, B>>,
+    place: u32,
+) -> bool
+    requires laws { Settled node_port_state (node_law S.state D.state B.lists) node_asking node_moves engine.now }
+    requires within { place < length engine.now.wires }
+    ensures { IsTrue result ↔ IsClearAt engine.now place }
+{
+    let ends = engine.ends(place);
+    engine.is_clear(ends.to)
+}
+
 /// Whether the stage at the input end may ask, where a lane goes out: its connection lets it, and nothing waits to be handed
 /// out. It takes no memory.
 pub fn can_pull_out<S: Source, D: Drain, L: Logic, B: PlugBook>(

@@ -326,6 +326,15 @@ impl<S: Source, D: Drain, L: Logic, B: PlugBook> Island<S, D, L, B> {
         calls::can_pull_out(&self.engine, self.ways.outs[wire as usize])
     }
 
+    /// Whether nothing waits to be handed out there. It takes no memory.
+    pub fn is_clear_out(&self, wire: u32) -> bool
+        requires whole { self.now.broken ≡ false }
+        requires leaves { Leaves self.now wire }
+        ensures { IsTrue result ↔ IsClearAt self.now.net (way_out self.now wire) }
+    {
+        calls::is_clear(&self.engine, self.ways.outs[wire as usize])
+    }
+
     /// Asks there. It takes no memory and costs no unit.
     pub fn pull_out(&mut self, wire: u32)
         requires whole { self.old.broken ≡ false }

@@ -109,6 +109,9 @@ impl OutputBoundary {
         ensures beside { Beside (way_out island.old self.old.wire) (out_node island.old self.old.wire) island.old island.new }
     {
         island.came_out(self.wire);
+        if island.is_clear_out(self.wire) {
+            return false;
+        }
         match island.given(self.wire) {
             Given::Nothing => return false,
             Given::Elem(e) => self.send(Item::Elem(e)),

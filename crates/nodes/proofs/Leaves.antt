@@ -1,6 +1,7 @@
 -- The stage where a lane goes out: its calls keep its law, and so does what is done with it between them.
 use Rattle.std.proofs.Common.{◌≡◌, ◌≤◌, ℕ, zero, suc, List, [], ◌∷◌, ◌++◌, length, refl, sym, ap, subst, ◌∙◌, arith, append_assoc}
-use Rattle.std.specs.Prelude.{Result, Ok, Err, OnOk}
+use Rattle.std.specs.Prelude.{Option, None, Some, Result, Ok, Err, OnOk, IfNone, IfSome}
+use Rattle.std.specs.Option.{option_to_list}
 use Rattle.elem_core.specs.declared.item.Item.{Item}
 use Rattle.elem_core.specs.declared.item.Item.TheVariants as item
 use Rattle.port_core.specs.declared.act.Act.{Act}
@@ -32,6 +33,30 @@ may_open (item.Failed c) y h = h
 
 idle_open : (y : InView) → y ≡ Idle → IsInOpen y
 idle_open y e = rw e tt
+
+-- ---- what waits lies in two places
+
+abbrev pub placed : ℕ → Option Item → Option Item → List Item → Leaving
+placed wire f s gone = record { wire = wire; waits = option_to_list f ++ option_to_list s; gone = gone }
+
+-- the second place is emptied, where the first is empty: nothing waited there either, or what did was the first
+pub second_none : (wire : ℕ) (f f' s s' r : Option Item) (gone : List Item) (x : Leaving) → placed wire f s gone ≡ x → f ≡ None → f' ≡ None → r ≡ s → s' ≡ None → IfNone r ((x.waits ≡ []) × (placed wire f' s' gone ≡ x))
+second_none wire f f' s s' None gone x is e e' v n = (sym (ap (λ (y : Leaving). y.waits) is) ∙ none, same ∙ is)
+  where
+    none : option_to_list f ++ option_to_list s ≡ []
+    none = rw (e, sym v) refl
+
+    same : placed wire f' s' gone ≡ placed wire f s gone
+    same = rw (e, e', sym v, n) refl
+second_none wire f f' s s' (Some i) gone x is e e' v n = tt
+
+pub second_some : (wire : ℕ) (f f' s s' r : Option Item) (gone : List Item) (x : Leaving) → placed wire f s gone ≡ x → f ≡ None → f' ≡ None → r ≡ s → s' ≡ None
+    → IfSome r (λ i. (x.waits ≡ i ∷ (option_to_list f' ++ option_to_list s')) × (placed wire f' s' gone ≡ record x { waits = option_to_list f' ++ option_to_list s' }))
+second_some wire f f' s s' None gone x is e e' v n = tt
+second_some wire f f' s s' (Some i) gone x is e e' v n = (sym (ap (λ (y : Leaving). y.waits) is) ∙ was, ap (λ (y : Leaving). record y { waits = option_to_list f' ++ option_to_list s' }) is)
+  where
+    was : option_to_list f ++ option_to_list s ≡ i ∷ (option_to_list f' ++ option_to_list s')
+    was = rw (e, e', sym v, n) refl
 
 -- ---- an item comes
 

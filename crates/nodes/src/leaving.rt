@@ -17,8 +17,8 @@ use std::marker::Model;
 // Choice: docs/DECISIONS.md#one-list-left
 /// The stage at which what came to it leaves an island for a lane. It has one input and no output: an element that came, and an
 /// end behind it, wait here until they are handed out or dropped between two events of the island. Its input is asked and
-/// cancelled from there too, and asked only where nothing waits, so two places are enough. Rule: Akka Streams 2.6 reference,
-/// chapter on asynchronous boundaries.
+/// cancelled from there too, and asked only where nothing waits, so two places are enough. What waits is handed out of the place
+/// in which it lies, and is not moved up before. Rule: Akka Streams 2.6 reference, chapter on asynchronous boundaries.
 #[derive(Drop)]
 pub struct Leaving {
     wire: u32,
@@ -28,7 +28,7 @@ pub struct Leaving {
 }
 
 impl Model for Leaving {
-    ghost use Rattle.std.specs.Prelude.{◌≡◌, ◌++◌, None};
+    ghost use Rattle.std.specs.Prelude.{◌++◌};
     ghost use Rattle.std.specs.Option.{option_to_list};
     ghost use Rattle.std.specs.Coded.{codes};
     ghost use Rattle.elem_core.specs.TreeCode.{tree_coded};
@@ -39,8 +39,6 @@ impl Model for Leaving {
     ghost coded = { Prim.hlevel (codes, tree_coded) };
 
     ghost view = { λ s. record { wire = s.wire; waits = option_to_list s.first ++ option_to_list s.second; gone = s.gone.items } };
-
-    ghost invariant = { λ s. s.first ≡ None → s.second ≡ None };
 }
 
 impl Leaving {
@@ -65,13 +63,39 @@ impl Leaving {
     }
 
     // An item came: it waits behind the one that waits, if one does.
+    #[inline(always)]
     fn add(&mut self, item: Item)
-        requires { length self.old.waits ≤ 1 }
+        requires few { length self.old.waits ≤ 1 }
+        ensures { self.new ≡ record self.old { waits = self.old.waits ++ item ∷ [] } }
+    {
+        match (&self.first, &self.second) {
+            (None, None) => self.first = Some(item),
+            _ => self.add_behind(item),
+        }
+    }
+
+    // The same where one waits, in either place. Out of line, since this comes once.
+    #[inline(never)]
+    fn add_behind(&mut self, item: Item)
+        requires few { length self.old.waits ≤ 1 }
         ensures { self.new ≡ record self.old { waits = self.old.waits ++ item ∷ [] } }
     {
         match &self.first {
-            None => self.first = Some(item),
+            None => self.first = self.second.replace(item),
             Some(_) => self.second = Some(item),
+        }
+    }
+
+    // Takes the first that waits out of the place in which it lies, and does not yet note that it is gone.
+    #[inline(always)]
+    fn take_first(&mut self) -> Option<Item>
+        ensures none { IfNone result ((self.old.waits ≡ []) × (self.new ≡ self.old)) }
+        ensures some { IfSome result (λ x. (self.old.waits ≡ x ∷ self.new.waits)
+            × (self.new ≡ record self.old { waits = self.new.waits })) }
+    {
+        match self.first.take() {
+            Some(item) => Some(item),
+            None => self.second.take(),
         }
     }
 
@@ -81,8 +105,7 @@ impl Leaving {
         ensures some { IfSome result (λ x. (self.old.waits ≡ x ∷ self.new.waits)
             × (self.new ≡ record { wire = self.old.wire; waits = self.new.waits; gone = self.old.gone ++ x ∷ [] })) }
     {
-        let item = self.first.take()?;
-        self.first = self.second.take();
+        let item = self.take_first()?;
         self.gone = self.gone.and(&item);
         Some(item)
     }
@@ -182,7 +205,7 @@ impl Stage for Leaving {
     }
 
     fn is_clear(&self) -> bool {
-        self.first.is_none()
+        self.first.is_none() && self.second.is_none()
     }
 
     fn is_passive(&self) -> bool {

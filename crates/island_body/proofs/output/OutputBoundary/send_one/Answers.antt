@@ -1,6 +1,11 @@
+use Rattle.std.proofs.Common.{refl}
 use Rattle.elem_core.specs.declared.item.Item.TheVariants as item
 use Rattle.island_body.proofs.BoundarySending.{may_send, room_for, sent_keeps}
+use Rattle.island_body.proofs.Serving.{clear_waits}
 use Rattle.island_body.proofs.output.OutputBoundary.send_one.Goals as goal
+
+pub returns-then-is_clear_out-clause-rest : goal.returns-then-is_clear_out-clause-rest
+returns-then-is_clear_out-clause-rest g c e = (refl, refl, clear_waits c.args.island.now c.args.self.now.wire (c.is_clear_out.ensures.0 c.if-is_clear_out.true))
 
 pub send-requires-clause-open : goal.send-requires-clause-open
 send-requires-clause-open g c = may_send c.args.self.now.lane _ _ c.came_out.ensures c.requires.keeps _ (item.Elem c.in-Elem.e) c.in-Elem.ensures.given

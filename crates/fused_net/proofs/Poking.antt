@@ -2,6 +2,7 @@
 use Rattle.std.proofs.Common.{◌≡◌, ◌≢◌, inl, inr, ℕ, zero, suc, ◌<◌, ◌≤◌, None, Some, List, [], ◌∷◌, ◌++◌, length, map, get_or, slice_get, set, refl, sym, ap, ◌∙◌, subst, arith}
 use Rattle.std.specs.Prelude.{Option, IfNone, IfSome}
 use Rattle.std.proofs.lemmas.List.{length-set}
+use Rattle.elem_core.specs.Tree.{Tree}
 use Rattle.elem_core.specs.declared.item.Item.{Item}
 use Rattle.port_core.specs.View.{View, in_at}
 use Rattle.port_core.specs.Asking.{PullsStand}
@@ -50,6 +51,10 @@ stands_one (Push j e) = tt
 stands_one (Complete j) = tt
 stands_one (FailOut j c) = tt
 stands_one (Cancel i) = tt
+
+-- to push asks nothing
+pub push_asks_nothing : {N : Type 0} (asking : N → View → Type 0) (net : Net N) (n j : ℕ) (e : Tree) → TellsPoked asking net n (Push j e)
+push_asks_nothing asking net n j e p = absurd p
 
 module _ {N : Type 0} (port_state : N → View → Type 0) (law : N → N → View → List (List Item) → List (List Item) → Type 0) (asking : N → View → Type 0) (moves : N → List ℕ) where
   pub poked_busy : (net : Net N) (n : ℕ) (a : Act) → Settled port_state law asking moves net → n < length net.nodes → IsMinded port_state law net n (a ∷ []) → Busy port_state law net n (a ∷ [])

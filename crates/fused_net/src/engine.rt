@@ -682,6 +682,37 @@ impl<S: Stage> Engine<S> {
         self.act(n as usize, act);
     }
 
+    /// Node n pushes an element outside of its handlers, as `poke` says.
+    #[inline(always)]
+    pub fn poke_push(&mut self, n: u32, j: u8, e: Elem)
+        requires laws { Settled S.port_state S.law S.asking S.moves self.old }
+        requires within { n < length self.old.nodes }
+        requires may { IsMinded S.port_state S.law self.old n (act.Push j e ∷ []) }
+        requires few { all_asks self.old ≤ MOST_COUNT }
+        ensures after { self.new ≡ acted self.old n (act.Push j e) }
+        ensures laws { Settled S.port_state S.law S.asking S.moves self.new }
+        ensures on { NetGoesOn self.old self.new }
+        ensures uses { Uses self.old self.new 0 }
+    {
+        self.push(n as usize, j, e);
+    }
+
+    /// Node n pulls outside of its handlers, as `poke` says.
+    #[inline(always)]
+    pub fn poke_pull(&mut self, n: u32, i: u8)
+        requires laws { Settled S.port_state S.law S.asking S.moves self.old }
+        requires within { n < length self.old.nodes }
+        requires may { IsMinded S.port_state S.law self.old n (act.Pull i ∷ []) }
+        requires tells { TellsPoked S.asking self.old n (act.Pull i) }
+        requires few { all_asks self.old ≤ MOST_COUNT }
+        ensures after { self.new ≡ acted self.old n (act.Pull i) }
+        ensures laws { Settled S.port_state S.law S.asking S.moves self.new }
+        ensures on { NetGoesOn self.old self.new }
+        ensures uses { Uses self.old self.new 0 }
+    {
+        self.pull(n as usize, i);
+    }
+
     /// Whether no event is left.
     pub fn is_at_rest(&self) -> bool
         ensures { IsTrue result ↔ (self.now.queue ≡ []) }

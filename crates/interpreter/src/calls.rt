@@ -58,7 +58,7 @@ pub fn push_in<S: Source, D: Drain, L: Logic, B: PlugBook>(
     ensures uses { Uses engine.old engine.new 0 }
 {
     let ends = engine.ends(place);
-    engine.poke(ends.from, Act::Push(ends.output, e));
+    engine.poke_push(ends.from, ends.output, e);
 }
 
 /// Completes what comes in there, or fails it; no change where its output is closed. It takes no memory and costs no unit.
@@ -135,7 +135,7 @@ pub fn pull_out<S: Source, D: Drain, L: Logic, B: PlugBook>(
     ensures uses { Uses engine.old engine.new 0 }
 {
     let ends = engine.ends(place);
-    engine.poke(ends.to, Act::Pull(ends.input));
+    engine.poke_pull(ends.to, ends.input);
 }
 
 /// Hands out what came where a lane goes out, each element and the end once and in order. It takes no memory and costs no unit.

@@ -1,6 +1,6 @@
 -- What an input boundary keeps as it hands on, while others act, and while its island runs.
-use Rattle.std.specs.Prelude.{Option}
-use Rattle.std.proofs.Common.{◌≡◌, ◌≢◌, inl, inr, ℕ, ◌+◌, ◌*◌, ◌/◌, ◌<◌, max, Bool, true, false, cond, List, [], ◌∷◌, ◌++◌, length, refl, sym, ap, ◌∙◌, subst, arith, get_or-set_same}
+use Rattle.std.specs.Prelude.{◌⊎◌, Option}
+use Rattle.std.proofs.Common.{◌≡◌, ◌≢◌, inl, inr, ℕ, ◌+◌, ◌*◌, ◌/◌, ◌<◌, ◌≤◌, max, Bool, true, false, cond, List, [], ◌∷◌, ◌++◌, length, refl, sym, ap, ◌∙◌, subst, arith, get_or-set_same}
 use Rattle.elem_core.specs.Items.{elements}
 use Rattle.elem_core.specs.declared.item.Item.{Item}
 use Rattle.elem_core.specs.declared.item.Item.TheVariants as item
@@ -127,8 +127,8 @@ module _ {S D L B : Type 0} (b : InputBoundary) (i : Kept S D L B) (u : ℕ) (x 
   pub handed_live : (cell_in new u).wire.out ≢ outlet.Cancelled
   handed_live e = shut_live (ends x) (sym out_moved ∙ e)
 
-  pub handed_given : (c : InputBoundary) → HasGiven c new u
-  handed_given c e = absurd (shut_unasked (ends x) (sym out_moved ∙ e))
+  pub handed_unasked : (cell_in new u).wire.out ≢ outlet.Available
+  handed_unasked e = shut_unasked (ends x) (sym out_moved ∙ e)
 
   pub handed_beside : Beside (way_in i u) (in_node i u) i new
   handed_beside = beside_moved (in_node i u) i (way_in i u) (act_of x) new is
@@ -153,6 +153,13 @@ module _ {S D L B : Type 0} (b : InputBoundary) (i : Kept S D L B) (u : ℕ) whe
   pub fed_live : (cell_in i u).wire.out ≢ outlet.Cancelled → HasGiven b i u → (state b ≡ Flowing → waits b ≡ [] → taken_items b.lane ≡ given b) → IsFed b i u
   fed_live live all none = record { given_all = all; no_end = none; refused = λ e. absurd (live e) }
 
+  -- one at which no end waits behind no element, and which gave what it was asked for
+  pub fed_last : (cell_in i u).wire.out ≢ outlet.Cancelled → ((cell_in i u).wire.out ≡ outlet.Available → (waits b ≡ []) ⊎ ((cell_in i u).wire.conn.in_closed ≡ true)) → state b ≡ Flowing → (state b ≡ Flowing → waits b ≡ [] → taken_items b.lane ≡ given b) → IsFed b i u
+  fed_last live asked flows none = fed_live live (λ e. elim (asked e) [
+    | inl w ↦ inl (none flows w)
+    | inr h ↦ inr h
+  ]) none
+
   -- the lane was cancelled
   pub feeds_cancelled : Feeds b i u → (cell_in i u).wire.out ≡ outlet.Cancelled → (c : InputBoundary) → given c ≡ given b → state c ≡ Cancelled → Feeds c i u
   feeds_cancelled f e c g s = record {
@@ -163,8 +170,8 @@ module _ {S D L B : Type 0} (b : InputBoundary) (i : Kept S D L B) (u : ℕ) whe
   }
 
   -- where an output was asked, and may not push, a cancel is on its way
-  pub given_away : {sources : S → SourceState} {drains : D → DrainState} {book : Book} → Settled node_port_state (node_law sources drains book) node_asking node_moves i.net → Enters i u → wanted_at (cell_in i u) ≡ wanted.Quiet → HasGiven b i u
-  given_away s en w e = inr (cancel_away (cell_in i u).wire _ (s.sound (way_in i u) en.place) e (wanted_quiet (cell_in i u).wire.out (can_push (cell_in i u).wire.conn) w).0)
+  pub quiet_away : {sources : S → SourceState} {drains : D → DrainState} {book : Book} → Settled node_port_state (node_law sources drains book) node_asking node_moves i.net → Enters i u → wanted_at (cell_in i u) ≡ wanted.Quiet → (cell_in i u).wire.out ≡ outlet.Available → (cell_in i u).wire.conn.in_closed ≡ true
+  quiet_away s en w e = cancel_away (cell_in i u).wire _ (s.sound (way_in i u) en.place) e (wanted_quiet (cell_in i u).wire.out (can_push (cell_in i u).wire.conn) w).0
 
   -- so few elements were handed on
   pub few_given : {sources : S → SourceState} {drains : D → DrainState} {book : Book} → IslandKeeps sources drains book i.net i.used → Enters i u → Feeds b i u → wanted_at (cell_in i u) ≡ wanted.Asked → elements (given b) < MOST_COUNT
@@ -205,6 +212,19 @@ feeds_begun sources drains book b i u s l none nothing flows =
       closed = λ e. absurd cc;
       cancelled = λ e. absurd cc;
     }
+
+-- one call more asked, or none
+pub asks_least : (b : Bool) (m n : ℕ) → n ≡ m + cond b 1 0 → m ≤ n
+asks_least true m n e = omega (arith, e)
+asks_least false m n e = omega (arith, e)
+
+pub asks_more : (b : Bool) (m n : ℕ) → n ≡ m + cond b 1 0 → b ≡ true → m < n
+asks_more true m n e t = omega (arith, e)
+asks_more false m n e t = absurd cc
+
+pub asks_none : (b : Bool) (m n : ℕ) → n ≡ m + cond b 1 0 → b ≡ false → n ≡ m
+asks_none true m n e t = absurd cc
+asks_none false m n e t = omega (arith, e)
 
 -- as many asks, as much asked
 pub asked_by_calls : (b c : InputBoundary) → BoundaryKeeps b → BoundaryKeeps c → in_size c.lane ≡ in_size b.lane → ask_calls c.lane ≡ ask_calls b.lane → asked_in_all c.lane ≡ asked_in_all b.lane

@@ -5,19 +5,19 @@ ghost use Rattle.fused_net.specs.Costs.{Uses};
 ghost use Rattle.port_core.specs.declared.view.OutView.TheVariants as outlet;
 ghost use Rattle.lane_core.specs.Lane.{ends};
 ghost use Rattle.lane_core.specs.Ends.{taken_items, asked_in_all, ask_calls, has_cancelled, found_sent, told_sent};
-ghost use Rattle.lane_core.specs.Boundary.{given, waits, is_over, state, IsSameEnd, BoundaryKeeps};
+ghost use Rattle.lane_core.specs.Boundary.{given, waits, is_over, state, keeps_all, IsSameEnd, BoundaryKeeps};
 ghost use Rattle.lane_core.specs.declared.state.State.TheVariants.{Flowing, Closed, Cancelled};
 ghost use Rattle.port_core.specs.View.{output_closed};
 ghost use Rattle.interpreter.specs.BoundaryPlaces.{wanted_at, moved_at};
 ghost use Rattle.interpreter.specs.declared.given.Wanted.TheVariants as wanted;
 ghost use Rattle.interpreter.specs.Boundary.{Enters, way_in, cell_in, with_net};
 ghost use Rattle.island_body.specs.Beside.{Beside, in_node};
-ghost use Rattle.island_body.specs.Feeding.{act_of, Feeds, HasGiven, IsFed};
+ghost use Rattle.island_body.specs.Feeding.{act_of, Feeds, IsFed};
 
 use elem_core::item::Item;
 use interpreter::given::Wanted;
 use interpreter::island::Island;
-use lane_core::boundary::{InputBoundary, Passed};
+use lane_core::boundary::InputBoundary;
 use lane_core::state::State;
 use plug_logic::book::PlugBook;
 use plug_logic::logic::Logic;
@@ -87,69 +87,89 @@ impl IslandInput {
         }
     }
 
-    // Hands on the next item: an element only where the stage is asked, an end behind the elements also where it is not. True comes
-    // exactly where the lane was asked for more.
+    // Hands on the first element that waits, to a stage that is asked. True comes exactly where the lane was asked for more.
+    #[inline(always)]
     fn hand_on<S: Source, D: Drain, L: Logic, B: PlugBook>(
         &mut self,
         island: &mut Island<S, D, L, B>,
-        asked: bool,
     ) -> bool
         requires whole { island.old.broken ≡ false }
         requires enters { Enters island.old self.old.wire }
         requires feeds { Feeds self.old.boundary island.old self.old.wire }
         requires flows { state self.old.boundary ≡ Flowing }
-        requires live { (cell_in island.old self.old.wire).wire.out ≢ outlet.Cancelled }
-        requires asked { asked ≡ true → wanted_at (cell_in island.old self.old.wire) ≡ wanted.Asked }
+        requires asked { wanted_at (cell_in island.old self.old.wire) ≡ wanted.Asked }
         ensures feeds { Feeds self.new.boundary island.new self.new.wire }
+        ensures flows { state self.new.boundary ≡ Flowing }
         ensures live { (cell_in island.new self.new.wire).wire.out ≢ outlet.Cancelled }
+        ensures given { (cell_in island.new self.new.wire).wire.out ≡ outlet.Available → waits self.new.boundary ≡ [] }
         ensures wire { (self.new.wire ≡ self.old.wire) × IsSameEnd self.old.boundary self.new.boundary
             × (taken_items self.new.boundary.lane ≡ taken_items self.old.boundary.lane)
             × (has_cancelled self.new.boundary.lane ≡ has_cancelled self.old.boundary.lane) }
         ensures asks { ask_calls self.new.boundary.lane ≡ ask_calls self.old.boundary.lane + cond result 1 0 }
         ensures known { (found_sent self.new.boundary.lane ≡ found_sent self.old.boundary.lane)
             × (told_sent self.new.boundary.lane ≡ told_sent self.old.boundary.lane) × (is_over self.new.boundary ≡ is_over self.old.boundary) }
-        ensures asked { asked ≡ true → HasGiven self.new.boundary island.new self.new.wire }
-        ensures ended { asked ≡ false → state self.new.boundary ≡ Flowing → (self.new ≡ self.old) × (island.new ≡ island.old)
-            × (waits self.new.boundary ≡ [] → taken_items self.new.boundary.lane ≡ given self.new.boundary) }
         ensures uses { Uses island.old.net island.new.net 0 }
         ensures beside { Beside (way_in island.old self.old.wire) (in_node island.old self.old.wire) island.old island.new }
     {
         island.laws();
-        match self.boundary.next(asked) {
+        match self.boundary.next() {
             None => false,
-            Some(Passed { item, asks }) => {
-                give(island, self.wire, item);
+            Some((e, asks)) => {
+                island.push_in(self.wire, e);
                 asks
             }
         }
     }
 
-    // Hands on an end that waits where no element does. Then nothing is left to do where nothing was but this. True comes exactly
-    // where the lane was asked for more.
+    // Hands on the end that waits behind no element. Then nothing is left to do where nothing was but this.
+    #[inline(never)]
     fn hand_on_end<S: Source, D: Drain, L: Logic, B: PlugBook>(
         &mut self,
         island: &mut Island<S, D, L, B>,
-    ) -> bool
+    )
         requires whole { island.old.broken ≡ false }
         requires enters { Enters island.old self.old.wire }
         requires feeds { Feeds self.old.boundary island.old self.old.wire }
+        requires flows { state self.old.boundary ≡ Flowing }
         requires live { (cell_in island.old self.old.wire).wire.out ≢ outlet.Cancelled }
-        requires asked { HasGiven self.old.boundary island.old self.old.wire }
+        requires none { waits self.old.boundary ≡ [] }
         ensures feeds { Feeds self.new.boundary island.new self.new.wire }
         ensures fed { IsFed self.new.boundary island.new self.new.wire }
-        ensures wire { (self.new.wire ≡ self.old.wire) × IsSameEnd self.old.boundary self.new.boundary
-            × (taken_items self.new.boundary.lane ≡ taken_items self.old.boundary.lane)
-            × (has_cancelled self.new.boundary.lane ≡ has_cancelled self.old.boundary.lane) }
-        ensures asks { ask_calls self.new.boundary.lane ≡ ask_calls self.old.boundary.lane + cond result 1 0 }
-        ensures known { (found_sent self.new.boundary.lane ≡ found_sent self.old.boundary.lane)
-            × (told_sent self.new.boundary.lane ≡ told_sent self.old.boundary.lane) × (is_over self.new.boundary ≡ is_over self.old.boundary) }
+        ensures wire { (self.new.wire ≡ self.old.wire) × (self.new.boundary.lane ≡ self.old.boundary.lane)
+            × (keeps_all self.new.boundary ≡ keeps_all self.old.boundary) }
+        ensures over { is_over self.new.boundary ≡ is_over self.old.boundary }
         ensures uses { Uses island.old.net island.new.net 0 }
         ensures beside { Beside (way_in island.old self.old.wire) (in_node island.old self.old.wire) island.old island.new }
     {
-        if self.flows() {
-            self.hand_on(island, false)
-        } else {
-            false
+        match self.boundary.next_end() {
+            None => {}
+            Some(end) => give_end(island, self.wire, end),
+        }
+    }
+
+    // The same where such an end waits, and else nothing: then nothing is left to do where the stage was given all that it asked for.
+    #[inline(always)]
+    fn hand_on_last<S: Source, D: Drain, L: Logic, B: PlugBook>(
+        &mut self,
+        island: &mut Island<S, D, L, B>,
+    )
+        requires whole { island.old.broken ≡ false }
+        requires enters { Enters island.old self.old.wire }
+        requires feeds { Feeds self.old.boundary island.old self.old.wire }
+        requires flows { state self.old.boundary ≡ Flowing }
+        requires live { (cell_in island.old self.old.wire).wire.out ≢ outlet.Cancelled }
+        requires given { (cell_in island.old self.old.wire).wire.out ≡ outlet.Available → (waits self.old.boundary ≡ [])
+            ⊎ ((cell_in island.old self.old.wire).wire.conn.in_closed ≡ true) }
+        ensures feeds { Feeds self.new.boundary island.new self.new.wire }
+        ensures fed { IsFed self.new.boundary island.new self.new.wire }
+        ensures wire { (self.new.wire ≡ self.old.wire) × (self.new.boundary.lane ≡ self.old.boundary.lane)
+            × (keeps_all self.new.boundary ≡ keeps_all self.old.boundary) }
+        ensures over { is_over self.new.boundary ≡ is_over self.old.boundary }
+        ensures uses { Uses island.old.net island.new.net 0 }
+        ensures beside { Beside (way_in island.old self.old.wire) (in_node island.old self.old.wire) island.old island.new }
+    {
+        if self.boundary.is_at_end() {
+            self.hand_on_end(island);
         }
     }
 
@@ -220,30 +240,33 @@ impl IslandInput {
                 true
             }
             Wanted::Asked => {
-                let first = self.hand_on(island, true);
-                let second = self.hand_on_end(island);
-                first || second
+                let told = self.hand_on(island);
+                self.hand_on_last(island);
+                told
             }
-            Wanted::Quiet => self.hand_on_end(island),
+            Wanted::Quiet => {
+                self.hand_on_last(island);
+                false
+            }
         }
     }
 }
 
-// The stage at which the lane that is wire `wire` comes in hands an item on.
-fn give<S: Source, D: Drain, L: Logic, B: PlugBook>(
+// The stage at which the lane that is wire `wire` comes in ends its output, as the lane did.
+fn give_end<S: Source, D: Drain, L: Logic, B: PlugBook>(
     island: &mut Island<S, D, L, B>,
     wire: u32,
-    item: Item,
+    end: Item,
 )
     requires whole { island.old.broken ≡ false }
     requires enters { Enters island.old wire }
-    requires asked { ends item ≡ false → wanted_at (cell_in island.old wire) ≡ wanted.Asked }
+    requires is_end { ends end ≡ true }
     requires live { output_closed (cell_in island.old wire).wire.out ≡ false }
-    ensures after { island.new ≡ with_net island.old (moved_at island.old.net (way_in island.old wire) (act_of item)) }
+    ensures after { island.new ≡ with_net island.old (moved_at island.old.net (way_in island.old wire) (act_of end)) }
     ensures uses { Uses island.old.net island.new.net 0 }
 {
-    match item {
-        Item::Elem(e) => island.push_in(wire, e),
+    match end {
+        Item::Elem(_) => unreachable!(),
         Item::Ended => island.end_in(wire, None),
         Item::Failed(cause) => island.end_in(wire, Some(cause)),
     }

@@ -2,6 +2,7 @@
 ghost use Rattle.std.specs.Prelude.{◌≡◌, ◌⊎◌, ◌+◌, ◌<◌, ◌≤◌, ◌/◌, ◌^◌, ◌++◌, [], ◌∷◌, ℕ, max, true, false, cond, length, IfOk, IfSome, IfNone, IsOk};
 ghost use Rattle.elem_core.specs.Items.{elements};
 ghost use Rattle.elem_core.specs.declared.item.Item.{Item};
+ghost use Rattle.elem_core.specs.declared.item.Item.TheVariants as item;
 ghost use Rattle.elem_core.specs.declared.count.TheConstants.{MOST_COUNT};
 ghost use Rattle.lane_core.specs.Lane.{ends};
 ghost use Rattle.lane_core.specs.Ends.{taken_items, asked_in_all, ask_calls, has_cancelled, found_sent, told_sent, in_size, learnt, IsSameIn, AreOneLane, IsLaneHistory, WaitsAre};
@@ -47,15 +48,6 @@ pub struct InputBoundary {
     ghost halves: { half ≡ max 1 (in_size lane / 2) },
     ghost asking: { AsksByHalves (in_size lane) half (asked_in_all lane) (ask_calls lane) (elements gave.items) passed },
     ghost flow: { Flow keep (in_size lane) (taken_items lane) gave.items lost.items buffer.items ending.items pending over state (has_cancelled lane) },
-}
-
-/// What was handed on, and whether the lane was asked for more.
-#[derive(Drop)]
-pub struct Passed {
-    /// What has to be pushed, or the end by which to close.
-    pub item: Item,
-    /// Whether the other end of the lane has to be woken, since it is asked for more.
-    pub asks: bool,
 }
 
 impl InputBoundary {
@@ -142,46 +134,51 @@ impl InputBoundary {
     }
 
     // Choice: docs/DECISIONS.md#ask-behind-an-end
-    /// The next that is to be handed on: an element only where one is asked for; an end behind the elements, also where none is.
-    /// Where half of the places were handed on, the lane is asked for as many. It takes no memory.
-    pub fn next(&mut self, asked: bool) -> Option<Passed>
-        requires few { asked ≡ true → elements (given self.old) < MOST_COUNT }
+    /// The first element that waits, which is to be handed on where one is asked for, and whether the lane was asked for more: where half
+    /// of the places were handed on, it is asked for as many. It takes no memory.
+    #[inline(always)]
+    pub fn next(&mut self) -> Option<(Elem, bool)>
+        requires few { elements (given self.old) < MOST_COUNT }
         ensures lane { IsSameIn self.old.lane self.new.lane × (taken_items self.new.lane ≡ taken_items self.old.lane)
             × (has_cancelled self.new.lane ≡ has_cancelled self.old.lane) }
         ensures keep { keeps_all self.new ≡ keeps_all self.old }
-        ensures some { IfSome result (λ r. given self.new ≡ given self.old ++ r.item ∷ []) }
-        ensures ends { IfSome result (λ r. state self.new ≡ cond (ends r.item) Closed Flowing) }
-        ensures wanted { IfSome result (λ r. ends r.item ≡ false → asked ≡ true) }
-        ensures asks { IfSome result (λ r. ask_calls self.new.lane ≡ ask_calls self.old.lane + cond r.asks 1 0) }
+        ensures some { IfSome result (λ r. given self.new ≡ given self.old ++ item.Elem r.0 ∷ []) }
+        ensures flows { IfSome result (λ r. state self.new ≡ Flowing) }
+        ensures asks { IfSome result (λ r. ask_calls self.new.lane ≡ ask_calls self.old.lane + cond r.1 1 0) }
         ensures known { (found_sent self.new.lane ≡ found_sent self.old.lane) × (told_sent self.new.lane ≡ told_sent self.old.lane)
             × (is_over self.new ≡ is_over self.old) }
-        ensures none { IfNone result ((self.new ≡ self.old) × (state self.old ≡ Flowing → (asked ≡ true) ⊎ (waits self.old ≡ [])
-            → taken_items self.old.lane ≡ given self.old)) }
+        ensures none { IfNone result ((self.new ≡ self.old) × (waits self.old ≡ [])) }
     {
-        if self.buffer.is_empty() {
-            return self.next_end();
-        }
-        if !asked {
-            return None;
-        }
         let item = Item::Elem(next_held(&mut self.buffer)?);
         self.gave = self.gave.and(&item);
         let asks = refill(&mut self.lane, &mut self.passed, self.half);
-        Some(Passed { item, asks })
+        match item {
+            Item::Elem(e) => Some((e, asks)),
+            _ => unreachable!(),
+        }
     }
 
-    // The end that waits, where no element waits before it.
-    fn next_end(&mut self) -> Option<Passed>
+    /// Whether an end waits, and no element before it. It takes no memory.
+    #[inline(always)]
+    pub fn is_at_end(&self) -> bool
+        ensures at_end { result ≡ true → (waits self.now ≡ []) × (state self.now ≡ Flowing) }
+        ensures none { result ≡ false → state self.now ≡ Flowing → waits self.now ≡ [] → taken_items self.now.lane ≡ given self.now }
+    {
+        self.pending.is_some() && self.buffer.is_empty()
+    }
+
+    /// The end that waits, where no element waits before it. It is to be handed on, also where no element is asked for. It takes no
+    /// memory.
+    pub fn next_end(&mut self) -> Option<Item>
         requires none { waits self.old ≡ [] }
         ensures lane { self.new.lane ≡ self.old.lane }
         ensures over { (is_over self.new ≡ is_over self.old) × (keeps_all self.new ≡ keeps_all self.old) }
-        ensures some { IfSome result (λ r. (given self.new ≡ given self.old ++ r.item ∷ []) × (ends r.item ≡ true) × (r.asks ≡ false)
-            × (state self.new ≡ Closed)) }
+        ensures some { IfSome result (λ x. (given self.new ≡ given self.old ++ x ∷ []) × (ends x ≡ true) × (state self.new ≡ Closed)) }
         ensures none { IfNone result ((self.new ≡ self.old) × (state self.old ≡ Flowing → taken_items self.old.lane ≡ given self.old)) }
     {
-        let item = self.pending.take()?;
+        let end = self.pending.take()?;
         self.state = State::Closed;
-        Some(Passed { item, asks: false })
+        Some(end)
     }
 
     /// Nothing more is wanted: the lane is cancelled, and what waits is dropped. It takes no memory.

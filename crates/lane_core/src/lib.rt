@@ -22,9 +22,10 @@
 //! What was taken off the lane is, in this order: the elements that were handed on, those that were dropped, those that wait, and the end.
 //! The type keeps this equation (`Flow`), by three histories that proofs alone read; so no clause says where each item went. `look` takes
 //! one item: an element waits, an end waits behind it, a failure drops what waits, or waits behind it as a normal end does where the lane
-//! keeps what came before. `next` hands on the first element where one is asked for, and the end where no element waits before it; where
-//! half of the places were handed on it asks the lane for as many, and says so, since the other end has to be woken then. `cancel` drops
-//! what waits, and what comes later. It knows nothing of an island: the caller pushes, closes and asks there.
+//! keeps what came before. `next` hands on the first element, which the caller calls where one is asked for, and `next_end` the end, where
+//! no element waits before it; where half of the places were handed on `next` asks the lane for as many, and says so, since the other end
+//! has to be woken then. `cancel` drops what waits, and what comes later. It knows nothing of an island: the caller pushes, closes and asks
+//! there.
 //!
 //! # Rounds
 //!

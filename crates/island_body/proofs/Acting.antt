@@ -1,5 +1,5 @@
 -- A body one of whose ends acted, or looked.
-use Rattle.std.proofs.Common.{◌≡◌, inl, inr, ℕ, ◌+◌, ◌<◌, false, List, [], None, Some, length, map, get_or, set, slice_get, refl, sym, ap, ◌∙◌, subst, arith}
+use Rattle.std.proofs.Common.{◌≡◌, inl, inr, ℕ, ◌+◌, ◌<◌, ◌≤◌, false, List, [], None, Some, length, map, get_or, set, slice_get, refl, sym, ap, ◌∙◌, subst, arith}
 use Rattle.std.proofs.lemmas.List.{length-set}
 use Rattle.std.proofs.lemmas.Option.{slice_get_within}
 use Rattle.stream_io.specs.State.{SourceState, DrainState}
@@ -24,7 +24,7 @@ use Rattle.island_body.specs.Moving.{TookNone, FoundNone, TookNoneAt, TookNoneBe
 use Rattle.island_body.specs.declared.body.Body.{Body}
 use Rattle.island_body.proofs.Lists.{some_same, get_here, at_set, map_set}
 use Rattle.island_body.proofs.Standing.{goes_of, apart_goes, table_goes, in_acted, in_done, out_acted, out_done, all_ran}
-use Rattle.fused_net.proofs.Reading.{same_or_not}
+use Rattle.fused_net.proofs.Reading.{same_or_not, get_set_same}
 use Rattle.stream_model.specs.Linear.{Book}
 
 -- the one that was borrowed stands there
@@ -169,6 +169,30 @@ module _ {S D L B : Type 0} where
       let mine : IsFed x.boundary i x.wire → IsFed y.boundary i y.wire = λ f. record {
         given_all = λ e. let g = f.given_all (rw wire at e) in rw (wire, given_is, taken_is) g;
         no_end = λ e w. taken_is ∙ f.no_end (sym state_is ∙ e) (sym waits_is ∙ w) ∙ sym given_is;
+        refused = λ e t. f.refused (rw wire at e) (sym state_is ∙ t);
+      } in
+      record {
+        ins_fed = λ j v h e other. let fewer : j < length ins = subst (λ (n : ℕ). j < n) count h in elim (at_set ins k j x y v at e) [
+          | inl here ↦ subst (λ (w : IslandInput). IsFed w.boundary i w.wire) (sym here.1) (mine (s.ins_fed k x (subst (λ (n : ℕ). n < length ins) here.0 fewer) at tt))
+          | inr apart ↦ s.ins_fed j v fewer apart.1 tt
+        ];
+        outs_served = λ j o h e other. s.outs_served j o h e tt;
+      }
+
+  -- nor has one at which two wait, since not all had been handed on before
+  pub looked_behind : (i : Kept S D L B) (ins : List IslandInput) (outs : List OutputBoundary) (k : ℕ) (x y : IslandInput) → slice_get ins k ≡ Some x → y.wire ≡ x.wire → given y.boundary ≡ given x.boundary → state y.boundary ≡ state x.boundary
+      → (taken_items x.boundary.lane ≡ given x.boundary → length (waits y.boundary) ≤ 1) → ((z : IslandInput) → slice_get (set ins k y) k ≡ Some z → 2 ≤ length (waits z.boundary)) → AllDone i ins outs → AllDone i (set ins k y) outs
+  looked_behind i ins outs k x y at wire given_is state_is few two s =
+      let count : length (set ins k y) ≡ length ins = length-set _ _ _ in
+      let many : 2 ≤ length (waits y.boundary) = two y (get_set_same ins k y (slice_get_within ins k x at)) in
+      let not_all : taken_items x.boundary.lane ≡ given x.boundary → ⊥ = λ t. let one = few t in absurd (omega (arith, one, many)) in
+      let some : waits y.boundary ≡ [] → ⊥ = λ w. let none = ap length w in absurd (omega (arith, none, many)) in
+      let mine : IsFed x.boundary i x.wire → IsFed y.boundary i y.wire = λ f. record {
+        given_all = λ e. elim (f.given_all (rw wire at e)) [
+          | inl t ↦ absurd (not_all t)
+          | inr h ↦ inr (rw wire h)
+        ];
+        no_end = λ e w. absurd (some w);
         refused = λ e t. f.refused (rw wire at e) (sym state_is ∙ t);
       } in
       record {

@@ -3,6 +3,7 @@ ghost use Rattle.std.specs.Prelude.{◌≡◌, ◌+◌, ◌<◌, ◌≤◌, ◌�
 ghost use Rattle.elem_core.specs.declared.count.TheConstants.{MOST_COUNT};
 ghost use Rattle.fused_net.specs.Costs.{Uses, total_cost};
 ghost use Rattle.lane_core.specs.Ends.{asked_in_all};
+ghost use Rattle.lane_core.specs.Boundary.{waits};
 ghost use Rattle.interpreter.specs.Island.{counts_of, sinks_of, readers_of, writers_of};
 ghost use Rattle.interpreter.specs.Picks.{pick_of, picks_of};
 ghost use Rattle.interpreter.specs.Seats.{seats_of};
@@ -202,6 +203,8 @@ impl<S: Source, D: Drain, L: Logic, B: PlugBook> Body<S, D, L, B> {
             → AllServed (Some (way_in self.new.island x.wire)) (length self.new.ins.items)
             (length self.new.outs.items) self.new.island self.new.ins.items self.new.outs.items }
         ensures still { result ≡ false → AllDone self.new.island self.new.ins.items self.new.outs.items }
+        ensures behind { result ≡ true → ((x : inputs.IslandInput) → slice_get self.new.ins.items k ≡ Some x → 2 ≤ length (waits x.boundary))
+            → AllDone self.new.island self.new.ins.items self.new.outs.items }
         ensures count { length self.new.ins.items ≡ length self.old.ins.items }
         ensures goes { BodyGoes self.old self.new }
         ensures took { result ≡ true → all_taken self.new.ins.items ≡ all_taken self.old.ins.items + 1 }
@@ -212,6 +215,15 @@ impl<S: Source, D: Drain, L: Logic, B: PlugBook> Body<S, D, L, B> {
         ensures wakes { WakesOn self.old self.new }
     {
         self.ins[k].look()
+    }
+
+    // Whether no element waits at the input end at place k before what came last.
+    #[inline(always)]
+    fn is_next(&self, k: usize) -> bool
+        requires within { k < length self.now.ins.items }
+        ensures { result ≡ false → (x : inputs.IslandInput) → slice_get self.now.ins.items k ≡ Some x → 2 ≤ length (waits x.boundary) }
+    {
+        self.ins[k].boundary.is_next()
     }
 
     // Takes an item at the input end at place k, where one was sent, and hands on what may be handed on.
@@ -232,11 +244,13 @@ impl<S: Source, D: Drain, L: Logic, B: PlugBook> Body<S, D, L, B> {
         ensures last { result ≡ false → LeftNoneAt self.old.ins.items self.new.ins.items k }
         ensures wakes { WakesOn self.old self.new }
     {
-        let took = self.look_in(k);
-        if took {
+        if !self.look_in(k) {
+            return false;
+        }
+        if self.is_next(k) {
             self.serve_in(k);
         }
-        took
+        true
     }
 
     // Takes items at the input end at place k, where they were sent, until so many units were used.

@@ -73,6 +73,7 @@ impl IslandInput {
             × (told_sent self.old.boundary.lane ≤ found_sent self.new.boundary.lane))) }
         ensures over { result ≡ false → is_over self.new.boundary ≡ is_over self.old.boundary }
         ensures told { told_sent self.new.boundary.lane ≡ told_sent self.old.boundary.lane }
+        ensures behind { result ≡ true → taken_items self.old.boundary.lane ≡ given self.old.boundary → length (waits self.new.boundary) ≤ 1 }
     {
         self.boundary.look()
     }

@@ -13,7 +13,7 @@ use Rattle.stage_core.specs.Held.{told}
 use Rattle.stage_core.proofs.Told.{told-append}
 use Rattle.lane_core.specs.declared.state.State.{State}
 use Rattle.lane_core.specs.declared.state.State.TheVariants.{Flowing, Closed, Cancelled}
-use Rattle.lane_core.specs.Flow.{drops, pending_by, cancelled_by, Flow, AsksByHalves}
+use Rattle.lane_core.specs.Flow.{drops, pending_by, handed_by, cancelled_by, Flow, AsksByHalves}
 
 -- ---- counts
 
@@ -34,6 +34,17 @@ length_told (t ∷ l) = let r = length_told l in omega (arith, r)
 -- the last of a list is one that is told in another way
 pub behind : (l l' : List Item) (x y : Item) → l' ≡ l ++ x ∷ [] → x ≡ y → l' ≡ l ++ y ∷ []
 behind l l' x y e is = e ∙ ap (λ (z : Item). l ++ z ∷ []) is
+
+-- where nothing waited, one waits at most once an element or an end came
+pub one_behind : (W V : List Tree) (e : Tree) → V ≡ W ++ e ∷ [] → W ≡ [] → length V ≤ 1
+one_behind W V e v w = rw (v, w) (omega arith)
+
+pub end_behind : (keep : Bool) (x : Item) (L M : List Item) (W V : List Tree) → (drops keep (x ∷ []) ≡ false → (M ≡ L) × (V ≡ W)) → (drops keep (x ∷ []) ≡ true → (M ≡ L ++ told W unended) × (V ≡ [])) → W ≡ [] → length V ≤ 1
+end_behind keep x L M W V keeps lets_go w = by (drops keep (x ∷ [])) refl
+  where
+    by : (b : Bool) → drops keep (x ∷ []) ≡ b → length V ≤ 1
+    by false e = rw ((keeps e).1, w) (omega arith)
+    by true e = rw (lets_go e).1 (omega arith)
 
 none_of : {A : Type 0} → (l : List A) → length l ≡ 0 → l ≡ []
 none_of [] e = refl
@@ -64,6 +75,20 @@ module _ (keep : Bool) (s : ℕ) (T G L : List Item) (W : List Tree) (E : List I
       let t = elements_told W in
       let n = f.no_element in
       omega (arith, a, b, d, e, t, n)
+
+  -- where all that was taken was handed on, nothing waits
+  pub none_behind : T ≡ G ++ handed_by S E → W ≡ []
+  none_behind e =
+      let n = count in
+      let t = ap elements e in
+      let a = elements_append G (handed_by S E) in
+      let h = handed S in
+      none_of W (omega (arith, n, t, a, h))
+    where
+      handed : (z : State) → elements (handed_by z E) ≡ 0
+      handed Flowing = refl
+      handed Closed = f.no_element
+      handed Cancelled = refl
 
   -- no end was taken yet
   no_end : over ≡ false → E ≡ []

@@ -108,6 +108,7 @@ impl InputBoundary {
             × (told_sent self.old.lane ≤ found_sent self.new.lane))) }
         ensures over { result ≡ false → is_over self.new ≡ is_over self.old }
         ensures told { told_sent self.new.lane ≡ told_sent self.old.lane }
+        ensures behind { result ≡ true → taken_items self.old.lane ≡ given self.old → length (waits self.new) ≤ 1 }
     {
         if self.over {
             return false;
@@ -131,6 +132,14 @@ impl InputBoundary {
                 true
             }
         }
+    }
+
+    /// Whether no element waits before what came last, so that this may be the next that is handed on. It takes no memory.
+    #[inline(always)]
+    pub fn is_next(&self) -> bool
+        ensures { result ≡ false → 2 ≤ length (waits self.now) }
+    {
+        self.buffer.len() <= 1
     }
 
     // Choice: docs/DECISIONS.md#ask-behind-an-end

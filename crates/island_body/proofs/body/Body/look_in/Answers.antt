@@ -4,7 +4,7 @@ use Rattle.std.specs.Prelude.{length}
 use Rattle.fused_net.proofs.Reading.{get_set_other}
 use Rattle.island_body.proofs.Lists.{taken_set}
 use Rattle.island_body.proofs.Standing.{goes_here}
-use Rattle.island_body.proofs.Acting.{at_index, in_looked, in_goes, looked_but, looked_none, took_none_here}
+use Rattle.island_body.proofs.Acting.{at_index, in_looked, in_goes, looked_but, looked_none, looked_behind, took_none_here}
 use Rattle.island_body.proofs.Looking.{only_in_here, left_none_here}
 use Rattle.island_body.proofs.Telling.{wakes_looked_in}
 use Rattle.island_body.proofs.body.Body.look_in.Goals as goal
@@ -25,6 +25,12 @@ returns-clause-still g c e =
     let b = c.args.self.now in
     let at = at_index b.ins.items c.args.k c.index_mut.result.now c.requires.within c.index_mut.ensures.value in
     looked_none b.island b.ins.items b.outs.items c.args.k c.index_mut.result.now c.look.new.self at c.look.ensures.wire.0 c.look.ensures.given.0 c.look.ensures.given.1 (c.look.ensures.none e).0 (c.look.ensures.still e) c.requires.served
+
+pub returns-clause-behind : goal.returns-clause-behind
+returns-clause-behind g c e two =
+    let b = c.args.self.now in
+    let at = at_index b.ins.items c.args.k c.index_mut.result.now c.requires.within c.index_mut.ensures.value in
+    looked_behind b.island b.ins.items b.outs.items c.args.k c.index_mut.result.now c.look.new.self at c.look.ensures.wire.0 c.look.ensures.given.0 c.look.ensures.given.1 (c.look.ensures.behind e) two c.requires.served
 
 pub returns-clause-goes : goal.returns-clause-goes
 returns-clause-goes g c =

@@ -532,8 +532,8 @@ impl<S: Stage> Engine<S> {
         self.queue.next()
     }
 
-    // Each wire that has an event waits for its turn: only what handlers cause from now on is chased.
-    fn settle(&mut self)
+    /// Each wire that has an event waits for its turn: only what is caused from now on is chased. It takes no memory.
+    pub fn settle(&mut self)
         ensures { self.new ≡ self.old }
     {
         self.queue.settle();
@@ -570,7 +570,8 @@ impl<S: Stage> Engine<S> {
 
     /// Handles events as `execute` does, but stops behind one that a passive node has heard of, and says on which wire that was: so
     /// whoever acts for the passive nodes has to look at that wire alone. It stops behind any other event too where a source may wait at
-    /// its next ask. Fewer than `limit` without such a wire only where no event is left.
+    /// its next ask. Fewer than `limit` without such a wire only where no event is left. What was pushed or pulled outside of the handlers
+    /// since the last event counts as caused by it, and may be chased: whoever does not want that settles before.
     // Out of line, so that its registers are its own.
     #[inline(never)]
     pub fn advance(
@@ -597,7 +598,6 @@ impl<S: Stage> Engine<S> {
         ensures breaks { OnErr result (BreaksAside S.port_state S.law S.asking S.moves S.gone S.passive S.keeps self.old self.new.nodes) }
         ensures count { length self.new.nodes ≡ length self.old.nodes }
     {
-        self.settle();
         for used in 0..limit {
             let Some(w) = self.next() else {
                 return Ok(Advance { used, heard: None });

@@ -237,6 +237,14 @@ impl<S: Source, D: Drain, L: Logic, B: PlugBook> Island<S, D, L, B> {
         Ok(advance)
     }
 
+    /// Each of its connections that has an event waits for its turn: only what is caused from now on may be handled at once. Nothing that
+    /// contracts see changes. It takes no memory.
+    pub fn settle(&mut self)
+        ensures { self.new ≡ self.old }
+    {
+        self.engine.settle();
+    }
+
     /// The place of the connection at which the lane that is wire `wire` comes in.
     pub fn way_in(&self, wire: u32) -> u32
         requires { wire < length self.now.ins }

@@ -424,6 +424,8 @@ impl<S: Source, D: Drain, L: Logic, B: PlugBook> Body<S, D, L, B> {
         ensures rest { IfOk result (λ count. count < limit → (pausing ≡ false) ⊎ (is_pending self.new ≡ false) → self.new.island.net.queue ≡ []) }
         ensures breaks { OnErr result (BodyBreaks S.state D.state B.lists self.old self.new) }
     {
+        // Only what an end of a lane does right behind a handler counts as caused by it.
+        self.island.settle();
         let mut count = used;
         loop {
             if self.is_to_pause(pausing, count - used) {

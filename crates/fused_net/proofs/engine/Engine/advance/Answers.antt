@@ -9,14 +9,14 @@ use Rattle.fused_net.proofs.engine.Engine.advance.Goals as goal
 
 pub loop-used-init : goal.loop-used-init
 loop-used-init g c = (
-  rw c.settle.ensures c.requires.laws,
-  rw c.settle.ensures (goes_same _),
-  rw c.settle.ensures (uses_none _),
+  c.requires.laws,
+  goes_same _,
+  uses_none _,
   refl,
-  rw c.settle.ensures refl,
-  rw c.settle.ensures (still_same g.S.Stage.passive _),
-  rw c.settle.ensures (untouched_same g.S.Stage.passive _),
-  λ _. c.settle.ensures,
+  refl,
+  still_same g.S.Stage.passive _,
+  untouched_same g.S.Stage.passive _,
+  λ _. refl,
 )
 
 pub handle-requires-clause-laws : goal.handle-requires-clause-laws

@@ -1,17 +1,34 @@
 -- The goals of `body::Body::run` that the search leaves.
-use Rattle.std.proofs.Common.{◌≡◌, ◌∙◌, ap, sym, inl, inr, true, false, arith}
+use Rattle.std.proofs.Common.{◌≡◌, ◌∙◌, refl, ap, sym, inl, inr, true, false, arith}
 use Rattle.fused_net.proofs.Keeping.{on_err}
 use Rattle.std.specs.declared.vec.Vec.{Vec}
 use Rattle.island_body.specs.declared.output.OutputBoundary.{OutputBoundary}
 use Rattle.island_body.specs.declared.input.IslandInput.{IslandInput}
 use Rattle.island_body.specs.Ends.{all_taken, all_finds}
-use Rattle.island_body.specs.Lasting.{goes_on, goes_breaks}
-use Rattle.island_body.proofs.Looking.{keeps_looks_same, keeps_looks_on}
-use Rattle.island_body.proofs.Telling.{wakes_same, wakes_on}
+use Rattle.island_body.specs.Lasting.{goes_on, goes_still, goes_breaks}
+use Rattle.island_body.proofs.Looking.{keeps_looks_same, keeps_looks_still, keeps_looks_on}
+use Rattle.island_body.proofs.Telling.{wakes_same, wakes_still, wakes_on}
 use Rattle.island_body.proofs.body.Body.run.Goals as goal
 
 pub returns-in_err-heard-clause-breaks : goal.returns-in_err-heard-clause-breaks
 returns-in_err-heard-clause-breaks g c = on_err c.from_residual.result (goes_breaks g.S.Source.state g.D.Drain.state g.B.PlugBook.lists _ _ _ c.loop-alloc.invariant.goes c.in_err-heard.ensures.breaks)
+
+pub loop-alloc-init : goal.loop-alloc-init
+loop-alloc-init g c =
+    let less = c.requires.less in
+    rw c.settle.ensures (record {
+      stands = c.requires.stands;
+      served = c.requires.served;
+      goes = goes_still _;
+      wakes = wakes_still _;
+      looks = keeps_looks_still _;
+      more = omega arith;
+      less = omega (arith, less);
+      uses = omega arith;
+      used = refl;
+      costs = (refl, refl, refl);
+      same = λ _. refl;
+    })
 
 pub loop-alloc-preserved : goal.loop-alloc-preserved
 loop-alloc-preserved g c =

@@ -1,5 +1,5 @@
 // What the boundary stage at an end of a connection does between two events.
-ghost use Rattle.std.specs.Prelude.{◌≡◌, ◌<◌, ◌≤◌, ◌↔◌, ◌∷◌, [], length, IsTrue};
+ghost use Rattle.std.specs.Prelude.{◌≡◌, ◌<◌, ◌≤◌, ◌↔◌, ◌∷◌, [], length, IsTrue, IfNone, IfSome};
 ghost use Rattle.elem_core.specs.declared.count.TheConstants.{MOST_COUNT};
 ghost use Rattle.port_core.specs.Decoding.{can_pull};
 ghost use Rattle.port_core.specs.declared.act.Act.TheVariants as act;
@@ -139,6 +139,23 @@ pub fn pull_out<S: Source, D: Drain, L: Logic, B: PlugBook>(
 }
 
 /// Hands out what came where a lane goes out, each element and the end once and in order. It takes no memory and costs no unit.
+pub fn hand_out<S: Source, D: Drain, L: Logic, B: PlugBook>(
+    engine: &mut Engine<IslandNode<S, D, L, B>>,
+    place: u32,
+) -> Option<Item>
+    requires laws { Settled node_port_state (node_law S.state D.state B.lists) node_asking node_moves engine.old }
+    requires within { place < length engine.old.wires }
+    ensures none { IfNone result ((engine.new ≡ engine.old) × IsClearAt engine.old place) }
+    ensures some { IfSome result (λ x. HandsAt node_gone node_waits engine.old (end_at engine.old.ends place).to (x ∷ []) engine.new) }
+    ensures laws { Settled node_port_state (node_law S.state D.state B.lists) node_asking node_moves engine.new }
+    ensures on { NetGoesOn engine.old engine.new }
+    ensures uses { Uses engine.old engine.new 0 }
+{
+    let ends = engine.ends(place);
+    engine.hand_out(ends.to)
+}
+
+/// The same, told by an answer that names what it is.
 pub fn given<S: Source, D: Drain, L: Logic, B: PlugBook>(
     engine: &mut Engine<IslandNode<S, D, L, B>>,
     place: u32,

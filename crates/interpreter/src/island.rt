@@ -1,5 +1,5 @@
 // An island of nodes that runs event by event.
-ghost use Rattle.std.specs.Prelude.{◌≡◌, ◌+◌, ◌<◌, ◌≤◌, ◌↔◌, ◌∷◌, ◌++◌, [], true, false, None, Some, length, replicate, slice_get, ℕ, IsTrue, IsOk, IfOk, IfErr, OnOk, OnErr, map, vec_len, vec_capacity};
+ghost use Rattle.std.specs.Prelude.{◌≡◌, ◌+◌, ◌<◌, ◌≤◌, ◌↔◌, ◌∷◌, ◌++◌, [], true, false, None, Some, length, replicate, slice_get, ℕ, IsTrue, IfNone, IfSome, IsOk, IfOk, IfErr, OnOk, OnErr, map, vec_len, vec_capacity};
 ghost use Rattle.fused_net.specs.Laws.{Starting, NetGoesOn, BreaksOff};
 ghost use Rattle.fused_net.specs.Net.{wire_at};
 ghost use Rattle.fused_net.specs.Costs.{all_asks, Uses};
@@ -29,6 +29,7 @@ use crate::parts::{Parts, build_all, join_ports};
 use crate::room::{Blank, IslandRoom};
 use crate::ways::Ways;
 use elem_core::elem::Elem;
+use elem_core::item::Item;
 use elem_core::why::{Cause, NoMemory};
 use fused_net::engine::{Advance, Engine};
 use nodes::node::{IslandNode, NodeEnd};
@@ -366,6 +367,17 @@ impl<S: Source, D: Drain, L: Logic, B: PlugBook> Island<S, D, L, B> {
     }
 
     /// Hands out what came there, each element and the end once and in order. It takes no memory and costs no unit.
+    pub fn hand_out(&mut self, wire: u32) -> Option<Item>
+        requires whole { self.old.broken ≡ false }
+        requires leaves { Leaves self.old wire }
+        ensures none { IfNone result ((self.new ≡ self.old) × IsClearAt self.old.net (way_out self.old wire)) }
+        ensures some { IfSome result (λ x. HandsOut self.old wire (x ∷ []) self.new) }
+        ensures uses { Uses self.old.net self.new.net 0 }
+    {
+        calls::hand_out(&mut self.engine, self.ways.outs[wire as usize])
+    }
+
+    /// The same, told by an answer that names what it is.
     pub fn given(&mut self, wire: u32) -> Given
         requires whole { self.old.broken ≡ false }
         requires leaves { Leaves self.old wire }

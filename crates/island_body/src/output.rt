@@ -14,7 +14,6 @@ ghost use Rattle.island_body.specs.declared.found.Found.TheVariants as found;
 
 use crate::found::Found;
 use elem_core::item::Item;
-use interpreter::given::Given;
 use interpreter::island::Island;
 use lane_core::lane_out::LaneOut;
 use lane_core::room::Room;
@@ -112,13 +111,13 @@ impl OutputBoundary {
         if island.is_clear_out(self.wire) {
             return false;
         }
-        match island.given(self.wire) {
-            Given::Nothing => return false,
-            Given::Elem(e) => self.send(Item::Elem(e)),
-            Given::Ended => self.send(Item::Ended),
-            Given::Failed(cause) => self.send(Item::Failed(cause)),
+        match island.hand_out(self.wire) {
+            None => false,
+            Some(item) => {
+                self.send(item);
+                true
+            }
         }
-        true
     }
 
     /// Asks the stage there where demand is left and it may be asked; true comes exactly where it did. It takes no memory.

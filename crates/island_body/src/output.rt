@@ -121,6 +121,7 @@ impl OutputBoundary {
     }
 
     /// Asks the stage there where demand is left and it may be asked; true comes exactly where it did. It takes no memory.
+    #[inline(always)]
     pub fn ask<S: Source, D: Drain, L: Logic, B: PlugBook>(
         &self,
         island: &mut Island<S, D, L, B>,

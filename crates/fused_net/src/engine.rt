@@ -307,7 +307,7 @@ impl<S: Stage> Engine<S> {
         self.perform_pull(n, acts)
     }
 
-    // The same where it does not push: then it mostly pulls.
+    // The same where it does not push: then it mostly pulls, or is passive, as at the end of a lane, and wants nothing done.
     #[inline(never)]
     fn perform_pull(&mut self, n: usize, acts: &mut Acts) -> bool
         requires within { n < length self.old.nodes }
@@ -321,6 +321,9 @@ impl<S: Stage> Engine<S> {
         if let Some(i) = acts.only_pull() {
             self.pull(n, i);
             return false;
+        }
+        if self.nodes[n].is_passive() {
+            return true;
         }
         self.perform(n, acts)
     }
@@ -343,7 +346,7 @@ impl<S: Stage> Engine<S> {
         self.perform_push(n, acts)
     }
 
-    // The same where it does not pull: then it mostly pushes.
+    // The same where it does not pull: then it mostly pushes, or is passive and wants nothing done.
     #[inline(never)]
     fn perform_push(&mut self, n: usize, acts: &mut Acts) -> bool
         requires within { n < length self.old.nodes }
@@ -357,6 +360,9 @@ impl<S: Stage> Engine<S> {
         if let Some((j, e)) = acts.only_push() {
             self.push(n, j, e);
             return false;
+        }
+        if self.nodes[n].is_passive() {
+            return true;
         }
         self.perform(n, acts)
     }

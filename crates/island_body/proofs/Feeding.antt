@@ -170,8 +170,8 @@ module _ {S D L B : Type 0} (b : InputBoundary) (i : Kept S D L B) (u : ℕ) whe
   }
 
   -- where an output was asked, and may not push, a cancel is on its way
-  pub quiet_away : {sources : S → SourceState} {drains : D → DrainState} {book : Book} → Settled node_port_state (node_law sources drains book) node_asking node_moves i.net → Enters i u → wanted_at (cell_in i u) ≡ wanted.Quiet → (cell_in i u).wire.out ≡ outlet.Available → (cell_in i u).wire.conn.in_closed ≡ true
-  quiet_away s en w e = cancel_away (cell_in i u).wire _ (s.sound (way_in i u) en.place) e (wanted_quiet (cell_in i u).wire.out (can_push (cell_in i u).wire.conn) w).0
+  pub quiet_away : {sources : S → SourceState} {drains : D → DrainState} {book : Book} → IslandKeeps sources drains book i.net i.used → Enters i u → wanted_at (cell_in i u) ≡ wanted.Quiet → (cell_in i u).wire.out ≡ outlet.Available → (cell_in i u).wire.conn.in_closed ≡ true
+  quiet_away k en w e = cancel_away (cell_in i u).wire _ (k.laws.sound (way_in i u) en.place) e (wanted_quiet (cell_in i u).wire.out (can_push (cell_in i u).wire.conn) w).0
 
   -- so few elements were handed on
   pub few_given : {sources : S → SourceState} {drains : D → DrainState} {book : Book} → IslandKeeps sources drains book i.net i.used → Enters i u → Feeds b i u → wanted_at (cell_in i u) ≡ wanted.Asked → elements (given b) < MOST_COUNT

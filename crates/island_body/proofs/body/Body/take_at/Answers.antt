@@ -1,4 +1,5 @@
 -- The goals of `body::Body::take_at` that the search leaves.
+use Rattle.std.proofs.Common.{◌∙◌}
 use Rattle.island_body.specs.Lasting.{goes_on}
 use Rattle.island_body.proofs.Acting.{done_as}
 use Rattle.island_body.proofs.Looking.{only_in_on}
@@ -16,6 +17,12 @@ returns-then-is_next-clause-only g c = only_in_on _ _ _ _ c.look_in.ensures.goes
 
 pub returns-then-is_next-clause-wakes : goal.returns-then-is_next-clause-wakes
 returns-then-is_next-clause-wakes g c = wakes_on _ _ _ c.look_in.ensures.wakes c.serve_in.ensures.wakes
+
+pub returns-then-is_next-clause-took : goal.returns-then-is_next-clause-took
+returns-then-is_next-clause-took g c e = c.serve_in.ensures.costs.0 ∙ c.look_in.ensures.took c.if-not-look_in.false
+
+pub returns-else-is_next-clause-took : goal.returns-else-is_next-clause-took
+returns-else-is_next-clause-took g c e = c.look_in.ensures.took c.if-not-look_in.false
 
 pub returns-else-is_next-clause-served : goal.returns-else-is_next-clause-served
 returns-else-is_next-clause-served g c = c.look_in.ensures.behind c.if-not-look_in.false (c.is_next.ensures c.if-is_next.false)

@@ -1,14 +1,15 @@
 -- The goals of `input::IslandInput::serve_now` that the search leaves.
 use Rattle.std.proofs.Common.{◌∙◌, inl, inr, sym, ap, arith}
+use Rattle.fused_net.proofs.Going.{uses_trans}
 use Rattle.lane_core.specs.Ends.{taken_items, ask_calls, has_cancelled, found_sent, told_sent, in_lane, in_size}
-use Rattle.island_body.proofs.Feeding.{quiet_away, asks_least, asks_more, asks_none}
+use Rattle.island_body.proofs.Feeding.{quiet_away, asks_least, asks_more, asks_none, beside_next}
 use Rattle.island_body.proofs.input.IslandInput.serve_now.Goals as goal
 
 pub hand_on_last-requires-clause-given : goal.hand_on_last-requires-clause-given
 hand_on_last-requires-clause-given g c e = inl (c.hand_on-told.ensures.given e)
 
 pub hand_on_last-requires-in-Quiet-clause-given : goal.hand_on_last-requires-in-Quiet-clause-given
-hand_on_last-requires-in-Quiet-clause-given g c e = inr (quiet_away c.args.self.now.boundary c.args.island.now c.args.self.now.wire (c.laws.ensures c.requires.whole).laws c.requires.enters (sym c.wanted.ensures ∙ c.in-Quiet.is) e)
+hand_on_last-requires-in-Quiet-clause-given g c e = inr (quiet_away c.args.self.now.boundary c.args.island.now c.args.self.now.wire (c.laws.ensures c.requires.whole) c.requires.enters (sym c.wanted.ensures ∙ c.in-Quiet.is) e)
 
 pub returns-in-Asked-clause-least : goal.returns-in-Asked-clause-least
 returns-in-Asked-clause-least g c =
@@ -35,6 +36,13 @@ returns-in-Asked-clause-known g c =
     let first = c.hand_on-told.ensures.known in
     let lane = c.hand_on_last.ensures.wire.1 in
     (ap found_sent lane ∙ first.0, ap told_sent lane ∙ first.1, c.hand_on_last.ensures.over ∙ first.2)
+
+pub returns-in-Asked-clause-beside : goal.returns-in-Asked-clause-beside
+returns-in-Asked-clause-beside g c =
+    beside_next c.args.self.now.wire c.args.island.now c.hand_on-told.new.island c.hand_on_last.new.island c.hand_on-told.ensures.beside (rw c.hand_on-told.ensures.wire.0 at c.hand_on_last.ensures.beside)
+
+pub returns-in-Asked-clause-uses : goal.returns-in-Asked-clause-uses
+returns-in-Asked-clause-uses g c = uses_trans _ _ _ 0 0 c.hand_on-told.ensures.uses c.hand_on_last.ensures.uses
 
 pub returns-in-Quiet-clause-wire : goal.returns-in-Quiet-clause-wire
 returns-in-Quiet-clause-wire g c =

@@ -17,7 +17,7 @@ use Rattle.stream_model.specs.Composed.{inputs_of, count_from, incoming, receive
 use Rattle.stream_model.specs.FanIn.{Tagged, reach, reached, reached_all, paired, concat_of, interleave_of, inlets, turns_of, sorted_of, pairs}
 use Rattle.stream_model.specs.FanOut.{left_outlook, right_outlook}
 use Rattle.stream_model.specs.Graph.{Graph, Node, Edge, find_wire, steps_of}
-use Rattle.stream_model.specs.Linear.{Book, Work, Stage, Role, Verdict, go, finish, fail, Reaction, gives, ends, blames, breaks, reads_lines, gives_range, gives_nothing, gives_failure, works, trips, plugs_in, buffers, recovers, obeys, groups_by, splits_when, splits_after, merges, concats, interleaves, merges_sorted, zips, broadcasts, balances, partitions, unzips, sinks, passing, plugged, numbering, taking, grouping, folding, reducing, heading, lasting, decided, reacts, reaction, finish_of, blame_end, keeping_work, linear, begin_work, role_of}
+use Rattle.stream_model.specs.Linear.{Book, Work, Stage, Role, Verdict, go, finish, fail, Reaction, gives, ends, blames, breaks, reads_lines, gives_range, gives_nothing, gives_failure, works, trips, plugs_in, buffers, recovers, obeys, groups_by, splits_when, splits_after, merges, gathers, concats, interleaves, merges_sorted, zips, broadcasts, balances, partitions, unzips, sinks, passing, plugged, numbering, taking, grouping, folding, reducing, heading, lasting, decided, reacts, reaction, finish_of, blame_end, keeping_work, linear, begin_work, role_of}
 use Rattle.stream_model.specs.Machine.{State, going, done, broken, Run, Finish, adds, refuses, Machine, is_going, feed, feed_at, run, finish_at, close_at, close, Given, input_end, whole, passed, own, fails_of, output}
 use Rattle.stream_model.specs.Node.{World, head_of, second_of, chain_of, role_outlook}
 use Rattle.stream_model.specs.Outlook.{Outlook, Entry, End, behind}
@@ -281,6 +281,7 @@ module _ (node s : ℕ) (other : node ≢ s) where
     role_by (splits_after p chain joining.Merge) d os port h = merge_by (sub.behind p) chain (head_of os) (head_by os h)
     role_by (splits_after p chain joining.Concat) d os port h = concat_by (sub.behind p) chain (head_of os) (head_by os h)
     role_by (merges n) d os port h = merged_by s (w.moves node) 0 os h
+    role_by (gathers n) d os port h = tt
     role_by (concats n) d os port h = reached_by s 0 0 (concat_of 0 os) os h
     role_by (interleaves n k) d os port h = reached_by s 0 0 (interleave_of k (turns_of os) k (inlets 0 os)) os h
     role_by merges_sorted d os port h =

@@ -2,7 +2,7 @@
 use Rattle.std.proofs.Common.{◌≡◌, ℕ, ◌+◌, Bool, ◌⊎◌, inl, inr, List, [], ◌∷◌, Option, Some, None}
 use Rattle.elem_core.specs.Tree.{Tree}
 use Rattle.stream_model.specs.declared.kind.Kind.{Kind}
-use Rattle.stream_model.specs.declared.kind.Kind.TheVariants.{Lines, Range, Empty, Failed, Buffer, Merge, Concat, Interleave, MergeSorted, Zip, Broadcast, Balance, Partition, Unzip}
+use Rattle.stream_model.specs.declared.kind.Kind.TheVariants.{Lines, Range, Empty, Failed, Buffer, Merge, MergeHub, Concat, Interleave, MergeSorted, Zip, Broadcast, BroadcastHub, Balance, Partition, Unzip}
 use Rattle.elem_core.specs.declared.why.Decider.{Decider}
 use Rattle.stream_model.specs.declared.kind.Policy.{Policy}
 use Rattle.stream_model.specs.declared.kind.Policy.TheVariants.{Backpressure}
@@ -136,11 +136,13 @@ module _ (g : Graph) (w : World) where
   row_exit node (Failed b) d is os h = source_exit is os h
   row_exit node (Buffer n p) d is os h = any_buffer_exit node n p is os h
   row_exit node (Merge n) d is os h = many_to_one (MergeRests (w.moves node)) is os (merge_exit (w.moves node) is) h
+  row_exit node (MergeHub s n) d is os h = many_to_one (MergeRests (w.moves node)) is os (merge_exit (w.moves node) is) h
   row_exit node (Concat n) d is os h = many_to_one ConcatRests is os (concat_exit is) h
   row_exit node (Interleave n s) d is os h = many_to_one (InterleaveRests s) is os (interleave_exit s is) h
   row_exit node MergeSorted d is os h = many_to_one SortedRests is os (sorted_exit is) h
   row_exit node Zip d is os h = many_to_one ZipRests is os (zip_exit is) h
   row_exit node (Broadcast n) d is os h = one_to_many BroadcastRests is os (λ i p. broadcast_exit i os p) h
+  row_exit node (BroadcastHub s n) d is os h = one_to_many BroadcastRests is os (λ i p. broadcast_exit i os p) h
   row_exit node Unzip d is os h = one_to_many BroadcastRests is os (λ i p. broadcast_exit i os p) h
   row_exit node (Balance n) d is os h = one_to_many BalanceRests is os (λ i p. balance_exit i os p) h
   row_exit node (Partition n f) d is os h = one_to_many (PartitionRests (numbered w node n f)) is os (λ i p. partition_exit (numbered w node n f) i os p) h

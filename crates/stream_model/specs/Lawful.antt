@@ -9,7 +9,7 @@ use Rattle.stream_model.specs.declared.kind.Policy.{Policy}
 use Rattle.stream_model.specs.declared.kind.Policy.TheVariants.{Backpressure}
 use Rattle.stream_model.specs.declared.outcome.WireCount.{WireCount}
 use Rattle.stream_model.specs.Outlook.{Outlook}
-use Rattle.stream_model.specs.Linear.{Keeping, every_one, first_one, last_one, Role, reads_lines, gives_range, gives_nothing, gives_failure, works, trips, plugs_in, buffers, recovers, obeys, groups_by, splits_when, splits_after, merges, concats, interleaves, merges_sorted, zips, broadcasts, balances, partitions, unzips, sinks, role_of}
+use Rattle.stream_model.specs.Linear.{Keeping, every_one, first_one, last_one, Role, reads_lines, gives_range, gives_nothing, gives_failure, works, trips, plugs_in, buffers, recovers, obeys, groups_by, splits_when, splits_after, merges, gathers, concats, interleaves, merges_sorted, zips, broadcasts, balances, partitions, unzips, sinks, role_of}
 use Rattle.stream_model.specs.Picks.{count_of}
 use Rattle.stream_model.specs.Graph.{Graph, Node}
 use Rattle.stream_model.specs.Fits.{CanTrip, valve_order}
@@ -158,6 +158,7 @@ module _ (g : Graph) (w : World) where
   RoleLawful node (splits_after p chain j) d is os = stage_lawful (one_way_by g w node (splits_after p chain j) d) is os
       × OneToOne (SubsLawful j (w.moves node)) is os
   RoleLawful node (merges n) d is os = ManyToOne (MergeLawful (w.moves node)) is os
+  RoleLawful node (gathers n) d is os = ManyToOne (MergeLawful (w.moves node)) is os
   RoleLawful node (concats n) d is os = ManyToOne ConcatLawful is os
   RoleLawful node (interleaves n s) d is os = ManyToOne InterleaveLawful is os
   RoleLawful node merges_sorted d is os = ManyToOne SortedLawful is os

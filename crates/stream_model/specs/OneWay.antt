@@ -5,7 +5,7 @@ use Rattle.stream_model.specs.declared.kind.Kind.{Kind}
 use Rattle.elem_core.specs.declared.why.Decider.{Decider}
 use Rattle.stream_model.specs.Outlook.{ended}
 use Rattle.stream_model.specs.Machine.{Machine, Run, run, close, is_going}
-use Rattle.stream_model.specs.Linear.{Book, Work, linear, begin_work, grouping, expanding, folding, scanning, reducing, passing, plugged, Role, reads_lines, gives_range, gives_nothing, gives_failure, works, trips, plugs_in, buffers, recovers, obeys, groups_by, splits_when, splits_after, merges, concats, interleaves, merges_sorted, zips, broadcasts, balances, partitions, unzips, sinks, role_of, Side, at_source, at_stage, at_sink, side_by}
+use Rattle.stream_model.specs.Linear.{Book, Work, linear, begin_work, grouping, expanding, folding, scanning, reducing, passing, plugged, Role, reads_lines, gives_range, gives_nothing, gives_failure, works, trips, plugs_in, buffers, recovers, obeys, groups_by, splits_when, splits_after, merges, gathers, concats, interleaves, merges_sorted, zips, broadcasts, balances, partitions, unzips, sinks, role_of, Side, at_source, at_stage, at_sink, side_by}
 use Rattle.stream_model.specs.Substreams.{Opening, by_key, before, behind, through, substreams, begin_subs}
 use Rattle.stream_model.specs.Graph.{Graph, steps_of}
 use Rattle.stream_model.specs.Node.{World, chain_of}
@@ -76,6 +76,7 @@ one_way_by g w node (groups_by n f chain) d = of_subs g w node (by_key n f) chai
 one_way_by g w node (splits_when p chain j) d = of_subs g w node (before p) chain
 one_way_by g w node (splits_after p chain j) d = of_subs g w node (behind p) chain
 one_way_by g w node (merges n) d = None
+one_way_by g w node (gathers n) d = None
 one_way_by g w node (concats n) d = None
 one_way_by g w node (interleaves n s) d = None
 one_way_by g w node merges_sorted d = None

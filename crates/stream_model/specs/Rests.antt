@@ -11,7 +11,7 @@ use Rattle.stream_model.specs.declared.kind.Policy.TheVariants.{Backpressure}
 use Rattle.stream_model.specs.Outlook.{Outlook}
 use Rattle.stream_model.specs.declared.kind.Policy.{Policy}
 use Rattle.stream_model.specs.declared.outcome.WireCount.{WireCount}
-use Rattle.stream_model.specs.Linear.{numbering, linear, begin_work, Role, reads_lines, gives_range, gives_nothing, gives_failure, works, trips, plugs_in, buffers, recovers, obeys, groups_by, splits_when, splits_after, merges, concats, interleaves, merges_sorted, zips, broadcasts, balances, partitions, unzips, sinks, role_of}
+use Rattle.stream_model.specs.Linear.{numbering, linear, begin_work, Role, reads_lines, gives_range, gives_nothing, gives_failure, works, trips, plugs_in, buffers, recovers, obeys, groups_by, splits_when, splits_after, merges, gathers, concats, interleaves, merges_sorted, zips, broadcasts, balances, partitions, unzips, sinks, role_of}
 use Rattle.stream_model.specs.Graph.{Graph, Node}
 use Rattle.stream_model.specs.Node.{World}
 use Rattle.stream_model.specs.Picks.{buffered, count_of, empty_buffer, nothing_held}
@@ -266,6 +266,7 @@ module _ (g : Graph) (w : World) where
   RoleRests node (splits_when p chain j) d is os = stage_rests (one_way_by g w node (splits_when p chain j) d) is os
   RoleRests node (splits_after p chain j) d is os = stage_rests (one_way_by g w node (splits_after p chain j) d) is os
   RoleRests node (merges n) d is os = ManyToOne (MergeRests (w.moves node)) is os
+  RoleRests node (gathers n) d is os = ManyToOne (MergeRests (w.moves node)) is os
   RoleRests node (concats n) d is os = ManyToOne ConcatRests is os
   RoleRests node (interleaves n s) d is os = ManyToOne (InterleaveRests s) is os
   RoleRests node merges_sorted d is os = ManyToOne SortedRests is os

@@ -1,25 +1,26 @@
 -- A turn of a merge keeps its law, and the law says what the merge may have given by its moves.
-use Rattle.std.specs.Prelude.{slice_get, slice_set, ◌==◌, ◌&&◌, cond}
-use Rattle.std.proofs.Common.{◌≡◌, ℕ, zero, suc, ◌+◌, ◌<◌, true, IsTrue, ◌⊎◌, inl, inr, List, [], ◌∷◌, ◌++◌, length, map, get_or, refl, sym, ap, ◌∙◌, subst, arith, append-nil, Some}
+use Rattle.std.specs.Prelude.{slice_get, slice_set, ◌==◌, ◌&&◌, if◌then◌else◌, cond}
+use Rattle.std.proofs.Common.{◌≡◌, ℕ, zero, suc, ◌+◌, ◌<◌, Bool, true, false, IsTrue, ◌⊎◌, inl, inr, List, [], ◌∷◌, ◌++◌, length, map, get_or, refl, sym, ap, ◌∙◌, subst, arith, append-nil, Some}
 use Rattle.std.proofs.lemmas.Bool.{cases_eq, and_from, and_parts}
 use Rattle.std.proofs.lemmas.Bool.Decides.{nat_tests}
 use Rattle.std.proofs.lemmas.List.{map-append, get_or-set_same, get_or-set_other}
 use Rattle.std.proofs.lemmas.List.Sums.{sum_by-cons, sum_by-append}
 use Rattle.elem_core.specs.Tree.{Tree}
 use Rattle.elem_core.specs.declared.item.Item.{Item}
+use Rattle.elem_core.specs.declared.item.Item.TheVariants as item
 use Rattle.elem_core.specs.declared.why.Cause.{Cause}
 use Rattle.stream_model.specs.Outlook.{End, unended, ended, failed}
 use Rattle.stream_model.specs.Machine.{is_ended}
 use Rattle.stream_model.specs.FanIn.{Tagged, tag, Inflow, flow, merge_of, Finds}
-use Rattle.stream_model.specs.Picks.{count_of, used_up, FailsWithin, MergeStands}
+use Rattle.stream_model.specs.Picks.{count_of, used_up, FailsWithin, MergeStands, soft, softened, softened_by}
 use Rattle.stream_model.proofs.Fitting.{at_get, yes_one, no_one}
 use Rattle.port_core.specs.declared.act.Act.{Act}
 use Rattle.port_core.specs.View.{View, out_at, ActsAllowed, acted_all}
 use Rattle.port_core.specs.Call.{Call, starts, pulls, arrives, cancels, AllIdle, CallAllowed, seen, brought_to, given_on}
 use Rattle.stage_core.specs.Law.{GaveAs}
-use Rattle.stage_core.specs.Inflows.{joined_at, joined_all, coming, untouched}
+use Rattle.stage_core.specs.Inflows.{nothing_came, flow_of, joined_at, joined_all, coming, untouched}
 use Rattle.stage_core.specs.Fans.{untagged}
-use Rattle.stage_core.specs.Merges.{MergeHeld, waits, shut, lists_of, left_at, left_by, SameEnds, Merged, MergeTurn, MergeClose, completes, fails, MergeTurnAt, MergeKeeps, moves_of, MergeLaw}
+use Rattle.stage_core.specs.Merges.{MergeHeld, waits, shut, lists_of, left_at, left_by, SameEnds, Merged, MergeTurn, MergeClose, completes, fails, MergeTurnAt, MergeKeeps, GathersAs, item_by, call_by, moves_of, MergeLaw}
 use Rattle.stage_core.proofs.Inflows.{Stepped, ports_law, new_ports}
 
 -- ---- more behind each list
@@ -296,24 +297,100 @@ stepped (arrives i b) moves ws (waits now us) ins g out m t = turned moves ins w
 stepped (arrives i b) moves ws (shut now) ins g out m t = closed moves ins ws g (arrives i b) m out now t
 stepped (cancels j) moves ws new ins g out m t = rw t.1 (refused moves ins ws g (cancels j) m out t.0)
 
+-- ---- one that gathers: a merge to which each failure came as an end
+
+soft_flow : Inflow → Inflow
+soft_flow f = record { list = f.list; end = soft f.end }
+
+soft_joined : (e : End) (l : List Tree) (r : Inflow) → soft_flow (joined_at e l r) ≡ joined_at (soft e) l (soft_flow r)
+unfolding soft_flow
+soft_joined unended l r = refl
+soft_joined ended l r = refl
+soft_joined (failed c) l r = refl
+
+soft_one : (x : Item) → soft_flow (flow_of x) ≡ flow_of (item_by true x)
+unfolding soft_flow
+soft_one (item.Elem t) = refl
+soft_one item.Ended = refl
+soft_one (item.Failed c) = refl
+
+soft_nothing : soft_flow nothing_came ≡ nothing_came
+unfolding soft_flow
+soft_nothing = refl
+
+soft_either : (b : Bool) (x : Item) → soft_flow (if b then flow_of x else nothing_came) ≡ (if b then flow_of (item_by true x) else nothing_came)
+soft_either true x = soft_one x
+soft_either false x = soft_nothing
+
+soft_coming : (call : Call) (k : ℕ) → soft_flow (coming call k) ≡ coming (call_by true call) k
+soft_coming starts k = soft_nothing
+soft_coming (pulls j) k = soft_nothing
+soft_coming (arrives i x) k = soft_either (i == k) x
+soft_coming (cancels j) k = soft_nothing
+
+soft_all : (n : ℕ) (ins : List Inflow) (call : Call) → softened (joined_all n ins (coming call)) ≡ joined_all n (softened ins) (coming (call_by true call))
+unfolding soft_flow
+soft_all n [] call = refl
+soft_all n (f ∷ fs) call =
+    let one = soft_joined f.end f.list (coming call n) ∙ ap (joined_at (soft f.end) f.list) (soft_coming call n) in
+    let more = soft_all (n + 1) fs call in
+    λ i. one i ∷ more i
+
+plain_item : (x : Item) → x ≡ item_by false x
+plain_item (item.Elem t) = refl
+plain_item item.Ended = refl
+plain_item (item.Failed c) = refl
+
+plain_call : (call : Call) → call ≡ call_by false call
+plain_call starts = refl
+plain_call (pulls j) = refl
+plain_call (arrives i x) = ap (arrives i) (plain_item x)
+plain_call (cancels j) = refl
+
+soft_came : (gathers : Bool) (ins : List Inflow) (call : Call) → softened_by gathers (joined_all 0 ins (coming call)) ≡ joined_all 0 (softened_by gathers ins) (coming (call_by gathers call))
+soft_came false ins call = ap (λ (c : Call). joined_all 0 ins (coming c)) (plain_call call)
+soft_came true ins call = soft_all 0 ins call
+
+-- the elements are the same
+pub soft_lists : (gathers : Bool) (fs : List Inflow) → lists_of (softened_by gathers fs) ≡ lists_of fs
+soft_lists false fs = refl
+soft_lists true [] = refl
+soft_lists true (f ∷ fs) = ap (λ (ls : List (List Tree)). f.list ∷ ls) (soft_lists true fs)
+
+gathered : (gathers : Bool) (new : MergeHeld) (call : Call) (ins : List Inflow) (g : List Tree) (out : List Item) → Stepped (MergeKeeps new) (joined_all 0 (softened_by gathers ins) (coming (call_by gathers call))) g out
+    → Stepped (GathersAs gathers new) (joined_all 0 ins (coming call)) g out
+gathered gathers new call ins g out s = record { list = s.list; end = s.end; out_is = s.out_is; keeps = subst (λ fs. MergeKeeps new fs (g ++ s.list) s.end) (sym (soft_came gathers ins call)) s.keeps }
+
+no_turn : (c : Call) (moves : List ℕ) (out : List Item) (new : MergeHeld) → MergeTurnAt c (shut moves) out new → ⊥
+no_turn c moves out new t = t
+
 -- a call keeps the law
-pub merge_call : (call : Call) (old new : MergeHeld) (v : View) (took : ℕ → List Item) (gave : List Item) (acts : List Act) → CallAllowed call v → ActsAllowed (seen call v) acts → MergeTurnAt call old (given_on 0 acts) new
-    → MergeLaw old v took gave → MergeLaw new (acted_all (seen call v) acts) (λ i. took i ++ brought_to i call) (gave ++ given_on 0 acts)
-merge_call call (shut moves) new v took gave acts may allowed turn law = absurd turn
-merge_call call (waits moves ws) new v took gave acts may allowed turn law =
-    ports_law (MergeKeeps (waits moves ws)) (MergeKeeps new) call v took gave acts may allowed law law.keeps.0 (stepped call moves ws new law.ins law.out_list (given_on 0 acts) law.keeps.1 turn)
+pub merge_call : (gathers : Bool) (call : Call) (old new : MergeHeld) (v : View) (took : ℕ → List Item) (gave : List Item) (acts : List Act) → CallAllowed call v → ActsAllowed (seen call v) acts → MergeTurnAt (call_by gathers call) old (given_on 0 acts) new
+    → MergeLaw gathers old v took gave → MergeLaw gathers new (acted_all (seen call v) acts) (λ i. took i ++ brought_to i call) (gave ++ given_on 0 acts)
+merge_call gathers call (shut moves) new v took gave acts may allowed turn law = absurd (no_turn (call_by gathers call) moves (given_on 0 acts) new turn)
+merge_call gathers call (waits moves ws) new v took gave acts may allowed turn law =
+    ports_law (GathersAs gathers (waits moves ws)) (GathersAs gathers new) call v took gave acts may allowed law law.keeps.0
+    (gathered gathers new call law.ins law.out_list (given_on 0 acts) (stepped (call_by gathers call) moves ws new (softened_by gathers law.ins) law.out_list (given_on 0 acts) law.keeps.1 turn))
 
 untouched_ends : (n : ℕ) → SameEnds (untouched n) (untouched n)
 untouched_ends zero = tt
 untouched_ends (suc n) = (refl, untouched_ends n)
 
+untouched_soft : (gathers : Bool) (n : ℕ) → softened_by gathers (untouched n) ≡ untouched n
+untouched_soft false n = refl
+untouched_soft true zero = refl
+untouched_soft true (suc n) = ap (λ (fs : List Inflow). nothing_came ∷ fs) (untouched_soft true n)
+
 -- before anything came
-pub merge_new : (v : View) → AllIdle v.ins → GaveAs (out_at v 0) unended → MergeLaw (waits [] (untouched (length v.ins))) v (λ _. []) []
-merge_new v idle open_out = new_ports (MergeKeeps (waits [] (untouched (length v.ins)))) v idle open_out (refl, record { finds = tt; gave = refl; left = refl; ends = untouched_ends (length v.ins) })
+pub merge_new : (gathers : Bool) (v : View) → AllIdle v.ins → GaveAs (out_at v 0) unended → MergeLaw gathers (waits [] (untouched (length v.ins))) v (λ _. []) []
+merge_new gathers v idle open_out =
+    new_ports (GathersAs gathers (waits [] (untouched (length v.ins)))) v idle open_out
+    (subst (λ (fs : List Inflow). MergeKeeps (waits [] (untouched (length v.ins))) fs [] unended) (sym (untouched_soft gathers (length v.ins)))
+    (refl, record { finds = tt; gave = refl; left = refl; ends = untouched_ends (length v.ins) }))
 
 -- over its whole history
-pub merge_history_stands : (x : MergeHeld) (v : View) (took : ℕ → List Item) (gave : List Item) → (law : MergeLaw x v took gave) → MergeStands (moves_of x) law.ins law.out_list law.out_end
-merge_history_stands x v took gave law = merge_stands x law.ins law.out_list law.out_end law.keeps
+pub merge_history_stands : (gathers : Bool) (x : MergeHeld) (v : View) (took : ℕ → List Item) (gave : List Item) → (law : MergeLaw gathers x v took gave) → MergeStands (moves_of x) (softened_by gathers law.ins) law.out_list law.out_end
+merge_history_stands gathers x v took gave law = merge_stands x (softened_by gathers law.ins) law.out_list law.out_end law.keeps
 
 -- for every further list of moves and every rest: what all moves give is what was given and what the further ones give of what waits
 pub merge_rest : (moves : List ℕ) (ins ws : List Inflow) (g : List Tree) → Merged moves ins g ws → (more : ℕ → Inflow) (further : List ℕ)

@@ -1,14 +1,15 @@
--- The law of a merge: its moves say of which input each element was that it gave, and what came and was not given waits.
-use Rattle.std.specs.Prelude.{◌≡◌, ℕ, IsTrue, List, [], ◌∷◌, ◌++◌, map, slice_get, slice_set, Option, Some, None, ⊤}
+-- The law of a merge: its moves say of which input each element was that it gave, and what came and was not given waits. A stage that
+-- gathers, which a merge hub does, is a merge that takes each failure of an input as its end.
+use Rattle.std.specs.Prelude.{◌≡◌, ℕ, Bool, true, false, IsTrue, List, [], ◌∷◌, ◌++◌, map, slice_get, slice_set, Option, Some, None, ⊤}
 use Rattle.elem_core.specs.Tree.{Tree}
 use Rattle.elem_core.specs.declared.item.Item.{Item}
 use Rattle.elem_core.specs.declared.item.Item.TheVariants as item
 use Rattle.elem_core.specs.declared.why.Cause.{Cause}
 use Rattle.stream_model.specs.Outlook.{End, unended, ended}
 use Rattle.stream_model.specs.FanIn.{Inflow, flow, merge_of, Finds}
-use Rattle.stream_model.specs.Picks.{used_up, FailsWithin, MergeStands}
+use Rattle.stream_model.specs.Picks.{used_up, FailsWithin, MergeStands, softened_by}
 use Rattle.port_core.specs.View.{View}
-use Rattle.port_core.specs.Call.{Call, cancels}
+use Rattle.port_core.specs.Call.{Call, starts, pulls, arrives, cancels}
 use Rattle.stage_core.specs.Held.{told}
 use Rattle.stage_core.specs.Inflows.{joined_all, coming, PortsLaw}
 use Rattle.stage_core.specs.Fans.{untagged}
@@ -73,11 +74,29 @@ abbrev pub MergeKeeps : MergeHeld → List Inflow → List Tree → End → Type
 MergeKeeps (waits moves ws) ins g f = (f ≡ unended) × Merged moves ins g ws
 MergeKeeps (shut moves) ins g f = MergeStands moves ins g f
 
+-- the same by the flag whether it gathers: then an input that failed has ended
+abbrev pub GathersAs : Bool → MergeHeld → List Inflow → List Tree → End → Type 0
+GathersAs gathers x ins g f = MergeKeeps x (softened_by gathers ins) g f
+
+-- an item that comes, as one that gathers takes it: a failure is an end
+abbrev pub item_by : Bool → Item → Item
+item_by gathers (item.Elem t) = item.Elem t
+item_by gathers item.Ended = item.Ended
+item_by true (item.Failed c) = item.Ended
+item_by false (item.Failed c) = item.Failed c
+
+-- the same of a call
+abbrev pub call_by : Bool → Call → Call
+call_by gathers starts = starts
+call_by gathers (pulls j) = pulls j
+call_by gathers (arrives i x) = arrives i (item_by gathers x)
+call_by gathers (cancels j) = cancels j
+
 -- the moves that it made
 abbrev pub moves_of : MergeHeld → List ℕ
 moves_of (waits moves ws) = moves
 moves_of (shut moves) = moves
 
--- the law of a merge over its whole history
-abbrev pub MergeLaw : MergeHeld → View → (ℕ → List Item) → List Item → Type 0
-MergeLaw x v took gave = PortsLaw (MergeKeeps x) v took gave
+-- the law of a merge, or of one that gathers, over its whole history
+abbrev pub MergeLaw : Bool → MergeHeld → View → (ℕ → List Item) → List Item → Type 0
+MergeLaw gathers x v took gave = PortsLaw (GathersAs gathers x) v took gave

@@ -14,14 +14,14 @@ ghost use Rattle.port_core.specs.Call.{Call, AllIdle, CallAllowed, seen, brought
 ghost use Rattle.stream_model.specs.FanIn.{Inflow, merge_of, pairs, FanStands};
 ghost use Rattle.stream_model.specs.Outlook.{Outlook, End, unended, Agrees};
 ghost use Rattle.stream_model.specs.Linear.{Stage};
-ghost use Rattle.stream_model.specs.Picks.{MergeStands};
+ghost use Rattle.stream_model.specs.Picks.{MergeStands, softened_by};
 ghost use Rattle.stream_model.specs.Machine.{State, Run, Machine, Stands, output};
 ghost use Rattle.stage_core.specs.Held.{Held, owing, shut, gives, whole};
 ghost use Rattle.stage_core.specs.Turn.{TurnAt, ResidualAt};
 ghost use Rattle.stage_core.specs.Law.{TookAs, GaveAs, Law};
 ghost use Rattle.stage_core.specs.Inflows.{nothing_came, joined, joined_all, untouched};
 ghost use Rattle.stage_core.specs.Merges as merge;
-ghost use Rattle.stage_core.specs.Merges.{MergeHeld, Merged, MergeTurnAt, MergeLaw, lists_of, moves_of};
+ghost use Rattle.stage_core.specs.Merges.{MergeHeld, Merged, MergeTurnAt, MergeLaw, call_by, lists_of, moves_of};
 ghost use Rattle.stage_core.specs.Outs.{Outlet, OutsLaw, TurnsAt, owe};
 ghost use Rattle.stage_core.specs.Zips as zip;
 ghost use Rattle.stage_core.specs.Zips.{ZipHeld, Paired, ZipTurnAt, ZipLaw, ZipStandsOf};
@@ -95,16 +95,17 @@ pub fn zips_keep_the_law()
 {}
 
 /// The same of a merge, by its moves: for every rest of its inputs and every further list of moves, what all the moves give
-/// is what it gave, and what the further moves give of what waits with the rest.
+/// is what it gave, and what the further moves give of what waits with the rest. A stage that gathers owes at a failure of an input what
+/// a merge owes at its end, and then stands as a merge whose inputs that failed have ended.
 pub fn merges_keep_the_law()
-    ensures new { (v : View) → AllIdle v.ins → GaveAs (out_at v 0) unended → MergeLaw (merge.waits [] (untouched (length v.ins))) v (λ _. []) [] }
-    ensures call { (call : Call) (old new : MergeHeld) (v : View) (took : ℕ → List Item) (gave : List Item) (acts : List Act)
-        → CallAllowed call v → ActsAllowed (seen call v) acts → MergeTurnAt call old (given_on 0 acts) new → MergeLaw old v took gave
-        → MergeLaw new (acted_all (seen call v) acts) (λ i. took i ++ brought_to i call) (gave ++ given_on 0 acts) }
+    ensures new { (gathers : Bool) (v : View) → AllIdle v.ins → GaveAs (out_at v 0) unended → MergeLaw gathers (merge.waits [] (untouched (length v.ins))) v (λ _. []) [] }
+    ensures call { (gathers : Bool) (call : Call) (old new : MergeHeld) (v : View) (took : ℕ → List Item) (gave : List Item) (acts : List Act)
+        → CallAllowed call v → ActsAllowed (seen call v) acts → MergeTurnAt (call_by gathers call) old (given_on 0 acts) new → MergeLaw gathers old v took gave
+        → MergeLaw gathers new (acted_all (seen call v) acts) (λ i. took i ++ brought_to i call) (gave ++ given_on 0 acts) }
     ensures rest { (moves : List ℕ) (ins ws : List Inflow) (g : List Tree) → Merged moves ins g ws → (more : ℕ → Inflow) (further : List ℕ)
         → untagged (merge_of (moves ++ further) (lists_of (joined_all 0 ins more))) ≡ g ++ untagged (merge_of further (lists_of (joined_all 0 ws more))) }
-    ensures stands { (x : MergeHeld) (v : View) (took : ℕ → List Item) (gave : List Item) → (law : MergeLaw x v took gave)
-        → MergeStands (moves_of x) law.ins law.out_list law.out_end }
+    ensures stands { (gathers : Bool) (x : MergeHeld) (v : View) (took : ℕ → List Item) (gave : List Item) → (law : MergeLaw gathers x v took gave)
+        → MergeStands (moves_of x) (softened_by gathers law.ins) law.out_list law.out_end }
 {}
 
 // Choice: docs/DECISIONS.md#law-of-one-output

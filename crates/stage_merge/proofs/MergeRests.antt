@@ -127,10 +127,10 @@ none_waits n (suc k) = ap (λ (fs : List Inflow). nothing_came ∷ fs) (none_wai
 abbrev begun : ℕ → Core
 begun k = record { phase = New; over = replicate k false; queue = []; room = k; asked = false; left = k }
 
-pub new_row : (inputs : ℕ) (l : Merging) → 2 ≤ inputs → inputs ≤ MAX_FAN → Begins inputs l → port_state l (record { ins = idles (replicate inputs false); outs = Unpulled ∷ [] })
-new_row k l two few b =
+pub new_row : (inputs : ℕ) (gathers : Bool) (l : Merging) → 1 ≤ inputs → inputs ≤ MAX_FAN → Begins inputs gathers l → port_state l (record { ins = idles (replicate inputs false); outs = Unpulled ∷ [] })
+new_row k gathers l one few b =
     let long = length-replicate k false in
-    let s : Sound (begun k) = record { count = sym (all_open k); some = λ e. omega (arith, two); empty = λ e. refl; once = λ m. omega arith; there = tt; few = omega (arith, long, few); roomy = omega (arith, long) } in
+    let s : Sound (begun k) = record { count = sym (all_open k); some = λ e. omega (arith, one); empty = λ e. refl; once = λ m. omega arith; there = tt; few = omega (arith, long, few); roomy = omega (arith, long) } in
     let f : Fresh (begun k) = record { queue = refl; over = ap (λ m. replicate m false) (sym long); unasked = refl } in
     let v : port.View = record { ins = idles (replicate k false); outs = Unpulled ∷ [] } in
     subst (λ (c : Core). port_state_by c.phase c v) (sym b.core) (refl, (s, f))

@@ -21,13 +21,13 @@ use Rattle.stream_model.specs.FanIn.{Inflow, flow}
 use Rattle.stream_model.specs.Picks.{used_up}
 use Rattle.stream_model.specs.declared.kind.TheConstants.{MAX_FAN}
 use Rattle.stage_core.specs.Inflows.{joined_all, coming}
-use Rattle.stage_core.specs.Merges.{MergeHeld, waits, shut, MergeTurn, MergeClose, completes, fails, MergeTurnAt}
+use Rattle.stage_core.specs.Merges.{MergeHeld, waits, shut, MergeTurn, MergeClose, completes, fails, MergeTurnAt, item_by}
 use Rattle.stage_core.proofs.Inflows.{joined_all-nothing_came}
 use Rattle.stage_core.specs.declared.phase.Phase.{Phase}
 use Rattle.stage_core.specs.declared.phase.Phase.TheVariants.{New, Open, Closed}
 use Rattle.stage_merge.specs.declared.merging.Queued.{Queued}
 use Rattle.stage_core.specs.Seats.{wish, open_cancels, InsClosed, OneClosed, FanClosed, AllOver}
-use Rattle.stage_merge.specs.Mergings.{Core, Merging, of_port, waiting, input_view, places, idles, pull_acts, open_count, PortsThere, view_of, new_view, Sound, Fresh, port_state_by, port_state, held_by, held, Turned, Does, EndsIfDone, done, opens, more, Again, over, still, HandedOn, Gave, first, none, Took, passed, stored, without, Ended, FirstOut, LastIn}
+use Rattle.stage_merge.specs.Mergings.{Core, Merging, of_port, waiting, input_view, places, idles, pull_acts, open_count, PortsThere, view_of, new_view, Sound, Fresh, port_state_by, port_state, held_by, held, Turned, Does, EndsIfDone, done, opens, more, Again, over, still, HandedOn, Gave, first, none, Took, passed, stored, without, Ended, InputLost, taken_off, gives_up, FirstOut, LastIn}
 use Rattle.stage_core.proofs.Closings.{open_wish, unasked_wish, Cancels, set_behind, at_behind, ins_append, cancels_give, cancels_stand}
 use Rattle.stage_merge.proofs.Fewer.{fewer}
 use Rattle.stage_merge.proofs.Merges.{queued, out_merged, none_merged, used_none, used_one, ended_place, open_place, over_closed, came_now, ended_now, stored_now, released_now, idle_now, gone_now, failed_now, none_now, here_now, only_head, tail_once, stored_once, there_stored, there_by, one_less, none_open}
@@ -95,7 +95,7 @@ is_open l v h is s = subst (λ f. port_state_by f l v) (sym h) (is, s)
 still_count : (bs : List Bool) (i : ℕ) → slice_get bs i ≡ Some false → 1 ≤ open_count bs
 still_count bs i h = let e = one_less bs i h in omega (arith, e)
 
-module _ (i : ℕ) (t : Tree) (l : Core) (moves : List ℕ) (now : Picks) (now_is : now.moves ≡ moves ++ i ∷ [])
+module _ (i : ℕ) (t : Tree) (gathers : Bool) (l : Core) (moves : List ℕ) (now : Picks) (now_is : now.moves ≡ moves ++ i ∷ [])
     (open_now : l.phase ≡ Open) (off : l.asked ≡ false) (count : l.left ≡ open_count l.over)
     (once : (m : ℕ) → length (of_port m (queued i t ∷ l.queue)) ≤ 1) (here : i < length l.over) (there : PortsThere l.over l.queue) (few : length l.over ≤ MAX_FAN) (roomy : length l.over ≤ l.room) where
   abbrev before : View
@@ -105,7 +105,7 @@ module _ (i : ℕ) (t : Tree) (l : Core) (moves : List ℕ) (now : Picks) (now_i
   waited = waiting 0 l.over (queued i t ∷ l.queue)
 
   abbrev to : Merging
-  to = record { log = now; core = l }
+  to = record { log = now; gathers = gathers; core = l }
 
   sound_then : (l.queue ≡ [] → 1 ≤ l.left) → Sound l
   sound_then some = record {
@@ -180,23 +180,23 @@ module _ (old : Merging) (h : old.core.phase ≡ Open) where
   held_open : held old ≡ waits old.log.moves (waiting 0 old.core.over old.core.queue)
   held_open = ap (λ f. held_by f old.log.moves old.core) h
 
-  ends_ok : (call : Call) (new : Merging) (acts : List Act) → length new.core.over ≡ length old.core.over
+  ends_ok : (call : Call) (new : Merging) (acts : List Act) → new.gathers ≡ old.gathers → length new.core.over ≡ length old.core.over
       → ((hd : MergeHeld) → Then old.log.moves (joined_all 0 (waiting 0 old.core.over old.core.queue) (coming call)) (given_on 0 acts) hd → MergeTurnAt call (waits old.log.moves (waiting 0 old.core.over old.core.queue)) (given_on 0 acts) hd)
       → At (seen call (view_of old.core)) old.log.moves (joined_all 0 (waiting 0 old.core.over old.core.queue) (coming call)) new acts → Handled call old acts new
-  ends_ok call new acts long by_held a = record {
+  ends_ok call new acts way long by_held a = record {
     ports = obeys call old new acts h a.allowed a.row_then;
-    gives = record { turn = rw held_open (by_held (held new) a.turn); inputs = long; stands = a.stands; started = a.started; more = a.more; grows = a.grows };
+    gives = record { turn = rw held_open (by_held (held new) a.turn); way = way; inputs = long; stands = a.stands; started = a.started; more = a.more; grows = a.grows };
   }
 
-  none_asked : (log : Picks) → log.moves ≡ old.log.moves → Sound old.core → old.core.queue ≡ [] → Handled (pulls 0) old [] (record { log = log; core = record old.core { asked = true } })
+  none_asked : (log : Picks) → log.moves ≡ old.log.moves → Sound old.core → old.core.queue ≡ [] → Handled (pulls 0) old [] (record old { log = log; core = record old.core { asked = true } })
   none_asked log same sound nothing_there =
-      let to : Merging = record { log = log; core = record old.core { asked = true } } in
+      let to : Merging = record old { log = log; core = record old.core { asked = true } } in
       let ws : List Inflow = waiting 0 old.core.over old.core.queue in
       let s : Sound to.core = record { count = sound.count; some = sound.some; empty = λ e. nothing_there; once = sound.once; there = sound.there; few = sound.few; roomy = sound.roomy } in
       let grown : log.moves ≡ old.log.moves ++ [] = same ∙ sym (append-nil old.log.moves) in
       let q : MergeTurn old.log.moves ws [] log.moves ws = record { more = []; given = []; now_is = grown; out_is = refl; merged = none_merged old.core.over old.core.queue } in
       let q2 : Then old.log.moves ws [] (held to) = subst (λ f. Then old.log.moves ws [] (held_by f log.moves to.core)) (sym h) q in
-      ends_ok (pulls 0) to [] refl (asked_turn old.log.moves ws []) (record {
+      ends_ok (pulls 0) to [] refl refl (asked_turn old.log.moves ws []) (record {
         allowed = tt;
         row_then = is_open to.core (seen (pulls 0) (view_of old.core)) h refl s;
         turn = subst (λ w. Then old.log.moves w [] (held to)) (sym (joined_all-nothing_came 0 ws)) q2;
@@ -211,22 +211,32 @@ module _ (old : Merging) (h : old.core.phase ≡ Open) where
   ends_long b mid new acts (opens x to_is z) = ap (λ (m : Merging). length m.core.over) to_is
   ends_long b mid new acts (more x to_is z) = ap (λ (m : Merging). length m.core.over) to_is
 
+  ends_way : (b : List Act) (mid new : Merging) (acts : List Act) → EndsIfDone b mid new acts → new.gathers ≡ mid.gathers
+  ends_way b mid new acts (done x y to_is z) = ap (λ (m : Merging). m.gathers) to_is
+  ends_way b mid new acts (opens x to_is z) = ap (λ (m : Merging). m.gathers) to_is
+  ends_way b mid new acts (more x to_is z) = ap (λ (m : Merging). m.gathers) to_is
+
+  again_way : (i : ℕ) (b : List Act) (mid new : Merging) (acts : List Act) → Again i b mid new acts → new.gathers ≡ mid.gathers
+  again_way i b mid new acts (over x e) = ends_way b mid new acts e
+  again_way i b mid new acts (still x to_is z) = ap (λ (m : Merging). m.gathers) to_is
+
   again_long : (i : ℕ) (b : List Act) (mid new : Merging) (acts : List Act) → Again i b mid new acts → length new.core.over ≡ length mid.core.over
   again_long i b mid new acts (over x e) = ends_long b mid new acts e
   again_long i b mid new acts (still x to_is z) = ap (λ (m : Merging). length m.core.over) to_is
 
   first_asked : (log : Picks) (new : Merging) (acts : List Act) → log.moves ≡ old.log.moves → CallAllowed (pulls 0) (view_of old.core) → Sound old.core
-      → (x : Queued) (q : List Queued) → old.core.queue ≡ x ∷ q → HandedOn x.port x.item (record { log = log; core = record old.core { queue = q } }) new acts → Handled (pulls 0) old acts new
+      → (x : Queued) (q : List Queued) → old.core.queue ≡ x ∷ q → HandedOn x.port x.item (record old { log = log; core = record old.core { queue = q } }) new acts → Handled (pulls 0) old acts new
   first_asked log new acts same may sound x q is handed =
       let l : Core = record old.core { queue = q } in
       let once : (m : ℕ) → length (of_port m (x ∷ q)) ≤ 1 = subst (λ (qs : List Queued). (m : ℕ) → length (of_port m qs) ≤ 1) is sound.once in
       let there : PortsThere old.core.over (x ∷ q) = subst (λ (qs : List Queued). PortsThere old.core.over qs) is sound.there in
       let now_is : handed.log.moves ≡ old.log.moves ++ x.port ∷ [] = handed.moves ∙ ap (λ (ms : List ℕ). ms ++ x.port ∷ []) same in
       let a : At (record { ins = places 0 old.core.over (x ∷ q); outs = outlet.Available ∷ [] }) old.log.moves (waiting 0 old.core.over (x ∷ q)) new acts =
-      again_by x.port x.item l old.log.moves handed.log now_is h (unasked_wish old.core.asked may) sound.count once there.0 there.1 sound.few sound.roomy new acts handed.again in
+      again_by x.port x.item old.gathers l old.log.moves handed.log now_is h (unasked_wish old.core.asked may) sound.count once there.0 there.1 sound.few sound.roomy new acts handed.again in
       let b : At (seen (pulls 0) (view_of old.core)) old.log.moves (waiting 0 old.core.over old.core.queue) new acts =
       subst (λ (qs : List Queued). At (record { ins = places 0 old.core.over qs; outs = outlet.Available ∷ [] }) old.log.moves (waiting 0 old.core.over qs) new acts) (sym is) a in
-      ends_ok (pulls 0) new acts (again_long x.port (Push 0 x.item ∷ []) (record { log = handed.log; core = l }) new acts handed.again)
+      ends_ok (pulls 0) new acts (again_way x.port (Push 0 x.item ∷ []) (record old { log = handed.log; core = l }) new acts handed.again)
+      (again_long x.port (Push 0 x.item ∷ []) (record old { log = handed.log; core = l }) new acts handed.again)
       (asked_turn old.log.moves (waiting 0 old.core.over old.core.queue) (given_on 0 acts))
       (subst (λ w. At (seen (pulls 0) (view_of old.core)) old.log.moves w new acts) (sym (joined_all-nothing_came 0 (waiting 0 old.core.over old.core.queue))) b)
 
@@ -237,10 +247,10 @@ module _ (old : Merging) (h : old.core.phase ≡ Open) where
   not_nothing (y ∷ q) x e = cc
 
   stored_here : (log : Picks) (i : ℕ) (t : Tree) → log.moves ≡ old.log.moves → CallAllowed (arrives i (item.Elem t)) (view_of old.core) → Sound old.core → old.core.asked ≡ false
-      → Handled (arrives i (item.Elem t)) old [] (record { log = log; core = record old.core { queue = old.core.queue ++ queued i t ∷ [] } })
+      → Handled (arrives i (item.Elem t)) old [] (record old { log = log; core = record old.core { queue = old.core.queue ++ queued i t ∷ [] } })
   stored_here log i t same may sound off =
       let q : List Queued = old.core.queue ++ queued i t ∷ [] in
-      let to : Merging = record { log = log; core = record old.core { queue = q } } in
+      let to : Merging = record old { log = log; core = record old.core { queue = q } } in
       let ws : List Inflow = waiting 0 old.core.over q in
       let here : slice_get old.core.over i ≡ Some false = here_now i old.core.over old.core.queue may in
       let free : of_port i old.core.queue ≡ [] = none_now i old.core.over old.core.queue may in
@@ -256,7 +266,7 @@ module _ (old : Merging) (h : old.core.phase ≡ Open) where
       let grown : log.moves ≡ old.log.moves ++ [] = same ∙ sym (append-nil old.log.moves) in
       let m : MergeTurn old.log.moves ws [] log.moves ws = record { more = []; given = []; now_is = grown; out_is = refl; merged = none_merged old.core.over q } in
       let m2 : Then old.log.moves ws [] (held to) = subst (λ f. Then old.log.moves ws [] (held_by f log.moves to.core)) (sym h) m in
-      ends_ok (arrives i (item.Elem t)) to [] refl (brought_turn i (item.Elem t) old.log.moves (waiting 0 old.core.over old.core.queue) []) (record {
+      ends_ok (arrives i (item.Elem t)) to [] refl refl (brought_turn i (item.Elem t) old.log.moves (waiting 0 old.core.over old.core.queue) []) (record {
         allowed = tt;
         row_then = is_open to.core (seen (arrives i (item.Elem t)) (view_of old.core)) h (ap (λ (xs : List InView). record { ins = xs; outs = wish old.core.asked ∷ [] }) (stored_now i t old.core.over old.core.queue here)) s;
         turn = subst (λ w. Then old.log.moves w [] (held to)) (sym (came_now i t old.core.over old.core.queue here)) m2;
@@ -267,7 +277,7 @@ module _ (old : Merging) (h : old.core.phase ≡ Open) where
       })
 
   passed_here : (log : Picks) (new : Merging) (acts : List Act) (i : ℕ) (t : Tree) → log.moves ≡ old.log.moves → CallAllowed (arrives i (item.Elem t)) (view_of old.core) → Sound old.core → old.core.asked ≡ true
-      → HandedOn i t (record { log = log; core = record old.core { asked = false } }) new acts → Handled (arrives i (item.Elem t)) old acts new
+      → HandedOn i t (record old { log = log; core = record old.core { asked = false } }) new acts → Handled (arrives i (item.Elem t)) old acts new
   passed_here log new acts i t same may sound on handed =
       let l : Core = record old.core { asked = false } in
       let here : slice_get old.core.over i ≡ Some false = here_now i old.core.over old.core.queue may in
@@ -277,12 +287,13 @@ module _ (old : Merging) (h : old.core.phase ≡ Open) where
       let once : (m : ℕ) → length (of_port m (queued i t ∷ old.core.queue)) ≤ 1 = λ m. subst (λ (q : List Queued). length (of_port m q) ≤ 1) turned (stored_once m i t old.core.queue free (sound.once m)) in
       let now_is : handed.log.moves ≡ old.log.moves ++ i ∷ [] = handed.moves ∙ ap (λ (ms : List ℕ). ms ++ i ∷ []) same in
       let a : At (record { ins = places 0 old.core.over (queued i t ∷ old.core.queue); outs = outlet.Available ∷ [] }) old.log.moves (waiting 0 old.core.over (queued i t ∷ old.core.queue)) new acts =
-      again_by i t l old.log.moves handed.log now_is h refl sound.count once (slice_get_within old.core.over i false here) sound.there sound.few sound.roomy new acts handed.again in
+      again_by i t old.gathers l old.log.moves handed.log now_is h refl sound.count once (slice_get_within old.core.over i false here) sound.there sound.few sound.roomy new acts handed.again in
       let ins : slice_set (places 0 old.core.over old.core.queue) i Idle ≡ places 0 old.core.over (queued i t ∷ old.core.queue) = stored_now i t old.core.over old.core.queue here ∙ ap (λ (q : List Queued). places 0 old.core.over q) turned in
       let v : seen (arrives i (item.Elem t)) (view_of old.core) ≡ record { ins = places 0 old.core.over (queued i t ∷ old.core.queue); outs = outlet.Available ∷ [] } =
       ap (λ (xs : List InView). record { ins = xs; outs = wish old.core.asked ∷ [] }) ins ∙ ap (λ b. record { ins = places 0 old.core.over (queued i t ∷ old.core.queue); outs = wish b ∷ [] }) on in
       let ws : joined_all 0 (waiting 0 old.core.over old.core.queue) (coming (arrives i (item.Elem t))) ≡ waiting 0 old.core.over (queued i t ∷ old.core.queue) = came_now i t old.core.over old.core.queue here ∙ ap (λ (q : List Queued). waiting 0 old.core.over q) turned in
-      ends_ok (arrives i (item.Elem t)) new acts (again_long i (Push 0 t ∷ []) (record { log = handed.log; core = l }) new acts handed.again)
+      ends_ok (arrives i (item.Elem t)) new acts (again_way i (Push 0 t ∷ []) (record old { log = handed.log; core = l }) new acts handed.again)
+      (again_long i (Push 0 t ∷ []) (record old { log = handed.log; core = l }) new acts handed.again)
       (brought_turn i (item.Elem t) old.log.moves (waiting 0 old.core.over old.core.queue) (given_on 0 acts))
       (subst (λ w. At (seen (arrives i (item.Elem t)) (view_of old.core)) old.log.moves w new acts) (sym ws) (subst (λ w. At w old.log.moves (waiting 0 old.core.over (queued i t ∷ old.core.queue)) new acts) (sym v) a))
 
@@ -345,7 +356,7 @@ left_on old new acts h does =
     let r = cancels_from old.core.over old.core.queue 0 [] (outlet.Cancelled ∷ []) refl tt in
     rw (does.to_is, does.acts_are) (record {
       ports = obeys (cancels 0) old to (open_cancels 0 old.core.over) h r.allowed (r.closed, subst (λ (ys : List OutView). OneClosed ys) (sym r.outs) tt);
-      gives = record { turn = rw h (cancels_give 0 old.core.over, refl); inputs = refl; stands = cancels_stand 0 old.core.over; started = λ e. cc; more = []; grows = sym (append-nil old.log.moves) };
+      gives = record { turn = rw h (cancels_give 0 old.core.over, refl); way = refl; inputs = refl; stands = cancels_stand 0 old.core.over; started = λ e. cc; more = []; grows = sym (append-nil old.log.moves) };
     })
 
 pub failed_on : (old new : Merging) (acts : List Act) (i : ℕ) (c : Cause) → old.core.phase ≡ Open → Meets (arrives i (item.Failed c)) (port_state old)
@@ -363,7 +374,7 @@ failed_on old new acts i c h m does =
       ports = obeys (arrives i (item.Failed c)) old to (FailOut 0 c ∷ open_cancels 0 bs) h
           (open_wish old.core.asked, subst (λ (xs : List InView). ActsAllowed (record { ins = xs; outs = outlet.Closed ∷ [] }) (open_cancels 0 bs)) (sym ins) r.allowed)
           (subst (λ (xs : List InView). FanClosed (acted_all (record { ins = xs; outs = outlet.Closed ∷ [] }) (open_cancels 0 bs))) (sym ins) (r.closed, subst (λ (ys : List OutView). OneClosed ys) (sym r.outs) tt));
-      gives = record { turn = rw (h, given) close; inputs = length-set old.core.over i true; stands = cancels_stand 0 bs; started = λ e. cc; more = []; grows = sym (append-nil old.log.moves) };
+      gives = record { turn = rw (h, given) close; way = refl; inputs = length-set old.core.over i true; stands = cancels_stand 0 bs; started = λ e. cc; more = []; grows = sym (append-nil old.log.moves) };
     })
 
 -- ---- an end
@@ -394,7 +405,7 @@ module _ (old : Merging) (i : ℕ) (h : old.core.phase ≡ Open) (sound : Sound 
         roomy = let k = sound.roomy in omega (arith, long, k);
       } in
       let m2 : Then old.log.moves (waiting 0 bs old.core.queue) [] (held (without i old)) = subst (λ f. Then old.log.moves (waiting 0 bs old.core.queue) [] (held_by f old.log.moves (without i old).core)) (sym h) (quiet old.log.moves bs old.core.queue) in
-      ends_ok old h (arrives i item.Ended) (without i old) [] long (brought_turn i item.Ended old.log.moves (waiting 0 old.core.over old.core.queue) []) (record {
+      ends_ok old h (arrives i item.Ended) (without i old) [] refl long (brought_turn i item.Ended old.log.moves (waiting 0 old.core.over old.core.queue) []) (record {
         allowed = tt;
         row_then = is_open (without i old).core (seen (arrives i item.Ended) (view_of old.core)) h ends_view s;
         turn = subst (λ w. Then old.log.moves w [] (held (without i old))) (sym waits_then) m2;
@@ -410,7 +421,7 @@ module _ (old : Merging) (i : ℕ) (h : old.core.phase ≡ Open) (sound : Sound 
       let used : IsTrue (used_up [] 0 (map flow (waiting 0 bs old.core.queue))) = rw nothing_left (used_none 0 bs all) in
       let to : Merging = record old { core = record (without i old).core { phase = Closed } } in
       let close : MergeClose old.log.moves (waiting 0 bs old.core.queue) (item.Ended ∷ []) old.log.moves = completes [] [] (waiting 0 bs old.core.queue) (sym (append-nil old.log.moves)) refl (none_merged bs old.core.queue) used in
-      ends_ok old h (arrives i item.Ended) to (Complete 0 ∷ []) (length-set old.core.over i true) (brought_turn i item.Ended old.log.moves (waiting 0 old.core.over old.core.queue) (item.Ended ∷ [])) (record {
+      ends_ok old h (arrives i item.Ended) to (Complete 0 ∷ []) refl (length-set old.core.over i true) (brought_turn i item.Ended old.log.moves (waiting 0 old.core.over old.core.queue) (item.Ended ∷ [])) (record {
         allowed = (open_wish old.core.asked, tt);
         row_then = (subst (λ (xs : List InView). InsClosed xs) (sym (ended_place 0 i old.core.over old.core.queue)) (over_closed 0 bs old.core.queue all), tt);
         turn = subst (λ w. MergeClose old.log.moves w (item.Ended ∷ []) old.log.moves) (sym waits_then) close;
@@ -425,8 +436,34 @@ module _ (old : Merging) (i : ℕ) (h : old.core.phase ≡ Open) (sound : Sound 
   end_by new acts (opens a to_is acts_are) = rw (to_is, acts_are) (end_kept (λ e. a))
   end_by new acts (more a to_is acts_are) = rw (to_is, acts_are) (end_kept (λ e. absurd (a e)))
 
+-- what meets the port rules at a failure meets them at an end, and what obeys them at an end obeys them at a failure, since a stage knows
+-- the same of its ports after both
+pub meets_end : (i : ℕ) (c : Cause) (P : View → Type 0) → Meets (arrives i (item.Failed c)) P → Meets (arrives i item.Ended) P
+meets_end i c P m = (m.0, (m.1.0, m.1.1))
+
+obeys_failure : (i : ℕ) (c : Cause) (P Q : View → Type 0) (acts : List Act) → Obeys (arrives i item.Ended) P Q acts → Obeys (arrives i (item.Failed c)) P Q acts
+obeys_failure i c P Q acts o = record { allowed = o.allowed; ports = o.ports }
+
 pub finished : (old new : Merging) (acts : List Act) (i : ℕ) → old.core.phase ≡ Open → Meets (arrives i item.Ended) (port_state old) → Ended i old new acts → Handled (arrives i item.Ended) old acts new
 finished old new acts i h m e = end_by old i h (found (arrives i item.Ended) old h m).sound (port_open old i item.Ended h (λ x. x) m) new acts e
+
+-- ---- a failure
+
+-- what a handler owes where an input failed
+pub record Loses (old : Merging) (i : ℕ) (c : Cause) (acts : List Act) (new : Merging) : Type 0 where
+  pub ports : Obeys (arrives i (item.Failed c)) (port_state old) (port_state new) acts
+  pub gives : Turned (arrives i (item_by old.gathers (item.Failed c))) old acts new
+
+pub lost_on : (old new : Merging) (acts : List Act) (i : ℕ) (c : Cause) → old.core.phase ≡ Open → Meets (arrives i (item.Failed c)) (port_state old) → InputLost i c old new acts → Loses old i c acts new
+lost_on old new acts i c h m (taken_off gathers e) =
+    let r = finished old new acts i h (meets_end i c (port_state old) m) e in
+    record {
+      ports = obeys_failure i c (port_state old) (port_state new) acts r.ports;
+      gives = subst (λ b. Turned (arrives i (item_by b (item.Failed c))) old acts new) (sym gathers) r.gives;
+    }
+lost_on old new acts i c h m (gives_up not_so does) =
+    let r = failed_on old new acts i c h m does in
+    record { ports = r.ports; gives = subst (λ b. Turned (arrives i (item_by b (item.Failed c))) old acts new) (sym not_so) r.gives }
 
 -- ---- the start
 
@@ -486,6 +523,7 @@ started old new acts h m does =
         ports = λ w may x. let y = subst (λ f. port_state_by f old.core w) h x in subst (λ u. port_state to (acted_all u (pull_acts 0 old.core.over))) (sym y.0) (v, s);
       };
       gives = record {
+        way = refl;
         turn = rw (h, pulls_give 0 old.core.over) (subst (λ w. MergeTurn old.log.moves w [] old.log.moves ws) (sym (joined_all-nothing_came 0 ws)) (quiet old.log.moves old.core.over old.core.queue));
         inputs = refl;
         stands = pulls_stand 0 old.core.over;
@@ -536,7 +574,7 @@ first_out old mid new acts is same g x q at = by_gave (subst (λ l. Gave l new a
     by_gave : Gave (record old { log = mid.log }) new acts → (new.core.queue ≡ q) × (new.log.moves ≡ old.log.moves ++ x.port ∷ [])
     by_gave (first y r e handed) =
         let h = heads x y q r (sym e ∙ at) in
-        let k = again_queue y.port (Push 0 y.item ∷ []) (record { log = handed.log; core = record old.core { queue = r } }) new acts handed.again in
+        let k = again_queue y.port (Push 0 y.item ∷ []) (record old { log = handed.log; core = record old.core { queue = r } }) new acts handed.again in
         (k.0 ∙ h.1, ap (λ (l : Picks). l.moves) k.1 ∙ handed.moves ∙ ap (λ (ms : List ℕ). ms ++ y.port ∷ []) same ∙ ap (λ n. old.log.moves ++ n ∷ []) h.0)
     by_gave (none e t a) = let z : x ∷ q ≡ [] = sym at ∙ e in cc
 

@@ -1,10 +1,12 @@
--- The state of a merge, its port state, and what its handlers owe.
+-- The state of a merge, its port state, and what its handlers owe. One that gathers, as a merge hub does, takes a failure of an input
+-- for its end.
 use Rattle.std.specs.Prelude.{◌≡◌, ◌≢◌, ℕ, suc, ◌+◌, ◌-◌, ◌==◌, ◌≤◌, ◌<◌, replicate, if◌then◌else◌, Bool, true, false, List, [], ◌∷◌, ◌++◌, length, slice_get, slice_set, Some, ⊤}
 use Rattle.elem_core.specs.Tree.{Tree}
 use Rattle.elem_core.specs.declared.item.Item.{Item}
+use Rattle.elem_core.specs.declared.why.Cause.{Cause}
 use Rattle.port_core.specs.Picks.{Picks}
 use Rattle.port_core.specs.declared.act.Act.{Act}
-use Rattle.port_core.specs.declared.act.Act.TheVariants.{Pull, Push, Complete}
+use Rattle.port_core.specs.declared.act.Act.TheVariants.{Pull, Push, Complete, FailOut}
 use Rattle.port_core.specs.declared.view.InView.{InView}
 use Rattle.port_core.specs.declared.view.InView.TheVariants.{Idle, Pulled, Finished}
 use Rattle.port_core.specs.declared.view.OutView.TheVariants.{Unpulled}
@@ -13,12 +15,12 @@ use Rattle.port_core.specs.Asking.{PullsStand}
 use Rattle.port_core.specs.Call.{Call, given_on}
 use Rattle.stream_model.specs.FanIn.{Inflow}
 use Rattle.stream_model.specs.declared.kind.TheConstants.{MAX_FAN}
-use Rattle.stage_core.specs.Merges.{MergeHeld, waits, shut, MergeTurnAt, MergeKeeps}
+use Rattle.stage_core.specs.Merges.{MergeHeld, waits, shut, MergeTurnAt, GathersAs}
 use Rattle.stage_core.specs.PortsLaws.{InPortsLaw}
 use Rattle.stage_core.specs.declared.phase.Phase.{Phase}
 use Rattle.stage_core.specs.declared.phase.Phase.TheVariants.{New, Open, Closed}
 use Rattle.stage_merge.specs.declared.merging.Queued.{Queued}
-use Rattle.stage_core.specs.Seats.{wish, FanClosed, end_by}
+use Rattle.stage_core.specs.Seats.{wish, FanClosed, end_by, open_cancels}
 
 -- where it stands; which inputs have ended; what waits, first come first, and the room for it; whether the output is asked; how many
 -- inputs have not ended
@@ -30,9 +32,10 @@ pub record Core : Type 0 where
   pub asked : Bool
   pub left : ℕ
 
--- the same with its log
+-- the same with its log, and whether it gathers
 pub record Merging : Type 0 where
   pub log : Picks
+  pub gathers : Bool
   pub core : Core
 
 -- what waits of input n
@@ -122,9 +125,11 @@ held_by Closed moves l = shut moves
 abbrev pub held : Merging → MergeHeld
 held l = held_by l.core.phase l.log.moves l.core
 
--- what a handler owes to the law; no action cancels what an earlier one asked, and the log only grows
+-- what a handler owes to the law, by the call as the stage takes it; it gathers or not as before, no action cancels what an earlier one
+-- asked, and the log only grows
 pub record Turned (call : Call) (old : Merging) (acts : List Act) (new : Merging) : Type 0 where
   pub turn : MergeTurnAt call (held old) (given_on 0 acts) (held new)
+  pub way : new.gathers ≡ old.gathers
   pub inputs : length new.core.over ≡ length old.core.over
   pub stands : PullsStand acts
   pub started : new.core.phase ≢ New
@@ -132,8 +137,9 @@ pub record Turned (call : Call) (old : Merging) (acts : List Act) (new : Merging
   pub grows : new.log.moves ≡ old.log.moves ++ more
 
 -- as it is before anything came
-pub record Begins (inputs : ℕ) (l : Merging) : Type 0 where
+pub record Begins (inputs : ℕ) (gathers : Bool) (l : Merging) : Type 0 where
   pub moves : l.log.moves ≡ []
+  pub way : l.gathers ≡ gathers
   pub core : l.core ≡ record { phase = New; over = replicate inputs false; queue = []; room = inputs; asked = false; left = inputs }
 
 -- what a handler makes of the stage, and its actions
@@ -179,6 +185,13 @@ without i l = record l { core = record l.core { over = slice_set l.core.over i t
 abbrev pub Ended : ℕ → Merging → Merging → List Act → Type 0
 Ended i old new acts = EndsIfDone [] (without i old) new acts
 
+-- input i failed with c: one that gathers goes on without it, and else the output fails and the other inputs are cancelled
+pub data InputLost (i : ℕ) (c : Cause) (old new : Merging) (acts : List Act) : Type 0 where
+  taken_off : old.gathers ≡ true → Ended i old new acts → InputLost i c old new acts
+  gives_up : old.gathers ≡ false
+      → Does new acts (record old { core = record old.core { over = slice_set old.core.over i true; phase = Closed } }) (FailOut 0 c ∷ open_cancels 0 (slice_set old.core.over i true))
+      → InputLost i c old new acts
+
 -- ---- the order
 
 -- what came first goes out first, and is noted
@@ -202,7 +215,9 @@ pub record MergePortState (l : Merging) (v : View) : Type 0 where
   pub started : l.core.phase ≢ New
   pub ports : port_state l v
 
--- the law of its histories, by the stage as it was at first and as it is now: by its moves, of which it made none before
+-- the law of its histories, by the stage as it was at first and as it is now: by its moves, of which it made none before, and by whether
+-- it gathers, which stays
 pub record MergesAs (first now : Merging) (v : View) (took gave : List (List Item)) : Type 0 where
   pub unmoved : first.log.moves ≡ []
-  pub by : InPortsLaw (MergeKeeps (held now)) v took gave
+  pub way : now.gathers ≡ first.gathers
+  pub by : InPortsLaw (GathersAs first.gathers (held now)) v took gave

@@ -1,11 +1,11 @@
 // Laws of the merge: each function has no body, and its contract is the law.
-ghost use Rattle.std.specs.Prelude.{◌≡◌, ◌≢◌, ◌≤◌, ℕ, true, List, [], length};
+ghost use Rattle.std.specs.Prelude.{◌≡◌, ◌≢◌, ◌≤◌, ℕ, Bool, true, false, List, [], length};
 ghost use Rattle.elem_core.specs.declared.item.Item.{Item};
 ghost use Rattle.elem_core.specs.declared.why.Decider.{Decider};
 ghost use Rattle.port_core.specs.declared.act.Act.{Act};
 ghost use Rattle.port_core.specs.View.{View, unpulled_ins};
 ghost use Rattle.port_core.specs.Call.{Call, starts, CallAllowed, Obeys};
-ghost use Rattle.stream_model.specs.declared.kind.Kind.TheVariants.{Merge};
+ghost use Rattle.stream_model.specs.declared.kind.Kind.TheVariants.{Merge, MergeHub};
 ghost use Rattle.stream_model.specs.declared.kind.TheConstants.{MAX_FAN};
 ghost use Rattle.stream_model.specs.Graph.{Graph};
 ghost use Rattle.stream_model.specs.Node.{World, node_outlook};
@@ -15,14 +15,15 @@ ghost use Rattle.stream_model.specs.Picks.{merge_fits};
 ghost use Rattle.stream_model.specs.Rests.{MergeRests};
 ghost use Rattle.stage_core.specs.declared.stage.TheConstants.{MOST_ACTS};
 ghost use Rattle.stage_core.specs.Handling.{Starts, Handles};
+ghost use Rattle.stage_core.specs.Merges.{call_by};
 ghost use Rattle.stage_core.specs.Seats.{room_for};
 ghost use Rattle.stage_core.specs.OwnRows.{FanRests};
 ghost use Rattle.stage_core.specs.declared.phase.Phase.TheVariants.{New, Open};
 ghost use Rattle.stage_merge.specs.Mergings.{Merging, Begins, Turned, port_state, MergeFresh, MergePortState, MergesAs};
 
-/// A new merge of 2 to `MAX_FAN` inputs may be started, made no move, and knows that no port was asked.
+/// A new merge of 1 to `MAX_FAN` inputs may be started, made no move, and knows that no port was asked.
 pub fn a_new_merge_may_start()
-    ensures { (inputs : ℕ) (l : Merging) → 2 ≤ inputs → inputs ≤ MAX_FAN → Begins inputs l → MergeFresh l (unpulled_ins inputs) }
+    ensures { (inputs : ℕ) (gathers : Bool) (l : Merging) → 1 ≤ inputs → inputs ≤ MAX_FAN → Begins inputs gathers l → MergeFresh l (unpulled_ins inputs) }
 {}
 
 /// Where its port state and its law hold, a merge that was started has closed all its ports, or has nothing to do: where it is not asked,
@@ -40,21 +41,28 @@ pub fn a_called_merge_is_open()
 {}
 
 /// What a handler owes to the port rules and to the law is all that is asked of a stage: its start begins the law of its
-/// histories, and every other call keeps it.
+/// histories, and every other call keeps it. To the law it owes what the call asks as the stage takes it, where one that gathers takes a
+/// failure for an end.
 pub fn calls_keep_the_law()
     ensures starts { (old new : Merging) (acts : List Act) → Obeys starts (port_state old) (port_state new) acts → Turned starts old acts new
         → Starts MergePortState MergesAs MergeFresh old new acts }
-    ensures handles { (call : Call) (old new : Merging) (acts : List Act) → Obeys call (port_state old) (port_state new) acts → Turned call old acts new
-        → Handles MergePortState MergesAs call old new acts }
+    ensures handles { (call : Call) (old new : Merging) (acts : List Act) → Obeys call (port_state old) (port_state new) acts
+        → Turned (call_by old.gathers call) old acts new → Handles MergePortState MergesAs call old new acts }
 {}
 
 /// Where its law holds, and what came to each input agrees with that input's outlook, its moves fit, and what it gave agrees
-/// with the outlook that the model has of its output by these moves.
+/// with the outlook that the model has of its output by these moves: as a merge, and as a merge hub where it gathers.
 pub fn a_merge_agrees_with_its_outlook()
     ensures fits { (is : List Outlook) (first now : Merging) (v : View) (took gave : List (List Item)) → (law : MergesAs first now v took gave)
         → AllAgree is law.by.law.ins → merge_fits now.log.moves is ≡ true }
     ensures agrees { (g : Graph) (w : World) (node inputs : ℕ) (d : Decider) (is : List Outlook) (first now : Merging) (v : View) (took gave : List (List Item))
         → w.moves node ≡ now.log.moves
+        → first.gathers ≡ false
         → (law : MergesAs first now v took gave) → AllAgree is law.by.law.ins → Agrees
         (node_outlook g w node (Merge inputs) d is 0) law.by.law.out_list law.by.law.out_end }
+    ensures hub_agrees { (g : Graph) (w : World) (node size producers : ℕ) (d : Decider) (is : List Outlook) (first now : Merging) (v : View) (took gave : List (List Item))
+        → w.moves node ≡ now.log.moves
+        → first.gathers ≡ true
+        → (law : MergesAs first now v took gave) → AllAgree is law.by.law.ins → Agrees
+        (node_outlook g w node (MergeHub size producers) d is 0) law.by.law.out_list law.by.law.out_end }
 {}

@@ -4,8 +4,9 @@ ghost use Rattle.port_core.specs.declared.act.Act.TheVariants as act;
 ghost use Rattle.port_core.specs.Call.{Obeys, Meets, starts, pulls, arrives, cancels};
 ghost use Rattle.stream_model.specs.declared.kind.TheConstants.{MAX_FAN};
 ghost use Rattle.stage_core.specs.declared.phase.Phase.TheVariants.{New, Open, Closed};
+ghost use Rattle.stage_core.specs.Merges.{item_by};
 ghost use Rattle.stage_core.specs.Seats.{open_cancels, room_for};
-ghost use Rattle.stage_merge.specs.Mergings.{port_state, Turned, FirstOut, LastIn, Begins, Does, Gave, HandedOn, Took, EndsIfDone, Again, Ended, without, pull_acts, PortsThere, open_count};
+ghost use Rattle.stage_merge.specs.Mergings.{port_state, Turned, FirstOut, LastIn, Begins, Does, Gave, HandedOn, Took, EndsIfDone, Again, Ended, InputLost, without, pull_acts, PortsThere, open_count};
 
 use elem_core::elem::Elem;
 use elem_core::why::{Cause, NoMemory};
@@ -29,10 +30,13 @@ pub struct Queued {
 }
 
 /// The logic of a merge. It asks all inputs at its start and each again after its element was given; what finds the output
-/// unasked waits, first come first. It notes the input of each element that it gives. Rule: Akka Streams 2.6 reference.
+/// unasked waits, first come first. It notes the input of each element that it gives. One that gathers, as a merge hub does, takes an
+/// input that failed for one that ended. Rule: Akka Streams 2.6 reference; that it gathers is own.
 #[derive(Drop)]
 pub struct Merging {
     log: PickLog,
+    // Whether it goes on where an input fails.
+    gathers: bool,
     phase: Phase,
     over: Vec<bool>,
     // With room for an element of each input, since at most one of each waits.
@@ -55,6 +59,7 @@ impl Model for Merging {
 
     ghost view = { λ l. record {
       log = l.log;
+      gathers = l.gathers;
       core = record {
         phase = l.phase;
         over = vec_items l.over;
@@ -67,15 +72,16 @@ impl Model for Merging {
 }
 
 impl Merging {
-    /// A merge of 2 to `MAX_FAN` inputs. It takes memory for a flag and an element of each.
-    pub fn new(alloc: Global, inputs: u32) -> Result<Merging, NoMemory>
-        requires fan { (2 ≤ inputs) × (inputs ≤ MAX_FAN) }
-        ensures { IfOk result (Begins inputs) }
+    /// A merge of 1 to `MAX_FAN` inputs, which gathers or does not. It takes memory for a flag and an element of each.
+    pub fn new(alloc: Global, inputs: u32, gathers: bool) -> Result<Merging, NoMemory>
+        requires fan { (1 ≤ inputs) × (inputs ≤ MAX_FAN) }
+        ensures { IfOk result (Begins inputs gathers) }
     {
         let over = open_inputs(alloc, inputs)?;
         let queue = VecDeque::with_capacity(alloc, inputs as usize)?;
         Ok(Merging {
             log: PickLog::new(alloc),
+            gathers,
             phase: Phase::New,
             over,
             queue,
@@ -148,7 +154,7 @@ impl Merging {
         Ok(())
     }
 
-    /// An input has failed, which fails the stage at once.
+    /// An input has failed, which fails the stage at once; one that gathers takes it for an end.
     pub fn on_fail(&mut self, port: u8, cause: Cause, acts: &mut Acts) -> Result<(), NoMemory>
         requires open { self.old.core.phase ≡ Open }
         requires meets { Meets (arrives port (item.Failed cause)) (port_state self.old) }
@@ -156,10 +162,10 @@ impl Merging {
         requires room { room_for (length self.old.core.over) ≤ acts.old.room }
         ensures answers { IsOk result }
         ensures ports { OnOk result (Obeys (arrives port (item.Failed cause)) (port_state self.old) (port_state self.new) acts.new.items) }
-        ensures gives { OnOk result (Turned (arrives port (item.Failed cause)) self.old acts.new.items self.new) }
+        ensures gives { OnOk result (Turned (arrives port (item_by self.old.gathers (item.Failed cause))) self.old acts.new.items self.new) }
         ensures room { acts.new.room ≡ acts.old.room }
     {
-        self.fail(port, cause, acts);
+        self.lose(port, cause, acts);
         Ok(())
     }
 
@@ -313,6 +319,23 @@ impl Merging {
         self.over[port as usize] = true;
         self.left -= 1;
         self.end_if_done(acts);
+    }
+
+    // An input has failed: one that gathers goes on without it.
+    fn lose(&mut self, port: u8, cause: Cause, acts: &mut Acts)
+        requires few { length self.old.core.over ≤ MAX_FAN }
+        requires there { port < length self.old.core.over }
+        requires some { 1 ≤ self.old.core.left }
+        requires empty { acts.old.items ≡ [] }
+        requires room { length self.old.core.over < acts.old.room }
+        ensures lost { InputLost port cause self.old self.new acts.new.items }
+        ensures room { acts.new.room ≡ acts.old.room }
+    {
+        if self.gathers {
+            self.finish(port, acts);
+        } else {
+            self.fail(port, cause, acts);
+        }
     }
 
     // An input has failed: so does the output, and the other inputs are cancelled.

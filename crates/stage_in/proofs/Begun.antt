@@ -1,12 +1,12 @@
 -- A new stage takes its inputs as the model says of its kind, and so what it gave agrees with the outlook of its output.
 use Rattle.std.specs.Prelude.{slice_index_or}
-use Rattle.std.proofs.Common.{◌≡◌, ℕ, ◌≤◌, true, List, [], ◌∷◌, length, refl, sym, ap, ◌∙◌, subst, arith, Option, Some, None}
+use Rattle.std.proofs.Common.{◌≡◌, ℕ, ◌≤◌, true, false, List, [], ◌∷◌, length, refl, sym, ap, ◌∙◌, subst, arith, Option, Some, None}
 use Rattle.elem_core.specs.Tree.{Tree}
 use Rattle.elem_core.specs.declared.item.Item.{Item}
 use Rattle.elem_core.specs.declared.why.Decider.{Decider}
 use Rattle.port_core.specs.View.{View, unpulled_ins}
 use Rattle.stream_model.specs.declared.kind.Kind.{Kind}
-use Rattle.stream_model.specs.declared.kind.Kind.TheVariants.{Merge, Concat, Interleave, MergeSorted, Zip}
+use Rattle.stream_model.specs.declared.kind.Kind.TheVariants.{Merge, MergeHub, Concat, Interleave, MergeSorted, Zip}
 use Rattle.stream_model.specs.Graph.{Graph}
 use Rattle.stream_model.specs.Fits.{moves_fit}
 use Rattle.stream_model.specs.Node.{World, node_outlook, head_of, second_of}
@@ -74,12 +74,14 @@ module _ (w : Graph) (world : World) (node : ℕ) (d : Decider) (is : List Outlo
   takes_agree Zip (logic.Zipping f) (logic.Zipping l) t many tells law h =
       let p = law.by.law in
       zip_agrees is p.ins p.out_list p.out_end many h (zip_history_stands (zipping.held l) v (λ i. slice_index_or took i []) law.by.given p)
-  takes_agree (Merge n) (logic.Merging f) (logic.Merging l) t many tells law h = merge.output_agrees is f l v took gave (record { unmoved = law.same; by = law.by }) h w world node n d (tells l.log.moves refl)
+  takes_agree (Merge n) (logic.Merging f) (logic.Merging l) t many tells law h = merge.output_agrees is f l v took gave (record { unmoved = law.same.0; way = law.same.1; by = law.by }) h w world node n d (tells l.log.moves refl) t
+  takes_agree (MergeHub s n) (logic.Merging f) (logic.Merging l) t many tells law h = merge.hub_agrees is f l v took gave (record { unmoved = law.same.0; way = law.same.1; by = law.by }) h w world node s n d (tells l.log.moves refl) t
   takes_agree (Concat n) (logic.Taking f) now t many tells law h = absurd law.same
   takes_agree (Interleave n s) (logic.Taking f) now t many tells law h = absurd law.same
   takes_agree MergeSorted (logic.Sorting f) now t many tells law h = absurd law.same
   takes_agree Zip (logic.Zipping f) now t many tells law h = absurd law.same
   takes_agree (Merge n) (logic.Merging f) now t many tells law h = absurd law.same
+  takes_agree (MergeHub s n) (logic.Merging f) now t many tells law h = absurd law.same
   takes_agree kind first now t many tells law h = absurd t
 
 pub begun_agrees : (w : Graph) (world : World) (node : ℕ) (kind : Kind) (d : Decider) (is : List Outlook) (first now : InLogic) (v : View) (took gave : List (List Item)) → Begins node kind d first → length is ≡ inputs_of kind → TellsMoves world node now
@@ -94,8 +96,11 @@ takes_fit w world node (Interleave n s) is (logic.Taking f) now v took gave t te
 takes_fit w world node MergeSorted is (logic.Sorting f) now v took gave t tells law h = refl
 takes_fit w world node Zip is (logic.Zipping f) now v took gave t tells law h = refl
 takes_fit w world node (Merge n) is (logic.Merging f) (logic.Merging l) v took gave t tells law h =
-    subst (λ ms. merge_fits ms is ≡ true) (sym (tells l.log.moves refl)) (merge.moves_fit is f l v took gave (record { unmoved = law.same; by = law.by }) h)
+    subst (λ ms. merge_fits ms is ≡ true) (sym (tells l.log.moves refl)) (merge.moves_fit is f l v took gave (record { unmoved = law.same.0; way = law.same.1; by = law.by }) h)
+takes_fit w world node (MergeHub s n) is (logic.Merging f) (logic.Merging l) v took gave t tells law h =
+    subst (λ ms. merge_fits ms is ≡ true) (sym (tells l.log.moves refl)) (merge.moves_fit is f l v took gave (record { unmoved = law.same.0; way = law.same.1; by = law.by }) h)
 takes_fit w world node (Merge n) is (logic.Merging f) now v took gave t tells law h = absurd law.same
+takes_fit w world node (MergeHub s n) is (logic.Merging f) now v took gave t tells law h = absurd law.same
 takes_fit w world node kind is first now v took gave t tells law h = absurd t
 
 pub begun_fits : (w : Graph) (world : World) (node : ℕ) (kind : Kind) (d : Decider) (is : List Outlook) (first now : InLogic) (v : View) (took gave : List (List Item)) → Begins node kind d first → TellsMoves world node now
@@ -114,6 +119,7 @@ ordered_unmoved (Interleave n k) (logic.Taking f) now o t s = absurd s
 ordered_unmoved MergeSorted (logic.Sorting f) now o t s = absurd s
 ordered_unmoved Zip (logic.Zipping f) now o t s = absurd s
 ordered_unmoved (Merge n) first now o t s = absurd o
+ordered_unmoved (MergeHub m n) first now o t s = absurd o
 ordered_unmoved kind first now o t s = absurd t
 
 pub ordered_tells : (world : World) (node : ℕ) (kind : Kind) (first now : InLogic) → IsOrdered kind → TakesAs kind first → SameKind first now → TellsMoves world node now
@@ -168,8 +174,15 @@ module _ (node : ℕ) (kind : Kind) (d : Decider) (new : InLogic) where
   pub zip_new : (l : Pairing) → kind ≡ Zip → new ≡ logic.Zipping l → l ≡ new_pair → Begins node kind d new
   zip_new l is to b = as_kind Zip (logic.Zipping new_pair) is (to ∙ ap logic.Zipping b) (zip_begins node d)
 
-  pub merge_new : (n : ℕ) (l : Merging) → IsFanIn kind → kind ≡ Merge n → new ≡ logic.Merging l → merging.Begins n l → Begins node kind d new
+  pub merge_new : (n : ℕ) (l : Merging) → IsFanIn kind → kind ≡ Merge n → new ≡ logic.Merging l → merging.Begins n false l → Begins node kind d new
   merge_new n l fit is to b =
       let f = subst IsFanIn is fit in
-      let start = merge.new_may_start n l f.0 f.1 b in
-      as_kind (Merge n) (logic.Merging l) is to (record { fresh = (start.fresh, start.unmoved); takes = tt; ready = start.ports })
+      let two : 2 ≤ n = f.0 in
+      let start = merge.new_may_start n false l (omega (arith, two)) f.1 b in
+      as_kind (Merge n) (logic.Merging l) is to (record { fresh = (start.fresh, start.unmoved); takes = b.way; ready = start.ports })
+
+  pub hub_new : (s n : ℕ) (l : Merging) → IsFanIn kind → kind ≡ MergeHub s n → new ≡ logic.Merging l → merging.Begins n true l → Begins node kind d new
+  hub_new s n l fit is to b =
+      let f = subst IsFanIn is fit in
+      let start = merge.new_may_start n true l f.0 f.1 b in
+      as_kind (MergeHub s n) (logic.Merging l) is to (record { fresh = (start.fresh, start.unmoved); takes = b.way; ready = start.ports })

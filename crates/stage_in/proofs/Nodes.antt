@@ -26,6 +26,7 @@ use Rattle.stage_core.specs.Fans.{FanHeld, FanTurnAt, FanKeeps}
 use Rattle.stage_core.specs.Fans as fan
 use Rattle.stage_core.specs.Zips.{ZipHeld, ZipKeeps}
 use Rattle.stage_core.specs.Zips as zip
+use Rattle.stage_core.specs.Merges.{MergeTurnAt, call_by}
 use Rattle.stage_core.proofs.FanTurns.{fan_new}
 use Rattle.stage_core.proofs.ZipTurns.{zip_new}
 use Rattle.stage_core.specs.declared.phase.Phase.{Phase}
@@ -126,7 +127,7 @@ logic_rests (logic.Sorting f) (logic.Sorting l) v took gave s r law =
 logic_rests (logic.Zipping f) (logic.Zipping l) v took gave s r law =
     rests_of ZipRests zipping.Sound l v law.by.law.ins law.by.law.out_list l.phase refl s r law.by.law.ports
     (λ a b is e. zipping_rests l v a b law.by.law.out_list law.by.law.out_end e r (subst (λ fs. ZipKeeps (zipping.held l) fs law.by.law.out_list law.by.law.out_end) is law.by.law.keeps))
-logic_rests (logic.Merging f) (logic.Merging l) v took gave s r law = merge.logic_rests f l v took gave (record { started = s; ports = r }) (record { unmoved = law.same; by = law.by })
+logic_rests (logic.Merging f) (logic.Merging l) v took gave s r law = merge.logic_rests f l v took gave (record { started = s; ports = r }) (record { unmoved = law.same.0; way = law.same.1; by = law.by })
 logic_rests first now v took gave s r law = absurd law.same
 
 -- ---- calls
@@ -146,8 +147,8 @@ turn_keeps c (logic.Zipping f) (logic.Zipping l) (logic.Zipping m) v took gave a
   by = zip_node c (zipping.held l) (zipping.held m) v took gave acts may allowed t.turn law.by;
 }
 turn_keeps c (logic.Merging f) (logic.Merging l) (logic.Merging m) v took gave acts may allowed t law = record {
-  same = law.same;
-  by = merge.keeps_ports c l m v took gave acts may allowed t.turn law.by;
+  same = (law.same.0, t.way ∙ law.same.1);
+  by = merge.keeps_ports f.gathers c l m v took gave acts may allowed (subst (λ b. MergeTurnAt (call_by b c) (merging.held l) (given_on 0 acts) (merging.held m)) law.same.1 t.turn) law.by;
 }
 turn_keeps c (logic.Taking f) (logic.Taking l) new v took gave acts may allowed t law = absurd t
 turn_keeps c (logic.Sorting f) (logic.Sorting l) new v took gave acts may allowed t law = absurd t
@@ -244,7 +245,7 @@ fresh_law : (l : InLogic) (v : View) (took gave : List (List Item)) → CallAllo
 fresh_law (logic.Taking l) v took gave may new r a b m n = record { same = refl; by = fresh_taking l v took gave may new r a b m n }
 fresh_law (logic.Sorting l) v took gave may new r a b m n = record { same = tt; by = fresh_sorting l v took gave may new r a b m n }
 fresh_law (logic.Zipping l) v took gave may new r a b m n = record { same = tt; by = fresh_zipping l v took gave may new r a b m n }
-fresh_law (logic.Merging l) v took gave may new r a b m n = record { same = new.1; by = merge.fresh_law l v took gave may (record { fresh = new.0; unmoved = new.1; ports = r }) a b m n }
+fresh_law (logic.Merging l) v took gave may new r a b m n = record { same = (new.1, refl); by = merge.fresh_law l v took gave may (record { fresh = new.0; unmoved = new.1; ports = r }) a b m n }
 
 pub started : (old new : InLogic) (acts : List Act) → IsNew old → Obeys starts (port_state old) (port_state new) acts → Turned starts old acts new → Starts InPortState InLaw InFresh old new acts
 started old new acts n o t = record {

@@ -1,6 +1,6 @@
 -- The stages with several inputs, whatever their kind: their port states, what their handlers owe, and their law over histories.
 use Rattle.port_core.specs.View.{unpulled_ins}
-use Rattle.std.specs.Prelude.{◌≡◌, ◌≢◌, ◌≤◌, ℕ, true, List, [], length, slice_index_or, Some, None, ⊤}
+use Rattle.std.specs.Prelude.{◌≡◌, ◌≢◌, ◌≤◌, ℕ, true, false, List, [], length, slice_index_or, Some, None, ⊤}
 use Rattle.elem_core.specs.Tree.{Tree}
 use Rattle.elem_core.specs.declared.item.Item.{Item}
 use Rattle.elem_core.specs.declared.why.Decider.{Decider}
@@ -9,7 +9,7 @@ use Rattle.port_core.specs.declared.act.Act.{Act}
 use Rattle.port_core.specs.View as port
 use Rattle.port_core.specs.Call.{Call}
 use Rattle.stream_model.specs.declared.kind.Kind.{Kind}
-use Rattle.stream_model.specs.declared.kind.Kind.TheVariants.{Merge, Concat, Interleave, MergeSorted, Zip}
+use Rattle.stream_model.specs.declared.kind.Kind.TheVariants.{Merge, MergeHub, Concat, Interleave, MergeSorted, Zip}
 use Rattle.stream_model.specs.declared.kind.TheConstants.{MAX_FAN}
 use Rattle.stream_model.specs.Outlook.{End}
 use Rattle.stream_model.specs.FanIn.{Inflow, concat_taken, interleave_taken}
@@ -18,7 +18,7 @@ use Rattle.stream_model.specs.Rests.{MergeRests, SortedRests, ZipRests}
 use Rattle.stage_core.specs.PortsLaws.{InPortsLaw}
 use Rattle.stage_core.specs.Fans.{FanKeeps}
 use Rattle.stage_core.specs.Zips.{ZipKeeps}
-use Rattle.stage_core.specs.Merges.{MergeKeeps}
+use Rattle.stage_core.specs.Merges.{GathersAs, call_by}
 use Rattle.stage_core.specs.declared.phase.Phase.TheVariants.{New, Open}
 use Rattle.stage_in.specs.declared.logic.InLogic.{InLogic}
 use Rattle.stage_in.specs.declared.logic.InLogic.TheVariants as logic
@@ -47,6 +47,7 @@ IsFanIn (Interleave n s) = IsFan n × ((1 ≤ s) × (s ≤ max_segment))
 IsFanIn MergeSorted = ⊤
 IsFanIn Zip = ⊤
 IsFanIn (Merge n) = IsFan n
+IsFanIn (MergeHub s n) = (1 ≤ n) × (n ≤ MAX_FAN)
 IsFanIn _ = ⊥
 
 -- those whose inputs' lists determine their order, so that they choose nothing
@@ -62,6 +63,7 @@ abbrev pub inputs_of : Kind → ℕ
 inputs_of (Concat n) = n
 inputs_of (Interleave n s) = n
 inputs_of (Merge n) = n
+inputs_of (MergeHub s n) = n
 inputs_of _ = 2
 
 -- ---- where a stage stands
@@ -108,23 +110,26 @@ TakesNone (logic.Sorting l) = ⊤
 TakesNone (logic.Zipping l) = ⊥
 TakesNone (logic.Merging l) = ⊥
 
--- what a handler owes to the law; the stage stays of its kind, and no action cancels what an earlier one asked
+-- what a handler owes to the law; the stage stays of its kind, and no action cancels what an earlier one asked. One that gathers owes
+-- what its call asks as it takes it
 abbrev pub Turned : Call → InLogic → List Act → InLogic → Type 0
 Turned call (logic.Taking l) acts (logic.Taking m) = taking.Turned call l acts m
 Turned call (logic.Sorting l) acts (logic.Sorting m) = sorted.Turned call l acts m
 Turned call (logic.Zipping l) acts (logic.Zipping m) = zipping.Turned call l acts m
-Turned call (logic.Merging l) acts (logic.Merging m) = merging.Turned call l acts m
+Turned call (logic.Merging l) acts (logic.Merging m) = merging.Turned (call_by l.gathers call) l acts m
 Turned _ _ _ _ = ⊥
 
 -- ---- a new stage
 
--- it takes its inputs as the model says of the kind, and by its segment or by none; a merge_sorted, a zip and a merge have one way alone
+-- it takes its inputs as the model says of the kind, and by its segment or by none; a merge_sorted and a zip have one way alone, and a
+-- merge hub is a merge that gathers
 abbrev pub TakesAs : Kind → InLogic → Type 0
 TakesAs (Concat n) (logic.Taking l) = (l.segment ≡ None) × ((taking_by l.segment).from (taking.place_of l) ≡ concat_taken)
 TakesAs (Interleave n s) (logic.Taking l) = (l.segment ≡ Some s) × ((taking_by l.segment).from (taking.place_of l) ≡ interleave_taken s)
 TakesAs MergeSorted (logic.Sorting l) = ⊤
 TakesAs Zip (logic.Zipping l) = ⊤
-TakesAs (Merge n) (logic.Merging l) = ⊤
+TakesAs (Merge n) (logic.Merging l) = l.gathers ≡ false
+TakesAs (MergeHub s n) (logic.Merging l) = l.gathers ≡ true
 TakesAs _ _ = ⊥
 
 -- a new stage of node `node` may be started, takes its inputs as the model says, and knows that no port was asked
@@ -135,12 +140,12 @@ pub record Begins (node : ℕ) (kind : Kind) (d : Decider) (new : InLogic) : Typ
 
 -- ---- the law
 
--- it is of the kind that it was; a merge had made no move then
+-- it is of the kind that it was; a merge had made no move then, and gathers or does not as then
 abbrev pub SameKind : InLogic → InLogic → Type 0
 SameKind (logic.Taking f) (logic.Taking l) = l.segment ≡ f.segment
 SameKind (logic.Sorting f) (logic.Sorting l) = ⊤
 SameKind (logic.Zipping f) (logic.Zipping l) = ⊤
-SameKind (logic.Merging f) (logic.Merging l) = f.log.moves ≡ []
+SameKind (logic.Merging f) (logic.Merging l) = (f.log.moves ≡ []) × (l.gathers ≡ f.gathers)
 SameKind _ _ = ⊥
 
 -- what the histories of its ports have to do with each other, by the stage as it was at first and as it is now
@@ -148,7 +153,7 @@ abbrev pub Keeps : InLogic → InLogic → List Inflow → List Tree → End →
 Keeps (logic.Taking f) (logic.Taking l) = FanKeeps (taking_by f.segment) (taking.place_of f) (taking.held l)
 Keeps (logic.Sorting f) (logic.Sorting l) = FanKeeps sorting sorted.nowhere (sorted.held l)
 Keeps (logic.Zipping f) (logic.Zipping l) = ZipKeeps (zipping.held l)
-Keeps (logic.Merging f) (logic.Merging l) = MergeKeeps (merging.held l)
+Keeps (logic.Merging f) (logic.Merging l) = GathersAs f.gathers (merging.held l)
 Keeps _ _ = λ ins g e. ⊥
 
 -- it may be started, and its port state holds

@@ -5,7 +5,7 @@ use Rattle.stream_model.specs.Node.{World}
 use Rattle.stage_in.specs.declared.logic.InLogic.{InLogic}
 use Rattle.stage_in.specs.declared.logic.InLogic.TheVariants as logic
 
--- the moves that it has recorded, where its kind chooses: a merge alone does
+-- the moves that it has recorded, where its kind chooses: a merge and a merge hub alone do
 abbrev pub in_picks : InLogic → Option (List ℕ)
 in_picks (logic.Taking l) = None
 in_picks (logic.Sorting l) = None

@@ -1,5 +1,5 @@
 // The stages with several inputs and one output: concat, interleave, merge_sorted and zip, whose order their lists determine,
-// and merge, whose order its moves record.
+// and merge and merge hub, whose order their moves record.
 #![tactic(auto)]
 
 pub mod handlers;

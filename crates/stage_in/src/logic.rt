@@ -25,7 +25,7 @@ pub enum InLogic {
     Sorting(Sorting),
     /// A zip.
     Zipping(Zipping),
-    /// A merge.
+    /// A merge, or a merge hub, which gathers.
     Merging(Merging),
 }
 
@@ -43,8 +43,9 @@ impl Drop for InLogic {
 
 impl InLogic {
     /// The logic of node `stage`, which is of one of these kinds: a concat or an interleave of 2 to `MAX_FAN` inputs, the
-    /// latter by segments of 1 to 4,000,000,000 elements, a merge_sorted, a zip, or a merge of 2 to `MAX_FAN` inputs. It has no
-    /// decider, for it calls no function. It takes memory for two bytes an input, and a merge for a flag and an element of each.
+    /// latter by segments of 1 to 4,000,000,000 elements, a merge_sorted, a zip, a merge of 2 to `MAX_FAN` inputs, or a merge hub
+    /// of 1 to `MAX_FAN` producers. It has no decider, for it calls no function. It takes memory for two bytes an input, and a merge
+    /// or a merge hub for a flag and an element of each.
     pub fn new(alloc: Global, stage: u32, kind: Kind, decider: Decider) -> Result<InLogic, NoMemory>
         requires { IsFanIn kind }
         ensures { IfOk result (Begins stage kind decider) }
@@ -58,7 +59,10 @@ impl InLogic {
             }
             Kind::MergeSorted => InLogic::Sorting(Sorting::new()),
             Kind::Zip => InLogic::Zipping(Zipping::new()),
-            Kind::Merge(inputs) => InLogic::Merging(Merging::new(alloc, inputs)?),
+            Kind::Merge(inputs) => InLogic::Merging(Merging::new(alloc, inputs, false)?),
+            Kind::MergeHub(_, producers) => {
+                InLogic::Merging(Merging::new(alloc, producers, true)?)
+            }
             _ => unreachable!(),
         })
     }
@@ -149,7 +153,8 @@ impl InLogic {
         }
     }
 
-    /// An input has failed, which fails the stage: its other inputs are cancelled, and what waits is dropped.
+    /// An input has failed, which fails the stage: its other inputs are cancelled, and what waits is dropped. A merge hub goes on
+    /// without it.
     pub fn on_fail(&mut self, port: u8, cause: Cause, acts: &mut Acts) -> Result<(), NoMemory>
         requires started { IsStarted self.old }
         requires meets { Meets (arrives port (item.Failed cause)) (port_state self.old) }
@@ -189,7 +194,7 @@ impl InLogic {
         }
     }
 
-    /// The run is over: the log of its moves, of which only a merge made any. It takes no memory.
+    /// The run is over: the log of its moves, of which only a merge and a merge hub made any. It takes no memory.
     pub fn close(self, alloc: Global) -> PickLog
         ensures { result.moves ≡ in_moves self }
     {
@@ -199,7 +204,7 @@ impl InLogic {
         }
     }
 
-    /// The run is over: the log of its moves where its kind chooses, which a merge alone does. It takes no memory.
+    /// The run is over: the log of its moves where its kind chooses, which a merge and a merge hub alone do. It takes no memory.
     pub fn picks(self) -> Option<PickLog>
         ensures { option_map (λ log. log.moves) result ≡ in_picks self }
     {

@@ -1,6 +1,6 @@
 use Rattle.stage_in.specs.Logics.{Begins}
-use Rattle.stage_in.proofs.Begun.{concat_new, interleave_new, sorted_new, zip_new, merge_new}
-use Rattle.stage_in.proofs.logic.InLogic.new.Goals.{in-Concat+in_ok-new-in-Concat, in-Interleave+in_ok-new-in-Interleave, in-MergeSorted, in-Zip, in-Merge+in_ok-new-in-Merge}
+use Rattle.stage_in.proofs.Begun.{concat_new, interleave_new, sorted_new, zip_new, merge_new, hub_new}
+use Rattle.stage_in.proofs.logic.InLogic.new.Goals.{in-Concat+in_ok-new-in-Concat, in-Interleave+in_ok-new-in-Interleave, in-MergeSorted, in-Zip, in-Merge+in_ok-new-in-Merge, in-MergeHub+in_ok-new-in-MergeHub}
 use Rattle.stage_in.proofs.logic.InLogic.new.Goals as goal
 
 pub returns : goal.returns
@@ -16,4 +16,5 @@ returns c =
       | in-MergeSorted w ↦ sorted_new node kind d to w.new-in-MergeSorted.result w.in-MergeSorted.is w.result-is w.new-in-MergeSorted.ensures
       | in-Zip w ↦ zip_new node kind d to w.new-in-Zip.result w.in-Zip.is w.result-is w.new-in-Zip.ensures
       | in-Merge+in_ok-new-in-Merge w ↦ merge_new node kind d to w.in-Merge.inputs w.in_ok-new-in-Merge.field-0 c.requires w.in-Merge.is w.result-is w.in_ok-new-in-Merge.ensures
+      | in-MergeHub+in_ok-new-in-MergeHub w ↦ hub_new node kind d to _ w.in-MergeHub.producers w.in_ok-new-in-MergeHub.field-0 c.requires w.in-MergeHub.is w.result-is w.in_ok-new-in-MergeHub.ensures
     ]

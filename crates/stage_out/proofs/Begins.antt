@@ -47,14 +47,14 @@ partition_begins node n f low high = (
   },
 )
 
-pub idle_some : (n : ℕ) → 2 ≤ n → input_by n ≡ Idle
+pub idle_some : (n : ℕ) → 1 ≤ n → input_by n ≡ Idle
 idle_some zero h = absurd (omega (arith, h))
 idle_some (suc n) h = refl
 
-copy_views : (n : ℕ) → 2 ≤ n → unpulled_outs n ≡ record { ins = input_by n ∷ []; outs = map want_view (replicate n Quiet) }
+copy_views : (n : ℕ) → 1 ≤ n → unpulled_outs n ≡ record { ins = input_by n ∷ []; outs = map want_view (replicate n Quiet) }
 copy_views n low = rw (idle_some n low, quiet_views n) refl
 
-pub copy_begins : (n : ℕ) (halves : Bool) → 2 ≤ n → n ≤ MAX_FAN → (halves ≡ true → n ≡ 2) → copy.port_state (copy.begun n halves) (unpulled_outs n)
+pub copy_begins : (n : ℕ) (halves : Bool) → 1 ≤ n → n ≤ MAX_FAN → (halves ≡ true → n ≡ 2) → copy.port_state (copy.begun n halves) (unpulled_outs n)
 copy_begins n halves low high two = (
   copy_views n low,
   record {

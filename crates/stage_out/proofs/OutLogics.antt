@@ -9,7 +9,7 @@ use Rattle.port_core.specs.declared.act.Act.{Act}
 use Rattle.port_core.specs.View.{View, acted_all}
 use Rattle.port_core.specs.Call.{Call, starts, CallAllowed, seen, Obeys, Meets}
 use Rattle.stream_model.specs.declared.kind.Kind.{Kind}
-use Rattle.stream_model.specs.declared.kind.Kind.TheVariants.{Broadcast, Balance, Partition, Unzip}
+use Rattle.stream_model.specs.declared.kind.Kind.TheVariants.{Broadcast, BroadcastHub, Balance, Partition, Unzip}
 use Rattle.stage_core.specs.declared.stage.TheConstants.{MOST_ACTS}
 use Rattle.stage_core.specs.Handling.{PullsAs, Starts, Handles}
 use Rattle.stage_core.specs.Histories.{given_all, brought_by}
@@ -124,6 +124,7 @@ module _ {T E : Type 0} (r : Result T E) (old new : OutLogic) (acts : List Act) 
 
 pub machines_begin : (node : ℕ) (kind : Kind) (l : OutMachines) → IsMachines kind → machines.Begins node kind l → Begins node kind (Machines l)
 machines_begin node (Broadcast n) l ok b = record { fresh = record { ports = b.ready; fresh = b.fresh }; as_kind = (ok, b) }
+machines_begin node (BroadcastHub s n) l ok b = record { fresh = record { ports = b.ready; fresh = b.fresh }; as_kind = (ok, b) }
 machines_begin node (Partition n f) l ok b = record { fresh = record { ports = b.ready; fresh = b.fresh }; as_kind = (ok, b) }
 machines_begin node Unzip l ok b = record { fresh = record { ports = b.ready; fresh = b.fresh }; as_kind = (ok, b) }
 machines_begin node kind l ok b = absurd ok

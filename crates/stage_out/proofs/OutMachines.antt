@@ -1,14 +1,14 @@
 -- What a logic with several outputs owes by its calls at each of them, and how a new one begins.
 use Rattle.std.specs.Prelude.{replicate, IfOk, Ok, Err}
 use Rattle.std.specs.declared.result.Result.{Result}
-use Rattle.std.proofs.Common.{◌≡◌, ℕ, zero, suc, ◌+◌, Bool, true, false, List, [], ◌∷◌, length, map, refl, sym, ap, ◌∙◌, subst, arith}
+use Rattle.std.proofs.Common.{◌≡◌, ℕ, zero, suc, ◌+◌, ◌≤◌, Bool, true, false, List, [], ◌∷◌, length, map, refl, sym, ap, ◌∙◌, subst, arith}
 use Rattle.elem_core.specs.Tree.{Tree}
 use Rattle.elem_core.specs.declared.function.MapFn.{MapFn}
 use Rattle.elem_core.specs.declared.why.Decider.TheVariants.{Stop}
 use Rattle.port_core.specs.declared.act.Act.{Act}
 use Rattle.port_core.specs.Call.{Call}
 use Rattle.stream_model.specs.declared.kind.Kind.{Kind}
-use Rattle.stream_model.specs.declared.kind.Kind.TheVariants.{Broadcast, Partition, Unzip}
+use Rattle.stream_model.specs.declared.kind.Kind.TheVariants.{Broadcast, BroadcastHub, Partition, Unzip}
 use Rattle.stream_model.specs.Linear.{Book, Stage, numbering, linear, begin_work}
 use Rattle.stream_model.specs.Machine.{Stands, output}
 use Rattle.stream_model.specs.Node.{World, head_of}
@@ -124,6 +124,15 @@ numbers_each w node n f j (suc k) = (λ is l e g h a st. trace_output (linear w.
 
 pub begins : (node : ℕ) (kind : Kind) (new : OutMachines) → IsMachines kind → IsMade node kind new → Begins node kind new
 begins node (Broadcast n) new ok is = rw is (record {
+  live = refl;
+  of_kind = tt;
+  ready = copy_begins n false (let two : 2 ≤ n = ok.0 in omega (arith, two)) ok.1 (λ e. cc);
+  outputs = λ book. copies_begun (part_by false) 0 n;
+  agrees = λ g w d. rw (copies_begun (part_by false) 0 n) (whole_each 0 n);
+  fresh = record { live = refl; starts = λ book. rw (copies_begun (part_by false) 0 n) (copies_start (part_by false) 0 n) };
+  rests = λ g w d is os r. r;
+})
+begins node (BroadcastHub s n) new ok is = rw is (record {
   live = refl;
   of_kind = tt;
   ready = copy_begins n false ok.0 ok.1 (λ e. cc);

@@ -1,4 +1,4 @@
--- The state of a broadcast or an unzip, its port state, and what its handlers owe.
+-- The state of a broadcast, a broadcast hub or an unzip, its port state, and what its handlers owe.
 use Rattle.std.specs.Prelude.{◌≡◌, ◌≢◌, ℕ, zero, suc, ◌≤◌, ◌-◌, ◌==◌, if◌then◌else◌, Bool, true, false, List, [], ◌∷◌, length, map, slice_get, slice_set, Some, replicate}
 use Rattle.elem_core.specs.Tree.{Tree}
 use Rattle.elem_core.specs.Values.{left_half, right_half}

@@ -10,7 +10,7 @@ use Rattle.port_core.specs.View.{View, unpulled_outs}
 use Rattle.port_core.specs.Asking.{PullsStand}
 use Rattle.port_core.specs.Call.{Call}
 use Rattle.stream_model.specs.declared.kind.Kind.{Kind}
-use Rattle.stream_model.specs.declared.kind.Kind.TheVariants.{Broadcast, Partition, Unzip}
+use Rattle.stream_model.specs.declared.kind.Kind.TheVariants.{Broadcast, BroadcastHub, Partition, Unzip}
 use Rattle.stream_model.specs.declared.kind.TheConstants.{MAX_FAN}
 use Rattle.stream_model.specs.Linear.{Book, Stage, passing, numbering, linear, begin_work}
 use Rattle.stream_model.specs.Graph.{Graph}
@@ -112,6 +112,7 @@ pub record TurnsEach (call : Call) (old : OutMachines) (acts : List Act) (new : 
 -- the kinds that these logics are, with their sizes
 abbrev pub IsMachines : Kind → Type 0
 IsMachines (Broadcast n) = (2 ≤ n) × (n ≤ MAX_FAN)
+IsMachines (BroadcastHub s n) = (1 ≤ n) × (n ≤ MAX_FAN)
 IsMachines (Partition n f) = (2 ≤ n) × (n ≤ MAX_FAN)
 IsMachines Unzip = ⊤
 IsMachines _ = ⊥
@@ -133,6 +134,7 @@ number_starts book node n f j (suc k) =
 -- the outputs of a kind, each at its start
 abbrev pub starts_of : Book → ℕ → Kind → List (Outlet Stage)
 starts_of book node (Broadcast n) = copy_starts (part_by false) 0 n
+starts_of book node (BroadcastHub s n) = copy_starts (part_by false) 0 n
 starts_of book node Unzip = copy_starts (part_by true) 0 2
 starts_of book node (Partition n f) = number_starts book node n f 0 n
 starts_of book node _ = []
@@ -140,6 +142,7 @@ starts_of book node _ = []
 -- which logic runs this kind
 abbrev pub IsOfKind : Kind → OutMachines → Type 0
 IsOfKind (Broadcast n) (Copies l) = ⊤
+IsOfKind (BroadcastHub s n) (Copies l) = ⊤
 IsOfKind Unzip (Copies l) = ⊤
 IsOfKind (Partition n f) (Deals l) = ⊤
 IsOfKind _ _ = ⊥
@@ -153,6 +156,7 @@ IsAlike _ _ = ⊥
 -- how many outputs a node of this kind has
 abbrev pub outputs_of : Kind → ℕ
 outputs_of (Broadcast n) = n
+outputs_of (BroadcastHub s n) = n
 outputs_of Unzip = 2
 outputs_of (Partition n f) = n
 outputs_of _ = 0
@@ -160,6 +164,7 @@ outputs_of _ = 0
 -- the logic that `new` makes
 abbrev pub IsMade : ℕ → Kind → OutMachines → Type 0
 IsMade node (Broadcast n) new = new ≡ Copies (copy.begun n false)
+IsMade node (BroadcastHub s n) new = new ≡ Copies (copy.begun n false)
 IsMade node Unzip new = new ≡ Copies (copy.begun 2 true)
 IsMade node (Partition n f) new = new ≡ Deals (part.begun node n f)
 IsMade node _ new = ⊥

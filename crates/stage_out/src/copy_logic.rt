@@ -19,7 +19,7 @@ use std::alloc::Global;
 use std::marker::Model;
 
 // Choice: docs/DECISIONS.md#broadcast-and-unzip
-/// The logic of a broadcast or an unzip. It asks its input when every open output is asked, and gives each open output its
+/// The logic of a broadcast, a broadcast hub or an unzip. It asks its input when every open output is asked, and gives each open output its
 /// copy or its half; it passes an end on, and cancels its input when all outputs were cancelled. Rule: Akka Streams 2.6
 /// reference.
 #[derive(Drop)]
@@ -45,9 +45,9 @@ impl Model for CopyLogic {
 }
 
 impl CopyLogic {
-    /// A broadcast with so many outputs, or an unzip, which has two.
+    /// A broadcast or a broadcast hub with so many outputs, or an unzip, which has two.
     pub fn new(alloc: Global, outputs: u8, halves: bool) -> Result<CopyLogic, NoMemory>
-        requires fan { (2 ≤ outputs) × (outputs ≤ MAX_FAN) }
+        requires fan { (1 ≤ outputs) × (outputs ≤ MAX_FAN) }
         requires pair { halves ≡ true → outputs ≡ 2 }
         ensures { IfOk result (λ l. l ≡ begun outputs halves) }
     {

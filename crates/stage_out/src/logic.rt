@@ -17,7 +17,7 @@ use stream_model::kind::Kind;
 /// The logic of a node with several outputs. A call that appends actions wants room for two of them for each port, of which
 /// the node has its outputs and one input. Rule: Akka Streams 2.6 reference; which output of a balance comes first: own.
 pub enum OutLogic {
-    /// A broadcast, an unzip or a partition: what each output gets hangs on what came alone.
+    /// A broadcast, a broadcast hub, an unzip or a partition: what each output gets hangs on what came alone.
     Machines(OutMachines),
     /// A balance: each element goes to the output that asked first.
     Balances(Balancing),
@@ -34,8 +34,8 @@ impl Drop for OutLogic {
 }
 
 impl OutLogic {
-    /// The logic of node `stage`, with 2 to `MAX_FAN` outputs. It takes the memory of lists of its outputs. None of these
-    /// kinds has a decider: a reason stops a partition.
+    /// The logic of node `stage`, with 2 to `MAX_FAN` outputs, and of a hub 1 to `MAX_FAN`. It takes the memory of lists of its
+    /// outputs. None of these kinds has a decider: a reason stops a partition.
     pub fn new(
         alloc: Global,
         stage: u32,

@@ -22,15 +22,15 @@ use stream_model::kind::Kind;
 /// Rule: Akka Streams 2.6 reference.
 #[derive(Drop)]
 pub enum OutMachines {
-    /// A broadcast, or an unzip.
+    /// A broadcast, a broadcast hub, or an unzip.
     Copies(CopyLogic),
     /// A partition.
     Deals(PartitionLogic),
 }
 
 impl OutMachines {
-    /// The logic of node `stage`, with 2 to `MAX_FAN` outputs. It takes the memory of a list of its outputs. None of these
-    /// kinds has a decider: a reason stops a partition.
+    /// The logic of node `stage`, with 2 to `MAX_FAN` outputs, and of a hub 1 to `MAX_FAN`. It takes the memory of a list of its
+    /// outputs. None of these kinds has a decider: a reason stops a partition.
     pub fn new(
         alloc: Global,
         stage: u32,
@@ -151,6 +151,7 @@ fn made(alloc: Global, stage: u32, kind: Kind) -> Result<OutMachines, NoMemory>
 {
     match kind {
         Kind::Broadcast(n) => copies(alloc, n, false),
+        Kind::BroadcastHub(_, n) => copies(alloc, n, false),
         Kind::Unzip => copies(alloc, 2, true),
         Kind::Partition(n, fun) => deals(alloc, stage, n, fun),
         _ => unreachable!(),
@@ -158,7 +159,7 @@ fn made(alloc: Global, stage: u32, kind: Kind) -> Result<OutMachines, NoMemory>
 }
 
 fn copies(alloc: Global, outputs: u32, halves: bool) -> Result<OutMachines, NoMemory>
-    requires fan { (2 ≤ outputs) × (outputs ≤ MAX_FAN) }
+    requires fan { (1 ≤ outputs) × (outputs ≤ MAX_FAN) }
     requires pair { halves ≡ true → outputs ≡ 2 }
     ensures { IfOk result (λ l. l ≡ Copies (copy.begun outputs halves)) }
 {

@@ -1,6 +1,6 @@
 -- The kinds that words say. Each definition is a table by the first word; the last row of one table goes on to the
 -- next. Rule: Akka Streams 2.6 reference for the kinds, own for their words.
-use Rattle.std.specs.Prelude.{ℕ, Bool, ◌&&◌, ◌||◌, if◌then◌else◌, List, [], ◌∷◌, Option, Some, None, codes}
+use Rattle.std.specs.Prelude.{ℕ, Bool, false, ◌&&◌, ◌||◌, if◌then◌else◌, List, [], ◌∷◌, Option, Some, None, codes}
 use Rattle.std.specs.Str.{bytes_eq}
 use Rattle.elem_core.specs.declared.why.Decider.{Decider}
 use Rattle.elem_core.specs.declared.why.Decider.TheVariants.{Stop, Resume, Restart}
@@ -119,6 +119,12 @@ fan_in_kind w ws =
     if bytes_eq w (codes "merge") then made k.Merge (size ws) else
     (if bytes_eq w (codes "concat") then made k.Concat (size ws) else turning_kind w ws)
 
+-- hubs: the size of their lanes, and how many parties they have; and what goes on
+abbrev pub hub_kind : List ℕ → List (List ℕ) → Reading Kind
+hub_kind w ws =
+    if bytes_eq w (codes "merge_hub") then made (λ r. k.MergeHub r.0 r.1) (then_read (size ws) size) else
+    (if bytes_eq w (codes "broadcast_hub") then made (λ r. k.BroadcastHub r.0 r.1) (then_read (size ws) size) else fan_in_kind w ws)
+
 -- the chain behind `each`
 abbrev pub each_chain : List (List ℕ) → Reading (List ℕ)
 each_chain ws = behind_word (codes "each") name ws
@@ -144,7 +150,7 @@ abbrev pub substream_kind : List ℕ → List (List ℕ) → Reading Kind
 substream_kind w ws =
     if bytes_eq w (codes "group_by") then group_of ws else
     (if bytes_eq w (codes "split_when") then made (λ r. k.SplitWhen r.0 r.1.0 r.1.1) (split_of ws) else
-    (if bytes_eq w (codes "split_after") then made (λ r. k.SplitAfter r.0 r.1.0 r.1.1) (split_of ws) else fan_in_kind w ws))
+    (if bytes_eq w (codes "split_after") then made (λ r. k.SplitAfter r.0 r.1.0 r.1.1) (split_of ws) else hub_kind w ws))
 
 -- the element that a failure becomes
 abbrev pub recover_of : List (List ℕ) → Reading Kind
@@ -173,6 +179,15 @@ stage_kind w ws =
     (if bytes_eq w (codes "valve") then made k.Valve (name ws) else
     (if bytes_eq w (codes "trip") then trip_of (name ws) else
     (if bytes_eq w (codes "plug") then made k.Plug (name ws) else substream_kind w ws))))
+
+-- the first words of the kinds that version 1 does not have: those of hubs
+abbrev pub is_later : Version → List ℕ → Bool
+is_later First w = bytes_eq w (codes "merge_hub") || bytes_eq w (codes "broadcast_hub")
+is_later Second w = false
+
+-- a kind of stage in a text of that version
+abbrev pub stage_in : Version → List ℕ → List (List ℕ) → Reading Kind
+stage_in v w ws = if is_later v w then None else stage_kind w ws
 
 -- the first words of the kinds that may have a decider
 abbrev pub may_decide : List ℕ → Bool

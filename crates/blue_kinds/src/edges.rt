@@ -4,19 +4,44 @@ ghost use Rattle.blue_words.specs.Reading.{Reads};
 ghost use Rattle.blue_words.specs.Reading.{made, then_read, name, size};
 ghost use Rattle.stream_model.specs.declared.kind.Kind.TheVariants.{Buffer};
 ghost use Rattle.blue_kinds.specs.Functions.{one_of};
-ghost use Rattle.blue_kinds.specs.Kinds.{policy_named, recover_of, trip_of, order_of, stage_kind};
+ghost use Rattle.blue_kinds.specs.Kinds.{policy_named, recover_of, trip_of, order_of, is_later, stage_kind, stage_in};
 
 use crate::folds::said;
 use crate::substreams::read_substreams;
-use blue_words::fault::{FormEnd, PlaceValue};
+use blue_words::fault::{FormEnd, PlaceValue, Version};
 use blue_words::places::both;
 use blue_words::words::{Words, is_word};
 use elem_core::line::Line;
 use std::alloc::Global;
 use stream_model::kind::{Kind, Policy};
 
-/// The kind of a stage, by its first word and those behind it.
-pub fn read_stage_kind(
+/// The kind of a stage in a text of that version, by its first word and those behind it.
+pub fn read_stage_in(
+    alloc: Global,
+    version: Version,
+    word: &[u8],
+    words: &mut Words,
+) -> Result<PlaceValue<Kind>, FormEnd>
+    ensures { Reads result (stage_in version word.now words.old) words.new }
+{
+    if is_later(version, word) {
+        return Err(FormEnd::BadLine);
+    }
+    read_stage_kind(alloc, word, words)
+}
+
+// The kinds that version 1 does not have.
+fn is_later(version: Version, word: &[u8]) -> bool
+    ensures { result ≡ is_later version word.now }
+{
+    match version {
+        Version::First => is_word(word, b"merge_hub") || is_word(word, b"broadcast_hub"),
+        Version::Second => false,
+    }
+}
+
+// The kind of a stage, whatever the version.
+fn read_stage_kind(
     alloc: Global,
     word: &[u8],
     words: &mut Words,

@@ -1,10 +1,10 @@
-// The kinds of stages with several outputs or inputs.
+// The kinds of stages with several outputs or inputs, and of hubs.
 ghost use Rattle.std.specs.Prelude.{◌≡◌};
 ghost use Rattle.blue_words.specs.Reading.{Reads};
 ghost use Rattle.blue_words.specs.Reading.{made, then_read, size};
-ghost use Rattle.stream_model.specs.declared.kind.Kind.TheVariants.{Partition, Interleave};
+ghost use Rattle.stream_model.specs.declared.kind.Kind.TheVariants.{Partition, Interleave, MergeHub, BroadcastHub};
 ghost use Rattle.blue_kinds.specs.Functions.{map_of};
-ghost use Rattle.blue_kinds.specs.Kinds.{parting_kind, fan_out_kind, turning_kind, fan_in_kind};
+ghost use Rattle.blue_kinds.specs.Kinds.{parting_kind, fan_out_kind, turning_kind, fan_in_kind, hub_kind};
 
 use crate::functions::read_map;
 use crate::kinds::read_linear;
@@ -14,12 +14,41 @@ use blue_words::words::{Words, is_word};
 use std::alloc::Global;
 use stream_model::kind::Kind;
 
-// The stages with several inputs first.
-pub(crate) fn read_fan_in(
+// The hubs first, and then the stages with several inputs.
+pub(crate) fn read_hub(
     alloc: Global,
     word: &[u8],
     words: &mut Words,
 ) -> Result<PlaceValue<Kind>, FormEnd>
+    ensures { Reads result (hub_kind word.now words.old) words.new }
+{
+    if is_word(word, b"merge_hub") {
+        return read_merge_hub(words);
+    }
+    if is_word(word, b"broadcast_hub") {
+        return read_broadcast_hub(words);
+    }
+    read_fan_in(alloc, word, words)
+}
+
+fn read_merge_hub(words: &mut Words) -> Result<PlaceValue<Kind>, FormEnd>
+    ensures { Reads result (made (λ r. MergeHub r.0 r.1) (then_read (size words.old) size)) words.new }
+{
+    let size = words.size()?;
+    let producers = words.size()?;
+    Ok(both(size, producers).map(|(s, n)| Kind::MergeHub(s, n)))
+}
+
+fn read_broadcast_hub(words: &mut Words) -> Result<PlaceValue<Kind>, FormEnd>
+    ensures { Reads result (made (λ r. BroadcastHub r.0 r.1) (then_read (size words.old) size)) words.new }
+{
+    let size = words.size()?;
+    let consumers = words.size()?;
+    Ok(both(size, consumers).map(|(s, n)| Kind::BroadcastHub(s, n)))
+}
+
+// The stages with several inputs.
+fn read_fan_in(alloc: Global, word: &[u8], words: &mut Words) -> Result<PlaceValue<Kind>, FormEnd>
     ensures { Reads result (fan_in_kind word.now words.old) words.new }
 {
     if is_word(word, b"merge") {

@@ -6,7 +6,7 @@ ghost use Rattle.stream_model.specs.declared.kind.Kind.TheVariants.{SplitWhen, S
 ghost use Rattle.blue_kinds.specs.Functions.{one_of};
 ghost use Rattle.blue_kinds.specs.Kinds.{joining_named, each_chain, split_of, group_of, keys_of, key_of, substream_kind};
 
-use crate::fans::read_fan_in;
+use crate::fans::read_hub;
 use crate::folds::said;
 use crate::functions::read_map;
 use crate::predicates::read_pred;
@@ -35,7 +35,7 @@ pub(crate) fn read_substreams(
     if is_word(word, b"split_after") {
         return Ok(read_split(alloc, words)?.map(|(p, (c, j))| Kind::SplitAfter(p, c, j)));
     }
-    read_fan_in(alloc, word, words)
+    read_hub(alloc, word, words)
 }
 
 fn read_group(alloc: Global, words: &mut Words) -> Result<PlaceValue<Kind>, FormEnd>

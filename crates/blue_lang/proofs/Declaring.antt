@@ -32,7 +32,7 @@ use Rattle.blue_words.specs.Numbers.{read_count, read_name}
 use Rattle.blue_words.specs.Reading.{At, Reading, at_map, both, said, made, with_second, then_read, behind_word, begins_with, name, size}
 use Rattle.blue_words.proofs.Cutting.{cut_at-append, cut_at-says}
 use Rattle.blue_words.proofs.Plain.{lacks-name}
-use Rattle.blue_kinds.specs.Kinds.{source_kind, sink_kind, stage_kind, named_decider, kept_decider, decider_of, may_decide}
+use Rattle.blue_kinds.specs.Kinds.{source_kind, sink_kind, stage_kind, stage_in, named_decider, kept_decider, decider_of, may_decide}
 use Rattle.blue_kinds.specs.Steps.{read_chain}
 use Rattle.blue_lang.specs.Spaced.{spaced}
 use Rattle.blue_lang.specs.Kinds.{kind_words, sort_word, decider_words}
@@ -43,7 +43,7 @@ use Rattle.blue_lang.proofs.Lexical.{name_respelled, size_respelled, count_decim
 use Rattle.blue_lang.proofs.KindTables.{source_tabled, sink_tabled, stage_tabled}
 use Rattle.blue_lang.proofs.Sorting.{Sorts, source_sorts, sink_sorts, stage_sorts}
 use Rattle.blue_lang.proofs.Deciding.{KeptApart, decider_kept, decided_words, deciding_kept, chain_kept}
-use Rattle.blue_lang.proofs.Texts.{decided_is}
+use Rattle.blue_lang.proofs.Texts.{decided_is, decided_of, stage_of}
 
 -- words, parted by one space
 abbrev pub joined : Words → List ℕ
@@ -160,14 +160,14 @@ sinks = record { same = λ vs. refl; kept = undecided_kept sink_kind sink_tabled
 
 decided_kept : (v : Version) (vs : Words) (r : Kind × Option Decider) → read_decided v vs ≡ Some (Ok r, []) → AllWords vs → KeptApart (read_decided Second) (decided_words r) r vs []
 decided_kept v vs r h a =
-    let k = deciding_kept v stage_kind stage_tabled vs [] r (sym (decided_is v vs) ∙ h) a in
-    record { again = λ more f. decided_is Second (decided_words r ++ more) ∙ k.again more f; shorter = k.shorter; words = k.words; left = k.left }
+    let k = deciding_kept v stage_kind stage_tabled vs [] r (decided_of v vs (Ok r, []) h) a in
+    record { again = λ more f. decided_is (decided_words r ++ more) ∙ k.again more f; shorter = k.shorter; words = k.words; left = k.left }
 
 decided_sorts : (v : Version) (vs : Words) (r : Kind × Option Decider) → read_decided v vs ≡ Some (Ok r, []) → sort_word r.0 ≡ codes "stage"
 decided_sorts v [] r h = absurd (let k : ⊥ = cc in k)
 decided_sorts v (w ∷ ws) r h =
-    let p = then_of (stage_kind w ws) (decider_of v (may_decide w)) r [] h in
-    (stage_sorts w ws).kept r.0 p.0 p.1
+    let p = then_of (stage_in v w ws) (decider_of v (may_decide w)) r [] h in
+    (stage_sorts w ws).kept r.0 p.0 (stage_of v w ws (Ok r.0, p.0) p.1)
 
 stages : (v : Version) → KeptNode (codes "stage") (read_decided v) (read_decided Second)
 stages v = record { same = λ vs. refl; kept = decided_kept v; sorts = decided_sorts v; word = refl; heard = λ x. refl }

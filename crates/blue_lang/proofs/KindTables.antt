@@ -18,7 +18,7 @@ use Rattle.stream_model.specs.declared.kind.Kind.TheVariants as k
 use Rattle.blue_words.specs.Names.{is_word}
 use Rattle.blue_words.specs.Reading.{Reading, made, then_read, before_word, word, name, file, int, count, size}
 use Rattle.blue_kinds.specs.Functions.{one_of, said_if, map_of, pred_of, expand_named, fold_named, reduce_named}
-use Rattle.blue_kinds.specs.Kinds.{base_named, policy_named, joining_named, source_kind, sink_kind, testing_kind, making_kind, linear_kind, fan_out_kind, fan_in_kind, each_chain, split_of, key_of, keys_of, substream_kind, recover_of, trip_of, stage_kind}
+use Rattle.blue_kinds.specs.Kinds.{base_named, policy_named, joining_named, source_kind, sink_kind, testing_kind, making_kind, linear_kind, fan_out_kind, fan_in_kind, hub_kind, each_chain, split_of, key_of, keys_of, substream_kind, recover_of, trip_of, stage_kind}
 use Rattle.blue_lang.specs.Spaced.{spaced}
 use Rattle.blue_lang.specs.Functions.{map_words, pred_words}
 use Rattle.blue_lang.specs.Functions as spell_functions
@@ -68,14 +68,14 @@ range_words r = (signed_decimal r.0 ∷ []) ++ (signed_decimal r.1 ∷ [])
 range_respelled : (ws : Words) → Respelled range range_words ws (range ws)
 range_respelled ws = then_respelled int int (λ z. signed_decimal z ∷ []) (λ z. signed_decimal z ∷ []) ws (int_respelled ws) int_respelled
 
-abbrev interleave : Words → Reading (ℕ × ℕ)
-interleave ws = then_read (size ws) size
+abbrev two_sizes : Words → Reading (ℕ × ℕ)
+two_sizes ws = then_read (size ws) size
 
-abbrev interleave_words : ℕ × ℕ → Words
-interleave_words r = (decimal r.0 ∷ []) ++ (decimal r.1 ∷ [])
+abbrev two_sizes_words : ℕ × ℕ → Words
+two_sizes_words r = (decimal r.0 ∷ []) ++ (decimal r.1 ∷ [])
 
-interleave_respelled : (ws : Words) → Respelled interleave interleave_words ws (interleave ws)
-interleave_respelled ws = then_respelled size size (λ n. decimal n ∷ []) (λ n. decimal n ∷ []) ws (size_respelled ws) size_respelled
+two_sizes_respelled : (ws : Words) → Respelled two_sizes two_sizes_words ws (two_sizes ws)
+two_sizes_respelled ws = then_respelled size size (λ n. decimal n ∷ []) (λ n. decimal n ∷ []) ws (size_respelled ws) size_respelled
 
 abbrev partition : Words → Reading (ℕ × MapFn)
 partition ws = then_read (size ws) map_of
@@ -221,17 +221,23 @@ fan_in_tabled : (w : List ℕ) (ws : Words) → Tabled stage_kind kind_words w w
 fan_in_tabled w ws =
     row stage_kind kind_words size (λ n. decimal n ∷ []) w (codes "merge") ws k.Merge _ (λ _. refl) (λ _. refl) (size_respelled ws)
     (row stage_kind kind_words size (λ n. decimal n ∷ []) w (codes "concat") ws k.Concat _ (λ _. refl) (λ _. refl) (size_respelled ws)
-    (row stage_kind kind_words interleave interleave_words w (codes "interleave") ws (λ r. k.Interleave r.0 r.1) _ (λ _. refl) (λ _. refl) (interleave_respelled ws)
+    (row stage_kind kind_words two_sizes two_sizes_words w (codes "interleave") ws (λ r. k.Interleave r.0 r.1) _ (λ _. refl) (λ _. refl) (two_sizes_respelled ws)
     (row_said stage_kind kind_words w (codes "merge_sorted") ws k.MergeSorted _ (λ _. refl) refl
     (row_said stage_kind kind_words w (codes "zip") ws k.Zip _ (λ _. refl) refl
     (fan_out_tabled w ws)))))
+
+hub_tabled : (w : List ℕ) (ws : Words) → Tabled stage_kind kind_words w ws (hub_kind w ws)
+hub_tabled w ws =
+    row stage_kind kind_words two_sizes two_sizes_words w (codes "merge_hub") ws (λ r. k.MergeHub r.0 r.1) _ (λ _. refl) (λ _. refl) (two_sizes_respelled ws)
+    (row stage_kind kind_words two_sizes two_sizes_words w (codes "broadcast_hub") ws (λ r. k.BroadcastHub r.0 r.1) _ (λ _. refl) (λ _. refl) (two_sizes_respelled ws)
+    (fan_in_tabled w ws))
 
 substream_tabled : (w : List ℕ) (ws : Words) → Tabled stage_kind kind_words w ws (substream_kind w ws)
 substream_tabled w ws =
     row stage_kind kind_words group group_words w (codes "group_by") ws (λ r. k.GroupBy r.0 r.1.0 r.1.1) _ (λ _. refl) group_spelled (group_respelled ws)
     (row stage_kind kind_words split_of split_words w (codes "split_when") ws (λ r. k.SplitWhen r.0 r.1.0 r.1.1) _ (λ _. refl) (λ _. refl) (split_respelled ws)
     (row stage_kind kind_words split_of split_words w (codes "split_after") ws (λ r. k.SplitAfter r.0 r.1.0 r.1.1) _ (λ _. refl) (λ _. refl) (split_respelled ws)
-    (fan_in_tabled w ws)))
+    (hub_tabled w ws)))
 
 recover_tabled : (w : List ℕ) (ws : Words) → w ≡ codes "recover" → Tabled stage_kind kind_words w ws (recover_of ws)
 recover_tabled w [] e = none_tabled stage_kind kind_words w []

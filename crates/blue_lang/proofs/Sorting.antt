@@ -7,7 +7,7 @@ use Rattle.stream_model.specs.declared.kind.Kind.TheVariants as k
 use Rattle.blue_words.specs.Numbers.{read_name}
 use Rattle.blue_words.specs.Reading.{Reading, said, made, with_second, then_read, word, name, file, int, count, size}
 use Rattle.blue_kinds.specs.Functions.{one_of, map_of, pred_of, expand_named, fold_named, reduce_named}
-use Rattle.blue_kinds.specs.Kinds.{base_named, policy_named, source_kind, sink_kind, testing_kind, making_kind, linear_kind, fan_out_kind, fan_in_kind, split_of, group_of, keys_of, substream_kind, recover_of, trip_of, stage_kind}
+use Rattle.blue_kinds.specs.Kinds.{base_named, policy_named, source_kind, sink_kind, testing_kind, making_kind, linear_kind, fan_out_kind, fan_in_kind, hub_kind, split_of, group_of, keys_of, substream_kind, recover_of, trip_of, stage_kind}
 use Rattle.blue_words.specs.Reading.{before_word}
 use Rattle.blue_lang.specs.Kinds.{sort_word}
 use Rattle.blue_lang.proofs.Respelling.{Words, made_of, same_value}
@@ -103,12 +103,18 @@ fan_in_sorts w ws =
     (sorts_if (codes "stage") (bytes_eq w (codes "zip")) (said k.Zip ws) _ (sorts_said (codes "stage") k.Zip ws refl)
     (fan_out_sorts w ws)))))
 
+hub_sorts : (w : List ℕ) (ws : Words) → Sorts (codes "stage") (hub_kind w ws)
+hub_sorts w ws =
+    sorts_if (codes "stage") (bytes_eq w (codes "merge_hub")) (made (λ r. k.MergeHub r.0 r.1) (then_read (size ws) size)) _ (sorts_made (codes "stage") (λ r. k.MergeHub r.0 r.1) (then_read (size ws) size) (λ _. refl))
+    (sorts_if (codes "stage") (bytes_eq w (codes "broadcast_hub")) (made (λ r. k.BroadcastHub r.0 r.1) (then_read (size ws) size)) _ (sorts_made (codes "stage") (λ r. k.BroadcastHub r.0 r.1) (then_read (size ws) size) (λ _. refl))
+    (fan_in_sorts w ws))
+
 substream_sorts : (w : List ℕ) (ws : Words) → Sorts (codes "stage") (substream_kind w ws)
 substream_sorts w ws =
     sorts_if (codes "stage") (bytes_eq w (codes "group_by")) (group_of ws) _ (sorts_made (codes "stage") (λ r. k.GroupBy r.0 r.1.0 r.1.1) (before_word (codes "merge") (keys_of ws)) (λ _. refl))
     (sorts_if (codes "stage") (bytes_eq w (codes "split_when")) (made (λ r. k.SplitWhen r.0 r.1.0 r.1.1) (split_of ws)) _ (sorts_made (codes "stage") (λ r. k.SplitWhen r.0 r.1.0 r.1.1) (split_of ws) (λ _. refl))
     (sorts_if (codes "stage") (bytes_eq w (codes "split_after")) (made (λ r. k.SplitAfter r.0 r.1.0 r.1.1) (split_of ws)) _ (sorts_made (codes "stage") (λ r. k.SplitAfter r.0 r.1.0 r.1.1) (split_of ws) (λ _. refl))
-    (fan_in_sorts w ws)))
+    (hub_sorts w ws)))
 
 pub stage_sorts : (w : List ℕ) (ws : Words) → Sorts (codes "stage") (stage_kind w ws)
 stage_sorts w ws =

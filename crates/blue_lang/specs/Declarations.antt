@@ -25,7 +25,7 @@ use Rattle.blue_words.specs.Line.{is_plain}
 use Rattle.blue_words.specs.Names.{begins_with_letter}
 use Rattle.blue_words.specs.Numbers.{read_count, read_name}
 use Rattle.blue_words.specs.Reading.{At, Reading, at_map, both, said, made, then_read, behind_word, begins_with, name, size}
-use Rattle.blue_kinds.specs.Kinds.{source_kind, sink_kind, stage_kind, may_decide, decider_of}
+use Rattle.blue_kinds.specs.Kinds.{source_kind, sink_kind, stage_in, may_decide, decider_of}
 use Rattle.blue_kinds.specs.Steps.{read_chain}
 
 -- what a line may declare
@@ -121,7 +121,7 @@ undecided table (w ∷ ws) = made (λ k. (k, None)) (table w ws)
 -- a stage's kind and its decider
 abbrev pub read_decided : Version → List (List ℕ) → Reading (Kind × Option Decider)
 read_decided v [] = None
-read_decided v (w ∷ ws) = then_read (stage_kind w ws) (decider_of v (may_decide w))
+read_decided v (w ∷ ws) = then_read (stage_in v w ws) (decider_of v (may_decide w))
 
 -- a node: its name, and behind it its kind and its decider
 abbrev pub read_node : (List (List ℕ) → Reading (Kind × Option Decider)) → List (List ℕ) → Reading NodeText

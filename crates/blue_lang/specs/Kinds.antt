@@ -40,11 +40,13 @@ each_words name joining = codes "each" ∷ name ∷ joining ∷ []
 -- stages with several inputs or outputs
 abbrev pub fan_words : Kind → List (List ℕ)
 fan_words (k.Merge n) = codes "merge" ∷ decimal n ∷ []
+fan_words (k.MergeHub s n) = codes "merge_hub" ∷ decimal s ∷ decimal n ∷ []
 fan_words (k.Concat n) = codes "concat" ∷ decimal n ∷ []
 fan_words (k.Interleave n s) = codes "interleave" ∷ decimal n ∷ decimal s ∷ []
 fan_words k.MergeSorted = codes "merge_sorted" ∷ []
 fan_words k.Zip = codes "zip" ∷ []
 fan_words (k.Broadcast n) = codes "broadcast" ∷ decimal n ∷ []
+fan_words (k.BroadcastHub s n) = codes "broadcast_hub" ∷ decimal s ∷ decimal n ∷ []
 fan_words (k.Balance n) = codes "balance" ∷ decimal n ∷ []
 fan_words (k.Partition n f) = codes "partition" ∷ decimal n ∷ map_words f
 fan_words k.Unzip = codes "unzip" ∷ []

@@ -9,7 +9,7 @@ ghost use Rattle.blue_lang.specs.Plain.{plain_declaration};
 use crate::attrs::{read_attrs, read_some_attrs};
 use crate::places::{read_port, read_use, read_wire};
 use blue_kinds::decider::{may_decide, read_decider};
-use blue_kinds::edges::read_stage_kind;
+use blue_kinds::edges::read_stage_in;
 use blue_kinds::kinds::{read_sink, read_source};
 use blue_kinds::steps::read_steps;
 use blue_modules::text::{Attrs, ChainText, Entry, NodeText, PortDecl};
@@ -274,7 +274,7 @@ fn read_decided(
     let Some(word) = words.next() else {
         return Err(FormEnd::BadLine);
     };
-    let kind = read_stage_kind(alloc, word, words)?;
+    let kind = read_stage_in(alloc, version, word, words)?;
     let decider = read_decider(version, may_decide(word), words)?;
     Ok(both(kind, decider))
 }

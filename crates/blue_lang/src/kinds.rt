@@ -149,6 +149,10 @@ fn write_fan(out: &mut Vec<u8>, kind: &Kind) -> Result<(), NoMemory>
 {
     match kind {
         Kind::Merge(n) => write_word_count(out, b"merge", u64::from(*n)),
+        Kind::MergeHub(size, n) => {
+            write_word_count(out, b"merge_hub", u64::from(*size))?;
+            write_count(out, u64::from(*n))
+        }
         Kind::Concat(n) => write_word_count(out, b"concat", u64::from(*n)),
         Kind::Interleave(n, segment) => {
             write_word_count(out, b"interleave", u64::from(*n))?;
@@ -157,6 +161,10 @@ fn write_fan(out: &mut Vec<u8>, kind: &Kind) -> Result<(), NoMemory>
         Kind::MergeSorted => write_word(out, b"merge_sorted"),
         Kind::Zip => write_word(out, b"zip"),
         Kind::Broadcast(n) => write_word_count(out, b"broadcast", u64::from(*n)),
+        Kind::BroadcastHub(size, n) => {
+            write_word_count(out, b"broadcast_hub", u64::from(*size))?;
+            write_count(out, u64::from(*n))
+        }
         Kind::Balance(n) => write_word_count(out, b"balance", u64::from(*n)),
         Kind::Partition(n, f) => {
             write_word_count(out, b"partition", u64::from(*n))?;

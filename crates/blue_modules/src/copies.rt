@@ -46,11 +46,13 @@ pub fn copy_kind(alloc: Global, kind: &Kind) -> Result<Kind, NoMemory>
             Ok(Kind::SplitAfter(copy_pred(alloc, p)?, chain.copy(alloc)?, *joining))
         }
         Kind::Merge(n) => Ok(Kind::Merge(*n)),
+        Kind::MergeHub(size, n) => Ok(Kind::MergeHub(*size, *n)),
         Kind::Concat(n) => Ok(Kind::Concat(*n)),
         Kind::Interleave(n, segment) => Ok(Kind::Interleave(*n, *segment)),
         Kind::MergeSorted => Ok(Kind::MergeSorted),
         Kind::Zip => Ok(Kind::Zip),
         Kind::Broadcast(n) => Ok(Kind::Broadcast(*n)),
+        Kind::BroadcastHub(size, n) => Ok(Kind::BroadcastHub(*size, *n)),
         Kind::Balance(n) => Ok(Kind::Balance(*n)),
         Kind::Partition(n, f) => Ok(Kind::Partition(*n, copy_map(alloc, f)?)),
         Kind::Unzip => Ok(Kind::Unzip),

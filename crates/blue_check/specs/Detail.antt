@@ -8,7 +8,7 @@ use Rattle.blue_names.specs.declared.spot.Spot.TheVariants as at
 use Rattle.blue_names.specs.declared.want.Want.{Want}
 use Rattle.blue_names.specs.declared.want.Want.TheVariants.{Is, AnySeq, AnyPair}
 use Rattle.blue_check.specs.declared.fault.CheckFault.{CheckFault}
-use Rattle.blue_check.specs.declared.fault.CheckFault.TheVariants.{TwoNames, NoSuchName, NoSuchPort, PortTwice, PortOpen, TypeClash, ClosedWalk, TooDeep, NoSuchPlug, PlugTwice, BadSize, NoSuchModule, PortName, TooLarge}
+use Rattle.blue_check.specs.declared.fault.CheckFault.TheVariants.{TwoNames, NoSuchName, NoSuchPort, PortTwice, PortOpen, TypeClash, ClosedWalk, TooDeep, NoSuchPlug, PlugTwice, BadSize, NoSuchModule, PortName, TooLarge, HubWire}
 
 -- the text of a type: `num`, `text`, `[T]` or `(T,U)`
 abbrev pub type_text : Sort → List ℕ
@@ -54,6 +54,7 @@ fault_words (BadSize s) = spot_text s
 fault_words (NoSuchModule l) = l
 fault_words (PortName l p) = l ++ codes " " ++ p
 fault_words TooLarge = []
+fault_words (HubWire i) = wire_text i
 
 -- what is told of a broken rule beside its number: a name, a wire, a port, the types of a clash or a place, behind a space; of some nothing
 abbrev pub detail_text : CheckFault → List ℕ

@@ -1,4 +1,4 @@
--- When a blueprint can be run: eleven rules, of which the first that is broken decides.
+-- When a blueprint can be run: twelve rules, of which the first that is broken decides.
 use Rattle.std.specs.Prelude.{◌≡◌, ℕ, List, [], slice_get, Option, Some, None, ◌⊎◌}
 use Rattle.std.specs.Option.{option_map, option_or}
 use Rattle.stream_model.specs.Graph.{Edge}
@@ -13,10 +13,10 @@ use Rattle.blue_names.specs.Ports.{OpenPort, port_missing, port_twice, port_open
 use Rattle.blue_names.specs.Rounds.{type_clash, too_deep}
 use Rattle.blue_names.specs.Sizes.{size_wrong}
 use Rattle.blue_names.specs.declared.typed.Clash.{Clash}
-use Rattle.blue_names.specs.RuleLinks.{wires_of}
+use Rattle.blue_names.specs.RuleLinks.{wires_of, hub_wrong}
 use Rattle.blue_check.specs.Wires.{blueprint_wires}
 use Rattle.blue_check.specs.declared.fault.CheckFault.{CheckFault}
-use Rattle.blue_check.specs.declared.fault.CheckFault.TheVariants.{TwoNames, NoSuchName, NoSuchPort, PortTwice, PortOpen, TypeClash, ClosedWalk, TooDeep, NoSuchPlug, PlugTwice, BadSize}
+use Rattle.blue_check.specs.declared.fault.CheckFault.TheVariants.{TwoNames, NoSuchName, NoSuchPort, PortTwice, PortOpen, TypeClash, ClosedWalk, TooDeep, NoSuchPlug, PlugTwice, BadSize, HubWire}
 
 -- the name of a node
 abbrev pub node_name : Option Node → List ℕ
@@ -50,9 +50,9 @@ ports_fault nodes ws =
 abbrev pub plugs_fault : List PlugHead → List ChainDecl → List Node → Option CheckFault
 plugs_fault plugs chains nodes = option_or (option_map NoSuchPlug (unknown_plug plugs chains nodes)) (option_map PlugTwice (plug_twice plugs nodes))
 
--- the fault of the rule on sizes, where it is broken
+-- the fault of the rules on sizes and on the wires of hubs, where one is broken
 abbrev pub sizes_fault : List ChainDecl → List Node → List WireDecl → Option CheckFault
-sizes_fault chains nodes wires = option_map BadSize (size_wrong chains nodes wires)
+sizes_fault chains nodes wires = option_or (option_map BadSize (size_wrong chains nodes wires)) (option_map HubWire (hub_wrong nodes wires))
 
 -- the fault of the rules on types, where one is broken
 abbrev pub types_fault : List PlugHead → List ChainDecl → List Node → List Edge → Option CheckFault

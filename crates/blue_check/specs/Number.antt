@@ -1,9 +1,9 @@
 -- The numbers of faults.
 use Rattle.std.specs.Prelude.{ℕ}
 use Rattle.blue_check.specs.declared.fault.CheckFault.{CheckFault}
-use Rattle.blue_check.specs.declared.fault.CheckFault.TheVariants.{TwoNames, NoSuchName, NoSuchPort, PortTwice, PortOpen, TypeClash, ClosedWalk, TooDeep, NoSuchPlug, PlugTwice, BadSize, NoSuchModule, PortName, TooLarge}
+use Rattle.blue_check.specs.declared.fault.CheckFault.TheVariants.{TwoNames, NoSuchName, NoSuchPort, PortTwice, PortOpen, TypeClash, ClosedWalk, TooDeep, NoSuchPlug, PlugTwice, BadSize, NoSuchModule, PortName, TooLarge, HubWire}
 
--- the number of a broken rule, 1 to 14, by which the report names it
+-- the number of a broken rule, 1 to 15, by which the report names it
 abbrev pub number_of_fault : CheckFault → ℕ
 number_of_fault (TwoNames l) = 1
 number_of_fault (NoSuchName l) = 2
@@ -19,3 +19,4 @@ number_of_fault (BadSize s) = 11
 number_of_fault (NoSuchModule l) = 12
 number_of_fault (PortName l p) = 13
 number_of_fault TooLarge = 14
+number_of_fault (HubWire i) = 15

@@ -138,5 +138,6 @@ fn put_words(bytes: &mut Vec<u8>, fault: &CheckFault) -> Result<(), NoMemory>
         CheckFault::NoSuchModule(name) => bytes.extend_from_slice(name.bytes()),
         CheckFault::PortName(name, port) => put_names(bytes, name.bytes(), port.bytes()),
         CheckFault::TooLarge => Ok(()),
+        CheckFault::HubWire(i) => put_place(bytes, b"wire ", *i),
     }
 }

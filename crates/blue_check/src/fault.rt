@@ -38,6 +38,8 @@ pub enum CheckFault {
     PortName(Line, Line),
     /// The blueprint would have more nodes or wires than one may have.
     TooLarge,
+    /// A wire of a hub is marked as a lane itself, or goes from a broadcast hub to a merge hub.
+    HubWire(u32),
 }
 
 // Dropped by a call, wherever it is dropped: else each of its variants is a path of each function that drops it.
@@ -57,13 +59,14 @@ impl Drop for CheckFault {
             | CheckFault::PortTwice(_)
             | CheckFault::ClosedWalk(_)
             | CheckFault::BadSize(_)
+            | CheckFault::HubWire(_)
             | CheckFault::TooLarge => {}
         }
     }
 }
 
 impl CheckFault {
-    /// The number, from 1 to 14, by which reports name the rule.
+    /// The number, from 1 to 15, by which reports name the rule.
     pub fn number(&self) -> u8
         ensures { result ≡ number_of_fault self.now }
     {
@@ -82,6 +85,7 @@ impl CheckFault {
             CheckFault::NoSuchModule(_) => 12,
             CheckFault::PortName(_, _) => 13,
             CheckFault::TooLarge => 14,
+            CheckFault::HubWire(_) => 15,
         }
     }
 }

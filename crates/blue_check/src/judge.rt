@@ -84,7 +84,7 @@ fn by_sizes(
     ensures { IfOk result (IsJudged (option_or (sizes_fault chains.now nodes.now wires.now)
         (types_fault plugs.now chains.now nodes.now (wires_of_links links.now))) (wires_of_links links.now)) }
 {
-    match sizes_fault(chains, nodes, wires)? {
+    match sizes_fault(alloc, chains, nodes, wires)? {
         Some(fault) => Ok(Judged::Unfit(fault)),
         None => by_types(alloc, plugs, chains, nodes, links, targets),
     }

@@ -30,7 +30,7 @@ pub fn picks(kind: &Kind) -> bool
     ensures { result ≡ picks kind.now }
 {
     match kind {
-        Kind::Merge(_) | Kind::Balance(_) | Kind::Valve(_) => true,
+        Kind::Merge(_) | Kind::MergeHub(_, _) | Kind::Balance(_) | Kind::Valve(_) => true,
         Kind::RecoverNum(_) | Kind::RecoverText(_) => true,
         Kind::GroupBy(_, _, _) => true,
         Kind::Buffer(_, policy) => may_drop(*policy),

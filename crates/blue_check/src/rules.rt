@@ -11,6 +11,7 @@ ghost use Rattle.blue_check.specs.Fitness.{name_at, open_fault, clash_fault, nam
 
 use crate::fault::CheckFault;
 use blue_names::claims::{plug_twice, taken_twice};
+use blue_names::hubs::hub_wrong;
 use blue_names::links::NumberedWire;
 use blue_names::names::{unknown_name, unknown_plug};
 use blue_names::ports::{
@@ -110,8 +111,9 @@ pub fn plugs_fault(
     }
 }
 
-/// The first fault of a size.
+/// The first fault of a size, and then of a wire of a hub.
 pub fn sizes_fault(
+    alloc: Global,
     chains: &[ChainDecl],
     nodes: &[Node],
     wires: &[WireDecl],
@@ -124,8 +126,11 @@ pub fn sizes_fault(
     if let Some(i) = node_wrong(nodes) {
         return Ok(Some(CheckFault::BadSize(Spot::Node(numbered(i)?))));
     }
-    match wire_wrong(wires) {
-        Some(i) => Ok(Some(CheckFault::BadSize(Spot::Wire(numbered(i)?)))),
+    if let Some(i) = wire_wrong(wires) {
+        return Ok(Some(CheckFault::BadSize(Spot::Wire(numbered(i)?))));
+    }
+    match hub_wrong(alloc, nodes, wires)? {
+        Some(i) => Ok(Some(CheckFault::HubWire(numbered(i)?))),
         None => Ok(None),
     }
 }

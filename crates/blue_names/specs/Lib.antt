@@ -1,5 +1,6 @@
 pub mod First
 pub mod Names
+pub mod Hubs
 pub mod RuleLinks
 pub mod Ports
 pub mod Sizes

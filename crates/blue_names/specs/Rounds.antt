@@ -3,7 +3,7 @@ use Rattle.std.specs.Prelude.{ℕ, zero, suc, ◌==◌, Bool, true, false, if◌
 use Rattle.std.specs.Option.{option_map, option_or, option_and_then}
 use Rattle.elem_core.specs.Sort.{Sort, pair_type, same_sort}
 use Rattle.stream_model.specs.declared.kind.Kind.{Kind}
-use Rattle.stream_model.specs.Linear.{Role, reads_lines, gives_range, gives_nothing, gives_failure, works, trips, plugs_in, buffers, recovers, obeys, groups_by, splits_when, splits_after, merges, concats, interleaves, merges_sorted, zips, broadcasts, balances, partitions, unzips, sinks, role_of}
+use Rattle.stream_model.specs.Linear.{Role, reads_lines, gives_range, gives_nothing, gives_failure, works, trips, plugs_in, buffers, recovers, obeys, groups_by, splits_when, splits_after, merges, gathers, concats, interleaves, merges_sorted, zips, broadcasts, balances, partitions, unzips, sinks, role_of}
 use Rattle.stream_model.specs.Graph.{Edge, find_wire}
 use Rattle.stream_model.specs.Composed.{inputs_of, count_from}
 use Rattle.stream_model.specs.declared.blueprint.ChainDecl.{ChainDecl}
@@ -33,6 +33,7 @@ half_by (groups_by n f chain) port t = t
 half_by (splits_when p chain j) port t = t
 half_by (splits_after p chain j) port t = t
 half_by (merges n) port t = t
+half_by (gathers n) port t = t
 half_by (concats n) port t = t
 half_by (interleaves n s) port t = t
 half_by merges_sorted port t = t
@@ -78,6 +79,7 @@ joins_types (groups_by n f chain) = false
 joins_types (splits_when p chain j) = false
 joins_types (splits_after p chain j) = false
 joins_types (merges n) = true
+joins_types (gathers n) = true
 joins_types (concats n) = true
 joins_types (interleaves n s) = true
 joins_types merges_sorted = true
@@ -150,6 +152,7 @@ module _ (plugs : List PlugHead) (chains : List ChainDecl) where
   attempt_on (splits_when p chain j) os by_one = option_map by_one (first_typed os)
   attempt_on (splits_after p chain j) os by_one = option_map by_one (first_typed os)
   attempt_on (merges n) os by_one = option_map by_one (first_typed os)
+  attempt_on (gathers n) os by_one = option_map by_one (first_typed os)
   attempt_on (concats n) os by_one = option_map by_one (first_typed os)
   attempt_on (interleaves n s) os by_one = option_map by_one (first_typed os)
   attempt_on merges_sorted os by_one = option_map by_one (first_typed os)

@@ -4,7 +4,7 @@ use Rattle.std.specs.Int.{is_power_of_two}
 use Rattle.std.specs.List.{list_all}
 use Rattle.std.specs.Option.{option_or, option_map}
 use Rattle.stream_model.specs.declared.kind.Kind.{Kind}
-use Rattle.stream_model.specs.declared.kind.Kind.TheVariants.{Lines, Range, Empty, Failed, Map, Filter, FilterNot, TakeWhile, DropWhile, Take, Drop, Limit, Grouped, MapConcat, Fold, Scan, Reduce, Buffer, RecoverNum, RecoverText, Valve, TripShutdown, TripAbort, Plug, GroupBy, SplitWhen, SplitAfter, Merge, Concat, Interleave, MergeSorted, Zip, Broadcast, Balance, Partition, Unzip, ToLines, Head, Last, Ignore}
+use Rattle.stream_model.specs.declared.kind.Kind.TheVariants.{Lines, Range, Empty, Failed, Map, Filter, FilterNot, TakeWhile, DropWhile, Take, Drop, Limit, Grouped, MapConcat, Fold, Scan, Reduce, Buffer, RecoverNum, RecoverText, Valve, TripShutdown, TripAbort, Plug, GroupBy, SplitWhen, SplitAfter, Merge, MergeHub, Concat, Interleave, MergeSorted, Zip, Broadcast, BroadcastHub, Balance, Partition, Unzip, ToLines, Head, Last, Ignore}
 use Rattle.stream_model.specs.declared.kind.TheConstants.{MAX_FAN}
 use Rattle.stream_model.specs.declared.limit.TheConstants.{MAX_HELD, MAX_COUNT, MAX_KEYS, MAX_LANE}
 use Rattle.stream_model.specs.declared.blueprint.Node.{Node}
@@ -48,11 +48,13 @@ sizes_fit (GroupBy n f name) = is_within 1 MAX_KEYS n
 sizes_fit (SplitWhen p name j) = true
 sizes_fit (SplitAfter p name j) = true
 sizes_fit (Merge n) = is_within 2 MAX_FAN n
+sizes_fit (MergeHub s n) = is_within 1 MAX_LANE s && is_within 1 MAX_FAN n
 sizes_fit (Concat n) = is_within 2 MAX_FAN n
 sizes_fit (Interleave n s) = is_within 2 MAX_FAN n && is_within 1 MAX_COUNT s
 sizes_fit MergeSorted = true
 sizes_fit Zip = true
 sizes_fit (Broadcast n) = is_within 2 MAX_FAN n
+sizes_fit (BroadcastHub s n) = is_within 1 MAX_LANE s && is_within 1 MAX_FAN n
 sizes_fit (Balance n) = is_within 2 MAX_FAN n
 sizes_fit (Partition n f) = is_within 2 MAX_FAN n
 sizes_fit Unzip = true

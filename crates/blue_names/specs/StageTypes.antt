@@ -6,8 +6,8 @@ use Rattle.elem_core.specs.Values.{same_text}
 use Rattle.stream_model.specs.declared.kind.Base.{Base}
 use Rattle.stream_model.specs.declared.kind.Base.TheVariants as base
 use Rattle.stream_model.specs.declared.kind.Kind.{Kind}
-use Rattle.stream_model.specs.declared.kind.Kind.TheVariants.{Lines, Range, Empty, Failed, Map, Filter, FilterNot, TakeWhile, DropWhile, Take, Drop, Limit, Grouped, MapConcat, Fold, Scan, Reduce, Buffer, RecoverNum, RecoverText, Valve, TripShutdown, TripAbort, Plug, GroupBy, SplitWhen, SplitAfter, Merge, Concat, Interleave, MergeSorted, Zip, Broadcast, Balance, Partition, Unzip, ToLines, Head, Last, Ignore}
-use Rattle.stream_model.specs.Linear.{Role, reads_lines, gives_range, gives_nothing, gives_failure, works, trips, plugs_in, buffers, recovers, obeys, groups_by, splits_when, splits_after, merges, concats, interleaves, merges_sorted, zips, broadcasts, balances, partitions, unzips, sinks, role_of}
+use Rattle.stream_model.specs.declared.kind.Kind.TheVariants.{Lines, Range, Empty, Failed, Map, Filter, FilterNot, TakeWhile, DropWhile, Take, Drop, Limit, Grouped, MapConcat, Fold, Scan, Reduce, Buffer, RecoverNum, RecoverText, Valve, TripShutdown, TripAbort, Plug, GroupBy, SplitWhen, SplitAfter, Merge, MergeHub, Concat, Interleave, MergeSorted, Zip, Broadcast, BroadcastHub, Balance, Partition, Unzip, ToLines, Head, Last, Ignore}
+use Rattle.stream_model.specs.Linear.{Role, reads_lines, gives_range, gives_nothing, gives_failure, works, trips, plugs_in, buffers, recovers, obeys, groups_by, splits_when, splits_after, merges, gathers, concats, interleaves, merges_sorted, zips, broadcasts, balances, partitions, unzips, sinks, role_of}
 use Rattle.stream_model.specs.declared.blueprint.Step.{Step}
 use Rattle.stream_model.specs.declared.blueprint.ChainDecl.{ChainDecl}
 use Rattle.stream_model.specs.declared.head.PlugHead.{PlugHead}
@@ -81,6 +81,7 @@ source_type_by (groups_by n f chain) = None
 source_type_by (splits_when p chain j) = None
 source_type_by (splits_after p chain j) = None
 source_type_by (merges n) = None
+source_type_by (gathers n) = None
 source_type_by (concats n) = None
 source_type_by (interleaves n s) = None
 source_type_by merges_sorted = None
@@ -137,11 +138,13 @@ module _ (plugs : List PlugHead) where
   typing_of (SplitWhen p name j) = wanting None
   typing_of (SplitAfter p name j) = wanting None
   typing_of (Merge n) = wanting None
+  typing_of (MergeHub s n) = wanting None
   typing_of (Concat n) = wanting None
   typing_of (Interleave n s) = wanting None
   typing_of MergeSorted = wanting None
   typing_of Zip = wanting None
   typing_of (Broadcast n) = wanting None
+  typing_of (BroadcastHub s n) = wanting None
   typing_of (Balance n) = wanting None
   typing_of (Partition n f) = wanting None
   typing_of Unzip = wanting (Some AnyPair)
@@ -202,6 +205,7 @@ module _ (plugs : List PlugHead) where
     typed_by (splits_when p name j) t alone = clash_or (Some (pred_want p)) t (chain_typed (chain_named name chains) t)
     typed_by (splits_after p name j) t alone = clash_or (Some (pred_want p)) t (chain_typed (chain_named name chains) t)
     typed_by (merges n) t alone = alone
+    typed_by (gathers n) t alone = alone
     typed_by (concats n) t alone = alone
     typed_by (interleaves n s) t alone = alone
     typed_by merges_sorted t alone = alone

@@ -4,8 +4,10 @@ ghost use Rattle.std.specs.Option.{option_map};
 ghost use Rattle.blue_names.specs.RuleLinks.{node_number, wire_of, wires_of};
 ghost use Rattle.blue_names.specs.Names.{unknown_end};
 ghost use Rattle.blue_names.specs.Table.{Numbers};
+ghost use Rattle.blue_names.specs.Hubs.{lane_by, keep_by};
 ghost use Rattle.blue_names.specs.Links.{wire_of_link, wires_of_links};
 
+use crate::hubs::hub_size;
 use crate::table::{NameTable, find, table_of};
 use elem_core::line::Line;
 use elem_core::why::NoMemory;
@@ -23,17 +25,45 @@ pub struct NumberedWire {
     pub to: usize,
     /// Which of that node's inputs.
     pub input: u32,
-    /// The size of its lane, where it is one.
+    /// The size of its lane, where it is one. A wire of a hub is one of the hub's size.
     pub lane: Option<u32>,
     /// Whether a failure on that lane waits behind the elements that came before it.
     pub keep: bool,
 }
 
 /// The number of the node of that name, or 0 where there is none.
-fn node_number(table: &NameTable<'_>, name: &Line) -> usize
+pub(crate) fn node_number(table: &NameTable<'_>, name: &Line) -> usize
     ensures { (nodes : List Node) → Numbers table.now (map (λ n. n.name) nodes) → result ≡ node_number name.now nodes }
 {
     find(table, name).unwrap_or(0)
+}
+
+/// A wire by the numbers of its nodes; one that belongs to a hub is a lane of the hub's size, which keeps.
+fn link_of(table: &NameTable<'_>, nodes: &[Node], wire: &WireDecl) -> NumberedWire
+    requires { Numbers table.now (map (λ n. n.name) nodes.now) }
+    ensures { wire_of_link result ≡ wire_of nodes.now wire.now }
+{
+    let from = node_number(table, &wire.from);
+    let to = node_number(table, &wire.to);
+    let (lane, keep) = lane_of(hub_size(nodes, from, to), wire);
+    NumberedWire {
+        from,
+        output: wire.output,
+        to,
+        input: wire.input,
+        lane,
+        keep,
+    }
+}
+
+/// The lane that a hub gives a wire, and else its own.
+fn lane_of(hub: Option<u32>, wire: &WireDecl) -> (Option<u32>, bool)
+    ensures { (result.0 ≡ lane_by hub wire.now.lane) × (result.1 ≡ keep_by hub wire.now.keep) }
+{
+    match hub {
+        Some(size) => (Some(size), true),
+        None => (wire.lane, wire.keep),
+    }
 }
 
 /// The wires by the numbers of their nodes.
@@ -47,14 +77,7 @@ pub fn links_of(
     let table = table_of(alloc, nodes)?;
     let mut links = Vec::new(alloc);
     for wire in wires {
-        links.push(NumberedWire {
-            from: node_number(&table, &wire.from),
-            output: wire.output,
-            to: node_number(&table, &wire.to),
-            input: wire.input,
-            lane: wire.lane,
-            keep: wire.keep,
-        })?;
+        links.push(link_of(&table, nodes, wire))?;
     }
     Ok(links)
 }

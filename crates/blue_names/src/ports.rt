@@ -27,6 +27,7 @@ pub fn input_ports(kind: &Kind) -> u32
     match kind {
         Kind::Lines(_) | Kind::Range(_, _) | Kind::Empty(_) | Kind::Failed(_) => 0,
         Kind::Merge(n) => *n,
+        Kind::MergeHub(_, n) => *n,
         Kind::Concat(n) => *n,
         Kind::Interleave(n, _) => *n,
         Kind::MergeSorted | Kind::Zip => 2,
@@ -40,6 +41,7 @@ pub fn output_ports(kind: &Kind) -> u32
 {
     match kind {
         Kind::Broadcast(n) => *n,
+        Kind::BroadcastHub(_, n) => *n,
         Kind::Balance(n) => *n,
         Kind::Partition(n, _) => *n,
         Kind::Unzip => 2,

@@ -29,10 +29,12 @@ pub fn sizes_fit(kind: &Kind) -> bool
         Kind::TripAbort(_, n) => is_within(1, MAX_COUNT, *n),
         Kind::GroupBy(n, _, _) => is_within(1, MAX_KEYS, *n),
         Kind::Merge(n) => is_within(2, MAX_FAN, *n),
+        Kind::MergeHub(size, n) => is_within(1, MAX_LANE, *size) && is_within(1, MAX_FAN, *n),
         Kind::Concat(n) => is_within(2, MAX_FAN, *n),
         Kind::Interleave(n, segment) => is_within(2, MAX_FAN, *n)
             && is_within(1, MAX_COUNT, *segment),
         Kind::Broadcast(n) => is_within(2, MAX_FAN, *n),
+        Kind::BroadcastHub(size, n) => is_within(1, MAX_LANE, *size) && is_within(1, MAX_FAN, *n),
         Kind::Balance(n) => is_within(2, MAX_FAN, *n),
         Kind::Partition(n, _) => is_within(2, MAX_FAN, *n),
         _ => true,

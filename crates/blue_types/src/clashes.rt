@@ -27,7 +27,8 @@ fn is_joining(kind: &Kind) -> bool
     ensures { result ≡ is_joining kind.now }
 {
     match kind {
-        Kind::Merge(_) | Kind::Concat(_) | Kind::Interleave(_, _) | Kind::MergeSorted => true,
+        Kind::Merge(_) | Kind::MergeHub(_, _) => true,
+        Kind::Concat(_) | Kind::Interleave(_, _) | Kind::MergeSorted => true,
         _ => false,
     }
 }

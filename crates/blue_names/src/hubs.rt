@@ -1,0 +1,88 @@
+// The wires of hubs: their lanes, and the rule on them.
+ghost use Rattle.std.specs.Prelude.{◌≡◌, IfOk, slice_get};
+ghost use Rattle.blue_names.specs.Hubs.{size_into, size_out_of, size_into_node, size_out_of_node, hub_size, is_hub_fault};
+ghost use Rattle.blue_names.specs.RuleLinks.{hub_wrong};
+
+use crate::links::node_number;
+use crate::table::table_of;
+use elem_core::why::NoMemory;
+use std::alloc::Global;
+use stream_model::blueprint::{Node, WireDecl};
+use stream_model::kind::Kind;
+
+/// The size of the lanes into a kind, where it is a merge hub.
+fn size_into(kind: &Kind) -> Option<u32>
+    ensures { result ≡ size_into kind.now }
+{
+    match kind {
+        Kind::MergeHub(size, _) => Some(*size),
+        _ => None,
+    }
+}
+
+/// The size of the lanes out of a kind, where it is a broadcast hub.
+fn size_out_of(kind: &Kind) -> Option<u32>
+    ensures { result ≡ size_out_of kind.now }
+{
+    match kind {
+        Kind::BroadcastHub(size, _) => Some(*size),
+        _ => None,
+    }
+}
+
+/// The size of the lanes into a node.
+fn size_into_node(nodes: &[Node], node: usize) -> Option<u32>
+    ensures { result ≡ size_into_node (slice_get nodes.now node) }
+{
+    match nodes.get(node) {
+        None => None,
+        Some(node) => size_into(&node.kind),
+    }
+}
+
+/// The size of the lanes out of a node.
+fn size_out_of_node(nodes: &[Node], node: usize) -> Option<u32>
+    ensures { result ≡ size_out_of_node (slice_get nodes.now node) }
+{
+    match nodes.get(node) {
+        None => None,
+        Some(node) => size_out_of(&node.kind),
+    }
+}
+
+/// The size that a hub gives a wire from one node to another, where the wire belongs to one.
+pub fn hub_size(nodes: &[Node], from: usize, to: usize) -> Option<u32>
+    ensures { result ≡ hub_size nodes.now from to }
+{
+    match size_out_of_node(nodes, from) {
+        Some(size) => Some(size),
+        None => size_into_node(nodes, to),
+    }
+}
+
+/// Whether a wire of a hub is marked as a lane itself, or goes from a broadcast hub to a merge hub.
+fn is_hub_fault(nodes: &[Node], from: usize, to: usize, marked: bool) -> bool
+    ensures { result ≡ is_hub_fault nodes.now from to marked }
+{
+    (marked && hub_size(nodes, from, to).is_some())
+        || (size_out_of_node(nodes, from).is_some() && size_into_node(nodes, to).is_some())
+}
+
+/// The first such wire.
+pub fn hub_wrong(
+    alloc: Global,
+    nodes: &[Node],
+    wires: &[WireDecl],
+) -> Result<Option<usize>, NoMemory>
+    ensures { IfOk result (λ i. i ≡ hub_wrong nodes.now wires.now) }
+{
+    let table = table_of(alloc, nodes)?;
+    for (i, wire) in wires.iter().enumerate() {
+        let from = node_number(&table, &wire.from);
+        let to = node_number(&table, &wire.to);
+        if is_hub_fault(nodes, from, to, wire.lane.is_some()) {
+            return Ok(Some(i));
+        }
+    }
+    Ok(None)
+}

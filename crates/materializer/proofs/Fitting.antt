@@ -9,7 +9,7 @@ use Rattle.stream_model.specs.Graph.{Graph, Edge}
 use Rattle.stream_model.specs.Graph as graph
 use Rattle.stream_model.specs.Composed.{inputs_of}
 use Rattle.stream_model.specs.declared.kind.Kind.{Kind}
-use Rattle.stream_model.specs.declared.kind.Kind.TheVariants.{Merge, Concat, Interleave, Broadcast, Balance, Partition}
+use Rattle.stream_model.specs.declared.kind.Kind.TheVariants.{Merge, MergeHub, Concat, Interleave, Broadcast, BroadcastHub, Balance, Partition}
 use Rattle.stream_model.specs.View.{outputs_of}
 use Rattle.stream_model.specs.declared.blueprint.Blueprint.{Blueprint}
 use Rattle.stream_model.specs.declared.blueprint.ChainDecl.{ChainDecl}
@@ -18,6 +18,7 @@ use Rattle.stream_model.specs.declared.blueprint.WireDecl.{WireDecl}
 use Rattle.stream_model.specs.declared.kind.TheConstants.{MAX_FAN}
 use Rattle.blue_names.specs.First.{first_from, when}
 use Rattle.blue_names.specs.Ports.{port_missing, port_twice, port_open}
+use Rattle.blue_names.specs.RuleLinks.{hub_wrong}
 use Rattle.blue_names.specs.Sizes.{sizes_fit, chain_wrong, node_wrong, wire_wrong, size_wrong}
 use Rattle.blue_names.specs.declared.spot.Spot.TheVariants as at
 use Rattle.blue_check.specs.Fitness.{open_fault, names_fault, ports_fault, plugs_fault, sizes_fault, types_fault, IsFit}
@@ -61,7 +62,8 @@ ports_none nodes ws h =
 
 sizes_none : (chains : List ChainDecl) (nodes : List Node) (wires : List WireDecl) → sizes_fault chains nodes wires ≡ None → node_wrong nodes ≡ None
 sizes_none chains nodes wires h =
-    let each = all_none (option_map at.Chain (chain_wrong chains)) (option_map at.Node (node_wrong nodes)) (option_map at.Wire (wire_wrong wires)) (map_none fault.BadSize (size_wrong chains nodes wires) h) in
+    let each = all_none (option_map at.Chain (chain_wrong chains)) (option_map at.Node (node_wrong nodes)) (option_map at.Wire (wire_wrong wires))
+    (map_none fault.BadSize (size_wrong chains nodes wires) (both_none (option_map fault.BadSize (size_wrong chains nodes wires)) (option_map fault.HubWire (hub_wrong nodes wires)) h).0) in
     map_none at.Node _ each.1.0
 
 pub facts : (b : Blueprint) (plugs : List PlugHead) (taken : List (List ℕ)) → IsFit b plugs taken → Facts b
@@ -86,19 +88,21 @@ fit_joined b plugs taken fit =
 at_most : (n m : ℕ) → nat_le n m ≡ true → n ≤ m
 at_most n m h = grind (arith, nat_tests, h)
 
-within : (n : ℕ) → (nat_le 2 n && nat_le n MAX_FAN) ≡ true → n < 2 ^ 8
-within n h = let parts = and_parts (nat_le 2 n) (nat_le n MAX_FAN) h in let most : n ≤ MAX_FAN = at_most n MAX_FAN parts.1 in omega (arith, most)
+within : (least n : ℕ) → (nat_le least n && nat_le n MAX_FAN) ≡ true → n < 2 ^ 8
+within least n h = let parts = and_parts (nat_le least n) (nat_le n MAX_FAN) h in let most : n ≤ MAX_FAN = at_most n MAX_FAN parts.1 in omega (arith, most)
 
 few_inputs : (k : Kind) → sizes_fit k ≡ true → inputs_of k < 2 ^ 8
-few_inputs (Merge n) h = within n h
-few_inputs (Concat n) h = within n h
-few_inputs (Interleave n s) h = within n (and_parts _ _ h).0
+few_inputs (Merge n) h = within 2 n h
+few_inputs (MergeHub s n) h = within 1 n (and_parts _ _ h).1
+few_inputs (Concat n) h = within 2 n h
+few_inputs (Interleave n s) h = within 2 n (and_parts _ _ h).0
 few_inputs _ h = omega arith
 
 few_outputs : (k : Kind) → sizes_fit k ≡ true → outputs_of k < 2 ^ 8
-few_outputs (Broadcast n) h = within n h
-few_outputs (Balance n) h = within n h
-few_outputs (Partition n f) h = within n h
+few_outputs (Broadcast n) h = within 2 n h
+few_outputs (BroadcastHub s n) h = within 1 n (and_parts _ _ h).1
+few_outputs (Balance n) h = within 2 n h
+few_outputs (Partition n f) h = within 2 n h
 few_outputs _ h = omega arith
 
 -- each node's sizes are within their limits

@@ -3,7 +3,7 @@ use Rattle.std.proofs.Common.{◌≡◌, ℕ, zero, suc, ◌+◌, List, [], ◌�
 use Rattle.std.specs.Prelude.{slice_get}
 use Rattle.stream_model.specs.Graph as graph
 use Rattle.stream_model.specs.declared.kind.Kind.{Kind}
-use Rattle.stream_model.specs.declared.kind.Kind.TheVariants.{Lines, Range, Empty, Failed, Map, Filter, FilterNot, TakeWhile, DropWhile, Take, Drop, Limit, MapConcat, Plug, Grouped, Fold, Reduce, Scan, Buffer, RecoverNum, RecoverText, Valve, TripShutdown, TripAbort, GroupBy, SplitWhen, SplitAfter, Merge, Concat, Interleave, MergeSorted, Zip, Broadcast, Balance, Partition, Unzip, ToLines, Head, Last}
+use Rattle.stream_model.specs.declared.kind.Kind.TheVariants.{Lines, Range, Empty, Failed, Map, Filter, FilterNot, TakeWhile, DropWhile, Take, Drop, Limit, MapConcat, Plug, Grouped, Fold, Reduce, Scan, Buffer, RecoverNum, RecoverText, Valve, TripShutdown, TripAbort, GroupBy, SplitWhen, SplitAfter, Merge, MergeHub, Concat, Interleave, MergeSorted, Zip, Broadcast, BroadcastHub, Balance, Partition, Unzip, ToLines, Head, Last}
 use Rattle.stream_model.specs.Composed.{inputs_of}
 use Rattle.stream_model.specs.View.{outputs_of}
 use Rattle.stage_linear.specs.States.{HasTask, IsLinear}
@@ -94,11 +94,13 @@ fan_in_ports (Interleave n s) h = (refl, refl)
 fan_in_ports MergeSorted h = (refl, refl)
 fan_in_ports Zip h = (refl, refl)
 fan_in_ports (Merge n) h = (refl, refl)
+fan_in_ports (MergeHub s n) h = (refl, refl)
 fan_in_ports _ h = absurd h
 
 -- a stage with several outputs has those of its kind, and one input
 fan_out_ports : (k : Kind) → IsOut k → (inputs_of k ≡ 1) × (outputs_of k ≡ fan_out.outputs_of k)
 fan_out_ports (Broadcast n) h = (refl, refl)
+fan_out_ports (BroadcastHub s n) h = (refl, refl)
 fan_out_ports (Partition n f) h = (refl, refl)
 fan_out_ports Unzip h = (refl, refl)
 fan_out_ports (Balance n) h = (refl, refl)

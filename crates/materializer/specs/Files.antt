@@ -1,7 +1,7 @@
 -- The files that the nodes of a blueprint read and write, and its sinks, each in the order of nodes.
 use Rattle.std.specs.Prelude.{ℕ, ◌==◌, Bool, List, map, filter, filter_map, Option, Some, None}
 use Rattle.stream_model.specs.declared.kind.Kind.{Kind}
-use Rattle.stream_model.specs.Linear.{Role, reads_lines, gives_range, gives_nothing, gives_failure, works, trips, plugs_in, buffers, recovers, obeys, groups_by, splits_when, splits_after, merges, concats, interleaves, merges_sorted, zips, broadcasts, balances, partitions, unzips, sinks, role_of}
+use Rattle.stream_model.specs.Linear.{Role, reads_lines, gives_range, gives_nothing, gives_failure, works, trips, plugs_in, buffers, recovers, obeys, groups_by, splits_when, splits_after, merges, gathers, concats, interleaves, merges_sorted, zips, broadcasts, balances, partitions, unzips, sinks, role_of}
 use Rattle.stream_model.specs.View.{outputs_of}
 use Rattle.stream_model.specs.declared.blueprint.Node.{Node}
 
@@ -21,6 +21,7 @@ read_by (groups_by n f chain) = None
 read_by (splits_when p chain j) = None
 read_by (splits_after p chain j) = None
 read_by (merges n) = None
+read_by (gathers n) = None
 read_by (concats n) = None
 read_by (interleaves n s) = None
 read_by merges_sorted = None
@@ -51,6 +52,7 @@ written_by (groups_by n f chain) = None
 written_by (splits_when p chain j) = None
 written_by (splits_after p chain j) = None
 written_by (merges n) = None
+written_by (gathers n) = None
 written_by (concats n) = None
 written_by (interleaves n s) = None
 written_by merges_sorted = None

@@ -178,11 +178,17 @@ fn free_work<S: Source, D: Drain, L: Logic, B: PlugBook>(
         Kind::GroupBy(_, _, _) | Kind::SplitWhen(_, _, _) | Kind::SplitAfter(_, _, _) => {
             sub_work(alloc, chains, k, kind, decider)?
         }
-        Kind::Merge(_) | Kind::Concat(_) | Kind::Interleave(_, _) | Kind::MergeSorted | Kind::Zip =>
-            fan_in_work(alloc, k, kind, decider)?,
-        Kind::Broadcast(_) | Kind::Balance(_) | Kind::Partition(_, _) | Kind::Unzip => {
-            fan_out_work(alloc, k, kind, decider)?
-        }
+        Kind::Merge(_)
+        | Kind::MergeHub(_, _)
+        | Kind::Concat(_)
+        | Kind::Interleave(_, _)
+        | Kind::MergeSorted
+        | Kind::Zip => fan_in_work(alloc, k, kind, decider)?,
+        Kind::Broadcast(_)
+        | Kind::BroadcastHub(_, _)
+        | Kind::Balance(_)
+        | Kind::Partition(_, _)
+        | Kind::Unzip => fan_out_work(alloc, k, kind, decider)?,
         _ => linear_work(k, kind, decider)?,
     })
 }

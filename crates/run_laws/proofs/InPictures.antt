@@ -7,7 +7,7 @@ use Rattle.port_core.specs.View as port
 use Rattle.port_core.specs.declared.view.InView.{InView}
 use Rattle.port_core.specs.declared.view.InView.TheVariants.{Idle, Pulled, Finished, Cancelled}
 use Rattle.stream_model.specs.declared.kind.Kind.{Kind}
-use Rattle.stream_model.specs.declared.kind.Kind.TheVariants.{Merge, Concat, Interleave, MergeSorted, Zip}
+use Rattle.stream_model.specs.declared.kind.Kind.TheVariants.{Merge, MergeHub, Concat, Interleave, MergeSorted, Zip}
 use Rattle.stream_model.specs.FanIn.{Inflow, interleave_taken}
 use Rattle.stream_model.specs.Graph.{Graph}
 use Rattle.stream_model.specs.Graph as graph
@@ -29,8 +29,9 @@ use Rattle.stage_in.specs.declared.logic.InLogic.TheVariants as logic
 use Rattle.stage_in.specs.Kinds.{taking_by, sorting}
 use Rattle.stage_in.specs.Logics.{Begins, TakesAs, InPortState, InLaw}
 use Rattle.stage_in.specs.Moves.{in_moves, TellsMoves}
-use Rattle.stage_core.specs.Merges.{MergeKeeps}
+use Rattle.stage_core.specs.Merges.{GathersAs}
 use Rattle.stage_merge.specs.Mergings as merging
+use Rattle.stage_merge.specs.Mergings.{Merging}
 use Rattle.stage_core.specs.OwnRows.{own_inputs, FanRests}
 use Rattle.stage_in.specs.OwnRows.{TakingRests}
 use Rattle.stage_in.specs.Pairings.{Pairing, inlet_view, port_state_by}
@@ -107,11 +108,13 @@ module _ (g : Graph) (w : World) (k : ℕ) (d : Decider) (is : List InPort) (o :
   lawful_by MergeSorted (logic.Sorting f) (logic.Sorting l) t tells law s so m = sorted_lawful f l o is law s so m
   lawful_by Zip (logic.Zipping f) (logic.Zipping l) t tells law s so m = zip_lawful f l o is law s so m
   lawful_by (Merge n) (logic.Merging f) (logic.Merging l) t tells law s so m = subst (λ ms. MergeLawful ms (Wires is) o.wire) (sym (tells l.log.moves refl)) (merge_lawful f l is o law s so m)
+  lawful_by (MergeHub c n) (logic.Merging f) (logic.Merging l) t tells law s so m = subst (λ ms. MergeLawful ms (Wires is) o.wire) (sym (tells l.log.moves refl)) (merge_lawful f l is o law s so m)
   lawful_by (Concat n) (logic.Taking f) now t tells law s so m = absurd law.same
   lawful_by (Interleave n c) (logic.Taking f) now t tells law s so m = absurd law.same
   lawful_by MergeSorted (logic.Sorting f) now t tells law s so m = absurd law.same
   lawful_by Zip (logic.Zipping f) now t tells law s so m = absurd law.same
   lawful_by (Merge n) (logic.Merging f) now t tells law s so m = absurd law.same
+  lawful_by (MergeHub c n) (logic.Merging f) now t tells law s so m = absurd law.same
   lawful_by kd first now t tells law s so m = absurd t
 
   abbrev Stays : Kind → Type 0
@@ -189,20 +192,26 @@ module _ (g : Graph) (w : World) (k : ℕ) (d : Decider) (is : List InPort) (o :
               stronger (inr (inl h)) = inr (inl (h.0, (l.current, h.1, stops)))
               stronger (inr (inr h)) = inr (inr h)
 
+    -- a merge, or a merge hub
+    merging_stays : (f l : Merging) → TellsMoves w k (logic.Merging l) → Row (logic.Merging l) → Law (logic.Merging f) (logic.Merging l) → (EachWire IsShut (Wires is) × EachWire IsShut (o.wire ∷ [])) ⊎ MergeRests (w.moves k) (Wires is) o.wire
+    merging_stays f l tells r law =
+        subst (λ (ms : List ℕ). (EachWire IsShut (Wires is) × EachWire IsShut (o.wire ∷ [])) ⊎ MergeRests ms (Wires is) o.wire) (sym (tells l.log.moves refl))
+        (fan_moved (MergeRests l.log.moves) is o ri ro law.by.law.ins law.by.law.out_list law.by.law.out_end (law_flows (GathersAs f.gathers (merging.held l)) (InView_of is o) (gots_of is) (o.sent ∷ []) law.by) (one_list o.sent law.by.given law.by.gave_is ∙ law.by.law.gave_is)
+        (merge_rests is o ri ro l.log.moves) (logic_rests (logic.Merging f) (logic.Merging l) (InView_of is o) (gots_of is) (o.sent ∷ []) r.started r.ports law))
+
     stays_by : (kd : Kind) (first now : InLogic) → TakesAs kd first → TellsMoves w k now → Row now → Law first now → EachPort InStands is → OutStands o → Stays kd
     stays_by (Concat n) (logic.Taking f) (logic.Taking l) t tells r law s so = taking_stays f l ConcatRests (ap (λ (m : Option ℕ). TakingRests m l.current) (law.same ∙ t.0)) r law (concat_rests is o ri ro)
     stays_by (Interleave n c) (logic.Taking f) (logic.Taking l) t tells r law s so = interleave_stays c f l t.0 t.1 law r
     stays_by MergeSorted (logic.Sorting f) (logic.Sorting l) t tells r law s so = sorted_stays f l l.phase refl r r.ports law s so
     stays_by Zip (logic.Zipping f) (logic.Zipping l) t tells r law s so = zip_stays f l l.phase refl r r.ports law s so
-    stays_by (Merge n) (logic.Merging f) (logic.Merging l) t tells r law s so =
-        subst (λ (ms : List ℕ). (EachWire IsShut (Wires is) × EachWire IsShut (o.wire ∷ [])) ⊎ MergeRests ms (Wires is) o.wire) (sym (tells l.log.moves refl))
-        (fan_moved (MergeRests l.log.moves) is o ri ro law.by.law.ins law.by.law.out_list law.by.law.out_end (law_flows (MergeKeeps (merging.held l)) (InView_of is o) (gots_of is) (o.sent ∷ []) law.by) (one_list o.sent law.by.given law.by.gave_is ∙ law.by.law.gave_is)
-        (merge_rests is o ri ro l.log.moves) (logic_rests (logic.Merging f) (logic.Merging l) (InView_of is o) (gots_of is) (o.sent ∷ []) r.started r.ports law))
+    stays_by (Merge n) (logic.Merging f) (logic.Merging l) t tells r law s so = merging_stays f l tells r law
+    stays_by (MergeHub c n) (logic.Merging f) (logic.Merging l) t tells r law s so = merging_stays f l tells r law
     stays_by (Concat n) (logic.Taking f) now t tells r law s so = absurd law.same
     stays_by (Interleave n c) (logic.Taking f) now t tells r law s so = absurd law.same
     stays_by MergeSorted (logic.Sorting f) now t tells r law s so = absurd law.same
     stays_by Zip (logic.Zipping f) now t tells r law s so = absurd law.same
     stays_by (Merge n) (logic.Merging f) now t tells r law s so = absurd law.same
+    stays_by (MergeHub c n) (logic.Merging f) now t tells r law s so = absurd law.same
     stays_by kd first now t tells r law s so = absurd t
 
 no_sink : (kd : Kind) (first : InLogic) → TakesAs kd first → is_sink kd ≡ false
@@ -211,6 +220,7 @@ no_sink (Interleave n c) (logic.Taking f) t = refl
 no_sink MergeSorted (logic.Sorting f) t = refl
 no_sink Zip (logic.Zipping f) t = refl
 no_sink (Merge n) (logic.Merging f) t = refl
+no_sink (MergeHub c n) (logic.Merging f) t = refl
 no_sink kd first t = absurd t
 
 module _ (g : Graph) (w : World) (k : ℕ) (n : graph.Node) where

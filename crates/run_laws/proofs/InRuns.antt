@@ -6,7 +6,7 @@ use Rattle.elem_core.specs.declared.item.Item.{Item}
 use Rattle.port_core.specs.View.{View}
 use Rattle.fused_net.proofs.Reading.{get_there}
 use Rattle.stream_model.specs.declared.kind.Kind.{Kind}
-use Rattle.stream_model.specs.declared.kind.Kind.TheVariants.{Merge, Concat, Interleave, MergeSorted, Zip}
+use Rattle.stream_model.specs.declared.kind.Kind.TheVariants.{Merge, MergeHub, Concat, Interleave, MergeSorted, Zip}
 use Rattle.stream_model.specs.Composed.{inputs_of}
 use Rattle.stream_model.specs.FanIn.{Inflow, AllAgree}
 use Rattle.stream_model.specs.Graph.{Graph}
@@ -44,6 +44,7 @@ same_inputs (Interleave n s) (logic.Taking f) t = refl
 same_inputs MergeSorted (logic.Sorting f) t = refl
 same_inputs Zip (logic.Zipping f) t = refl
 same_inputs (Merge n) (logic.Merging f) t = refl
+same_inputs (MergeHub s n) (logic.Merging f) t = refl
 same_inputs kd first t = absurd t
 
 pub one_given : (x h : List Item) (p : ℕ) → slice_get (x ∷ []) p ≡ Some h → (p ≡ 0) × (h ≡ x)

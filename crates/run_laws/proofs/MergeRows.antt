@@ -12,12 +12,12 @@ use Rattle.port_core.specs.View.{in_at}
 use Rattle.port_core.specs.declared.view.InView.{InView}
 use Rattle.port_core.specs.declared.view.InView.TheVariants.{Pulled, Cancelled}
 use Rattle.stream_model.specs.FanIn.{Tagged, Inflow, merge_of, Finds}
-use Rattle.stream_model.specs.Picks.{count_of, MergeStands}
+use Rattle.stream_model.specs.Picks.{count_of, MergeStands, softened_by}
 use Rattle.stream_model.proofs.Fitting.{count_le}
 use Rattle.stream_model.proofs.MergeTraces.{length-merge_of}
 use Rattle.stream_model.specs.Lawful.{MergeLawful, MergeInputs}
-use Rattle.stage_core.specs.Merges.{MergeKeeps, Merged, lists_of, left_by}
-use Rattle.stage_core.proofs.MergeTurns.{merge_history_stands}
+use Rattle.stage_core.specs.Merges.{GathersAs, Merged, lists_of, left_by}
+use Rattle.stage_core.proofs.MergeTurns.{merge_history_stands, soft_lists}
 use Rattle.stage_core.specs.declared.phase.Phase.{Phase}
 use Rattle.stage_core.specs.declared.phase.Phase.TheVariants.{New, Open, Closed}
 use Rattle.stage_merge.specs.declared.merging.Queued.{Queued}
@@ -78,13 +78,15 @@ merge_whole first l v had given p started r law waits = by l.core.phase refl r
     by New e r = absurd (started e)
     by Closed e r = absurd (closed_wait v.ins p r.0 waits)
     by Open e r =
-        let keeps = subst (λ x. MergeKeeps (merging.held_by x l.log.moves l.core) law.by.law.ins law.by.law.out_list law.by.law.out_end) e law.by.law.keeps in
-        let m : Merged l.log.moves law.by.law.ins law.by.law.out_list (waiting 0 l.core.over l.core.queue) = keeps.1 in
-        let count = count_left l.log.moves (lists_of law.by.law.ins) p m.finds in
-        let none : get_or (left_by l.log.moves (lists_of law.by.law.ins)) p [] ≡ [] =
+        let ins : List Inflow = softened_by first.gathers law.by.law.ins in
+        let keeps = subst (λ x. GathersAs first.gathers (merging.held_by x l.log.moves l.core) law.by.law.ins law.by.law.out_list law.by.law.out_end) e law.by.law.keeps in
+        let m : Merged l.log.moves ins law.by.law.out_list (waiting 0 l.core.over l.core.queue) = keeps.1 in
+        let count = count_left l.log.moves (lists_of ins) p m.finds in
+        let none : get_or (left_by l.log.moves (lists_of ins)) p [] ≡ [] =
         ap (λ ls. get_or ls p []) m.left ∙ waiting_none 0 p l.core.over l.core.queue (ap (λ (w : port.View). in_at w p) (sym r.0) ∙ waits) in
-        let empty : length (get_or (left_by l.log.moves (lists_of law.by.law.ins)) p []) ≡ 0 = ap length none in
-        let came = came_at v.ins had law.by.law.ins p (law_flows (MergeKeeps (merging.held l)) v had given law.by) in
+        let empty : length (get_or (left_by l.log.moves (lists_of ins)) p []) ≡ 0 = ap length none in
+        let came : elements (slice_index_or had p []) ≡ length (get_or (lists_of ins) p []) =
+        came_at v.ins had law.by.law.ins p (law_flows (GathersAs first.gathers (merging.held l)) v had given law.by) ∙ ap (λ ls. length (get_or ls p [])) (sym (soft_lists first.gathers law.by.law.ins)) in
         omega (arith, count, empty, came)
 
 -- ---- its row
@@ -109,10 +111,13 @@ inputs_lawful moves n (i ∷ is) (f ∷ fs) w s few ask =
     )
 
 module _ (first now : Merging) (is : List InPort) (o : OutPort) (law : InLaw (logic.Merging first) (logic.Merging now) (InView_of is o) (gots_of is) (o.sent ∷ [])) (stands : EachPort InStands is) (so : OutStands o) where
-  gave : MergeStands now.log.moves law.by.law.ins law.by.law.out_list law.by.law.out_end
+  abbrev ins : List Inflow
+  ins = softened_by first.gathers law.by.law.ins
+
+  gave : MergeStands now.log.moves ins law.by.law.out_list law.by.law.out_end
   gave =
-      subst (λ ms. MergeStands ms law.by.law.ins law.by.law.out_list law.by.law.out_end) (moves_held now)
-      (merge_history_stands (merging.held now) (InView_of is o) (λ i. slice_index_or (gots_of is) i []) law.by.given law.by.law)
+      subst (λ ms. MergeStands ms ins law.by.law.out_list law.by.law.out_end) (moves_held now)
+      (merge_history_stands first.gathers (merging.held now) (InView_of is o) (λ i. slice_index_or (gots_of is) i []) law.by.given law.by.law)
 
   asked : (p : ℕ) → Earlier InPortState InLaw NoAsking in_moves p (logic.Merging first) (logic.Merging now) (gots_of is) (o.sent ∷ []) (Wants is) (o.want ∷ []) (o.wire.shut ∷ []) → slice_index_or (Wants is) p 0 ≤ count_of p now.log.moves + 1
   asked p e = by e.old e.port_state_held e.law_held e.moves_on
@@ -136,7 +141,7 @@ module _ (first now : Merging) (is : List InPort) (o : OutPort) (law : InLaw (lo
   pub merge_lawful : InMoments (logic.Merging first) (logic.Merging now) is o → MergeLawful now.log.moves (Wires is) o.wire
   merge_lawful moments = (
     so.count ∙ ap elements (one_list o.sent law.by.given law.by.gave_is ∙ law.by.law.gave_is) ∙ elements_told law.by.law.out_list law.by.law.out_end ∙ ap length gave.gave
-        ∙ length-map (merge_of now.log.moves (lists_of law.by.law.ins)) (λ (x : Tagged). x.item) ∙ length-merge_of now.log.moves (lists_of law.by.law.ins) gave.finds,
-    inputs_lawful now.log.moves 0 is law.by.law.ins (law_flows (MergeKeeps (merging.held now)) (InView_of is o) (gots_of is) (o.sent ∷ []) law.by) stands
-        (λ p. let e : 0 + p ≡ p = omega arith in rw e (count_le now.log.moves (lists_of law.by.law.ins) p gave.finds)) (λ p. let e : 0 + p ≡ p = omega arith in rw e (wanted_few moments p)),
+        ∙ length-map (merge_of now.log.moves (lists_of ins)) (λ (x : Tagged). x.item) ∙ length-merge_of now.log.moves (lists_of ins) gave.finds,
+    inputs_lawful now.log.moves 0 is law.by.law.ins (law_flows (GathersAs first.gathers (merging.held now)) (InView_of is o) (gots_of is) (o.sent ∷ []) law.by) stands
+        (λ p. let e : 0 + p ≡ p = omega arith in rw e (subst (λ ls. count_of p now.log.moves ≤ length (get_or ls p [])) (soft_lists first.gathers law.by.law.ins) (count_le now.log.moves (lists_of ins) p gave.finds))) (λ p. let e : 0 + p ≡ p = omega arith in rw e (wanted_few moments p)),
   )

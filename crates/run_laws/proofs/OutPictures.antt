@@ -17,7 +17,7 @@ use Rattle.port_core.specs.declared.view.OutView.{OutView}
 use Rattle.port_core.specs.declared.view.OutView.TheVariants.{Closed, Unpulled}
 use Rattle.stage_core.specs.Row.{InClosed, OutClosed}
 use Rattle.stream_model.specs.declared.kind.Kind.{Kind}
-use Rattle.stream_model.specs.declared.kind.Kind.TheVariants.{Broadcast, Partition, Unzip}
+use Rattle.stream_model.specs.declared.kind.Kind.TheVariants.{Broadcast, BroadcastHub, Partition, Unzip}
 use Rattle.stream_model.specs.Graph.{Graph}
 use Rattle.stream_model.specs.Graph as graph
 use Rattle.stream_model.specs.Linear.{Book, Stage}
@@ -519,16 +519,17 @@ module _ (book : Book) (node n : ℕ) (f : MapFn) (g l : PartitionLogic) (i : In
 pub some_outputs : (k : ℕ) (kd : Kind) (first now : OutMachines) → IsMachines kd → Begins k kd first → length (owed now) ≡ length (owed first) → 1 ≤ length (owed now)
 some_outputs k kd first now ok b e = by kd ok b.ready
   where
-    some_at : (n : ℕ) → 2 ≤ n → port_state first (unpulled_outs n) → 1 ≤ length (owed now)
-    some_at n two r =
+    some_at : (n : ℕ) → 1 ≤ n → port_state first (unpulled_outs n) → 1 ≤ length (owed now)
+    some_at n one r =
         let p = live_ports first (unpulled_outs n) b.live r in
         let many : length (replicate n Unpulled) ≡ length (owed first) = p.outs in
         let is = length-replicate n Unpulled in
-        omega (arith, many, is, two, e)
+        omega (arith, many, is, one, e)
 
     by : (kd : Kind) → IsMachines kd → port_state first (unpulled_outs (outputs_of kd)) → 1 ≤ length (owed now)
-    by (Broadcast n) ok r = some_at n ok.0 r
-    by (Partition n f) ok r = some_at n ok.0 r
+    by (Broadcast n) ok r = let two : 2 ≤ n = ok.0 in some_at n (omega (arith, two)) r
+    by (BroadcastHub s n) ok r = some_at n ok.0 r
+    by (Partition n f) ok r = let two : 2 ≤ n = ok.0 in some_at n (omega (arith, two)) r
     by Unzip ok r = some_at 2 (omega arith) r
     by x ok r = absurd ok
 
@@ -536,12 +537,15 @@ module _ (g : Graph) (w : World) (k : ℕ) (d : Decider) (i : InPort) (os : List
   lawful_by : (kd : Kind) (first now : OutMachines) → IsMachines kd → Begins k kd first → Now first now i os → InStands i → EachPort OutStands os → ((p : ℕ) → 1 ≤ slice_index_or (i.want ∷ []) p 0 → Moments port_state MachinesLaw NoAsking no_moves first now (i ∷ []) os p)
       → RowLawful g w k kd d (i.wire ∷ []) (OutWires os)
   lawful_by (Broadcast n) (Copies f) (Copies l) ok b law si so m = copies_lawful w.book f l i os law si so m
+  lawful_by (BroadcastHub s n) (Copies f) (Copies l) ok b law si so m = copies_lawful w.book f l i os law si so m
   lawful_by Unzip (Copies f) (Copies l) ok b law si so m = copies_lawful w.book f l i os law si so m
   lawful_by (Partition n fun) (Deals f) (Deals l) ok b law si so m = let two = ok.0 in deals_lawful w.book k n fun f l i os law si so (b.outputs w.book) (omega (arith, two)) m
   lawful_by (Broadcast n) (Copies f) (Deals l) ok b law si so m = absurd law.alike
+  lawful_by (BroadcastHub s n) (Copies f) (Deals l) ok b law si so m = absurd law.alike
   lawful_by Unzip (Copies f) (Deals l) ok b law si so m = absurd law.alike
   lawful_by (Partition n fun) (Deals f) (Copies l) ok b law si so m = absurd law.alike
   lawful_by (Broadcast n) (Deals f) now ok b law si so m = absurd b.of_kind
+  lawful_by (BroadcastHub s n) (Deals f) now ok b law si so m = absurd b.of_kind
   lawful_by Unzip (Deals f) now ok b law si so m = absurd b.of_kind
   lawful_by (Partition n fun) (Copies f) now ok b law si so m = absurd b.of_kind
   lawful_by kd first now ok b law si so m = absurd ok
@@ -550,6 +554,7 @@ module _ (g : Graph) (w : World) (k : ℕ) (d : Decider) (i : InPort) (os : List
   stays_by : (kd : Kind) (first now : OutMachines) → IsMachines kd → Begins k kd first → Now first now i os → port_state now (OutView_of i os) → InStands i → EachPort OutStands os → InRests i → EachPort OutRests os
       → (EachWire IsShut (i.wire ∷ []) × EachWire IsShut (OutWires os)) ⊎ RowRests g w k kd d (i.wire ∷ []) (OutWires os)
   stays_by (Broadcast n) first now ok b law r si so ri ro = elim (out_stays i os si so ri ro w.book first now law (some_outputs k (Broadcast n) first now ok b law.outputs) r) [ inl h ↦ inl h | inr h ↦ inr (b.rests g w d (i.wire ∷ []) (OutWires os) h) ]
+  stays_by (BroadcastHub s n) first now ok b law r si so ri ro = elim (out_stays i os si so ri ro w.book first now law (some_outputs k (BroadcastHub s n) first now ok b law.outputs) r) [ inl h ↦ inl h | inr h ↦ inr (b.rests g w d (i.wire ∷ []) (OutWires os) h) ]
   stays_by Unzip first now ok b law r si so ri ro = elim (out_stays i os si so ri ro w.book first now law (some_outputs k Unzip first now ok b law.outputs) r) [ inl h ↦ inl h | inr h ↦ inr (b.rests g w d (i.wire ∷ []) (OutWires os) h) ]
   stays_by (Partition n fun) (Deals f) (Deals l) ok b law r si so ri ro = let two = ok.0 in deals_rest w.book k n fun f l i os law si so ri ro (b.outputs w.book) (omega (arith, two)) r
   stays_by (Partition n fun) (Deals f) (Copies l) ok b law r si so ri ro = absurd law.alike
@@ -558,6 +563,7 @@ module _ (g : Graph) (w : World) (k : ℕ) (d : Decider) (i : InPort) (os : List
 
 no_sink : (kd : Kind) → IsMachines kd → is_sink kd ≡ false
 no_sink (Broadcast n) ok = refl
+no_sink (BroadcastHub s n) ok = refl
 no_sink (Partition n f) ok = refl
 no_sink Unzip ok = refl
 no_sink kd ok = absurd ok

@@ -5,7 +5,7 @@ use Rattle.std.proofs.lemmas.Option.{slice_get_within}
 use Rattle.elem_core.specs.declared.item.Item.{Item}
 use Rattle.port_core.specs.View.{View, in_at}
 use Rattle.stream_model.specs.declared.kind.Kind.{Kind}
-use Rattle.stream_model.specs.declared.kind.Kind.TheVariants.{Broadcast, Partition, Unzip}
+use Rattle.stream_model.specs.declared.kind.Kind.TheVariants.{Broadcast, BroadcastHub, Partition, Unzip}
 use Rattle.stream_model.specs.Fits.{moves_fit}
 use Rattle.stream_model.specs.Graph.{Graph}
 use Rattle.stream_model.specs.Graph as graph
@@ -24,6 +24,7 @@ use Rattle.run_laws.proofs.OutPictures.{some_outputs}
 
 all_fit : (g : Graph) (w : World) (k : ℕ) (kd : Kind) → IsMachines kd → (os : List Outlook) → moves_fit g w k kd os ≡ true
 all_fit g w k (Broadcast n) ok os = refl
+all_fit g w k (BroadcastHub s n) ok os = refl
 all_fit g w k (Partition n f) ok os = refl
 all_fit g w k Unzip ok os = refl
 all_fit g w k kd ok os = absurd ok

@@ -2,7 +2,7 @@
 use Rattle.std.specs.Prelude.{slice_get, slice_index, nat_le}
 use Rattle.std.specs.List.{All}
 use Rattle.std.specs.Option.{option_or, option_map}
-use Rattle.std.proofs.Common.{◌≡◌, ℕ, zero, suc, ◌+◌, ◌<◌, ◌≤◌, ◌^◌, Bool, true, false, not, List, [], ◌∷◌, ◌++◌, length, Option, Some, None, refl, sym, ap, ◌∙◌, subst, arith}
+use Rattle.std.proofs.Common.{◌≡◌, ℕ, zero, suc, ◌+◌, ◌<◌, ◌≤◌, ◌^◌, Bool, true, false, not, List, [], ◌∷◌, ◌++◌, length, ◌⊎◌, inl, inr, Option, Some, None, refl, sym, ap, ◌∙◌, subst, arith}
 use Rattle.std.proofs.lemmas.Bool.{and_parts}
 use Rattle.std.proofs.lemmas.Bool.Decides.{nat_tests}
 use Rattle.std.proofs.lemmas.List.{length-map}
@@ -15,10 +15,15 @@ use Rattle.stream_model.specs.View.{outputs_of}
 use Rattle.stream_model.specs.Joined.{IsJoined}
 use Rattle.stream_model.specs.declared.head.PlugHead.{PlugHead}
 use Rattle.stream_model.specs.declared.blueprint.Blueprint.{Blueprint}
+use Rattle.stream_model.specs.declared.blueprint.Node.{Node}
 use Rattle.stream_model.specs.declared.blueprint.WireDecl.{WireDecl}
+use Rattle.stream_model.specs.declared.kind.Kind.{Kind}
+use Rattle.stream_model.specs.declared.kind.Kind.TheVariants.{MergeHub, BroadcastHub}
+use Rattle.stream_model.specs.declared.kind.TheConstants.{MAX_FAN}
 use Rattle.blue_names.specs.First.{when}
-use Rattle.blue_names.specs.RuleLinks.{wire_of}
-use Rattle.blue_names.specs.Sizes.{is_within, lane_fits, chain_wrong, node_wrong, wire_wrong, size_wrong}
+use Rattle.blue_names.specs.Hubs.{size_into, size_out_of, size_into_node, size_out_of_node, lane_by}
+use Rattle.blue_names.specs.RuleLinks.{node_number, size_of_hub, wire_of, hub_wrong}
+use Rattle.blue_names.specs.Sizes.{is_within, sizes_fit, lane_fits, chain_wrong, node_wrong, wire_wrong, size_wrong}
 use Rattle.blue_names.specs.declared.spot.Spot.TheVariants as at
 use Rattle.blue_check.specs.Fitness.{names_fault, ports_fault, plugs_fault, sizes_fault, types_fault, IsFit}
 use Rattle.blue_check.specs.Wires.{blueprint_wires}
@@ -96,9 +101,34 @@ lane_within (Some m) n e h =
     let same : m ≡ n = cc in
     subst (λ (z : ℕ). (1 ≤ z) × (z ≤ 1024)) same (bounded m (and_parts (is_within 1 1024 m) _ h).0)
 
+-- the size that a hub gives its lanes
+into_within : (k : Kind) (s : ℕ) → sizes_fit k ≡ true → size_into k ≡ Some s → (1 ≤ s) × (s ≤ 1024)
+into_within (MergeHub m n) s f e =
+    let same : m ≡ s = cc in
+    subst (λ (z : ℕ). (1 ≤ z) × (z ≤ 1024)) same (bounded m (and_parts (is_within 1 1024 m) (is_within 1 MAX_FAN n) f).0)
+into_within _ s f e = absurd cc
+
+out_within : (k : Kind) (s : ℕ) → sizes_fit k ≡ true → size_out_of k ≡ Some s → (1 ≤ s) × (s ≤ 1024)
+out_within (BroadcastHub m n) s f e =
+    let same : m ≡ s = cc in
+    subst (λ (z : ℕ). (1 ≤ z) × (z ≤ 1024)) same (bounded m (and_parts (is_within 1 1024 m) (is_within 1 MAX_FAN n) f).0)
+out_within _ s f e = absurd cc
+
+into_node : (o : Option Node) (s : ℕ) → ((n : Node) → o ≡ Some n → sizes_fit n.kind ≡ true) → size_into_node o ≡ Some s → (1 ≤ s) × (s ≤ 1024)
+into_node None s f e = absurd cc
+into_node (Some n) s f e = into_within n.kind s (f n refl) e
+
+out_node : (o : Option Node) (s : ℕ) → ((n : Node) → o ≡ Some n → sizes_fit n.kind ≡ true) → size_out_of_node o ≡ Some s → (1 ≤ s) × (s ≤ 1024)
+out_node None s f e = absurd cc
+out_node (Some n) s f e = out_within n.kind s (f n refl) e
+
+either_some : (a b : Option ℕ) (s : ℕ) → option_or a b ≡ Some s → (a ≡ Some s) ⊎ (b ≡ Some s)
+either_some None b s e = inr e
+either_some (Some x) b s e = inl e
+
 module _ (b : Blueprint) (plugs : List PlugHead) (taken : List (List ℕ)) (fit : IsFit b plugs taken) where
-  no_wrong_wire : wire_wrong b.wires.items ≡ None
-  no_wrong_wire =
+  no_wrong_size : size_wrong b.chains.items b.nodes.items b.wires.items ≡ None
+  no_wrong_size =
       let nodes = b.nodes.items in
       let ws = blueprint_wires b in
       let chains = b.chains.items in
@@ -110,16 +140,45 @@ module _ (b : Blueprint) (plugs : List PlugHead) (taken : List (List ℕ)) (fit 
       let a = both_none names (option_or ports (option_or faults (option_or sizes types))) fit.early in
       let c = both_none ports (option_or faults (option_or sizes types)) a.1 in
       let d = both_none faults (option_or sizes types) c.1 in
-      let none : size_wrong chains nodes b.wires.items ≡ None = map_none fault.BadSize (size_wrong chains nodes b.wires.items) (both_none sizes types d.1).0 in
-      let e = both_none (option_map at.Chain (chain_wrong chains)) (option_or (option_map at.Node (node_wrong nodes)) (option_map at.Wire (wire_wrong b.wires.items))) none in
-      map_none at.Wire (wire_wrong b.wires.items) (both_none (option_map at.Node (node_wrong nodes)) (option_map at.Wire (wire_wrong b.wires.items)) e.1).1
+      let e = both_none (option_map fault.BadSize (size_wrong chains nodes b.wires.items)) (option_map fault.HubWire (hub_wrong nodes b.wires.items)) (both_none sizes types d.1).0 in
+      map_none fault.BadSize (size_wrong chains nodes b.wires.items) e.0
+
+  no_wrong_place : (option_map at.Node (node_wrong b.nodes.items) ≡ None) × (option_map at.Wire (wire_wrong b.wires.items) ≡ None)
+  no_wrong_place =
+      let nodes = option_map at.Node (node_wrong b.nodes.items) in
+      let wires = option_map at.Wire (wire_wrong b.wires.items) in
+      both_none nodes wires (both_none (option_map at.Chain (chain_wrong b.chains.items)) (option_or nodes wires) no_wrong_size).1
+
+  no_wrong_wire : wire_wrong b.wires.items ≡ None
+  no_wrong_wire = map_none at.Wire (wire_wrong b.wires.items) no_wrong_place.1
+
+  node_sized : (k : ℕ) (n : Node) → slice_get b.nodes.items k ≡ Some n → sizes_fit n.kind ≡ true
+  node_sized k n there =
+      let none : node_wrong b.nodes.items ≡ None = map_none at.Node (node_wrong b.nodes.items) no_wrong_place.0 in
+      not_true (sizes_fit n.kind) (not_when (not (sizes_fit n.kind)) k (none_here (λ i (x : Node). when (not (sizes_fit x.kind)) i) b.nodes.items k n none there))
+
+  hub_within : (w : WireDecl) (s : ℕ) → size_of_hub b.nodes.items w ≡ Some s → (1 ≤ s) × (s ≤ 1024)
+  hub_within w s e = by (either_some (size_out_of_node (slice_get b.nodes.items from)) (size_into_node (slice_get b.nodes.items to)) s e)
+    where
+      from : ℕ
+      from = node_number w.from b.nodes.items
+
+      to : ℕ
+      to = node_number w.to b.nodes.items
+
+      by : (size_out_of_node (slice_get b.nodes.items from) ≡ Some s) ⊎ (size_into_node (slice_get b.nodes.items to) ≡ Some s) → (1 ≤ s) × (s ≤ 1024)
+      by (inl h) = out_node (slice_get b.nodes.items from) s (node_sized from) h
+      by (inr h) = into_node (slice_get b.nodes.items to) s (node_sized to) h
 
   lane_size : (i : ℕ) (v : Edge) (size : ℕ) → slice_get (blueprint_wires b) i ≡ Some v → v.lane ≡ Some size → (1 ≤ size) × (size ≤ 1024)
   lane_size i v size there lane =
       let m = mapped_from (wire_of b.nodes.items) b.wires.items i v there in
-      let is : (m.0).lane ≡ Some size = ap (λ (w : Edge). w.lane) m.1.1 ∙ lane in
       let fits : lane_fits (m.0).lane ≡ true = not_true (lane_fits (m.0).lane) (not_when (not (lane_fits (m.0).lane)) i (none_here (λ k (w : WireDecl). when (not (lane_fits w.lane)) k) b.wires.items i m.0 no_wrong_wire m.1.0)) in
-      lane_within (m.0).lane size is fits
+      by m.0 fits (size_of_hub b.nodes.items m.0) refl (ap (λ (w : Edge). w.lane) m.1.1 ∙ lane)
+    where
+      by : (w : WireDecl) → lane_fits w.lane ≡ true → (h : Option ℕ) → size_of_hub b.nodes.items w ≡ h → lane_by h w.lane ≡ Some size → (1 ≤ size) × (size ≤ 1024)
+      by w fits None e is = lane_within w.lane size is fits
+      by w fits (Some s) e is = let same : s ≡ size = cc in subst (λ (z : ℕ). (1 ≤ z) × (z ≤ 1024)) same (hub_within w s e)
 
 -- what stands at a place of a list
 wire_there : (ws : List Edge) (n : ℕ) → n < length ws → (w : Edge) × (slice_get ws n ≡ Some w)

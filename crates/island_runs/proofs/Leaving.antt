@@ -280,13 +280,18 @@ fan_in_plain (kind.Interleave n s) h = record { sinks = refl; reads = refl; writ
 fan_in_plain kind.MergeSorted h = record { sinks = refl; reads = refl; writes = refl }
 fan_in_plain kind.Zip h = record { sinks = refl; reads = refl; writes = refl }
 fan_in_plain (kind.Merge n) h = record { sinks = refl; reads = refl; writes = refl }
+fan_in_plain (kind.MergeHub m n) h = record { sinks = refl; reads = refl; writes = refl }
 fan_in_plain _ h = absurd h
 
 some_outputs : (n : ℕ) → 2 ≤ n → (n == 0) ≡ false
 some_outputs n h = grind (arith, nat_tests, h)
 
+some_consumers : (n : ℕ) → 1 ≤ n → (n == 0) ≡ false
+some_consumers n h = grind (arith, nat_tests, h)
+
 fan_out_plain : (shape : Kind) → IsOut shape → IsPlain shape
 fan_out_plain (kind.Broadcast n) h = record { sinks = some_outputs n h.0; reads = refl; writes = refl }
+fan_out_plain (kind.BroadcastHub m n) h = record { sinks = some_consumers n h.0; reads = refl; writes = refl }
 fan_out_plain (kind.Partition n f) h = record { sinks = some_outputs n h.0; reads = refl; writes = refl }
 fan_out_plain kind.Unzip h = record { sinks = refl; reads = refl; writes = refl }
 fan_out_plain (kind.Balance n) h = record { sinks = some_outputs n h.0; reads = refl; writes = refl }
@@ -367,10 +372,12 @@ fan_in_chooses (kind.Interleave n m) (Taking f) t = refl
 fan_in_chooses kind.MergeSorted (Sorting f) t = refl
 fan_in_chooses kind.Zip (Zipping f) t = refl
 fan_in_chooses (kind.Merge n) (Merging f) t = refl
+fan_in_chooses (kind.MergeHub m n) (Merging f) t = refl
 fan_in_chooses shape f t = absurd t
 
 copies_free : (shape : Kind) → IsMachines shape → picks shape ≡ false
 copies_free (kind.Broadcast n) h = refl
+copies_free (kind.BroadcastHub m n) h = refl
 copies_free (kind.Partition n f) h = refl
 copies_free kind.Unzip h = refl
 copies_free _ h = absurd h
@@ -424,10 +431,12 @@ fan_in_unseated (kind.Interleave n s) h = refl
 fan_in_unseated kind.MergeSorted h = refl
 fan_in_unseated kind.Zip h = refl
 fan_in_unseated (kind.Merge n) h = refl
+fan_in_unseated (kind.MergeHub m n) h = refl
 fan_in_unseated _ h = absurd h
 
 fan_out_unseated : (shape : Kind) → IsOut shape → is_some (switch_of shape) ≡ false
 fan_out_unseated (kind.Broadcast n) h = refl
+fan_out_unseated (kind.BroadcastHub m n) h = refl
 fan_out_unseated (kind.Partition n f) h = refl
 fan_out_unseated kind.Unzip h = refl
 fan_out_unseated (kind.Balance n) h = refl

@@ -144,15 +144,18 @@ fan_in_chooses (kind.Interleave n m) (Taking f) (Taking l) t s = refl
 fan_in_chooses kind.MergeSorted (Sorting f) (Sorting l) t s = refl
 fan_in_chooses kind.Zip (Zipping f) (Zipping l) t s = refl
 fan_in_chooses (kind.Merge n) (Merging f) (Merging l) t s = (l.log.moves, refl)
+fan_in_chooses (kind.MergeHub m n) (Merging f) (Merging l) t s = (l.log.moves, refl)
 fan_in_chooses (kind.Concat n) (Taking f) now t s = absurd s
 fan_in_chooses (kind.Interleave n m) (Taking f) now t s = absurd s
 fan_in_chooses kind.MergeSorted (Sorting f) now t s = absurd s
 fan_in_chooses kind.Zip (Zipping f) now t s = absurd s
 fan_in_chooses (kind.Merge n) (Merging f) now t s = absurd s
+fan_in_chooses (kind.MergeHub m n) (Merging f) now t s = absurd s
 fan_in_chooses shape first now t s = absurd t
 
 copies_free : (shape : Kind) → IsMachines shape → picks shape ≡ false
 copies_free (kind.Broadcast n) h = refl
+copies_free (kind.BroadcastHub m n) h = refl
 copies_free (kind.Partition n f) h = refl
 copies_free kind.Unzip h = refl
 copies_free _ h = absurd h

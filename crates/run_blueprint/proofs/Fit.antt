@@ -7,9 +7,10 @@ use Rattle.stream_model.specs.declared.head.PlugHead.{PlugHead}
 use Rattle.blue_names.specs.Names.{unknown_plug, plug_twice}
 use Rattle.blue_names.specs.Ports.{port_missing, port_twice, port_open}
 use Rattle.blue_names.specs.Rounds.{type_clash, too_deep}
+use Rattle.blue_names.specs.RuleLinks.{hub_wrong}
 use Rattle.blue_names.specs.Sizes.{chain_wrong, node_wrong, wire_wrong, size_wrong}
 use Rattle.blue_names.specs.declared.spot.Spot.TheVariants as at
-use Rattle.blue_check.specs.declared.fault.CheckFault.TheVariants.{NoSuchPort, PortTwice, NoSuchPlug, PlugTwice, BadSize, TooDeep}
+use Rattle.blue_check.specs.declared.fault.CheckFault.TheVariants.{NoSuchPort, PortTwice, NoSuchPlug, PlugTwice, BadSize, HubWire, TooDeep}
 use Rattle.blue_check.specs.Fitness.{IsFit, name_at, open_fault, clash_fault, names_fault, ports_fault, plugs_fault, sizes_fault, types_fault}
 use Rattle.blue_check.specs.Wires.{blueprint_wires}
 use Rattle.materializer.specs.Graphs.{graph_node, graph_chain}
@@ -52,7 +53,7 @@ fit_passes b plugs taken g fit nodes_are wires_are chains_are =
     let ports = none_parts (option_map NoSuchPort (port_missing nodes ws)) (option_or (option_map PortTwice (port_twice ws)) (option_map (open_fault nodes) (port_open nodes ws))) of.ports in
     let more = none_parts (option_map PortTwice (port_twice ws)) (option_map (open_fault nodes) (port_open nodes ws)) ports.1 in
     let handed = none_parts (option_map NoSuchPlug (unknown_plug plugs chains nodes)) (option_map PlugTwice (plug_twice plugs nodes)) of.handed in
-    let size = none_mapped BadSize (size_wrong chains nodes b.wires.items) of.sizes in
+    let size = none_mapped BadSize (size_wrong chains nodes b.wires.items) (none_parts (option_map BadSize (size_wrong chains nodes b.wires.items)) (option_map HubWire (hub_wrong nodes b.wires.items)) of.sizes).0 in
     let behind = none_parts (option_map at.Chain (chain_wrong chains)) (option_or (option_map at.Node (node_wrong nodes)) (option_map at.Wire (wire_wrong b.wires.items))) size in
     let size_of_node = none_parts (option_map at.Node (node_wrong nodes)) (option_map at.Wire (wire_wrong b.wires.items)) behind.1 in
     let types = none_parts (option_map clash_fault (type_clash plugs chains nodes ws)) (option_map (λ i. TooDeep (name_at nodes i)) (too_deep plugs chains nodes ws)) of.types in

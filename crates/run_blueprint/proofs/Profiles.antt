@@ -150,13 +150,18 @@ fan_in_inner (kind.Interleave n s) h = record { input = refl; output = refl; out
 fan_in_inner kind.MergeSorted h = record { input = refl; output = refl; outputs = refl }
 fan_in_inner kind.Zip h = record { input = refl; output = refl; outputs = refl }
 fan_in_inner (kind.Merge n) h = record { input = refl; output = refl; outputs = refl }
+fan_in_inner (kind.MergeHub m n) h = record { input = refl; output = refl; outputs = refl }
 fan_in_inner _ h = absurd h
 
 some_outputs : (n : ℕ) → 2 ≤ n → (n == 0) ≡ false
 some_outputs n h = grind (arith, nat_tests, h)
 
+some_consumers : (n : ℕ) → 1 ≤ n → (n == 0) ≡ false
+some_consumers n h = grind (arith, nat_tests, h)
+
 fan_out_inner : (shape : Kind) → IsOut shape → IsInner shape
 fan_out_inner (kind.Broadcast n) h = record { input = refl; output = refl; outputs = some_outputs n h.0 }
+fan_out_inner (kind.BroadcastHub m n) h = record { input = refl; output = refl; outputs = some_consumers n h.0 }
 fan_out_inner (kind.Partition n f) h = record { input = refl; output = refl; outputs = some_outputs n h.0 }
 fan_out_inner kind.Unzip h = record { input = refl; output = refl; outputs = refl }
 fan_out_inner (kind.Balance n) h = record { input = refl; output = refl; outputs = some_outputs n h.0 }

@@ -8,9 +8,9 @@ use Rattle.elem_core.specs.SortLaws.{sort_from_same}
 use Rattle.stream_model.specs.Composed.{inputs_of, count_from}
 use Rattle.stream_model.specs.Graph.{Edge, find_wire, find_source}
 use Rattle.stream_model.specs.declared.kind.Kind.{Kind}
-use Rattle.stream_model.specs.declared.kind.Kind.TheVariants.{Plug, Merge, Concat, Interleave, MergeSorted}
+use Rattle.stream_model.specs.declared.kind.Kind.TheVariants.{Plug, Merge, MergeHub, Concat, Interleave, MergeSorted}
 use Rattle.stream_model.specs.declared.kind.TheConstants.{MAX_FAN}
-use Rattle.stream_model.specs.declared.limit.TheConstants.{MAX_COUNT}
+use Rattle.stream_model.specs.declared.limit.TheConstants.{MAX_COUNT, MAX_LANE}
 use Rattle.stream_model.proofs.Compositions.{found_first}
 use Rattle.stream_model.specs.declared.blueprint.ChainDecl.{ChainDecl}
 use Rattle.stream_model.specs.declared.blueprint.Node.{Node}
@@ -194,6 +194,7 @@ joins_some nodes h k n at s = by_kind n.kind s (fits_by (sizes_fit n.kind) k (no
   where
     by_kind : (q : Kind) → shape_of q ≡ joining → sizes_fit q ≡ true → 0 < inputs_of q
     by_kind (Merge m) s f = omega (arith, least 2 MAX_FAN m f)
+    by_kind (MergeHub l m) s f = omega (arith, least 1 MAX_FAN m (and_parts (is_within 1 MAX_LANE l) (is_within 1 MAX_FAN m) f).1)
     by_kind (Concat m) s f = omega (arith, least 2 MAX_FAN m f)
     by_kind (Interleave m l) s f = omega (arith, least 2 MAX_FAN m (and_parts (is_within 2 MAX_FAN m) (is_within 1 MAX_COUNT l) f).0)
     by_kind MergeSorted s f = omega arith

@@ -11,7 +11,7 @@ use Rattle.elem_core.specs.declared.function.ReduceOp.{ReduceOp}
 use Rattle.elem_core.specs.declared.function.ReduceOp.TheVariants as r
 use Rattle.stream_model.specs.Composed.{inputs_of}
 use Rattle.stream_model.specs.declared.kind.Kind.{Kind}
-use Rattle.stream_model.specs.declared.kind.Kind.TheVariants.{Lines, Range, Empty, Failed, Map, MapConcat, Fold, Scan, Reduce, Plug, GroupBy, SplitWhen, SplitAfter, Merge, Concat, Interleave, MergeSorted, Zip, Partition, Unzip}
+use Rattle.stream_model.specs.declared.kind.Kind.TheVariants.{Lines, Range, Empty, Failed, Map, MapConcat, Fold, Scan, Reduce, Plug, GroupBy, SplitWhen, SplitAfter, Merge, MergeHub, Concat, Interleave, MergeSorted, Zip, Partition, Unzip}
 use Rattle.stream_model.specs.declared.blueprint.ChainDecl.{ChainDecl}
 use Rattle.stream_model.specs.declared.head.PlugHead.{PlugHead}
 use Rattle.blue_names.specs.FnTypes.{suits, map_want, map_gives, pred_want, map_fixed, map_shape, fixed_or, expand_fixed, expand_gives, fold_fixed, fold_gives, reduce_fixed, reduce_gives}
@@ -127,6 +127,7 @@ module _ (plugs : List PlugHead) (chains : List ChainDecl) where
 
   pub joining_takes : (k : Kind) (t : Sort) → is_joining k ≡ true → TakesSort (function_want plugs k) t
   joining_takes (Merge n) t j = tt
+  joining_takes (MergeHub m n) t j = tt
   joining_takes (Concat n) t j = tt
   joining_takes (Interleave n s) t j = tt
   joining_takes MergeSorted t j = tt
@@ -148,6 +149,7 @@ module _ (plugs : List PlugHead) (chains : List ChainDecl) where
   -- a node that joins gives the first type that comes, where it does not nest too deep
   pub joining_tries : (k : Kind) (os : List (Option Sort)) → shape_of k ≡ joining → attempt plugs chains k os ≡ option_map limited (first_typed os)
   joining_tries (Merge n) os s = refl
+  joining_tries (MergeHub m n) os s = refl
   joining_tries (Concat n) os s = refl
   joining_tries (Interleave n m) os s = refl
   joining_tries MergeSorted os s = refl

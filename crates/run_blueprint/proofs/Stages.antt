@@ -10,7 +10,7 @@ use Rattle.elem_core.specs.declared.why.Decider.{Decider}
 use Rattle.elem_core.specs.declared.why.Decider.TheVariants.{Stop}
 use Rattle.stream_model.specs.declared.kind.Joining.TheVariants as join
 use Rattle.stream_model.specs.declared.kind.Kind.{Kind}
-use Rattle.stream_model.specs.declared.kind.Kind.TheVariants.{Lines, Range, Empty, Failed, Buffer, RecoverNum, RecoverText, Valve, GroupBy, SplitWhen, SplitAfter, Merge, Concat, Interleave, MergeSorted, Zip, Broadcast, Balance, Partition, Unzip}
+use Rattle.stream_model.specs.declared.kind.Kind.TheVariants.{Lines, Range, Empty, Failed, Buffer, RecoverNum, RecoverText, Valve, GroupBy, SplitWhen, SplitAfter, Merge, MergeHub, Concat, Interleave, MergeSorted, Zip, Broadcast, BroadcastHub, Balance, Partition, Unzip}
 use Rattle.stream_model.specs.declared.kind.Policy.TheVariants.{Backpressure}
 use Rattle.stream_model.specs.FanIn.{concat_of, interleave_of, inlets, turns_of, sorted_of, merge_of}
 use Rattle.stream_model.specs.FanOut.{left_outlook, right_outlook}
@@ -83,6 +83,7 @@ module _ (g : Graph) (w : World) (node : ℕ) (d : Decider) (is : List Outlook) 
   -- the inputs of a node that joins are all of its type
   pub joining_keeps : (k : Kind) (u : Sort) → shape_of k ≡ joining → OutlooksTyped u is → (p : ℕ) → AllTyped u (node_outlook g w node k d is p).list
   joining_keeps (Merge n) u j a p = items_typed u (merge_of (w.moves node) (map (λ o. o.list) is)) (merge_typed u (w.moves node) (map (λ o. o.list) is) (lists_typed u is a))
+  joining_keeps (MergeHub m n) u j a p = items_typed u (merge_of (w.moves node) (map (λ o. o.list) is)) (merge_typed u (w.moves node) (map (λ o. o.list) is) (lists_typed u is a))
   joining_keeps (Concat n) u j a p = items_typed u (concat_of 0 is) (concat_typed u 0 is a)
   joining_keeps (Interleave n s) u j a p =
       items_typed u (interleave_of s (turns_of is) s (inlets 0 is)) (interleave_typed u s (turns_of is) s (inlets 0 is) (inlets_typed u 0 is a))
@@ -117,6 +118,7 @@ module _ (g : Graph) (w : World) (node : ℕ) (d : Decider) (is : List Outlook) 
     single_keeps (Empty b) a s e p = cc
     single_keeps (Failed b) a s e p = cc
     single_keeps (Merge n) a s e p = cc
+    single_keeps (MergeHub m n) a s e p = cc
     single_keeps (Concat n) a s e p = cc
     single_keeps (Interleave n m) a s e p = cc
     single_keeps MergeSorted a s e p = cc
@@ -145,6 +147,7 @@ module _ (g : Graph) (w : World) (node : ℕ) (d : Decider) (is : List Outlook) 
     single_keeps (SplitAfter q name join.Merge) a s e p = merged (behind q) name (wanted (Some (pred_want q)) t (chain_typed plugs (chain_named name chains) t) u e).1
     single_keeps (SplitAfter q name join.Concat) a s e p = in_turn (behind q) name (wanted (Some (pred_want q)) t (chain_typed plugs (chain_named name chains) t) u e).1
     single_keeps (Broadcast n) a s e p = retype_all t u (head_of is).list (given None t t u e).1 h
+    single_keeps (BroadcastHub m n) a s e p = retype_all t u (head_of is).list (given None t t u e).1 h
     single_keeps (Balance n) a s e p = retype_all t u (sent_to p (w.moves node) (head_of is).list) (given None t t u e).1 (sent_typed t p (w.moves node) (head_of is).list h)
     single_keeps (Partition n q) a s e p =
         let r = wanted (map_want q) t (parted plugs (map_gives q t) t) u e in

@@ -2,7 +2,7 @@
 use Rattle.std.specs.Prelude.{Bool, true, List, [], ◌∷◌, Option, Some, is_some}
 use Rattle.elem_core.specs.Sort.{Sort}
 use Rattle.stream_model.specs.declared.kind.Kind.{Kind}
-use Rattle.stream_model.specs.Linear.{Role, reads_lines, gives_range, gives_nothing, gives_failure, works, trips, plugs_in, buffers, recovers, obeys, groups_by, splits_when, splits_after, merges, concats, interleaves, merges_sorted, zips, broadcasts, balances, partitions, unzips, sinks, role_of, Mention, no_name, a_file, a_switch, a_trip, a_plug, a_chain, mention_of}
+use Rattle.stream_model.specs.Linear.{Role, reads_lines, gives_range, gives_nothing, gives_failure, works, trips, plugs_in, buffers, recovers, obeys, groups_by, splits_when, splits_after, merges, gathers, concats, interleaves, merges_sorted, zips, broadcasts, balances, partitions, unzips, sinks, role_of, Mention, no_name, a_file, a_switch, a_trip, a_plug, a_chain, mention_of}
 use Rattle.stream_model.specs.declared.blueprint.ChainDecl.{ChainDecl}
 use Rattle.stream_model.specs.declared.blueprint.Step.{Step}
 use Rattle.stream_model.specs.declared.head.PlugHead.{PlugHead}
@@ -47,6 +47,7 @@ shape_by (groups_by n f chain) = single
 shape_by (splits_when p chain j) = single
 shape_by (splits_after p chain j) = single
 shape_by (merges n) = joining
+shape_by (gathers n) = joining
 shape_by (concats n) = joining
 shape_by (interleaves n s) = joining
 shape_by merges_sorted = joining
@@ -77,6 +78,7 @@ want_by (groups_by n f chain) own = map_want f
 want_by (splits_when p chain j) own = Some (pred_want p)
 want_by (splits_after p chain j) own = Some (pred_want p)
 want_by (merges n) own = own
+want_by (gathers n) own = own
 want_by (concats n) own = own
 want_by (interleaves n s) own = own
 want_by merges_sorted own = own

@@ -59,6 +59,7 @@ closed_never ws (fault.BadSize s) none h = h
 closed_never ws (fault.NoSuchModule n) none h = h
 closed_never ws (fault.PortName n p) none h = h
 closed_never ws fault.TooLarge none h = h
+closed_never ws (fault.HubWire i) none h = h
 
 fit_never : (plugged : Plugged) (b : Blueprint) (taken : List (List ℕ)) (f : CheckFault) → IsFit b plugged.heads taken → IsFirstFault b plugged.heads taken f → ⊥
 fit_never plugged b taken f fit (inl h) = none_some _ f fit.early h

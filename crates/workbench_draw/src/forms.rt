@@ -20,6 +20,9 @@ const STEPS: &[u8] =
 const STAGES: &[u8] =
     b"buffer N^ POLICY, recover VALUE, valve NAME, trip NAME ORDER, plug NAME, group_by N^ F each NAME merge, split_when P each NAME JOINING, split_after P each NAME JOINING, merge N^, concat N^, interleave N^ N^, merge_sorted, zip, broadcast N^, balance N^, partition N^ F, unzip";
 
+/// The stages that only a text of version 2 may have.
+const LATER_STAGES: &[u8] = b"merge_hub N^ N^, broadcast_hub N^ N^";
+
 /// The functions of an element.
 const FUNCTIONS: &[u8] =
     b"num, show, add K, mul K, div K, rem K, div_into K, neg, abs, nonneg, len, field N, prefix WORD, suffix WORD, first, second, swap, twin, size, sum";
@@ -36,7 +39,7 @@ fn forms_of_lines(symbol: &[u8]) -> Option<&'static [u8]> {
         )
     } else if is_word(symbol, SECOND_LINE) {
         Some(
-            b"default ATTRS, switch NAME, chain NAME STEP?more, module NAME?attrs, source NAME SOURCE, stage NAME STAGE, sink NAME SINK, use NAME NAME?attrs, wire PLACE -> PLACE?kept, in NAME = PLACE, out NAME = PLACE, end",
+            b"default ATTRS, switch NAME, chain NAME STEP?more, module NAME?attrs, source NAME SOURCE, stage NAME STAGE2, sink NAME SINK, use NAME NAME?attrs, wire PLACE -> PLACE?kept, in NAME = PLACE, out NAME = PLACE, end",
         )
     } else if is_word(symbol, b"ATTRS") || is_word(symbol, b"?attrs") {
         Some(b"async N^?decider, decider DECIDER")
@@ -99,13 +102,43 @@ fn forms_of_functions(symbol: &[u8]) -> Option<&'static [u8]> {
     }
 }
 
-/// What may stand for a symbol: lists of forms parted by `, `, of which the second may be empty. None for a symbol that is one word.
-pub(crate) fn forms_of(symbol: &[u8]) -> Option<(&'static [u8], &'static [u8])> {
+/// What may stand for a symbol.
+#[derive(Clone, Copy)]
+pub(crate) struct Forms {
+    /// Lists of forms parted by `, `, of which the later ones may be empty.
+    pub first: &'static [u8],
+    pub second: &'static [u8],
+    pub third: &'static [u8],
+}
+
+/// One list of forms.
+fn one_list(first: &'static [u8]) -> Forms {
+    Forms {
+        first,
+        second: b"",
+        third: b"",
+    }
+}
+
+/// The stages, of which the last list is for version 2 alone.
+fn stages(third: &'static [u8]) -> Forms {
+    Forms {
+        first: STEPS,
+        second: STAGES,
+        third,
+    }
+}
+
+/// What may stand for a symbol. None for one that is one word.
+pub(crate) fn forms_of(symbol: &[u8]) -> Option<Forms> {
     if is_word(symbol, b"STEP") {
-        return Some((STEPS, b""));
+        return Some(one_list(STEPS));
     }
     if is_word(symbol, b"STAGE") {
-        return Some((STEPS, STAGES));
+        return Some(stages(b""));
+    }
+    if is_word(symbol, b"STAGE2") {
+        return Some(stages(LATER_STAGES));
     }
     let forms = match forms_of_lines(symbol) {
         Some(forms) => Some(forms),
@@ -115,7 +148,7 @@ pub(crate) fn forms_of(symbol: &[u8]) -> Option<(&'static [u8], &'static [u8])> 
         },
     };
     match forms {
-        Some(forms) => Some((forms, b"")),
+        Some(forms) => Some(one_list(forms)),
         None => None,
     }
 }

@@ -81,13 +81,17 @@ fn words_of(alloc: Global, kind: &Kind, decider: Decider) -> Result<Vec<u8>, NoM
     Ok(words)
 }
 
-/// The shape of a node, and the beginning of its label: files are notes, a sink that keeps nothing is a point, and stages are boxes.
+/// The shape of a node, and the beginning of its label: files are notes, a sink that keeps nothing is a point, hubs are bars, and
+/// stages are boxes.
 fn shape_of(kind: &Kind) -> &'static [u8] {
     match kind {
         Kind::Lines(_) | Kind::ToLines(_) | Kind::Head(_) | Kind::Last(_) => {
             b" [shape=note, style=\"\", label=\""
         }
         Kind::Ignore => b" [shape=point, width=0.12, xlabel=\"",
+        Kind::MergeHub(_, _) | Kind::BroadcastHub(_, _) => {
+            b" [style=filled, fillcolor=gray80, width=0.3, height=1.2, label=\""
+        }
         _ => b" [label=\"",
     }
 }
@@ -262,24 +266,40 @@ fn put_lane(out: &mut Vec<u8>, size: u32, keep: bool) -> Result<(), NoMemory> {
     Ok(())
 }
 
+/// The lane of a wire, and whether it keeps what came before a failure: that of the hub to which it belongs, and else its own.
+fn lane_of(nodes: &[Node], wire: &WireDecl) -> (Option<u32>, bool) {
+    if let Some(node) = node_named(nodes, &wire.from) {
+        if let Kind::BroadcastHub(size, _) = &node.kind {
+            return (Some(*size), true);
+        }
+    }
+    if let Some(node) = node_named(nodes, &wire.to) {
+        if let Kind::MergeHub(size, _) = &node.kind {
+            return (Some(*size), true);
+        }
+    }
+    (wire.lane, wire.keep)
+}
+
 /// Appends the style and the label of a wire: its type, where it is known, and its lane, which is dashed.
 fn put_label(
     out: &mut Vec<u8>,
-    wire: &WireDecl,
+    lane: Option<u32>,
+    keep: bool,
     carried: Option<&ElemType>,
 ) -> Result<(), NoMemory> {
-    if wire.lane.is_some() {
+    if lane.is_some() {
         out.extend_from_slice(b"style=dashed, ")?;
     }
     out.extend_from_slice(b"label=\"")?;
     if let Some(t) = carried {
         put_type(out, t)?;
     }
-    if let Some(size) = wire.lane {
+    if let Some(size) = lane {
         if carried.is_some() {
             out.extend_from_slice(b", ")?;
         }
-        put_lane(out, size, wire.keep)?;
+        put_lane(out, size, keep)?;
     }
     Ok(())
 }
@@ -299,7 +319,8 @@ fn wire_line(
     put_quoted(&mut out, wire.to.bytes())?;
     out.extend_from_slice(b" [")?;
     put_ports(&mut out, nodes, wire)?;
-    put_label(&mut out, wire, carried)?;
+    let (lane, keep) = lane_of(nodes, wire);
+    put_label(&mut out, lane, keep, carried)?;
     put_end(&mut out, fault)?;
     Ok(out)
 }

@@ -173,6 +173,7 @@ pub fn place_of(b: &Blueprint, own: &Line, fault: &CheckFault) -> Option<FaultPl
         CheckFault::NoSuchName(name) => return used(b, name),
         CheckFault::NoSuchPort(i)
         | CheckFault::PortTwice(i)
+        | CheckFault::HubWire(i)
         | CheckFault::TypeClash(i, _, _)
         | CheckFault::ClosedWalk(i) => return Some(FaultPlace::of(Sort::Wire, *i as usize)),
         CheckFault::BadSize(spot) => return Some(sized(*spot)),

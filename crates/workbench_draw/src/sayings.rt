@@ -122,13 +122,17 @@ pub fn of_rule(fault: &CheckFault) -> Saying {
             means: b"A type would nest deeper here than 4 lists and pairs.",
             advice: b"Take lists and pairs apart before, as by `map_concat flat`, `map first` or `unzip`.",
         },
+        CheckFault::HubWire(_) => Saying {
+            means: b"A wire into a merge hub or out of a broadcast hub is a lane of the hub: it is not marked `async`, and does not join two hubs.",
+            advice: b"Take `async` off the wire; between two hubs put a stage, as `buffer 1 backpressure`.",
+        },
         CheckFault::ClosedWalk(_) => Saying {
             means: b"The wire lies on a closed walk: elements would come back to where they were.",
             advice: b"Take a wire of that walk out.",
         },
         _ => Saying {
             means: b"A size is out of its limits.",
-            advice: b"Groups and buffers hold 1 to 4096, a fan has 2 to 64 ports, a segment and a trip 1 to 4000000000, a group_by 1 to 1024 keys; a lane is a power of two up to 1024.",
+            advice: b"Groups and buffers hold 1 to 4096, a fan has 2 to 64 ports, a hub 1 to 64 and lanes of 1 to 1024, a segment and a trip 1 to 4000000000, a group_by 1 to 1024 keys; a lane is a power of two up to 1024.",
         },
     }
 }

@@ -1,5 +1,7 @@
 // At which word of a line no form was left, and what may stand there.
-use crate::forms::{LINE, SECOND_LINE, first_symbol, fits, form_begun, forms_of, is_optional};
+use crate::forms::{
+    Forms, LINE, SECOND_LINE, first_symbol, fits, form_begun, forms_of, is_optional,
+};
 use crate::message::{put_number, put_shown};
 use blue_words::lines::is_plain;
 use blue_words::words::Words;
@@ -79,11 +81,14 @@ impl<'a> Walk<'a> {
     }
 
     /// The first form that the word may begin.
-    fn form_at(&self, first: &'static [u8], second: &'static [u8]) -> Option<&'static [u8]> {
+    fn form_at(&self, forms: Forms) -> Option<&'static [u8]> {
         let word = self.word?;
-        match form_begun(first, word, self.exact) {
+        if let Some(form) = form_begun(forms.first, word, self.exact) {
+            return Some(form);
+        }
+        match form_begun(forms.second, word, self.exact) {
             Some(form) => Some(form),
-            None => form_begun(second, word, self.exact),
+            None => form_begun(forms.third, word, self.exact),
         }
     }
 
@@ -99,15 +104,16 @@ impl<'a> Walk<'a> {
 
     /// Takes a symbol.
     fn take(&mut self, symbol: &'static [u8]) -> Result<Step, NoMemory> {
-        let Some((first, second)) = forms_of(symbol) else {
+        let Some(forms) = forms_of(symbol) else {
             return self.take_word(symbol);
         };
-        if let Some(form) = self.form_at(first, second) {
+        if let Some(form) = self.form_at(forms) {
             self.left.push(form)?;
             return Ok(Step::On);
         }
-        put_forms(&mut self.may, first)?;
-        put_forms(&mut self.may, second)?;
+        put_forms(&mut self.may, forms.first)?;
+        put_forms(&mut self.may, forms.second)?;
+        put_forms(&mut self.may, forms.third)?;
         Ok(if is_optional(symbol) {
             Step::On
         } else {

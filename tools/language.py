@@ -22,6 +22,7 @@ STAGE = {**STEP, "buffer": "N32 POLICY", "recover": "MADE", "valve": "NAME", "tr
          "group_by": "N32 F each NAME merge", "split_when": "P each NAME JOIN", "split_after": "P each NAME JOIN", "merge": "N32",
          "concat": "N32", "interleave": "N32 N32", "merge_sorted": "", "zip": "", "broadcast": "N32", "balance": "N32",
          "partition": "N32 F", "unzip": ""}
+HUBS = {"merge_hub": "N32 N32", "broadcast_hub": "N32 N32"}
 SUBSTREAMS = {"group_by", "split_when", "split_after"}
 FIXED = {"each", "merge", "->", "="}
 NO_DECIDER = {"take", "drop", "limit", "grouped"}
@@ -124,7 +125,7 @@ def declaration(words, version=1):
             found += kind(STEP, words)
             steps += 1
     elif first in ("source", "stage", "sink"):
-        found = places("NAME", words) + kind({"source": SOURCE, "stage": STAGE, "sink": SINK}[first], words)
+        found = places("NAME", words) + kind({"source": SOURCE, "stage": STAGE if version == 1 else {**STAGE, **HUBS}, "sink": SINK}[first], words)
     elif first == "wire":
         found = places("PORT -> PORT" if version == 1 else "PLACE -> PLACE", words)
         if words[:1] == ["async"]:
@@ -374,6 +375,8 @@ def ports(words):
     if words[0] != "stage":
         return (0, 1) if words[0] == "source" else (1, 0)
     name = words[2]
+    if name in HUBS:
+        return (int(words[4]), 1) if name == "merge_hub" else (1, int(words[4]))
     inputs = int(words[3]) if name in ("merge", "concat", "interleave") else 2 if name in ("merge_sorted", "zip") else 1
     outputs = int(words[3]) if name in ("broadcast", "balance", "partition") else 2 if name == "unzip" else 1
     return inputs, outputs

@@ -39,13 +39,14 @@ island_wires homes ws k = numbers_from 0 (is_wire_of homes k) ws
 -- the lane of wire n, where it has one: from the island of its output to that of its input
 abbrev pub lane_sized : List ℕ → ℕ → Edge → Option ℕ → List LanePlan
 lane_sized homes n w None = []
-lane_sized homes n w (Some s) = record { wire = n; size = s; keep = w.keep; from = slice_index homes w.from; to = slice_index homes w.to } ∷ []
+lane_sized homes n w (Some s) = record { wire = n; size = s; keep = w.keep; from = slice_index homes w.from; to = slice_index homes w.to; hub = w.hub } ∷ []
 
 -- the lane of wire n, where it has one: from the island of its output to that of its input
 abbrev pub lane_plan_of : List ℕ → ℕ → Edge → List LanePlan
 lane_plan_of homes n w = lane_sized homes n w w.lane
 
--- all wires with a lane, each with its number, its size, the island of its output and that of its input, where the first wire is number n
+-- all wires with a lane, each with its number, its size, the island of its output and that of its input, and its hub, where the first
+-- wire is number n
 abbrev pub lanes_from : List ℕ → ℕ → List Edge → List LanePlan
 lanes_from homes n [] = []
 lanes_from homes n (w ∷ ws) = lane_plan_of homes n w ++ lanes_from homes (n + 1) ws

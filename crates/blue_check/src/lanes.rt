@@ -10,6 +10,16 @@ use elem_core::count::numbered;
 use elem_core::why::NoMemory;
 use std::alloc::Global;
 
+/// The number of a hub in a plan.
+fn hub_number(hub: Option<usize>) -> Result<Option<u32>, NoMemory>
+    ensures { IfOk result (λ number. number ≡ hub) }
+{
+    match hub {
+        None => Ok(None),
+        Some(node) => Ok(Some(numbered(node)?)),
+    }
+}
+
 /// Puts a wire last, where it has a lane.
 fn put_lane(
     lanes: &mut Vec<LanePlan>,
@@ -28,6 +38,7 @@ fn put_lane(
                 keep: link.keep,
                 from: numbered(rank_of(homes, link.from))?,
                 to: numbered(rank_of(homes, link.to))?,
+                hub: hub_number(link.hub)?,
             })?;
             Ok(())
         }

@@ -32,4 +32,6 @@ pub struct LanePlan {
     pub from: u32,
     /// The island of the node whose input it is.
     pub to: u32,
+    /// The number of the hub that it belongs to, where it belongs to one.
+    pub hub: Option<u32>,
 }

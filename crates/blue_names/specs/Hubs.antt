@@ -29,6 +29,15 @@ size_out_of_node (Some n) = size_out_of n.kind
 abbrev pub hub_size : List Node → ℕ → ℕ → Option ℕ
 hub_size nodes from to = option_or (size_out_of_node (slice_get nodes from)) (size_into_node (slice_get nodes to))
 
+-- the number of a node where lanes of a hub are there
+abbrev pub where_lanes : Option ℕ → ℕ → Option ℕ
+where_lanes None node = None
+where_lanes (Some s) node = Some node
+
+-- the hub that a wire from one node to another belongs to, by its number, where it belongs to one
+abbrev pub hub_of : List Node → ℕ → ℕ → Option ℕ
+hub_of nodes from to = option_or (where_lanes (size_out_of_node (slice_get nodes from)) from) (where_lanes (size_into_node (slice_get nodes to)) to)
+
 -- the lane of a wire: that of its hub, and else that which it declares
 abbrev pub lane_by : Option ℕ → Option ℕ → Option ℕ
 lane_by (Some s) lane = Some s

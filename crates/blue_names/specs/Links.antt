@@ -5,7 +5,7 @@ use Rattle.blue_names.specs.declared.links.NumberedWire.{NumberedWire}
 
 -- a link as a wire
 abbrev pub wire_of_link : NumberedWire → Edge
-wire_of_link l = record { from = l.from; output = l.output; to = l.to; input = l.input; lane = l.lane; keep = l.keep }
+wire_of_link l = record { from = l.from; output = l.output; to = l.to; input = l.input; lane = l.lane; keep = l.keep; hub = l.hub }
 
 -- the wires that these links are
 abbrev pub wires_of_links : List NumberedWire → List Edge

@@ -5,7 +5,7 @@ use Rattle.stream_model.specs.Graph.{Edge}
 use Rattle.stream_model.specs.declared.blueprint.Node.{Node}
 use Rattle.stream_model.specs.declared.blueprint.WireDecl.{WireDecl}
 use Rattle.blue_names.specs.First.{first_from, when}
-use Rattle.blue_names.specs.Hubs.{hub_size, lane_by, keep_by, is_hub_fault}
+use Rattle.blue_names.specs.Hubs.{hub_of, hub_size, lane_by, keep_by, is_hub_fault}
 
 -- the number of the first of these names that is this one, where they are numbered from n
 abbrev pub number_from : List ℕ → ℕ → List (List ℕ) → Option ℕ
@@ -30,6 +30,7 @@ wire_of nodes w = record {
   input = w.input;
   lane = lane_by (size_of_hub nodes w) w.lane;
   keep = keep_by (size_of_hub nodes w) w.keep;
+  hub = hub_of nodes (node_number w.from nodes) (node_number w.to nodes);
 }
 
 -- the first wire of a hub that is marked as a lane itself, or that goes from a broadcast hub to a merge hub

@@ -1,6 +1,6 @@
 // The wires of hubs: their lanes, and the rule on them.
 ghost use Rattle.std.specs.Prelude.{◌≡◌, IfOk, slice_get};
-ghost use Rattle.blue_names.specs.Hubs.{size_into, size_out_of, size_into_node, size_out_of_node, hub_size, is_hub_fault};
+ghost use Rattle.blue_names.specs.Hubs.{size_into, size_out_of, size_into_node, size_out_of_node, hub_size, hub_of, where_lanes, is_hub_fault};
 ghost use Rattle.blue_names.specs.RuleLinks.{hub_wrong};
 
 use crate::links::node_number;
@@ -57,6 +57,26 @@ pub fn hub_size(nodes: &[Node], from: usize, to: usize) -> Option<u32>
     match size_out_of_node(nodes, from) {
         Some(size) => Some(size),
         None => size_into_node(nodes, to),
+    }
+}
+
+/// The number of a node where lanes of a hub are there.
+fn where_lanes(size: Option<u32>, node: usize) -> Option<usize>
+    ensures { result ≡ where_lanes size node }
+{
+    match size {
+        Some(_) => Some(node),
+        None => None,
+    }
+}
+
+/// The number of the hub that a wire from one node to another belongs to, where it belongs to one.
+pub(crate) fn hub_of(nodes: &[Node], from: usize, to: usize) -> Option<usize>
+    ensures { result ≡ hub_of nodes.now from to }
+{
+    match where_lanes(size_out_of_node(nodes, from), from) {
+        Some(hub) => Some(hub),
+        None => where_lanes(size_into_node(nodes, to), to),
     }
 }
 

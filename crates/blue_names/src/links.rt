@@ -7,7 +7,7 @@ ghost use Rattle.blue_names.specs.Table.{Numbers};
 ghost use Rattle.blue_names.specs.Hubs.{lane_by, keep_by};
 ghost use Rattle.blue_names.specs.Links.{wire_of_link, wires_of_links};
 
-use crate::hubs::hub_size;
+use crate::hubs::{hub_of, hub_size};
 use crate::table::{NameTable, find, table_of};
 use elem_core::line::Line;
 use elem_core::why::NoMemory;
@@ -29,6 +29,8 @@ pub struct NumberedWire {
     pub lane: Option<u32>,
     /// Whether a failure on that lane waits behind the elements that came before it.
     pub keep: bool,
+    /// The number of the hub that it belongs to.
+    pub hub: Option<usize>,
 }
 
 /// The number of the node of that name, or 0 where there is none.
@@ -53,6 +55,7 @@ fn link_of(table: &NameTable<'_>, nodes: &[Node], wire: &WireDecl) -> NumberedWi
         input: wire.input,
         lane,
         keep,
+        hub: hub_of(nodes, from, to),
     }
 }
 

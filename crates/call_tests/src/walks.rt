@@ -27,6 +27,7 @@ fn wire(from: usize, to: usize) -> NumberedWire {
         input: 0,
         lane: None,
         keep: false,
+        hub: None,
     }
 }
 

@@ -131,7 +131,7 @@ lanes_count homes u (w ∷ ws) = by w.lane (lanes_from homes (u + 1) ws) (lanes_
     by (Some s) ls e = ap suc e
 
 abbrev pub lane_plan : List ℕ → ℕ → Edge → ℕ → LanePlan
-lane_plan homes u w s = record { wire = u; size = s; keep = w.keep; from = slice_index homes w.from; to = slice_index homes w.to }
+lane_plan homes u w s = record { wire = u; size = s; keep = w.keep; from = slice_index homes w.from; to = slice_index homes w.to; hub = w.hub }
 
 pub lane_get : (homes : List ℕ) (u : ℕ) (ws : List Edge) (i : ℕ) (w : Edge) (s : ℕ) → slice_get ws i ≡ Some w → w.lane ≡ Some s → slice_get (lanes_from homes u ws) (lanes_in (take i ws)) ≡ Some (lane_plan homes (u + i) w s)
 lane_get homes u [] i w s at lane = absurd cc

@@ -1,5 +1,5 @@
 -- The loops over lanes.
-use Rattle.std.proofs.Common.{◌≡◌, ℕ, zero, suc, ◌+◌, ◌<◌, List, [], ◌∷◌, ◌++◌, length, get_or, Some, refl, ap, sym, ◌∙◌, subst, ⊎_elim, ◌⊎◌, inl, inr, length-append, arith, false}
+use Rattle.std.proofs.Common.{◌≡◌, ℕ, zero, suc, ◌+◌, ◌<◌, List, [], ◌∷◌, ◌++◌, length, get_or, Some, None, refl, ap, sym, ◌∙◌, subst, ⊎_elim, ◌⊎◌, inl, inr, length-append, arith, false}
 use Rattle.std.specs.Prelude.{slice_get, slice_index}
 use Rattle.std.proofs.lemmas.Option.{slice_get_within, slice_get-get_or}
 use Rattle.island_body.specs.declared.input.IslandInput.{IslandInput}
@@ -24,7 +24,7 @@ one_more xs new x e = ap length e ∙ length-append xs (x ∷ [])
 
 -- a lane that was read is the one that stands there
 abbrev pub no_lane : LanePlan
-no_lane = record { wire = 0; size = 0; keep = false; from = 0; to = 0 }
+no_lane = record { wire = 0; size = 0; keep = false; from = 0; to = 0; hub = None }
 
 pub lane_at : (lanes : List LanePlan) (n : ℕ) → n < length lanes → slice_get lanes n ≡ Some (get_or lanes n no_lane)
 lane_at lanes n lt = slice_get-get_or lanes n no_lane lt

@@ -55,8 +55,8 @@ use Rattle.island_runs.proofs.Stages.{some_same}
 least_by : (homes : List ℕ) (n : ℕ) (w : Edge) (rest : List LanePlan) (o : Option ℕ) (i : ℕ) (l : LanePlan) → ((j : ℕ) → slice_get rest j ≡ Some l → n + 1 ≤ l.wire) → slice_get (lane_sized homes n w o ++ rest) i ≡ Some l → n ≤ l.wire
 least_by homes n w rest None i l more at = let r = more i at in omega (arith, r)
 least_by homes n w rest (Some s) zero l more at =
-    let here : Some (record { wire = n; size = s; keep = w.keep; from = slice_index homes w.from; to = slice_index homes w.to }) ≡ Some l = at in
-    let same : record { wire = n; size = s; keep = w.keep; from = slice_index homes w.from; to = slice_index homes w.to } ≡ l = some_same _ l here in
+    let here : Some (record { wire = n; size = s; keep = w.keep; from = slice_index homes w.from; to = slice_index homes w.to; hub = w.hub }) ≡ Some l = at in
+    let same : record { wire = n; size = s; keep = w.keep; from = slice_index homes w.from; to = slice_index homes w.to; hub = w.hub } ≡ l = some_same _ l here in
     let e : n ≡ l.wire = ap (λ (p : LanePlan). p.wire) same in
     omega (arith, e)
 least_by homes n w rest (Some s) (suc i) l more at = let r = more i at in omega (arith, r)
@@ -70,8 +70,8 @@ rising_by : (homes : List ℕ) (n : ℕ) (w : Edge) (rest : List LanePlan) (o : 
 rising_by homes n w rest None a b l k more on lt at bt = on a b lt at bt
 rising_by homes n w rest (Some s) a zero l k more on lt at bt = absurd (omega (arith, lt))
 rising_by homes n w rest (Some s) zero (suc b) l k more on lt at bt =
-    let here : Some (record { wire = n; size = s; keep = w.keep; from = slice_index homes w.from; to = slice_index homes w.to }) ≡ Some l = at in
-    let same : record { wire = n; size = s; keep = w.keep; from = slice_index homes w.from; to = slice_index homes w.to } ≡ l = some_same _ l here in
+    let here : Some (record { wire = n; size = s; keep = w.keep; from = slice_index homes w.from; to = slice_index homes w.to; hub = w.hub }) ≡ Some l = at in
+    let same : record { wire = n; size = s; keep = w.keep; from = slice_index homes w.from; to = slice_index homes w.to; hub = w.hub } ≡ l = some_same _ l here in
     let e : n ≡ l.wire = ap (λ (p : LanePlan). p.wire) same in
     let r = more b bt in
     omega (arith, e, r)

@@ -44,7 +44,7 @@ module _ (homes hs : List ℕ) where
       by None at rest = rest place at
       by (Some s) at rest =
           let zero_more : place ≡ place + 0 = omega arith in
-          let first : slice_index hs place ≡ slice_index homes w.to = ap (slice_index hs) zero_more ∙ at 0 (record { wire = u; size = s; keep = w.keep; from = slice_index homes w.from; to = slice_index homes w.to }) refl in
+          let first : slice_index hs place ≡ slice_index homes w.to = ap (slice_index hs) zero_more ∙ at 0 (record { wire = u; size = s; keep = w.keep; from = slice_index homes w.from; to = slice_index homes w.to; hub = w.hub }) refl in
           let later = rest (suc place) (λ j l here. let one_more : suc place + j ≡ place + suc j = omega arith in ap (slice_index hs) one_more ∙ at (suc j) l here) in
           ap (λ h. h ∷ map (link_home hs) (fars_from (suc place) (u + 1) ws)) first ∙ ap (λ l. slice_index homes w.to ∷ l) later
 

@@ -162,7 +162,7 @@ pub ranked : (g : Graph) → HasNoClosedWalk g.wires → (rank : ℕ → ℕ) ×
 ranked g none = (
   rank g.wires,
   record {
-    below = λ i h. rank_below g.wires none i _ (slice_get-get_or g.wires i (record { from = 0; output = 0; to = 0; input = 0; lane = None; keep = false }) h);
+    below = λ i h. rank_below g.wires none i _ (slice_get-get_or g.wires i (record { from = 0; output = 0; to = 0; input = 0; lane = None; keep = false; hub = None }) h);
     rises = rank_rises g.wires none;
   },
 )

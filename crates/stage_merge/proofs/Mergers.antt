@@ -584,3 +584,12 @@ last_in old mid new acts i t is g off = by_took (subst (λ l. Took i t l new act
     by_took : Took i t (record old { log = mid.log }) new acts → new.core.queue ≡ old.core.queue ++ queued i t ∷ []
     by_took (passed on handed) = let z : true ≡ false = sym on ∙ off in cc
     by_took (stored o to_is a) = ap (λ (m : Merging). m.core.queue) to_is
+
+-- an element that goes out was noted, and its input is asked again or is over
+pub handed_on : (old : Merging) (log mid : Picks) (gathers : Bool) (core : Core) (i : ℕ) (e : Tree) (new : Merging) (put acts : List Act) → record { log = log; gathers = gathers; core = core } ≡ old → mid.moves ≡ log.moves ++ i ∷ []
+    → put ≡ Push 0 e ∷ [] → Again i put (record { log = mid; gathers = gathers; core = core }) new acts → HandedOn i e old new acts
+handed_on old log mid gathers core i e new put acts is moves pushed again = record {
+  log = mid;
+  moves = moves ∙ ap (λ (m : Merging). m.log.moves ++ i ∷ []) is;
+  again = subst (λ (m : Merging). Again i (Push 0 e ∷ []) (record m { log = mid }) new acts) is (subst (λ (xs : List Act). Again i xs (record { log = mid; gathers = gathers; core = core }) new acts) pushed again);
+}

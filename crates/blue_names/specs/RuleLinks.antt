@@ -1,5 +1,5 @@
 -- A blueprint's wires by the numbers of their nodes.
-use Rattle.std.specs.Prelude.{ℕ, ◌+◌, if◌then◌else◌, List, [], ◌∷◌, map, unwrap_or, is_some, Option, Some, None}
+use Rattle.std.specs.Prelude.{ℕ, Bool, ◌+◌, if◌then◌else◌, List, [], ◌∷◌, map, unwrap_or, is_some, Option, Some, None}
 use Rattle.elem_core.specs.Values.{same_text}
 use Rattle.stream_model.specs.Graph.{Edge}
 use Rattle.stream_model.specs.declared.blueprint.Node.{Node}
@@ -33,9 +33,13 @@ wire_of nodes w = record {
   hub = hub_of nodes (node_number w.from nodes) (node_number w.to nodes);
 }
 
--- the first wire of a hub that is marked as a lane itself, or that goes from a broadcast hub to a merge hub
+-- a wire of a hub that is marked as a lane itself, or that goes from a broadcast hub to a merge hub
+abbrev pub is_faulty_wire : List Node → WireDecl → Bool
+is_faulty_wire nodes w = is_hub_fault nodes (node_number w.from nodes) (node_number w.to nodes) (is_some w.lane)
+
+-- the first such wire
 abbrev pub hub_wrong : List Node → List WireDecl → Option ℕ
-hub_wrong nodes wires = first_from (λ i w. when (is_hub_fault nodes (node_number w.from nodes) (node_number w.to nodes) (is_some w.lane)) i) 0 wires
+hub_wrong nodes wires = first_from (λ i w. when (is_faulty_wire nodes w) i) 0 wires
 
 -- the wires by the numbers of their nodes
 -- Choice: docs/DECISIONS.md#names-before-numbers

@@ -1,10 +1,11 @@
 // The wires of hubs: their lanes, and the rule on them.
-ghost use Rattle.std.specs.Prelude.{◌≡◌, IfOk, slice_get};
+ghost use Rattle.std.specs.Prelude.{◌≡◌, IfOk, map, slice_get};
 ghost use Rattle.blue_names.specs.Hubs.{size_into, size_out_of, size_into_node, size_out_of_node, hub_size, hub_of, where_lanes, is_hub_fault};
-ghost use Rattle.blue_names.specs.RuleLinks.{hub_wrong};
+ghost use Rattle.blue_names.specs.RuleLinks.{hub_wrong, is_faulty_wire};
+ghost use Rattle.blue_names.specs.Table.{Numbers};
 
 use crate::links::node_number;
-use crate::table::table_of;
+use crate::table::{NameTable, table_of};
 use elem_core::why::NoMemory;
 use std::alloc::Global;
 use stream_model::blueprint::{Node, WireDecl};
@@ -88,6 +89,16 @@ fn is_hub_fault(nodes: &[Node], from: usize, to: usize, marked: bool) -> bool
         || (size_out_of_node(nodes, from).is_some() && size_into_node(nodes, to).is_some())
 }
 
+/// The same of a wire by the names of its nodes.
+fn is_faulty_wire(table: &NameTable<'_>, nodes: &[Node], wire: &WireDecl) -> bool
+    requires { Numbers table.now (map (λ n. n.name) nodes.now) }
+    ensures { result ≡ is_faulty_wire nodes.now wire.now }
+{
+    let from = node_number(table, &wire.from);
+    let to = node_number(table, &wire.to);
+    is_hub_fault(nodes, from, to, wire.lane.is_some())
+}
+
 /// The first such wire.
 pub fn hub_wrong(
     alloc: Global,
@@ -98,9 +109,7 @@ pub fn hub_wrong(
 {
     let table = table_of(alloc, nodes)?;
     for (i, wire) in wires.iter().enumerate() {
-        let from = node_number(&table, &wire.from);
-        let to = node_number(&table, &wire.to);
-        if is_hub_fault(nodes, from, to, wire.lane.is_some()) {
+        if is_faulty_wire(&table, nodes, wire) {
             return Ok(Some(i));
         }
     }

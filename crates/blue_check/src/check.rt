@@ -22,9 +22,9 @@ pub enum CheckEnd {
     NoMemory,
 }
 
-/// Tests the rules on names, ports, plugs, sizes, types and closed walks, in that order. The first rule that is broken decides, at
-/// its least place in the order of declaration. `plugs` are the stages that the caller hands in, and `taken` the files that it
-/// wants for itself.
+/// Tests the rules on names, ports, plugs, sizes, wires of hubs, types and closed walks, in that order. The first rule that is
+/// broken decides, at its least place in the order of declaration. `plugs` are the stages that the caller hands in, and `taken` the
+/// files that it wants for itself.
 pub fn check(
     alloc: Global,
     b: Blueprint,

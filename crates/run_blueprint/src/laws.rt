@@ -83,7 +83,7 @@ pub fn functions_meet_their_types()
 
 /// What may pass an output of a node is of its type, where what may pass its inputs is of theirs: a source gives its type
 /// (`source`), a node with one input what the check of a blueprint says of the type of its input (`single`), a merge, a
-/// concat, an interleave and a merge_sorted the one type of their inputs (`joining`), and a zip pairs (`zip`).
+/// merge hub, a concat, an interleave and a merge_sorted the one type of their inputs (`joining`), and a zip pairs (`zip`).
 pub fn stages_keep_types()
     ensures source { (g : Graph) (w : World) (node : ℕ) (d : Decider) (is : List Outlook) (k : Kind) (t : Sort) → source_type k ≡ Some t → (p : ℕ)
         → AllTyped t (node_outlook g w node k d is p).list }

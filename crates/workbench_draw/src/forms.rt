@@ -39,7 +39,7 @@ fn forms_of_lines(symbol: &[u8]) -> Option<&'static [u8]> {
         )
     } else if is_word(symbol, SECOND_LINE) {
         Some(
-            b"default ATTRS, switch NAME, chain NAME STEP?more, module NAME?attrs, source NAME SOURCE, stage NAME STAGE2, sink NAME SINK, use NAME NAME?attrs, wire PLACE -> PLACE?kept, in NAME = PLACE, out NAME = PLACE, end",
+            b"default ATTRS, switch NAME, chain NAME STEP?more, module NAME?attrs, source NAME SOURCE, stage NAME STAGE^, sink NAME SINK, use NAME NAME?attrs, wire PLACE -> PLACE?kept, in NAME = PLACE, out NAME = PLACE, end",
         )
     } else if is_word(symbol, b"ATTRS") || is_word(symbol, b"?attrs") {
         Some(b"async N^?decider, decider DECIDER")
@@ -137,7 +137,7 @@ pub(crate) fn forms_of(symbol: &[u8]) -> Option<Forms> {
     if is_word(symbol, b"STAGE") {
         return Some(stages(b""));
     }
-    if is_word(symbol, b"STAGE2") {
+    if is_word(symbol, b"STAGE^") {
         return Some(stages(LATER_STAGES));
     }
     let forms = match forms_of_lines(symbol) {

@@ -123,8 +123,8 @@ pub fn of_rule(fault: &CheckFault) -> Saying {
             advice: b"Take lists and pairs apart before, as by `map_concat flat`, `map first` or `unzip`.",
         },
         CheckFault::HubWire(_) => Saying {
-            means: b"A wire into a merge hub or out of a broadcast hub is a lane of the hub: it is not marked `async`, and does not join two hubs.",
-            advice: b"Take `async` off the wire; between two hubs put a stage, as `buffer 1 backpressure`.",
+            means: b"A wire into a merge hub or out of a broadcast hub is a lane of the hub: it is not marked `async`, and does not go from a broadcast hub to a merge hub.",
+            advice: b"Take `async` off the wire; behind a broadcast hub and before a merge hub put a stage, as `buffer 1 backpressure`.",
         },
         CheckFault::ClosedWalk(_) => Saying {
             means: b"The wire lies on a closed walk: elements would come back to where they were.",

@@ -46,8 +46,8 @@ impl Checked {
         self.polytree
     }
 
-    /// Whether a run makes moves that it has to record: there is a merge, a balance, a buffer that does not hold its input back,
-    /// a valve, a recover, or substreams that are merged. It takes no memory.
+    /// Whether a run makes moves that it has to record: there is a merge, a merge hub, a balance, a buffer that does not hold its
+    /// input back, a valve, a recover, or substreams that are merged. It takes no memory.
     pub fn needs_picks(&self) -> bool
         ensures { result ≡ needs_picks (checked_blueprint self.now).nodes.items }
     {

@@ -48,9 +48,9 @@ unread book moves = record { book = book; file = λ name. record { bytes = []; r
 
 -- the items are a list, and how it stands
 pub record IsTold (items : List Item) : Type 0 where
-  list : List Tree
-  end : End
-  is : items ≡ told list end
+  pub list : List Tree
+  pub end : End
+  pub is : items ≡ told list end
 
 -- as all that may pass
 pub agrees_exactly : (items : List Item) → IsTold items → AgreesWith (exact (list_of items) (end_of_items items)) items

@@ -36,5 +36,7 @@ pub mod Choosing
 pub mod Carried
 pub mod Drawns
 pub mod ShutWires
+pub mod Parties
+pub mod HubRows
 pub mod Closing
 pub mod Breaking

@@ -11,5 +11,6 @@ pub mod Carrying
 pub mod Tracing
 pub mod Opening
 pub mod Sending
+pub mod Parties
 pub mod Running
 pub mod Receipt

@@ -1,6 +1,6 @@
-// Laws of types, and of wires that are told shut: each function has no body, and its contract is the law. A type is what the check of a
-// blueprint settles, and an element is of it or not.
-ghost use Rattle.std.specs.Prelude.{◌≡◌, ℕ, Bool, List, [], ◌∷◌, length, map, slice_get, Option, Ok, Err, Some, true};
+// Laws of types, of wires that are told shut, and of the wires of hubs: each function has no body, and its contract is the law. A type is
+// what the check of a blueprint settles, and an element is of it or not.
+ghost use Rattle.std.specs.Prelude.{◌≡◌, ℕ, ◌+◌, ◌≤◌, Bool, List, [], ◌∷◌, length, map, slice_get, Option, Ok, Err, Some, true};
 ghost use Rattle.elem_core.specs.Sort.{Sort, num_type, pair_type};
 ghost use Rattle.elem_core.specs.Tree.{Tree};
 ghost use Rattle.elem_core.specs.Values.{map_value, pred_value, expansion, fold_zero, fold_step, reduce_step, part_of};
@@ -18,6 +18,7 @@ ghost use Rattle.stream_model.specs.Graph.{Graph, Edge};
 ghost use Rattle.stream_model.specs.Linear.{Book};
 ghost use Rattle.stream_model.specs.Node.{World, node_outlook};
 ghost use Rattle.stream_model.specs.Outlook.{Outlook};
+ghost use Rattle.stream_model.specs.Picks.{count_of};
 ghost use Rattle.stream_model.specs.declared.kind.Kind.{Kind};
 ghost use Rattle.stream_model.specs.declared.kind.Kind.TheVariants as kind;
 ghost use Rattle.stream_model.specs.declared.outcome.EndState.TheVariants.{Unended};
@@ -37,20 +38,25 @@ ghost use Rattle.stream_model.specs.declared.blueprint.Node.{Node};
 ghost use Rattle.stream_model.specs.declared.head.PlugHead.{PlugHead};
 ghost use Rattle.blue_names.specs.declared.typed.Typed.TheVariants.{Gives};
 ghost use Rattle.blue_names.specs.FnTypes.{map_want, map_gives, pred_want, expand_want, expand_gives, fold_want, fold_gives, reduce_want, reduce_gives};
+ghost use Rattle.blue_names.specs.Hubs.{hub_size};
 ghost use Rattle.blue_names.specs.Rounds.{half_type};
 ghost use Rattle.blue_names.specs.StageTypes.{source_type, stage_typed};
 ghost use Rattle.blue_check.specs.Fitness.{IsFit};
 ghost use Rattle.blue_check.specs.Wires.{blueprint_wires};
-ghost use Rattle.interpreter.specs.Picks.{Pick};
+ghost use Rattle.interpreter.specs.Picks.{Pick, pick_of};
+ghost use Rattle.island_runs.specs.Leaving.{Moment};
 ghost use Rattle.materializer.specs.Graphs.{graph_node, graph_chain, graph_of};
 ghost use Rattle.run_blueprint.specs.Checked.{PassesRules, HasKnownSteps, CarriesType};
+ghost use Rattle.run_blueprint.specs.Choosing.{HasPicks};
 ghost use Rattle.run_blueprint.specs.Drawing.{IsWorldOf};
 ghost use Rattle.run_blueprint.specs.Kinds.{is_known, shape_of, joining, single};
+ghost use Rattle.run_blueprint.specs.Parties.{CarriesParty};
 ghost use Rattle.run_blueprint.specs.Plugs.{KeepsPlugTypes};
-ghost use Rattle.run_blueprint.specs.Running.{LeavesFiles};
+ghost use Rattle.run_blueprint.specs.Running.{LeavesFiles, Runs};
 ghost use Rattle.run_blueprint.specs.Sent.{SendsItsType};
 ghost use Rattle.run_blueprint.specs.Stands.{SinkStand};
 ghost use Rattle.run_blueprint.specs.Types.{HasType, AllTyped, OutlooksTyped, TakesSort};
+ghost use Rattle.run_blueprint.specs.declared.run.RunResult.{RunResult};
 
 use plug_logic::book::PlugBook;
 use plug_logic::logic::Logic;
@@ -137,4 +143,26 @@ pub fn a_shut_wire_carried_all()
         → (k : ℕ) (s : SinkStand) (i : ℕ) (v : Edge) (c : WireCount) → slice_get sinks k ≡ Some s → s.2 ≡ Unended
         → slice_get (blueprint_wires b) i ≡ Some v → v.to ≡ s.0 → slice_get wires i ≡ Some c → c.shut ≡ true
         → (composed (graph_of b) w i).fails ≡ [] → c.sent ≡ length (composed (graph_of b) w i).list }
+{}
+
+// Choice: docs/DECISIONS.md#hubs-stay-on-lanes
+/// What a hub's wire carries of its party, at every moment of a run between two events, also at the last one before memory was wanting: what
+/// was taken of the party is in order what it offered first, at most as many elements as the hub's size were offered and not brought to the
+/// other island yet, and an end or a failure was taken behind all of them.
+pub fn hubs_carry_each_party<S: Source, D: Drain, L: Logic, B: PlugBook>()
+    ensures { (b : Blueprint) (ss : List S) (ds : List D) (a : Account (stage.IslandNode S D L B)) (nodes : List (stage.IslandNode S D L B))
+        → Moment S.state D.state B.lists b ss ds a nodes → (u : ℕ) (v : Edge) (size : ℕ) → slice_get (blueprint_wires b) u ≡ Some v
+        → hub_size b.nodes.items v.from v.to ≡ Some size → CarriesParty size (a.near u) (a.far u) }
+{}
+
+/// Whenever a run stopped, whatever its folder tells: of each producer a merge hub gave no more elements than were sent, by the moves that
+/// the run answers, and of those that were sent all but as many as the hub's size and one, which the hub itself may have.
+pub fn a_merge_hub_leaves_few()
+    ensures { (book : Book) (old new : FolderState) (b : Blueprint) (trace : Option (List ℕ)) (budget : ℕ) (ran : RunResult) (plugs : List PlugHead)
+        (taken : List (List ℕ)) (w : World) → Runs book old new b trace budget ran → IsFit b plugs taken → w.book ≡ book
+        → HasPicks (map pick_of ran.picks.items) w
+        → (k : ℕ) (n : Node) (own producers u : ℕ) (v : Edge) (c : WireCount) (size : ℕ) → slice_get b.nodes.items k ≡ Some n
+        → n.kind ≡ kind.MergeHub own producers → slice_get (blueprint_wires b) u ≡ Some v → v.to ≡ k → hub_size b.nodes.items v.from v.to ≡ Some size
+        → slice_get ran.wires.items u ≡ Some c
+        → (count_of v.input (w.moves k) ≤ c.sent) × (c.sent ≤ count_of v.input (w.moves k) + (size + 1)) }
 {}

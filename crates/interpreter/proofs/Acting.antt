@@ -35,7 +35,7 @@ use Rattle.fused_net.specs.Net.{Net, read_all, end_at, wire_at, ports_at, view_o
 use Rattle.fused_net.specs.Laws.{Minds, IsMinded, Settled}
 use Rattle.fused_net.specs.Poking.{AtNode, TellsPoked}
 use Rattle.fused_net.proofs.Reading.{read_at, get_there, some_same}
-use Rattle.interpreter.specs.declared.given.Wanted.TheVariants as wanted
+use Rattle.interpreter.specs.declared.wanted.Wanted.TheVariants as wanted
 use Rattle.interpreter.specs.BoundaryPlaces.{IsEntering, IsLeaving, EntersAt, LeavesAt, ReceivedAt, wanted_by, wanted_at, ends_at, moved_at}
 
 -- ---- one wire

@@ -4,8 +4,6 @@ use Rattle.std.specs.Prelude.{◌≡◌, ◌≤◌, ◌++◌, ℕ, Bool, true, f
 use Rattle.elem_core.specs.declared.why.Cause.{Cause}
 use Rattle.elem_core.specs.Tree.{Tree}
 use Rattle.elem_core.specs.Items.{elements}
-use Rattle.elem_core.specs.declared.item.Item.{Item}
-use Rattle.elem_core.specs.declared.item.Item.TheVariants as item
 use Rattle.stream_model.specs.Outlook.{End}
 use Rattle.stage_core.specs.Held.{told}
 use Rattle.port_core.specs.Decoding.{can_push}
@@ -20,10 +18,8 @@ use Rattle.nodes.specs.declared.node.IslandNode.TheVariants as node
 use Rattle.nodes.specs.Nodes.{node_gone, node_waits}
 use Rattle.fused_net.specs.Net.{Net, put, end_at, wire_at}
 use Rattle.fused_net.specs.Poking.{AtNode}
-use Rattle.interpreter.specs.declared.given.Wanted.{Wanted}
-use Rattle.interpreter.specs.declared.given.Wanted.TheVariants as wanted
-use Rattle.interpreter.specs.declared.given.Given.{Given}
-use Rattle.interpreter.specs.declared.given.Given.TheVariants as given
+use Rattle.interpreter.specs.declared.wanted.Wanted.{Wanted}
+use Rattle.interpreter.specs.declared.wanted.Wanted.TheVariants as wanted
 
 -- the node is one at which a lane comes in
 abbrev pub IsEntering : {S D L B : Type 0} → IslandNode S D L B → Type 0
@@ -48,13 +44,6 @@ wanted_at c = wanted_by c.wire.out (can_push c.wire.conn)
 abbrev pub ends_at : ℕ → Option Cause → Act
 ends_at j None = act.Complete j
 ends_at j (Some c) = act.FailOut j c
-
--- an answer by what it hands out
-abbrev pub GivenIs : Given → Type 0 → (Item → Type 0) → Type 0
-GivenIs given.Nothing P Q = P
-GivenIs (given.Elem e) P Q = Q (item.Elem e)
-GivenIs given.Ended P Q = Q item.Ended
-GivenIs (given.Failed c) P Q = Q (item.Failed c)
 
 module _ {S D L B : Type 0} where
   -- a lane comes in at the node that stands at the output of connection q, as it was handed in

@@ -8,10 +8,10 @@ ghost use Rattle.fused_net.specs.Net.{wire_at, end_at};
 ghost use Rattle.fused_net.specs.Laws.{Settled, NetGoesOn};
 ghost use Rattle.fused_net.specs.Costs.{all_asks, Uses};
 ghost use Rattle.fused_net.specs.Poking.{AtNode, HandsAt};
-ghost use Rattle.interpreter.specs.declared.given.Wanted.TheVariants as wanted;
-ghost use Rattle.interpreter.specs.BoundaryPlaces.{EntersAt, LeavesAt, IsClearAt, GivenIs, ReceivedAt, wanted_at, ends_at, moved_at, ended_at, cancelled_at};
+ghost use Rattle.interpreter.specs.declared.wanted.Wanted.TheVariants as wanted;
+ghost use Rattle.interpreter.specs.BoundaryPlaces.{EntersAt, LeavesAt, IsClearAt, ReceivedAt, wanted_at, ends_at, moved_at, ended_at, cancelled_at};
 
-use crate::given::{Given, Wanted};
+use crate::wanted::Wanted;
 use elem_core::elem::Elem;
 use elem_core::item::Item;
 use elem_core::why::Cause;
@@ -153,28 +153,6 @@ pub fn hand_out<S: Source, D: Drain, L: Logic, B: PlugBook>(
 {
     let ends = engine.ends(place);
     engine.hand_out(ends.to)
-}
-
-/// The same, told by an answer that names what it is.
-pub fn given<S: Source, D: Drain, L: Logic, B: PlugBook>(
-    engine: &mut Engine<IslandNode<S, D, L, B>>,
-    place: u32,
-) -> Given
-    requires laws { Settled node_port_state (node_law S.state D.state B.lists) node_asking node_moves engine.old }
-    requires within { place < length engine.old.wires }
-    ensures given { GivenIs result (IsClearAt engine.old place × (engine.new ≡ engine.old))
-        (λ x. HandsAt node_gone node_waits engine.old (end_at engine.old.ends place).to (x ∷ []) engine.new) }
-    ensures laws { Settled node_port_state (node_law S.state D.state B.lists) node_asking node_moves engine.new }
-    ensures on { NetGoesOn engine.old engine.new }
-    ensures uses { Uses engine.old engine.new 0 }
-{
-    let ends = engine.ends(place);
-    match engine.hand_out(ends.to) {
-        None => Given::Nothing,
-        Some(Item::Elem(e)) => Given::Elem(e),
-        Some(Item::Ended) => Given::Ended,
-        Some(Item::Failed(cause)) => Given::Failed(cause),
-    }
 }
 
 /// Cancels there, without change where its input is closed. It takes no memory and costs no unit.

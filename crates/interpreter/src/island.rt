@@ -18,15 +18,15 @@ ghost use Rattle.interpreter.specs.Handles.{DidNotStart, HandsBack, HoldsHandles
 ghost use Rattle.interpreter.specs.declared.parts.Link as wiring;
 ghost use Rattle.interpreter.specs.Ways.{comes_in, goes_out};
 ghost use Rattle.interpreter.specs.Boundary.{BeginsOut, Enters, Leaves, EntersBy, LeavesBy, HandsOut, Drops, way_in, way_out, cell_in, cell_out, with_net};
-ghost use Rattle.interpreter.specs.BoundaryPlaces.{IsClearAt, ReceivedAt, GivenIs, wanted_at, moved_at, ended_at};
-ghost use Rattle.interpreter.specs.declared.given.Wanted.TheVariants as wanted;
+ghost use Rattle.interpreter.specs.BoundaryPlaces.{IsClearAt, ReceivedAt, wanted_at, moved_at, ended_at};
+ghost use Rattle.interpreter.specs.declared.wanted.Wanted.TheVariants as wanted;
 ghost use Rattle.port_core.specs.Decoding.{can_pull};
 ghost use Rattle.port_core.specs.declared.act.Act.TheVariants as act;
 
 use crate::calls;
-use crate::given::{Given, Wanted};
 use crate::parts::{Parts, build_all, join_ports};
 use crate::room::{Blank, IslandRoom};
+use crate::wanted::Wanted;
 use crate::ways::Ways;
 use elem_core::elem::Elem;
 use elem_core::item::Item;
@@ -375,17 +375,6 @@ impl<S: Source, D: Drain, L: Logic, B: PlugBook> Island<S, D, L, B> {
         ensures uses { Uses self.old.net self.new.net 0 }
     {
         calls::hand_out(&mut self.engine, self.ways.outs[wire as usize])
-    }
-
-    /// The same, told by an answer that names what it is.
-    pub fn given(&mut self, wire: u32) -> Given
-        requires whole { self.old.broken ≡ false }
-        requires leaves { Leaves self.old wire }
-        ensures given { GivenIs result (IsClearAt self.old.net (way_out self.old wire) × (self.new ≡ self.old))
-            (λ x. HandsOut self.old wire (x ∷ []) self.new) }
-        ensures uses { Uses self.old.net self.new.net 0 }
-    {
-        calls::given(&mut self.engine, self.ways.outs[wire as usize])
     }
 
     /// What came where that lane goes out: what was handed out or dropped, and then what waits. The call does nothing.

@@ -5,8 +5,8 @@
 #![tactic(auto)]
 
 pub mod calls;
-pub mod given;
 pub mod island;
 pub mod parts;
 pub mod room;
+pub mod wanted;
 pub mod ways;

@@ -25,7 +25,7 @@ use Rattle.lane_core.specs.declared.boundary.InputBoundary.{InputBoundary}
 use Rattle.lane_core.specs.declared.state.State.{State}
 use Rattle.lane_core.specs.declared.state.State.TheVariants.{Flowing, Closed, Cancelled}
 use Rattle.lane_core.specs.Boundary.{given, waits, state, BoundaryKeeps}
-use Rattle.interpreter.specs.declared.given.Wanted.TheVariants as wanted
+use Rattle.interpreter.specs.declared.wanted.Wanted.TheVariants as wanted
 use Rattle.port_core.specs.View.{output_closed}
 use Rattle.interpreter.specs.BoundaryPlaces.{wanted_by, wanted_at, moved_at, ended_at, ends_at}
 use Rattle.interpreter.specs.Island.{Kept, IslandKeeps}

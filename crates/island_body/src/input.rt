@@ -9,14 +9,14 @@ ghost use Rattle.lane_core.specs.Boundary.{given, waits, is_over, state, keeps_a
 ghost use Rattle.lane_core.specs.declared.state.State.TheVariants.{Flowing, Closed, Cancelled};
 ghost use Rattle.port_core.specs.View.{output_closed};
 ghost use Rattle.interpreter.specs.BoundaryPlaces.{wanted_at, moved_at};
-ghost use Rattle.interpreter.specs.declared.given.Wanted.TheVariants as wanted;
+ghost use Rattle.interpreter.specs.declared.wanted.Wanted.TheVariants as wanted;
 ghost use Rattle.interpreter.specs.Boundary.{Enters, way_in, cell_in, with_net};
 ghost use Rattle.island_body.specs.Beside.{Beside, in_node};
 ghost use Rattle.island_body.specs.Feeding.{act_of, Feeds, IsFed};
 
 use elem_core::item::Item;
-use interpreter::given::Wanted;
 use interpreter::island::Island;
+use interpreter::wanted::Wanted;
 use lane_core::boundary::InputBoundary;
 use lane_core::state::State;
 use plug_logic::book::PlugBook;

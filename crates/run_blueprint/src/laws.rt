@@ -146,9 +146,9 @@ pub fn a_shut_wire_carried_all()
 {}
 
 // Choice: docs/DECISIONS.md#hubs-stay-on-lanes
-/// What a hub's wire carries of its party, at every moment of a run between two events, also at the last one before memory was wanting: what
-/// was taken of the party is in order what it offered first, at most as many elements as the hub's size were offered and not brought to the
-/// other island yet, and an end or a failure was taken behind all of them.
+/// What a hub's wire carries, of a producer or to a consumer, at every moment of a run between two events, also at the last one before memory
+/// was wanting: what was taken at its input is in order the first of what was offered at its output, at most as many elements as the hub's
+/// size were offered and not yet brought to the other island, and an end or a failure was taken behind all of them.
 pub fn hubs_carry_each_party<S: Source, D: Drain, L: Logic, B: PlugBook>()
     ensures { (b : Blueprint) (ss : List S) (ds : List D) (a : Account (stage.IslandNode S D L B)) (nodes : List (stage.IslandNode S D L B))
         → Moment S.state D.state B.lists b ss ds a nodes → (u : ℕ) (v : Edge) (size : ℕ) → slice_get (blueprint_wires b) u ≡ Some v

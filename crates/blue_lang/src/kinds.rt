@@ -8,7 +8,7 @@ ghost use Rattle.blue_lang.specs.Kinds.{base_word, policy_word, joining_word, ea
 
 use crate::functions::{expand_word, fold_word, reduce_word, write_map, write_pred};
 use crate::words::{
-    write_count, write_int, write_two, write_word, write_word_count, write_word_int,
+    write_int, write_two, write_word, write_word_count, write_word_counts, write_word_int,
 };
 use elem_core::function::{MapFn, Pred};
 use elem_core::line::Line;
@@ -150,20 +150,17 @@ fn write_fan(out: &mut Vec<u8>, kind: &Kind) -> Result<(), NoMemory>
     match kind {
         Kind::Merge(n) => write_word_count(out, b"merge", u64::from(*n)),
         Kind::MergeHub(size, n) => {
-            write_word_count(out, b"merge_hub", u64::from(*size))?;
-            write_count(out, u64::from(*n))
+            write_word_counts(out, b"merge_hub", u64::from(*size), u64::from(*n))
         }
         Kind::Concat(n) => write_word_count(out, b"concat", u64::from(*n)),
         Kind::Interleave(n, segment) => {
-            write_word_count(out, b"interleave", u64::from(*n))?;
-            write_count(out, u64::from(*segment))
+            write_word_counts(out, b"interleave", u64::from(*n), u64::from(*segment))
         }
         Kind::MergeSorted => write_word(out, b"merge_sorted"),
         Kind::Zip => write_word(out, b"zip"),
         Kind::Broadcast(n) => write_word_count(out, b"broadcast", u64::from(*n)),
         Kind::BroadcastHub(size, n) => {
-            write_word_count(out, b"broadcast_hub", u64::from(*size))?;
-            write_count(out, u64::from(*n))
+            write_word_counts(out, b"broadcast_hub", u64::from(*size), u64::from(*n))
         }
         Kind::Balance(n) => write_word_count(out, b"balance", u64::from(*n)),
         Kind::Partition(n, f) => {

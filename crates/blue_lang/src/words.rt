@@ -46,6 +46,19 @@ pub fn write_word_count(out: &mut Vec<u8>, word: &[u8], count: u64) -> Result<()
     write_count(out, count)
 }
 
+/// Appends a word and two numbers, each behind a space.
+pub fn write_word_counts(
+    out: &mut Vec<u8>,
+    word: &[u8],
+    first: u64,
+    second: u64,
+) -> Result<(), NoMemory>
+    ensures { OnOk result (out.new.items ≡ out.old.items ++ spaced (word.now ∷ decimal first ∷ decimal second ∷ [])) }
+{
+    write_word_count(out, word, first)?;
+    write_count(out, second)
+}
+
 /// Appends a word and a number with its sign, each behind a space.
 pub fn write_word_int(out: &mut Vec<u8>, word: &[u8], number: i64) -> Result<(), NoMemory>
     ensures { OnOk result (out.new.items ≡ out.old.items ++ spaced (word.now ∷ signed_decimal number ∷ [])) }

@@ -29,12 +29,13 @@
 //! workers the calling thread takes the table apart and goes on with what they left; with one worker, or one body, it does all.
 //!
 //! A worker that looks in vain a few times sleeps (`ReadyList`, in `ready.rt`, where the argument stands that nobody leaves too early and
-//! nobody sleeps while something can be done). Whoever puts a second island behind a turn of 32 units or more wakes one for it. What
-//! shorter turns put is left to those that are awake: one of the workers that wait watches, looks every three milliseconds, and takes an
-//! island where the others take few turns or none meanwhile, as where their turns wait in a read; and before a turn of an island whose last
-//! turn lasted longer than that, its worker wakes one for what else is ready. So a row of lanes with one place, whose turns cost less than
-//! waking a worker, pays for none, and an island that is ready is left for six milliseconds at most while a worker sleeps and no other
-//! comes for it. All this is in no clause.
+//! nobody sleeps while something can be done). Whoever puts a second island behind a long turn wakes one for it: behind 32 units or more,
+//! or 128 where turns are quick. What shorter turns put is left to those that are awake: one of the workers that wait watches, looks every
+//! three milliseconds, and takes an island where the others take few turns or none meanwhile, as where their turns wait in a read; and
+//! before a turn of an island whose last turn lasted longer than that, its worker wakes one for what else is ready. So a row of lanes with
+//! one place, whose turns cost less than waking a worker, pays for none, and an island that is ready is left for six milliseconds at most
+//! while a worker sleeps and no other comes for it. Where turns are quick, a worker that looks in vain sleeps at once, so that they stay
+//! with few workers. All this is in no clause.
 //!
 //! How the calling thread goes on then stands at the head of lane_core: its rounds.
 #![tactic(auto)]

@@ -62,9 +62,6 @@ pub struct Came {
     pub broke: bool,
 }
 
-// How many units a turn uses that is worth another worker.
-const LONG: u32 = 32;
-
 /// What a place is made of.
 pub struct TableParts<B> {
     /// The body.
@@ -135,12 +132,13 @@ impl<B: Turning> TablePlace<B> {
             list.call_for_more();
         }
         let naps = list.naps();
-        let came = self.take_turn(alloc, budget);
+        let came = self.take_turn(alloc, budget, list.long_turn());
         self.slow = list.lasted(naps);
         came
     }
 
-    fn take_turn(&mut self, alloc: Global, budget: &Budget) -> Came
+    // A turn; one that uses `long` units is worth another worker for what it woke.
+    fn take_turn(&mut self, alloc: Global, budget: &Budget, long: u32) -> Came
         requires belongs { Belongs (budget_id budget.now) budget.now.limit self.old }
         requires few { budget.now.limit ≤ MOST_COUNT }
         ensures same { self.new ≡ self.old }
@@ -161,7 +159,7 @@ impl<B: Turning> TablePlace<B> {
                 Came {
                     told: used > 0,
                     again: granted > 0 && (used as u64 == granted || self.body.has_event()),
-                    long: used >= LONG,
+                    long: used >= long,
                     broke: false,
                 }
             }

@@ -27,6 +27,12 @@
 // lie there so long behind each line of a slow source: an island whose last turn lasted longer than a nap is known as slow, and who gives
 // it its next turn rings first, where the list has another island.
 //
+// Turns that are quick. Workers that hand short turns to each other take the islands and what is on the lanes out of each other's caches,
+// and use the processors more than one worker that takes all these turns. So turns count as quick, from the first one on and again behind
+// each few laps, until some naps in a row show that they are worth a worker more, as above. While they are quick, a worker that looks in
+// vain sleeps at once, and a turn is long by more units. Nothing that was said rests on either: it looks once more when it is asleep, who
+// rings finds it there, and the one that watches takes an island behind the first nap that was slow.
+//
 // Turns that may wait. A worker gives an island a turn that may wait for a read only where the list is empty, or another worker comes
 // to it: one that it rings for, or one that is busy and does not wait. `waiting` counts those that wait, and the worker counts itself
 // first and then compares with `busy`: of two that do so at once one sees the other. Else it puts the turn off, behind the others on the
@@ -65,6 +71,8 @@ pub struct ReadyList {
     laps: AtomicU64,
     // How many whole naps there were.
     naps: AtomicU64,
+    // How many slow naps in a row are wanted until turns do not count as quick.
+    quick: AtomicU64,
     // It is rung where a worker is wanted, and at the end. What it counts and who sleeps there is all that is used of it.
     bell: Condvar,
 }
@@ -77,6 +85,16 @@ const NAP: u64 = 3;
 
 // How many turns a worker takes in a lap: in a nap one takes as many where its turns are as long as it takes to wake another.
 const LAP: u32 = 128;
+
+// Behind how many laps of all workers turns count as quick again, and behind how many slow naps in a row they do not.
+const LAPS: u64 = 32;
+
+const SLOW_NAPS: u64 = 2;
+
+// How many units a turn uses that is worth another worker, and how many where turns are quick.
+const LONG: u32 = 32;
+
+const LONG_IF_QUICK: u32 = 128;
 
 // How many milliseconds the others sleep that nobody wakes.
 const SLEEP: u64 = 500;
@@ -96,6 +114,7 @@ impl ReadyList {
             watched: AtomicU64::new(0),
             laps: AtomicU64::new(0),
             naps: AtomicU64::new(0),
+            quick: AtomicU64::new(SLOW_NAPS),
             bell: Condvar::new(),
         })
     }
@@ -175,13 +194,40 @@ impl ReadyList {
         if taken < LAP {
             return taken + 1;
         }
-        self.laps.fetch_add(1, Ordering::SeqCst);
+        if self.laps.fetch_add(1, Ordering::SeqCst) % LAPS == LAPS - 1 {
+            self.quick.store(SLOW_NAPS, Ordering::SeqCst);
+        }
         1
+    }
+
+    // Choice: docs/DECISIONS.md#quick-turns-stay
+    /// From how many units on a turn is worth another worker for what it woke.
+    pub fn long_turn(&self) -> u32 {
+        if self.is_quick() { LONG_IF_QUICK } else { LONG }
+    }
+
+    // Whether turns count as too short to be worth another worker.
+    fn is_quick(&self) -> bool {
+        self.quick.load(Ordering::SeqCst) > 0
+    }
+
+    // What a nap in which nobody rang shows of that.
+    fn note_nap(&self, slow: bool) {
+        let left = if slow {
+            self.quick.load(Ordering::SeqCst).saturating_sub(1)
+        } else {
+            SLOW_NAPS
+        };
+        self.quick.store(left, Ordering::SeqCst);
     }
 
     /// Waits until an island is on the list, or no worker is busy. True in the first case.
     pub fn wait<R: Wait>(&self, rt: &R) -> bool {
-        let mut sight = self.look_awake(rt);
+        let mut sight = if self.is_quick() {
+            self.look()
+        } else {
+            self.look_awake(rt)
+        };
         for _ in rt.forever() {
             match sight {
                 Sight::Island => {
@@ -247,7 +293,9 @@ impl ReadyList {
             return true;
         }
         self.naps.fetch_add(1, Ordering::SeqCst);
-        now.laps.saturating_sub(before.laps) <= self.busy.load(Ordering::SeqCst)
+        let slow = now.laps.saturating_sub(before.laps) <= self.busy.load(Ordering::SeqCst);
+        self.note_nap(slow);
+        slow
     }
 
     // Watches, until it finds an island that it is to take, or nobody busy. It may take one that it finds at once, or behind a nap in

@@ -7,7 +7,7 @@ use denote.Struct.Field.{row_field, u32-field, bool-field}
 use denote.Param.Send.{IsSend, IsSync, view_send, owning_send, sendable}
 use denote.Param.SendFields.{as_row_send, declared_send}
 use Rattle.std.specs.contracts.snapshot.Snapshot as snapshot
-use Rattle.std.proofs.Crossing.{crosses}
+use Rattle.std.proofs.Crossing.{crosses, Box-send}
 use Rattle.std.proofs.alloc.Global.TheSendSync as heap
 use Rattle.atomic_table.proofs.shared.Seat.TheSendSync as seat
 use Rattle.atomic_table.proofs.shared.Shared.TheSendSync as shared
@@ -26,7 +26,7 @@ start_send : (T : RattleType) → IsSend (snapshot.the_row T)
 start_send T = owning_send (snapshot.the_type T) (search sendable, tt) (λ d. tt) (λ k x w. tt)
 
 fields_send : (T : RattleType) (g : _) (h : _) → IsSend T → IsSend (inside.the_row T g h)
-fields_send T g h s = declared_send (inside.the_type T g h) (as_row_send (row_field T) s, (seat_send, (start_send T, (as_row_send u32-field (search sendable), (as_row_send bool-field (search sendable), (as_row_send bool-field (search sendable), (as_row_send u32-field (search sendable), tt)))))))
+fields_send T g h s = declared_send (inside.the_type T g h) (as_row_send (row_field _) (Box-send T s), (seat_send, (start_send T, (as_row_send u32-field (search sendable), (as_row_send bool-field (search sendable), (as_row_send bool-field (search sendable), (as_row_send u32-field (search sendable), tt)))))))
 
 pub place_send : (T : RattleType) (g : _) (h : _) → IsSend T → IsSend (place.the_row T g h)
 place_send T g h s = view_send _ _ _ _ _ (fields_send T g h s)

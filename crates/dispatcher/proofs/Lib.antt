@@ -5,3 +5,4 @@ pub mod BudgetKeeps
 pub mod Crossing
 pub mod Lists
 pub mod Taking
+pub mod Boxes

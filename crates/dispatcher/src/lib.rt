@@ -20,13 +20,14 @@
 //!
 //! # Workers
 //!
-//! `run` of dispatcher puts each body into a place of a turn table, with a seat of the budget and, for contracts alone, the body as it was
-//! handed in. Every place is woken once, and its number goes on the list of those that are ready. A worker takes a number off that list,
-//! begins the turn of the place, claims 1000 units, lets the body take its turn and gives back what it did not use; it wakes the bodies
-//! that this one names (`wakes`), and the body itself where it used up a claim above 0; then it ends the turn. Where `wake` or `end` says
-//! that a place was at rest and is wanted, its number goes on the list. There are no more workers than bodies. A worker leaves where no
-//! number is on the list and no worker is busy, so that none will come, and where memory was wanting in a turn of its own. Behind the
-//! workers the calling thread takes the table apart and goes on with what they left; with one worker, or one body, it does all.
+//! `run` of dispatcher puts each body, in memory of its own, into a place of a turn table, with a seat of the budget and, for contracts
+//! alone, the body as it was handed in. Every place is woken once, and its number goes on the list of those that are ready. A worker takes
+//! a number off that list, begins the turn of the place, claims 1000 units, lets the body take its turn and gives back what it did not use;
+//! it wakes the bodies that this one names (`wakes`), and the body itself where it used up a claim above 0; then it ends the turn. Where
+//! `wake` or `end` says that a place was at rest and is wanted, its number goes on the list. There are no more workers than bodies. A
+//! worker leaves where no number is on the list and no worker is busy, so that none will come, and where memory was wanting in a turn of
+//! its own. Behind the workers the calling thread takes the table apart and goes on with what they left; with one worker, or one body, it
+//! does all.
 //!
 //! A worker that looks in vain a few times sleeps (`ReadyList`, in `ready.rt`, where the argument stands that nobody leaves too early and
 //! nobody sleeps while something can be done). Whoever puts a second island behind a long turn wakes one for it: behind 32 units or more,

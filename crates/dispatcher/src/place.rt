@@ -19,7 +19,8 @@ use std::snapshot::Snapshot;
 /// turn any more.
 #[derive(Drop)]
 pub struct TablePlace<B: Turning> {
-    body: B,
+    // In memory of its own, so that a turn moves no body.
+    body: Box<B>,
     seat: BudgetSeat,
     start: Snapshot<B>,
     used: u32,
@@ -40,7 +41,7 @@ impl<B: Turning> Model for TablePlace<B> {
 
     ghost view = { λ p. place_origin p.start (seat_id p.seat) (limit_of p.seat) };
 
-    ghost invariant = { λ p. PlaceHolds B.keeps B.goes B.breaks B.spent p.start.value p.body p.seat p.used p.broken };
+    ghost invariant = { λ p. PlaceHolds B.keeps B.goes B.breaks B.spent p.start.value p.body.value p.seat p.used p.broken };
 }
 
 impl<B: Turning> Kept for TablePlace<B> {
@@ -76,13 +77,13 @@ pub struct TableParts<B> {
 
 impl<B: Turning> TablePlace<B> {
     /// A body that took no turn yet.
-    pub fn new(body: B, seat: BudgetSeat) -> TablePlace<B>
-        requires keeps { B.keeps body }
-        requires unspent { B.spent body ≡ 0 }
+    pub fn new(body: Box<B>, seat: BudgetSeat) -> TablePlace<B>
+        requires keeps { B.keeps body.value }
+        requires unspent { B.spent body.value ≡ 0 }
         requires seat { Paid 0 seat }
-        ensures is { (result.start.value ≡ body) × (result.table ≡ seat_id seat) × (result.limit ≡ limit_of seat) }
+        ensures is { (result.start.value ≡ body.value) × (result.table ≡ seat_id seat) × (result.limit ≡ limit_of seat) }
     {
-        let start = Snapshot::of(&body);
+        let start = Snapshot::of(body.as_ref());
         TablePlace {
             body,
             seat,
@@ -191,7 +192,7 @@ impl<B: Turning> TablePlace<B> {
             put_off: _,
         } = self;
         TableParts {
-            body,
+            body: Box::into_inner(body),
             seat,
             used,
             broken,

@@ -15,7 +15,7 @@ use crate::crew::{wake_each, work_all};
 use crate::finish::{Finish, settled};
 use crate::place::TablePlace;
 use crate::ready::ReadyList;
-use crate::taken::{TurnsTaken, place_all, take_apart, untaken};
+use crate::taken::{TurnsTaken, box_all, place_all, take_apart, untaken};
 use crate::turns::{TurnSeat, Turns};
 use crate::waking::Waking;
 use elem_core::why::NoMemory;
@@ -124,6 +124,10 @@ fn run_workers<B: Waking + Send, R: Threads + Wait + Sync>(
         back,
         bodies: room,
     } = room;
+    let bodies = match box_all(alloc, bodies) {
+        Ok(boxes) => boxes,
+        Err(bodies) => return untaken(bodies, true),
+    };
     let places = place_all(&purse, &mut first, bodies, places);
     match Turns::new(alloc, places, workers.min(count) + 1) {
         Ok((turns, seats)) => {

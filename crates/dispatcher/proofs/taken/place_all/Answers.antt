@@ -1,19 +1,20 @@
 -- The goals of `taken::place_all` that the search leaves.
-use Rattle.std.proofs.Common.{rules, ◌≡◌, ◌++◌, ◌∷◌, [], arith, ap, sym, ◌∙◌, map, length}
+use Rattle.std.proofs.Common.{rules, ◌≡◌, ◌++◌, ◌∷◌, [], arith, ap, sym, ◌∙◌, map, length, box_value}
 use Rattle.std.proofs.lemmas.List.Elements.{All-push, All-same}
 use Rattle.std.specs.Vec.Iter.{into_iter_items}
 use Rattle.dispatcher.specs.PublicBudget.{budget_id}
 use Rattle.dispatcher.specs.Places.{Belongs, body_start}
-use Rattle.dispatcher.proofs.Lists.{next_of, map_snoc, app_next, passed_all}
+use Rattle.dispatcher.proofs.Lists.{map_snoc, app_next, passed_all}
+use Rattle.dispatcher.proofs.Boxes.{boxed_next}
 use Rattle.dispatcher.proofs.taken.place_all.Goals as goal
 
 pub new-requires-clause-keeps : goal.new-requires-clause-keeps
 new-requires-clause-keeps g c = let inv = c.loop-body.invariant in
-    next_of g.B.Turning.keeps c.loop-body.yielded c.in-Some.body (into_iter_items c.next.new.self) c.args.bodies.items (inv.all ∙ ap (λ l. c.loop-body.yielded ++ l) c.in-Some.ensures.steps.0) c.requires.keeps
+    boxed_next box_value g.B.Turning.keeps c.loop-body.yielded c.in-Some.body (into_iter_items c.next.new.self) c.args.bodies.items (inv.all ∙ ap (λ l. c.loop-body.yielded ++ l) c.in-Some.ensures.steps.0) c.requires.keeps
 
 pub new-requires-clause-unspent : goal.new-requires-clause-unspent
 new-requires-clause-unspent g c = let inv = c.loop-body.invariant in
-    next_of (λ b. g.B.Turning.spent b ≡ 0) c.loop-body.yielded c.in-Some.body (into_iter_items c.next.new.self) c.args.bodies.items (inv.all ∙ ap (λ l. c.loop-body.yielded ++ l) c.in-Some.ensures.steps.0) c.requires.unspent
+    boxed_next box_value (λ b. g.B.Turning.spent b ≡ 0) c.loop-body.yielded c.in-Some.body (into_iter_items c.next.new.self) c.args.bodies.items (inv.all ∙ ap (λ l. c.loop-body.yielded ++ l) c.in-Some.ensures.steps.0) c.requires.unspent
 
 pub loop-body-preserved : goal.loop-body-preserved
 loop-body-preserved g c =
@@ -34,11 +35,11 @@ loop-body-preserved g c =
       used = split.seat.3 ∙ inv.used;
       len = omega (arith, len, was, one);
       room = c.push_reserved.ensures.capacity ∙ inv.room;
-      starts = ap (map body_start) items ∙ map_snoc body_start c.loop-body.places.items place ∙ (λ i. inv.starts i ++ is.0 i ∷ []);
+      starts = ap (map body_start) items ∙ map_snoc body_start c.loop-body.places.items place ∙ (λ i. inv.starts i ++ is.0 i ∷ []) ∙ sym (map_snoc box_value yielded body);
       belong = All-same (Belongs (budget_id b) b.limit) _ _ items (All-push (Belongs (budget_id b) b.limit) _ _ inv.belong belongs);
     }
 
 pub returns-clause-starts : goal.returns-clause-starts
 returns-clause-starts g c =
     let inv = c.loop-body.invariant in let none = c.in-None.ensures.steps in
-    inv.starts ∙ sym (passed_all c.args.bodies.items c.loop-body.yielded (into_iter_items c.loop-body.body-iterator) inv.all (let long = inv.long in let n = none.0 in omega (arith, long, n)))
+    inv.starts ∙ ap (map box_value) (sym (passed_all c.args.bodies.items c.loop-body.yielded (into_iter_items c.loop-body.body-iterator) inv.all (let long = inv.long in let n = none.0 in omega (arith, long, n))))

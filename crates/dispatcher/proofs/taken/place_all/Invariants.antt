@@ -1,5 +1,5 @@
 -- The loop of `taken::place_all`.
-use Rattle.std.proofs.Common.{◌≡◌, ◌+◌, ◌++◌, map, length, vec_len, vec_capacity}
+use Rattle.std.proofs.Common.{◌≡◌, ◌+◌, ◌++◌, map, length, box_value, vec_len, vec_capacity}
 use Rattle.std.specs.List.{All}
 use Rattle.std.specs.Vec.Iter.{into_iter_items, into_iter_len}
 use Rattle.dispatcher.specs.PublicBudget.{budget_id, seat_id, used_by, budget_parts, limit_of, HasNoClaim}
@@ -19,6 +19,6 @@ invariant-loop-body g l = record {
   used : used_by l.first ≡ 0;
   len : vec_len l.places + length (into_iter_items l.body-iterator) ≡ vec_len l.fn.bodies;
   room : vec_capacity l.places ≡ vec_capacity l.fn.places;
-  starts : map body_start l.places.items ≡ l.yielded;
+  starts : map body_start l.places.items ≡ map box_value l.yielded;
   belong : All (Belongs (budget_id l.fn.purse) l.fn.purse.limit) l.places.items;
 }

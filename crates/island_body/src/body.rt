@@ -447,9 +447,9 @@ impl<S: Source, D: Drain, L: Logic, B: PlugBook> Body<S, D, L, B> {
         ensures { result ≡ true → (pausing ≡ true) × ((0 < some) × (is_pending self.now ≡ true)) }
     {
         pausing
+            && self.island.awaits_read()
             && some > 0
             && !self.peers.woken().is_empty()
-            && self.island.awaits_read()
             && self.is_pending()
     }
 

@@ -7,6 +7,7 @@ use Rattle.stream_model.specs.Graph.{Graph, Edge}
 use Rattle.port_core.specs.Cell.{WireState}
 use Rattle.fused_net.specs.Net.{wire_at}
 use Rattle.fused_net.proofs.Reading.{get_there}
+use Rattle.interpreter.specs.declared.ways.LanePlace.{LanePlace}
 use Rattle.interpreter.specs.Boundary.{Enters, Leaves, way_in, way_out, cell_in, cell_out}
 use Rattle.interpreter.specs.Island.{Kept}
 use Rattle.interpreter.specs.declared.parts.Seated.{Seated}
@@ -59,10 +60,10 @@ module _ {S D L B : Type 0} where
   there_after xs ys k x e at = get_there ys k (subst (λ (n : ℕ). k < n) (sym e) (slice_get_within xs k x at))
 
   ins_way : (i j : Kept S D L B) (u : ℕ) → j.ins ≡ i.ins → way_in j u ≡ way_in i u
-  ins_way i j u e = ap (λ (l : List ℕ). way_in (record i { ins = l }) u) e
+  ins_way i j u e = ap (λ (l : List LanePlace). way_in (record i { ins = l }) u) e
 
   outs_way : (i j : Kept S D L B) (u : ℕ) → j.outs ≡ i.outs → way_out j u ≡ way_out i u
-  outs_way i j u e = ap (λ (l : List ℕ). way_out (record i { outs = l }) u) e
+  outs_way i j u e = ap (λ (l : List LanePlace). way_out (record i { outs = l }) u) e
 
   -- ---- the crossings, once the bodies went on
 

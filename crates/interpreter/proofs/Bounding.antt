@@ -1,6 +1,6 @@
 -- The boundary stages of a new island, and what an island keeps where they act.
 use Rattle.std.proofs.Common.{◌≡◌, ℕ, zero, suc, ◌<◌, true, Some, List, [], ◌∷◌, length, map, replicate, get_or, slice_get, refl, sym, ap, ◌∙◌, subst, arith}
-use Rattle.std.proofs.lemmas.Option.{slice_get_within, get_or_from_slice_get}
+use Rattle.std.proofs.lemmas.Option.{slice_get_within}
 use Rattle.std.proofs.lemmas.List.{length-map}
 use Rattle.stream_io.specs.State.{SourceState, DrainState}
 use Rattle.elem_core.specs.declared.item.Item.{Item}
@@ -14,15 +14,16 @@ use Rattle.nodes.specs.Nodes.{node_gone, node_passive}
 use Rattle.fused_net.specs.Laws.{NetGoesOn}
 use Rattle.fused_net.specs.Net.{Net, end_at, wire_at}
 use Rattle.fused_net.specs.Outside.{IsPassiveAt, StandsStill}
-use Rattle.interpreter.specs.BoundaryPlaces.{IsEntering, IsLeaving}
+use Rattle.interpreter.specs.BoundaryPlaces.{IsEntering, IsLeaving, EntersAt, LeavesAt}
 use Rattle.interpreter.specs.declared.parts.Link.{Link}
 use Rattle.interpreter.specs.declared.parts.Seated.{Seated}
 use Rattle.interpreter.specs.declared.parts.Work.{Work}
 use Rattle.interpreter.specs.declared.parts.Work.TheVariants as work
 use Rattle.interpreter.specs.Parts.{AllBecome, BecomesOf, ends_of}
-use Rattle.interpreter.specs.Ways.{MarksLaneEnds, comes_in, goes_out, is_lane_in, is_lane_out}
+use Rattle.interpreter.specs.Ways.{ListsIns, ListsOuts, comes_in, goes_out, is_lane_in, is_lane_out}
 use Rattle.interpreter.specs.Island.{Kept, IslandKeeps}
-use Rattle.interpreter.specs.Boundary.{BeginsOut, EntersBy, LeavesBy}
+use Rattle.interpreter.specs.LanePlaces.{listed_place, place_or_none}
+use Rattle.interpreter.specs.Boundary.{BeginsOut, EntersBy, LeavesBy, way_in, way_out}
 use Rattle.stream_model.specs.Linear.{Book}
 
 module _ {S D L B : Type 0} where
@@ -77,30 +78,32 @@ end_there (x ∷ xs) zero l e = ap ends_of (link_is x l e)
 end_there (x ∷ xs) (suc q) l e = end_there xs q l e
 
 -- the connection at which a lane comes in, and that at which it goes out
-pub enters_new : {S D L B : Type 0} (sources : S → SourceState) (drains : D → DrainState) (book : Book) (i : Kept S D L B) (places : List (Seated S D L B)) (links : List Link) → IslandKeeps sources drains book i.net i.used → AllBecome places i.net.firsts → i.net.ends ≡ map ends_of links → MarksLaneEnds places links (length links) i.ins i.outs
+pub enters_new : {S D L B : Type 0} (sources : S → SourceState) (drains : D → DrainState) (book : Book) (i : Kept S D L B) (places : List (Seated S D L B)) (links : List Link) → IslandKeeps sources drains book i.net i.used → AllBecome places i.net.firsts → i.net.ends ≡ map ends_of links → ListsIns places links i.ins
     → (q : ℕ) (l : Link) → slice_get links q ≡ Some l → comes_in places l.from ≡ true → EntersBy i l.wire q
 enters_new sources drains book i places links k become ends leads q l at c =
-    let mark = leads.come q l (slice_get_within links q l at) at c in
-    let way : get_or i.ins l.wire 0 ≡ q = get_or_from_slice_get i.ins l.wire q 0 mark in
-    let there : q < length i.net.wires = subst (λ (n : ℕ). q < n) (sym (length-map links ends_of) ∙ (ap length (sym ends) ∙ k.laws.wired.each_wire)) (slice_get_within links q l at) in (
+    let mark : listed_place i.ins l.wire ≡ Some q = leads.listed q l at c in
+    let way : way_in i l.wire ≡ q = ap place_or_none mark in
+    let there : q < length i.net.wires = subst (λ (n : ℕ). q < n) (sym (length-map links ends_of) ∙ (ap length (sym ends) ∙ k.laws.wired.each_wire)) (slice_get_within links q l at) in
+    let stage : EntersAt i.net q = λ x e. entering_at places i.net.firsts l.from x become (subst (λ (n : ℕ). slice_get i.net.firsts n ≡ Some x) (ap (λ (y : _). y.from) (ap (λ (es : _). end_at es q) ends ∙ end_there links q l at)) e) c in (
       record {
-        within = slice_get_within i.ins l.wire q mark;
-        place = rw way there;
-        stage = rw way (λ x e. entering_at places i.net.firsts l.from x become (subst (λ (n : ℕ). slice_get i.net.firsts n ≡ Some x) (ap (λ (y : _). y.from) (ap (λ (es : _). end_at es q) ends ∙ end_there links q l at)) e) c);
+        listed = mark ∙ ap (λ (p : ℕ). Some p) (sym way);
+        place = subst (λ (p : ℕ). p < length i.net.wires) (sym way) there;
+        stage = subst (λ (p : ℕ). EntersAt i.net p) (sym way) stage;
       },
       way,
     )
 
-pub leaves_new : {S D L B : Type 0} (sources : S → SourceState) (drains : D → DrainState) (book : Book) (i : Kept S D L B) (places : List (Seated S D L B)) (links : List Link) → IslandKeeps sources drains book i.net i.used → AllBecome places i.net.firsts → i.net.ends ≡ map ends_of links → MarksLaneEnds places links (length links) i.ins i.outs
+pub leaves_new : {S D L B : Type 0} (sources : S → SourceState) (drains : D → DrainState) (book : Book) (i : Kept S D L B) (places : List (Seated S D L B)) (links : List Link) → IslandKeeps sources drains book i.net i.used → AllBecome places i.net.firsts → i.net.ends ≡ map ends_of links → ListsOuts places links i.outs
     → (q : ℕ) (l : Link) → slice_get links q ≡ Some l → goes_out places l.to ≡ true → LeavesBy i l.wire q
 leaves_new sources drains book i places links k become ends leads q l at c =
-    let mark = leads.go q l (slice_get_within links q l at) at c in
-    let way : get_or i.outs l.wire 0 ≡ q = get_or_from_slice_get i.outs l.wire q 0 mark in
-    let there : q < length i.net.wires = subst (λ (n : ℕ). q < n) (sym (length-map links ends_of) ∙ (ap length (sym ends) ∙ k.laws.wired.each_wire)) (slice_get_within links q l at) in (
+    let mark : listed_place i.outs l.wire ≡ Some q = leads.listed q l at c in
+    let way : way_out i l.wire ≡ q = ap place_or_none mark in
+    let there : q < length i.net.wires = subst (λ (n : ℕ). q < n) (sym (length-map links ends_of) ∙ (ap length (sym ends) ∙ k.laws.wired.each_wire)) (slice_get_within links q l at) in
+    let stage : LeavesAt i.net q = λ x e. leaving_at places i.net.firsts l.to x become (subst (λ (n : ℕ). slice_get i.net.firsts n ≡ Some x) (ap (λ (y : _). y.to) (ap (λ (es : _). end_at es q) ends ∙ end_there links q l at)) e) c in (
       record {
-        within = slice_get_within i.outs l.wire q mark;
-        place = rw way there;
-        stage = rw way (λ x e. leaving_at places i.net.firsts l.to x become (subst (λ (n : ℕ). slice_get i.net.firsts n ≡ Some x) (ap (λ (y : _). y.to) (ap (λ (es : _). end_at es q) ends ∙ end_there links q l at)) e) c);
+        listed = mark ∙ ap (λ (p : ℕ). Some p) (sym way);
+        place = subst (λ (p : ℕ). p < length i.net.wires) (sym way) there;
+        stage = subst (λ (p : ℕ). LeavesAt i.net p) (sym way) stage;
       },
       way,
     )

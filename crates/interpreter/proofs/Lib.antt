@@ -5,7 +5,7 @@ pub mod Picking
 pub mod Seating
 pub mod Handing
 pub mod Gathering
-pub mod Marking
+pub mod Listing
 pub mod Bounding
 pub mod Running
 pub mod LaneEnds

@@ -1,5 +1,5 @@
 -- The boundary stages of an island, each by the number of the wire that its lane is.
-use Rattle.std.specs.Prelude.{◌≡◌, ◌≢◌, ℕ, ◌<◌, List, [], length, slice_index_or}
+use Rattle.std.specs.Prelude.{◌≡◌, ◌≢◌, ℕ, ◌<◌, Some, List, [], length}
 use Rattle.elem_core.specs.declared.item.Item.{Item}
 use Rattle.port_core.specs.declared.view.InView.TheVariants.{Cancelled}
 use Rattle.port_core.specs.Cell.{WireState}
@@ -9,16 +9,17 @@ use Rattle.nodes.specs.Nodes.{node_gone, node_waits}
 use Rattle.fused_net.specs.Net.{Net, end_at, wire_at}
 use Rattle.fused_net.specs.Poking.{AtNode, HandsAt}
 use Rattle.interpreter.specs.BoundaryPlaces.{EntersAt, LeavesAt, cancelled_at}
+use Rattle.interpreter.specs.LanePlaces.{listed_place, lane_place_of}
 use Rattle.interpreter.specs.Island.{Kept}
 
 module _ {S D L B : Type 0} where
   -- the place of the connection at which the lane that is wire u comes in
   abbrev pub way_in : Kept S D L B → ℕ → ℕ
-  way_in i u = slice_index_or i.ins u 0
+  way_in i u = lane_place_of i.ins u
 
   -- the place of the connection at which the lane that is wire u goes out
   abbrev pub way_out : Kept S D L B → ℕ → ℕ
-  way_out i u = slice_index_or i.outs u 0
+  way_out i u = lane_place_of i.outs u
 
   -- the connection there at which it comes in
   abbrev pub cell_in : Kept S D L B → ℕ → WireState
@@ -30,13 +31,13 @@ module _ {S D L B : Type 0} where
 
   -- the island has a stage at which the lane that is wire u comes in
   pub record Enters (i : Kept S D L B) (u : ℕ) : Type 0 where
-    pub within : u < length i.ins
+    pub listed : listed_place i.ins u ≡ Some (way_in i u)
     pub place : way_in i u < length i.net.wires
     pub stage : EntersAt i.net (way_in i u)
 
   -- the island has a stage at which the lane that is wire u goes out
   pub record Leaves (i : Kept S D L B) (u : ℕ) : Type 0 where
-    pub within : u < length i.outs
+    pub listed : listed_place i.outs u ≡ Some (way_out i u)
     pub place : way_out i u < length i.net.wires
     pub stage : LeavesAt i.net (way_out i u)
 

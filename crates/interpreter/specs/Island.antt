@@ -14,16 +14,17 @@ use Rattle.fused_net.specs.Net.{Net}
 use Rattle.fused_net.specs.Laws.{Settled}
 use Rattle.fused_net.specs.Costs.{all_asks}
 use Rattle.stream_model.specs.Linear.{Book}
+use Rattle.interpreter.specs.declared.ways.LanePlace.{LanePlace}
 
 -- its nodes and wires, the numbers of its wires and of its nodes in the blueprint, the places of the connections at which lanes come in
--- and go out, by the numbers of their wires, the units that it used, and whether a call gave up for want of memory, after which nothing is
+-- and go out, each with the wire that its lane is, the units that it used, and whether a call gave up for want of memory, after which nothing is
 -- known of it
 pub record Kept (S D L B : Type 0) : Type 0 where
   pub net : Net (IslandNode S D L B)
   pub numbers : List ℕ
   pub places : List ℕ
-  pub ins : List ℕ
-  pub outs : List ℕ
+  pub ins : List LanePlace
+  pub outs : List LanePlace
   pub used : ℕ
   pub broken : Bool
 

@@ -2,6 +2,7 @@ pub mod BoundaryPlaces
 pub mod Parts
 pub mod Island
 pub mod Room
+pub mod LanePlaces
 pub mod Ways
 pub mod Handles
 pub mod Picks

@@ -8,7 +8,7 @@ use Rattle.interpreter.specs.declared.parts.Place.{Place}
 use Rattle.interpreter.specs.declared.room.Blank.{Blank}
 use Rattle.interpreter.specs.declared.room.IslandRoom.{IslandRoom}
 use Rattle.interpreter.specs.Parts.{ends_of, wire_number, input_count_at, output_count_at, IsSized}
-use Rattle.interpreter.specs.Ways.{HasRows}
+use Rattle.interpreter.specs.Ways.{HasLaneRoom}
 
 -- its lists are empty, and have room for what so many nodes and wires leave
 pub record HasRoom {S D : Type 0} (room : IslandEnd S D) (nodes wires : ℕ) : Type 0 where
@@ -49,5 +49,5 @@ pub record IsRoom {S D L B : Type 0} (room : IslandRoom S D L B) (places : List 
   pub numbers : room.numbers.items ≡ map wire_number links
   pub places_are : room.places.items ≡ map (λ (p : Place). p.node) places
   pub blank : IsBlank room.blank places links
-  pub ways : HasRows room.ways links
+  pub ways : HasLaneRoom room.ways links
   pub end : HasRoom room.end (length places) (length links)

@@ -1,10 +1,12 @@
--- The places of the connections at which lanes come in and go out, by the numbers of their wires.
-use Rattle.std.specs.Prelude.{◌≡◌, ℕ, ◌<◌, Bool, true, false, List, Option, Some, None, length, slice_get}
+-- The places of the connections at which lanes come in and go out.
+use Rattle.std.specs.Prelude.{◌≡◌, ℕ, ◌≤◌, Bool, true, false, List, [], Option, Some, None, length, slice_get, vec_capacity}
 use Rattle.interpreter.specs.declared.parts.Link.{Link}
 use Rattle.interpreter.specs.declared.parts.Seated.{Seated}
 use Rattle.interpreter.specs.declared.parts.Work.{Work}
 use Rattle.interpreter.specs.declared.parts.Work.TheVariants.{LaneIn, LaneOut}
+use Rattle.interpreter.specs.declared.ways.LanePlace.{LanePlace}
 use Rattle.interpreter.specs.declared.ways.Ways.{Ways}
+use Rattle.interpreter.specs.LanePlaces.{listed_place, HasEachOnce}
 
 -- whether a lane comes in at a work
 abbrev pub is_lane_in : {S D L B : Type 0} → Work S D L B → Bool
@@ -41,12 +43,24 @@ pub record IsOnce {S D L B : Type 0} (places : List (Seated S D L B)) (links : L
   pub outs : (p q : ℕ) (l m : Link) → slice_get links p ≡ Some l → slice_get links q ≡ Some m → goes_out places l.to ≡ true → goes_out places m.to ≡ true
       → l.wire ≡ m.wire → p ≡ q
 
--- there is a row for the wire of each link
-pub record HasRows (ways : Ways) (links : List Link) : Type 0 where
-  pub ins : (q : ℕ) (l : Link) → slice_get links q ≡ Some l → l.wire < length ways.ins.items
-  pub outs : (q : ℕ) (l : Link) → slice_get links q ≡ Some l → l.wire < length ways.outs.items
+-- both lists are empty, and have room for each link
+pub record HasLaneRoom (ways : Ways) (links : List Link) : Type 0 where
+  pub no_ins : ways.ins.items ≡ []
+  pub no_outs : ways.outs.items ≡ []
+  pub room_for_ins : length links ≤ vec_capacity ways.ins
+  pub room_for_outs : length links ≤ vec_capacity ways.outs
 
--- of the first k links, those at the ends of lanes are marked
-pub record MarksLaneEnds {S D L B : Type 0} (places : List (Seated S D L B)) (links : List Link) (k : ℕ) (ins outs : List ℕ) : Type 0 where
-  pub come : (q : ℕ) (l : Link) → q < k → slice_get links q ≡ Some l → comes_in places l.from ≡ true → slice_get ins l.wire ≡ Some q
-  pub go : (q : ℕ) (l : Link) → q < k → slice_get links q ≡ Some l → goes_out places l.to ≡ true → slice_get outs l.wire ≡ Some q
+-- the links at which lanes come in are listed, each by its place among the links, and no two of them are one wire
+pub record ListsIns {S D L B : Type 0} (places : List (Seated S D L B)) (links : List Link) (ins : List LanePlace) : Type 0 where
+  pub listed : (q : ℕ) (l : Link) → slice_get links q ≡ Some l → comes_in places l.from ≡ true → listed_place ins l.wire ≡ Some q
+  pub apart : HasEachOnce ins
+
+-- the same of those at which they go out
+pub record ListsOuts {S D L B : Type 0} (places : List (Seated S D L B)) (links : List Link) (outs : List LanePlace) : Type 0 where
+  pub listed : (q : ℕ) (l : Link) → slice_get links q ≡ Some l → goes_out places l.to ≡ true → listed_place outs l.wire ≡ Some q
+  pub apart : HasEachOnce outs
+
+-- both lists are those of the ends of lanes
+pub record ListsLaneEnds {S D L B : Type 0} (places : List (Seated S D L B)) (links : List Link) (ins outs : List LanePlace) : Type 0 where
+  pub come : ListsIns places links ins
+  pub go : ListsOuts places links outs

@@ -24,6 +24,7 @@ ghost use Rattle.port_core.specs.Decoding.{can_pull};
 ghost use Rattle.port_core.specs.declared.act.Act.TheVariants as act;
 
 use crate::calls;
+use crate::lane_ends::list_lanes;
 use crate::parts::{Parts, build_all, join_ports};
 use crate::room::{Blank, IslandRoom};
 use crate::wanted::Wanted;
@@ -163,10 +164,10 @@ impl<S: Source, D: Drain, L: Logic, B: PlugBook> Island<S, D, L, B> {
             numbers,
             places,
             blank,
-            mut ways,
+            ways,
             end,
         } = room;
-        ways.mark_all(&parts.nodes, &parts.links);
+        let ways = list_lanes(ways, &parts.nodes, &parts.links);
         let mut engine = assemble(alloc, parts, blank);
         match engine.start(alloc, &mut acts) {
             Ok(()) => Ok(Island {
@@ -246,20 +247,21 @@ impl<S: Source, D: Drain, L: Logic, B: PlugBook> Island<S, D, L, B> {
         self.engine.settle();
     }
 
-    /// The place of the connection at which the lane that is wire `wire` comes in.
-    pub fn way_in(&self, wire: u32) -> u32
-        requires { wire < length self.now.ins }
+    /// The place of the connection at which the lane that is wire `wire` comes in, and 0 where it does not. It is looked for first
+    /// where it is number `near` of the lanes that come in, in the order of the island's links.
+    #[inline(always)]
+    pub fn way_in(&self, wire: u32, near: usize) -> u32
         ensures { result ≡ way_in self.now wire }
     {
-        self.ways.ins[wire as usize]
+        self.ways.place_in(wire, near)
     }
 
-    /// The place of the connection at which the lane that is wire `wire` goes out.
-    pub fn way_out(&self, wire: u32) -> u32
-        requires { wire < length self.now.outs }
+    /// The same of the connection at which it goes out.
+    #[inline(always)]
+    pub fn way_out(&self, wire: u32, near: usize) -> u32
         ensures { result ≡ way_out self.now wire }
     {
-        self.ways.outs[wire as usize]
+        self.ways.place_out(wire, near)
     }
 
     /// What it keeps between two calls: the law of each node over the histories of its wires, the joint state of each wire,
@@ -296,15 +298,114 @@ impl<S: Source, D: Drain, L: Logic, B: PlugBook> Island<S, D, L, B> {
     }
 
     /// What the stage at which the lane that is wire `wire` comes in was asked: it was cancelled, its connection lets it push, or
-    /// neither. It takes no memory.
+    /// neither. `place` is the place of that connection. It takes no memory.
+    pub fn wanted_by_place(&self, wire: u32, place: u32) -> Wanted
+        requires enters { Enters self.now wire }
+        requires place { place ≡ way_in self.now wire }
+        ensures { result ≡ wanted_at (cell_in self.now wire) }
+    {
+        calls::wanted(&self.engine, place)
+    }
+
+    /// Pushes an element where that lane comes in. It takes no memory and costs no unit.
+    pub fn push_by_place(&mut self, wire: u32, place: u32, e: Elem)
+        requires whole { self.old.broken ≡ false }
+        requires enters { Enters self.old wire }
+        requires place { place ≡ way_in self.old wire }
+        requires asked { wanted_at (cell_in self.old wire) ≡ wanted.Asked }
+        ensures after { self.new ≡ with_net self.old (moved_at self.old.net (way_in self.old wire) (act.Push 0 e)) }
+        ensures uses { Uses self.old.net self.new.net 0 }
+    {
+        calls::push_in(&mut self.engine, place, e);
+    }
+
+    /// Completes what comes in there, or fails it; no change where its output is closed. It takes no memory and costs no unit.
+    pub fn end_by_place(&mut self, wire: u32, place: u32, cause: Option<Cause>)
+        requires whole { self.old.broken ≡ false }
+        requires enters { Enters self.old wire }
+        requires place { place ≡ way_in self.old wire }
+        ensures after { self.new ≡ with_net self.old (ended_at self.old.net (way_in self.old wire) cause) }
+        ensures uses { Uses self.old.net self.new.net 0 }
+    {
+        calls::end_in(&mut self.engine, place, cause);
+    }
+
+    /// Whether the stage at which the lane that is wire `wire` goes out may ask: its connection lets it, and nothing waits to be
+    /// handed out. `place` is the place of that connection. It takes no memory.
+    pub fn can_pull_by_place(&self, wire: u32, place: u32) -> bool
+        requires whole { self.now.broken ≡ false }
+        requires leaves { Leaves self.now wire }
+        requires place { place ≡ way_out self.now wire }
+        ensures { IsTrue result ↔ (IsTrue (can_pull (cell_out self.now wire).wire.conn) × IsClearAt self.now.net (way_out self.now wire)) }
+    {
+        calls::can_pull_out(&self.engine, place)
+    }
+
+    /// Whether nothing waits to be handed out there. It takes no memory.
+    pub fn is_clear_by_place(&self, wire: u32, place: u32) -> bool
+        requires whole { self.now.broken ≡ false }
+        requires leaves { Leaves self.now wire }
+        requires place { place ≡ way_out self.now wire }
+        ensures { IsTrue result ↔ IsClearAt self.now.net (way_out self.now wire) }
+    {
+        calls::is_clear(&self.engine, place)
+    }
+
+    /// Asks there. It takes no memory and costs no unit.
+    pub fn pull_by_place(&mut self, wire: u32, place: u32)
+        requires whole { self.old.broken ≡ false }
+        requires leaves { Leaves self.old wire }
+        requires place { place ≡ way_out self.old wire }
+        requires can { IsTrue (can_pull (cell_out self.old wire).wire.conn) × IsClearAt self.old.net (way_out self.old wire) }
+        ensures after { self.new ≡ with_net self.old (moved_at self.old.net (way_out self.old wire) (act.Pull 0)) }
+        ensures uses { Uses self.old.net self.new.net 0 }
+    {
+        calls::pull_out(&mut self.engine, place);
+    }
+
+    /// Cancels there, without change where its input is closed, and drops what waits to be handed out. It takes no memory and
+    /// costs no unit.
+    pub fn cancel_by_place(&mut self, wire: u32, place: u32)
+        requires whole { self.old.broken ≡ false }
+        requires leaves { Leaves self.old wire }
+        requires place { place ≡ way_out self.old wire }
+        ensures drops { Drops self.old wire self.new }
+        ensures uses { Uses self.old.net self.new.net 0 }
+    {
+        calls::cancel_out(&mut self.engine, place);
+    }
+
+    /// Hands out what came there, each element and the end once and in order. It takes no memory and costs no unit.
+    pub fn hand_out_by_place(&mut self, wire: u32, place: u32) -> Option<Item>
+        requires whole { self.old.broken ≡ false }
+        requires leaves { Leaves self.old wire }
+        requires place { place ≡ way_out self.old wire }
+        ensures none { IfNone result ((self.new ≡ self.old) × IsClearAt self.old.net (way_out self.old wire)) }
+        ensures some { IfSome result (λ x. HandsOut self.old wire (x ∷ []) self.new) }
+        ensures uses { Uses self.old.net self.new.net 0 }
+    {
+        calls::hand_out(&mut self.engine, place)
+    }
+
+    /// What came where that lane goes out: what was handed out or dropped, and then what waits. The call does nothing.
+    pub fn came_by_place(&self, wire: u32, place: u32)
+        requires whole { self.now.broken ≡ false }
+        requires leaves { Leaves self.now wire }
+        requires place { place ≡ way_out self.now wire }
+        ensures { ReceivedAt self.now.net (way_out self.now wire) }
+    {
+        calls::came_to(&self.engine, place);
+    }
+
+    /// What `wanted_by_place` answers, where the place is not at hand, so that it is looked for.
     pub fn wanted(&self, wire: u32) -> Wanted
         requires { Enters self.now wire }
         ensures { result ≡ wanted_at (cell_in self.now wire) }
     {
-        calls::wanted(&self.engine, self.ways.ins[wire as usize])
+        self.wanted_by_place(wire, self.way_in(wire, 0))
     }
 
-    /// Pushes an element where that lane comes in. It takes no memory and costs no unit.
+    /// `push_by_place` where the place is looked for.
     pub fn push_in(&mut self, wire: u32, e: Elem)
         requires whole { self.old.broken ≡ false }
         requires enters { Enters self.old wire }
@@ -312,39 +413,31 @@ impl<S: Source, D: Drain, L: Logic, B: PlugBook> Island<S, D, L, B> {
         ensures after { self.new ≡ with_net self.old (moved_at self.old.net (way_in self.old wire) (act.Push 0 e)) }
         ensures uses { Uses self.old.net self.new.net 0 }
     {
-        calls::push_in(&mut self.engine, self.ways.ins[wire as usize], e);
+        let place = self.way_in(wire, 0);
+        self.push_by_place(wire, place, e);
     }
 
-    /// Completes what comes in there, or fails it; no change where its output is closed. It takes no memory and costs no unit.
+    /// `end_by_place` where the place is looked for.
     pub fn end_in(&mut self, wire: u32, cause: Option<Cause>)
         requires whole { self.old.broken ≡ false }
         requires enters { Enters self.old wire }
         ensures after { self.new ≡ with_net self.old (ended_at self.old.net (way_in self.old wire) cause) }
         ensures uses { Uses self.old.net self.new.net 0 }
     {
-        calls::end_in(&mut self.engine, self.ways.ins[wire as usize], cause);
+        let place = self.way_in(wire, 0);
+        self.end_by_place(wire, place, cause);
     }
 
-    /// Whether the stage at which the lane that is wire `wire` goes out may ask: its connection lets it, and nothing waits to be
-    /// handed out. It takes no memory.
+    /// `can_pull_by_place` where the place is looked for.
     pub fn can_pull_out(&self, wire: u32) -> bool
         requires whole { self.now.broken ≡ false }
         requires leaves { Leaves self.now wire }
         ensures { IsTrue result ↔ (IsTrue (can_pull (cell_out self.now wire).wire.conn) × IsClearAt self.now.net (way_out self.now wire)) }
     {
-        calls::can_pull_out(&self.engine, self.ways.outs[wire as usize])
+        self.can_pull_by_place(wire, self.way_out(wire, 0))
     }
 
-    /// Whether nothing waits to be handed out there. It takes no memory.
-    pub fn is_clear_out(&self, wire: u32) -> bool
-        requires whole { self.now.broken ≡ false }
-        requires leaves { Leaves self.now wire }
-        ensures { IsTrue result ↔ IsClearAt self.now.net (way_out self.now wire) }
-    {
-        calls::is_clear(&self.engine, self.ways.outs[wire as usize])
-    }
-
-    /// Asks there. It takes no memory and costs no unit.
+    /// `pull_by_place` where the place is looked for.
     pub fn pull_out(&mut self, wire: u32)
         requires whole { self.old.broken ≡ false }
         requires leaves { Leaves self.old wire }
@@ -352,21 +445,22 @@ impl<S: Source, D: Drain, L: Logic, B: PlugBook> Island<S, D, L, B> {
         ensures after { self.new ≡ with_net self.old (moved_at self.old.net (way_out self.old wire) (act.Pull 0)) }
         ensures uses { Uses self.old.net self.new.net 0 }
     {
-        calls::pull_out(&mut self.engine, self.ways.outs[wire as usize]);
+        let place = self.way_out(wire, 0);
+        self.pull_by_place(wire, place);
     }
 
-    /// Cancels there, without change where its input is closed, and drops what waits to be handed out. It takes no memory and
-    /// costs no unit.
+    /// `cancel_by_place` where the place is looked for.
     pub fn cancel_out(&mut self, wire: u32)
         requires whole { self.old.broken ≡ false }
         requires leaves { Leaves self.old wire }
         ensures drops { Drops self.old wire self.new }
         ensures uses { Uses self.old.net self.new.net 0 }
     {
-        calls::cancel_out(&mut self.engine, self.ways.outs[wire as usize]);
+        let place = self.way_out(wire, 0);
+        self.cancel_by_place(wire, place);
     }
 
-    /// Hands out what came there, each element and the end once and in order. It takes no memory and costs no unit.
+    /// `hand_out_by_place` where the place is looked for.
     pub fn hand_out(&mut self, wire: u32) -> Option<Item>
         requires whole { self.old.broken ≡ false }
         requires leaves { Leaves self.old wire }
@@ -374,16 +468,8 @@ impl<S: Source, D: Drain, L: Logic, B: PlugBook> Island<S, D, L, B> {
         ensures some { IfSome result (λ x. HandsOut self.old wire (x ∷ []) self.new) }
         ensures uses { Uses self.old.net self.new.net 0 }
     {
-        calls::hand_out(&mut self.engine, self.ways.outs[wire as usize])
-    }
-
-    /// What came where that lane goes out: what was handed out or dropped, and then what waits. The call does nothing.
-    pub fn came_out(&self, wire: u32)
-        requires whole { self.now.broken ≡ false }
-        requires leaves { Leaves self.now wire }
-        ensures { ReceivedAt self.now.net (way_out self.now wire) }
-    {
-        calls::came_to(&self.engine, self.ways.outs[wire as usize]);
+        let place = self.way_out(wire, 0);
+        self.hand_out_by_place(wire, place)
     }
 
     /// Takes it apart: how its sinks ended, what its wires carried, what its stages chose, the seats of its valves and trips, and its

@@ -3,6 +3,7 @@ ghost use Rattle.std.specs.Prelude.{◌≡◌, ◌<◌, ◌^◌, IfOk, length};
 ghost use Rattle.interpreter.specs.Room.{IsBlank, IsRoom};
 
 use crate::island::IslandEnd;
+use crate::lane_ends::no_lanes;
 use crate::parts::{Link, Place, all_ends, all_numbers, all_places, blank_ports};
 use crate::ways::Ways;
 use elem_core::why::NoMemory;
@@ -72,7 +73,7 @@ impl<S: Source, D: Drain, L: Logic, B: PlugBook> IslandRoom<S, D, L, B> {
         let acts = Acts::new(alloc, MOST_ACTS)?;
         let numbers = all_numbers(alloc, links)?;
         let blank = Blank::of(alloc, places, links)?;
-        let ways = Ways::of(alloc, links)?;
+        let ways = no_lanes(alloc, links)?;
         let end = IslandEnd::sized(alloc, places.len(), links.len())?;
         let places = all_places(alloc, places)?;
         Ok(IslandRoom {

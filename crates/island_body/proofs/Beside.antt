@@ -17,6 +17,8 @@ use Rattle.fused_net.specs.Poking.{HandsAt}
 use Rattle.fused_net.proofs.Reading.{get_set_other}
 use Rattle.fused_net.proofs.Ongoing.{goes_same, goes_trans, goes_put, goes_node}
 use Rattle.port_core.specs.View.{input_closed}
+use Rattle.interpreter.specs.declared.ways.LanePlace.{LanePlace}
+use Rattle.interpreter.specs.LanePlaces.{lane_place_of}
 use Rattle.interpreter.specs.BoundaryPlaces.{moved_at, cancelled_at, LeavesAt, EntersAt}
 use Rattle.interpreter.specs.Island.{Kept}
 use Rattle.interpreter.specs.Boundary.{way_in, way_out, Enters, Leaves, HandsOut, Drops, with_net}
@@ -73,27 +75,21 @@ module _ {S D L B : Type 0} where
   -- the ends stand where they stood
   pub leaves_beside : (q n : ℕ) (old new : Kept S D L B) (u : ℕ) → Beside q n old new → Leaves old u → Leaves new u
   leaves_beside q n old new u b l =
-      let way : way_out new u ≡ way_out old u = ap (λ (l : List ℕ). get_at l) b.outs in
+      let way : way_out new u ≡ way_out old u = ap (λ (l : List LanePlace). lane_place_of l u) b.outs in
       record {
-        within = rw b.outs l.within;
+        listed = rw b.outs l.listed;
         place = rw (way, b.on.wires) l.place;
         stage = rw way (λ x at. l.stage x (rw (b.on.firsts, b.on.ends) at at));
       }
-    where
-      get_at : List ℕ → ℕ
-      get_at l = Rattle.std.specs.Prelude.slice_index_or l u 0
 
   pub enters_beside : (q n : ℕ) (old new : Kept S D L B) (u : ℕ) → Beside q n old new → Enters old u → Enters new u
   enters_beside q n old new u b l =
-      let way : way_in new u ≡ way_in old u = ap (λ (l : List ℕ). get_at l) b.ins in
+      let way : way_in new u ≡ way_in old u = ap (λ (l : List LanePlace). lane_place_of l u) b.ins in
       record {
-        within = rw b.ins l.within;
+        listed = rw b.ins l.listed;
         place = rw (way, b.on.wires) l.place;
         stage = rw way (λ x at. l.stage x (rw (b.on.firsts, b.on.ends) at at));
       }
-    where
-      get_at : List ℕ → ℕ
-      get_at l = Rattle.std.specs.Prelude.slice_index_or l u 0
 
   pub way_out_beside : (q n : ℕ) (old new : Kept S D L B) (u : ℕ) → Beside q n old new → way_out new u ≡ way_out old u
   way_out_beside q n old new u b = rw b.outs refl
@@ -106,6 +102,13 @@ module _ {S D L B : Type 0} where
 
   pub in_node_beside : (q n : ℕ) (old new : Kept S D L B) (u : ℕ) → Beside q n old new → in_node new u ≡ in_node old u
   in_node_beside q n old new u b = rw (b.ins, b.on.ends) refl
+
+  -- a place that was that of a lane's connection still is
+  pub place_out_beside : (q n p : ℕ) (old new : Kept S D L B) (u v : ℕ) → Beside q n old new → v ≡ u → p ≡ way_out old u → p ≡ way_out new v
+  place_out_beside q n p old new u v b same e = e ∙ (sym (way_out_beside q n old new u b) ∙ ap (λ (w : ℕ). way_out new w) (sym same))
+
+  pub place_in_beside : (q n p : ℕ) (old new : Kept S D L B) (u v : ℕ) → Beside q n old new → v ≡ u → p ≡ way_in old u → p ≡ way_in new v
+  place_in_beside q n p old new u v b same e = e ∙ (sym (way_in_beside q n old new u b) ∙ ap (λ (w : ℕ). way_in new w) (sym same))
 
   -- one call behind another
   pub beside_next : (u : ℕ) (a b c : Kept S D L B) → Beside (way_out a u) (out_node a u) a b → Beside (way_out b u) (out_node b u) b c → Beside (way_out a u) (out_node a u) a c

@@ -278,7 +278,7 @@ module _ {S D L B : Type 0} (sources : S → SourceState) (drains : D → DrainS
   module _ (after : Settled node_port_state (node_law sources drains book) node_asking node_moves new.net) (on : NetGoesOn old.net new.net) where
     enters_new : Enters new u
     enters_new = record {
-      within = rw ins l.within;
+      listed = rw ins l.listed;
       place = rw (way_same, on.wires) l.place;
       stage = rw way_same (λ x at. l.stage x (rw (on.firsts, on.ends) at at));
     }

@@ -212,20 +212,33 @@ module _ {S D L B : Type 0} where
       let same : o.wire ≡ r.0 = some_same o.wire r.0 (sym (map_at (λ (w : OutputBoundary). w.wire) outs k o e) ∙ r.1.0) in
       subst (λ (p : ℕ). AllServed (Some p) n m i ins outs) (sym (ap (λ (u : ℕ). way_out i u) same ∙ r.1.1)) s
 
+  -- the place of an end's connection is that of its row in the table
+  pub place_in_table : (q k : ℕ) (i : Kept S D L B) (ins : List IslandInput) (outs : List OutputBoundary) (ws : List Way) → IsTable i (in_wires ins) (out_wires outs) ws → slice_get ws q ≡ Some (In k) → (x : IslandInput) → slice_get ins k ≡ Some x → q ≡ way_in i x.wire
+  place_in_table q k i ins outs ws t at x e =
+      let r = t.ins_right q k at in
+      let same : x.wire ≡ r.0 = some_same x.wire r.0 (sym (map_at (λ (w : IslandInput). w.wire) ins k x e) ∙ r.1.0) in
+      sym (ap (λ (u : ℕ). way_in i u) same ∙ r.1.1)
+
+  pub place_out_table : (q k : ℕ) (i : Kept S D L B) (ins : List IslandInput) (outs : List OutputBoundary) (ws : List Way) → IsTable i (in_wires ins) (out_wires outs) ws → slice_get ws q ≡ Some (Out k) → (o : OutputBoundary) → slice_get outs k ≡ Some o → q ≡ way_out i o.wire
+  place_out_table q k i ins outs ws t at o e =
+      let r = t.outs_right q k at in
+      let same : o.wire ≡ r.0 = some_same o.wire r.0 (sym (map_at (λ (w : OutputBoundary). w.wire) outs k o e) ∙ r.1.0) in
+      sym (ap (λ (u : ℕ). way_out i u) same ∙ r.1.1)
+
 -- ---- the island runs
 
 module _ {S D L B : Type 0} (sources : S → SourceState) (drains : D → DrainState) (book : Book) (old new : Kept S D L B) (ins : List IslandInput) (outs : List OutputBoundary) (before : Settled node_port_state (node_law sources drains book) node_asking node_moves old.net) (after : Settled node_port_state (node_law sources drains book) node_asking node_moves new.net)
     (g : IslandGoes old new) (gone : map node_gone new.net.nodes ≡ map node_gone old.net.nodes) (still : StandsStill node_passive old.net new.net) (s : AllStand old ins outs) where
   enters_goes : (u : ℕ) → Enters old u → Enters new u
   enters_goes u l = record {
-    within = rw g.ins l.within;
+    listed = rw g.ins l.listed;
     place = rw (g.ins, g.on.wires) l.place;
     stage = rw g.ins (λ x at. l.stage x (rw (g.on.firsts, g.on.ends) at at));
   }
 
   leaves_goes : (u : ℕ) → Leaves old u → Leaves new u
   leaves_goes u l = record {
-    within = rw g.outs l.within;
+    listed = rw g.outs l.listed;
     place = rw (g.outs, g.on.wires) l.place;
     stage = rw g.outs (λ x at. l.stage x (rw (g.on.firsts, g.on.ends) at at));
   }

@@ -98,10 +98,29 @@ impl<S: Source, D: Drain, L: Logic, B: PlugBook> Body<S, D, L, B> {
         body
     }
 
-    // The input end at place k does what it has to do.
-    fn serve_in(&mut self, k: usize)
+    // The place of the connection of the input end at place k.
+    #[inline(always)]
+    fn place_in(&self, k: usize) -> u32
+        requires within { k < length self.now.ins.items }
+        ensures { (x : inputs.IslandInput) → slice_get self.now.ins.items k ≡ Some x → result ≡ way_in self.now.island x.wire }
+    {
+        self.island.way_in(self.ins[k].wire, k)
+    }
+
+    // The same of the output end.
+    #[inline(always)]
+    fn place_out(&self, k: usize) -> u32
+        requires within { k < length self.now.outs.items }
+        ensures { (o : outputs.OutputBoundary) → slice_get self.now.outs.items k ≡ Some o → result ≡ way_out self.now.island o.wire }
+    {
+        self.island.way_out(self.outs[k].wire, k)
+    }
+
+    // The input end at place k, whose connection is at this place, does what it has to do.
+    fn serve_in(&mut self, k: usize, place: u32)
         requires within { k < length self.old.ins.items }
         requires stands { BodyStands self.old }
+        requires place { (x : inputs.IslandInput) → slice_get self.old.ins.items k ≡ Some x → place ≡ way_in self.old.island x.wire }
         ensures stands { BodyStands self.new }
         ensures served { (n m : ℕ) → ((x : inputs.IslandInput) → slice_get self.old.ins.items k ≡ Some x
             → AllServed (Some (way_in self.old.island x.wire)) n m self.old.island self.old.ins.items self.old.outs.items)
@@ -116,14 +135,15 @@ impl<S: Source, D: Drain, L: Logic, B: PlugBook> Body<S, D, L, B> {
         ensures wakes { WakesOn self.old self.new }
         ensures peers { (self.new.peers.ins ≡ self.old.peers.ins) × (self.new.peers.outs ≡ self.old.peers.outs) }
     {
-        let told = self.ins[k].serve(&mut self.island);
+        let told = self.ins[k].serve(&mut self.island, place);
         self.peers.tell_in(k, told);
     }
 
-    // The output end at place k does what it has to do.
-    fn serve_out(&mut self, k: usize)
+    // The output end at place k, whose connection is at this place, does what it has to do.
+    fn serve_out(&mut self, k: usize, place: u32)
         requires within { k < length self.old.outs.items }
         requires stands { BodyStands self.old }
+        requires place { (o : outputs.OutputBoundary) → slice_get self.old.outs.items k ≡ Some o → place ≡ way_out self.old.island o.wire }
         ensures stands { BodyStands self.new }
         ensures served { (n m : ℕ) → ((o : outputs.OutputBoundary) → slice_get self.old.outs.items k ≡ Some o
             → AllServed (Some (way_out self.old.island o.wire)) n m self.old.island self.old.ins.items self.old.outs.items)
@@ -137,7 +157,7 @@ impl<S: Source, D: Drain, L: Logic, B: PlugBook> Body<S, D, L, B> {
         ensures wakes { WakesOn self.old self.new }
         ensures peers { (self.new.peers.ins ≡ self.old.peers.ins) × (self.new.peers.outs ≡ self.old.peers.outs) }
     {
-        let told = self.outs[k].serve(&mut self.island);
+        let told = self.outs[k].serve(&mut self.island, place);
         self.peers.tell_out(k, told);
     }
 
@@ -157,8 +177,8 @@ impl<S: Source, D: Drain, L: Logic, B: PlugBook> Body<S, D, L, B> {
     {
         match self.ways[w as usize] {
             Way::Inner => {}
-            Way::In(k) => self.serve_in(k as usize),
-            Way::Out(k) => self.serve_out(k as usize),
+            Way::In(k) => self.serve_in(k as usize, w),
+            Way::Out(k) => self.serve_out(k as usize, w),
         }
     }
 
@@ -173,7 +193,8 @@ impl<S: Source, D: Drain, L: Logic, B: PlugBook> Body<S, D, L, B> {
         ensures peers { (self.new.peers.ins ≡ self.old.peers.ins) × (self.new.peers.outs ≡ self.old.peers.outs) }
     {
         for k in 0..self.ins.len() {
-            self.serve_in(k);
+            let place = self.place_in(k);
+            self.serve_in(k, place);
         }
     }
 
@@ -189,7 +210,8 @@ impl<S: Source, D: Drain, L: Logic, B: PlugBook> Body<S, D, L, B> {
         ensures peers { (self.new.peers.ins ≡ self.old.peers.ins) × (self.new.peers.outs ≡ self.old.peers.outs) }
     {
         for k in 0..self.outs.len() {
-            self.serve_out(k);
+            let place = self.place_out(k);
+            self.serve_out(k, place);
         }
     }
 
@@ -248,7 +270,8 @@ impl<S: Source, D: Drain, L: Logic, B: PlugBook> Body<S, D, L, B> {
             return false;
         }
         if self.is_next(k) {
-            self.serve_in(k);
+            let place = self.place_in(k);
+            self.serve_in(k, place);
         }
         true
     }
@@ -325,7 +348,7 @@ impl<S: Source, D: Drain, L: Logic, B: PlugBook> Body<S, D, L, B> {
         ensures last { SawAllAt self.old.outs.items self.new.outs.items k }
         ensures wakes { WakesOn self.old self.new }
     {
-        self.outs[k].visit(&mut self.island)
+        self.outs[k].visit(&mut self.island, k)
     }
 
     // The same, by the units that it uses: one where something is found.

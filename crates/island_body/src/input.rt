@@ -88,14 +88,17 @@ impl IslandInput {
         }
     }
 
-    // Hands on the first element that waits, to a stage that is asked. True comes exactly where the lane was asked for more.
+    // Hands on the first element that waits, to a stage that is asked. True comes exactly where the lane was asked for more. `place`
+    // is the place of the lane's connection, here and in what is below.
     #[inline(always)]
     fn hand_on<S: Source, D: Drain, L: Logic, B: PlugBook>(
         &mut self,
         island: &mut Island<S, D, L, B>,
+        place: u32,
     ) -> bool
         requires whole { island.old.broken ≡ false }
         requires enters { Enters island.old self.old.wire }
+        requires place { place ≡ way_in island.old self.old.wire }
         requires feeds { Feeds self.old.boundary island.old self.old.wire }
         requires flows { state self.old.boundary ≡ Flowing }
         requires asked { wanted_at (cell_in island.old self.old.wire) ≡ wanted.Asked }
@@ -116,7 +119,7 @@ impl IslandInput {
         match self.boundary.next() {
             None => false,
             Some((e, asks)) => {
-                island.push_in(self.wire, e);
+                island.push_by_place(self.wire, place, e);
                 asks
             }
         }
@@ -127,9 +130,11 @@ impl IslandInput {
     fn hand_on_end<S: Source, D: Drain, L: Logic, B: PlugBook>(
         &mut self,
         island: &mut Island<S, D, L, B>,
+        place: u32,
     )
         requires whole { island.old.broken ≡ false }
         requires enters { Enters island.old self.old.wire }
+        requires place { place ≡ way_in island.old self.old.wire }
         requires feeds { Feeds self.old.boundary island.old self.old.wire }
         requires flows { state self.old.boundary ≡ Flowing }
         requires live { (cell_in island.old self.old.wire).wire.out ≢ outlet.Cancelled }
@@ -144,7 +149,7 @@ impl IslandInput {
     {
         match self.boundary.next_end() {
             None => {}
-            Some(end) => give_end(island, self.wire, end),
+            Some(end) => give_end(island, self.wire, place, end),
         }
     }
 
@@ -153,9 +158,11 @@ impl IslandInput {
     fn hand_on_last<S: Source, D: Drain, L: Logic, B: PlugBook>(
         &mut self,
         island: &mut Island<S, D, L, B>,
+        place: u32,
     )
         requires whole { island.old.broken ≡ false }
         requires enters { Enters island.old self.old.wire }
+        requires place { place ≡ way_in island.old self.old.wire }
         requires feeds { Feeds self.old.boundary island.old self.old.wire }
         requires flows { state self.old.boundary ≡ Flowing }
         requires live { (cell_in island.old self.old.wire).wire.out ≢ outlet.Cancelled }
@@ -170,20 +177,22 @@ impl IslandInput {
         ensures beside { Beside (way_in island.old self.old.wire) (in_node island.old self.old.wire) island.old island.new }
     {
         if self.boundary.is_at_end() {
-            self.hand_on_end(island);
+            self.hand_on_end(island, place);
         }
     }
 
     /// Hands on what its island asks for: one element where the stage there is asked, and an end that waits behind no element also where
     /// it is not. A cancel of its connection cancels the lane. Then nothing is left to do before something comes off the lane, or
     /// to the stage. True comes exactly where the lane was asked for more or cancelled, so that the other end has to be woken.
-    /// It takes no memory.
+    /// `place` is the place of the lane's connection. It takes no memory.
     pub fn serve<S: Source, D: Drain, L: Logic, B: PlugBook>(
         &mut self,
         island: &mut Island<S, D, L, B>,
+        place: u32,
     ) -> bool
         requires whole { island.old.broken ≡ false }
         requires enters { Enters island.old self.old.wire }
+        requires place { place ≡ way_in island.old self.old.wire }
         requires feeds { Feeds self.old.boundary island.old self.old.wire }
         ensures feeds { Feeds self.new.boundary island.new self.new.wire }
         ensures fed { IsFed self.new.boundary island.new self.new.wire }
@@ -202,7 +211,7 @@ impl IslandInput {
         ensures beside { Beside (way_in island.old self.old.wire) (in_node island.old self.old.wire) island.old island.new }
     {
         self.boundary.keeps();
-        let told = self.serve_now(island);
+        let told = self.serve_now(island, place);
         self.boundary.keeps();
         told
     }
@@ -211,9 +220,11 @@ impl IslandInput {
     fn serve_now<S: Source, D: Drain, L: Logic, B: PlugBook>(
         &mut self,
         island: &mut Island<S, D, L, B>,
+        place: u32,
     ) -> bool
         requires whole { island.old.broken ≡ false }
         requires enters { Enters island.old self.old.wire }
+        requires place { place ≡ way_in island.old self.old.wire }
         requires feeds { Feeds self.old.boundary island.old self.old.wire }
         requires keeps { BoundaryKeeps self.old.boundary }
         ensures feeds { Feeds self.new.boundary island.new self.new.wire }
@@ -235,18 +246,18 @@ impl IslandInput {
             return false;
         }
         island.laws();
-        match island.wanted(self.wire) {
+        match island.wanted_by_place(self.wire, place) {
             Wanted::Cancelled => {
                 self.boundary.cancel();
                 true
             }
             Wanted::Asked => {
-                let told = self.hand_on(island);
-                self.hand_on_last(island);
+                let told = self.hand_on(island, place);
+                self.hand_on_last(island, place);
                 told
             }
             Wanted::Quiet => {
-                self.hand_on_last(island);
+                self.hand_on_last(island, place);
                 false
             }
         }
@@ -257,10 +268,12 @@ impl IslandInput {
 fn give_end<S: Source, D: Drain, L: Logic, B: PlugBook>(
     island: &mut Island<S, D, L, B>,
     wire: u32,
+    place: u32,
     end: Item,
 )
     requires whole { island.old.broken ≡ false }
     requires enters { Enters island.old wire }
+    requires place { place ≡ way_in island.old wire }
     requires is_end { ends end ≡ true }
     requires live { output_closed (cell_in island.old wire).wire.out ≡ false }
     ensures after { island.new ≡ with_net island.old (moved_at island.old.net (way_in island.old wire) (act_of end)) }
@@ -268,7 +281,7 @@ fn give_end<S: Source, D: Drain, L: Logic, B: PlugBook>(
 {
     match end {
         Item::Elem(_) => unreachable!(),
-        Item::Ended => island.end_in(wire, None),
-        Item::Failed(cause) => island.end_in(wire, Some(cause)),
+        Item::Ended => island.end_by_place(wire, place, None),
+        Item::Failed(cause) => island.end_by_place(wire, place, Some(cause)),
     }
 }

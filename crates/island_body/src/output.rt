@@ -89,13 +89,16 @@ impl OutputBoundary {
         }
     }
 
-    /// Sends the next item that came to the stage there, if one waits; true comes exactly where one did. It takes no memory.
+    /// Sends the next item that came to the stage there, if one waits; true comes exactly where one did. `place` is that of the lane's
+    /// connection. It takes no memory.
     pub fn send_one<S: Source, D: Drain, L: Logic, B: PlugBook>(
         &mut self,
         island: &mut Island<S, D, L, B>,
+        place: u32,
     ) -> bool
         requires whole { island.old.broken ≡ false }
         requires leaves { Leaves island.old self.old.wire }
+        requires place { place ≡ way_out island.old self.old.wire }
         requires keeps { Sends self.old.lane island.old self.old.wire }
         ensures keeps { Sends self.new.lane island.new self.new.wire }
         ensures wire { (self.new.wire ≡ self.old.wire) × IsSameOut self.old.lane self.new.lane × (seen_count self.new.lane ≡ seen_count self.old.lane)
@@ -107,11 +110,11 @@ impl OutputBoundary {
         ensures uses { Uses island.old.net island.new.net 0 }
         ensures beside { Beside (way_out island.old self.old.wire) (out_node island.old self.old.wire) island.old island.new }
     {
-        island.came_out(self.wire);
-        if island.is_clear_out(self.wire) {
+        island.came_by_place(self.wire, place);
+        if island.is_clear_by_place(self.wire, place) {
             return false;
         }
-        match island.hand_out(self.wire) {
+        match island.hand_out_by_place(self.wire, place) {
             None => false,
             Some(item) => {
                 self.send(item);
@@ -120,14 +123,17 @@ impl OutputBoundary {
         }
     }
 
-    /// Asks the stage there where demand is left and it may be asked; true comes exactly where it did. It takes no memory.
+    /// Asks the stage there where demand is left and it may be asked; true comes exactly where it did. `place` is that of the lane's
+    /// connection. It takes no memory.
     #[inline(always)]
     pub fn ask<S: Source, D: Drain, L: Logic, B: PlugBook>(
         &self,
         island: &mut Island<S, D, L, B>,
+        place: u32,
     ) -> bool
         requires whole { island.old.broken ≡ false }
         requires leaves { Leaves island.old self.now.wire }
+        requires place { place ≡ way_out island.old self.now.wire }
         requires keeps { Sends self.now.lane island.old self.now.wire }
         ensures keeps { Sends self.now.lane island.new self.now.wire }
         ensures rest { result ≡ false → (island.new ≡ island.old) × (waiting island.old self.now.wire ≡ [] → MayNotAsk self.now.lane island.old self.now.wire) }
@@ -138,24 +144,26 @@ impl OutputBoundary {
         ensures uses { Uses island.old.net island.new.net 0 }
         ensures beside { Beside (way_out island.old self.now.wire) (out_node island.old self.now.wire) island.old island.new }
     {
-        island.came_out(self.wire);
+        island.came_by_place(self.wire, place);
         island.laws();
-        if self.lane.left() == 0 || !island.can_pull_out(self.wire) {
+        if self.lane.left() == 0 || !island.can_pull_by_place(self.wire, place) {
             return false;
         }
-        island.pull_out(self.wire);
+        island.pull_by_place(self.wire, place);
         true
     }
 
     /// Sends all that waits at the stage there, and asks it where demand is left and it may be asked. Then nothing is left to do before
     /// something comes to the stage, or to this end of the lane. True comes exactly where something was sent, so that the other end
-    /// has to be woken. It takes no memory.
+    /// has to be woken. `place` is the place of the lane's connection. It takes no memory.
     pub fn serve<S: Source, D: Drain, L: Logic, B: PlugBook>(
         &mut self,
         island: &mut Island<S, D, L, B>,
+        place: u32,
     ) -> bool
         requires whole { island.old.broken ≡ false }
         requires leaves { Leaves island.old self.old.wire }
+        requires place { place ≡ way_out island.old self.old.wire }
         requires serves { Serves self.old.lane island.old self.old.wire }
         ensures serves { Serves self.new.lane island.new self.new.wire }
         ensures served { IsServed self.new.lane island.new self.new.wire }
@@ -170,20 +178,21 @@ impl OutputBoundary {
             return false;
         }
         let mut sent = false;
-        while self.send_one(island) {
+        while self.send_one(island, place) {
             sent = true;
         }
-        island.came_out(self.wire);
+        island.came_by_place(self.wire, place);
         island.laws();
-        self.ask(island);
+        self.ask(island, place);
         sent
     }
 
     /// Looks once at the lane, unless a cancel was seen, and does what is found: new demand lets it ask, and a cancel is handed on, which
-    /// drops what waits. It takes no memory.
+    /// drops what waits. The lane is looked for first as number `near` of those that go out. It takes no memory.
     pub fn visit<S: Source, D: Drain, L: Logic, B: PlugBook>(
         &mut self,
         island: &mut Island<S, D, L, B>,
+        near: usize,
     ) -> Found
         requires whole { island.old.broken ≡ false }
         requires leaves { Leaves island.old self.old.wire }
@@ -208,12 +217,14 @@ impl OutputBoundary {
         match found {
             Found::Nothing => {}
             Found::Demand => {
-                self.ask(island);
+                let place = island.way_out(self.wire, near);
+                self.ask(island, place);
             }
             Found::Cancelled => {
-                island.came_out(self.wire);
+                let place = island.way_out(self.wire, near);
+                island.came_by_place(self.wire, place);
                 island.laws();
-                island.cancel_out(self.wire);
+                island.cancel_by_place(self.wire, place);
             }
         }
         found

@@ -37,11 +37,11 @@ pub(crate) fn mark<S: Source, D: Drain, L: Logic, B: PlugBook>(
     ensures { IsTable island.now (in_wires ins.now) (out_wires outs.now) ways.new.items }
 {
     for k in 0..ins.len() {
-        let place = island.way_in(ins[k].wire);
+        let place = island.way_in(ins[k].wire, k);
         ways[place as usize] = Way::In(k as u32);
     }
     for j in 0..outs.len() {
-        let place = island.way_out(outs[j].wire);
+        let place = island.way_out(outs[j].wire, j);
         ways[place as usize] = Way::Out(j as u32);
     }
 }

@@ -7,9 +7,6 @@ use Rattle.island_body.proofs.Lists.{get_here, map_at}
 use Rattle.island_body.proofs.Marking.{row_there, whole_table, mark_in_at, mark_out_at}
 use Rattle.island_body.proofs.table.mark.Goals as goal
 
-pub way_in-place-requires : goal.way_in-place-requires
-way_in-place-requires g c = (c.requires.begins.stand.ins_stand c.loop-k.k _ (get_here c.args.ins.now c.loop-k.k c.index-ins-k.result c.loop-k-test.true)).enters.within
-
 pub index_mut-requires : goal.index_mut-requires
 index_mut-requires g c =
     let p = (c.requires.begins.stand.ins_stand c.loop-k.k _ (get_here c.args.ins.now c.loop-k.k c.index-ins-k.result c.loop-k-test.true)).enters.place in
@@ -21,9 +18,6 @@ loop-k-preserved g c =
     let at = get_here c.args.ins.now c.loop-k.k c.index-ins-k.result c.loop-k-test.true in
     let p = (c.requires.begins.stand.ins_stand c.loop-k.k _ at).enters.place in
     mark_in_at c.args.island.now _ _ c.requires.begins.apart c.requires.begins.differ c.loop-k.k 0 _ _ _ c.way_in-place.ensures (map_at (λ (x : IslandInput). x.wire) c.args.ins.now c.loop-k.k _ at) p c.loop-k.invariant
-
-pub way_out-place-requires : goal.way_out-place-requires
-way_out-place-requires g c = (c.requires.begins.stand.outs_stand c.loop-j.j _ (get_here c.args.outs.now c.loop-j.j c.index-outs-j.result c.loop-j-test.true)).leaves.within
 
 pub index_mut-requires-in-loop-j : goal.index_mut-requires-in-loop-j
 index_mut-requires-in-loop-j g c =

@@ -2,7 +2,7 @@
 use Rattle.std.proofs.Common.{◌≡◌, ◌∙◌, ap, length, map, sym, arith}
 use Rattle.std.proofs.lemmas.List.{length-map}
 use Rattle.interpreter.specs.Parts.{wire_number, seat_place}
-use Rattle.interpreter.specs.Ways.{MarksLaneEnds}
+use Rattle.interpreter.specs.Ways.{ListsLaneEnds}
 use Rattle.interpreter.proofs.Islands.{keeps_new, room_as, numbers_same}
 use Rattle.interpreter.proofs.Handing.{hands_back, holds_handles}
 use Rattle.interpreter.proofs.Bounding.{enters_new, leaves_new, begins_in_new, begins_out_new}
@@ -32,16 +32,16 @@ returns-in-Ok-clause-enters g c =
     let places = c.args.parts.nodes.items in
     let links = c.args.parts.links.items in
     let keeps = keeps_new _ _ _ c.assemble-engine.result c.start.new.self c.in-Ok.ensures.laws c.in-Ok.ensures.asks c.assemble-engine.ensures.asks in
-    let leads : MarksLaneEnds places links (length links) c.mark_all.new.self.ins.items c.mark_all.new.self.outs.items = rw (c.deref.ensures.value, c.deref-2.ensures.value) at c.mark_all.ensures in
-    enters_new g.S.Source.state g.D.Drain.state _ _ places links keeps (rw c.in-Ok.ensures.on.firsts c.assemble-engine.ensures.firsts) (c.in-Ok.ensures.on.ends ∙ c.assemble-engine.ensures.ends) leads
+    let leads : ListsLaneEnds places links c.list_lanes-ways.result.ins.items c.list_lanes-ways.result.outs.items = rw (c.deref.ensures.value, c.deref-2.ensures.value) at c.list_lanes-ways.ensures in
+    enters_new g.S.Source.state g.D.Drain.state _ _ places links keeps (rw c.in-Ok.ensures.on.firsts c.assemble-engine.ensures.firsts) (c.in-Ok.ensures.on.ends ∙ c.assemble-engine.ensures.ends) leads.come
 
 pub returns-in-Ok-clause-leaves : goal.returns-in-Ok-clause-leaves
 returns-in-Ok-clause-leaves g c =
     let places = c.args.parts.nodes.items in
     let links = c.args.parts.links.items in
     let keeps = keeps_new _ _ _ c.assemble-engine.result c.start.new.self c.in-Ok.ensures.laws c.in-Ok.ensures.asks c.assemble-engine.ensures.asks in
-    let leads : MarksLaneEnds places links (length links) c.mark_all.new.self.ins.items c.mark_all.new.self.outs.items = rw (c.deref.ensures.value, c.deref-2.ensures.value) at c.mark_all.ensures in
-    leaves_new g.S.Source.state g.D.Drain.state _ _ places links keeps (rw c.in-Ok.ensures.on.firsts c.assemble-engine.ensures.firsts) (c.in-Ok.ensures.on.ends ∙ c.assemble-engine.ensures.ends) leads
+    let leads : ListsLaneEnds places links c.list_lanes-ways.result.ins.items c.list_lanes-ways.result.outs.items = rw (c.deref.ensures.value, c.deref-2.ensures.value) at c.list_lanes-ways.ensures in
+    leaves_new g.S.Source.state g.D.Drain.state _ _ places links keeps (rw c.in-Ok.ensures.on.firsts c.assemble-engine.ensures.firsts) (c.in-Ok.ensures.on.ends ∙ c.assemble-engine.ensures.ends) leads.go
 
 pub leave-requires-clause-room : goal.leave-requires-clause-room
 leave-requires-clause-room g c =

@@ -2,7 +2,7 @@
 use Rattle.std.proofs.Common.{Some, sym, ap, ◌∙◌}
 use Rattle.std.specs.Prelude.{length}
 use Rattle.island_body.proofs.Lists.{get_here}
-use Rattle.island_body.proofs.Standing.{served_inner, served_in, served_out}
+use Rattle.island_body.proofs.Standing.{served_inner, served_in, served_out, place_in_table, place_out_table}
 use Rattle.island_body.proofs.Acting.{done_as}
 use Rattle.island_body.proofs.Looking.{keeps_looks_still}
 use Rattle.island_body.proofs.Telling.{wakes_still}
@@ -32,3 +32,13 @@ returns-in-Inner-clause-looks g c = keeps_looks_still _
 
 pub returns-in-Inner-clause-wakes : goal.returns-in-Inner-clause-wakes
 returns-in-Inner-clause-wakes g c = wakes_still _
+
+pub serve_in-requires-clause-place : goal.serve_in-requires-clause-place
+serve_in-requires-clause-place g c =
+    let b = c.args.self.now in
+    place_in_table c.args.w c.in-In.k b.island b.ins.items b.outs.items b.ways.items c.requires.stands.table (get_here b.ways.items c.args.w c.index.result.now c.requires.within ∙ ap (λ z. Some z) (sym c.index.ensures ∙ c.in-In.is))
+
+pub serve_out-requires-clause-place : goal.serve_out-requires-clause-place
+serve_out-requires-clause-place g c =
+    let b = c.args.self.now in
+    place_out_table c.args.w c.in-Out.k b.island b.ins.items b.outs.items b.ways.items c.requires.stands.table (get_here b.ways.items c.args.w c.index.result.now c.requires.within ∙ ap (λ z. Some z) (sym c.index.ensures ∙ c.in-Out.is))

@@ -16,6 +16,9 @@ serve-told-requires-clause-enters g c = (c.requires.stands.stand.ins_stand c.arg
 pub serve-told-requires-clause-feeds : goal.serve-told-requires-clause-feeds
 serve-told-requires-clause-feeds g c = (c.requires.stands.stand.ins_stand c.args.k c.index_mut.result.now (at_index c.args.self.now.ins.items c.args.k c.index_mut.result.now c.requires.within c.index_mut.ensures.value)).feeds
 
+pub serve-told-requires-clause-place : goal.serve-told-requires-clause-place
+serve-told-requires-clause-place g c = c.requires.place c.index_mut.result.now (at_index c.args.self.now.ins.items c.args.k c.index_mut.result.now c.requires.within c.index_mut.ensures.value)
+
 pub returns-clause-stands : goal.returns-clause-stands
 returns-clause-stands g c =
     let at = at_index c.args.self.now.ins.items c.args.k c.index_mut.result.now c.requires.within c.index_mut.ensures.value in

@@ -15,6 +15,9 @@ serve-told-requires-clause-leaves g c = (c.requires.stands.stand.outs_stand c.ar
 pub serve-told-requires-clause-serves : goal.serve-told-requires-clause-serves
 serve-told-requires-clause-serves g c = (c.requires.stands.stand.outs_stand c.args.k c.index_mut.result.now (at_index c.args.self.now.outs.items c.args.k c.index_mut.result.now c.requires.within c.index_mut.ensures.value)).serves
 
+pub serve-told-requires-clause-place : goal.serve-told-requires-clause-place
+serve-told-requires-clause-place g c = c.requires.place c.index_mut.result.now (at_index c.args.self.now.outs.items c.args.k c.index_mut.result.now c.requires.within c.index_mut.ensures.value)
+
 pub returns-clause-stands : goal.returns-clause-stands
 returns-clause-stands g c =
     let at = at_index c.args.self.now.outs.items c.args.k c.index_mut.result.now c.requires.within c.index_mut.ensures.value in

@@ -22,13 +22,13 @@ returns-in-None-clause-live g c =
     (wanted_push cell.wire.out (can_push cell.wire.conn) c.requires.asked).1
 
 pub returns-in-Some-clause-feeds : goal.returns-in-Some-clause-feeds
-returns-in-Some-clause-feeds g c = handed_feeds c.args.self.now.boundary c.args.island.now c.args.self.now.wire (item.Elem c.in-Some.e) c.push_in.new.self c.push_in.ensures.after c.requires.enters.place c.requires.feeds c.next.new.self c.in-Some.ensures.some c.in-Some.ensures.flows
+returns-in-Some-clause-feeds g c = handed_feeds c.args.self.now.boundary c.args.island.now c.args.self.now.wire (item.Elem c.in-Some.e) c.push_by_place.new.self c.push_by_place.ensures.after c.requires.enters.place c.requires.feeds c.next.new.self c.in-Some.ensures.some c.in-Some.ensures.flows
 
 pub returns-in-Some-clause-live : goal.returns-in-Some-clause-live
-returns-in-Some-clause-live g c = handed_live c.args.self.now.boundary c.args.island.now c.args.self.now.wire (item.Elem c.in-Some.e) c.push_in.new.self c.push_in.ensures.after c.requires.enters.place
+returns-in-Some-clause-live g c = handed_live c.args.self.now.boundary c.args.island.now c.args.self.now.wire (item.Elem c.in-Some.e) c.push_by_place.new.self c.push_by_place.ensures.after c.requires.enters.place
 
 pub returns-in-Some-clause-given : goal.returns-in-Some-clause-given
-returns-in-Some-clause-given g c e = absurd (handed_unasked c.args.self.now.boundary c.args.island.now c.args.self.now.wire (item.Elem c.in-Some.e) c.push_in.new.self c.push_in.ensures.after c.requires.enters.place e)
+returns-in-Some-clause-given g c e = absurd (handed_unasked c.args.self.now.boundary c.args.island.now c.args.self.now.wire (item.Elem c.in-Some.e) c.push_by_place.new.self c.push_by_place.ensures.after c.requires.enters.place e)
 
 pub returns-in-Some-clause-beside : goal.returns-in-Some-clause-beside
-returns-in-Some-clause-beside g c = handed_beside c.args.self.now.boundary c.args.island.now c.args.self.now.wire (item.Elem c.in-Some.e) c.push_in.new.self c.push_in.ensures.after c.requires.enters.place
+returns-in-Some-clause-beside g c = handed_beside c.args.self.now.boundary c.args.island.now c.args.self.now.wire (item.Elem c.in-Some.e) c.push_by_place.new.self c.push_by_place.ensures.after c.requires.enters.place

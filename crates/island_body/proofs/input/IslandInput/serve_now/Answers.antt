@@ -2,14 +2,18 @@
 use Rattle.std.proofs.Common.{◌∙◌, inl, inr, sym, ap, arith}
 use Rattle.fused_net.proofs.Going.{uses_trans}
 use Rattle.lane_core.specs.Ends.{taken_items, ask_calls, has_cancelled, found_sent, told_sent, in_lane, in_size}
+use Rattle.island_body.proofs.Beside.{place_in_beside}
 use Rattle.island_body.proofs.Feeding.{quiet_away, asks_least, asks_more, asks_none, beside_next}
 use Rattle.island_body.proofs.input.IslandInput.serve_now.Goals as goal
+
+pub hand_on_last-requires-clause-place : goal.hand_on_last-requires-clause-place
+hand_on_last-requires-clause-place g c = place_in_beside _ _ c.args.place c.args.island.now c.hand_on-told.new.island c.args.self.now.wire c.hand_on-told.new.self.wire c.hand_on-told.ensures.beside c.hand_on-told.ensures.wire.0 c.requires.place
 
 pub hand_on_last-requires-clause-given : goal.hand_on_last-requires-clause-given
 hand_on_last-requires-clause-given g c e = inl (c.hand_on-told.ensures.given e)
 
 pub hand_on_last-requires-in-Quiet-clause-given : goal.hand_on_last-requires-in-Quiet-clause-given
-hand_on_last-requires-in-Quiet-clause-given g c e = inr (quiet_away c.args.self.now.boundary c.args.island.now c.args.self.now.wire (c.laws.ensures c.requires.whole) c.requires.enters (sym c.wanted.ensures ∙ c.in-Quiet.is) e)
+hand_on_last-requires-in-Quiet-clause-given g c e = inr (quiet_away c.args.self.now.boundary c.args.island.now c.args.self.now.wire (c.laws.ensures c.requires.whole) c.requires.enters (sym c.wanted_by_place.ensures ∙ c.in-Quiet.is) e)
 
 pub returns-in-Asked-clause-least : goal.returns-in-Asked-clause-least
 returns-in-Asked-clause-least g c =

@@ -2,8 +2,22 @@
 use Rattle.std.proofs.Common.{◌≡◌, ℕ, false, rules}
 use Rattle.lane_core.specs.Ends.{saw_cancel}
 use Rattle.interpreter.specs.Boundary.{Leaves, way_out, cell_out}
+use Rattle.island_body.proofs.Beside.{place_out_beside}
 use Rattle.island_body.proofs.Serving.{serves_asked}
 use Rattle.island_body.proofs.output.OutputBoundary.serve.Goals as goal
+
+pub send_one-requires-clause-place : goal.send_one-requires-clause-place
+send_one-requires-clause-place g c = place_out_beside _ _ c.args.place c.args.island.now c.loop-sent.island c.args.self.now.wire c.loop-sent.self.wire c.loop-sent.invariant.7 c.loop-sent.invariant.1 c.requires.place
+
+pub came_by_place-requires-clause-place : goal.came_by_place-requires-clause-place
+came_by_place-requires-clause-place g c =
+    let before : c.args.place ≡ way_out c.loop-sent.island c.loop-sent.self.wire = place_out_beside _ _ c.args.place c.args.island.now c.loop-sent.island c.args.self.now.wire c.loop-sent.self.wire c.loop-sent.invariant.7 c.loop-sent.invariant.1 c.requires.place in
+    search rules
+
+pub ask-requires-clause-place : goal.ask-requires-clause-place
+ask-requires-clause-place g c =
+    let before : c.args.place ≡ way_out c.loop-sent.island c.loop-sent.self.wire = place_out_beside _ _ c.args.place c.args.island.now c.loop-sent.island c.args.self.now.wire c.loop-sent.self.wire c.loop-sent.invariant.7 c.loop-sent.invariant.1 c.requires.place in
+    search rules
 
 pub returns-clause-serves : goal.returns-clause-serves
 returns-clause-serves g c =
@@ -14,5 +28,5 @@ returns-clause-serves g c =
     let leaves : Leaves c.send_one.new.island c.send_one.new.self.wire = search rules in
     let cell : cell_out c.send_one.new.island c.send_one.new.self.wire ≡ cell_out c.args.island.now c.args.self.now.wire = search rules in
     let keeps = c.laws.ensures whole in
-    serves_asked c.send_one.new.self.lane c.send_one.new.island c.send_one.new.self.wire c.came_out.ensures (keeps.laws.wired.to_within (way_out c.send_one.new.island c.send_one.new.self.wire) leaves.place) c.send_one.ensures.keeps
+    serves_asked c.send_one.new.self.lane c.send_one.new.island c.send_one.new.self.wire c.came_by_place.ensures (keeps.laws.wired.to_within (way_out c.send_one.new.island c.send_one.new.self.wire) leaves.place) c.send_one.ensures.keeps
     (λ e. let l = c.requires.serves.left (rw cell at e) in cc) c.ask.new.island c.ask.ensures.keeps c.ask.ensures.got c.ask.ensures.left

@@ -22,12 +22,12 @@ returns-in-Cancelled-clause-serves g c =
     let sends : Sends c.args.self.now.lane c.args.island.now c.look-found.new.self.wire = rw c.look-found.ensures.wire.0 (c.requires.serves.live zero_is) in
     let leaves : Leaves c.args.island.now c.look-found.new.self.wire = rw c.look-found.ensures.wire.0 c.requires.leaves in
     let keeps = c.laws.ensures c.requires.whole in
-    cancelled_serves c.args.self.now.lane c.args.island.now c.look-found.new.self.wire c.came_out.ensures sends leaves (keeps.laws.wired.to_within (way_out c.args.island.now c.look-found.new.self.wire) leaves.place) c.look-found.new.self.lane c.cancel_out.new.self
-    c.cancel_out.ensures.drops c.look-found.ensures.sent.0 c.look-found.ensures.sent.2 c.in-Cancelled.ensures.found
+    cancelled_serves c.args.self.now.lane c.args.island.now c.look-found.new.self.wire c.came_by_place.ensures sends leaves (keeps.laws.wired.to_within (way_out c.args.island.now c.look-found.new.self.wire) leaves.place) c.look-found.new.self.lane c.cancel_by_place.new.self
+    c.cancel_by_place.ensures.drops c.look-found.ensures.sent.0 c.look-found.ensures.sent.2 c.in-Cancelled.ensures.found
 
 pub returns-in-Cancelled-clause-beside : goal.returns-in-Cancelled-clause-beside
 returns-in-Cancelled-clause-beside g c =
     let keeps = c.laws.ensures c.requires.whole in
     let x = get_there c.args.island.now.net.nodes (out_node c.args.island.now c.args.self.now.wire) (keeps.laws.wired.to_within (way_out c.args.island.now c.args.self.now.wire) c.requires.leaves.place) in
-    let drops : Drops c.args.island.now c.args.self.now.wire c.cancel_out.new.self = rw c.look-found.ensures.wire.0 at c.cancel_out.ensures.drops in
-    beside_drops c.args.island.now c.cancel_out.new.self c.args.self.now.wire x.0 x.1 drops
+    let drops : Drops c.args.island.now c.args.self.now.wire c.cancel_by_place.new.self = rw c.look-found.ensures.wire.0 at c.cancel_by_place.ensures.drops in
+    beside_drops c.args.island.now c.cancel_by_place.new.self c.args.self.now.wire x.0 x.1 drops

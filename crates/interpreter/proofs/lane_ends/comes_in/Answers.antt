@@ -1,6 +1,6 @@
--- The goals of `ways::comes_in` that the search leaves.
+-- The goals of `lane_ends::comes_in` that the search leaves.
 use Rattle.interpreter.proofs.LaneEnds.{comes_not, comes_past}
-use Rattle.interpreter.proofs.ways.comes_in.Goals as goal
+use Rattle.interpreter.proofs.lane_ends.comes_in.Goals as goal
 
 pub returns-in_default : goal.returns-in_default
 returns-in_default g c = comes_not c.args.works.now c.args.place c.in-Some.seated.now c.in-Some.ensures.lookup.3.0 c.in-Some.ensures.lookup.1 c.in_default.not-LaneIn

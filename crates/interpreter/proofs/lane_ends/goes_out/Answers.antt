@@ -1,6 +1,6 @@
--- The goals of `ways::goes_out` that the search leaves.
+-- The goals of `lane_ends::goes_out` that the search leaves.
 use Rattle.interpreter.proofs.LaneEnds.{goes_not, goes_past}
-use Rattle.interpreter.proofs.ways.goes_out.Goals as goal
+use Rattle.interpreter.proofs.lane_ends.goes_out.Goals as goal
 
 pub returns-in_default : goal.returns-in_default
 returns-in_default g c = goes_not c.args.works.now c.args.place c.in-Some.seated.now c.in-Some.ensures.lookup.3.0 c.in-Some.ensures.lookup.1 c.in_default.not-LaneOut

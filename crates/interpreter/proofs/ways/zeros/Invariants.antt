@@ -1,6 +1,0 @@
--- The loop of `ways::zeros`.
-use Rattle.std.proofs.Common.{◌≡◌, length}
-use Rattle.interpreter.proofs.ways.zeros.Given as goal
-
-abbrev pub invariant-loop-i : goal.invariant-loop-i
-invariant-loop-i l = length l.zeros.items ≡ l._i

@@ -1,12 +1,12 @@
 // The islands at the other ends of lanes.
-ghost use Rattle.std.specs.Prelude.{◌≡◌, ◌<◌, ◌≤◌, [], IfOk, All};
+ghost use Rattle.std.specs.Prelude.{◌≡◌, ◌+◌, ◌<◌, ◌≤◌, [], IfOk, All};
 ghost use Rattle.port_core.specs.Ring.{Distinct};
 ghost use Rattle.island_body.specs.Waked.{Added};
 
 use crate::woken::Woken;
 use elem_core::why::NoMemory;
 use std::alloc::Global;
-use std::cmp::max;
+use std::cmp::{max, min};
 
 /// The islands at the other ends of the lanes of an island, in the order of its ends, and which of them are to be woken.
 #[derive(Drop)]
@@ -14,7 +14,7 @@ pub struct Peers {
     pub(crate) ins: Vec<u32>,
     pub(crate) outs: Vec<u32>,
     pub(crate) woken: Woken,
-    ghost within: { All (λ w. w < woken.size) ins.items × All (λ w. w < woken.size) outs.items },
+    ghost within: { All (λ w. (woken.least ≤ w) × (w < woken.size)) ins.items × All (λ w. (woken.least ≤ w) × (w < woken.size)) outs.items },
 }
 
 impl Peers {
@@ -23,11 +23,11 @@ impl Peers {
     pub fn of(alloc: Global, ins: &[u32], outs: &[u32]) -> Result<Peers, NoMemory>
         ensures { IfOk result (λ p. (p.ins.items ≡ ins.now) × (p.outs.items ≡ outs.now) × (p.woken.queue ≡ [])) }
     {
-        let size = above(outs, above(ins, 0));
+        let (least, count) = span(ins, outs);
         Ok(Peers {
             ins: copied(alloc, ins)?,
             outs: copied(alloc, outs)?,
-            woken: Woken::none_of(alloc, size)?,
+            woken: Woken::none_of(alloc, least, count)?,
         })
     }
 
@@ -65,8 +65,8 @@ impl Peers {
 
 // The island at place k of these is to be woken, where it was told something.
 fn wake(peers: &[u32], k: usize, told: bool, woken: &mut Woken)
-    requires within { All (λ w. w < woken.old.size) peers.now }
-    ensures size { woken.new.size ≡ woken.old.size }
+    requires within { All (λ w. (woken.old.least ≤ w) × (w < woken.old.size)) peers.now }
+    ensures size { (woken.new.least ≡ woken.old.least) × (woken.new.size ≡ woken.old.size) }
     ensures added { Added peers.now k told woken.old.queue woken.new.queue }
 {
     if !told {
@@ -75,6 +75,16 @@ fn wake(peers: &[u32], k: usize, told: bool, woken: &mut Woken)
     if let Some(island) = peers.get(k) {
         woken.add(*island);
     }
+}
+
+// The least of all these numbers, and how many there are from it up to the greatest.
+fn span(ins: &[u32], outs: &[u32]) -> (u32, usize)
+    ensures ins { All (λ w. (result.0 ≤ w) × (w < result.0 + result.1)) ins.now }
+    ensures outs { All (λ w. (result.0 ≤ w) × (w < result.0 + result.1)) outs.now }
+{
+    let size = above(outs, above(ins, 0));
+    let least = below(outs, below(ins, u32::MAX));
+    (least, size.saturating_sub(least as usize))
 }
 
 // A number above each of these, and not below another.
@@ -88,6 +98,18 @@ fn above(numbers: &[u32], least: usize) -> usize
         size = max(size, *number as usize + 1);
     }
     size
+}
+
+// A number below none of these, and not above another.
+fn below(numbers: &[u32], most: u32) -> u32
+    ensures most { result ≤ most }
+    ensures each { All (λ w. result ≤ w) numbers.now }
+{
+    let mut least = most;
+    for number in numbers {
+        least = min(least, *number);
+    }
+    least
 }
 
 // The same numbers.

@@ -1,5 +1,5 @@
 // The islands that a body wakes.
-ghost use Rattle.std.specs.Prelude.{◌≡◌, ◌<◌, ◌∷◌, ◌++◌, [], ℕ, IfOk, ◌||◌, ◌==◌};
+ghost use Rattle.std.specs.Prelude.{◌≡◌, ◌+◌, ◌<◌, ◌≤◌, [], ℕ, IfOk, ◌||◌, ◌==◌};
 ghost use Rattle.port_core.specs.Ring.{is_queued, Distinct};
 
 use elem_core::why::NoMemory;
@@ -10,40 +10,46 @@ use std::marker::Model;
 /// The islands that are to be woken, each once.
 #[derive(Drop)]
 pub struct Woken {
+    // The least that may be.
+    least: u32,
     islands: Vec<u32>,
-    // Whether each island is among them, so that this is known without a search.
+    // Whether each island from the least on is among them, so that this is known without a search.
     marks: Vec<bool>,
 }
 
 impl Model for Woken {
-    ghost use Rattle.std.specs.Prelude.{length, vec_capacity};
-    ghost use Rattle.port_core.specs.Ring.{Ring, Marked};
+    ghost use Rattle.std.specs.Prelude.{◌+◌, length, vec_capacity};
+    ghost use Rattle.island_body.specs.Waked.{WokenIslands, MarkedFrom};
 
-    ghost Value = { Ring };
+    ghost Value = { WokenIslands };
 
-    ghost view = { λ w. record { size = length w.marks.items; queue = w.islands.items } };
+    ghost view = { λ w. record { least = w.least; size = w.least + length w.marks.items; queue = w.islands.items } };
 
-    ghost invariant = { λ w. Marked w.islands.items w.marks.items (vec_capacity w.islands) };
+    ghost invariant = { λ w. MarkedFrom w.least w.islands.items w.marks.items (vec_capacity w.islands) };
 }
 
 impl Woken {
-    // None of the islands 0 to `n` - 1.
-    pub(crate) fn none_of(alloc: Global, n: usize) -> Result<Woken, NoMemory>
-        ensures { IfOk result (λ w. w ≡ record { size = n; queue = [] }) }
+    // None of the `count` islands from `least` on.
+    pub(crate) fn none_of(alloc: Global, least: u32, count: usize) -> Result<Woken, NoMemory>
+        ensures { IfOk result (λ w. w ≡ record { least = least; size = least + count; queue = [] }) }
     {
-        let islands = Vec::with_capacity(alloc, n)?;
-        let marks = vec![in alloc; false; n]?;
-        Ok(Woken { islands, marks })
+        let islands = Vec::with_capacity(alloc, count)?;
+        let marks = vec![in alloc; false; count]?;
+        Ok(Woken {
+            least,
+            islands,
+            marks,
+        })
     }
 
     // This island, too. It takes no memory.
     pub(crate) fn add(&mut self, island: u32)
-        requires within { island < self.old.size }
-        ensures size { self.new.size ≡ self.old.size }
+        requires within { (self.old.least ≤ island) × (island < self.old.size) }
+        ensures size { (self.new.least ≡ self.old.least) × (self.new.size ≡ self.old.size) }
         ensures holds { (w : ℕ) → is_queued self.new.queue w ≡ (is_queued self.old.queue w || (island == w)) }
         ensures once { Distinct self.new.queue }
     {
-        let place = island as usize;
+        let place = (island - self.least) as usize;
         if self.marks[place] {
             return;
         }
@@ -56,7 +62,7 @@ impl Woken {
         ensures { self.new ≡ record self.old { queue = [] } }
     {
         while let Some(island) = self.islands.pop() {
-            self.marks[island as usize] = false;
+            self.marks[(island - self.least) as usize] = false;
         }
     }
 

@@ -25,11 +25,6 @@ last_marked queue marks capacity c m =
     let there : (is_queued queue c || (c == c)) ≡ get_or marks c false = sym (is_queued-append queue c c) ∙ m.marked c in
     grind (arith, common_steps, nat_tests)
 
-pub last_within : (old queue : List ℕ) (marks : List Bool) (capacity c : ℕ) → old ≡ queue ++ c ∷ [] → Marked old marks capacity → c < length marks
-last_within old queue marks capacity c e m =
-    let at : Marked (queue ++ c ∷ []) marks capacity = rw e at m in
-    marked_within marks c (last_marked queue marks capacity c at)
-
 pub last_left : (old queue : List ℕ) (marks : List Bool) (capacity c : ℕ) → old ≡ queue ++ c ∷ [] → Marked old marks capacity → Marked queue (set marks c false) capacity
 last_left old queue marks capacity c e m =
     let at : Marked (queue ++ c ∷ []) marks capacity = rw e at m in
@@ -49,20 +44,20 @@ last_left old queue marks capacity c e m =
 -- ---- marks of the numbers from some number on
 
 behind_at : (n c : ℕ) (marks : List Bool) → get_or (marks_from n marks) (n + c) false ≡ get_or marks c false
-behind_at zero c marks = refl
-behind_at (suc n) c marks = behind_at n c marks
+behind_at zero c marks = let e : 0 + c ≡ c = omega arith in ap (λ (i : ℕ). get_or (marks_from 0 marks) i false) e
+behind_at (suc n) c marks = let e : suc n + c ≡ suc (n + c) = omega arith in ap (λ (i : ℕ). get_or (marks_from (suc n) marks) i false) e ∙ behind_at n c marks
 
 behind_set : (n c : ℕ) (b : Bool) (marks : List Bool) → set (marks_from n marks) (n + c) b ≡ marks_from n (set marks c b)
-behind_set zero c b marks = refl
-behind_set (suc n) c b marks = ap (λ (l : List Bool). false ∷ l) (behind_set n c b marks)
+behind_set zero c b marks = let e : 0 + c ≡ c = omega arith in ap (λ (i : ℕ). set (marks_from 0 marks) i b) e
+behind_set (suc n) c b marks = let e : suc n + c ≡ suc (n + c) = omega arith in ap (λ (i : ℕ). set (marks_from (suc n) marks) i b) e ∙ ap (λ (l : List Bool). false ∷ l) (behind_set n c b marks)
 
 behind_count : (n : ℕ) (marks : List Bool) → marked_count (marks_from n marks) ≡ marked_count marks
 behind_count zero marks = refl
 behind_count (suc n) marks = behind_count n marks
 
 behind_many : (n : ℕ) (marks : List Bool) → length (marks_from n marks) ≡ n + length marks
-behind_many zero marks = refl
-behind_many (suc n) marks = ap suc (behind_many n marks)
+behind_many zero marks = let e : length marks ≡ 0 + length marks = omega arith in e
+behind_many (suc n) marks = let e : suc (n + length marks) ≡ suc n + length marks = omega arith in ap suc (behind_many n marks) ∙ e
 
 from_least : (n c : ℕ) (marks : List Bool) → get_or (marks_from n marks) c false ≡ true → n ≤ c
 from_least zero c marks e = omega arith
@@ -75,8 +70,8 @@ many_none (suc n) = ap suc (many_none n)
 
 -- no mark is set
 none_marked : (n m : ℕ) → marks_from n (replicate m false) ≡ replicate (n + m) false
-none_marked zero m = refl
-none_marked (suc n) m = ap (λ (l : List Bool). false ∷ l) (none_marked n m)
+none_marked zero m = let e : m ≡ 0 + m = omega arith in ap (λ (k : ℕ). replicate k false) e
+none_marked (suc n) m = let e : suc (n + m) ≡ suc n + m = omega arith in ap (λ (l : List Bool). false ∷ l) (none_marked n m) ∙ ap (λ (k : ℕ). replicate k false) e
 
 pub fresh_from : (least count capacity : ℕ) (queue : List ℕ) (marks : List Bool) → queue ≡ [] → marks ≡ replicate count false → count ≤ capacity → MarkedFrom least queue marks capacity
 fresh_from least count capacity queue marks q m h =
@@ -119,9 +114,10 @@ module _ (least place island capacity : ℕ) (queue : List ℕ) (marks : List Bo
 pub last_from : (least : ℕ) (old queue : List ℕ) (marks : List Bool) (capacity c : ℕ) → old ≡ queue ++ c ∷ [] → MarkedFrom least old marks capacity → (least ≤ c) × (c < least + length marks)
 last_from least old queue marks capacity c e m =
     let at : Marked (queue ++ c ∷ []) (marks_from least marks) (least + length marks) = rw e at m.marked in
-    let set_there : get_or (marks_from least marks) c false ≡ true = last_marked queue (marks_from least marks) (least + length marks) c at in
-    (from_least least c marks set_there,
-     (let within = marked_within (marks_from least marks) c set_there in let all = behind_many least marks in omega (arith, within, all)))
+    let set_there : get_or (marks_from least marks) c false ≡ true = last_marked queue (marks_from least marks) (least + length marks) c at in (
+      from_least least c marks set_there,
+      (let within = marked_within (marks_from least marks) c set_there in let all = behind_many least marks in omega (arith, within, all)),
+    )
 
 pub left_from : (least place : ℕ) (old queue : List ℕ) (marks : List Bool) (capacity c : ℕ) → old ≡ queue ++ c ∷ [] → c ≡ least + place → MarkedFrom least old marks capacity → MarkedFrom least queue (set marks place false) capacity
 left_from least place old queue marks capacity c e is m =

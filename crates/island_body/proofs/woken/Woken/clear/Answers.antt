@@ -1,11 +1,11 @@
 -- The goals of `woken::Woken::clear` that the search leaves.
-use Rattle.std.proofs.Common.{rules, ◌≡◌, ◌∙◌, ◌+◌, ◌-◌, ◌++◌, ◌∷◌, [], ap, length, ℕ, arith}
+use Rattle.std.proofs.Common.{rules, ◌≡◌, ◌∙◌, ◌+◌, ◌-◌, ◌++◌, ◌∷◌, [], ap, ℕ, arith}
 use Rattle.std.proofs.lemmas.List.{length-set}
 use Rattle.island_body.proofs.Wakes.{last_from, left_from}
 use Rattle.island_body.proofs.woken.Woken.clear.Goals as goal
 
-pub sub-requires : goal.sub-requires
-sub-requires c =
+pub overflow_sub-island : goal.overflow_sub-island
+overflow_sub-island c =
     let last : c.loop-island.self-inside.islands.items ≡ c.pop.new.self.items ++ c.in-Some.island ∷ [] = search rules in
     (last_from _ _ _ _ _ c.in-Some.island last c.loop-island.invariant.marked).0
 

@@ -4,7 +4,7 @@ use Rattle.std.specs.List.{list_any}
 use Rattle.stream_model.specs.declared.kind.Kind.{Kind}
 use Rattle.stream_model.specs.declared.kind.Joining.{Joining}
 use Rattle.stream_model.specs.declared.kind.Joining.TheVariants as joining
-use Rattle.stream_model.specs.Linear.{Role, reads_lines, gives_range, gives_nothing, gives_failure, works, trips, plugs_in, buffers, recovers, obeys, groups_by, splits_when, splits_after, merges, gathers, concats, interleaves, merges_sorted, zips, broadcasts, balances, partitions, unzips, sinks, role_of}
+use Rattle.stream_model.specs.Linear.{Role, a_source, a_flow, a_fan_in, a_fan_out, works, trips, plugs_in, buffers, recovers, obeys, groups_by, splits_when, splits_after, merges, gathers, concats, interleaves, merges_sorted, zips, broadcasts, balances, partitions, unzips, sinks, role_of}
 use Rattle.stream_model.specs.declared.kind.Policy.{Policy}
 use Rattle.stream_model.specs.declared.kind.Policy.TheVariants.{Backpressure, DropHead, DropTail, DropBuffer, DropNew, Fail}
 use Rattle.stream_model.specs.declared.blueprint.Node.{Node}
@@ -25,29 +25,26 @@ is_merged joining.Concat = false
 
 -- a role whose moves depend on what comes first
 abbrev pub picks_by : Role → Bool
-picks_by (reads_lines name) = false
-picks_by (gives_range low high) = false
-picks_by (gives_nothing b) = false
-picks_by (gives_failure b) = false
-picks_by (works w) = false
-picks_by (trips order name n) = false
-picks_by (plugs_in name) = false
-picks_by (buffers n p) = may_drop p
-picks_by (recovers t) = true
-picks_by (obeys name) = true
-picks_by (groups_by n f chain) = true
-picks_by (splits_when p chain j) = is_merged j
-picks_by (splits_after p chain j) = is_merged j
-picks_by (merges n) = true
-picks_by (gathers n) = true
-picks_by (concats n) = false
-picks_by (interleaves n s) = false
-picks_by merges_sorted = false
-picks_by zips = false
-picks_by (broadcasts n) = false
-picks_by (balances n) = true
-picks_by (partitions n f) = false
-picks_by unzips = false
+picks_by (a_source source) = false
+picks_by (a_flow (works w)) = false
+picks_by (a_flow (trips order name n)) = false
+picks_by (a_flow (plugs_in name)) = false
+picks_by (a_flow (buffers n p)) = may_drop p
+picks_by (a_flow (recovers t)) = true
+picks_by (a_flow (obeys name)) = true
+picks_by (a_flow (groups_by n f chain)) = true
+picks_by (a_flow (splits_when p chain j)) = is_merged j
+picks_by (a_flow (splits_after p chain j)) = is_merged j
+picks_by (a_fan_in (merges n)) = true
+picks_by (a_fan_in (gathers n)) = true
+picks_by (a_fan_in (concats n)) = false
+picks_by (a_fan_in (interleaves n s)) = false
+picks_by (a_fan_in merges_sorted) = false
+picks_by (a_fan_in zips) = false
+picks_by (a_fan_out (broadcasts n)) = false
+picks_by (a_fan_out (balances n)) = true
+picks_by (a_fan_out (partitions n f)) = false
+picks_by (a_fan_out unzips) = false
 picks_by (sinks file keeps) = false
 
 -- a kind whose moves depend on what comes first

@@ -3,7 +3,7 @@ use Rattle.std.specs.Prelude.{ℕ, zero, suc, ◌==◌, Bool, true, false, if◌
 use Rattle.std.specs.Option.{option_map, option_or, option_and_then}
 use Rattle.elem_core.specs.Sort.{Sort, pair_type, same_sort}
 use Rattle.stream_model.specs.declared.kind.Kind.{Kind}
-use Rattle.stream_model.specs.Linear.{Role, reads_lines, gives_range, gives_nothing, gives_failure, works, trips, plugs_in, buffers, recovers, obeys, groups_by, splits_when, splits_after, merges, gathers, concats, interleaves, merges_sorted, zips, broadcasts, balances, partitions, unzips, sinks, role_of}
+use Rattle.stream_model.specs.Linear.{Role, a_source, a_flow, a_fan_in, a_fan_out, merges, gathers, concats, interleaves, merges_sorted, zips, broadcasts, balances, partitions, unzips, sinks, role_of}
 use Rattle.stream_model.specs.Graph.{Edge, find_wire}
 use Rattle.stream_model.specs.Composed.{inputs_of, count_from}
 use Rattle.stream_model.specs.declared.blueprint.ChainDecl.{ChainDecl}
@@ -19,29 +19,13 @@ use Rattle.blue_names.specs.declared.want.Want.TheVariants.{Is}
 
 -- what an output carries, where the node's type is t: an unzip has the halves of its pairs on its outputs
 abbrev half_by : Role → ℕ → Sort → Sort
-half_by (reads_lines name) port t = t
-half_by (gives_range low high) port t = t
-half_by (gives_nothing b) port t = t
-half_by (gives_failure b) port t = t
-half_by (works w) port t = t
-half_by (trips order name n) port t = t
-half_by (plugs_in name) port t = t
-half_by (buffers n p) port t = t
-half_by (recovers tree) port t = t
-half_by (obeys name) port t = t
-half_by (groups_by n f chain) port t = t
-half_by (splits_when p chain j) port t = t
-half_by (splits_after p chain j) port t = t
-half_by (merges n) port t = t
-half_by (gathers n) port t = t
-half_by (concats n) port t = t
-half_by (interleaves n s) port t = t
-half_by merges_sorted port t = t
-half_by zips port t = t
-half_by (broadcasts n) port t = t
-half_by (balances n) port t = t
-half_by (partitions n f) port t = t
-half_by unzips port t = if port == 0 then left_type t else right_type t
+half_by (a_source source) port t = t
+half_by (a_flow flow) port t = t
+half_by (a_fan_in fan) port t = t
+half_by (a_fan_out (broadcasts n)) port t = t
+half_by (a_fan_out (balances n)) port t = t
+half_by (a_fan_out (partitions n f)) port t = t
+half_by (a_fan_out unzips) port t = if port == 0 then left_type t else right_type t
 half_by (sinks file keeps) port t = t
 
 -- what output p of a kind carries, where the type of its node is t
@@ -65,29 +49,15 @@ pair_up _ = None
 
 -- the inputs of these take one type
 abbrev joins_types : Role → Bool
-joins_types (reads_lines name) = false
-joins_types (gives_range low high) = false
-joins_types (gives_nothing b) = false
-joins_types (gives_failure b) = false
-joins_types (works w) = false
-joins_types (trips order name n) = false
-joins_types (plugs_in name) = false
-joins_types (buffers n p) = false
-joins_types (recovers t) = false
-joins_types (obeys name) = false
-joins_types (groups_by n f chain) = false
-joins_types (splits_when p chain j) = false
-joins_types (splits_after p chain j) = false
-joins_types (merges n) = true
-joins_types (gathers n) = true
-joins_types (concats n) = true
-joins_types (interleaves n s) = true
-joins_types merges_sorted = true
-joins_types zips = false
-joins_types (broadcasts n) = false
-joins_types (balances n) = false
-joins_types (partitions n f) = false
-joins_types unzips = false
+joins_types (a_source source) = false
+joins_types (a_flow flow) = false
+joins_types (a_fan_in (merges n)) = true
+joins_types (a_fan_in (gathers n)) = true
+joins_types (a_fan_in (concats n)) = true
+joins_types (a_fan_in (interleaves n s)) = true
+joins_types (a_fan_in merges_sorted) = true
+joins_types (a_fan_in zips) = false
+joins_types (a_fan_out fan) = false
 joins_types (sinks file keeps) = false
 
 -- the inputs of this kind take one type
@@ -138,29 +108,15 @@ module _ (plugs : List PlugHead) (chains : List ChainDecl) where
   -- what a role would give, where its inputs have these types and its type depends on them: it may lack what it needs. All but
   -- a zip go by the first input that has a type
   abbrev pub attempt_on : Role → List (Option Sort) → (Sort → Typed) → Option Typed
-  attempt_on (reads_lines name) os by_one = option_map by_one (first_typed os)
-  attempt_on (gives_range low high) os by_one = option_map by_one (first_typed os)
-  attempt_on (gives_nothing b) os by_one = option_map by_one (first_typed os)
-  attempt_on (gives_failure b) os by_one = option_map by_one (first_typed os)
-  attempt_on (works w) os by_one = option_map by_one (first_typed os)
-  attempt_on (trips order name n) os by_one = option_map by_one (first_typed os)
-  attempt_on (plugs_in name) os by_one = option_map by_one (first_typed os)
-  attempt_on (buffers n p) os by_one = option_map by_one (first_typed os)
-  attempt_on (recovers t) os by_one = option_map by_one (first_typed os)
-  attempt_on (obeys name) os by_one = option_map by_one (first_typed os)
-  attempt_on (groups_by n f chain) os by_one = option_map by_one (first_typed os)
-  attempt_on (splits_when p chain j) os by_one = option_map by_one (first_typed os)
-  attempt_on (splits_after p chain j) os by_one = option_map by_one (first_typed os)
-  attempt_on (merges n) os by_one = option_map by_one (first_typed os)
-  attempt_on (gathers n) os by_one = option_map by_one (first_typed os)
-  attempt_on (concats n) os by_one = option_map by_one (first_typed os)
-  attempt_on (interleaves n s) os by_one = option_map by_one (first_typed os)
-  attempt_on merges_sorted os by_one = option_map by_one (first_typed os)
-  attempt_on zips os by_one = option_map limited (pair_up os)
-  attempt_on (broadcasts n) os by_one = option_map by_one (first_typed os)
-  attempt_on (balances n) os by_one = option_map by_one (first_typed os)
-  attempt_on (partitions n f) os by_one = option_map by_one (first_typed os)
-  attempt_on unzips os by_one = option_map by_one (first_typed os)
+  attempt_on (a_source source) os by_one = option_map by_one (first_typed os)
+  attempt_on (a_flow flow) os by_one = option_map by_one (first_typed os)
+  attempt_on (a_fan_in (merges n)) os by_one = option_map by_one (first_typed os)
+  attempt_on (a_fan_in (gathers n)) os by_one = option_map by_one (first_typed os)
+  attempt_on (a_fan_in (concats n)) os by_one = option_map by_one (first_typed os)
+  attempt_on (a_fan_in (interleaves n s)) os by_one = option_map by_one (first_typed os)
+  attempt_on (a_fan_in merges_sorted) os by_one = option_map by_one (first_typed os)
+  attempt_on (a_fan_in zips) os by_one = option_map limited (pair_up os)
+  attempt_on (a_fan_out fan) os by_one = option_map by_one (first_typed os)
   attempt_on (sinks file keeps) os by_one = option_map by_one (first_typed os)
 
   -- what a kind would give, by its fixed type, where it has one

@@ -7,7 +7,7 @@ use Rattle.stream_model.specs.declared.kind.Base.{Base}
 use Rattle.stream_model.specs.declared.kind.Base.TheVariants as base
 use Rattle.stream_model.specs.declared.kind.Kind.{Kind}
 use Rattle.stream_model.specs.declared.kind.Kind.TheVariants.{Lines, Range, Empty, Failed, Map, Filter, FilterNot, TakeWhile, DropWhile, Take, Drop, Limit, Grouped, MapConcat, Fold, Scan, Reduce, Buffer, RecoverNum, RecoverText, Valve, TripShutdown, TripAbort, Plug, GroupBy, SplitWhen, SplitAfter, Merge, MergeHub, Concat, Interleave, MergeSorted, Zip, Broadcast, BroadcastHub, Balance, Partition, Unzip, ToLines, Head, Last, Ignore}
-use Rattle.stream_model.specs.Linear.{Role, reads_lines, gives_range, gives_nothing, gives_failure, works, trips, plugs_in, buffers, recovers, obeys, groups_by, splits_when, splits_after, merges, gathers, concats, interleaves, merges_sorted, zips, broadcasts, balances, partitions, unzips, sinks, role_of}
+use Rattle.stream_model.specs.Linear.{Role, a_source, a_flow, a_fan_in, a_fan_out, reads_lines, gives_range, gives_nothing, gives_failure, works, trips, plugs_in, buffers, recovers, obeys, groups_by, splits_when, splits_after, broadcasts, balances, partitions, unzips, sinks, role_of}
 use Rattle.stream_model.specs.declared.blueprint.Step.{Step}
 use Rattle.stream_model.specs.declared.blueprint.ChainDecl.{ChainDecl}
 use Rattle.stream_model.specs.declared.head.PlugHead.{PlugHead}
@@ -67,29 +67,13 @@ base_type base.Text = text_type
 
 -- the type of a source
 abbrev source_type_by : Role → Option Sort
-source_type_by (reads_lines name) = Some text_type
-source_type_by (gives_range low high) = Some num_type
-source_type_by (gives_nothing b) = Some (base_type b)
-source_type_by (gives_failure b) = Some (base_type b)
-source_type_by (works w) = None
-source_type_by (trips order name n) = None
-source_type_by (plugs_in name) = None
-source_type_by (buffers n p) = None
-source_type_by (recovers t) = None
-source_type_by (obeys name) = None
-source_type_by (groups_by n f chain) = None
-source_type_by (splits_when p chain j) = None
-source_type_by (splits_after p chain j) = None
-source_type_by (merges n) = None
-source_type_by (gathers n) = None
-source_type_by (concats n) = None
-source_type_by (interleaves n s) = None
-source_type_by merges_sorted = None
-source_type_by zips = None
-source_type_by (broadcasts n) = None
-source_type_by (balances n) = None
-source_type_by (partitions n f) = None
-source_type_by unzips = None
+source_type_by (a_source (reads_lines name)) = Some text_type
+source_type_by (a_source (gives_range low high)) = Some num_type
+source_type_by (a_source (gives_nothing b)) = Some (base_type b)
+source_type_by (a_source (gives_failure b)) = Some (base_type b)
+source_type_by (a_flow flow) = None
+source_type_by (a_fan_in fan) = None
+source_type_by (a_fan_out fan) = None
 source_type_by (sinks file keeps) = None
 
 -- the type of a source; none of any other kind
@@ -191,29 +175,21 @@ module _ (plugs : List PlugHead) where
   module _ (chains : List ChainDecl) where
     -- what comes of a type at a node of this role, where this comes of it by the node's own function
     abbrev pub typed_by : Role → Sort → Typed → Typed
-    typed_by (reads_lines name) t alone = alone
-    typed_by (gives_range low high) t alone = alone
-    typed_by (gives_nothing b) t alone = alone
-    typed_by (gives_failure b) t alone = alone
-    typed_by (works w) t alone = alone
-    typed_by (trips order name n) t alone = alone
-    typed_by (plugs_in name) t alone = alone
-    typed_by (buffers n p) t alone = alone
-    typed_by (recovers tree) t alone = alone
-    typed_by (obeys name) t alone = alone
-    typed_by (groups_by n g name) t alone = clash_or (map_want g) t (keyed (map_gives g t) (chain_typed (chain_named name chains) t))
-    typed_by (splits_when p name j) t alone = clash_or (Some (pred_want p)) t (chain_typed (chain_named name chains) t)
-    typed_by (splits_after p name j) t alone = clash_or (Some (pred_want p)) t (chain_typed (chain_named name chains) t)
-    typed_by (merges n) t alone = alone
-    typed_by (gathers n) t alone = alone
-    typed_by (concats n) t alone = alone
-    typed_by (interleaves n s) t alone = alone
-    typed_by merges_sorted t alone = alone
-    typed_by zips t alone = alone
-    typed_by (broadcasts n) t alone = alone
-    typed_by (balances n) t alone = alone
-    typed_by (partitions n g) t alone = clash_or (map_want g) t (parted (map_gives g t) t)
-    typed_by unzips t alone = alone
+    typed_by (a_source source) t alone = alone
+    typed_by (a_flow (works w)) t alone = alone
+    typed_by (a_flow (trips order name n)) t alone = alone
+    typed_by (a_flow (plugs_in name)) t alone = alone
+    typed_by (a_flow (buffers n p)) t alone = alone
+    typed_by (a_flow (recovers tree)) t alone = alone
+    typed_by (a_flow (obeys name)) t alone = alone
+    typed_by (a_flow (groups_by n g name)) t alone = clash_or (map_want g) t (keyed (map_gives g t) (chain_typed (chain_named name chains) t))
+    typed_by (a_flow (splits_when p name j)) t alone = clash_or (Some (pred_want p)) t (chain_typed (chain_named name chains) t)
+    typed_by (a_flow (splits_after p name j)) t alone = clash_or (Some (pred_want p)) t (chain_typed (chain_named name chains) t)
+    typed_by (a_fan_in fan) t alone = alone
+    typed_by (a_fan_out (broadcasts n)) t alone = alone
+    typed_by (a_fan_out (balances n)) t alone = alone
+    typed_by (a_fan_out (partitions n g)) t alone = clash_or (map_want g) t (parted (map_gives g t) t)
+    typed_by (a_fan_out unzips) t alone = alone
     typed_by (sinks file keeps) t alone = alone
 
     -- what comes of a type at a node with one input; at a sink and at a fan the type as it is

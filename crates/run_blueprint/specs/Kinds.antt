@@ -2,7 +2,7 @@
 use Rattle.std.specs.Prelude.{Bool, true, List, [], ◌∷◌, Option, Some, is_some}
 use Rattle.elem_core.specs.Sort.{Sort}
 use Rattle.stream_model.specs.declared.kind.Kind.{Kind}
-use Rattle.stream_model.specs.Linear.{Role, reads_lines, gives_range, gives_nothing, gives_failure, works, trips, plugs_in, buffers, recovers, obeys, groups_by, splits_when, splits_after, merges, gathers, concats, interleaves, merges_sorted, zips, broadcasts, balances, partitions, unzips, sinks, role_of, Mention, no_name, a_file, a_switch, a_trip, a_plug, a_chain, mention_of}
+use Rattle.stream_model.specs.Linear.{Role, a_source, a_flow, a_fan_in, a_fan_out, works, trips, plugs_in, buffers, recovers, obeys, groups_by, splits_when, splits_after, merges, gathers, concats, interleaves, merges_sorted, zips, broadcasts, balances, partitions, unzips, sinks, role_of, Mention, no_name, a_file, a_switch, a_trip, a_plug, a_chain, mention_of}
 use Rattle.stream_model.specs.declared.blueprint.ChainDecl.{ChainDecl}
 use Rattle.stream_model.specs.declared.blueprint.Step.{Step}
 use Rattle.stream_model.specs.declared.head.PlugHead.{PlugHead}
@@ -33,29 +33,15 @@ pub data Shape : Type 0 where
 
 -- how the types at the ports of a role hang together
 abbrev shape_by : Role → Shape
-shape_by (reads_lines name) = source
-shape_by (gives_range low high) = source
-shape_by (gives_nothing b) = source
-shape_by (gives_failure b) = source
-shape_by (works w) = single
-shape_by (trips order name n) = single
-shape_by (plugs_in name) = single
-shape_by (buffers n p) = single
-shape_by (recovers t) = single
-shape_by (obeys name) = single
-shape_by (groups_by n f chain) = single
-shape_by (splits_when p chain j) = single
-shape_by (splits_after p chain j) = single
-shape_by (merges n) = joining
-shape_by (gathers n) = joining
-shape_by (concats n) = joining
-shape_by (interleaves n s) = joining
-shape_by merges_sorted = joining
-shape_by zips = zipping
-shape_by (broadcasts n) = single
-shape_by (balances n) = single
-shape_by (partitions n f) = single
-shape_by unzips = single
+shape_by (a_source role) = source
+shape_by (a_flow flow) = single
+shape_by (a_fan_in (merges n)) = joining
+shape_by (a_fan_in (gathers n)) = joining
+shape_by (a_fan_in (concats n)) = joining
+shape_by (a_fan_in (interleaves n s)) = joining
+shape_by (a_fan_in merges_sorted) = joining
+shape_by (a_fan_in zips) = zipping
+shape_by (a_fan_out fan) = single
 shape_by (sinks file keeps) = single
 
 -- how the types at the ports of a kind hang together
@@ -64,29 +50,21 @@ shape_of k = shape_by (role_of k)
 
 -- what the function of a node of this role wants, where it parts elements by it, or else this
 abbrev want_by : Role → Option Want → Option Want
-want_by (reads_lines name) own = own
-want_by (gives_range low high) own = own
-want_by (gives_nothing b) own = own
-want_by (gives_failure b) own = own
-want_by (works w) own = own
-want_by (trips order name n) own = own
-want_by (plugs_in name) own = own
-want_by (buffers n p) own = own
-want_by (recovers t) own = own
-want_by (obeys name) own = own
-want_by (groups_by n f chain) own = map_want f
-want_by (splits_when p chain j) own = Some (pred_want p)
-want_by (splits_after p chain j) own = Some (pred_want p)
-want_by (merges n) own = own
-want_by (gathers n) own = own
-want_by (concats n) own = own
-want_by (interleaves n s) own = own
-want_by merges_sorted own = own
-want_by zips own = own
-want_by (broadcasts n) own = own
-want_by (balances n) own = own
-want_by (partitions n f) own = map_want f
-want_by unzips own = own
+want_by (a_source role) own = own
+want_by (a_flow (works w)) own = own
+want_by (a_flow (trips order name n)) own = own
+want_by (a_flow (plugs_in name)) own = own
+want_by (a_flow (buffers n p)) own = own
+want_by (a_flow (recovers t)) own = own
+want_by (a_flow (obeys name)) own = own
+want_by (a_flow (groups_by n f chain)) own = map_want f
+want_by (a_flow (splits_when p chain j)) own = Some (pred_want p)
+want_by (a_flow (splits_after p chain j)) own = Some (pred_want p)
+want_by (a_fan_in fan) own = own
+want_by (a_fan_out (broadcasts n)) own = own
+want_by (a_fan_out (balances n)) own = own
+want_by (a_fan_out (partitions n f)) own = map_want f
+want_by (a_fan_out unzips) own = own
 want_by (sinks file keeps) own = own
 
 -- what the function of a node wants, also where it parts elements

@@ -17,7 +17,7 @@ use Rattle.stream_model.specs.Composed.{inputs_of, count_from, incoming, receive
 use Rattle.stream_model.specs.FanIn.{Tagged, reach, reached, reached_all, paired, concat_of, interleave_of, inlets, turns_of, sorted_of, pairs}
 use Rattle.stream_model.specs.FanOut.{left_outlook, right_outlook}
 use Rattle.stream_model.specs.Graph.{Graph, Node, Edge, find_wire, steps_of}
-use Rattle.stream_model.specs.Linear.{Book, Work, Stage, Role, Verdict, go, finish, fail, Reaction, gives, ends, blames, breaks, reads_lines, gives_range, gives_nothing, gives_failure, works, trips, plugs_in, buffers, recovers, obeys, groups_by, splits_when, splits_after, merges, gathers, concats, interleaves, merges_sorted, zips, broadcasts, balances, partitions, unzips, sinks, passing, plugged, numbering, taking, grouping, folding, reducing, heading, lasting, decided, reacts, reaction, finish_of, blame_end, keeping_work, linear, begin_work, role_of}
+use Rattle.stream_model.specs.Linear.{Book, Work, Stage, Role, a_source, a_flow, a_fan_in, a_fan_out, Verdict, go, finish, fail, Reaction, gives, ends, blames, breaks, reads_lines, gives_range, gives_nothing, gives_failure, works, trips, plugs_in, buffers, recovers, obeys, groups_by, splits_when, splits_after, merges, gathers, concats, interleaves, merges_sorted, zips, broadcasts, balances, partitions, unzips, sinks, passing, plugged, numbering, taking, grouping, folding, reducing, heading, lasting, decided, reacts, reaction, finish_of, blame_end, keeping_work, linear, begin_work, role_of}
 use Rattle.stream_model.specs.Machine.{State, going, done, broken, Run, Finish, adds, refuses, Machine, is_going, feed, feed_at, run, finish_at, close_at, close, Given, input_end, whole, passed, own, fails_of, output}
 use Rattle.stream_model.specs.Node.{World, head_of, second_of, chain_of, role_outlook}
 use Rattle.stream_model.specs.Outlook.{Outlook, Entry, End, behind}
@@ -260,39 +260,39 @@ module _ (node s : ℕ) (other : node ≢ s) where
 
     -- what a node gives blames it, or what came to it
     role_by : (r : Role) (d : Decider) (os : List Outlook) (port : ℕ) → AllNotBy s os → AreNotBy s (role_outlook g w node r d os port).fails
-    role_by (reads_lines name) d os port h = lines_by (w.file name)
-    role_by (gives_range low high) d os port h = tt
-    role_by (gives_nothing b) d os port h = tt
-    role_by (gives_failure b) d os port h = (other, tt)
-    role_by (works v) d os port h = linear_by w.book node s d v v (head_of os) other (head_by os h)
-    role_by (trips order name n) d os port h = linear_by w.book node s d passing passing (head_of os) other (head_by os h)
-    role_by (plugs_in name) d os port h = linear_by w.book node s d (plugged name []) (plugged name []) (head_of os) other (head_by os h)
-    role_by (buffers n Backpressure) d os port h = not_behind s n (head_of os).fails (head_by os h)
-    role_by (buffers n DropHead) d os port h = buffer_by DropHead n (w.moves node) (head_of os) (head_by os h)
-    role_by (buffers n DropTail) d os port h = buffer_by DropTail n (w.moves node) (head_of os) (head_by os h)
-    role_by (buffers n DropBuffer) d os port h = buffer_by DropBuffer n (w.moves node) (head_of os) (head_by os h)
-    role_by (buffers n DropNew) d os port h = buffer_by DropNew n (w.moves node) (head_of os) (head_by os h)
-    role_by (buffers n Fail) d os port h = buffer_by Fail n (w.moves node) (head_of os) (head_by os h)
-    role_by (recovers t) d os port h = recover_by t (w.moves node) (head_of os)
-    role_by (obeys name) d os port h = valve_by (acted (w.moves node)) (head_of os) (head_by os h)
-    role_by (groups_by n f chain) d os port h = merge_by (by_key n f) chain (head_of os) (head_by os h)
-    role_by (splits_when p chain joining.Merge) d os port h = merge_by (before p) chain (head_of os) (head_by os h)
-    role_by (splits_when p chain joining.Concat) d os port h = concat_by (before p) chain (head_of os) (head_by os h)
-    role_by (splits_after p chain joining.Merge) d os port h = merge_by (sub.behind p) chain (head_of os) (head_by os h)
-    role_by (splits_after p chain joining.Concat) d os port h = concat_by (sub.behind p) chain (head_of os) (head_by os h)
-    role_by (merges n) d os port h = merged_by s (w.moves node) 0 os h
-    role_by (gathers n) d os port h = tt
-    role_by (concats n) d os port h = reached_by s 0 0 (concat_of 0 os) os h
-    role_by (interleaves n k) d os port h = reached_by s 0 0 (interleave_of k (turns_of os) k (inlets 0 os)) os h
-    role_by merges_sorted d os port h =
+    role_by (a_source (reads_lines name)) d os port h = lines_by (w.file name)
+    role_by (a_source (gives_range low high)) d os port h = tt
+    role_by (a_source (gives_nothing b)) d os port h = tt
+    role_by (a_source (gives_failure b)) d os port h = (other, tt)
+    role_by (a_flow (works v)) d os port h = linear_by w.book node s d v v (head_of os) other (head_by os h)
+    role_by (a_flow (trips order name n)) d os port h = linear_by w.book node s d passing passing (head_of os) other (head_by os h)
+    role_by (a_flow (plugs_in name)) d os port h = linear_by w.book node s d (plugged name []) (plugged name []) (head_of os) other (head_by os h)
+    role_by (a_flow (buffers n Backpressure)) d os port h = not_behind s n (head_of os).fails (head_by os h)
+    role_by (a_flow (buffers n DropHead)) d os port h = buffer_by DropHead n (w.moves node) (head_of os) (head_by os h)
+    role_by (a_flow (buffers n DropTail)) d os port h = buffer_by DropTail n (w.moves node) (head_of os) (head_by os h)
+    role_by (a_flow (buffers n DropBuffer)) d os port h = buffer_by DropBuffer n (w.moves node) (head_of os) (head_by os h)
+    role_by (a_flow (buffers n DropNew)) d os port h = buffer_by DropNew n (w.moves node) (head_of os) (head_by os h)
+    role_by (a_flow (buffers n Fail)) d os port h = buffer_by Fail n (w.moves node) (head_of os) (head_by os h)
+    role_by (a_flow (recovers t)) d os port h = recover_by t (w.moves node) (head_of os)
+    role_by (a_flow (obeys name)) d os port h = valve_by (acted (w.moves node)) (head_of os) (head_by os h)
+    role_by (a_flow (groups_by n f chain)) d os port h = merge_by (by_key n f) chain (head_of os) (head_by os h)
+    role_by (a_flow (splits_when p chain joining.Merge)) d os port h = merge_by (before p) chain (head_of os) (head_by os h)
+    role_by (a_flow (splits_when p chain joining.Concat)) d os port h = concat_by (before p) chain (head_of os) (head_by os h)
+    role_by (a_flow (splits_after p chain joining.Merge)) d os port h = merge_by (sub.behind p) chain (head_of os) (head_by os h)
+    role_by (a_flow (splits_after p chain joining.Concat)) d os port h = concat_by (sub.behind p) chain (head_of os) (head_by os h)
+    role_by (a_fan_in (merges n)) d os port h = merged_by s (w.moves node) 0 os h
+    role_by (a_fan_in (gathers n)) d os port h = tt
+    role_by (a_fan_in (concats n)) d os port h = reached_by s 0 0 (concat_of 0 os) os h
+    role_by (a_fan_in (interleaves n k)) d os port h = reached_by s 0 0 (interleave_of k (turns_of os) k (inlets 0 os)) os h
+    role_by (a_fan_in merges_sorted) d os port h =
         reached_by s 1 0 (sorted_of (head_of os).ends (second_of os).ends (head_of os).list (second_of os).list) (head_of os ∷ second_of os ∷ []) (head_by os h, (second_by os h, tt))
-    role_by zips d os port h = paired_by s (length (pairs (head_of os).list (second_of os).list)) (head_of os) (second_of os) (head_by os h) (second_by os h)
-    role_by (broadcasts n) d os port h = head_by os h
-    role_by (balances n) d os port h =
+    role_by (a_fan_in zips) d os port h = paired_by s (length (pairs (head_of os).list (second_of os).list)) (head_of os) (second_of os) (head_by os h) (second_by os h)
+    role_by (a_fan_out (broadcasts n)) d os port h = head_by os h
+    role_by (a_fan_out (balances n)) d os port h =
         not_kept s (at_end_of (length (sent_to port (w.moves node) (head_of os).list)) (length (w.moves node)))
         (λ e r is. if_left (nat_le (e.low - 1) (length (w.moves node))) (record { cause = e.cause; low = length (sent_to port (w.moves node) (head_of os).list) }) r is) (head_of os).fails (head_by os h)
-    role_by (partitions n f) d os port h = linear_by w.book node s Stop (numbering n f port) (numbering n f port) (head_of os) other (head_by os h)
-    role_by unzips d os port h = halves_by (port == 0) (head_of os) (head_by os h)
+    role_by (a_fan_out (partitions n f)) d os port h = linear_by w.book node s Stop (numbering n f port) (numbering n f port) (head_of os) other (head_by os h)
+    role_by (a_fan_out unzips) d os port h = halves_by (port == 0) (head_of os) (head_by os h)
     role_by (sinks file keeps) d os port h = linear_by w.book node s d (keeping_work keeps) (keeping_work keeps) (head_of os) other (head_by os h)
 
 -- ---- wires

@@ -18,7 +18,7 @@ use Rattle.stream_model.specs.Exact.{ComeLast, LosesNothing, OvertakesNone, hand
 use Rattle.stream_model.specs.FanOut.{mapped, left_outlook, right_outlook}
 use Rattle.stream_model.specs.Graph.{Graph, Node, Edge, find_wire}
 use Rattle.stream_model.specs.Lane.{lane_loss}
-use Rattle.stream_model.specs.Linear.{Book, Work, Stage, Role, reads_lines, gives_failure, works, trips, plugs_in, buffers, obeys, broadcasts, balances, partitions, unzips, sinks, holds, numbering, passing, plugged, keeping_work, Keeping, every_one, first_one, last_one, linear, begin_work, role_of, work_of, work_by}
+use Rattle.stream_model.specs.Linear.{Book, Work, Stage, Role, a_source, a_flow, a_fan_out, reads_lines, gives_failure, works, trips, plugs_in, buffers, obeys, broadcasts, balances, partitions, unzips, sinks, holds, numbering, passing, plugged, keeping_work, Keeping, every_one, first_one, last_one, linear, begin_work, role_of, work_of, work_by}
 use Rattle.stream_model.specs.Machine.{State, going, done, broken, Run, Finish, adds, refuses, Machine, is_going, run, finish_at, close_at, close, is_ended, input_end, whole, passed, own, output}
 use Rattle.stream_model.specs.Node.{World, role_outlook, of_work}
 use Rattle.stream_model.specs.Outlook.{Outlook, Entry, failed, Agrees, Allows, behind, lane_outlook}
@@ -142,7 +142,7 @@ module _ {S : Type 0} (m : Machine S Tree) (start : Run S Tree) (c : Cause) (ear
 
 -- ---- nodes
 
-too_long : (name : List ℕ) (y : Why) → fails_last (reads_lines name) y ≡ true → y ≡ LineTooLong
+too_long : (name : List ℕ) (y : Why) → fails_last (a_source (reads_lines name)) y ≡ true → y ≡ LineTooLong
 too_long name LineTooLong h = refl
 too_long name _ h = absurd cc
 
@@ -225,16 +225,16 @@ kept_not last_one = refl
 module _ (g : Graph) (w : World) (c : Cause) where
   role_last : (node : ℕ) (r : Role) (d : Decider) (sent : ℕ → Outlook) (port : ℕ) → hands_on r ≡ true → LosesNothing c (incoming g w sent (find_wire node 0 g.wires))
       → LosesNothing c (role_outlook g w node r d (ports_of g w sent node (count_from 0 (ports_by r).0)) port)
-  role_last node (works v) d sent port is h = linear_last w.book c v (begin_work node d v) (incoming g w sent (find_wire node 0 g.wires)) (not_held (holds v) is) h
-  role_last node (trips order name n) d sent port is h = linear_last w.book c passing (begin_work node d passing) (incoming g w sent (find_wire node 0 g.wires)) refl h
-  role_last node (obeys name) d sent port is h = valve_last c node (acted (w.moves node)) (incoming g w sent (find_wire node 0 g.wires)) h
-  role_last node (broadcasts n) d sent port is h = h
-  role_last node (balances n) d sent port is h = sent_last (incoming g w sent (find_wire node 0 g.wires)) h
+  role_last node (a_flow (works v)) d sent port is h = linear_last w.book c v (begin_work node d v) (incoming g w sent (find_wire node 0 g.wires)) (not_held (holds v) is) h
+  role_last node (a_flow (trips order name n)) d sent port is h = linear_last w.book c passing (begin_work node d passing) (incoming g w sent (find_wire node 0 g.wires)) refl h
+  role_last node (a_flow (obeys name)) d sent port is h = valve_last c node (acted (w.moves node)) (incoming g w sent (find_wire node 0 g.wires)) h
+  role_last node (a_fan_out (broadcasts n)) d sent port is h = h
+  role_last node (a_fan_out (balances n)) d sent port is h = sent_last (incoming g w sent (find_wire node 0 g.wires)) h
     where
       sent_last : (o : Outlook) → LosesNothing c o → LosesNothing c (balance_outlook (w.moves node) o port)
       sent_last o h =
           balance_last c o.ends (length (w.moves node) == length o.list) (length o.list) (length (sent_to port (w.moves node) o.list)) (length (w.moves node)) o.fails h
-  role_last node unzips d sent port is h = by (port == 0)
+  role_last node (a_fan_out unzips) d sent port is h = by (port == 0)
     where
       by : (b : Bool) → LosesNothing c (if b then left_outlook (incoming g w sent (find_wire node 0 g.wires)) else right_outlook (incoming g w sent (find_wire node 0 g.wires)))
       by true = half_last c left_half (incoming g w sent (find_wire node 0 g.wires)) h
@@ -245,16 +245,16 @@ module _ (g : Graph) (w : World) (c : Cause) where
   -- what a stage fails with by its own doing comes last on its output
   role_fails : (node : ℕ) (r : Role) (d : Decider) (sent : ℕ → Outlook) (port : ℕ) → fails_last r c.why ≡ true → AreNotBy c.stage (incoming g w sent (find_wire node 0 g.wires)).fails
       → LosesNothing c (role_outlook g w node r d (ports_of g w sent node (count_from 0 (ports_by r).0)) port)
-  role_fails node (reads_lines name) d sent port is h = lines_last c node (w.file name) (too_long name c.why is)
-  role_fails node (gives_failure b) d sent port is h = ((λ same. (refl, omega arith)), tt)
-  role_fails node (works v) d sent port is h = own_failure (linear w.book v) (begin_work node d v) c refl (incoming g w sent (find_wire node 0 g.wires)) h
-  role_fails node (trips order name n) d sent port is h = own_failure (linear w.book passing) (begin_work node d passing) c refl (incoming g w sent (find_wire node 0 g.wires)) h
-  role_fails node (plugs_in name) d sent port is h = own_failure (linear w.book (plugged name [])) (begin_work node d (plugged name [])) c refl (incoming g w sent (find_wire node 0 g.wires)) h
-  role_fails node (buffers n Fail) d sent port is h = overflow_last c (buffered Fail n (w.moves node) (incoming g w sent (find_wire node 0 g.wires)).list empty_buffer) node (incoming g w sent (find_wire node 0 g.wires)) h
-  role_fails node (obeys name) d sent port is h =
+  role_fails node (a_source (reads_lines name)) d sent port is h = lines_last c node (w.file name) (too_long name c.why is)
+  role_fails node (a_source (gives_failure b)) d sent port is h = ((λ same. (refl, omega arith)), tt)
+  role_fails node (a_flow (works v)) d sent port is h = own_failure (linear w.book v) (begin_work node d v) c refl (incoming g w sent (find_wire node 0 g.wires)) h
+  role_fails node (a_flow (trips order name n)) d sent port is h = own_failure (linear w.book passing) (begin_work node d passing) c refl (incoming g w sent (find_wire node 0 g.wires)) h
+  role_fails node (a_flow (plugs_in name)) d sent port is h = own_failure (linear w.book (plugged name [])) (begin_work node d (plugged name [])) c refl (incoming g w sent (find_wire node 0 g.wires)) h
+  role_fails node (a_flow (buffers n Fail)) d sent port is h = overflow_last c (buffered Fail n (w.moves node) (incoming g w sent (find_wire node 0 g.wires)).list empty_buffer) node (incoming g w sent (find_wire node 0 g.wires)) h
+  role_fails node (a_flow (obeys name)) d sent port is h =
       valve_last c node (acted (w.moves node)) (incoming g w sent (find_wire node 0 g.wires))
       (come_others c (incoming g w sent (find_wire node 0 g.wires)).ends (length (incoming g w sent (find_wire node 0 g.wires)).list) (incoming g w sent (find_wire node 0 g.wires)).fails h)
-  role_fails node (partitions n f) d sent port is h = own_failure (linear w.book (numbering n f port)) (begin_work node Stop (numbering n f port)) c refl (incoming g w sent (find_wire node 0 g.wires)) h
+  role_fails node (a_fan_out (partitions n f)) d sent port is h = own_failure (linear w.book (numbering n f port)) (begin_work node Stop (numbering n f port)) c refl (incoming g w sent (find_wire node 0 g.wires)) h
   role_fails node (sinks file keeps) d sent port is h = own_failure (linear w.book (keeping_work keeps)) (begin_work node d (keeping_work keeps)) c refl (incoming g w sent (find_wire node 0 g.wires)) h
   role_fails node _ d sent port is h = absurd cc
 

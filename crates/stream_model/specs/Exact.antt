@@ -6,7 +6,7 @@ use Rattle.elem_core.specs.declared.why.Why.TheVariants.{LineTooLong}
 use Rattle.stream_model.specs.declared.kind.Policy.TheVariants.{Fail}
 use Rattle.stream_model.specs.Graph.{Graph, Node, Edge, find_wire}
 use Rattle.stream_model.specs.Lane.{lane_loss}
-use Rattle.stream_model.specs.Linear.{Role, reads_lines, gives_failure, works, trips, plugs_in, buffers, obeys, broadcasts, balances, partitions, unzips, sinks, role_of, holds}
+use Rattle.stream_model.specs.Linear.{Role, a_source, a_flow, a_fan_out, reads_lines, gives_failure, works, trips, plugs_in, buffers, obeys, broadcasts, balances, partitions, unzips, sinks, role_of, holds}
 use Rattle.stream_model.specs.Outlook.{Outlook, Entry}
 
 -- where one of these entries has this cause, no end may come, and it does not come before n elements have passed
@@ -26,26 +26,26 @@ OvertakesNone (Some loss) = loss ≡ 0
 -- a node that hands a failure on behind all that its elements brought: one with one input that holds no outputs, and neither a buffer
 -- nor a partition; a recover hands none on
 abbrev pub hands_on : Role → Bool
-hands_on (works w) = not (holds w)
-hands_on (trips order name n) = true
-hands_on (obeys name) = true
-hands_on (broadcasts n) = true
-hands_on (balances n) = true
-hands_on unzips = true
+hands_on (a_flow (works w)) = not (holds w)
+hands_on (a_flow (trips order name n)) = true
+hands_on (a_flow (obeys name)) = true
+hands_on (a_fan_out (broadcasts n)) = true
+hands_on (a_fan_out (balances n)) = true
+hands_on (a_fan_out unzips) = true
 hands_on (sinks file keeps) = true
 hands_on _ = false
 
 -- a node of this role that fails for this reason by its own doing fails behind all that it gives: of the sources one that is told to
 -- fail, and one that found a line too long, but none whose file could not be read; of the others all but those with substreams
 abbrev pub fails_last : Role → Why → Bool
-fails_last (reads_lines name) LineTooLong = true
-fails_last (gives_failure b) why = true
-fails_last (works w) why = true
-fails_last (trips order name n) why = true
-fails_last (plugs_in name) why = true
-fails_last (buffers n Fail) why = true
-fails_last (obeys name) why = true
-fails_last (partitions n f) why = true
+fails_last (a_source (reads_lines name)) LineTooLong = true
+fails_last (a_source (gives_failure b)) why = true
+fails_last (a_flow (works w)) why = true
+fails_last (a_flow (trips order name n)) why = true
+fails_last (a_flow (plugs_in name)) why = true
+fails_last (a_flow (buffers n Fail)) why = true
+fails_last (a_flow (obeys name)) why = true
+fails_last (a_fan_out (partitions n f)) why = true
 fails_last (sinks file keeps) why = true
 fails_last _ why = false
 

@@ -9,7 +9,7 @@ use Rattle.stream_model.specs.declared.kind.Policy.{Policy}
 use Rattle.stream_model.specs.declared.kind.Policy.TheVariants.{Backpressure}
 use Rattle.stream_model.specs.declared.outcome.WireCount.{WireCount}
 use Rattle.stream_model.specs.Outlook.{Outlook}
-use Rattle.stream_model.specs.Linear.{Keeping, every_one, first_one, last_one, Role, reads_lines, gives_range, gives_nothing, gives_failure, works, trips, plugs_in, buffers, recovers, obeys, groups_by, splits_when, splits_after, merges, gathers, concats, interleaves, merges_sorted, zips, broadcasts, balances, partitions, unzips, sinks, role_of}
+use Rattle.stream_model.specs.Linear.{Keeping, every_one, first_one, last_one, Role, a_source, a_flow, a_fan_in, a_fan_out, works, trips, plugs_in, buffers, recovers, obeys, groups_by, splits_when, splits_after, merges, gathers, concats, interleaves, merges_sorted, zips, broadcasts, balances, partitions, unzips, sinks, role_of}
 use Rattle.stream_model.specs.Picks.{count_of}
 use Rattle.stream_model.specs.Graph.{Graph, Node}
 use Rattle.stream_model.specs.Fits.{CanTrip, valve_order}
@@ -141,32 +141,29 @@ module _ (g : Graph) (w : World) where
 
   -- the row of a node with this role
   abbrev pub RoleLawful : ℕ → Role → Decider → List SeenWire → List SeenWire → Type 0
-  RoleLawful node (reads_lines name) d is os = Unit {0}
-  RoleLawful node (gives_range low high) d is os = Unit {0}
-  RoleLawful node (gives_nothing b) d is os = Unit {0}
-  RoleLawful node (gives_failure b) d is os = Unit {0}
-  RoleLawful node (works v) d is os = stage_lawful (one_way_by g w node (works v) d) is os
-  RoleLawful node (trips order name n) d is os = stage_lawful (one_way_by g w node (trips order name n) d) is os
-  RoleLawful node (plugs_in name) d is os = stage_lawful (one_way_by g w node (plugs_in name) d) is os
-  RoleLawful node (buffers n p) d is os = buffer_lawful node n p is os
-  RoleLawful node (recovers t) d is os = stage_lawful (one_way_by g w node (recovers t) d) is os × OneToOne (RecoverLawful (w.moves node)) is os
-  RoleLawful node (obeys name) d is os = stage_lawful (one_way_by g w node (obeys name) d) is os × OneToOne (ValveLawful (w.moves node)) is os
-  RoleLawful node (groups_by n f chain) d is os = stage_lawful (one_way_by g w node (groups_by n f chain) d) is os
+  RoleLawful node (a_source source) d is os = Unit {0}
+  RoleLawful node (a_flow (works v)) d is os = stage_lawful (one_way_by g w node (a_flow (works v)) d) is os
+  RoleLawful node (a_flow (trips order name n)) d is os = stage_lawful (one_way_by g w node (a_flow (trips order name n)) d) is os
+  RoleLawful node (a_flow (plugs_in name)) d is os = stage_lawful (one_way_by g w node (a_flow (plugs_in name)) d) is os
+  RoleLawful node (a_flow (buffers n p)) d is os = buffer_lawful node n p is os
+  RoleLawful node (a_flow (recovers t)) d is os = stage_lawful (one_way_by g w node (a_flow (recovers t)) d) is os × OneToOne (RecoverLawful (w.moves node)) is os
+  RoleLawful node (a_flow (obeys name)) d is os = stage_lawful (one_way_by g w node (a_flow (obeys name)) d) is os × OneToOne (ValveLawful (w.moves node)) is os
+  RoleLawful node (a_flow (groups_by n f chain)) d is os = stage_lawful (one_way_by g w node (a_flow (groups_by n f chain)) d) is os
       × OneToOne (SubsLawful joining.Merge (w.moves node)) is os
-  RoleLawful node (splits_when p chain j) d is os = stage_lawful (one_way_by g w node (splits_when p chain j) d) is os
+  RoleLawful node (a_flow (splits_when p chain j)) d is os = stage_lawful (one_way_by g w node (a_flow (splits_when p chain j)) d) is os
       × OneToOne (SubsLawful j (w.moves node)) is os
-  RoleLawful node (splits_after p chain j) d is os = stage_lawful (one_way_by g w node (splits_after p chain j) d) is os
+  RoleLawful node (a_flow (splits_after p chain j)) d is os = stage_lawful (one_way_by g w node (a_flow (splits_after p chain j)) d) is os
       × OneToOne (SubsLawful j (w.moves node)) is os
-  RoleLawful node (merges n) d is os = ManyToOne (MergeLawful (w.moves node)) is os
-  RoleLawful node (gathers n) d is os = ManyToOne (MergeLawful (w.moves node)) is os
-  RoleLawful node (concats n) d is os = ManyToOne ConcatLawful is os
-  RoleLawful node (interleaves n s) d is os = ManyToOne InterleaveLawful is os
-  RoleLawful node merges_sorted d is os = ManyToOne SortedLawful is os
-  RoleLawful node zips d is os = ManyToOne ZipLawful is os
-  RoleLawful node (broadcasts n) d is os = OneToMany BroadcastLawful is os
-  RoleLawful node (balances n) d is os = OneToMany (BalanceLawful (w.moves node)) is os
-  RoleLawful node (partitions n f) d is os = OneToMany (PartitionLawful (numbered w node n f)) is os
-  RoleLawful node unzips d is os = OneToMany BroadcastLawful is os
+  RoleLawful node (a_fan_in (merges n)) d is os = ManyToOne (MergeLawful (w.moves node)) is os
+  RoleLawful node (a_fan_in (gathers n)) d is os = ManyToOne (MergeLawful (w.moves node)) is os
+  RoleLawful node (a_fan_in (concats n)) d is os = ManyToOne ConcatLawful is os
+  RoleLawful node (a_fan_in (interleaves n s)) d is os = ManyToOne InterleaveLawful is os
+  RoleLawful node (a_fan_in merges_sorted) d is os = ManyToOne SortedLawful is os
+  RoleLawful node (a_fan_in zips) d is os = ManyToOne ZipLawful is os
+  RoleLawful node (a_fan_out (broadcasts n)) d is os = OneToMany BroadcastLawful is os
+  RoleLawful node (a_fan_out (balances n)) d is os = OneToMany (BalanceLawful (w.moves node)) is os
+  RoleLawful node (a_fan_out (partitions n f)) d is os = OneToMany (PartitionLawful (numbered w node n f)) is os
+  RoleLawful node (a_fan_out unzips) d is os = OneToMany BroadcastLawful is os
   RoleLawful node (sinks file keeps) d is os = sink_lawful keeps is
 
   -- the row of a node of this kind

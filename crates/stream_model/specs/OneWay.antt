@@ -5,7 +5,7 @@ use Rattle.stream_model.specs.declared.kind.Kind.{Kind}
 use Rattle.elem_core.specs.declared.why.Decider.{Decider}
 use Rattle.stream_model.specs.Outlook.{ended}
 use Rattle.stream_model.specs.Machine.{Machine, Run, run, close, is_going}
-use Rattle.stream_model.specs.Linear.{Book, Work, linear, begin_work, grouping, expanding, folding, scanning, reducing, passing, plugged, Role, reads_lines, gives_range, gives_nothing, gives_failure, works, trips, plugs_in, buffers, recovers, obeys, groups_by, splits_when, splits_after, merges, gathers, concats, interleaves, merges_sorted, zips, broadcasts, balances, partitions, unzips, sinks, role_of, Side, at_source, at_stage, at_sink, side_by}
+use Rattle.stream_model.specs.Linear.{Book, Work, linear, begin_work, grouping, expanding, folding, scanning, reducing, passing, plugged, Role, a_source, a_flow, a_fan_in, a_fan_out, works, trips, plugs_in, buffers, recovers, obeys, groups_by, splits_when, splits_after, sinks, role_of, Side, at_source, at_stage, at_sink, side_by}
 use Rattle.stream_model.specs.Substreams.{Opening, by_key, before, behind, through, substreams, begin_subs}
 use Rattle.stream_model.specs.Graph.{Graph, steps_of}
 use Rattle.stream_model.specs.Node.{World, chain_of}
@@ -62,29 +62,18 @@ of_subs g w node o chain =
 
 -- the same by its role: the stages with one input and one output, but for buffers; no sink
 abbrev pub one_way_by : Graph → World → ℕ → Role → Decider → Option OneWay
-one_way_by g w node (reads_lines name) d = None
-one_way_by g w node (gives_range low high) d = None
-one_way_by g w node (gives_nothing b) d = None
-one_way_by g w node (gives_failure b) d = None
-one_way_by g w node (works v) d = of_work w.book node d (Some v)
-one_way_by g w node (trips order name n) d = of_work w.book node d (Some passing)
-one_way_by g w node (plugs_in name) d = of_work w.book node d (Some (plugged name []))
-one_way_by g w node (buffers n p) d = None
-one_way_by g w node (recovers t) d = Some (as_it_is 1 true)
-one_way_by g w node (obeys name) d = Some (as_it_is 0 false)
-one_way_by g w node (groups_by n f chain) d = of_subs g w node (by_key n f) chain
-one_way_by g w node (splits_when p chain j) d = of_subs g w node (before p) chain
-one_way_by g w node (splits_after p chain j) d = of_subs g w node (behind p) chain
-one_way_by g w node (merges n) d = None
-one_way_by g w node (gathers n) d = None
-one_way_by g w node (concats n) d = None
-one_way_by g w node (interleaves n s) d = None
-one_way_by g w node merges_sorted d = None
-one_way_by g w node zips d = None
-one_way_by g w node (broadcasts n) d = None
-one_way_by g w node (balances n) d = None
-one_way_by g w node (partitions n f) d = None
-one_way_by g w node unzips d = None
+one_way_by g w node (a_source source) d = None
+one_way_by g w node (a_flow (works v)) d = of_work w.book node d (Some v)
+one_way_by g w node (a_flow (trips order name n)) d = of_work w.book node d (Some passing)
+one_way_by g w node (a_flow (plugs_in name)) d = of_work w.book node d (Some (plugged name []))
+one_way_by g w node (a_flow (buffers n p)) d = None
+one_way_by g w node (a_flow (recovers t)) d = Some (as_it_is 1 true)
+one_way_by g w node (a_flow (obeys name)) d = Some (as_it_is 0 false)
+one_way_by g w node (a_flow (groups_by n f chain)) d = of_subs g w node (by_key n f) chain
+one_way_by g w node (a_flow (splits_when p chain j)) d = of_subs g w node (before p) chain
+one_way_by g w node (a_flow (splits_after p chain j)) d = of_subs g w node (behind p) chain
+one_way_by g w node (a_fan_in fan) d = None
+one_way_by g w node (a_fan_out fan) d = None
 one_way_by g w node (sinks file keeps) d = None
 
 -- what a node of this kind gives as numbers, where it is a stage with one input and one output and no buffer; none of a sink

@@ -11,7 +11,7 @@ use Rattle.stream_model.specs.declared.kind.Policy.TheVariants.{Backpressure}
 use Rattle.stream_model.specs.Outlook.{Outlook}
 use Rattle.stream_model.specs.declared.kind.Policy.{Policy}
 use Rattle.stream_model.specs.declared.outcome.WireCount.{WireCount}
-use Rattle.stream_model.specs.Linear.{numbering, linear, begin_work, Role, reads_lines, gives_range, gives_nothing, gives_failure, works, trips, plugs_in, buffers, recovers, obeys, groups_by, splits_when, splits_after, merges, gathers, concats, interleaves, merges_sorted, zips, broadcasts, balances, partitions, unzips, sinks, role_of}
+use Rattle.stream_model.specs.Linear.{numbering, linear, begin_work, Role, a_source, a_flow, a_fan_in, a_fan_out, works, trips, plugs_in, buffers, recovers, obeys, groups_by, splits_when, splits_after, merges, gathers, concats, interleaves, merges_sorted, zips, broadcasts, balances, partitions, unzips, sinks, role_of}
 use Rattle.stream_model.specs.Graph.{Graph, Node}
 use Rattle.stream_model.specs.Node.{World}
 use Rattle.stream_model.specs.Picks.{buffered, count_of, empty_buffer, nothing_held}
@@ -252,29 +252,26 @@ module _ (g : Graph) (w : World) where
 
   -- the row of node `node`, which has this role
   abbrev pub RoleRests : ℕ → Role → Decider → List SeenWire → List SeenWire → Type 0
-  RoleRests node (reads_lines name) d is os = SourceRests os
-  RoleRests node (gives_range low high) d is os = SourceRests os
-  RoleRests node (gives_nothing b) d is os = SourceRests os
-  RoleRests node (gives_failure b) d is os = SourceRests os
-  RoleRests node (works v) d is os = stage_rests (one_way_by g w node (works v) d) is os
-  RoleRests node (trips order name n) d is os = stage_rests (one_way_by g w node (trips order name n) d) is os
-  RoleRests node (plugs_in name) d is os = stage_rests (one_way_by g w node (plugs_in name) d) is os
-  RoleRests node (buffers n p) d is os = dropping_rests node n p is os
-  RoleRests node (recovers t) d is os = stage_rests (one_way_by g w node (recovers t) d) is os
-  RoleRests node (obeys name) d is os = stage_rests (one_way_by g w node (obeys name) d) is os
-  RoleRests node (groups_by n f chain) d is os = stage_rests (one_way_by g w node (groups_by n f chain) d) is os
-  RoleRests node (splits_when p chain j) d is os = stage_rests (one_way_by g w node (splits_when p chain j) d) is os
-  RoleRests node (splits_after p chain j) d is os = stage_rests (one_way_by g w node (splits_after p chain j) d) is os
-  RoleRests node (merges n) d is os = ManyToOne (MergeRests (w.moves node)) is os
-  RoleRests node (gathers n) d is os = ManyToOne (MergeRests (w.moves node)) is os
-  RoleRests node (concats n) d is os = ManyToOne ConcatRests is os
-  RoleRests node (interleaves n s) d is os = ManyToOne (InterleaveRests s) is os
-  RoleRests node merges_sorted d is os = ManyToOne SortedRests is os
-  RoleRests node zips d is os = ManyToOne ZipRests is os
-  RoleRests node (broadcasts n) d is os = OneToMany BroadcastRests is os
-  RoleRests node (balances n) d is os = OneToMany BalanceRests is os
-  RoleRests node (partitions n f) d is os = OneToMany (PartitionRests (numbered w node n f)) is os
-  RoleRests node unzips d is os = OneToMany BroadcastRests is os
+  RoleRests node (a_source source) d is os = SourceRests os
+  RoleRests node (a_flow (works v)) d is os = stage_rests (one_way_by g w node (a_flow (works v)) d) is os
+  RoleRests node (a_flow (trips order name n)) d is os = stage_rests (one_way_by g w node (a_flow (trips order name n)) d) is os
+  RoleRests node (a_flow (plugs_in name)) d is os = stage_rests (one_way_by g w node (a_flow (plugs_in name)) d) is os
+  RoleRests node (a_flow (buffers n p)) d is os = dropping_rests node n p is os
+  RoleRests node (a_flow (recovers t)) d is os = stage_rests (one_way_by g w node (a_flow (recovers t)) d) is os
+  RoleRests node (a_flow (obeys name)) d is os = stage_rests (one_way_by g w node (a_flow (obeys name)) d) is os
+  RoleRests node (a_flow (groups_by n f chain)) d is os = stage_rests (one_way_by g w node (a_flow (groups_by n f chain)) d) is os
+  RoleRests node (a_flow (splits_when p chain j)) d is os = stage_rests (one_way_by g w node (a_flow (splits_when p chain j)) d) is os
+  RoleRests node (a_flow (splits_after p chain j)) d is os = stage_rests (one_way_by g w node (a_flow (splits_after p chain j)) d) is os
+  RoleRests node (a_fan_in (merges n)) d is os = ManyToOne (MergeRests (w.moves node)) is os
+  RoleRests node (a_fan_in (gathers n)) d is os = ManyToOne (MergeRests (w.moves node)) is os
+  RoleRests node (a_fan_in (concats n)) d is os = ManyToOne ConcatRests is os
+  RoleRests node (a_fan_in (interleaves n s)) d is os = ManyToOne (InterleaveRests s) is os
+  RoleRests node (a_fan_in merges_sorted) d is os = ManyToOne SortedRests is os
+  RoleRests node (a_fan_in zips) d is os = ManyToOne ZipRests is os
+  RoleRests node (a_fan_out (broadcasts n)) d is os = OneToMany BroadcastRests is os
+  RoleRests node (a_fan_out (balances n)) d is os = OneToMany BalanceRests is os
+  RoleRests node (a_fan_out (partitions n f)) d is os = OneToMany (PartitionRests (numbered w node n f)) is os
+  RoleRests node (a_fan_out unzips) d is os = OneToMany BroadcastRests is os
   RoleRests node (sinks file keeps) d is os = SinkRests is
 
   -- the row of node `node`, which is of this kind

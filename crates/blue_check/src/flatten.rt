@@ -40,3 +40,15 @@ pub fn flatten(alloc: Global, text: &BlueText) -> Result<Blueprint, CheckEnd>
         Err(modules::FlatEnd::NoMemory) => Err(CheckEnd::NoMemory),
     }
 }
+
+/// The same of a text that is given away: of one without modules nothing is copied.
+pub fn flatten_own(alloc: Global, text: BlueText) -> Result<Blueprint, CheckEnd>
+    ensures flat { IfOk result (λ b. IsFlat (plain_text text) (plain b)) }
+    ensures fault { (f : CheckFault) → result ≡ Err (CheckEnd.Fault f) → modules_fault (plain_text text) ≡ Some f }
+{
+    match modules::flatten_own(alloc, text) {
+        Ok(blueprint) => Ok(blueprint),
+        Err(modules::FlatEnd::Fault(fault)) => Err(CheckEnd::Fault(as_check_fault(fault))),
+        Err(modules::FlatEnd::NoMemory) => Err(CheckEnd::NoMemory),
+    }
+}

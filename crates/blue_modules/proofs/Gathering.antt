@@ -1,5 +1,5 @@
 -- The parts of a body are gathered entry by entry, and a body that comes to nothing has none.
-use Rattle.std.proofs.Common.{◌≡◌, ℕ, ◌+◌, ◌-◌, ◌^◌, ◌<◌, ◌==◌, ◌&&◌, min, Bool, true, false, cond, List, [], ◌∷◌, ◌++◌, length, take, get_or, map, Option, refl, sym, ap, subst, ◌∙◌, ⊎_elim, append_assoc, append-nil, arith}
+use Rattle.std.proofs.Common.{◌≡◌, ℕ, ◌+◌, ◌-◌, ◌^◌, ◌<◌, ◌==◌, ◌&&◌, min, Bool, true, false, cond, List, [], ◌∷◌, ◌++◌, length, take, get_or, map, Option, Some, None, refl, sym, ap, subst, ◌∙◌, ⊎_elim, append_assoc, append-nil, arith}
 use Rattle.std.specs.Prelude.{nat_lt, ◌||◌}
 use Rattle.std.specs.Option.{option_or}
 use Rattle.std.specs.List.{filter_map, flat_map, sum_by, insert}
@@ -8,14 +8,22 @@ use Rattle.std.proofs.lemmas.List.{take_more, map_more}
 use Rattle.std.proofs.lemmas.List.Concat.{flat_map-append}
 use Rattle.std.proofs.lemmas.List.Elements.{filter_map-append}
 use Rattle.std.proofs.lemmas.List.Sums.{sum_by-cons, sum_by-append, sum_by_more}
+use Rattle.elem_core.specs.Bytes.{point_byte}
 use Rattle.elem_core.specs.Values.{same_text}
 use Rattle.blue_modules.specs.declared.text.Entry.{Entry}
 use Rattle.blue_modules.specs.declared.text.Entry.TheVariants.{Node, Instance, Wire}
+use Rattle.blue_modules.specs.declared.text.PortMark.TheVariants.{Name}
 use Rattle.blue_modules.specs.declared.text.UseText.{UseText}
+use Rattle.blue_modules.specs.declared.text.WireText.{WireText}
+use Rattle.blue_modules.specs.declared.text.BlueText.{BlueText}
 use Rattle.blue_modules.specs.declared.text.Module.{Module}
 use Rattle.blue_modules.specs.declared.parts.Around.{Around}
-use Rattle.blue_modules.specs.Text.{PlainModule, plain_module}
-use Rattle.blue_modules.specs.Flatten.{FlatPart, node, wire, entry_parts, replaced, flat_body, prefix_of, around_body, latest_onto, latest_first, part_nodes, part_wires}
+use Rattle.blue_modules.specs.Plain.{PlainChain, PlainBlueprint}
+use Rattle.blue_modules.specs.Text.{PlainModule, plain_module, plain_chain_text, plain_text}
+use Rattle.blue_modules.specs.Names.{entry_named, module_of}
+use Rattle.blue_modules.specs.Flatten.{FlatPart, node, wire, entry_parts, replaced, flat_body, prefix_of, around_body, latest_onto, latest_first, part_nodes, part_wires, instance_port, beneath, place, port_through, flat_lane, flat_wire, inside, around_text, flat_chain, flat_parts, flat}
+use Rattle.stream_model.specs.declared.blueprint.Node as blueprint
+use Rattle.stream_model.specs.declared.blueprint.WireDecl.{WireDecl}
 use Rattle.blue_names.specs.First.{first_from}
 use Rattle.blue_modules.specs.Fitness.{exceeds_limits}
 use Rattle.blue_modules.specs.declared.counts.Counted.{Counted}
@@ -147,3 +155,54 @@ passes_by_size nodes wires ms p a body n w =
 pub first_from-map : {X Y F : Type 0} (f : Y → Option F) (g : X → Y) (n : ℕ) (xs : List X) → first_from (λ _ x. f (g x)) n xs ≡ first_from (λ _ y. f y) n (map g xs)
 first_from-map f g n [] = refl
 first_from-map f g n (x ∷ xs) = ap (option_or (f (g x))) (first_from-map f g (n + 1) xs)
+
+-- ---- a text without modules
+-- a port by a name is one of an instance, and nothing there
+pub own_place : (output : Bool) (body : List Entry) (name p : List ℕ) → (name ++ point_byte ∷ [], 0) ≡ place (port_through output []) body name (Name p)
+own_place output body name p = at (module_of (entry_named name body))
+  where
+    at : (m : Option (List ℕ)) → (name ++ point_byte ∷ [], 0) ≡ beneath name (instance_port (port_through output []) m p)
+    at None = refl
+    at (Some m) = refl
+
+-- a wire between its places, whose names are taken over
+abbrev wire_of : List ℕ → ℕ → List ℕ → ℕ → Option ℕ → Bool → WireDecl
+wire_of f o t i l k = record { from = f; output = o; to = t; input = i; lane = l; keep = k }
+
+pub own_wire : (body : List Entry) (a : Around) (w : WireText) (f t : List ℕ) (o i : ℕ) (l : Option ℕ) → f ≡ (place (port_through true []) body w.from w.output).0 → o ≡ (place (port_through true []) body w.from w.output).1
+    → t ≡ (place (port_through false []) body w.to w.input).0 → i ≡ (place (port_through false []) body w.to w.input).1 → l ≡ flat_lane a w.lane → wire_of f o t i l w.keep ≡ flat_wire [] body [] a w
+own_wire body a w f t o i l ef eo et ei el =
+    let b = place (port_through true []) body w.from w.output in
+    let e = place (port_through false []) body w.to w.input in
+    ap (λ x. wire_of x o t i l w.keep) ef ∙ (ap (λ x. wire_of b.0 x t i l w.keep) eo ∙ (ap (λ x. wire_of b.0 b.1 x i l w.keep) et ∙ (ap (λ x. wire_of b.0 b.1 e.0 x l w.keep) ei ∙ ap (λ x. wire_of b.0 b.1 e.0 e.1 x w.keep) el)))
+
+-- one entry more of those that are taken one by one
+pub gathered-next : {X A B : Type 0} (g : A → Option B) (f : X → List A) (all now later : List B) (x : X) (was rest : List X) → was ≡ x ∷ rest → later ≡ now ++ filter_map g (f x)
+    → now ++ filter_map g (flat_map f was) ≡ all → later ++ filter_map g (flat_map f rest) ≡ all
+gathered-next g f all now later x was rest at more kept =
+    let parts : filter_map g (flat_map f was) ≡ filter_map g (f x) ++ filter_map g (flat_map f rest) = ap (λ l. filter_map g (flat_map f l)) at ∙ filter_map-append g (f x) (flat_map f rest) in
+    ap (λ l. l ++ filter_map g (flat_map f rest)) more ∙ (append_assoc now (filter_map g (f x)) (filter_map g (flat_map f rest)) ∙ (ap (λ l. now ++ l) (sym parts) ∙ kept))
+
+-- and none is left
+pub gathered-last : {X A B : Type 0} (g : A → Option B) (f : X → List A) (all now : List B) (was : List X) → was ≡ [] → now ++ filter_map g (flat_map f was) ≡ all → now ≡ all
+gathered-last g f all now was none kept = sym (append-nil now) ∙ (ap (λ l. now ++ filter_map g (flat_map f l)) (sym none) ∙ kept)
+
+pub none_left : {X : Type 0} (xs : List X) (n : ℕ) → n ≡ 0 → n ≡ length xs → xs ≡ []
+none_left [] n a b = refl
+none_left (x ∷ xs) n a b = absurd (omega (arith, a, b))
+
+-- it is flattened without any
+abbrev blueprint_of : List (List ℕ) → List PlainChain → List blueprint.Node → List WireDecl → PlainBlueprint
+blueprint_of s c n w = record { switches = s; chains = c; nodes = n; wires = w }
+
+pub own_is : (t : BlueText) (a : Around) (ss : List (List ℕ)) (cs : List PlainChain) (ns : List blueprint.Node) (ws : List WireDecl) → t.modules.items ≡ [] → a ≡ inside t.attrs around_text
+    → ss ≡ t.switches.items → cs ≡ map (flat_chain a.decider) (map plain_chain_text t.chains.items) → ns ≡ part_nodes (flat_body [] [] a t.body.items) → ws ≡ part_wires (flat_body [] [] a t.body.items)
+    → blueprint_of ss cs ns ws ≡ flat (plain_text t)
+own_is t a ss cs ns ws none is s c n w =
+    let ms : [] ≡ latest_first (map plain_module t.modules.items) = ap (λ m. latest_first (map plain_module m)) (sym none) in
+    let parts : flat_body [] [] a t.body.items ≡ flat_parts (plain_text t) = ap (λ x. flat_body [] [] x t.body.items) is ∙ ap (λ m. flat_body m [] (inside t.attrs around_text) t.body.items) ms in
+    let chains : cs ≡ map (flat_chain (inside t.attrs around_text).decider) (map plain_chain_text t.chains.items) = c ∙ ap (λ (x : Around). map (flat_chain x.decider) (map plain_chain_text t.chains.items)) is in
+    let nodes : ns ≡ part_nodes (flat_parts (plain_text t)) = n ∙ ap part_nodes parts in
+    let wires : ws ≡ part_wires (flat_parts (plain_text t)) = w ∙ ap part_wires parts in
+    ap (λ x. blueprint_of x cs ns ws) s ∙ (ap (λ x. blueprint_of t.switches.items x ns ws) chains
+    ∙ (ap (λ x. blueprint_of t.switches.items (flat (plain_text t)).chains x ws) nodes ∙ ap (λ x. blueprint_of t.switches.items (flat (plain_text t)).chains (flat (plain_text t)).nodes x) wires))

@@ -1,10 +1,10 @@
 // The blueprint of a text: each instance is replaced by the body of its module.
-ghost use Rattle.std.specs.Prelude.{◌≡◌, Some, IfOk, Err, MatchResult, map};
+ghost use Rattle.std.specs.Prelude.{◌≡◌, [], Some, IfOk, Err, MatchResult, map};
 ghost use Rattle.blue_modules.specs.Plain.{plain};
 ghost use Rattle.blue_modules.specs.Text.{plain_module, plain_text};
 ghost use Rattle.blue_modules.specs.declared.fault.ModuleFault.{ModuleFault};
 ghost use Rattle.blue_modules.specs.Counts.{AreCounted, counted_modules};
-ghost use Rattle.blue_modules.specs.Flatten.{inside, around_text, flat_parts, latest_first, part_nodes, part_wires, flat};
+ghost use Rattle.blue_modules.specs.Flatten.{inside, around_text, flat_body, flat_parts, latest_first, part_nodes, part_wires, flat};
 ghost use Rattle.blue_modules.specs.Fitness.{rule_fault, IsFlat};
 
 use crate::chains::{copy_lines, flat_chains};
@@ -13,7 +13,7 @@ use crate::entries::Entries;
 use crate::fault::ModuleFault;
 use crate::parts::{Around, Parts, inside, put_body};
 use crate::rules::rule_fault;
-use crate::text::BlueText;
+use crate::text::{BlueText, Entry};
 use elem_core::why::{Decider, NoMemory};
 use std::alloc::Global;
 use stream_model::blueprint::Blueprint;
@@ -104,6 +104,74 @@ pub fn flatten(alloc: Global, text: &BlueText) -> Result<Blueprint, FlatEnd>
     ensures fault { (f : ModuleFault) → result ≡ Err (FlatEnd.Fault f) → rule_fault (plain_text text.now) ≡ Some f }
 {
     match flat_or_fault(alloc, text) {
+        Ok(Ok(blueprint)) => Ok(blueprint),
+        Ok(Err(fault)) => Err(FlatEnd::Fault(fault)),
+        Err(_) => Err(FlatEnd::NoMemory),
+    }
+}
+
+/// The nodes and wires of the body of a text without modules. Nothing of them is copied.
+fn own_parts(alloc: Global, around: Around, body: Vec<Entry>) -> Result<Parts, NoMemory>
+    ensures nodes { IfOk result (λ p. p.nodes.items ≡ part_nodes (flat_body [] [] around body.items)) }
+    ensures wires { IfOk result (λ p. p.wires.items ≡ part_wires (flat_body [] [] around body.items)) }
+{
+    let mut parts = Parts {
+        nodes: Vec::new(alloc),
+        wires: Vec::new(alloc),
+    };
+    for entry in body {
+        entry.put_own(alloc, &mut parts, around)?;
+    }
+    Ok(parts)
+}
+
+/// The blueprint of a text without modules that breaks no rule on them.
+fn own_flat(alloc: Global, text: BlueText) -> Result<Blueprint, NoMemory>
+    requires { text.modules.items ≡ [] }
+    ensures { IfOk result (λ b. plain b ≡ flat (plain_text text)) }
+{
+    let around = around_of(&text);
+    let (switches, chains, body) = text.into_lists();
+    let chains = flat_chains(alloc, around.decider, &chains)?;
+    let parts = own_parts(alloc, around, body)?;
+    Ok(Blueprint {
+        switches,
+        chains,
+        nodes: parts.nodes,
+        wires: parts.wires,
+    })
+}
+
+/// The first rule on modules that a text breaks.
+fn text_fault(alloc: Global, text: &BlueText) -> Result<Option<ModuleFault>, NoMemory>
+    ensures { IfOk result (λ f. f ≡ rule_fault (plain_text text.now)) }
+{
+    let book = book_of(alloc, &text.modules)?;
+    let own = Entries::of(alloc, &text.body)?;
+    rule_fault(alloc, text, &book, &own)
+}
+
+/// The blueprint of a text without modules, or the first rule that is broken.
+fn own_or_fault(alloc: Global, text: BlueText) -> Result<Result<Blueprint, ModuleFault>, NoMemory>
+    requires { text.modules.items ≡ [] }
+    ensures { IfOk result (λ r. MatchResult r (λ b. IsFlat (plain_text text) (plain b)) (λ f. rule_fault (plain_text text) ≡ Some f)) }
+{
+    match text_fault(alloc, &text)? {
+        Some(fault) => Ok(Err(fault)),
+        None => Ok(Ok(own_flat(alloc, text)?)),
+    }
+}
+
+/// The same of a text that is given away: of one without modules nothing is copied, as its nodes and wires become those of the
+/// blueprint.
+pub fn flatten_own(alloc: Global, text: BlueText) -> Result<Blueprint, FlatEnd>
+    ensures flat { IfOk result (λ b. IsFlat (plain_text text) (plain b)) }
+    ensures fault { (f : ModuleFault) → result ≡ Err (FlatEnd.Fault f) → rule_fault (plain_text text) ≡ Some f }
+{
+    if !text.modules.is_empty() {
+        return flatten(alloc, &text);
+    }
+    match own_or_fault(alloc, text) {
         Ok(Ok(blueprint)) => Ok(blueprint),
         Ok(Err(fault)) => Err(FlatEnd::Fault(fault)),
         Err(_) => Err(FlatEnd::NoMemory),

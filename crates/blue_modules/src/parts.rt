@@ -1,6 +1,8 @@
 // The parts of bodies, with each instance replaced.
-ghost use Rattle.std.specs.Prelude.{◌≡◌, ◌++◌, ◌∷◌, [], OnOk, IfOk, map, Option, ◌==◌, ◌&&◌};
+ghost use Rattle.std.specs.Prelude.{◌≡◌, ◌++◌, ◌∷◌, [], Bool, List, OnOk, IfOk, map, Option, ◌==◌, ◌&&◌};
 ghost use Rattle.std.specs.List.{flat_map};
+ghost use Rattle.elem_core.specs.Bytes.{point_byte};
+ghost use Rattle.blue_modules.specs.declared.text.Entry.{Entry as Said};
 ghost use Rattle.blue_modules.specs.Counts.{counted_modules, plain_counted, AreCounted, body_parts};
 ghost use Rattle.blue_modules.specs.Flatten.{inside, around_body, decider_within, flat_node, flat_lane, flat_wire, entry_parts, prefix_of, replaced, flat_body, part_nodes, part_wires, place, port_through};
 
@@ -97,13 +99,52 @@ fn flat_node(
     })
 }
 
-fn flat_lane(around: Around, lane: LaneMark) -> Option<u32>
+/// The size of a lane, where a wire is one.
+pub(crate) fn flat_lane(around: Around, lane: LaneMark) -> Option<u32>
     ensures { result ≡ flat_lane around lane }
 {
     match lane {
         LaneMark::Fused => None,
         LaneMark::Inherited => Some(around.size),
         LaneMark::Own(size) => Some(size),
+    }
+}
+
+/// A node of a text without modules. Nothing of it is copied.
+pub(crate) fn own_node(around: Around, node: NodeText) -> Node
+    ensures { result ≡ flat_node [] around node }
+{
+    let NodeText {
+        name,
+        kind,
+        decider,
+    } = node;
+    let decider = decider_within(takes_decider(&kind), decider, around.decider);
+    Node {
+        name,
+        kind,
+        decider,
+    }
+}
+
+/// A name with a point behind it.
+fn pointed(alloc: Global, name: &Line) -> Result<Line, NoMemory>
+    ensures { IfOk result (λ l. l ≡ name.now ++ point_byte ∷ []) }
+{
+    let mut path = name.bytes().to_vec(alloc)?;
+    path.push(b'.')?;
+    line_of(path)
+}
+
+/// The node and the port that a place of a text without modules stands for. The name of a node is not copied.
+pub(crate) fn own_end(alloc: Global, name: Line, port: PortMark) -> Result<(Line, u32), NoMemory>
+    ensures name { (output : Bool) (body : List Said) → IfOk result (λ r. r.0 ≡ (place (port_through output []) body name port).0) }
+    ensures port { (output : Bool) (body : List Said) → IfOk result (λ r. r.1 ≡ (place (port_through output []) body name port).1) }
+{
+    match port {
+        PortMark::Num(number) => Ok((name, number)),
+        // A text without modules has no instance, which alone has ports by names.
+        PortMark::Name(_) => Ok((pointed(alloc, &name)?, 0)),
     }
 }
 

@@ -1,7 +1,14 @@
 // What a text of the language says, before its modules are flattened. The grammar that it is written in, and the rules on its names,
 // are matters of the crates above.
+ghost use Rattle.std.specs.Prelude.{◌≡◌, ◌++◌, [], List, IfOk, OnOk};
+ghost use Rattle.blue_modules.specs.declared.text.Entry.{Entry as Said};
+ghost use Rattle.blue_modules.specs.Flatten.{flat_wire, entry_parts, replaced, part_nodes, part_wires};
+
+use crate::parts::{Around, Parts, flat_lane, own_end, own_node};
 use elem_core::line::Line;
-use elem_core::why::Decider;
+use elem_core::why::{Decider, NoMemory};
+use std::alloc::Global;
+use stream_model::blueprint::WireDecl;
 use stream_model::kind::Kind;
 
 /// What a text, a module or an instance sets for the lanes and the stages in it that set nothing of their own.
@@ -85,6 +92,32 @@ impl Drop for WireText {
     }
 }
 
+impl WireText {
+    /// The wire of a text without modules. The names of its ends are not copied.
+    pub(crate) fn into_wire(self, alloc: Global, around: Around) -> Result<WireDecl, NoMemory>
+        ensures { (body : List Said) → IfOk result (λ w. w ≡ flat_wire [] body [] around self) }
+    {
+        let WireText {
+            from,
+            output,
+            to,
+            input,
+            lane,
+            keep,
+        } = self;
+        let (from, output) = own_end(alloc, from, output)?;
+        let (to, input) = own_end(alloc, to, input)?;
+        Ok(WireDecl {
+            from,
+            output,
+            to,
+            input,
+            lane: flat_lane(around, lane),
+            keep,
+        })
+    }
+}
+
 /// What a line of a body declares.
 pub enum Entry {
     /// A source, a stage or a sink.
@@ -102,6 +135,34 @@ impl Drop for Entry {
             Entry::Node(_) => {}
             Entry::Instance(_) => {}
             Entry::Wire(_) => {}
+        }
+    }
+}
+
+impl Entry {
+    /// Adds the node or the wire that an entry of a text without modules declares. Nothing of it is copied.
+    pub(crate) fn put_own(
+        self,
+        alloc: Global,
+        parts: &mut Parts,
+        around: Around,
+    ) -> Result<(), NoMemory>
+        ensures nodes { (body : List Said) → OnOk result (parts.new.nodes.items ≡ parts.old.nodes.items ++ part_nodes
+            (entry_parts [] (replaced []) body [] around self)) }
+        ensures wires { (body : List Said) → OnOk result (parts.new.wires.items ≡ parts.old.wires.items ++ part_wires
+            (entry_parts [] (replaced []) body [] around self)) }
+    {
+        match self {
+            Entry::Node(node) => {
+                parts.nodes.push(own_node(around, node))?;
+                Ok(())
+            }
+            Entry::Instance(_) => Ok(()),
+            Entry::Wire(wire) => {
+                let wire = wire.into_wire(alloc, around)?;
+                parts.wires.push(wire)?;
+                Ok(())
+            }
         }
     }
 }
@@ -174,5 +235,23 @@ impl Drop for BlueText {
             modules: _,
             body: _,
         } = self;
+    }
+}
+
+impl BlueText {
+    /// Its switches, its chains and its own body. The modules are let go.
+    pub(crate) fn into_lists(self) -> (Vec<Line>, Vec<ChainText>, Vec<Entry>)
+        ensures switches { result.0 ≡ self.switches }
+        ensures chains { result.1 ≡ self.chains }
+        ensures body { result.2 ≡ self.body }
+    {
+        let BlueText {
+            attrs: _,
+            switches,
+            chains,
+            modules: _,
+            body,
+        } = self;
+        (switches, chains, body)
     }
 }

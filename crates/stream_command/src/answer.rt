@@ -29,7 +29,7 @@ use blue_check::check::{CheckEnd, check};
 use blue_check::checked::Checked;
 use blue_check::detail::put_detail;
 use blue_check::fault::CheckFault;
-use blue_check::flatten::flatten;
+use blue_check::flatten::flatten_own;
 use blue_lang::parse::{ParseEnd, parse};
 use blue_modules::text::BlueText;
 use elem_core::line::Line;
@@ -344,7 +344,7 @@ fn blueprint_of(alloc: Global, text: BlueText) -> Result<Blueprint, CheckEnd>
     ensures flat { IfOk result (λ b. IsFlat (plain_text text) (plain b)) }
     ensures fault { (f : CheckFault) → result ≡ Err (CheckEnd.Fault f) → modules_fault (plain_text text) ≡ Some f }
 {
-    flatten(alloc, &text)
+    flatten_own(alloc, text)
 }
 
 /// Runs the blueprint of what a text says, where these files are taken.

@@ -1,5 +1,6 @@
 pub mod FirstPlaces
 pub mod ClaimTables
+pub mod HubWires
 pub mod InRange
 pub mod NameTables
 pub mod OpenPorts

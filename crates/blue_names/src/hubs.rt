@@ -1,5 +1,6 @@
 // The wires of hubs: their lanes, and the rule on them.
-ghost use Rattle.std.specs.Prelude.{◌≡◌, IfOk, map, slice_get};
+ghost use Rattle.std.specs.Prelude.{◌≡◌, ◌||◌, is_some, IfOk, map, slice_get};
+ghost use Rattle.std.specs.List.{list_any};
 ghost use Rattle.blue_names.specs.Hubs.{size_into, size_out_of, size_into_node, size_out_of_node, hub_size, hub_of, where_lanes, is_hub_fault};
 ghost use Rattle.blue_names.specs.RuleLinks.{hub_wrong, is_faulty_wire};
 ghost use Rattle.blue_names.specs.Table.{Numbers};
@@ -89,6 +90,20 @@ fn is_hub_fault(nodes: &[Node], from: usize, to: usize, marked: bool) -> bool
         || (size_out_of_node(nodes, from).is_some() && size_into_node(nodes, to).is_some())
 }
 
+/// Whether a kind is a hub.
+fn is_hub(kind: &Kind) -> bool
+    ensures { result ≡ (is_some (size_out_of kind.now) || is_some (size_into kind.now)) }
+{
+    size_out_of(kind).is_some() || size_into(kind).is_some()
+}
+
+/// Whether some node is a hub.
+fn has_hub(nodes: &[Node]) -> bool
+    ensures { result ≡ list_any (λ n. is_some (size_out_of n.kind) || is_some (size_into n.kind)) nodes.now }
+{
+    nodes.iter().any(|node| is_hub(&node.kind))
+}
+
 /// The same of a wire by the names of its nodes.
 fn is_faulty_wire(table: &NameTable<'_>, nodes: &[Node], wire: &WireDecl) -> bool
     requires { Numbers table.now (map (λ n. n.name) nodes.now) }
@@ -107,6 +122,10 @@ pub fn hub_wrong(
 ) -> Result<Option<usize>, NoMemory>
     ensures { IfOk result (λ i. i ≡ hub_wrong nodes.now wires.now) }
 {
+    // Most blueprints have no hub, and no name needs to be looked up.
+    if !has_hub(nodes) {
+        return Ok(None);
+    }
     let table = table_of(alloc, nodes)?;
     for (i, wire) in wires.iter().enumerate() {
         if is_faulty_wire(&table, nodes, wire) {

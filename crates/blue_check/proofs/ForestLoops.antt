@@ -1,6 +1,7 @@
 -- Labels over the links of a list.
-use Rattle.std.proofs.Common.{◌≡◌, ℕ, zero, suc, ◌+◌, ◌<◌, cond, ◌==◌, List, [], ◌∷◌, ◌++◌, length, take, get_or, Some, refl, ap, sym, ◌∙◌, subst, ⊎_elim, arith}
+use Rattle.std.proofs.Common.{◌≡◌, ℕ, zero, suc, ◌+◌, ◌<◌, true, false, cond, ◌==◌, ◌||◌, List, [], ◌∷◌, ◌++◌, length, take, get_or, Some, refl, ap, sym, ◌∙◌, subst, ⊎_elim, arith}
 use Rattle.std.specs.Prelude.{slice_get, slice_index}
+use Rattle.std.proofs.lemmas.Bool.{cases_Bool, eqb-true}
 use Rattle.std.proofs.lemmas.List.{map_more, get_or-take, length-take}
 use Rattle.stream_model.specs.Graph.{Edge}
 use Rattle.stream_model.specs.Shape.{Joins, Walk, stay, along, IsPolytree}
@@ -92,4 +93,8 @@ pub label_in_range : (old seen : List ℕ) (rows : List (Vec ℕ Global)) (node 
 label_in_range old seen rows node count label lt long same is l =
     let e : label ≡ slice_index old node = is ∙ ap (λ xs. slice_index xs node) same in
     let below : node < length old = omega (arith, lt, long) in
-    row_in_range rows node label (ap (λ n. is_in node (row_at rows n)) e ∙ l.listed node below)
+    let here : ((label == node) || is_in node (row_at rows label)) ≡ true = ap (λ n. is_in node (n ∷ row_at rows n)) e ∙ l.listed node below in
+    ⊎_elim
+    (λ (t : (label == node) ≡ true). let own : label ≡ node = eqb-true label node t in omega (arith, own, below, l.many))
+    (λ (f : (label == node) ≡ false). row_in_range rows node label (sym (ap (λ b. b || is_in node (row_at rows label)) f) ∙ here))
+    (cases_Bool (label == node))

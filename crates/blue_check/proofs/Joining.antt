@@ -11,37 +11,6 @@ use Rattle.blue_names.specs.Members.{is_in}
 use Rattle.blue_check.specs.Classes.{AreListed, IsRelabeled}
 use Rattle.blue_check.proofs.Reaching.{is_in-push, or_true}
 
--- so many lists, each with the node of its number
-pub record AreOwn (rows : List (Vec ℕ Global)) (n : ℕ) : Type 0 where
-  pub count : length rows ≡ n
-  pub own : (k : ℕ) → k < n → is_in k (row_at rows k) ≡ true
-
-pub AreOwn-none : AreOwn [] 0
-AreOwn-none = record { count = refl; own = λ k lt. absurd (omega arith) }
-
-row_at-push_old : (rows : List (Vec ℕ Global)) (v : Vec ℕ Global) (k : ℕ) → k < length rows → row_at (rows ++ v ∷ []) k ≡ row_at rows k
-row_at-push_old [] v k lt = absurd (omega arith)
-row_at-push_old (r ∷ rows) v zero lt = refl
-row_at-push_old (r ∷ rows) v (suc k) lt = row_at-push_old rows v k (omega arith)
-
-row_at-push_new : (rows : List (Vec ℕ Global)) (v : Vec ℕ Global) → row_at (rows ++ v ∷ []) (length rows) ≡ v.items
-row_at-push_new [] v = refl
-row_at-push_new (r ∷ rows) v = row_at-push_new rows v
-
-pub AreOwn-more : (rows : List (Vec ℕ Global)) (v : Vec ℕ Global) (n : ℕ) → v.items ≡ n ∷ [] → AreOwn rows n → AreOwn (rows ++ v ∷ []) (n + 1)
-AreOwn-more rows v n e h = record {
-  count = grind (arith, common_steps, h.count);
-  own = λ k lt. ⊎_elim
-      (λ (same : k ≡ n).
-      let at : row_at (rows ++ v ∷ []) k ≡ k ∷ [] = subst (λ j. row_at (rows ++ v ∷ []) j ≡ j ∷ []) (h.count ∙ sym same) (row_at-push_new rows v ∙ e ∙ ap (λ j. j ∷ []) (sym h.count)) in
-      ap (is_in k) at ∙ ap (λ b. b || false) (eq-eqb k k refl))
-      (λ (ne : k ≡ n → ⊥).
-      let below : k < n = omega (arith, ne, lt) in
-      let short : k < length rows = omega (arith, below, h.count) in
-      ap (is_in k) (row_at-push_old rows v k short) ∙ h.own k below)
-      (cases_eq k n);
-}
-
 -- a node of a row stands in a row that is there
 pub row_in_range : (rows : List (Vec ℕ Global)) (i n : ℕ) → is_in i (row_at rows n) ≡ true → n < length rows
 row_in_range [] i n h = let e : false ≡ true = h in cc
@@ -102,29 +71,69 @@ is_in-append_right : (i : ℕ) (ms ns : List ℕ) → is_in i ns ≡ true → is
 is_in-append_right i [] ns h = h
 is_in-append_right i (m ∷ ms) ns h = ap (λ b. (m == i) || b) (is_in-append_right i ms ns h) ∙ or_true (m == i)
 
+-- the nodes of a label other than that of its number stand in its list, also when that one has got another label
+pub rest_listed : (old mid : List ℕ) (rows : List (Vec ℕ Global)) (nodes : List ℕ) (from to : ℕ) → (from ≡ to → ⊥) → length mid ≡ length old → AreListed old rows → nodes ≡ row_at rows from
+    → ((i : ℕ) → i < length old → slice_index mid i ≡ cond (from == i) (cond (slice_index old i == from) to (slice_index old i)) (slice_index old i))
+    → (i : ℕ) → i < length mid → slice_index mid i ≡ from → is_in i nodes ≡ true
+rest_listed old mid rows nodes from to apart long l taken at i lt label =
+    let below : i < length old = omega (arith, lt, long) in
+    let x = slice_index old i in
+    ⊎_elim
+    (λ (t : (from == i) ≡ true).
+    let moved : cond (x == from) to x ≡ from = sym (at i below ∙ ap (λ b. cond b (cond (x == from) to x) x) t) ∙ label in
+    ⊎_elim
+    (λ (e : x ≡ from). absurd (apart (sym (sym (ap (λ c. cond c to x) (eq-eqb x from e)) ∙ moved))))
+    (λ (ne : x ≡ from → ⊥). absurd (ne (sym (ap (λ c. cond c to x) (ne_eqb x from ne)) ∙ moved)))
+    (cases_eq x from))
+    (λ (f : (from == i) ≡ false).
+    let same : x ≡ from = sym (at i below ∙ ap (λ b. cond b (cond (x == from) to x) x) f) ∙ label in
+    let here : is_in i (from ∷ row_at rows from) ≡ true = subst (λ n. is_in i (n ∷ row_at rows n) ≡ true) same (l.listed i below) in
+    ap (is_in i) taken ∙ (sym (ap (λ b. b || is_in i (row_at rows from)) f) ∙ here))
+    (cases_Bool (from == i))
+
+-- all nodes of a label have got another, once that of its number has and then those that are listed
+pub relabeled_both : (old mid new : List ℕ) (from to : ℕ) → length mid ≡ length old
+    → ((i : ℕ) → i < length old → slice_index mid i ≡ cond (from == i) (cond (slice_index old i == from) to (slice_index old i)) (slice_index old i))
+    → IsRelabeled mid new from to → IsRelabeled old new from to
+relabeled_both old mid new from to long at r = record {
+  at = λ i lt.
+      let x = slice_index old i in
+      r.at i (omega (arith, lt, long)) ∙ (ap (λ y. cond (y == from) to y) (at i lt) ∙ (relabel_twice from to x (from == i) true ∙ ap (λ b. cond b (cond (x == from) to x) x) (or_true (from == i))));
+}
+
 -- lists and labels of one class go into another
-pub AreListed-join : (old new : List ℕ) (rows mid later : List (Vec ℕ Global)) (nodes : List ℕ) (from to : ℕ) → (from ≡ to → ⊥) → length new ≡ length old → AreListed old rows → nodes ≡ row_at rows from
-    → ((n : ℕ) → (n ≡ from → ⊥) → row_at mid n ≡ row_at rows n) → row_at later to ≡ row_at mid to ++ nodes → ((n : ℕ) → (n ≡ to → ⊥) → row_at later n ≡ row_at mid n)
-    → IsRelabeled old new from to → AreListed new later
-AreListed-join old new rows mid later nodes from to apart long l taken kept here others r = record {
+pub AreListed-join : (old new : List ℕ) (rows mid later : List (Vec ℕ Global)) (nodes : List ℕ) (from to : ℕ) → (from ≡ to → ⊥) → length new ≡ length old → length later ≡ length rows → AreListed old rows
+    → nodes ≡ row_at rows from → ((n : ℕ) → (n ≡ from → ⊥) → row_at mid n ≡ row_at rows n) → row_at later to ≡ row_at mid to ++ from ∷ nodes
+    → ((n : ℕ) → (n ≡ to → ⊥) → row_at later n ≡ row_at mid n) → IsRelabeled old new from to → AreListed new later
+AreListed-join old new rows mid later nodes from to apart long rows_long l taken kept here others r = record {
+  many = omega (arith, l.many, long, rows_long);
   listed = λ i lt.
       let below : i < length old = omega (arith, lt, long) in
       let x = slice_index old i in
       ⊎_elim
       (λ (e : x ≡ from).
       let label : slice_index new i ≡ to = r.at i below ∙ ap (λ c. cond c to x) (eq-eqb x from e) in
-      let moved : is_in i nodes ≡ true = ap (is_in i) (taken ∙ ap (row_at rows) (sym e)) ∙ l.listed i below in
-      ap (λ n. is_in i (row_at later n)) label ∙ ap (is_in i) here ∙ is_in-append_right i (row_at mid to) nodes moved)
+      let moved : is_in i (from ∷ nodes) ≡ true = ap (λ ns. is_in i (from ∷ ns)) taken ∙ subst (λ n. is_in i (n ∷ row_at rows n) ≡ true) e (l.listed i below) in
+      let found : is_in i (row_at later to) ≡ true = ap (is_in i) here ∙ is_in-append_right i (row_at mid to) (from ∷ nodes) moved in
+      ap (λ n. is_in i (n ∷ row_at later n)) label ∙ (ap (λ b. (to == i) || b) found ∙ or_true (to == i)))
       (λ (ne : x ≡ from → ⊥).
       let label : slice_index new i ≡ x = r.at i below ∙ ap (λ c. cond c to x) (ne_eqb x from ne) in
-      let old_row : is_in i (row_at mid x) ≡ true = ap (is_in i) (kept x ne) ∙ l.listed i below in
-      ap (λ n. is_in i (row_at later n)) label ∙ ⊎_elim
-      (λ (e : x ≡ to). ap (λ n. is_in i (row_at later n)) e ∙ ap (is_in i) here ∙ is_in-append_left i (row_at mid to) nodes (ap (λ n. is_in i (row_at mid n)) (sym e) ∙ old_row))
-      (λ (no : x ≡ to → ⊥). ap (is_in i) (others x no) ∙ old_row)
+      let old_row : is_in i (x ∷ row_at mid x) ≡ true = ap (λ ns. is_in i (x ∷ ns)) (kept x ne) ∙ l.listed i below in
+      ap (λ n. is_in i (n ∷ row_at later n)) label ∙ ⊎_elim
+      (λ (e : x ≡ to).
+      let at_to : is_in i (to ∷ row_at mid to) ≡ true = subst (λ n. is_in i (n ∷ row_at mid n) ≡ true) e old_row in
+      let longer : is_in i (to ∷ (row_at mid to ++ from ∷ nodes)) ≡ true = is_in-append_left i (to ∷ row_at mid to) (from ∷ nodes) at_to in
+      ap (λ n. is_in i (n ∷ row_at later n)) e ∙ (ap (λ ns. is_in i (to ∷ ns)) here ∙ longer))
+      (λ (no : x ≡ to → ⊥). ap (λ ns. is_in i (x ∷ ns)) (others x no) ∙ old_row)
       (cases_eq x to))
       (cases_eq x from);
 }
 
--- at first each node is listed under itself
-pub AreListed-own : (labels : List ℕ) (rows : List (Vec ℕ Global)) (n : ℕ) → length labels ≡ n → ((i : ℕ) → i < n → slice_index labels i ≡ i) → ((i : ℕ) → i < n → is_in i (row_at rows i) ≡ true) → AreListed labels rows
-AreListed-own labels rows n long own here = record { listed = λ i lt. let below : i < n = omega (arith, lt, long) in ap (λ k. is_in i (row_at rows k)) (own i below) ∙ here i below }
+-- at first each node has its own number as its label
+pub AreListed-own : (labels : List ℕ) (rows : List (Vec ℕ Global)) (n : ℕ) → length labels ≡ n → ((i : ℕ) → i < n → slice_index labels i ≡ i) → length rows ≡ n → AreListed labels rows
+AreListed-own labels rows n long own many = record {
+  many = omega (arith, long, many);
+  listed = λ i lt.
+      let below : i < n = omega (arith, lt, long) in
+      ap (λ k. is_in i (k ∷ row_at rows k)) (own i below) ∙ ap (λ b. b || is_in i (row_at rows i)) (eq-eqb i i refl);
+}

@@ -1,13 +1,14 @@
 -- Labels of nodes, and lists of the nodes of each label.
-use Rattle.std.specs.Prelude.{◌≡◌, ℕ, ◌<◌, ◌==◌, ◌⊎◌, true, List, length, slice_index, if◌then◌else◌}
+use Rattle.std.specs.Prelude.{◌≡◌, ℕ, ◌<◌, ◌≤◌, ◌==◌, ◌⊎◌, true, List, ◌∷◌, length, slice_index, if◌then◌else◌}
 use Rattle.std.specs.declared.vec.Vec.{Vec}
 use Rattle.std.specs.declared.alloc.Global.{Global}
 use Rattle.blue_names.specs.Outs.{row_at}
 use Rattle.blue_names.specs.Members.{is_in}
 
--- each node stands in the list of its label
+-- each node stands in the list of its label, but for one whose number the label is; there are no fewer lists than nodes
 pub record AreListed (labels : List ℕ) (rows : List (Vec ℕ Global)) : Type 0 where
-  pub listed : (i : ℕ) → i < length labels → is_in i (row_at rows (slice_index labels i)) ≡ true
+  pub many : length labels ≤ length rows
+  pub listed : (i : ℕ) → i < length labels → is_in i (slice_index labels i ∷ row_at rows (slice_index labels i)) ≡ true
 
 -- the nodes of one label have got another, and the others have what they had
 pub record IsRelabeled (old new : List ℕ) (from to : ℕ) : Type 0 where

@@ -1,5 +1,5 @@
-// Classes of nodes: a label for each node, and a list of the nodes of each label.
-ghost use Rattle.std.specs.Prelude.{◌≡◌, ◌<◌, ◌==◌, ℕ, IfOk, OnOk, true, slice_index, vec_len, if◌then◌else◌};
+// Classes of nodes: a label for each node, and a list of the nodes of each label, in which the node of its own number need not stand.
+ghost use Rattle.std.specs.Prelude.{◌≡◌, ◌<◌, ◌==◌, ℕ, [], ◌∷◌, IfOk, OnOk, true, slice_index, vec_len, if◌then◌else◌};
 ghost use Rattle.std.proofs.Common.{◌++◌};
 ghost use Rattle.blue_names.specs.Outs.{row_at};
 ghost use Rattle.blue_names.specs.Members.{is_in};
@@ -22,15 +22,13 @@ pub fn own_labels(alloc: Global, count: usize) -> Result<Vec<usize>, NoMemory>
     Ok(labels)
 }
 
-/// A list for each label, with the node of the same number.
+/// An empty list for each label: its only node is that of its number.
 pub fn own_members(alloc: Global, count: usize) -> Result<Vec<Vec<usize>>, NoMemory>
-    ensures { IfOk result (λ rows. (i : ℕ) → i < count → is_in i (row_at rows.items i) ≡ true) }
+    ensures { IfOk result (λ rows. vec_len rows ≡ count) }
 {
     let mut rows = Vec::new(alloc);
-    for i in 0..count {
-        let mut row = Vec::new(alloc);
-        row.push(i)?;
-        rows.push(row)?;
+    'rows: for _ in 0..count {
+        rows.push(Vec::new(alloc))?;
     }
     Ok(rows)
 }
@@ -69,11 +67,23 @@ fn take_members(alloc: Global, members: &mut Vec<Vec<usize>>, label: usize) -> V
     mem::replace(&mut members[label], Vec::new(alloc))
 }
 
+/// Puts a node last into the list of a label.
+fn add_member(members: &mut Vec<Vec<usize>>, label: usize, node: usize) -> Result<(), NoMemory>
+    requires { label < vec_len members.old }
+    ensures here { OnOk result (row_at members.new.items label ≡ row_at members.old.items label ++ node ∷ []) }
+    ensures others { (n : ℕ) → (n ≡ label → ⊥) → OnOk result (row_at members.new.items n ≡ row_at members.old.items n) }
+    ensures length { OnOk result (vec_len members.new ≡ vec_len members.old) }
+{
+    members[label].push(node)?;
+    Ok(())
+}
+
 /// Puts nodes last into the list of a label.
 fn append(members: &mut Vec<Vec<usize>>, label: usize, nodes: &[usize]) -> Result<(), NoMemory>
     requires { label < vec_len members.old }
     ensures here { OnOk result (row_at members.new.items label ≡ row_at members.old.items label ++ nodes.now) }
     ensures others { (n : ℕ) → (n ≡ label → ⊥) → OnOk result (row_at members.new.items n ≡ row_at members.old.items n) }
+    ensures length { OnOk result (vec_len members.new ≡ vec_len members.old) }
 {
     members[label].extend_from_slice(nodes)?;
     Ok(())
@@ -96,7 +106,10 @@ fn join(
     ensures length { OnOk result (vec_len labels.new ≡ vec_len labels.old) }
 {
     let nodes = take_members(alloc, members, from);
+    // The node of the label's own number stands in no list.
+    relabel_one(labels, from, from, to);
     relabel(labels, &nodes, from, to);
+    add_member(members, to, from)?;
     append(members, to, &nodes)?;
     Ok(())
 }

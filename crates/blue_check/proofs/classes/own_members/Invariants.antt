@@ -1,5 +1,5 @@
-use Rattle.blue_check.proofs.Joining.{AreOwn}
+use Rattle.std.proofs.Common.{◌≡◌, vec_len}
 use Rattle.blue_check.proofs.classes.own_members.Given as goal
 
-abbrev pub invariant-loop-i : goal.invariant-loop-i
-invariant-loop-i l = AreOwn l.rows.items l.i
+abbrev pub invariant-rows : goal.invariant-rows
+invariant-rows l = vec_len l.rows ≡ l.counter

@@ -8,7 +8,7 @@ use Rattle.blue_check.proofs.forest.is_polytree.Goals as goal
 pub loop-link-init : goal.loop-link-init
 loop-link-init c =
     let e = c.in_ok-labels.ensures in
-    (e.length, Labels-none c.args.count (slice_index c.in_ok-labels.labels.items) e.own, AreListed-own c.in_ok-labels.labels.items c.in_ok-members.members.items c.args.count (sym c.in_ok-labels.labels.ok.0 ∙ e.length) e.own c.in_ok-members.ensures)
+    (e.length, Labels-none c.args.count (slice_index c.in_ok-labels.labels.items) e.own, AreListed-own c.in_ok-labels.labels.items c.in_ok-members.members.items c.args.count (sym c.in_ok-labels.labels.ok.0 ∙ e.length) e.own (sym c.in_ok-members.members.ok.0 ∙ c.in_ok-members.ensures))
 
 pub returns-then-from-to-clause-no_tree : goal.returns-then-from-to-clause-no_tree
 returns-then-from-to-clause-no_tree c = λ _ t.

@@ -9,7 +9,7 @@ loop-link-init c =
     let e = c.in_ok-labels.ensures in
     let labels = c.in_ok-labels.labels in
     let long = sym labels.ok.0 ∙ e.length in
-    record { labels = AreLabels-own labels.items c.args.count long e.own; listed = AreListed-own labels.items c.in_ok-members.members.items c.args.count long e.own c.in_ok-members.ensures }
+    record { labels = AreLabels-own labels.items c.args.count long e.own; listed = AreListed-own labels.items c.in_ok-members.members.items c.args.count long e.own (sym c.in_ok-members.members.ok.0 ∙ c.in_ok-members.ensures) }
 
 pub merge-requires-clause-one : goal.merge-requires-clause-one
 merge-requires-clause-one c =

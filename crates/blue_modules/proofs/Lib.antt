@@ -1,3 +1,4 @@
 pub mod Naming
 mod Gathering
+mod PortNames
 mod Scoping

@@ -1,5 +1,5 @@
 -- The rules on modules: over the text's own body, and then the modules in order.
-use Rattle.std.specs.Prelude.{ℕ, Bool, true, false, not, if◌then◌else◌, List, [], ◌∷◌, ◌++◌, take, Option, Some, None, is_some, is_none}
+use Rattle.std.specs.Prelude.{ℕ, Bool, true, false, not, ◌&&◌, if◌then◌else◌, List, [], ◌∷◌, ◌++◌, take, Option, Some, None, is_some, is_none}
 use Rattle.std.specs.Fmt.{decimal}
 use Rattle.std.specs.Option.{option_or}
 use Rattle.elem_core.specs.Values.{same_text}
@@ -128,6 +128,17 @@ wrong_wire b (Wire w) = option_or (wrong_place b true w.from w.output) (wrong_pl
 abbrev pub wrong_port : PlainModule → Body → ℕ → PortDecl → Option WrongPort
 wrong_port m b i d =
     option_or (when (is_some (port_line d.output d.name (take i m.ports))) (m.name, d.name)) (wrong_place b d.output d.node d.port)
+
+-- the port is told by its number
+abbrev pub by_number : PortMark → Bool
+by_number (Num n) = true
+by_number (Name p) = false
+
+-- the entry is a node, or a wire between ports that are told by their numbers
+abbrev pub names_no_port : Entry → Bool
+names_no_port (Node n) = true
+names_no_port (Instance u) = false
+names_no_port (Wire w) = by_number w.output && by_number w.input
 
 -- the first wrong port of a module's port lines
 abbrev pub wrong_among_ports : Option PlainModule → Body → Option WrongPort

@@ -1,10 +1,11 @@
 // The rule on the names of ports, and on the places that name them.
 ghost use Rattle.std.specs.Prelude.{◌≡◌, ◌<◌, Option, is_none, length};
+ghost use Rattle.std.specs.List.{list_all};
 ghost use Rattle.std.specs.Option.{option_map, option_or};
 ghost use Rattle.blue_names.specs.First.{first_from, when};
 ghost use Rattle.blue_modules.specs.Counts.{counted_modules, plain_counted};
 ghost use Rattle.blue_modules.specs.Flatten.{port_line};
-ghost use Rattle.blue_modules.specs.Rules.{is_wrong, wrong_place, wrong_wire, wrong_port, wrong_among_ports, wrong_in};
+ghost use Rattle.blue_modules.specs.Rules.{is_wrong, wrong_place, wrong_wire, wrong_port, wrong_among_ports, wrong_in, by_number, names_no_port};
 ghost use Rattle.blue_modules.specs.Scopes.{body_in, wrong_of};
 
 use crate::counts::Counted;
@@ -110,12 +111,51 @@ fn wrong_among_ports<'a>(scope: &Scope<'a>) -> Option<Wrong<'a>>
     }
 }
 
+fn by_number(mark: &PortMark) -> bool
+    ensures { result ≡ by_number mark.now }
+{
+    matches!(mark, PortMark::Num(_))
+}
+
+fn names_no_port(entry: &Entry) -> bool
+    ensures { result ≡ names_no_port entry.now }
+{
+    match entry {
+        Entry::Node(_) => true,
+        Entry::Instance(_) => false,
+        Entry::Wire(wire) => by_number(&wire.output) && by_number(&wire.input),
+    }
+}
+
+/// Whether a body has nodes and wires between ports that are told by their numbers alone.
+fn name_no_ports(entries: &[Entry]) -> bool
+    ensures { result ≡ list_all names_no_port entries.now }
+{
+    for entry in entries {
+        if !names_no_port(entry) {
+            return false;
+        }
+    }
+    true
+}
+
+/// The first place of a wire at fault. Where no port has a name and none is an instance's, none is, and no name needs to be looked up.
+fn wrong_in_wires<'a>(scope: &Scope<'a>) -> Option<Wrong<'a>>
+    ensures { option_map wrong_of result ≡ first_from (λ _ e. wrong_wire (body_in scope.now) e) 0 (body_in scope.now).entries }
+{
+    if name_no_ports(scope.entries.all()) {
+        None
+    } else {
+        wrong_among_wires(scope, scope.entries.all())
+    }
+}
+
 fn wrong_in<'a>(scope: &Scope<'a>) -> Option<Wrong<'a>>
     ensures { option_map wrong_of result ≡ wrong_in (body_in scope.now) }
 {
     match wrong_among_ports(scope) {
         Some(wrong) => Some(wrong),
-        None => wrong_among_wires(scope, scope.entries.all()),
+        None => wrong_in_wires(scope),
     }
 }
 

@@ -1,7 +1,8 @@
 -- Closed walks, and numbers that never fall along a wire.
-use Rattle.std.proofs.Common.{◌≡◌, ℕ, ◌+◌, ◌<◌, ◌≤◌, List, [], ◌∷◌, ◌++◌, length, map, take, get_or, Some, ap, sym, ◌∙◌, subst, ⊎_elim, arith}
-use Rattle.std.specs.Prelude.{slice_get, slice_index}
-use Rattle.std.proofs.lemmas.Bool.{cases_lt}
+use Rattle.std.proofs.Common.{◌≡◌, ℕ, zero, suc, ◌+◌, ◌<◌, ◌≤◌, true, List, [], ◌∷◌, ◌++◌, length, map, take, get_or, Some, ap, sym, ◌∙◌, subst, ⊎_elim, arith}
+use Rattle.std.specs.Prelude.{nat_lt, slice_get, slice_index}
+use Rattle.std.specs.List.{list_all}
+use Rattle.std.proofs.lemmas.Bool.{cases_lt, and_parts, ltb-true}
 use Rattle.std.proofs.lemmas.Option.{slice_get-get_or, slice_get_within}
 use Rattle.std.proofs.lemmas.List.{get_or-map, length-map, map_more}
 use Rattle.stream_model.specs.Graph.{Edge}
@@ -78,3 +79,33 @@ IsFirstClosed-link ls i d lt back n = IsFirstClosed-here (wires_of_links ls) i (
 
 pub HasNoClosedWalk-links : (ls : List NumberedWire) (i : ℕ) → length ls ≤ i → NoneBelow (wires_of_links ls) i → HasNoClosedWalk (wires_of_links ls)
 HasNoClosedWalk-links ls i le n = HasNoClosedWalk-end (wires_of_links ls) i (omega (arith, length-map ls wire_of_link)) n
+
+-- a wire that leads to a later node, where each does
+later_at : (ls : List NumberedWire) (i : ℕ) (w : Edge) → list_all (λ l. nat_lt l.from l.to) ls ≡ true → slice_get (wires_of_links ls) i ≡ Some w → w.from < w.to
+later_at [] i w h at = cc
+later_at (l ∷ ls) zero w h at =
+    let both = and_parts (nat_lt l.from l.to) (list_all (λ k. nat_lt k.from k.to) ls) h in
+    let one : l.from < l.to = ltb-true l.from l.to both.0 in
+    let got : Some (wire_of_link l) ≡ Some w = at in
+    let e : wire_of_link l ≡ w = cc in
+    subst (λ (u : Edge). u.from < u.to) e one
+later_at (l ∷ ls) (suc i) w h at =
+    let both = and_parts (nat_lt l.from l.to) (list_all (λ k. nat_lt k.from k.to) ls) h in
+    later_at ls i w both.1 at
+
+-- along such wires no walk leads to an earlier node
+leads_later : (ls : List NumberedWire) (a b : ℕ) → list_all (λ l. nat_lt l.from l.to) ls ≡ true → Path (wires_of_links ls) a b → a ≤ b
+leads_later ls a b h stay = omega arith
+leads_later ls a b h (along f p) =
+    let one : f.is.from < f.is.to = later_at ls f.wire f.is h f.at in
+    let rest = leads_later ls _ b h p in
+    omega (arith, one, f.from, f.to, rest)
+
+-- so none is closed
+pub none_closed : (ls : List NumberedWire) → list_all (λ l. nat_lt l.from l.to) ls ≡ true → HasNoClosedWalk (wires_of_links ls)
+none_closed ls h = record {
+  none = λ j c.
+      let one : c.wire.from < c.wire.to = later_at ls j c.wire h c.at in
+      let back = leads_later ls c.wire.to c.wire.from h c.back in
+      absurd (omega (arith, one, back));
+}

@@ -1,5 +1,6 @@
 // The first wire on a closed walk.
-ghost use Rattle.std.specs.Prelude.{◌≡◌, ◌<◌, ℕ, IfOk, IfSome, IfNone, List, true, false, vec_len};
+ghost use Rattle.std.specs.Prelude.{◌≡◌, ◌<◌, ℕ, nat_lt, IfOk, IfSome, IfNone, List, true, false, vec_len};
+ghost use Rattle.std.specs.List.{list_all};
 ghost use Rattle.blue_names.specs.Paths.{Path, IsFirstClosed, HasNoClosedWalk};
 ghost use Rattle.blue_names.specs.Links.{AreInRange, wires_of_links};
 ghost use Rattle.blue_names.specs.Outs.{IsOuts};
@@ -46,6 +47,13 @@ fn leads_back(
     Ok(is_marked(&marks, from))
 }
 
+/// Whether each wire leads to a node that is declared later.
+fn rises(links: &[NumberedWire]) -> bool
+    ensures { result ≡ list_all (λ l. nat_lt l.from l.to) links.now }
+{
+    links.iter().all(|link| link.from < link.to)
+}
+
 // Choice: docs/DECISIONS.md#walks-are-tested
 /// The first wire on a closed walk.
 pub fn first_closed(
@@ -59,6 +67,10 @@ pub fn first_closed(
     ensures first { IfOk result (λ o. IfSome o (IsFirstClosed (wires_of_links links.now))) }
     ensures none { IfOk result (λ o. IfNone o (HasNoClosedWalk (wires_of_links links.now))) }
 {
+    // A blueprint that is declared along its wires needs no walk.
+    if rises(links) {
+        return Ok(None);
+    }
     let found = components_of(alloc, count, links, outs)?;
     for (i, link) in links.iter().enumerate() {
         if leads_back(alloc, count, links, outs, &found, link.from, link.to)? {

@@ -1,5 +1,9 @@
-use Rattle.blue_check.proofs.ClosedWalks.{NoneBelow-link, IsFirstClosed-link, HasNoClosedWalk-links}
+use Rattle.std.proofs.Common.{sym, ◌∙◌}
+use Rattle.blue_check.proofs.ClosedWalks.{NoneBelow-link, IsFirstClosed-link, HasNoClosedWalk-links, none_closed}
 use Rattle.blue_check.proofs.closed.first_closed.Goals as goal
+
+pub returns-then-rises-clause-none : goal.returns-then-rises-clause-none
+returns-then-rises-clause-none c = none_closed c.args.links.now (sym c.rises.ensures ∙ c.if-rises.true)
 
 pub returns-then-branch-clause-first : goal.returns-then-branch-clause-first
 returns-then-branch-clause-first c =

@@ -1,10 +1,11 @@
 -- The first of two groups of rules decides.
-use Rattle.std.proofs.Common.{◌≡◌, List, Option, Some, None, Result, IfOk, refl, ap, sym, ◌∙◌, subst, inl, inr}
-use Rattle.std.specs.Option.{option_or}
+use Rattle.std.proofs.Common.{◌≡◌, ℕ, List, Option, Some, None, Result, IfOk, refl, ap, sym, ◌∙◌, subst, inl, inr}
+use Rattle.std.specs.Option.{option_map, option_or}
 use Rattle.stream_model.specs.Graph.{Edge}
 use Rattle.blue_check.specs.declared.fault.CheckFault.{CheckFault}
 use Rattle.blue_check.specs.declared.judge.Judged.{Judged}
 use Rattle.blue_check.specs.declared.judge.Judged.TheVariants.{Unfit, Fit}
+use Rattle.blue_check.specs.declared.fault.CheckFault.TheVariants.{NoSuchName}
 use Rattle.blue_check.specs.Judging.{IsJudged}
 
 -- a fault of the first group
@@ -32,3 +33,9 @@ answer_next o rest ws r e h = subst (λ x. IfOk r (IsJudged (option_or x rest) w
 
 pub answer_last : {E : Type 0} (o : Option CheckFault) (ws : List Edge) (r : Result Judged E) → None ≡ o → IfOk r (IsJudged None ws) → IfOk r (IsJudged o ws)
 answer_last o ws r e h = subst (λ x. IfOk r (IsJudged x ws)) e h
+
+-- names that nodes use come before those that wires use
+pub names_apart : (a rest : Option CheckFault) (b c : Option (List ℕ)) → option_or (option_or a (option_map NoSuchName b)) (option_or (option_map NoSuchName c) rest) ≡ option_or (option_or a (option_map NoSuchName (option_or b c))) rest
+names_apart (Some f) rest b c = refl
+names_apart None rest (Some n) c = refl
+names_apart None rest None c = refl

@@ -1,11 +1,12 @@
 // What is found of a blueprint, group of rules by group of rules.
 ghost use Rattle.std.specs.Prelude.{◌≡◌, ℕ, IfOk, List, None, Some, length};
-ghost use Rattle.std.specs.Option.{option_or};
+ghost use Rattle.std.specs.Option.{option_map, option_or};
+ghost use Rattle.blue_names.specs.Names.{unknown_node};
 ghost use Rattle.blue_names.specs.RuleLinks.{wires_of};
 ghost use Rattle.blue_names.specs.Links.{AreInRange, wires_of_links};
 ghost use Rattle.blue_names.specs.Outs.{IsOuts};
 ghost use Rattle.blue_names.specs.Wiring.{FindsWires};
-ghost use Rattle.blue_check.specs.Fitness.{names_fault, ports_fault, plugs_fault, sizes_fault, types_fault, early_of, early_fault};
+ghost use Rattle.blue_check.specs.Fitness.{ports_fault, plugs_fault, sizes_fault, types_fault, early_of, early_fault};
 ghost use Rattle.blue_check.specs.Wires.{blueprint_wires};
 ghost use Rattle.blue_check.specs.Judging.{IsJudged};
 
@@ -13,7 +14,7 @@ use crate::closed::first_closed;
 use crate::fault::CheckFault;
 use crate::forest::is_polytree;
 use crate::rules::{names_fault, plugs_fault, ports_fault, sizes_fault, types_fault};
-use blue_names::links::{NumberedWire, links_of};
+use blue_names::links::{NumberedWire, links_or_unknown};
 use blue_names::outs::outs_of;
 use blue_names::ports::{PortTable, targets_of};
 use elem_core::count::numbered;
@@ -132,7 +133,7 @@ fn by_ports(
     }
 }
 
-/// By ports and what comes behind them, over the wires as they are declared.
+/// By the names of nodes that wires use, and then by ports and what comes behind them.
 fn by_wires(
     alloc: Global,
     plugs: &[PlugHead],
@@ -140,12 +141,16 @@ fn by_wires(
     nodes: &[Node],
     wires: &[WireDecl],
 ) -> Result<Judged, NoMemory>
-    ensures { IfOk result (IsJudged (option_or (ports_fault nodes.now (wires_of nodes.now wires.now)) (option_or (plugs_fault plugs.now chains.now nodes.now)
-        (option_or (sizes_fault chains.now nodes.now wires.now) (types_fault plugs.now chains.now nodes.now (wires_of nodes.now wires.now)))))
+    ensures { IfOk result (IsJudged (option_or (option_map CheckFault.NoSuchName (unknown_node nodes.now wires.now))
+        (option_or (ports_fault nodes.now (wires_of nodes.now wires.now)) (option_or (plugs_fault plugs.now chains.now nodes.now)
+        (option_or (sizes_fault chains.now nodes.now wires.now) (types_fault plugs.now chains.now nodes.now (wires_of nodes.now wires.now))))))
         (wires_of nodes.now wires.now)) }
 {
-    let links = links_of(alloc, nodes, wires)?;
-    by_ports(alloc, plugs, chains, nodes, wires, &links)
+    let found = links_or_unknown(alloc, nodes, wires)?;
+    match found {
+        Ok(links) => by_ports(alloc, plugs, chains, nodes, wires, &links),
+        Err(name) => Ok(Judged::Unfit(CheckFault::NoSuchName(name.copy(alloc)?))),
+    }
 }
 
 /// What is found of the parts of a blueprint.
@@ -160,7 +165,7 @@ fn by_parts(
 ) -> Result<Judged, NoMemory>
     ensures { IfOk result (IsJudged (early_of switches.now chains.now nodes.now wires.now plugs.now taken.now) (wires_of nodes.now wires.now)) }
 {
-    match names_fault(alloc, switches, chains, nodes, wires, taken)? {
+    match names_fault(alloc, switches, chains, nodes, taken)? {
         Some(fault) => Ok(Judged::Unfit(fault)),
         None => by_wires(alloc, plugs, chains, nodes, wires),
     }

@@ -1,19 +1,20 @@
 // The rules, some at a time: each answers the fault of the first that is broken.
 ghost use Rattle.std.specs.Prelude.{◌≡◌, ℕ, IfOk, List, None, length};
 ghost use Rattle.std.specs.Option.{option_map, option_or};
+ghost use Rattle.blue_names.specs.Names.{taken_twice, unknown_mention};
 ghost use Rattle.blue_names.specs.Rounds.{type_clash, too_deep, settled};
 ghost use Rattle.blue_names.specs.Links.{AreInRange, wires_of_links};
 ghost use Rattle.blue_names.specs.Outs.{IsOuts};
 ghost use Rattle.blue_names.specs.Wiring.{FindsWires, port_of};
 ghost use Rattle.blue_types.specs.Library.{IsKnown};
 ghost use Rattle.blue_types.specs.Net.{HasFirstWires, type_at};
-ghost use Rattle.blue_check.specs.Fitness.{name_at, open_fault, clash_fault, names_fault, ports_fault, plugs_fault, sizes_fault, types_fault};
+ghost use Rattle.blue_check.specs.Fitness.{name_at, open_fault, clash_fault, ports_fault, plugs_fault, sizes_fault, types_fault};
 
 use crate::fault::CheckFault;
 use blue_names::claims::{plug_twice, taken_twice};
 use blue_names::hubs::hub_wrong;
 use blue_names::links::NumberedWire;
-use blue_names::names::{unknown_name, unknown_plug};
+use blue_names::names::{unknown_mention, unknown_plug};
 use blue_names::ports::{
     OpenPort, PortTable, port_missing, port_open, port_twice, sources_of, targets_of,
 };
@@ -32,21 +33,21 @@ use std::alloc::Global;
 use stream_model::blueprint::{ChainDecl, Node, WireDecl};
 use stream_model::head::PlugHead;
 
-/// The first fault of a name or a file.
+/// The first fault of a name or a file, but for the names of nodes that wires use.
 pub fn names_fault(
     alloc: Global,
     switches: &[Line],
     chains: &[ChainDecl],
     nodes: &[Node],
-    wires: &[WireDecl],
     taken: &[Line],
 ) -> Result<Option<CheckFault>, NoMemory>
-    ensures { IfOk result (λ f. f ≡ names_fault switches.now chains.now nodes.now wires.now taken.now) }
+    ensures { IfOk result (λ f. f ≡ option_or (option_map CheckFault.TwoNames (taken_twice switches.now chains.now nodes.now taken.now))
+        (option_map CheckFault.NoSuchName (unknown_mention switches.now chains.now nodes.now))) }
 {
     if let Some(name) = taken_twice(alloc, switches, chains, nodes, taken)? {
         return Ok(Some(CheckFault::TwoNames(name.copy(alloc)?)));
     }
-    match unknown_name(alloc, switches, chains, nodes, wires)? {
+    match unknown_mention(alloc, switches, chains, nodes)? {
         Some(name) => Ok(Some(CheckFault::NoSuchName(name.copy(alloc)?))),
         None => Ok(None),
     }

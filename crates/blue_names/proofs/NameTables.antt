@@ -13,7 +13,9 @@ use denote.Ref.{Bor}
 use Rattle.elem_core.specs.Values.{same_text}
 use Rattle.blue_names.specs.First.{when}
 use Rattle.blue_names.specs.RuleLinks.{number_from}
-use Rattle.blue_names.specs.Names.{missing}
+use Rattle.stream_model.specs.declared.blueprint.Node.{Node}
+use Rattle.stream_model.specs.declared.blueprint.WireDecl.{WireDecl}
+use Rattle.blue_names.specs.Names.{missing, unknown_end}
 use Rattle.blue_names.specs.Table.{number_in, Numbers}
 
 -- the test is the same both ways
@@ -94,3 +96,20 @@ pub missing_not_there : {S : Type 0} (m : HashMap (Bor (List ℕ)) ℕ S) (name 
 missing_not_there m name names n h =
     let e : list_any (same_text name) names ≡ false = sym (is_some-number_from name 0 names) ∙ ap is_some (sym (n.at name)) ∙ h in
     ap (λ b. when (not b) name) (sym e)
+
+-- a wire whose ends a table has, and one of which it lacks an end
+module _ {S : Type 0} (m : HashMap (Bor (List ℕ)) ℕ S) (nodes : List Node) (w : WireDecl) (n : Numbers m (map (λ x. x.name) nodes)) where
+  known : (name : List ℕ) (a : ℕ) → Some a ≡ number_in m name → missing name (map (λ x. x.name) nodes) ≡ None
+  known name a e = sym (missing_there m name (map (λ x. x.name) nodes) n (ap is_some (sym e)))
+
+  lacked : (name : List ℕ) → None ≡ number_in m name → missing name (map (λ x. x.name) nodes) ≡ Some name
+  lacked name e = sym (missing_not_there m name (map (λ x. x.name) nodes) n (ap is_some (sym e)))
+
+  pub both_known : (a b : ℕ) → Some a ≡ number_in m w.from → Some b ≡ number_in m w.to → unknown_end (map (λ x. x.name) nodes) w ≡ None
+  both_known a b e f = ap (λ o. option_or o (missing w.to (map (λ x. x.name) nodes))) (known w.from a e) ∙ known w.to b f
+
+  pub from_lacked : None ≡ number_in m w.from → unknown_end (map (λ x. x.name) nodes) w ≡ Some w.from
+  from_lacked e = ap (λ o. option_or o (missing w.to (map (λ x. x.name) nodes))) (lacked w.from e)
+
+  pub to_lacked : (a : ℕ) → Some a ≡ number_in m w.from → None ≡ number_in m w.to → unknown_end (map (λ x. x.name) nodes) w ≡ Some w.to
+  to_lacked a e f = ap (λ o. option_or o (missing w.to (map (λ x. x.name) nodes))) (known w.from a e) ∙ lacked w.to f

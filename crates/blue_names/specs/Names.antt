@@ -90,11 +90,17 @@ unknown_at switches chains k = unknown_in switches chains (mention_of k)
 abbrev pub unknown_end : List (List ℕ) → WireDecl → Option (List ℕ)
 unknown_end nodes w = option_or (missing w.from nodes) (missing w.to nodes)
 
+-- the first switch or chain that a node names and that is not declared
+abbrev pub unknown_mention : List (List ℕ) → List ChainDecl → List Node → Option (List ℕ)
+unknown_mention switches chains nodes = first_from (λ _ n. unknown_at switches (map (λ c. c.name) chains) n.kind) 0 nodes
+
+-- the first node that a wire names and that is not declared
+abbrev pub unknown_node : List Node → List WireDecl → Option (List ℕ)
+unknown_node nodes wires = first_from (λ _ w. unknown_end (map (λ n. n.name) nodes) w) 0 wires
+
 -- the first name that is used and not declared: nodes come before wires
 abbrev pub unknown_name : List (List ℕ) → List ChainDecl → List Node → List WireDecl → Option (List ℕ)
-unknown_name switches chains nodes wires =
-    option_or (first_from (λ _ n. unknown_at switches (map (λ c. c.name) chains) n.kind) 0 nodes)
-    (first_from (λ _ w. unknown_end (map (λ n. n.name) nodes) w) 0 wires)
+unknown_name switches chains nodes wires = option_or (unknown_mention switches chains nodes) (unknown_node nodes wires)
 
 -- the plug that is named
 abbrev plug_in : Mention → Option (List ℕ)

@@ -1,8 +1,8 @@
 // Names that are used and not declared.
 ghost use Rattle.std.specs.Prelude.{◌≡◌, ℕ, List, IfOk, map};
-ghost use Rattle.std.specs.Option.{option_map, option_or};
+ghost use Rattle.std.specs.Option.{option_map};
 ghost use Rattle.blue_names.specs.First.{first_from};
-ghost use Rattle.blue_names.specs.Names.{missing, unknown_at, unknown_end, unknown_name, unknown_plug, unknown_plug_at, unknown_in_steps, unknown_in_chains, plug_of};
+ghost use Rattle.blue_names.specs.Names.{missing, unknown_at, unknown_mention, unknown_plug, unknown_plug_at, unknown_in_steps, unknown_in_chains, plug_of};
 ghost use Rattle.blue_names.specs.Table.{Numbers};
 
 use crate::claims::plug_of;
@@ -10,7 +10,7 @@ use crate::table::{NameTable, find, table_of};
 use elem_core::line::Line;
 use elem_core::why::NoMemory;
 use std::alloc::Global;
-use stream_model::blueprint::{ChainDecl, Node, Step, WireDecl};
+use stream_model::blueprint::{ChainDecl, Node, Step};
 use stream_model::head::PlugHead;
 use stream_model::kind::Kind;
 
@@ -61,57 +61,18 @@ fn unknown_in_nodes<'a>(
     None
 }
 
-/// A node that a wire names and that is not declared.
-fn unknown_end<'a>(nodes: &NameTable<'_>, wire: &'a WireDecl) -> Option<&'a Line>
-    ensures { (ns : List (List ℕ)) → Numbers nodes.now ns → option_map (λ l. l.now) result ≡ unknown_end ns wire.now }
-{
-    match missing(nodes, &wire.from) {
-        Some(name) => Some(name),
-        None => missing(nodes, &wire.to),
-    }
-}
-
-/// The first of them among the wires.
-fn unknown_in_wires<'a>(nodes: &NameTable<'_>, wires: &'a [WireDecl]) -> Option<&'a Line>
-    ensures { (ns : List (List ℕ)) → Numbers nodes.now ns
-        → option_map (λ l. l.now) result ≡ first_from (λ _ w. unknown_end ns w) 0 wires.now }
-{
-    for wire in wires {
-        if let Some(name) = unknown_end(nodes, wire) {
-            return Some(name);
-        }
-    }
-    None
-}
-
-/// The first node that a wire names and that is not declared.
-fn unknown_node<'a>(
-    alloc: Global,
-    nodes: &[Node],
-    wires: &'a [WireDecl],
-) -> Result<Option<&'a Line>, NoMemory>
-    ensures { IfOk result (λ name. option_map (λ l. l.now) name ≡ first_from (λ _ w. unknown_end (map (λ n. n.name) nodes.now) w) 0 wires.now) }
-{
-    let table = table_of(alloc, nodes)?;
-    Ok(unknown_in_wires(&table, wires))
-}
-
-/// The first name that is used and not declared.
-pub fn unknown_name<'a>(
+/// The first switch or chain that a node names and that is not declared.
+pub fn unknown_mention<'a>(
     alloc: Global,
     switches: &[Line],
     chains: &[ChainDecl],
     nodes: &'a [Node],
-    wires: &'a [WireDecl],
 ) -> Result<Option<&'a Line>, NoMemory>
-    ensures { IfOk result (λ name. option_map (λ l. l.now) name ≡ unknown_name switches.now chains.now nodes.now wires.now) }
+    ensures { IfOk result (λ name. option_map (λ l. l.now) name ≡ unknown_mention switches.now chains.now nodes.now) }
 {
     let switches = table_of(alloc, switches)?;
     let chains = table_of(alloc, chains)?;
-    match unknown_in_nodes(&switches, &chains, nodes) {
-        Some(name) => Ok(Some(name)),
-        None => unknown_node(alloc, nodes, wires),
-    }
+    Ok(unknown_in_nodes(&switches, &chains, nodes))
 }
 
 /// The plug that a node names, where it is not handed in.

@@ -1,16 +1,34 @@
-use Rattle.std.proofs.Common.{sym, ◌∙◌}
-use Rattle.std.specs.Option.{option_or}
+use Rattle.std.proofs.Common.{IfOk, sym, subst, ◌∙◌}
+use Rattle.std.specs.Option.{option_map, option_or}
 use Rattle.blue_names.specs.RuleLinks.{wires_of}
-use Rattle.blue_names.specs.Links.{wires_of_links}
-use Rattle.blue_check.specs.Fitness.{names_fault, ports_fault, plugs_fault, sizes_fault, types_fault}
-use Rattle.blue_check.specs.Wires.{blueprint_wires}
-use Rattle.blue_check.proofs.Verdicts.{judged_first, answer_next}
+use Rattle.blue_names.specs.Names.{taken_twice, unknown_mention, unknown_node}
+use Rattle.blue_check.specs.declared.fault.CheckFault.TheVariants.{TwoNames, NoSuchName}
+use Rattle.blue_check.specs.declared.judge.Judged.TheVariants.{Unfit}
+use Rattle.blue_check.specs.Fitness.{ports_fault, plugs_fault, sizes_fault, types_fault}
+use Rattle.blue_check.specs.Judging.{IsJudged}
+use Rattle.blue_check.proofs.Verdicts.{judged_first, answer_next, names_apart}
 use Rattle.blue_check.proofs.judge.by_parts.Goals as goal
 
 pub returns-in-Some : goal.returns-in-Some
 returns-in-Some c =
-    judged_first (names_fault c.args.switches.now c.args.chains.now c.args.nodes.now c.args.wires.now c.args.taken.now) (option_or (ports_fault c.args.nodes.now (wires_of c.args.nodes.now c.args.wires.now)) (option_or (plugs_fault c.args.plugs.now c.args.chains.now c.args.nodes.now) (option_or (sizes_fault c.args.chains.now c.args.nodes.now c.args.wires.now) (types_fault c.args.plugs.now c.args.chains.now c.args.nodes.now (wires_of c.args.nodes.now c.args.wires.now))))) (wires_of c.args.nodes.now c.args.wires.now) c.in-Some.fault (sym c.in-Some.is ∙ c.in_ok-fault.ensures)
+    let n = c.args.nodes.now in
+    let ch = c.args.chains.now in
+    let ws = wires_of n c.args.wires.now in
+    let twice = option_map TwoNames (taken_twice c.args.switches.now ch n c.args.taken.now) in
+    let mention = unknown_mention c.args.switches.now ch n in
+    let node = unknown_node n c.args.wires.now in
+    let rest = option_or (ports_fault n ws) (option_or (plugs_fault c.args.plugs.now ch n) (option_or (sizes_fault ch n c.args.wires.now) (types_fault c.args.plugs.now ch n ws))) in
+    subst (λ o. IsJudged o ws (Unfit c.in-Some.fault)) (names_apart twice rest mention node)
+    (judged_first (option_or twice (option_map NoSuchName mention)) (option_or (option_map NoSuchName node) rest) ws c.in-Some.fault (sym c.in-Some.is ∙ c.in_ok-fault.ensures))
 
 pub returns-in-None : goal.returns-in-None
 returns-in-None c =
-    answer_next (names_fault c.args.switches.now c.args.chains.now c.args.nodes.now c.args.wires.now c.args.taken.now) (option_or (ports_fault c.args.nodes.now (wires_of c.args.nodes.now c.args.wires.now)) (option_or (plugs_fault c.args.plugs.now c.args.chains.now c.args.nodes.now) (option_or (sizes_fault c.args.chains.now c.args.nodes.now c.args.wires.now) (types_fault c.args.plugs.now c.args.chains.now c.args.nodes.now (wires_of c.args.nodes.now c.args.wires.now))))) (wires_of c.args.nodes.now c.args.wires.now) c.by_wires.result (sym c.in-None.is ∙ c.in_ok-fault.ensures) c.by_wires.ensures
+    let n = c.args.nodes.now in
+    let ch = c.args.chains.now in
+    let ws = wires_of n c.args.wires.now in
+    let twice = option_map TwoNames (taken_twice c.args.switches.now ch n c.args.taken.now) in
+    let mention = unknown_mention c.args.switches.now ch n in
+    let node = unknown_node n c.args.wires.now in
+    let rest = option_or (ports_fault n ws) (option_or (plugs_fault c.args.plugs.now ch n) (option_or (sizes_fault ch n c.args.wires.now) (types_fault c.args.plugs.now ch n ws))) in
+    subst (λ o. IfOk c.by_wires.result (IsJudged o ws)) (names_apart twice rest mention node)
+    (answer_next (option_or twice (option_map NoSuchName mention)) (option_or (option_map NoSuchName node) rest) ws c.by_wires.result (sym c.in-None.is ∙ c.in_ok-fault.ensures) c.by_wires.ensures)

@@ -6,6 +6,7 @@ pub mod Word
 pub mod Ring
 pub mod ActList
 pub mod Picks
+pub mod PickPlaces
 pub mod View
 pub mod Call
 pub mod Wire

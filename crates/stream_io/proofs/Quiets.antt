@@ -1,11 +1,11 @@
 -- Counts that follow one another, and files that no step changed.
 use Rattle.std.proofs.Common.{◌≡◌, ◌≢◌, ℕ, ◌+◌, ◌<◌, ◌≤◌, List, inl, inr, sym, ap, ◌∙◌, subst, arith}
-use Rattle.std.specs.Prelude.{Option, Some, None, IfSome, IsSome, IsTrue}
+use Rattle.std.specs.Prelude.{take, Option, Some, None, IfSome, IsSome, IsTrue}
 use Rattle.std.specs.Option.{option_map}
 use Rattle.stream_io.specs.Counts.{last_count, Rose, Grew, GrewAtMost}
 use Rattle.stream_io.specs.State.{FolderState, SourceState, SameFiles, SameFaults, SameRefusals, OpensSource, ClosesSource}
 use Rattle.stream_io.proofs.Counts.{grew_same, grew_two, quiet_same, quiet_two, same_name}
-use Rattle.stream_io.specs.Text.{text_limit, text_of_file, ReadsFile, FailsToRead, StaysQuiet}
+use Rattle.stream_io.specs.Text.{ReadsUpTo, FailsToRead, StaysQuiet}
 
 -- a folder whose files no step changed tells them behind it as before
 pub tells_behind : (s t : FolderState) → SameFiles s t → IsTrue s.tells → IsTrue t.tells
@@ -22,9 +22,9 @@ files_two s t u p q = record {
 }
 
 -- a whole that is told gives its text
-text_told : (o w : Option (List ℕ)) (text : List ℕ) → w ≡ o → IsSome o → IfSome w (λ b. text ≡ text_of_file b) → option_map text_of_file o ≡ Some text
-text_told None w text e h p = cc
-text_told (Some b) w text e h p = ap Some (sym (subst (λ o. IfSome o (λ b. text ≡ text_of_file b)) e p))
+text_told : (limit : ℕ) (o w : Option (List ℕ)) (text : List ℕ) → w ≡ o → IsSome o → IfSome w (λ b. text ≡ take limit b) → option_map (λ b. take limit b) o ≡ Some text
+text_told limit None w text e h p = cc
+text_told limit (Some b) w text e h p = ap Some (sym (subst (λ o. IfSome o (λ b. text ≡ take limit b)) e p))
 
 -- of another name's file nothing is read
 others_unread : (s t u : FolderState) (name : List ℕ) (h h' : SourceState) → OpensSource s name h → SameFaults s t → h'.name ≡ h.name → ClosesSource t u h' → (n : List ℕ) → n ≢ name → u.read n ≡ s.read n
@@ -89,17 +89,17 @@ most_later old mid new n p q = record {
 }
 
 -- of the file that was opened, read so far and closed
-pub closed_most : (s t u : FolderState) (name : List ℕ) (h h' : SourceState) → OpensSource s name h → SameFaults s t → h'.name ≡ h.name → h'.given ≤ text_limit → ClosesSource t u h' → GrewAtMost (s.read name) text_limit (u.read name)
-closed_most s t u name h h' opened faults same few closed =
+pub closed_most : (limit : ℕ) (s t u : FolderState) (name : List ℕ) (h h' : SourceState) → OpensSource s name h → SameFaults s t → h'.name ≡ h.name → h'.given ≤ limit → ClosesSource t u h' → GrewAtMost (s.read name) limit (u.read name)
+closed_most limit s t u name h h' opened faults same few closed =
     let is : h'.name ≡ name = same ∙ opened.name_is in
-    read_most (s.read name) (t.read name) text_limit (u.read name) (faults.read name) h'.given few (subst (λ n. Grew (t.read n) h'.given (u.read n)) is closed.read)
+    read_most (s.read name) (t.read name) limit (u.read name) (faults.read name) h'.given few (subst (λ n. Grew (t.read n) h'.given (u.read n)) is closed.read)
 
-pub file_read : (s t u : FolderState) (name text : List ℕ) (h h' : SourceState) → OpensSource s name h → SameFiles s t → SameFaults s t → SameRefusals s t → h'.name ≡ h.name → h'.faults ≡ h.faults → IfSome h.whole (λ w. text ≡ text_of_file w) → ClosesSource t u h' → SameFiles t u → ReadsFile s u name text
-file_read s t u name text h h' opened files faults refusals same_name same_faults bytes closed same =
+pub file_read : (limit : ℕ) (s t u : FolderState) (name text : List ℕ) (h h' : SourceState) → OpensSource s name h → SameFiles s t → SameFaults s t → SameRefusals s t → h'.name ≡ h.name → h'.faults ≡ h.faults → IfSome h.whole (λ w. text ≡ take limit w) → ClosesSource t u h' → SameFiles t u → ReadsUpTo limit s u name text
+file_read limit s t u name text h h' opened files faults refusals same_name same_faults bytes closed same =
     let quiet = closed_quiet s t u name h h' opened files faults refusals same_name same_faults closed same in
     record {
       files = quiet.files;
-      text_is = λ tells. text_told (s.file name) h.whole text (opened.whole tells) (opened.there tells) bytes;
+      text_is = λ tells. text_told limit (s.file name) h.whole text (opened.whole tells) (opened.there tells) bytes;
       read = quiet.read;
       refusals = quiet.refusals;
       rfaults = quiet.rfaults;

@@ -1,6 +1,5 @@
 use Rattle.std.proofs.Common.{◌≡◌, ◌+◌, arith, ap, ◌∙◌, sym, Ok}
 use Rattle.std.specs.Vec.{vec_len}
-use Rattle.stream_io.specs.Text.{text_limit}
 use Rattle.stream_io.proofs.Texts.{first_bytes_more, within_more, first_bytes_end, first_bytes_limit}
 use Rattle.stream_io.proofs.text.read_all.Goals as goal
 
@@ -9,7 +8,7 @@ returns-in-Ok-eq0-clause-text g c =
     let kept = c.loop-source.invariant in
     let e = c.in-Ok-eq0.ensures in
     let none = ap Ok c.in-Ok-eq0.field-0-test in
-    first_bytes_end _ _ _ _ _ _ text_limit kept.whole kept.given kept.limit (e.nothing none) kept.bytes (e.end none)
+    first_bytes_end _ _ _ _ _ _ c.args.limit kept.whole kept.given kept.limit (e.nothing none) kept.bytes (e.end none)
 
 pub loop-source-preserved : goal.loop-source-preserved
 loop-source-preserved g c =
@@ -27,5 +26,5 @@ loop-source-preserved g c =
 
 pub returns-clause-text : goal.returns-clause-text
 returns-clause-text g c =
-    let all : vec_len c.loop-source.text ≡ text_limit = omega arith in
+    let all : vec_len c.loop-source.text ≡ c.args.limit = omega arith in
     first_bytes_limit _ _ _ _ all c.loop-source.invariant.bytes

@@ -1,14 +1,13 @@
 use Rattle.std.proofs.Common.{◌≡◌, ◌≤◌, ◌-◌, take, length}
 use Rattle.std.specs.Prelude.{IfSome}
 use Rattle.std.specs.Vec.{vec_len}
-use Rattle.stream_io.specs.Text.{text_limit}
 use Rattle.stream_io.proofs.text.read_all.Given as goal
 
 abbrev pub invariant-loop-source : goal.invariant-loop-source
 invariant-loop-source g l =
     let state = g.S.Source.state in
     record {
-      limit : vec_len l.text ≤ text_limit;
+      limit : vec_len l.text ≤ l.limit;
       given : (state l.source).given ≡ vec_len l.text;
       bytes : IfSome (state l.initial.source).whole (λ whole. l.text.items ≡ take (vec_len l.text) whole);
       within : IfSome (state l.initial.source).whole (λ whole. vec_len l.text ≤ length whole);
@@ -18,4 +17,4 @@ invariant-loop-source g l =
     }
 
 abbrev pub decreases-loop-source : goal.decreases-loop-source
-decreases-loop-source g l = text_limit - vec_len l.text
+decreases-loop-source g l = l.limit - vec_len l.text

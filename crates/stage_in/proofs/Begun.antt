@@ -1,6 +1,7 @@
 -- A new stage takes its inputs as the model says of its kind, and so what it gave agrees with the outlook of its output.
 use Rattle.std.specs.Prelude.{slice_index_or}
-use Rattle.std.proofs.Common.{◌≡◌, ℕ, ◌≤◌, true, false, List, [], ◌∷◌, length, refl, sym, ap, ◌∙◌, subst, arith, Option, Some, None}
+use Rattle.std.specs.Option.{option_map}
+use Rattle.std.proofs.Common.{◌≡◌, ℕ, ◌≤◌, Bool, true, false, List, [], ◌∷◌, ◌++◌, length, refl, sym, ap, ◌∙◌, subst, arith, Option, Some, None}
 use Rattle.elem_core.specs.Tree.{Tree}
 use Rattle.elem_core.specs.declared.item.Item.{Item}
 use Rattle.elem_core.specs.declared.why.Decider.{Decider}
@@ -30,8 +31,8 @@ use Rattle.stage_in.specs.Zippings as zipping
 use Rattle.stage_merge.specs.Mergings as merging
 use Rattle.stage_merge.specs.Mergings.{Merging}
 use Rattle.stage_merge.proofs.MergeNodes as merge
-use Rattle.stage_in.specs.Logics.{Begins, IsFanIn, IsOrdered, TakesAs, inputs_of, SameKind, InLaw}
-use Rattle.stage_in.specs.Moves.{in_picks, TellsMoves}
+use Rattle.stage_in.specs.Logics.{Begins, IsFan, IsFanIn, IsOrdered, TakesAs, inputs_of, SameKind, InLaw}
+use Rattle.stage_in.specs.Moves.{in_picks, in_plan, TellsMoves}
 use Rattle.stage_in.proofs.Takes.{no_hold, new_row}
 
 -- ---- what it gave agrees
@@ -74,8 +75,8 @@ module _ (w : Graph) (world : World) (node : ℕ) (d : Decider) (is : List Outlo
   takes_agree Zip (logic.Zipping f) (logic.Zipping l) t many tells law h =
       let p = law.by.law in
       zip_agrees is p.ins p.out_list p.out_end many h (zip_history_stands (zipping.held l) v (λ i. slice_index_or took i []) law.by.given p)
-  takes_agree (Merge n) (logic.Merging f) (logic.Merging l) t many tells law h = merge.output_agrees is f l v took gave (record { unmoved = law.same.0; way = law.same.1; by = law.by }) h w world node n d (tells l.log.moves refl) t
-  takes_agree (MergeHub s n) (logic.Merging f) (logic.Merging l) t many tells law h = merge.hub_agrees is f l v took gave (record { unmoved = law.same.0; way = law.same.1; by = law.by }) h w world node s n d (tells l.log.moves refl) t
+  takes_agree (Merge n) (logic.Merging f) (logic.Merging l) t many tells law h = merge.output_agrees is f l v took gave (record { unmoved = law.same.0; way = law.same.1.0; plan = law.same.1.1; by = law.by }) h w world node n d (tells l.log.moves refl) t.way
+  takes_agree (MergeHub s n) (logic.Merging f) (logic.Merging l) t many tells law h = merge.hub_agrees is f l v took gave (record { unmoved = law.same.0; way = law.same.1.0; plan = law.same.1.1; by = law.by }) h w world node s n d (tells l.log.moves refl) t.way
   takes_agree (Concat n) (logic.Taking f) now t many tells law h = absurd law.same
   takes_agree (Interleave n s) (logic.Taking f) now t many tells law h = absurd law.same
   takes_agree MergeSorted (logic.Sorting f) now t many tells law h = absurd law.same
@@ -96,9 +97,9 @@ takes_fit w world node (Interleave n s) is (logic.Taking f) now v took gave t te
 takes_fit w world node MergeSorted is (logic.Sorting f) now v took gave t tells law h = refl
 takes_fit w world node Zip is (logic.Zipping f) now v took gave t tells law h = refl
 takes_fit w world node (Merge n) is (logic.Merging f) (logic.Merging l) v took gave t tells law h =
-    subst (λ ms. merge_fits ms is ≡ true) (sym (tells l.log.moves refl)) (merge.moves_fit is f l v took gave (record { unmoved = law.same.0; way = law.same.1; by = law.by }) h)
+    subst (λ ms. merge_fits ms is ≡ true) (sym (tells l.log.moves refl)) (merge.moves_fit is f l v took gave (record { unmoved = law.same.0; way = law.same.1.0; plan = law.same.1.1; by = law.by }) h)
 takes_fit w world node (MergeHub s n) is (logic.Merging f) (logic.Merging l) v took gave t tells law h =
-    subst (λ ms. merge_fits ms is ≡ true) (sym (tells l.log.moves refl)) (merge.moves_fit is f l v took gave (record { unmoved = law.same.0; way = law.same.1; by = law.by }) h)
+    subst (λ ms. merge_fits ms is ≡ true) (sym (tells l.log.moves refl)) (merge.moves_fit is f l v took gave (record { unmoved = law.same.0; way = law.same.1.0; plan = law.same.1.1; by = law.by }) h)
 takes_fit w world node (Merge n) is (logic.Merging f) now v took gave t tells law h = absurd law.same
 takes_fit w world node (MergeHub s n) is (logic.Merging f) now v took gave t tells law h = absurd law.same
 takes_fit w world node kind is first now v took gave t tells law h = absurd t
@@ -147,6 +148,16 @@ concat_begins node n d l two few b = taking_begins node (Concat n) d n None l tw
 interleave_begins : (node n k : ℕ) (d : Decider) (l : Taking) → 2 ≤ n → n ≤ MAX_FAN → taking.Begins n (Some k) l → Begins node (Interleave n k) d (logic.Taking l)
 interleave_begins node n k d l two few b = taking_begins node (Interleave n k) d n (Some k) l two few b refl (b.by, interleave_takes l k b.by b.current (b.whole k refl))
 
+merging_begins : (node : ℕ) (d : Decider) (n : ℕ) (l : Merging) → (1 ≤ n) × (n ≤ MAX_FAN) → merging.Begins n false l → Begins node (Merge n) d (logic.Merging l)
+merging_begins node d n l f b =
+    let start = merge.new_may_start n false l f.0 f.1 b in
+    record { fresh = (start.fresh, start.unmoved); takes = b; ready = start.ports }
+
+hub_begins : (node : ℕ) (d : Decider) (s n : ℕ) (l : Merging) → (1 ≤ n) × (n ≤ MAX_FAN) → merging.Begins n true l → Begins node (MergeHub s n) d (logic.Merging l)
+hub_begins node d s n l f b =
+    let start = merge.new_may_start n true l f.0 f.1 b in
+    record { fresh = (start.fresh, start.unmoved); takes = b; ready = start.ports }
+
 sorted_begins : (node : ℕ) (d : Decider) → Begins node MergeSorted d (logic.Sorting new_pair)
 sorted_begins node d = record { fresh = refl; takes = tt; ready = (refl, ((refl, refl), ((refl, refl), refl))) }
 
@@ -178,11 +189,42 @@ module _ (node : ℕ) (kind : Kind) (d : Decider) (new : InLogic) where
   merge_new n l fit is to b =
       let f = subst IsFanIn is fit in
       let two : 2 ≤ n = f.0 in
-      let start = merge.new_may_start n false l (omega (arith, two)) f.1 b in
-      as_kind (Merge n) (logic.Merging l) is to (record { fresh = (start.fresh, start.unmoved); takes = b.way; ready = start.ports })
+      as_kind (Merge n) (logic.Merging l) is to (merging_begins node d n l (omega (arith, two), f.1) b)
 
   pub hub_new : (s n : ℕ) (l : Merging) → IsFanIn kind → kind ≡ MergeHub s n → new ≡ logic.Merging l → merging.Begins n true l → Begins node kind d new
   hub_new s n l fit is to b =
       let f = subst IsFanIn is fit in
-      let start = merge.new_may_start n true l f.0 f.1 b in
-      as_kind (MergeHub s n) (logic.Merging l) is to (record { fresh = (start.fresh, start.unmoved); takes = b.way; ready = start.ports })
+      as_kind (MergeHub s n) (logic.Merging l) is to (hub_begins node d s n l f b)
+
+-- ---- one that follows moves
+
+-- a new merge of so many inputs is one of no other number
+one_fan : (m n : ℕ) (a b : Bool) (l : Merging) → merging.Begins m a l → merging.Begins n b l → m ≡ n
+one_fan m n a b l x y = ap (λ (c : merging.Core). c.room) (sym x.core ∙ y.core)
+
+-- it begins as it did
+pub follows : (node : ℕ) (kind : Kind) (d : Decider) (n : ℕ) (g : Bool) (old new : Merging) → (1 ≤ n) × (n ≤ MAX_FAN) → merging.Begins n g old → ((k : ℕ) (a : Bool) → merging.Begins k a old → merging.Begins k a new)
+    → Begins node kind d (logic.Merging old) → Begins node kind d (logic.Merging new)
+follows node (Merge m) d n g old new f b on h =
+    let e : m ≡ n = one_fan m n false g old h.takes b in
+    merging_begins node d m new (subst (λ k. (1 ≤ k) × (k ≤ MAX_FAN)) (sym e) f) (on m false h.takes)
+follows node (MergeHub s m) d n g old new f b on h =
+    let e : m ≡ n = one_fan m n true g old h.takes b in
+    hub_begins node d s m new (subst (λ k. (1 ≤ k) × (k ≤ MAX_FAN)) (sym e) f) (on m true h.takes)
+follows node (Concat m) d n g old new f b on h = absurd h.takes
+follows node (Interleave m s) d n g old new f b on h = absurd h.takes
+follows node MergeSorted d n g old new f b on h = absurd h.takes
+follows node Zip d n g old new f b on h = absurd h.takes
+follows node kind d n g old new f b on h = absurd h.takes
+
+-- where its moves name its inputs
+pub names_on : (n : ℕ) (g : Bool) (old new : Merging) (moves : List ℕ) → merging.Begins n g old → merging.NamesInputs n (Some moves)
+    → ((k : ℕ) → (a : Bool) → merging.Begins k a old → merging.NamesInputs k (Some moves) → merging.Begins k a new) → (k : ℕ) (a : Bool) → merging.Begins k a old → merging.Begins k a new
+names_on n g old new moves first named on k a b = on k a b (subst (λ (j : ℕ). merging.NamesInputs j (Some moves)) (sym (one_fan k n a g old b first)) named)
+
+-- one that takes moves is a merge
+pub followed_plan : (old new : InLogic) (l m : Merging) (moves : List ℕ) → new ≡ logic.Merging m → m.log.left ≡ Some moves → m.log.moves ≡ [] → in_plan new ≡ Some moves
+followed_plan old new l m moves is left none = ap in_plan is ∙ ap (λ (o : Option (List ℕ)). option_map (λ (x : List ℕ). m.log.moves ++ x) o) left ∙ ap (λ (x : List ℕ). Some (x ++ moves)) none
+
+pub free_plan : (new : InLogic) (m : Merging) → new ≡ logic.Merging m → m.log.left ≡ None → in_plan new ≡ None
+free_plan new m is left = ap in_plan is ∙ ap (λ (o : Option (List ℕ)). option_map (λ (x : List ℕ). m.log.moves ++ x) o) left

@@ -1,14 +1,14 @@
 -- A call of a handler is what the trait of a stage asks; one of an output is of the one output.
-use Rattle.std.specs.Prelude.{Result, OnOk, slice_index_or}
+use Rattle.std.specs.Prelude.{Result, OnOk, slice_index_or, Option}
 use Rattle.std.proofs.Common.{◌≡◌, ◌≤◌, ℕ, zero, suc, Bool, true, false, List, [], ◌∷◌, length, refl, sym, ap, subst, arith}
 use Rattle.elem_core.specs.Prefix.{IsPrefix}
 use Rattle.port_core.specs.declared.act.Act.{Act}
 use Rattle.port_core.specs.declared.view.OutView.{OutView}
 use Rattle.port_core.specs.declared.view.OutView.TheVariants as outlet
-use Rattle.port_core.specs.View.{View, IsOutOpen}
-use Rattle.port_core.specs.Call.{Call, starts, pulls, arrives, cancels, CallAllowed, Meets, Obeys}
+use Rattle.port_core.specs.View.{View, IsOutOpen, acted_all}
+use Rattle.port_core.specs.Call.{Call, starts, pulls, arrives, cancels, CallAllowed, Meets, seen, Obeys}
 use Rattle.stage_core.specs.declared.stage.TheConstants.{MOST_ACTS}
-use Rattle.stage_core.specs.Handling.{Handles}
+use Rattle.stage_core.specs.Handling.{PullsAs, Handles}
 use Rattle.stage_core.proofs.OnOks.{on_ok_two}
 use Rattle.stage_in.proofs.OnOks.{on_ok}
 use Rattle.stage_core.specs.declared.phase.Phase.{Phase}
@@ -21,9 +21,9 @@ use Rattle.stage_in.specs.Takings as taking
 use Rattle.stage_in.specs.Sortings as sorted
 use Rattle.stage_in.specs.Zippings as zipping
 use Rattle.stage_merge.specs.Mergings as merging
-use Rattle.stage_in.specs.Logics.{port_state, room_of, Turned, InFresh, InPortState, InLaw}
+use Rattle.stage_in.specs.Logics.{port_state, room_of, InAsking, Turned, InFresh, InPortState, InLaw}
 use Rattle.stage_in.specs.Moves.{in_moves}
-use Rattle.stage_in.proofs.Nodes.{called_fits, handled, turned_grows}
+use Rattle.stage_in.proofs.Nodes.{called_fits, handled, turned_asks, turned_grows}
 
 -- ---- it has one output
 
@@ -41,16 +41,20 @@ one_pairing Sound New l v r = ap (λ (w : View). length w.outs) r.0
 one_pairing Sound Open l v r = ap (λ (w : View). length w.outs) r.0
 one_pairing Sound Closed l v r = one_closed v.outs r.1
 
-one_merging : (p : Phase) (l : merging.Core) (v : View) → merging.port_state_by p l v → length v.outs ≡ 1
-one_merging New l v r = ap (λ (w : View). length w.outs) r.0
-one_merging Open l v r = ap (λ (w : View). length w.outs) r.0
-one_merging Closed l v r = one_closed v.outs r.1
+one_merging : (p : Phase) (plan : Option (List ℕ)) (l : merging.Core) (v : View) → merging.port_state_by p plan l v → length v.outs ≡ 1
+one_merging New plan l v r = ap (λ (w : View). length w.outs) r.0
+one_merging Open plan l v r = ap (λ (w : View). length w.outs) r.0
+one_merging Closed plan l v r = one_closed v.outs r.1
+
+one_merged : (b : Bool) (l : merging.Merging) (v : View) → merging.port_state_in b l v → length v.outs ≡ 1
+one_merged false l v r = one_merging l.core.phase l.log.left l.core v r
+one_merged true l v r = r.one
 
 one_output : (l : InLogic) (v : View) → port_state l v → length v.outs ≡ 1
 one_output (logic.Taking l) v r = one_taking l.live l v r
 one_output (logic.Sorting l) v r = one_pairing sorted.Sound l.phase l v r
 one_output (logic.Zipping l) v r = one_pairing zipping.Sound l.phase l v r
-one_output (logic.Merging l) v r = one_merging l.core.phase l.core v r
+one_output (logic.Merging l) v r = one_merged l.log.stuck l v r
 
 -- the same call of that output
 abbrev pub at_output : Call → Call
@@ -98,3 +102,7 @@ handles call old new acts r n m o t =
 
 pub grows : {T E : Type 0} (call : Call) (old new : InLogic) (acts : List Act) (r : Result T E) → OnOk r (Turned call old acts new) → OnOk r (IsPrefix (in_moves old) (in_moves new))
 grows call old new acts r t = on_ok r (turned_grows call old new acts) t
+
+-- one that asks has not stopped
+pub asks : {T E : Type 0} (call own : Call) (Before : View → Type 0) (old new : InLogic) (acts : List Act) (r : Result T E) → OnOk r (Turned own old acts new) → OnOk r (PullsAs call Before (InAsking new) acts)
+asks call own Before old new acts r t = on_ok r (λ q v may before p. turned_asks own old new acts (acted_all (seen call v) acts) q p) t

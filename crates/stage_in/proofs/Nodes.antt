@@ -1,5 +1,5 @@
 -- The stages with several inputs as nodes: where they are open, what they know between calls, and how calls keep their law.
-use Rattle.std.specs.Prelude.{slice_index_or}
+use Rattle.std.specs.Prelude.{slice_index_or, Option}
 use Rattle.std.proofs.Common.{◌≡◌, ℕ, zero, suc, ◌+◌, ◌≤◌, Bool, true, false, List, [], ◌∷◌, length, refl, sym, ap, ◌∙◌, subst, arith, None}
 use Rattle.elem_core.specs.Tree.{Tree}
 use Rattle.elem_core.specs.declared.item.Item.{Item}
@@ -11,14 +11,14 @@ use Rattle.port_core.specs.declared.view.OutView.TheVariants as outlet
 use Rattle.port_core.specs.View.{View, ActsAllowed, acted_all}
 use Rattle.port_core.specs.Asking.{PullsStand}
 use Rattle.port_core.specs.Call.{AllIdle, AllUnpulled, Call, starts, CallAllowed, Meets, seen, Obeys, given_on}
-use Rattle.stream_model.specs.Outlook.{End, unended}
-use Rattle.stream_model.specs.FanIn.{Inflow}
+use Rattle.stream_model.specs.Outlook.{Outlook, End, unended}
+use Rattle.stream_model.specs.FanIn.{Inflow, AllAgree}
 use Rattle.stream_model.specs.View as picture
 use Rattle.elem_core.specs.Prefix.{IsPrefix}
 use Rattle.stream_model.specs.Rests.{SortedRests, ZipRests}
 use Rattle.stream_model.specs.declared.kind.TheConstants.{MAX_FAN}
 use Rattle.stage_core.specs.declared.stage.TheConstants.{MOST_ACTS}
-use Rattle.stage_core.specs.Handling.{Starts, Handles}
+use Rattle.stage_core.specs.Handling.{Pulls, Starts, Handles}
 use Rattle.stage_core.specs.Histories.{given_all, brought_by, AllEmpty}
 use Rattle.stage_core.specs.Law.{GaveAs}
 use Rattle.stage_core.specs.Inflows.{PortsLaw, nothing_came, untouched}
@@ -26,7 +26,7 @@ use Rattle.stage_core.specs.Fans.{FanHeld, FanTurnAt, FanKeeps}
 use Rattle.stage_core.specs.Fans as fan
 use Rattle.stage_core.specs.Zips.{ZipHeld, ZipKeeps}
 use Rattle.stage_core.specs.Zips as zip
-use Rattle.stage_core.specs.Merges.{MergeTurnAt, call_by}
+use Rattle.stage_core.specs.Merges.{call_by}
 use Rattle.stage_core.proofs.FanTurns.{fan_new}
 use Rattle.stage_core.proofs.ZipTurns.{zip_new}
 use Rattle.stage_core.specs.declared.phase.Phase.{Phase}
@@ -43,12 +43,15 @@ use Rattle.stage_in.specs.Takings.{Taking}
 use Rattle.stage_in.specs.Sortings as sorted
 use Rattle.stage_in.specs.Zippings as zipping
 use Rattle.stage_merge.specs.Mergings as merging
-use Rattle.stage_merge.specs.Mergings.{Merging}
+use Rattle.stage_merge.specs.Mergings.{Merging, OwesAt}
+use Rattle.stage_merge.specs.Rows.{MergeRestsBy, MergeMisfits}
+use Rattle.stage_merge.proofs.Mergers.{new_is_calm}
 use Rattle.stage_merge.proofs.MergeNodes as merge
+use Rattle.port_core.specs.Picks.{next_move}
 use Rattle.stage_core.specs.OwnRows.{FanRests}
 use Rattle.stage_core.specs.PortsLaws.{InPortsLaw}
-use Rattle.stage_in.specs.Logics.{IsNew, IsOpen, IsStarted, room_of, port_state, Turned, InFresh, InPortState, InLaw, KindRests}
-use Rattle.stage_in.specs.Moves.{in_moves}
+use Rattle.stage_in.specs.Logics.{InAsking, IsNew, IsOpen, IsStarted, room_of, port_state, Turned, InFresh, InPortState, InLaw, KindRests, FreeRests, NotStuck, StopsRightly}
+use Rattle.stage_in.specs.Moves.{in_moves, in_plan}
 use Rattle.stage_core.proofs.Closings.{none_called, closed_rests}
 use Rattle.stage_in.proofs.Rests.{taking_rests, sorting_rests, zipping_rests}
 use Rattle.stage_core.proofs.Histories.{begun}
@@ -119,16 +122,48 @@ rests_of P Sound l v ins g Open e s r long at =
     subst (λ fs. FanRests P v fs g) (sym two.is) (at two.a two.b two.is e)
 rests_of P Sound l v ins g Closed e s r long at = closed_rests P v ins g r
 
-pub logic_rests : (first now : InLogic) (v : View) (took gave : List (List Item)) → IsStarted now → port_state now v → (law : InLaw first now v took gave) → FanRests (KindRests now) v law.by.law.ins law.by.law.out_list
-logic_rests (logic.Taking f) (logic.Taking l) v took gave s r law = taking_rests l v law.by.law.ins law.by.law.out_list r law.by.law.ports
-logic_rests (logic.Sorting f) (logic.Sorting l) v took gave s r law =
+-- a merge's law is that of its kind
+abbrev pub merge_law : (f l : Merging) (v : View) (took gave : List (List Item)) → InLaw (logic.Merging f) (logic.Merging l) v took gave → merging.MergesAs f l v took gave
+merge_law f l v took gave law = record { unmoved = law.same.0; way = law.same.1.0; plan = law.same.1.1; by = law.by }
+
+pub logic_rests : (first now : InLogic) (v : View) (took gave : List (List Item)) → IsStarted now → NotStuck now → port_state now v → (law : InLaw first now v took gave) → FanRests (KindRests now) v law.by.law.ins law.by.law.out_list
+logic_rests (logic.Taking f) (logic.Taking l) v took gave s on r law = taking_rests l v law.by.law.ins law.by.law.out_list r law.by.law.ports
+logic_rests (logic.Sorting f) (logic.Sorting l) v took gave s on r law =
     rests_of SortedRests sorted.Sound l v law.by.law.ins law.by.law.out_list l.phase refl s r law.by.law.ports
     (λ a b is e. sorting_rests l v a b law.by.law.out_list law.by.law.out_end e r (subst (λ fs. FanKeeps sorting sorted.nowhere (sorted.held l) fs law.by.law.out_list law.by.law.out_end) is law.by.law.keeps))
-logic_rests (logic.Zipping f) (logic.Zipping l) v took gave s r law =
+logic_rests (logic.Zipping f) (logic.Zipping l) v took gave s on r law =
     rests_of ZipRests zipping.Sound l v law.by.law.ins law.by.law.out_list l.phase refl s r law.by.law.ports
     (λ a b is e. zipping_rests l v a b law.by.law.out_list law.by.law.out_end e r (subst (λ fs. ZipKeeps (zipping.held l) fs law.by.law.out_list law.by.law.out_end) is law.by.law.keeps))
-logic_rests (logic.Merging f) (logic.Merging l) v took gave s r law = merge.logic_rests f l v took gave (record { started = s; ports = r }) (record { unmoved = law.same.0; way = law.same.1; by = law.by })
-logic_rests first now v took gave s r law = absurd law.same
+logic_rests (logic.Merging f) (logic.Merging l) v took gave s on r law = merge.logic_rests f l v took gave on (record { started = s; ports = r }) (merge_law f l v took gave law)
+logic_rests first now v took gave s on r law = absurd law.same
+
+-- one that was handed in to choose by itself still does so, and meets the row of its kind
+pub free_rests : (first now : InLogic) (v : View) (took gave : List (List Item)) → in_plan first ≡ None → IsStarted now → port_state now v → (law : InLaw first now v took gave) → FanRests (FreeRests now) v law.by.law.ins law.by.law.out_list
+free_rests (logic.Taking f) (logic.Taking l) v took gave none s r law = logic_rests (logic.Taking f) (logic.Taking l) v took gave s tt r law
+free_rests (logic.Sorting f) (logic.Sorting l) v took gave none s r law = logic_rests (logic.Sorting f) (logic.Sorting l) v took gave s tt r law
+free_rests (logic.Zipping f) (logic.Zipping l) v took gave none s r law = logic_rests (logic.Zipping f) (logic.Zipping l) v took gave s tt r law
+free_rests (logic.Merging f) (logic.Merging l) v took gave none s r law =
+    let free = merge.stays_free f l v took gave (merge.none_left_over f.log none) (merge_law f l v took gave law) in
+    subst (λ (o : Option (List ℕ)). FanRests (MergeRestsBy (next_move o) l.log.moves) v law.by.law.ins law.by.law.out_list) free.none
+    (logic_rests (logic.Merging f) (logic.Merging l) v took gave s free.calm r law)
+free_rests first now v took gave none s r law = absurd law.same
+
+-- one that stopped has its cause
+pub stops_rightly : (is : List Outlook) (first now : InLogic) (v : View) (took gave : List (List Item)) → (law : InLaw first now v took gave) → AllAgree is law.by.law.ins → StopsRightly is now
+stops_rightly is (logic.Taking f) (logic.Taking l) v took gave law a = tt
+stops_rightly is (logic.Sorting f) (logic.Sorting l) v took gave law a = tt
+stops_rightly is (logic.Zipping f) (logic.Zipping l) v took gave law a = tt
+stops_rightly is (logic.Merging f) (logic.Merging l) v took gave law a =
+    λ stuck. subst (λ b. MergeMisfits b (next_move l.log.left) l.log.moves is) (sym law.same.1.0) (merge.has_cause is f l v took gave stuck (merge_law f l v took gave law) a)
+stops_rightly is first now v took gave law a = absurd law.same
+
+-- it follows what it was handed in with
+pub plan_stays : (first now : InLogic) (v : View) (took gave : List (List Item)) → InLaw first now v took gave → in_plan now ≡ in_plan first
+plan_stays (logic.Taking f) (logic.Taking l) v took gave law = refl
+plan_stays (logic.Sorting f) (logic.Sorting l) v took gave law = refl
+plan_stays (logic.Zipping f) (logic.Zipping l) v took gave law = refl
+plan_stays (logic.Merging f) (logic.Merging l) v took gave law = law.same.1.1
+plan_stays first now v took gave law = absurd law.same
 
 -- ---- calls
 
@@ -147,8 +182,8 @@ turn_keeps c (logic.Zipping f) (logic.Zipping l) (logic.Zipping m) v took gave a
   by = zip_node c (zipping.held l) (zipping.held m) v took gave acts may allowed t.turn law.by;
 }
 turn_keeps c (logic.Merging f) (logic.Merging l) (logic.Merging m) v took gave acts may allowed t law = record {
-  same = (law.same.0, t.way ∙ law.same.1);
-  by = merge.keeps_ports f.gathers c l m v took gave acts may allowed (subst (λ b. MergeTurnAt (call_by b c) (merging.held l) (given_on 0 acts) (merging.held m)) law.same.1 t.turn) law.by;
+  same = (law.same.0, (t.way ∙ law.same.1.0, t.plan ∙ law.same.1.1));
+  by = merge.keeps_ports f.gathers c l m v took gave acts may allowed (subst (λ b. OwesAt (call_by b c) (merging.held l) (given_on 0 acts) (merging.held m)) law.same.1.0 t.turn) (λ next moves h. t.still (merge.is_stuck m next moves h)) law.by;
 }
 turn_keeps c (logic.Taking f) (logic.Taking l) new v took gave acts may allowed t law = absurd t
 turn_keeps c (logic.Sorting f) (logic.Sorting l) new v took gave acts may allowed t law = absurd t
@@ -177,6 +212,18 @@ turned_grows c (logic.Sorting l) (logic.Sorting m) acts t = record { rest = []; 
 turned_grows c (logic.Zipping l) (logic.Zipping m) acts t = record { rest = []; is = refl }
 turned_grows c (logic.Merging l) (logic.Merging m) acts t = record { rest = t.more; is = t.grows }
 turned_grows c old new acts t = absurd t
+
+calm_pulls : (b : Bool) (acts : List Act) → (b ≡ true → acts ≡ []) → Pulls acts → b ≡ false
+calm_pulls false acts n p = refl
+calm_pulls true acts n p = absurd (subst Pulls (n refl) p)
+
+-- one that asks has not stopped
+pub turned_asks : (c : Call) (old new : InLogic) (acts : List Act) (v : View) → Turned c old acts new → Pulls acts → InAsking new v
+turned_asks c (logic.Taking l) (logic.Taking m) acts v t p = tt
+turned_asks c (logic.Sorting l) (logic.Sorting m) acts v t p = tt
+turned_asks c (logic.Zipping l) (logic.Zipping m) acts v t p = tt
+turned_asks c (logic.Merging l) (logic.Merging m) acts v t p = calm_pulls m.log.stuck acts t.still p
+turned_asks c old new acts v t p = absurd t
 
 pub handled : (c : Call) (old new : InLogic) (acts : List Act) → (c ≡ starts → ⊥) → IsStarted old → Obeys c (port_state old) (port_state new) acts → Turned c old acts new → Handles InPortState InLaw c old new acts
 handled c old new acts n s o t = record {
@@ -245,7 +292,8 @@ fresh_law : (l : InLogic) (v : View) (took gave : List (List Item)) → CallAllo
 fresh_law (logic.Taking l) v took gave may new r a b m n = record { same = refl; by = fresh_taking l v took gave may new r a b m n }
 fresh_law (logic.Sorting l) v took gave may new r a b m n = record { same = tt; by = fresh_sorting l v took gave may new r a b m n }
 fresh_law (logic.Zipping l) v took gave may new r a b m n = record { same = tt; by = fresh_zipping l v took gave may new r a b m n }
-fresh_law (logic.Merging l) v took gave may new r a b m n = record { same = (new.1, refl); by = merge.fresh_law l v took gave may (record { fresh = new.0; unmoved = new.1; ports = r }) a b m n }
+fresh_law (logic.Merging l) v took gave may new r a b m n =
+    record { same = (new.1, (refl, refl)); by = merge.fresh_law l v took gave may (record { fresh = new.0; unmoved = new.1; calm = new_is_calm l v new.0 r; ports = r }) a b m n }
 
 pub started : (old new : InLogic) (acts : List Act) → IsNew old → Obeys starts (port_state old) (port_state new) acts → Turned starts old acts new → Starts InPortState InLaw InFresh old new acts
 started old new acts n o t = record {

@@ -1,6 +1,6 @@
 -- The stages with several inputs, whatever their kind: their port states, what their handlers owe, and their law over histories.
 use Rattle.port_core.specs.View.{unpulled_ins}
-use Rattle.std.specs.Prelude.{◌≡◌, ◌≢◌, ◌≤◌, ℕ, true, false, List, [], length, slice_index_or, Some, None, ⊤}
+use Rattle.std.specs.Prelude.{◌≡◌, ◌≢◌, ◌≤◌, ℕ, Bool, true, false, List, [], length, slice_index_or, Some, None, ⊤}
 use Rattle.elem_core.specs.Tree.{Tree}
 use Rattle.elem_core.specs.declared.item.Item.{Item}
 use Rattle.elem_core.specs.declared.why.Decider.{Decider}
@@ -11,14 +11,16 @@ use Rattle.port_core.specs.Call.{Call}
 use Rattle.stream_model.specs.declared.kind.Kind.{Kind}
 use Rattle.stream_model.specs.declared.kind.Kind.TheVariants.{Merge, MergeHub, Concat, Interleave, MergeSorted, Zip}
 use Rattle.stream_model.specs.declared.kind.TheConstants.{MAX_FAN}
-use Rattle.stream_model.specs.Outlook.{End}
+use Rattle.stream_model.specs.Outlook.{Outlook, End}
 use Rattle.stream_model.specs.FanIn.{Inflow, concat_taken, interleave_taken}
 use Rattle.stream_model.specs.View.{SeenWire}
 use Rattle.stream_model.specs.Rests.{MergeRests, SortedRests, ZipRests}
+use Rattle.stage_merge.specs.Rows.{MergeRestsBy, MergeMisfits}
+use Rattle.port_core.specs.Picks.{next_move, planned}
 use Rattle.stage_core.specs.PortsLaws.{InPortsLaw}
 use Rattle.stage_core.specs.Fans.{FanKeeps}
 use Rattle.stage_core.specs.Zips.{ZipKeeps}
-use Rattle.stage_core.specs.Merges.{GathersAs, call_by}
+use Rattle.stage_core.specs.Merges.{call_by}
 use Rattle.stage_core.specs.declared.phase.Phase.TheVariants.{New, Open}
 use Rattle.stage_in.specs.declared.logic.InLogic.{InLogic}
 use Rattle.stage_in.specs.declared.logic.InLogic.TheVariants as logic
@@ -110,6 +112,13 @@ TakesNone (logic.Sorting l) = ⊤
 TakesNone (logic.Zipping l) = ⊥
 TakesNone (logic.Merging l) = ⊥
 
+-- what it knows whenever it has just asked: a merge has not stopped
+abbrev pub InAsking : InLogic → port.View → Type 0
+InAsking (logic.Taking l) v = ⊤
+InAsking (logic.Sorting l) v = ⊤
+InAsking (logic.Zipping l) v = ⊤
+InAsking (logic.Merging l) v = l.log.stuck ≡ false
+
 -- what a handler owes to the law; the stage stays of its kind, and no action cancels what an earlier one asked. One that gathers owes
 -- what its call asks as it takes it
 abbrev pub Turned : Call → InLogic → List Act → InLogic → Type 0
@@ -122,14 +131,14 @@ Turned _ _ _ _ = ⊥
 -- ---- a new stage
 
 -- it takes its inputs as the model says of the kind, and by its segment or by none; a merge_sorted and a zip have one way alone, and a
--- merge hub is a merge that gathers
+-- merge is as it is before anything came; a merge hub is a merge that gathers
 abbrev pub TakesAs : Kind → InLogic → Type 0
 TakesAs (Concat n) (logic.Taking l) = (l.segment ≡ None) × ((taking_by l.segment).from (taking.place_of l) ≡ concat_taken)
 TakesAs (Interleave n s) (logic.Taking l) = (l.segment ≡ Some s) × ((taking_by l.segment).from (taking.place_of l) ≡ interleave_taken s)
 TakesAs MergeSorted (logic.Sorting l) = ⊤
 TakesAs Zip (logic.Zipping l) = ⊤
-TakesAs (Merge n) (logic.Merging l) = l.gathers ≡ false
-TakesAs (MergeHub s n) (logic.Merging l) = l.gathers ≡ true
+TakesAs (Merge n) (logic.Merging l) = merging.Begins n false l
+TakesAs (MergeHub s n) (logic.Merging l) = merging.Begins n true l
 TakesAs _ _ = ⊥
 
 -- a new stage of node `node` may be started, takes its inputs as the model says, and knows that no port was asked
@@ -138,14 +147,27 @@ pub record Begins (node : ℕ) (kind : Kind) (d : Decider) (new : InLogic) : Typ
   pub takes : TakesAs kind new
   pub ready : port_state new (unpulled_ins (inputs_of kind))
 
+-- it is a new merge of so many inputs, which gathers or does not
+abbrev pub IsNewMerge : ℕ → Bool → InLogic → Type 0
+IsNewMerge n gathers (logic.Merging l) = merging.Begins n gathers l
+IsNewMerge n gathers _ = ⊥
+
+-- it is a new merge or merge hub, and each of these moves is one of its inputs
+pub record MayFollow (moves : List ℕ) (l : InLogic) : Type 0 where
+  pub inputs : ℕ
+  pub gathers : Bool
+  pub fan : (1 ≤ inputs) × (inputs ≤ MAX_FAN)
+  pub begins : IsNewMerge inputs gathers l
+  pub named : merging.NamesInputs inputs (Some moves)
+
 -- ---- the law
 
--- it is of the kind that it was; a merge had made no move then, and gathers or does not as then
+-- it is of the kind that it was; a merge had made no move then, gathers or does not as then, and follows what it followed then
 abbrev pub SameKind : InLogic → InLogic → Type 0
 SameKind (logic.Taking f) (logic.Taking l) = l.segment ≡ f.segment
 SameKind (logic.Sorting f) (logic.Sorting l) = ⊤
 SameKind (logic.Zipping f) (logic.Zipping l) = ⊤
-SameKind (logic.Merging f) (logic.Merging l) = (f.log.moves ≡ []) × (l.gathers ≡ f.gathers)
+SameKind (logic.Merging f) (logic.Merging l) = (f.log.moves ≡ []) × ((l.gathers ≡ f.gathers) × (planned l.log ≡ planned f.log))
 SameKind _ _ = ⊥
 
 -- what the histories of its ports have to do with each other, by the stage as it was at first and as it is now
@@ -153,7 +175,7 @@ abbrev pub Keeps : InLogic → InLogic → List Inflow → List Tree → End →
 Keeps (logic.Taking f) (logic.Taking l) = FanKeeps (taking_by f.segment) (taking.place_of f) (taking.held l)
 Keeps (logic.Sorting f) (logic.Sorting l) = FanKeeps sorting sorted.nowhere (sorted.held l)
 Keeps (logic.Zipping f) (logic.Zipping l) = ZipKeeps (zipping.held l)
-Keeps (logic.Merging f) (logic.Merging l) = GathersAs f.gathers (merging.held l)
+Keeps (logic.Merging f) (logic.Merging l) = merging.KeepsAs f.gathers (merging.held l)
 Keeps _ _ = λ ins g e. ⊥
 
 -- it may be started, and its port state holds
@@ -176,4 +198,21 @@ abbrev pub KindRests : InLogic → List SeenWire → SeenWire → Type 0
 KindRests (logic.Taking l) = TakingRests l.segment l.current
 KindRests (logic.Sorting l) = SortedRests
 KindRests (logic.Zipping l) = ZipRests
-KindRests (logic.Merging l) = MergeRests l.log.moves
+KindRests (logic.Merging l) = MergeRestsBy (next_move l.log.left) l.log.moves
+
+-- the same of one that follows no moves
+abbrev pub FreeRests : InLogic → List SeenWire → SeenWire → Type 0
+FreeRests (logic.Taking l) = TakingRests l.segment l.current
+FreeRests (logic.Sorting l) = SortedRests
+FreeRests (logic.Zipping l) = ZipRests
+FreeRests (logic.Merging l) = MergeRests l.log.moves
+
+-- it did not stop for want of a move that it can make
+abbrev pub NotStuck : InLogic → Type 0
+NotStuck (logic.Merging l) = l.log.stuck ≡ false
+NotStuck _ = ⊤
+
+-- a merge that stopped has the cause of a misfit, over the outlooks of its inputs
+abbrev pub StopsRightly : List Outlook → InLogic → Type 0
+StopsRightly is (logic.Merging l) = l.log.stuck ≡ true → MergeMisfits l.gathers (next_move l.log.left) l.log.moves is
+StopsRightly is _ = ⊤

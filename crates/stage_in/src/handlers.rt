@@ -1,6 +1,6 @@
 // A stage with several inputs as the interpreter calls it: its calls keep the law of its histories.
 ghost use Rattle.std.specs.Prelude.{[], false, ⊤};
-ghost use Rattle.stage_in.specs.Logics.{InFresh, InPortState, InLaw};
+ghost use Rattle.stage_in.specs.Logics.{InAsking, InFresh, InPortState, InLaw};
 ghost use Rattle.stage_in.specs.Moves.{in_moves};
 
 use crate::logic::InLogic;
@@ -18,7 +18,7 @@ impl Stage for InLogic {
 
     ghost law = { InLaw };
 
-    ghost asking = { λ l v. ⊤ };
+    ghost asking = { InAsking };
 
     ghost moves = { in_moves };
 

@@ -1,5 +1,5 @@
 // Laws of the stages with several inputs: each function has no body, and its contract is the law.
-ghost use Rattle.std.specs.Prelude.{◌≡◌, ◌≢◌, ◌≤◌, ℕ, true, List, length};
+ghost use Rattle.std.specs.Prelude.{◌≡◌, ◌≢◌, ◌≤◌, ℕ, true, List, length, None};
 ghost use Rattle.elem_core.specs.declared.item.Item.{Item};
 ghost use Rattle.elem_core.specs.declared.why.Decider.{Decider};
 ghost use Rattle.port_core.specs.declared.act.Act.{Act};
@@ -14,14 +14,30 @@ ghost use Rattle.stream_model.specs.Fits.{moves_fit};
 ghost use Rattle.stage_core.specs.declared.stage.TheConstants.{MOST_ACTS};
 ghost use Rattle.stage_core.specs.Handling.{Starts, Handles};
 ghost use Rattle.stage_in.specs.declared.logic.InLogic.{InLogic};
-ghost use Rattle.stage_in.specs.Logics.{Begins, IsNew, IsOpen, IsStarted, InFresh, InLaw, InPortState, KindRests, Turned, inputs_of, room_of, port_state};
-ghost use Rattle.stage_in.specs.Moves.{TellsMoves};
+ghost use Rattle.stage_in.specs.Logics.{Begins, IsNew, IsOpen, IsStarted, InFresh, InLaw, InPortState, KindRests, FreeRests, NotStuck, StopsRightly, Turned, inputs_of, room_of, port_state};
+ghost use Rattle.stage_in.specs.Moves.{TellsMoves, in_plan};
 ghost use Rattle.stage_core.specs.OwnRows.{FanRests};
 
-/// Where its port state and its law hold, a stage that was started has closed all its ports, or has nothing to do.
+/// Where its port state and its law hold, a stage that was started and has not stopped has closed all its ports, or has nothing to do:
+/// it meets the row of its kind, or where it follows moves the row that its next move says; and one that follows none meets that of its
+/// kind.
 pub fn a_started_stage_rests()
-    ensures { (first now : InLogic) (v : View) (took gave : List (List Item)) → IsStarted now → port_state now v → (law : InLaw first now v took gave)
-        → FanRests (KindRests now) v law.by.law.ins law.by.law.out_list }
+    ensures rests { (first now : InLogic) (v : View) (took gave : List (List Item)) → IsStarted now → NotStuck now → port_state now v
+        → (law : InLaw first now v took gave) → FanRests (KindRests now) v law.by.law.ins law.by.law.out_list }
+    ensures free { (first now : InLogic) (v : View) (took gave : List (List Item)) → in_plan first ≡ None → IsStarted now → port_state now v
+        → (law : InLaw first now v took gave) → FanRests (FreeRests now) v law.by.law.ins law.by.law.out_list }
+{}
+
+/// What a stage follows is what it was handed in with.
+pub fn a_stage_keeps_its_plan()
+    ensures { (first now : InLogic) (v : View) (took gave : List (List Item)) → InLaw first now v took gave → in_plan now ≡ in_plan first }
+{}
+
+/// A merge that stopped has its cause, over the outlooks of its inputs: the input of the next move ends, and its moves gave all its
+/// elements.
+pub fn a_stop_has_its_cause()
+    ensures { (is : List Outlook) (first now : InLogic) (v : View) (took gave : List (List Item)) → (law : InLaw first now v took gave)
+        → AllAgree is law.by.law.ins → StopsRightly is now }
 {}
 
 /// Where the port rules allow a call of a handler and the port state holds, a stage that was started is open.

@@ -1,9 +1,12 @@
-ghost use Rattle.std.specs.Prelude.{◌≡◌, ◌≤◌, [], OnOk, OnErr, IfOk, IsOk};
+ghost use Rattle.std.specs.Prelude.{◌≡◌, ◌≤◌, ◌<◌, ◌^◌, ℕ, [], Some, None, vec_len, OnOk, OnErr, IfOk, IsOk};
+ghost use Rattle.elem_core.specs.declared.why.Decider.{Decider};
+ghost use Rattle.stream_model.specs.declared.kind.Kind.{Kind};
 ghost use Rattle.elem_core.specs.declared.item.Item.TheVariants as item;
 ghost use Rattle.port_core.specs.Call.{Obeys, Meets, starts, pulls, arrives, cancels};
-ghost use Rattle.stage_in.specs.Logics.{Begins, IsFanIn, IsNew, IsStarted, TakesNone, room_of, port_state, Turned};
+ghost use Rattle.stage_in.specs.Logics.{Begins, IsFanIn, MayFollow, IsNew, IsStarted, TakesNone, room_of, port_state, Turned};
 ghost use Rattle.std.specs.Option.{option_map};
-ghost use Rattle.stage_in.specs.Moves.{in_moves, in_picks};
+ghost use Rattle.port_core.specs.Picks.{misfit_in};
+ghost use Rattle.stage_in.specs.Moves.{in_moves, in_picks, in_misfit, in_plan};
 
 use crate::sorting::Sorting;
 use crate::taking::Taking;
@@ -48,7 +51,8 @@ impl InLogic {
     /// or a merge hub for a flag and an element of each.
     pub fn new(alloc: Global, stage: u32, kind: Kind, decider: Decider) -> Result<InLogic, NoMemory>
         requires { IsFanIn kind }
-        ensures { IfOk result (Begins stage kind decider) }
+        ensures begins { IfOk result (Begins stage kind decider) }
+        ensures free { IfOk result (λ l. in_plan l ≡ None) }
     {
         let _stage = stage;
         let _decider = decider;
@@ -65,6 +69,19 @@ impl InLogic {
             }
             _ => unreachable!(),
         })
+    }
+
+    /// From now on a new merge or merge hub follows these moves, each of which is one of its inputs. It takes no memory.
+    pub fn follow(&mut self, moves: Vec<u32>)
+        requires merge { MayFollow moves.items self.old }
+        requires few { vec_len moves < 2 ^ 32 }
+        ensures begins { (node : ℕ) (kind : Kind) (d : Decider) → Begins node kind d self.old → Begins node kind d self.new }
+        ensures plan { in_plan self.new ≡ Some moves.items }
+    {
+        match self {
+            InLogic::Merging(logic) => logic.follow(moves),
+            _ => unreachable!(),
+        }
     }
 
     /// The run begins.
@@ -206,7 +223,8 @@ impl InLogic {
 
     /// The run is over: the log of its moves where its kind chooses, which a merge and a merge hub alone do. It takes no memory.
     pub fn picks(self) -> Option<PickLog>
-        ensures { option_map (λ log. log.moves) result ≡ in_picks self }
+        ensures picks { option_map (λ log. log.moves) result ≡ in_picks self }
+        ensures misfit { misfit_in result ≡ in_misfit self }
     {
         match self {
             InLogic::Merging(logic) => Some(logic.close()),

@@ -1,5 +1,8 @@
+pub mod Choosing
+pub mod Plans
 pub mod Merges
 pub mod Fewer
 pub mod Mergers
 pub mod MergeRests
 pub mod MergeNodes
+pub mod Following

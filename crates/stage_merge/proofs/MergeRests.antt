@@ -1,5 +1,5 @@
 -- A merge that was started has nothing to do over its own ports; a new one may be started.
-use Rattle.std.specs.Prelude.{◌≢◌, ◌⊎◌, replicate, slice_get, slice_set, cond, ◌==◌}
+use Rattle.std.specs.Prelude.{◌≢◌, ◌⊎◌, replicate, slice_get, slice_set, slice_index_or, cond, ◌==◌, Option, None, Some}
 use Rattle.std.proofs.Common.{◌≡◌, ℕ, zero, suc, ◌+◌, ◌<◌, ◌≤◌, inl, inr, Bool, true, false, List, [], ◌∷◌, length, get_or, refl, sym, ap, ◌∙◌, subst, arith}
 use Rattle.std.proofs.lemmas.Bool.{cases_eq}
 use Rattle.std.proofs.lemmas.List.{length-replicate, get_or-set_same, get_or-set_other}
@@ -12,7 +12,7 @@ use Rattle.stream_model.specs.declared.kind.TheConstants.{MAX_FAN}
 use Rattle.stream_model.specs.Outlook.{End}
 use Rattle.stream_model.specs.Picks.{count_of}
 use Rattle.stream_model.proofs.Fitting.{at_get, yes_one, no_one}
-use Rattle.stream_model.specs.View.{EachWire, SomeWire}
+use Rattle.stream_model.specs.View.{SeenWire, EachWire, SomeWire}
 use Rattle.stream_model.specs.Rests.{IsShut, Waits, MergeInput, MergeWaits, MergeRests}
 use Rattle.stage_core.specs.Inflows.{nothing_came, untouched}
 use Rattle.stage_core.specs.Merges.{MergeKeeps, Merged, lists_of, left_at, left_by}
@@ -22,7 +22,11 @@ use Rattle.stage_core.specs.declared.phase.Phase.TheVariants.{New, Open, Closed}
 use Rattle.stage_merge.specs.declared.merging.Queued.{Queued}
 use Rattle.stage_core.specs.Seats.{wish}
 use Rattle.stage_core.specs.OwnRows.{own_inputs, FanRests}
-use Rattle.stage_merge.specs.Mergings.{Core, Merging, Begins, of_port, input_view, places, idles, waiting, open_count, Sound, Fresh, port_state_by, port_state, held_by, held}
+use Rattle.stage_merge.specs.Mergings.{Core, Merging, Begins, NamesInputs, front, goes_next, of_port, input_view, places, idles, waiting, open_count, OpenCore, Sound, Fresh, port_state_by, port_state_in, port_state, held_by, held_in, held, Keeps, serves}
+use Rattle.stage_merge.specs.Rows.{MergeRestsBy}
+use Rattle.stage_merge.proofs.Choosing.{none_of}
+use Rattle.port_core.specs.Picks.{next_move}
+use Rattle.port_core.specs.declared.pick_log.Next.TheVariants.{Free, Move, UsedUp}
 use Rattle.stage_core.proofs.Closings.{closed_rests}
 
 -- ---- how many moves an input has
@@ -82,8 +86,8 @@ some_wait n (b ∷ bs) [] h k = absurd (omega (arith, h))
 some_wait n (true ∷ bs) (f ∷ fs) h k = inr (some_wait (n + 1) bs fs (omega (arith, h)) k)
 some_wait n (false ∷ bs) (f ∷ fs) h k = inl (refl, refl)
 
-all_places : (moves : List ℕ) (l : Core) (ins : List Inflow) (g : List Tree) → Sound l → Merged moves ins g (waiting 0 l.over l.queue) → MergeWaits moves 0 (own_inputs (places 0 l.over l.queue) ins)
-all_places moves l ins g s m = keep_places moves 0 l.over l.queue ins s.once count
+all_places : (moves : List ℕ) (plan : Option (List ℕ)) (l : Core) (ins : List Inflow) (g : List Tree) → OpenCore plan l → Merged moves ins g (waiting 0 l.over l.queue) → MergeWaits moves 0 (own_inputs (places 0 l.over l.queue) ins)
+all_places moves plan l ins g s m = keep_places moves 0 l.over l.queue ins s.once count
   where
     count : (k : ℕ) → count_of (0 + k) moves + length (get_or (lists_of (waiting 0 l.over l.queue)) k []) ≡ length (get_or (lists_of ins) k [])
     count k =
@@ -92,29 +96,67 @@ all_places moves l ins g s m = keep_places moves 0 l.over l.queue ins s.once cou
         subst (λ (ls : List (List Tree)). count_of k moves + length (get_or ls k []) ≡ length (get_or (lists_of ins) k [])) m.left (count_left moves (lists_of ins) k m.finds) in
         subst (λ (j : ℕ). count_of j moves + length (get_or (lists_of (waiting 0 l.over l.queue)) k []) ≡ length (get_or (lists_of ins) k [])) (sym none) here
 
-open_rests : (moves : List ℕ) (l : Core) (a : Bool) (ins : List Inflow) (g : List Tree) → l.asked ≡ a → Sound l → length ins ≡ length l.over → Merged moves ins g (waiting 0 l.over l.queue)
+no_front : (q : List Queued) → front q ≡ None → q ≡ []
+no_front [] h = refl
+no_front (x ∷ q) h = cc
+
+free_rests : (moves : List ℕ) (l : Core) (a : Bool) (ins : List Inflow) (g : List Tree) → l.asked ≡ a → Sound None l → length ins ≡ length l.over → Merged moves ins g (waiting 0 l.over l.queue)
     → MergeRests moves (own_inputs (places 0 l.over l.queue) ins) (own_output (wish a) g)
-open_rests moves l false ins g e s h m = inr ((refl, refl), all_places moves l ins g s m)
-open_rests moves l true ins g e s h m =
-    let q : l.queue ≡ [] = s.empty e in
-    let c = s.count in
-    let k = s.some q in
+free_rests moves l false ins g e s h m = inr ((refl, refl), all_places moves None l ins g s.whole m)
+free_rests moves l true ins g e s h m =
+    let q : l.queue ≡ [] = no_front l.queue (s.none e) in
+    let c = s.whole.count in
+    let k = s.whole.some refl q in
     rw q (inl ((refl, refl), some_wait 0 l.over ins h (omega (arith, c, k)), all_wait 0 l.over ins))
+
+-- an input that has not ended, and of which nothing waits
+waits_at : (n m : ℕ) (bs : List Bool) (q : List Queued) (ins : List Inflow) → slice_index_or bs m false ≡ false → of_port (n + m) q ≡ [] → (i : SeenWire) → slice_get (own_inputs (places n bs q) ins) m ≡ Some i → Waits i
+waits_at n m [] q ins h e i at = cc
+waits_at n m (b ∷ bs) q [] h e i at = cc
+waits_at n zero (b ∷ bs) q (f ∷ fs) h e i at =
+    let z : n + 0 ≡ n = omega arith in
+    let l : of_port n q ≡ [] = (let r = e in rw z at r) in
+    let k : own_input (input_view b (of_port n q)) f.list ≡ i = cc in
+    subst (λ (u : SeenWire). Waits u) k (rw (h, l) (refl, refl))
+waits_at n (suc m) (b ∷ bs) q (f ∷ fs) h e i at =
+    let z : n + suc m ≡ n + 1 + m = omega arith in
+    waits_at (n + 1) m bs q fs h (let r = e in rw z at r) i at
+
+move_rests : (m : ℕ) (left moves : List ℕ) (l : Core) (a : Bool) (ins : List Inflow) (g : List Tree) → l.asked ≡ a → Sound (Some (m ∷ left)) l → Merged moves ins g (waiting 0 l.over l.queue)
+    → MergeRestsBy (Move m) moves (own_inputs (places 0 l.over l.queue) ins) (own_output (wish a) g)
+move_rests m left moves l false ins g e s k = inr ((refl, refl), all_places moves (Some (m ∷ left)) l ins g s.whole k)
+move_rests m left moves l true ins g e s k =
+    let z : 0 + m ≡ m = omega arith in
+    inl ((refl, refl), waits_at 0 m l.over l.queue ins (s.going e) (rw z (none_of m l.queue (s.none e))))
+
+used_rests : (moves : List ℕ) (l : Core) (a : Bool) (ins : List Inflow) (g : List Tree) → OpenCore (Some []) l → Merged moves ins g (waiting 0 l.over l.queue)
+    → MergeRestsBy UsedUp moves (own_inputs (places 0 l.over l.queue) ins) (own_output (wish a) g)
+used_rests moves l false ins g s k = inr ((refl, refl), all_places moves (Some []) l ins g s k)
+used_rests moves l true ins g s k = inl (refl, refl)
+
+open_rests : (moves : List ℕ) (plan : Option (List ℕ)) (l : Core) (ins : List Inflow) (g : List Tree) → Sound plan l → length ins ≡ length l.over → Merged moves ins g (waiting 0 l.over l.queue)
+    → MergeRestsBy (next_move plan) moves (own_inputs (places 0 l.over l.queue) ins) (own_output (wish l.asked) g)
+open_rests moves None l ins g s h m = free_rests moves l l.asked ins g refl s h m
+open_rests moves (Some []) l ins g s h m = used_rests moves l l.asked ins g s.whole m
+open_rests moves (Some (k ∷ left)) l ins g s h m = move_rests k left moves l l.asked ins g refl s m
 
 places_long : (n : ℕ) (bs : List Bool) (q : List Queued) → length (places n bs q) ≡ length bs
 places_long n [] q = refl
 places_long n (b ∷ bs) q = ap suc (places_long (n + 1) bs q)
 
-pub merge_rests : (l : Merging) (v : port.View) (ins : List Inflow) (g : List Tree) (end : End) → l.core.phase ≢ New → port_state l v → length ins ≡ length v.ins → MergeKeeps (held l) ins g end → FanRests (MergeRests l.log.moves) v ins g
-merge_rests l v ins g end n r h keeps = by_phase l.core.phase refl r
+pub merge_rests : (l : Merging) (v : port.View) (ins : List Inflow) (g : List Tree) (end : End) → l.core.phase ≢ New → l.log.stuck ≡ false → port_state l v → length ins ≡ length v.ins → Keeps (held l) ins g end
+    → FanRests (MergeRestsBy (next_move l.log.left) l.log.moves) v ins g
+merge_rests l v ins g end n calm r h keeps =
+    by_phase l.core.phase refl (subst (λ b. port_state_in b l v) calm r) (subst (λ b. Keeps (held_in b l) ins g end) calm keeps)
   where
-    by_phase : (f : Phase) → l.core.phase ≡ f → port_state_by f l.core v → FanRests (MergeRests l.log.moves) v ins g
-    by_phase New e r = absurd (n e)
-    by_phase Open e r =
+    by_phase : (f : Phase) → l.core.phase ≡ f → port_state_by f l.log.left l.core v → MergeKeeps (held_by l.core.phase l.log.moves l.core) ins g end
+        → FanRests (MergeRestsBy (next_move l.log.left) l.log.moves) v ins g
+    by_phase New e r k = absurd (n e)
+    by_phase Open e r k =
         let long : length ins ≡ length l.core.over = h ∙ ap (λ (w : port.View). length w.ins) r.0 ∙ places_long 0 l.core.over l.core.queue in
-        let open_keeps = subst (λ (x : Phase). MergeKeeps (held_by x l.log.moves l.core) ins g end) e keeps in
-        subst (λ w. FanRests (MergeRests l.log.moves) w ins g) (sym r.0) (inr (open_rests l.log.moves l.core l.core.asked ins g refl r.1 long open_keeps.1))
-    by_phase Closed e r = closed_rests (MergeRests l.log.moves) v ins g r
+        let open_keeps = subst (λ (x : Phase). MergeKeeps (held_by x l.log.moves l.core) ins g end) e k in
+        subst (λ w. FanRests (MergeRestsBy (next_move l.log.left) l.log.moves) w ins g) (sym r.0) (inr (open_rests l.log.moves l.log.left l.core ins g r.1 long open_keeps.1))
+    by_phase Closed e r k = closed_rests (MergeRestsBy (next_move l.log.left) l.log.moves) v ins g r
 
 all_open : (k : ℕ) → open_count (replicate k false) ≡ k
 all_open zero = refl
@@ -127,10 +169,19 @@ none_waits n (suc k) = ap (λ (fs : List Inflow). nothing_came ∷ fs) (none_wai
 abbrev begun : ℕ → Core
 begun k = record { phase = New; over = replicate k false; queue = []; room = k; asked = false; left = k }
 
+none_chosen : (plan : Option (List ℕ)) → goes_next (next_move plan) [] ≡ None
+none_chosen None = refl
+none_chosen (Some []) = refl
+none_chosen (Some (m ∷ l)) = refl
+
 pub new_row : (inputs : ℕ) (gathers : Bool) (l : Merging) → 1 ≤ inputs → inputs ≤ MAX_FAN → Begins inputs gathers l → port_state l (record { ins = idles (replicate inputs false); outs = Unpulled ∷ [] })
 new_row k gathers l one few b =
     let long = length-replicate k false in
-    let s : Sound (begun k) = record { count = sym (all_open k); some = λ e. omega (arith, one); empty = λ e. refl; once = λ m. omega arith; there = tt; few = omega (arith, long, few); roomy = omega (arith, long) } in
+    let s : Sound l.log.left (begun k) = record {
+      whole = record { count = sym (all_open k); some = λ u e. omega (arith, one); once = λ m. omega arith; there = tt; few = omega (arith, long, few); roomy = omega (arith, long); named = subst (λ n. NamesInputs n l.log.left) (sym long) b.named };
+      none = λ e. none_chosen l.log.left;
+      going = λ e. cc;
+    } in
     let f : Fresh (begun k) = record { queue = refl; over = ap (λ m. replicate m false) (sym long); unasked = refl } in
     let v : port.View = record { ins = idles (replicate k false); outs = Unpulled ∷ [] } in
-    subst (λ (c : Core). port_state_by c.phase c v) (sym b.core) (refl, (s, f))
+    subst (λ c. port_state_in c l v) (sym b.calm) (subst (λ (c : Core). port_state_by c.phase l.log.left c v) (sym b.core) (refl, (s, f)))

@@ -46,13 +46,13 @@ last_here n i t q h = of_append n q (queued i t ∷ []) ∙ ap (λ (l : List Tre
 pub last_away : (n i : ℕ) (t : Tree) (q : List Queued) → (i ≡ n → ⊥) → of_port n (q ++ queued i t ∷ []) ≡ of_port n q
 last_away n i t q h = of_append n q (queued i t ∷ []) ∙ ap (λ (l : List Tree). of_port n q ++ l) (first_away n i t [] h) ∙ append-nil (of_port n q)
 
-waiting_same : (n : ℕ) (over : List Bool) (q r : List Queued) → ((m : ℕ) → n ≤ m → of_port m q ≡ of_port m r) → waiting n over q ≡ waiting n over r
+pub waiting_same : (n : ℕ) (over : List Bool) (q r : List Queued) → ((m : ℕ) → n ≤ m → of_port m q ≡ of_port m r) → waiting n over q ≡ waiting n over r
 waiting_same n [] q r h = refl
 waiting_same n (b ∷ over) q r h =
     ap (λ (l : List Tree). record { list = l; end = end_by b } ∷ waiting (n + 1) over q) (h n (omega arith))
     ∙ ap (λ (fs : List Inflow). record { list = of_port n r; end = end_by b } ∷ fs) (waiting_same (n + 1) over q r (λ m k. h m (omega (arith, k))))
 
-places_same : (n : ℕ) (over : List Bool) (q r : List Queued) → ((m : ℕ) → n ≤ m → of_port m q ≡ of_port m r) → places n over q ≡ places n over r
+pub places_same : (n : ℕ) (over : List Bool) (q r : List Queued) → ((m : ℕ) → n ≤ m → of_port m q ≡ of_port m r) → places n over q ≡ places n over r
 places_same n [] q r h = refl
 places_same n (b ∷ over) q r h =
     ap (λ (l : List Tree). input_view b l ∷ places (n + 1) over q) (h n (omega arith))

@@ -1,5 +1,5 @@
 // Laws of the merge: each function has no body, and its contract is the law.
-ghost use Rattle.std.specs.Prelude.{◌≡◌, ◌≢◌, ◌≤◌, ℕ, Bool, true, false, List, [], length};
+ghost use Rattle.std.specs.Prelude.{◌≡◌, ◌≢◌, ◌≤◌, ℕ, Bool, true, false, List, [], length, None};
 ghost use Rattle.elem_core.specs.declared.item.Item.{Item};
 ghost use Rattle.elem_core.specs.declared.why.Decider.{Decider};
 ghost use Rattle.port_core.specs.declared.act.Act.{Act};
@@ -12,25 +12,25 @@ ghost use Rattle.stream_model.specs.Node.{World, node_outlook};
 ghost use Rattle.stream_model.specs.Outlook.{Outlook, Agrees};
 ghost use Rattle.stream_model.specs.FanIn.{AllAgree};
 ghost use Rattle.stream_model.specs.Picks.{merge_fits};
-ghost use Rattle.stream_model.specs.Rests.{MergeRests};
 ghost use Rattle.stage_core.specs.declared.stage.TheConstants.{MOST_ACTS};
 ghost use Rattle.stage_core.specs.Handling.{Starts, Handles};
 ghost use Rattle.stage_core.specs.Merges.{call_by};
 ghost use Rattle.stage_core.specs.Seats.{room_for};
 ghost use Rattle.stage_core.specs.OwnRows.{FanRests};
 ghost use Rattle.stage_core.specs.declared.phase.Phase.TheVariants.{New, Open};
+ghost use Rattle.port_core.specs.Picks.{IsFreeLog, next_move, planned};
 ghost use Rattle.stage_merge.specs.Mergings.{Merging, Begins, Turned, port_state, MergeFresh, MergePortState, MergesAs};
+ghost use Rattle.stage_merge.specs.Rows.{MergeRestsBy, MergeMisfits};
 
 /// A new merge of 1 to `MAX_FAN` inputs may be started, made no move, and knows that no port was asked.
 pub fn a_new_merge_may_start()
     ensures { (inputs : ℕ) (gathers : Bool) (l : Merging) → 1 ≤ inputs → inputs ≤ MAX_FAN → Begins inputs gathers l → MergeFresh l (unpulled_ins inputs) }
 {}
 
-/// Where its port state and its law hold, a merge that was started has closed all its ports, or has nothing to do: where it is not asked,
-/// an element waits of each input that is open and that it does not ask.
+/// Where its port state and its law hold, a merge that was started and has found no misfit has closed all its ports, or has nothing
+/// to do: it meets the row of its kind, or where it follows moves the row of a replay.
 pub fn a_started_merge_rests()
-    ensures { (first now : Merging) (v : View) (took gave : List (List Item)) → MergePortState now v → (law : MergesAs first now v took gave)
-        → FanRests (MergeRests now.log.moves) v law.by.law.ins law.by.law.out_list }
+    ensures { (first now : Merging) (v : View) (took gave : List (List Item)) → now.log.stuck ≡ false → MergePortState now v → (law : MergesAs first now v took gave) → FanRests (MergeRestsBy (next_move now.log.left) now.log.moves) v law.by.law.ins law.by.law.out_list }
 {}
 
 /// Where the port rules allow a call of a handler and the port state holds, a merge that was started is open, and the room that the
@@ -65,4 +65,20 @@ pub fn a_merge_agrees_with_its_outlook()
         → first.gathers ≡ true
         → (law : MergesAs first now v took gave) → AllAgree is law.by.law.ins → Agrees
         (node_outlook g w node (MergeHub size producers) d is 0) law.by.law.out_list law.by.law.out_end }
+{}
+
+/// A misfit has its cause, over the outlooks of the inputs: the input of the next move ends, or where the merge gathers may fail, and all
+/// its elements were given.
+pub fn a_misfit_has_its_cause()
+    ensures { (is : List Outlook) (first now : Merging) (v : View) (took gave : List (List Item)) → now.log.stuck ≡ true → (law : MergesAs first now v took gave) → AllAgree is law.by.law.ins → MergeMisfits first.gathers (next_move now.log.left) now.log.moves is }
+{}
+
+/// What it follows is what it was handed in with, of which its moves are the first.
+pub fn moves_begin_the_plan()
+    ensures { (first now : Merging) (v : View) (took gave : List (List Item)) → MergesAs first now v took gave → planned now.log ≡ first.log.left }
+{}
+
+/// One that was handed in free is free still: it follows nothing, and never stops.
+pub fn a_free_merge_stays_free()
+    ensures { (first now : Merging) (v : View) (took gave : List (List Item)) → first.log.left ≡ None → MergesAs first now v took gave → IsFreeLog now.log }
 {}

@@ -1,18 +1,20 @@
-ghost use Rattle.std.specs.Prelude.{◌≡◌, ◌≢◌, ◌≤◌, ◌<◌, ◌∷◌, ◌++◌, ◌+◌, [], length, replicate, OnOk, OnErr, IsOk, IfOk, IfSome, IfNone, slice_get, slice_set, Some, true, false};
+ghost use Rattle.std.specs.Prelude.{ℕ, Bool, ◌^◌, ◌≡◌, ◌≢◌, ◌+◌, ◌<◌, ◌≤◌, ◌∷◌, [], ◌++◌, length, slice_set, Some, None, true, false, IsOk, OnOk, OnErr, IfOk, IfSome, IfNone};
 ghost use Rattle.elem_core.specs.declared.item.Item.TheVariants as item;
+ghost use Rattle.port_core.specs.Picks.{MayNote, may_end, next_move};
 ghost use Rattle.port_core.specs.declared.act.Act.TheVariants as act;
 ghost use Rattle.port_core.specs.Call.{Obeys, Meets, starts, pulls, arrives, cancels};
 ghost use Rattle.stream_model.specs.declared.kind.TheConstants.{MAX_FAN};
 ghost use Rattle.stage_core.specs.declared.phase.Phase.TheVariants.{New, Open, Closed};
 ghost use Rattle.stage_core.specs.Merges.{item_by};
 ghost use Rattle.stage_core.specs.Seats.{open_cancels, room_for};
-ghost use Rattle.stage_merge.specs.Mergings.{port_state, Turned, FirstOut, LastIn, Begins, Does, Gave, HandedOn, Took, EndsIfDone, Again, Ended, InputLost, without, pull_acts, PortsThere, open_count};
+ghost use Rattle.stage_merge.specs.Mergings.{port_state, Turned, ChosenOut, LastIn, Begins, NamesInputs, Does, HandedOn, AskServed, Took, EndsIfDone, Again, Ended, InputLost, goes_next, first_queued, lost, passes_at_once, stuck_now, wanted, stored, without, pull_acts, PortsThere};
+ghost use Rattle.stage_merge.specs.Finding.{IsFirstAt};
 
 use elem_core::elem::Elem;
 use elem_core::why::{Cause, NoMemory};
 use port_core::act::Act;
 use port_core::acts::Acts;
-use port_core::pick_log::PickLog;
+use port_core::pick_log::{Next, PickLog};
 use stage_core::ins::{cancel_open, open_inputs};
 use stage_core::phase::Phase;
 use std::alloc::Global;
@@ -31,7 +33,8 @@ pub struct Queued {
 
 /// The logic of a merge. It asks all inputs at its start and each again after its element was given; what finds the output
 /// unasked waits, first come first. It notes the input of each element that it gives. One that gathers, as a merge hub does, takes an
-/// input that failed for one that ended. Rule: Akka Streams 2.6 reference; that it gathers is own.
+/// input that failed for one that ended. One that follows moves gives the elements in the order that they name, and stops where the next
+/// one cannot be made. Rule: Akka Streams 2.6 reference; that it gathers, and moves: own.
 #[derive(Drop)]
 pub struct Merging {
     log: PickLog,
@@ -75,7 +78,8 @@ impl Merging {
     /// A merge of 1 to `MAX_FAN` inputs, which gathers or does not. It takes memory for a flag and an element of each.
     pub fn new(alloc: Global, inputs: u32, gathers: bool) -> Result<Merging, NoMemory>
         requires fan { (1 ≤ inputs) × (inputs ≤ MAX_FAN) }
-        ensures { IfOk result (Begins inputs gathers) }
+        ensures begins { IfOk result (Begins inputs gathers) }
+        ensures free { IfOk result (λ l. l.log.left ≡ None) }
     {
         let over = open_inputs(alloc, inputs)?;
         let queue = VecDeque::with_capacity(alloc, inputs as usize)?;
@@ -88,6 +92,16 @@ impl Merging {
             asked: false,
             left: inputs as u8,
         })
+    }
+
+    /// From now on it follows these moves, each of which is one of its inputs. It takes no memory.
+    pub fn follow(&mut self, moves: Vec<u32>)
+        requires new { (inputs : ℕ) × (gathers : Bool) × Begins inputs gathers self.old × NamesInputs inputs (Some moves.items) }
+        requires few { length moves.items < 2 ^ 32 }
+        ensures begins { (inputs : ℕ) → (gathers : Bool) → Begins inputs gathers self.old → NamesInputs inputs (Some moves.items) → Begins inputs gathers self.new }
+        ensures plan { self.new.log.left ≡ Some moves.items }
+    {
+        self.log = PickLog::follow(moves);
     }
 
     /// The run begins.
@@ -113,12 +127,16 @@ impl Merging {
         requires room { room_for (length self.old.core.over) ≤ acts.old.room }
         ensures ports { OnOk result (Obeys (pulls 0) (port_state self.old) (port_state self.new) acts.new.items) }
         ensures gives { OnOk result (Turned (pulls 0) self.old acts.new.items self.new) }
-        ensures order { OnOk result (FirstOut self.old self.new) }
+        ensures order { OnOk result (ChosenOut self.old self.new) }
         ensures room { OnOk result (acts.new.room ≡ acts.old.room) }
         ensures refused { OnErr result ((self.new ≡ self.old) × (acts.new ≡ acts.old)) }
     {
+        if self.log.is_stuck() {
+            return Ok(());
+        }
         self.make_room()?;
-        self.give(acts);
+        self.want();
+        self.serve(acts);
         Ok(())
     }
 
@@ -134,6 +152,9 @@ impl Merging {
         ensures room { OnOk result (acts.new.room ≡ acts.old.room) }
         ensures refused { OnErr result ((self.new ≡ self.old) × (acts.new ≡ acts.old)) }
     {
+        if self.log.is_stuck() {
+            return Ok(());
+        }
         self.make_room()?;
         self.take(port, e, acts);
         Ok(())
@@ -150,7 +171,9 @@ impl Merging {
         ensures gives { OnOk result (Turned (arrives port item.Ended) self.old acts.new.items self.new) }
         ensures room { acts.new.room ≡ acts.old.room }
     {
-        self.finish(port, acts);
+        if !self.log.is_stuck() {
+            self.finish(port, acts);
+        }
         Ok(())
     }
 
@@ -165,7 +188,9 @@ impl Merging {
         ensures gives { OnOk result (Turned (arrives port (item_by self.old.gathers (item.Failed cause))) self.old acts.new.items self.new) }
         ensures room { acts.new.room ≡ acts.old.room }
     {
-        self.lose(port, cause, acts);
+        if !self.log.is_stuck() {
+            self.lose(port, cause, acts);
+        }
         Ok(())
     }
 
@@ -180,13 +205,15 @@ impl Merging {
         ensures gives { OnOk result (Turned (cancels 0) self.old acts.new.items self.new) }
         ensures room { acts.new.room ≡ acts.old.room }
     {
-        self.leave(acts);
+        if !self.log.is_stuck() {
+            self.leave(acts);
+        }
         Ok(())
     }
 
     /// The run is over: the log of its moves. It takes no memory.
     pub fn close(self) -> PickLog
-        ensures { result.moves ≡ self.log.moves }
+        ensures { result ≡ self.log }
     {
         self.log
     }
@@ -205,45 +232,94 @@ impl Merging {
 
     // Room for a move, before anything else.
     fn make_room(&mut self) -> Result<(), NoMemory>
-        ensures kept { self.new ≡ record self.old { log = self.new.log } }
-        ensures moves { self.new.log.moves ≡ self.old.log.moves }
+        ensures kept { self.new ≡ record self.old { log = record self.old.log { room = self.new.log.room } } }
         ensures room { OnOk result (2 ≤ self.new.log.room) }
         ensures err { OnErr result (self.new ≡ self.old) }
     {
         self.log.reserve()
     }
 
-    // What came first goes out, where something waits.
-    fn give(&mut self, acts: &mut Acts)
-        requires noted { 2 ≤ self.old.log.room }
-        requires there { PortsThere self.old.core.over self.old.core.queue }
-        requires empty { acts.old.items ≡ [] }
-        requires room { 2 ≤ acts.old.room }
-        ensures gave { Gave self.old self.new acts.new.items }
-        ensures room { acts.new.room ≡ acts.old.room }
-    {
-        match self.next() {
-            Some(x) => self.hand_on(x.port, x.item, acts),
-            None => self.want(),
-        }
-    }
-
-    // What came first, which waits no more.
-    fn next(&mut self) -> Option<Queued>
-        ensures some { IfSome result (λ x. (self.old.core.queue ≡ x ∷ self.new.core.queue)
-            × (self.new ≡ record self.old { core = record self.old.core { queue = self.new.core.queue } })) }
-        ensures none { IfNone result ((self.old.core.queue ≡ []) × (self.new ≡ self.old)) }
-    {
-        self.queue.pop_front()
-    }
-
     fn want(&mut self)
-        ensures { self.new ≡ record self.old { core = record self.old.core { asked = true } } }
+        ensures { self.new ≡ wanted self.old }
     {
         self.asked = true;
     }
 
-    // An element came: it goes out where the output is asked, and else it waits.
+    fn unask(&mut self)
+        ensures { self.new ≡ record self.old { core = record self.old.core { asked = false } } }
+    {
+        self.asked = false;
+    }
+
+    // The output is asked: what is chosen goes out, where it waits.
+    fn serve(&mut self, acts: &mut Acts)
+        requires noted { 2 ≤ self.old.log.room }
+        requires there { PortsThere self.old.core.over self.old.core.queue }
+        requires empty { acts.old.items ≡ [] }
+        requires room { 2 ≤ acts.old.room }
+        ensures served { AskServed self.old self.new acts.new.items }
+        ensures room { acts.new.room ≡ acts.old.room }
+    {
+        match self.choose() {
+            Some(x) => {
+                self.unask();
+                self.hand_on(x.port, x.item, acts);
+            }
+            None => self.judge(),
+        }
+    }
+
+    // Choice: docs/DECISIONS.md#stopped-merge-waits
+    // What is to go out next, which waits no more. Whether moves are followed or not, this is where it is chosen.
+    fn choose(&mut self) -> Option<Queued>
+        ensures some { IfSome result (λ x. (goes_next (next_move self.old.log.left) self.old.core.queue ≡ Some (x, self.new.core.queue)) × (self.new ≡ record self.old { core = record self.old.core { queue = self.new.core.queue } })) }
+        ensures none { IfNone result ((goes_next (next_move self.old.log.left) self.old.core.queue ≡ None) × (self.new ≡ self.old)) }
+    {
+        match self.log.next() {
+            Next::Free => self.queue.pop_front(),
+            Next::Move(m) => self.take_of(m),
+            Next::UsedUp => None,
+        }
+    }
+
+    // The first that waits of input m, which waits no more.
+    fn take_of(&mut self, m: u32) -> Option<Queued>
+        ensures some { IfSome result (λ x. (first_queued m self.old.core.queue ≡ Some (x, self.new.core.queue)) × (self.new ≡ record self.old { core = record self.old.core { queue = self.new.core.queue } })) }
+        ensures none { IfNone result ((first_queued m self.old.core.queue ≡ None) × (self.new ≡ self.old)) }
+    {
+        match first_at(&self.queue, m) {
+            Some(place) => self.queue.remove(place),
+            None => None,
+        }
+    }
+
+    // Nothing goes out: where what is to go out next will never come, it stops.
+    fn judge(&mut self)
+        ensures halts { lost (next_move self.old.log.left) self.old.core.over ≡ true → self.new ≡ stuck_now self.old }
+        ensures goes { lost (next_move self.old.log.left) self.old.core.over ≡ false → self.new ≡ self.old }
+    {
+        if self.is_lost() {
+            self.log.misfit();
+        }
+    }
+
+    fn is_lost(&self) -> bool
+        ensures { result ≡ lost (next_move self.now.log.left) self.now.core.over }
+    {
+        match self.log.next() {
+            Next::Move(m) => (m as usize) < self.over.len() && self.over[m as usize],
+            _ => false,
+        }
+    }
+
+    fn may_end(&self) -> bool
+        ensures { result ≡ may_end (next_move self.now.log.left) }
+    {
+        !matches!(self.log.next(), Next::Move(_))
+    }
+
+    // An element came: it goes out where the output is asked and it is what is to go out next, and else it waits.
+    #[tactic(auto, using(crate::proofs::Mergers::passing_note))]
     fn take(&mut self, port: u8, e: Elem, acts: &mut Acts)
         requires noted { 2 ≤ self.old.log.room }
         requires fits { length self.old.core.queue < self.old.core.room }
@@ -253,23 +329,38 @@ impl Merging {
         ensures took { Took port e self.old self.new acts.new.items }
         ensures room { acts.new.room ≡ acts.old.room }
     {
-        if self.asked {
+        if self.asked && self.passes_at_once(port) {
             self.unask();
             self.hand_on(port, e, acts);
         } else {
-            self.queue.push_back_reserved(Queued { port, item: e });
+            self.store(port, e);
         }
     }
 
-    fn unask(&mut self)
-        ensures { self.new ≡ record self.old { core = record self.old.core { asked = false } } }
+    // Choice: docs/DECISIONS.md#passing-through
+    // Whether an element of this input goes out at once where the output is asked. Nothing of what is to go out next waits then.
+    fn passes_at_once(&self, port: u8) -> bool
+        ensures { result ≡ passes_at_once (next_move self.now.log.left) port }
     {
-        self.asked = false;
+        match self.log.next() {
+            Next::Free => true,
+            Next::Move(m) => u32::from(port) == m,
+            Next::UsedUp => false,
+        }
+    }
+
+    fn store(&mut self, port: u8, e: Elem)
+        requires fits { length self.old.core.queue < self.old.core.room }
+        ensures { self.new ≡ stored port e self.old }
+    {
+        self.queue.push_back_reserved(Queued { port, item: e });
     }
 
     // An element goes out, its input is noted and asked again.
+    #[inline(always)]
     fn hand_on(&mut self, port: u8, e: Elem, acts: &mut Acts)
         requires noted { 2 ≤ self.old.log.room }
+        requires next { MayNote port self.old.log.left }
         requires there { port < length self.old.core.over }
         requires empty { acts.old.items ≡ [] }
         requires room { 2 ≤ acts.old.room }
@@ -295,19 +386,20 @@ impl Merging {
         }
     }
 
-    // It ends where every input has ended and nothing waits.
+    // It ends where every input has ended, nothing waits and no move is to be made.
     fn end_if_done(&mut self, acts: &mut Acts)
         requires room { length acts.old.items < acts.old.room }
         ensures ends { EndsIfDone acts.old.items self.old self.new acts.new.items }
         ensures room { acts.new.room ≡ acts.old.room }
     {
-        if self.left == 0 && self.queue.is_empty() {
+        if self.left == 0 && self.queue.is_empty() && self.may_end() {
             self.phase = Phase::Closed;
             acts.add(Act::Complete(0));
         }
     }
 
     // An input has ended.
+    #[tactic(auto, using(crate::proofs::Mergers::lost_move))]
     fn finish(&mut self, port: u8, acts: &mut Acts)
         requires there { port < length self.old.core.over }
         requires some { 1 ≤ self.old.core.left }
@@ -316,9 +408,21 @@ impl Merging {
         ensures ended { Ended port self.old self.new acts.new.items }
         ensures room { acts.new.room ≡ acts.old.room }
     {
+        self.take_off(port);
+        if self.asked && self.is_lost() {
+            self.log.misfit();
+        } else {
+            self.end_if_done(acts);
+        }
+    }
+
+    fn take_off(&mut self, port: u8)
+        requires there { port < length self.old.core.over }
+        requires some { 1 ≤ self.old.core.left }
+        ensures { self.new ≡ without port self.old }
+    {
         self.over[port as usize] = true;
         self.left -= 1;
-        self.end_if_done(acts);
     }
 
     // An input has failed: one that gathers goes on without it.
@@ -344,12 +448,7 @@ impl Merging {
         requires there { port < length self.old.core.over }
         requires empty { acts.old.items ≡ [] }
         requires room { length self.old.core.over < acts.old.room }
-        ensures does { Does self.new acts.new.items (record self.old {
-          core = record self.old.core {
-            over = slice_set self.old.core.over port true;
-            phase = Closed;
-          };
-        }) (act.FailOut 0 cause ∷ open_cancels 0 (slice_set self.old.core.over port true)) }
+        ensures does { Does self.new acts.new.items (record self.old { core = record self.old.core { over = slice_set self.old.core.over port true; phase = Closed } }) (act.FailOut 0 cause ∷ open_cancels 0 (slice_set self.old.core.over port true)) }
         ensures room { acts.new.room ≡ acts.old.room }
     {
         self.over[port as usize] = true;
@@ -383,4 +482,16 @@ impl Merging {
             }
         }
     }
+}
+
+// The place of the first that waits of input m.
+fn first_at(queue: &VecDeque<Queued>, m: u32) -> Option<usize>
+    ensures { IsFirstAt m queue.now.items result }
+{
+    for place in 0..queue.len() {
+        if u32::from(queue[place].port) == m {
+            return Some(place);
+        }
+    }
+    None
 }

@@ -1,6 +1,7 @@
 use Rattle.port_core.specs.Call.{arrives}
 use Rattle.elem_core.specs.declared.item.Item.TheVariants as item
-use Rattle.stage_in.proofs.Handling.{fits, grows, handles}
+use Rattle.stage_in.specs.Logics.{InPortState}
+use Rattle.stage_in.proofs.Handling.{fits, asks, grows, handles}
 use Rattle.stage_in.proofs.handlers.InLogicStage.on_push.Goals as goal
 
 pub on_push-requires-clause-room : goal.on_push-requires-clause-room
@@ -8,6 +9,9 @@ on_push-requires-clause-room c = fits (arrives c.args.port (item.Elem c.args.e))
 
 pub returns-clause-handles : goal.returns-clause-handles
 returns-clause-handles c = handles (arrives c.args.port (item.Elem c.args.e)) _ _ _ _ (λ e. cc) c.requires.meets c.on_push.ensures.ports c.on_push.ensures.gives
+
+pub returns-clause-pulls : goal.returns-clause-pulls
+returns-clause-pulls c = asks (arrives c.args.port (item.Elem c.args.e)) (arrives c.args.port (item.Elem c.args.e)) (InPortState c.args.self.now) c.args.self.now c.on_push.new.self c.on_push.new.acts.items c.on_push.result c.on_push.ensures.gives
 
 pub returns-clause-grows : goal.returns-clause-grows
 returns-clause-grows c = grows _ _ _ _ _ c.on_push.ensures.gives

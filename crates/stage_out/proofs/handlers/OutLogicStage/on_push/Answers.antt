@@ -1,0 +1,17 @@
+use Rattle.elem_core.specs.declared.item.Item.TheVariants as item
+use Rattle.port_core.specs.Call.{arrives}
+use Rattle.stage_core.proofs.OnOks.{on_ok_two}
+use Rattle.stage_out.proofs.OutLogics.{fits, handled, asks_ok, grows_ok}
+use Rattle.stage_out.proofs.handlers.OutLogicStage.on_push.Goals as goal
+
+pub on_push-requires-clause-room : goal.on_push-requires-clause-room
+on_push-requires-clause-room c = fits (arrives c.args.port (item.Elem c.args.e)) _ _ c.requires.meets c.requires.room
+
+pub returns-clause-handles : goal.returns-clause-handles
+returns-clause-handles c = on_ok_two _ c.on_push.ensures.ports c.on_push.ensures.gives (λ o t. handled _ _ _ _ o t)
+
+pub returns-clause-pulls : goal.returns-clause-pulls
+returns-clause-pulls c = asks_ok c.on_push.result c.args.self.now c.on_push.new.self c.on_push.new.acts.items (arrives c.args.port (item.Elem c.args.e)) c.on_push.ensures.gives
+
+pub returns-clause-grows : goal.returns-clause-grows
+returns-clause-grows c = grows_ok c.on_push.result c.args.self.now c.on_push.new.self c.on_push.new.acts.items (arrives c.args.port (item.Elem c.args.e)) c.on_push.ensures.gives

@@ -1,0 +1,13 @@
+pub mod Outs
+pub mod Dealings
+pub mod Balances
+pub mod Balancings
+pub mod BalanceRows
+pub mod Copies
+pub mod CopyStates
+pub mod OwnRows
+pub mod PartitionStates
+pub mod Machines
+pub mod MachineNodes
+pub mod OutLogics
+pub mod Moves

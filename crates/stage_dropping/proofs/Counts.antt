@@ -10,7 +10,7 @@ use Rattle.stream_model.specs.FanIn.{Inflow}
 use Rattle.stream_model.specs.declared.kind.Policy.{Policy}
 use Rattle.stream_model.specs.Picks.{Buffered, buffered, after_coming, leaves, comes, empty_buffer, count_of}
 use Rattle.stage_dropping.specs.Drops.{DropCounts, DropStandsOf}
-use Rattle.stage_dropping.proofs.DropTurns.{differ, stuck}
+use Rattle.stage_dropping.proofs.DropSplits.{differ, stuck}
 
 -- ---- how often a number stands in a list, from its head on
 

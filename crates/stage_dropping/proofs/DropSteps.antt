@@ -1,165 +1,94 @@
--- What each handler of a buffer that drops does is a step of its buffer.
-use Rattle.std.proofs.Common.{◌≡◌, ℕ, ◌+◌, ◌<◌, Bool, true, false, List, [], ◌∷◌, ◌++◌, refl, sym, ap, ◌∙◌, subst, append-nil, append_assoc, Some, None, arith, rules}
-use Rattle.std.specs.Prelude.{Option, nat_lt, if◌then◌else◌}
+-- The steps of a buffer that drops: what waits is taken in, what is held is given, and how a call ends.
+use Rattle.std.proofs.Common.{◌≡◌, ℕ, zero, suc, ◌+◌, Bool, true, false, List, [], ◌∷◌, ◌++◌, Option, Some, None, refl, sym, ap, subst, ◌∙◌, is_some, arith, ltb}
+use Rattle.std.proofs.lemmas.Bool.{and_parts, ltb-true}
+use Rattle.std.specs.Prelude.{◌&&◌}
 use Rattle.elem_core.specs.Tree.{Tree}
-use Rattle.elem_core.specs.declared.item.Item.TheVariants as item
-use Rattle.elem_core.specs.declared.why.Cause.{Cause}
-use Rattle.stream_model.specs.Outlook.{End, unended, ended}
-use Rattle.stream_model.specs.declared.kind.Policy.{Policy}
-use Rattle.stream_model.specs.declared.kind.Policy.TheVariants.{Backpressure, DropHead, DropTail, DropBuffer, DropNew, Fail}
-use Rattle.stream_model.specs.Picks.{buffered, after_coming, comes}
+use Rattle.port_core.specs.Picks.{Picks, MayNote, next_move, behind_next, logged}
 use Rattle.port_core.specs.declared.act.Act.{Act}
-use Rattle.port_core.specs.declared.act.Act.TheVariants.{Pull, Push, Complete, FailOut, Cancel}
-use Rattle.port_core.specs.Call.{Call, starts, pulls, arrives}
-use Rattle.stage_core.specs.Held.{told}
-use Rattle.stage_core.specs.declared.phase.Phase.{Phase}
-use Rattle.stage_core.specs.declared.phase.Phase.TheVariants.{New, Open, Closed}
-use Rattle.stage_dropping.specs.Drops.{holds, shut, buffer_at, overflow_at, overflow_of, DropTurn, completes, fails, overflows, DropTurnAt}
-use Rattle.stage_dropping.specs.Droppings.{Dropping, Took, GaveIts, GaveFirst, Turned, first_acts, first_phase, end_of}
+use Rattle.port_core.specs.declared.act.Act.TheVariants.{Push}
+use Rattle.stream_model.specs.Picks.{all_below}
+use Rattle.stage_core.specs.declared.phase.Phase.TheVariants.{Open, Closed}
+use Rattle.stage_dropping.specs.Droppings.{Dropping, may_take, may_give, NamesMoves, TakesIn, takes, overflows, leaves, Giving, gives, DropNoted, fit, unfit, Took, stuck_now, lost, wants_input, pulled_on, asks_by, IsOver, Settling, stops, rests}
+use Rattle.stage_dropping.specs.declared.dropping.Over.TheVariants as ends
+use Rattle.stream_model.specs.Outlook.{End}
 
--- an element finds room in a buffer that holds nothing
-comes_by : (p : Policy) (n : ℕ) (t : Tree) → nat_lt 0 n ≡ true → comes p n [] t ≡ Some (t ∷ [])
-comes_by Backpressure n t e = refl
-comes_by DropHead n t e = ap (λ (b : Bool). Some (if b then t ∷ [] else t ∷ [])) e
-comes_by DropTail n t e = ap (λ (b : Bool). Some (if b then t ∷ [] else t ∷ [])) e
-comes_by DropBuffer n t e = ap (λ (b : Bool). Some (if b then t ∷ [] else t ∷ [])) e
-comes_by DropNew n t e = ap (λ (b : Bool). Some (if b then t ∷ [] else [])) e
-comes_by Fail n t e = ap (λ (b : Bool). if b then Some (t ∷ []) else None) e
+-- a move that gives is 1
+pub gives_one : (left : Option (List ℕ)) → NamesMoves left → may_give (next_move left) ≡ true → MayNote 1 left
+gives_one None n m = tt
+gives_one (Some []) n m = cc
+gives_one (Some (zero ∷ l)) n m = cc
+gives_one (Some (suc zero ∷ l)) n m = refl
+gives_one (Some (suc (suc k) ∷ l)) n m = absurd (let q = ltb-true (suc (suc k)) 2 (and_parts (ltb (suc (suc k)) 2) (all_below 2 l) n).0 in omega (arith, q))
 
-pub comes_first : (p : Policy) (n : ℕ) (t : Tree) → 0 < n → comes p n [] t ≡ Some (t ∷ [])
-comes_first p n t h = comes_by p n t (search rules)
+-- and those behind the next name moves too
+below_rest : (b c : Bool) → (b && c) ≡ true → c ≡ true
+below_rest true c h = h
+below_rest false c h = cc
 
-module _ (node : ℕ) (p : Policy) (n : ℕ) where
-  -- nothing came, and nothing goes out
-  pub quiet : (came : ℕ) (moves : List ℕ) (held : List Tree) → DropTurn p n came moves held [] [] unended came moves held
-  quiet came moves held = record { more = []; given = []; now_is = sym (append-nil moves); then_is = omega arith; out_is = refl; moved = λ g. ap (λ (l : List Tree). buffer_at l held came) (sym (append-nil g)) }
+pub named_rest : (left : Option (List ℕ)) → NamesMoves left → NamesMoves (behind_next left)
+named_rest None n = tt
+named_rest (Some []) n = refl
+named_rest (Some (m ∷ l)) n = below_rest _ _ n
 
-  -- the end comes where nothing is held
-  pub last : (came : ℕ) (moves : List ℕ) → DropTurn p n came moves [] [] (item.Ended ∷ []) ended came moves []
-  last came moves = record { more = []; given = []; now_is = sym (append-nil moves); then_is = omega arith; out_is = refl; moved = λ g. ap (λ (l : List Tree). buffer_at l [] came) (sym (append-nil g)) }
+pub named_after : (old new : Dropping) (before acts : List Act) → NamesMoves old.log.left → TakesIn old new before acts → NamesMoves new.log.left
+named_after old new before acts n (takes t items o w m c s e a) = subst (λ (l : Dropping). NamesMoves l.log.left) (sym e) (named_rest old.log.left n)
+named_after old new before acts n (overflows t o w m c e a) = subst (λ (l : Dropping). NamesMoves l.log.left) (sym e) (named_rest old.log.left n)
+named_after old new before acts n (leaves f e a) = subst (λ (l : Dropping). NamesMoves l.log.left) (sym e) n
 
-  -- the first of what is held goes out
-  pub gives : (came : ℕ) (moves : List ℕ) (t : Tree) (held : List Tree) (e : End) → DropTurn p n came moves (t ∷ held) [] (told (t ∷ []) e) e came (moves ++ 1 ∷ []) held
-  gives came moves t held e = record { more = 1 ∷ []; given = t ∷ []; now_is = refl; then_is = omega arith; out_is = refl; moved = λ g. refl }
+-- the first that is held is given
+pub giving : (old v : Dropping) (t : Tree) (log : Picks) (before acts : List Act) → old ≡ record v { held = t ∷ v.held } → log ≡ logged 1 v.log → old.phase ≡ Open → old.asked ≡ true → may_give (next_move old.log.left) ≡ true → acts ≡ before ++ Push 0 t ∷ []
+    → Giving old (record v { asked = false; log = log }) before acts
+giving old v t log before acts e noted_is p a m given = subst (λ (o : Dropping). o.phase ≡ Open → o.asked ≡ true → may_give (next_move o.log.left) ≡ true → Giving o (record v { asked = false; log = log }) before acts) (sym e)
+    (λ x y z. gives t v.held x y z refl (ap (λ (l : Picks). record v { asked = false; log = l }) noted_is) given) p a m
 
-  -- an element is held
-  pub takes : (came : ℕ) (moves : List ℕ) (held : List Tree) (t : Tree) (items : List Tree) → comes p n held t ≡ Some items → DropTurn p n came moves held (t ∷ []) [] unended (came + 1) (moves ++ 0 ∷ []) items
-  takes came moves held t items is = record {
-    more = 0 ∷ [];
-    given = [];
-    now_is = refl;
-    then_is = refl;
-    out_is = refl;
-    moved = λ g. ap (after_coming (buffer_at g held came)) is ∙ ap (λ (l : List Tree). buffer_at l items (came + 1)) (sym (append-nil g));
-  }
+-- what waits was taken in, and that was noted
+pub taking : (old mid : Dropping) (t : Tree) (new : Dropping) (before acts : List Act) → old.waiting ≡ Some t → mid ≡ record old { waiting = None } → old.phase ≡ Open → may_take (next_move old.log.left) ≡ true → DropNoted t mid new before acts → TakesIn old new before acts
+taking old mid t new before acts w e o m n = by_note (subst (λ (l : Dropping). DropNoted t l new before acts) e n)
+  where
+    by_note : DropNoted t (record old { waiting = None }) new before acts → TakesIn old new before acts
+    by_note (fit items c s is a) = takes t items o w m c s is a
+    by_note (unfit c is a) = overflows t o w m c is a
 
-  -- an element goes through
-  pub through : (came : ℕ) (moves : List ℕ) (t : Tree) → 0 < n → DropTurn p n came moves [] (t ∷ []) (item.Elem t ∷ []) unended (came + 1) ((moves ++ 0 ∷ []) ++ 1 ∷ []) []
-  through came moves t room = record {
-    more = 0 ∷ 1 ∷ [];
-    given = t ∷ [];
-    now_is = append_assoc moves (0 ∷ []) (1 ∷ []);
-    then_is = refl;
-    out_is = refl;
-    moved = λ g. ap (λ (o : Option (List Tree)). buffered p n (1 ∷ []) [] (after_coming (buffer_at g [] came) o)) (comes_first p n t room);
-  }
+pub noted_fit : (e : Tree) (old mid new : Dropping) (before : List Act) → mid ≡ record old { came = old.came + 1; log = logged 0 old.log } → Took true mid e new → DropNoted e old new before before
+noted_fit e old mid new before is t = by_old (subst (λ (l : Dropping). Took true l e new) is t)
+  where
+    by_old : Took true (record old { came = old.came + 1; log = logged 0 old.log }) e new → DropNoted e old new before before
+    by_old t = fit new.held t.0 t.1.1 t.1.0 refl
 
-  pub overflown : (came : ℕ) (held : List Tree) (t : Tree) → comes p n held t ≡ None → (g : List Tree) → buffered p n (0 ∷ []) (t ∷ []) (buffer_at g held came) ≡ overflow_at g held (came + 1)
-  overflown came held t is g = ap (after_coming (buffer_at g held came)) is
+pub is_none : {X : Type 0} (o : Option X) → (is_some o ≡ true → ⊥) → o ≡ None
+is_none None f = refl
+is_none (Some x) f = absurd (f refl)
 
-  -- ---- by the calls
+pub none_waits : (old new : Dropping) (before acts : List Act) → old.phase ≡ Open → may_take (next_move old.log.left) ≡ true → TakesIn old new before acts → new.phase ≡ Open → new.waiting ≡ None
+none_waits old new before acts o m (takes t items a w b c s e x) p = ap (λ (l : Dropping). l.waiting) e
+none_waits old new before acts o m (overflows t a w b c e x) p = let z : Closed ≡ Open = sym (ap (λ (l : Dropping). l.phase) e) ∙ p in cc
+none_waits old new before acts o m (leaves f e x) p = ap (λ (l : Dropping). l.waiting) e ∙ f o m
 
-  pub start_turn : (came : ℕ) (moves : List ℕ) (held : List Tree) → DropTurnAt node p n starts (holds came moves held unended) [] (holds came moves held unended)
-  start_turn came moves held = (quiet came moves held, refl)
+-- ---- as the handlers know it
 
-  pub ask_turn : (over : Bool) (came : ℕ) (moves : List ℕ) (held : List Tree) → DropTurnAt node p n (pulls 0) (holds came moves held (end_of over)) [] (holds came moves held (end_of over))
-  ask_turn false came moves held = (quiet came moves held, refl)
-  ask_turn true came moves held = (quiet came moves held, refl)
+pub taking_from : (v old : Dropping) (w : Option Tree) (t : Tree) (new : Dropping) (before acts : List Act) → v ≡ old → w ≡ None → v.waiting ≡ Some t → old.phase ≡ Open → may_take (next_move old.log.left) ≡ true → DropNoted t (record v { waiting = w }) new before acts
+    → TakesIn old new before acts
+taking_from v old w t new before acts e none some o m n =
+    taking old (record v { waiting = w }) t new before acts (ap (λ (l : Dropping). l.waiting) (sym e) ∙ some) (ap (λ (x : Option Tree). record v { waiting = x }) none ∙ ap (λ (l : Dropping). record l { waiting = None }) e) o m n
 
-  pub give_turn : (over : Bool) (came : ℕ) (moves : List ℕ) (t : Tree) (held : List Tree) → DropTurnAt node p n (pulls 0) (holds came moves (t ∷ held) (end_of over)) (item.Elem t ∷ []) (holds came (moves ++ 1 ∷ []) held (end_of over))
-  give_turn false came moves t held = (gives came moves t held unended, refl)
-  give_turn true came moves t held = (gives came moves t held unended, refl)
+pub held_first : (old mid v : Dropping) (t : Tree) → old ≡ record mid { held = t ∷ mid.held } → v ≡ mid → old ≡ record v { held = t ∷ v.held }
+held_first old mid v t e f = e ∙ ap (λ (l : Dropping). record l { held = t ∷ l.held }) (sym f)
 
-  pub last_turn : (came : ℕ) (moves : List ℕ) (t : Tree) → DropTurnAt node p n (pulls 0) (holds came moves (t ∷ []) ended) (item.Elem t ∷ item.Ended ∷ []) (shut (moves ++ 1 ∷ []))
-  last_turn came moves t = completes came refl (gives came moves t [] ended)
+pub may_note : (old mid v : Dropping) (t : Tree) → old ≡ record mid { held = t ∷ mid.held } → v ≡ mid → NamesMoves old.log.left → may_give (next_move old.log.left) ≡ true → MayNote 1 v.log.left
+may_note old mid v t e f n m = subst (λ (l : Dropping). MayNote 1 l.log.left) (held_first old mid v t e f) (gives_one old.log.left n m)
 
-  pub through_turn : (came : ℕ) (moves : List ℕ) (t : Tree) → 0 < n → DropTurnAt node p n (arrives 0 (item.Elem t)) (holds came moves [] unended) (item.Elem t ∷ []) (holds (came + 1) ((moves ++ 0 ∷ []) ++ 1 ∷ []) [] unended)
-  through_turn came moves t room = (through came moves t room, refl)
+pub giving_from : (old mid v : Dropping) (t : Tree) (log : Picks) (before acts : List Act) → old ≡ record mid { held = t ∷ mid.held } → v ≡ mid → log ≡ logged 1 v.log → old.phase ≡ Open → old.asked ≡ true → may_give (next_move old.log.left) ≡ true
+    → acts ≡ before ++ Push 0 t ∷ [] → Giving old (record v { asked = false; log = log }) before acts
+giving_from old mid v t log before acts e f n o a m is = giving old v t log before acts (held_first old mid v t e f) n o a m is
 
-  pub take_turn : (came : ℕ) (moves : List ℕ) (held : List Tree) (t : Tree) (items : List Tree) → comes p n held t ≡ Some items → DropTurnAt node p n (arrives 0 (item.Elem t)) (holds came moves held unended) [] (holds (came + 1) (moves ++ 0 ∷ []) items unended)
-  take_turn came moves held t items is = (takes came moves held t items is, refl)
+pub going_on : (old new : Dropping) (before acts : List Act) → old.phase ≡ Open → IsOver old ends.GoesOn → acts ≡ before ++ asks_by (wants_input old.waiting old.after old.pulled)
+    → (lost (next_move old.log.left) old.waiting old.after old.asked old.held ≡ true → new ≡ stuck_now (pulled_on (wants_input old.waiting old.after old.pulled) old))
+    → (lost (next_move old.log.left) old.waiting old.after old.asked old.held ≡ false → new ≡ pulled_on (wants_input old.waiting old.after old.pulled) old) → Settling old new before acts
+going_on old new before acts o over is halts goes = by_flag (lost (next_move old.log.left) old.waiting old.after old.asked old.held) refl
+  where
+    by_flag : (b : Bool) → lost (next_move old.log.left) old.waiting old.after old.asked old.held ≡ b → Settling old new before acts
+    by_flag true e = stops (wants_input old.waiting old.after old.pulled) o refl e (halts e) is
+    by_flag false e = rests (wants_input old.waiting old.after old.pulled) o refl e over (goes e) is
 
-  pub overflow_turn : (came : ℕ) (moves : List ℕ) (held : List Tree) (t : Tree) → comes p n held t ≡ None → DropTurnAt node p n (arrives 0 (item.Elem t)) (holds came moves held unended) (item.Failed (overflow_of node (came + 1)) ∷ []) (shut (moves ++ 0 ∷ []))
-  overflow_turn came moves held t is = overflows t refl refl (overflown came held t is) refl
-
-  pub end_turn : (came : ℕ) (moves : List ℕ) → DropTurnAt node p n (arrives 0 item.Ended) (holds came moves [] unended) (item.Ended ∷ []) (shut moves)
-  end_turn came moves = completes came refl (last came moves)
-
-  pub over_turn : (came : ℕ) (moves : List ℕ) (held : List Tree) → DropTurnAt node p n (arrives 0 item.Ended) (holds came moves held unended) [] (holds came moves held ended)
-  over_turn came moves held = (quiet came moves held, refl)
-
-  pub fail_turn : (came : ℕ) (moves : List ℕ) (held : List Tree) (c : Cause) → DropTurnAt node p n (arrives 0 (item.Failed c)) (holds came moves held unended) (item.Failed c ∷ []) (shut moves)
-  fail_turn came moves held c = fails c refl refl refl refl
-
--- ---- the same of whole states
-
--- by equations of the states and the actions
-pub turned_by : {call : Call} {old a : Dropping} {acts b : List Act} {new d : Dropping} → Turned call a b d → old ≡ a → acts ≡ b → new ≡ d → Turned call old acts new
-turned_by {call} {old} {a} {acts} {b} {new} {d} t x y z = subst (λ (o : Dropping). Turned call o acts new) (sym x) (subst (λ (o : List Act). Turned call a o new) (sym y) (subst (λ (o : Dropping). Turned call a b o) (sym z) t))
-
-module _ (node : ℕ) (p : Policy) (n : ℕ) where
-  abbrev pub state : Phase → ℕ → List Tree → Bool → Bool → List ℕ → Dropping
-  state ph came held asked over moves = record { phase = ph; node = node; policy = p; size = n; came = came; held = held; asked = asked; over = over; moves = moves }
-
-  pub starts_so : (came : ℕ) (held : List Tree) (moves : List ℕ) → Turned starts (state New came held false false moves) (Pull 0 ∷ []) (state Open came held false false moves)
-  starts_so came held moves = record { turn = start_turn node p n came moves held; node = refl; policy = refl; size = refl; stands = search rules; started = search rules; more = []; grows = sym (append-nil moves) }
-
-  pub asked_so : (over : Bool) (came : ℕ) (held : List Tree) (asked : Bool) (moves : List ℕ) → Turned (pulls 0) (state Open came held asked over moves) [] (state Open came held true over moves)
-  asked_so over came held asked moves = record { turn = ask_turn node p n over came moves held; node = refl; policy = refl; size = refl; stands = search rules; started = search rules; more = []; grows = sym (append-nil moves) }
-
-  pub gives_so : (over : Bool) (came : ℕ) (t : Tree) (held : List Tree) (asked : Bool) (moves : List ℕ)
-      → Turned (pulls 0) (state Open came (t ∷ held) asked over moves) (first_acts over t held) (state (first_phase over Open held) came held asked over (moves ++ 1 ∷ []))
-  gives_so false came t held asked moves = record { turn = give_turn node p n false came moves t held; node = refl; policy = refl; size = refl; stands = search rules; started = search rules; more = 1 ∷ []; grows = refl }
-  gives_so true came t [] asked moves = record { turn = last_turn node p n came moves t; node = refl; policy = refl; size = refl; stands = search rules; started = search rules; more = 1 ∷ []; grows = refl }
-  gives_so true came t (u ∷ held) asked moves = record { turn = give_turn node p n true came moves t (u ∷ held); node = refl; policy = refl; size = refl; stands = search rules; started = search rules; more = 1 ∷ []; grows = refl }
-
-  pub through_so : (came : ℕ) (t : Tree) (moves : List ℕ) → 0 < n → Turned (arrives 0 (item.Elem t)) (state Open came [] true false moves) (Push 0 t ∷ Pull 0 ∷ []) (state Open (came + 1) [] false false ((moves ++ 0 ∷ []) ++ 1 ∷ []))
-  through_so came t moves room = record { turn = through_turn node p n came moves t room; node = refl; policy = refl; size = refl; stands = search rules; started = search rules; more = 0 ∷ 1 ∷ []; grows = append_assoc moves (0 ∷ []) (1 ∷ []) }
-
-  pub takes_so : (came : ℕ) (held : List Tree) (t : Tree) (items : List Tree) (asked : Bool) (moves : List ℕ) → comes p n held t ≡ Some items → Turned (arrives 0 (item.Elem t)) (state Open came held asked false moves) (Pull 0 ∷ []) (state Open (came + 1) items asked false (moves ++ 0 ∷ []))
-  takes_so came held t items asked moves is = record { turn = take_turn node p n came moves held t items is; node = refl; policy = refl; size = refl; stands = search rules; started = search rules; more = 0 ∷ []; grows = refl }
-
-  pub overflows_so : (came : ℕ) (held : List Tree) (t : Tree) (asked : Bool) (moves : List ℕ) → comes p n held t ≡ None
-      → Turned (arrives 0 (item.Elem t)) (state Open came held asked false moves) (FailOut 0 (overflow_of node (came + 1)) ∷ Cancel 0 ∷ []) (state Closed (came + 1) held asked false (moves ++ 0 ∷ []))
-  overflows_so came held t asked moves is = record { turn = overflow_turn node p n came moves held t is; node = refl; policy = refl; size = refl; stands = search rules; started = search rules; more = 0 ∷ []; grows = refl }
-
-  pub ends_so : (came : ℕ) (asked : Bool) (moves : List ℕ) → Turned (arrives 0 item.Ended) (state Open came [] asked false moves) (Complete 0 ∷ []) (state Closed came [] asked false moves)
-  ends_so came asked moves = record { turn = end_turn node p n came moves; node = refl; policy = refl; size = refl; stands = search rules; started = search rules; more = []; grows = sym (append-nil moves) }
-
-  pub over_so : (came : ℕ) (held : List Tree) (asked : Bool) (moves : List ℕ) → Turned (arrives 0 item.Ended) (state Open came held asked false moves) [] (state Open came held asked true moves)
-  over_so came held asked moves = record { turn = over_turn node p n came moves held; node = refl; policy = refl; size = refl; stands = search rules; started = search rules; more = []; grows = sym (append-nil moves) }
-
-  pub fails_so : (came : ℕ) (held items : List Tree) (asked : Bool) (moves : List ℕ) (c : Cause) → Turned (arrives 0 (item.Failed c)) (state Open came held asked false moves) (FailOut 0 c ∷ []) (state Closed came items asked false moves)
-  fails_so came held items asked moves c = record { turn = fail_turn node p n came moves held c; node = refl; policy = refl; size = refl; stands = search rules; started = search rules; more = []; grows = sym (append-nil moves) }
-
-  pub gave_so : {mid : Dropping} {acts : List Act} {new : Dropping} (over : Bool) (came : ℕ) (held : List Tree) (asked : Bool) (moves : List ℕ)
-      → mid ≡ state Open came held asked over (moves ++ 1 ∷ []) → GaveFirst mid acts new → Turned (pulls 0) (state Open came held asked over moves) acts new
-  gave_so {mid} {acts} {new} over came held asked moves is g = by_held held (subst (λ (m : Dropping). GaveFirst m acts new) is g)
-    where
-      by_held : (held : List Tree) → GaveIts held (state Open came held asked over (moves ++ 1 ∷ [])) acts new → Turned (pulls 0) (state Open came held asked over moves) acts new
-      by_held [] g = absurd g
-      by_held (t ∷ rest) g = turned_by (gives_so over came t rest asked moves) refl g.0 g.1
-
-  pub took_so : {acts : List Act} {new : Dropping} (b : Bool) (mid : Dropping) (came : ℕ) (held : List Tree) (t : Tree) (asked : Bool) (moves : List ℕ)
-      → mid ≡ state Open (came + 1) held asked false (moves ++ 0 ∷ []) → b ≡ true → Took b mid t new → acts ≡ Pull 0 ∷ [] → Turned (arrives 0 (item.Elem t)) (state Open came held asked false moves) acts new
-  took_so {acts} {new} b mid came held t asked moves is found k a =
-      let m : Took true (state Open (came + 1) held asked false (moves ++ 0 ∷ [])) t new = subst (λ (d : Dropping). Took true d t new) is (subst (λ (d : Bool). Took d mid t new) found k) in
-      turned_by (takes_so came held t new.held asked moves m.0) refl a m.1.0
-
-  pub overflew_so : {acts : List Act} {new : Dropping} (b : Bool) (mid later : Dropping) (came : ℕ) (held : List Tree) (t : Tree) (asked : Bool) (moves : List ℕ)
-      → mid ≡ state Open (came + 1) held asked false (moves ++ 0 ∷ []) → b ≡ false → Took b mid t later
-      → acts ≡ FailOut 0 (overflow_of later.node later.came) ∷ Cancel 0 ∷ [] → new ≡ record later { phase = Closed } → Turned (arrives 0 (item.Elem t)) (state Open came held asked false moves) acts new
-  overflew_so {acts} {new} b mid later came held t asked moves is missed k a z =
-      let m : Took false (state Open (came + 1) held asked false (moves ++ 0 ∷ [])) t later = subst (λ (d : Dropping). Took false d t later) is (subst (λ (d : Bool). Took d mid t later) missed k) in
-      turned_by (overflows_so came held t asked moves m.0) refl
-      (a ∙ ap (λ (d : Dropping). FailOut 0 (overflow_of d.node d.came) ∷ Cancel 0 ∷ []) m.1) (z ∙ ap (λ (d : Dropping). record d { phase = Closed }) m.1)
+pub settled_from : (v old : Dropping) (a : End) (new : Dropping) (before acts : List Act) → v ≡ old → before ≡ [] → Settling (record v { after = a }) new before acts → Settling (record old { after = a }) new [] acts
+settled_from v old a new before acts e b s = subst (λ (l : List Act). Settling (record old { after = a }) new l acts) b (subst (λ (l : Dropping). Settling (record l { after = a }) new before acts) e s)

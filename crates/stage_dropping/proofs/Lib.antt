@@ -1,6 +1,14 @@
-pub mod DropSteps
+pub mod DropSplits
 pub mod DropTurns
+pub mod DropSteps
+pub mod DropOwed
+pub mod DropActions
+pub mod DropCalls
+pub mod DropEnters
+pub mod DropRests
 pub mod Counts
 pub mod DropNodes
 pub mod RecoverTurns
 pub mod RecoverNodes
+pub mod RecoverSteps
+pub mod RecoverCalls

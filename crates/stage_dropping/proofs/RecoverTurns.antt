@@ -1,5 +1,5 @@
 -- A turn of a recover keeps its law and what it gives, for every rest; and the law says what a recover may have given.
-use Rattle.std.proofs.Common.{◌≡◌, ℕ, ◌+◌, ◌≤◌, List, [], ◌∷◌, ◌++◌, length, take, refl, sym, ap, ◌∙◌, subst, arith, append-nil, append_assoc}
+use Rattle.std.proofs.Common.{◌≡◌, ◌⊎◌, inl, inr, ℕ, ◌+◌, ◌≤◌, ◌<◌, List, [], ◌∷◌, ◌++◌, length, take, refl, sym, ap, ◌∙◌, subst, arith, append-nil, append_assoc}
 use Rattle.std.proofs.Math.Seq.{take-append_seam}
 use Rattle.std.proofs.lemmas.List.{length-append}
 use Rattle.elem_core.specs.Prefix.{IsPrefix}
@@ -18,7 +18,9 @@ use Rattle.stage_core.specs.Law.{GaveAs}
 use Rattle.stage_core.specs.Inflows.{nothing_came, joined, joined_at, joined_all, coming}
 use Rattle.stage_core.proofs.Inflows.{Stepped, ports_law, new_ports}
 use Rattle.stage_core.proofs.Told.{told-append}
-use Rattle.stage_dropping.specs.Recovers.{RecoverHeld, passes, turned, shut, own_items, recovered, recovered_by, recover_gives, IsBroken, RecoverCloses, RecoverStep, OwnStep, RecoverRefused, RecoverTurnAt, RecoverKeeps, RecoverLaw, RecoverStandsOf, RecoverResidual, RecoverRest, recover_moves}
+use Rattle.port_core.specs.declared.pick_log.Next.{Next}
+use Rattle.port_core.specs.declared.pick_log.Next.TheVariants.{Free, Move, UsedUp}
+use Rattle.stage_dropping.specs.Recovers.{RecoverHeld, passes, turned, stopped, shut, StopsFor, HasStopped, GivesAfter, own_items, recovered, recovered_by, recover_gives, IsBroken, RecoverCloses, RecoverStep, OwnStep, RecoverRefused, RecoverTurnAt, RecoverKeeps, RecoverLaw, RecoverStandsOf, RecoverResidual, RecoverRest, recover_moves}
 
 joined_is : (f c : Inflow) → f.end ≡ unended → joined f c ≡ record { list = f.list ++ c.list; end = c.end }
 joined_is f c u = ap (λ (e : End). joined_at e f.list c) u
@@ -31,8 +33,33 @@ cause_of unended b = absurd b
 cause_of ended b = absurd b
 cause_of (failed c) b = (c, refl)
 
-all_of : (l : List Tree) (n : ℕ) → length l ≡ n → take n l ≡ l
+pub all_of : (l : List Tree) (n : ℕ) → length l ≡ n → take n l ≡ l
 all_of l n e = ap (λ (k : List Tree). take n k) (sym (append-nil l)) ∙ ap (λ (m : ℕ). take m (l ++ [])) (sym e) ∙ take-append_seam l []
+
+-- what was a first part of what came is one still
+longer : (f c : Inflow) (g : List Tree) → IsPrefix g f.list → IsPrefix g (joined f c).list
+longer f c g p = by_end f.end
+  where
+    by_end : (e : End) → IsPrefix g (joined_at e f.list c).list
+    by_end unended = record { rest = p.rest ++ c.list; is = ap (λ (l : List Tree). l ++ c.list) p.is ∙ append_assoc g p.rest c.list }
+    by_end ended = record { rest = p.rest; is = p.is }
+    by_end (failed x) = record { rest = p.rest; is = p.is }
+
+-- and what stopped it stands
+stays : (next : Next) (f c : Inflow) → HasStopped next f → HasStopped next (joined f c)
+stays next f c h = by_end next f.end f.list h
+  where
+    by_end : (next : Next) (e : End) (l : List Tree) → HasStopped next (record { list = l; end = e }) → HasStopped next (joined_at e l c)
+    by_end Free e l h = absurd h
+    by_end UsedUp unended l h = absurd h
+    by_end UsedUp ended l h = absurd h
+    by_end UsedUp (failed x) l h = tt
+    by_end (Move k) unended l (inl e) = cc
+    by_end (Move k) unended l (inr (inl b)) = absurd b.0
+    by_end (Move k) unended l (inr (inr more)) = inr (inr (let a = length-append l c.list in omega (arith, a, more)))
+    by_end (Move k) ended l h = inl refl
+    by_end (Move k) (failed x) l (inl e) = cc
+    by_end (Move k) (failed x) l (inr h) = inr h
 
 module _ (t : Tree) where
   -- ---- one step
@@ -74,15 +101,35 @@ module _ (t : Tree) where
     }
     closes (k ∷ j ∷ moves) s = absurd s
 
+    stops_by : (next : Next) → StopsFor next n c → HasStopped next now
+    stops_by Free s = absurd s
+    stops_by UsedUp s = s.1
+    stops_by (Move k) (inl (none_came, inl e)) = inl e
+    stops_by (Move k) (inl (none_came, inr (b, less))) = let long = ap length (none none_came) ∙ count in inr (inl (b, omega (arith, long, less)))
+    stops_by (Move k) (inr (one, (open_still, e))) =
+        let all_long = length-append f.list c.list in
+        let had = ap length all in
+        inr (inr (omega (arith, all_long, had, count, one, e)))
+
+    stops : (next : Next) → RecoverStep t n c out (stopped next) → Stepped (RecoverKeeps t (stopped next)) (now ∷ []) g out
+    stops next s = record {
+      list = [];
+      end = unended;
+      out_is = s.0;
+      keeps = (refl, (record { rest = c.list; is = ap (λ (l : List Tree). l ++ c.list) (sym all ∙ sym (append-nil g)) }, stops_by next s.1));
+    }
+
     steps : (new : RecoverHeld) → RecoverStep t n c out new → Stepped (RecoverKeeps t new) (now ∷ []) g out
     steps (passes k) s = passes_on k s
     steps (turned k) s = turns k s
+    steps (stopped next) s = stops next s
     steps (shut moves) s = closes moves s
 
   -- its own element is owed
   owed : (n : ℕ) (f : Inflow) (g : List Tree) (out : List Item) (new : RecoverHeld) → Turned n f → g ≡ f.list → OwnStep t n out new → Stepped (RecoverKeeps t new) (f ∷ []) g out
   owed n f g out (passes k) b all s = absurd s
   owed n f g out (turned k) b all s = record { list = []; end = unended; out_is = s.1; keeps = (refl, (subst (λ (m : ℕ). Turned m f) (sym s.0) b, append-nil g ∙ all)) }
+  owed n f g out (stopped next) b all s = absurd s
   owed n f g out (shut moves) b all s = record {
     list = t ∷ [];
     end = ended;
@@ -94,6 +141,7 @@ module _ (t : Tree) where
   leaves : (moves : List ℕ) (f : Inflow) (g : List Tree) (out : List Item) (new : RecoverHeld) → length moves ≤ 1 → RecoverStands t moves f g unended → RecoverRefused moves out new → Stepped (RecoverKeeps t new) (f ∷ []) g out
   leaves moves f g out (passes k) few s r = absurd r
   leaves moves f g out (turned k) few s r = absurd r
+  leaves moves f g out (stopped next) few s r = absurd r
   leaves moves f g out (shut now) few s r = record {
     list = [];
     end = unended;
@@ -116,8 +164,19 @@ module _ (t : Tree) where
       by_end ended is = ap (λ (e : End). joined_at e f.list nothing_came) is ∙ ap (λ (e : End). record { list = f.list; end = e }) (sym is)
       by_end (failed c) is = joined_broken f nothing_came c is
 
+  -- it stopped, and does nothing more
+  rests_on : (call : Call) (next : Next) (new : RecoverHeld) (f : Inflow) (g : List Tree) (out : List Item) → IsPrefix g f.list → HasStopped next f → (out ≡ []) × (new ≡ stopped next) → Stepped (RecoverKeeps t new) (joined f (coming call 0) ∷ []) g out
+  rests_on call next new f g out p h s =
+      subst (λ (x : RecoverHeld). Stepped (RecoverKeeps t x) (joined f (coming call 0) ∷ []) g out) (sym s.1) (record {
+        list = [];
+        end = unended;
+        out_is = s.0;
+        keeps = (refl, (subst (λ (l : List Tree). IsPrefix l (joined f (coming call 0)).list) (sym (append-nil g)) (longer f (coming call 0) g p), stays next f (coming call 0) h));
+      })
+
   stepped : (call : Call) (x new : RecoverHeld) (f : Inflow) (g : List Tree) (e : End) (out : List Item) → RecoverKeeps t x (f ∷ []) g e → RecoverTurnAt t call x out new → Stepped (RecoverKeeps t new) (joined f (coming call 0) ∷ []) g out
   stepped call (shut moves) new f g e out k s = absurd s
+  stepped call (stopped next) new f g e out k s = rests_on call next new f g out k.1.0 k.1.1 s
   stepped starts (passes n) new f g e out k s = rw (joined_is f nothing_came k.1.0) (steps n f nothing_came g out k.1.1.0 k.1.1.1 new s)
   stepped (pulls j) (passes n) new f g e out k s = rw (joined_is f nothing_came k.1.0) (steps n f nothing_came g out k.1.1.0 k.1.1.1 new s)
   stepped (arrives i b) (passes n) new f g e out k s = rw (joined_is f (coming (arrives i b) 0) k.1.0) (steps n f (coming (arrives i b) 0) g out k.1.1.0 k.1.1.1 new s)
@@ -129,17 +188,20 @@ module _ (t : Tree) where
 
   open_end : (call : Call) (x new : RecoverHeld) (f : Inflow) (g : List Tree) (e : End) (out : List Item) → RecoverKeeps t x (f ∷ []) g e → RecoverTurnAt t call x out new → e ≡ unended
   open_end call (shut moves) new f g e out k s = absurd s
+  open_end call (stopped next) new f g e out k s = k.0
   open_end call (passes n) new f g e out k s = k.0
   open_end call (turned n) new f g e out k s = k.0
 
-  no_ports : (x : RecoverHeld) (g : List Tree) (e : End) → RecoverKeeps t x [] g e → ⊥
+  pub no_ports : (x : RecoverHeld) (g : List Tree) (e : End) → RecoverKeeps t x [] g e → ⊥
   no_ports (passes n) g e k = k
   no_ports (turned n) g e k = k
+  no_ports (stopped next) g e k = k
   no_ports (shut m) g e k = k
 
-  two_ports : (x : RecoverHeld) (f h : Inflow) (fs : List Inflow) (g : List Tree) (e : End) → RecoverKeeps t x (f ∷ h ∷ fs) g e → ⊥
+  pub two_ports : (x : RecoverHeld) (f h : Inflow) (fs : List Inflow) (g : List Tree) (e : End) → RecoverKeeps t x (f ∷ h ∷ fs) g e → ⊥
   two_ports (passes n) f h fs g e k = k
   two_ports (turned n) f h fs g e k = k
+  two_ports (stopped next) f h fs g e k = k
   two_ports (shut m) f h fs g e k = k
 
   -- a call keeps the law
@@ -170,6 +232,7 @@ module _ (t : Tree) where
     where
       by_held : (x : RecoverHeld) (ins : List Inflow) (g : List Tree) (e : End) → RecoverKeeps t x ins g e → RecoverRest t x ins g
       by_held (shut m) ins g e k = tt
+      by_held (stopped next) ins g e k = tt
       by_held (passes n) [] g e k = k
       by_held (passes n) (f ∷ h ∷ fs) g e k = k
       by_held (turned n) [] g e k = k
@@ -186,26 +249,36 @@ module _ (t : Tree) where
   own_of : (c : Inflow) → c.list ≡ [] → IsBroken c.end → recovered t c ≡ own_items t
   own_of c none b = let x : (d : Cause) × (c.end ≡ failed d) = cause_of c.end b in ap (recovered_by t c.list) x.1 ∙ ap (λ (l : List Tree). told (l ++ t ∷ []) ended) none
 
-  residual_step : (n : ℕ) (c : Inflow) (out : List Item) (new : RecoverHeld) → RecoverStep t n c out new → (r : Inflow) → recovered t (joined c r) ≡ out ++ recover_gives t new r
-  residual_step n c out (passes k) s r = ap (recovered t) (joined_is c r s.0) ∙ after c.list r.list r.end ∙ ap (λ (o : List Item). o ++ recovered t r) (sym s.1.1)
-  residual_step n c out (turned k) s r = ap (recovered t) (over_joined c r s.1.0) ∙ own_of c s.0 s.1.0 ∙ ap (λ (o : List Item). o ++ own_items t) (sym s.1.1.1)
-  residual_step n c out (shut []) s r =
+  residual_step : (n : ℕ) (c : Inflow) (out : List Item) (new : RecoverHeld) → RecoverStep t n c out new → GivesAfter (λ r. recovered t (joined c r)) t out new
+  residual_step n c out (stopped next) s = tt
+  residual_step n c out (passes k) s = λ r. ap (recovered t) (joined_is c r s.0) ∙ after c.list r.list r.end ∙ ap (λ (o : List Item). o ++ recovered t r) (sym s.1.1)
+  residual_step n c out (turned k) s = λ r. ap (recovered t) (over_joined c r s.1.0) ∙ own_of c s.0 s.1.0 ∙ ap (λ (o : List Item). o ++ own_items t) (sym s.1.1.1)
+  residual_step n c out (shut []) s = λ r.
       ap (recovered t) (ap (λ (e : End). joined_at e c.list r) s.1.0) ∙ ap (λ (l : List Tree). told l ended) s.0 ∙ sym s.1.1 ∙ sym (append-nil out)
-  residual_step n c out (shut (k ∷ [])) s r = ap (recovered t) (over_joined c r s.1.0) ∙ own_of c s.0 s.1.0 ∙ sym s.1.1.1 ∙ sym (append-nil out)
-  residual_step n c out (shut (k ∷ j ∷ m)) s r = absurd s
+  residual_step n c out (shut (k ∷ [])) s = λ r. ap (recovered t) (over_joined c r s.1.0) ∙ own_of c s.0 s.1.0 ∙ sym s.1.1.1 ∙ sym (append-nil out)
+  residual_step n c out (shut (k ∷ j ∷ m)) s = absurd s
 
-  own_step : (n : ℕ) (out : List Item) (new : RecoverHeld) → OwnStep t n out new → (r : Inflow) → own_items t ≡ out ++ recover_gives t new r
-  own_step n out (passes k) s r = absurd s
-  own_step n out (turned k) s r = ap (λ (o : List Item). o ++ own_items t) (sym s.1)
-  own_step n out (shut m) s r = sym s.1 ∙ sym (append-nil out)
+  own_step : (n : ℕ) (out : List Item) (new : RecoverHeld) → OwnStep t n out new → GivesAfter (λ r. own_items t) t out new
+  own_step n out (passes k) s = absurd s
+  own_step n out (stopped next) s = absurd s
+  own_step n out (turned k) s = λ r. ap (λ (o : List Item). o ++ own_items t) (sym s.1)
+  own_step n out (shut m) s = λ r. sym s.1 ∙ sym (append-nil out)
 
   refused : (was : List ℕ) (out : List Item) (new : RecoverHeld) → RecoverRefused was out new → out ≡ []
   refused was out (passes k) s = absurd s
   refused was out (turned k) s = absurd s
+  refused was out (stopped next) s = absurd s
   refused was out (shut m) s = s.0
+
+  still_stopped : (next : Next) (before : Inflow → List Item) (out : List Item) (new : RecoverHeld) → new ≡ stopped next → GivesAfter before t out new
+  still_stopped next before out new e = subst (λ (x : RecoverHeld). GivesAfter before t out x) (sym e) tt
 
   pub recover_residual : (call : Call) (x : RecoverHeld) (out : List Item) (new : RecoverHeld) → RecoverTurnAt t call x out new → RecoverResidual t call x out new
   recover_residual call (shut m) out new s = absurd s
+  recover_residual starts (stopped next) out new s = still_stopped next (λ r. recover_gives t (stopped next) (joined (coming starts 0) r)) out new s.1
+  recover_residual (pulls j) (stopped next) out new s = still_stopped next (λ r. recover_gives t (stopped next) (joined (coming (pulls j) 0) r)) out new s.1
+  recover_residual (arrives i b) (stopped next) out new s = still_stopped next (λ r. recover_gives t (stopped next) (joined (coming (arrives i b) 0) r)) out new s.1
+  recover_residual (cancels j) (stopped next) out new s = s.0
   recover_residual starts (passes n) out new s = residual_step n (coming starts 0) out new s
   recover_residual (pulls j) (passes n) out new s = residual_step n (coming (pulls j) 0) out new s
   recover_residual (arrives i b) (passes n) out new s = residual_step n (coming (arrives i b) 0) out new s
@@ -220,6 +293,7 @@ module _ (t : Tree) where
   stands_by : (x : RecoverHeld) (f : Inflow) (g : List Tree) (e : End) → RecoverKeeps t x (f ∷ []) g e → RecoverStandsOf t (recover_moves x) (f ∷ []) g e
   stands_by (passes n) f g e k = (omega arith, subst (λ (x : End). RecoverStands t [] f g x) (sym k.0) (same f g k.1.1.0))
   stands_by (turned n) f g e k = (omega arith, subst (λ (x : End). RecoverStands t (n ∷ []) f g x) (sym k.0) (stood n f g k.1.0 k.1.1))
+  stands_by (stopped next) f g e k = (omega arith, subst (λ (x : End). RecoverStands t [] f g x) (sym k.0) k.1.0)
   stands_by (shut moves) f g e k = k
 
   pub recover_stands : (x : RecoverHeld) (v : View) (took : ℕ → List Item) (gave : List Item) → (law : RecoverLaw t x v took gave) → RecoverStandsOf t (recover_moves x) law.ins law.out_list law.out_end

@@ -1,22 +1,26 @@
-ghost use Rattle.std.specs.Prelude.{◌≡◌, ◌≢◌, ◌≤◌, ◌<◌, ◌∷◌, [], ◌++◌, OnOk, OnErr, IsOk, IfSome, Some, None, true, false, length};
+ghost use Rattle.std.specs.Prelude.{vec_len, ◌≡◌, ◌+◌, ◌≢◌, ◌≤◌, ◌<◌, ◌∷◌, [], ◌++◌, OnOk, OnErr, IsOk, IfSome, Some, None, true, false, length};
+ghost use Rattle.elem_core.specs.Tree.{Tree};
 ghost use Rattle.elem_core.specs.declared.item.Item.TheVariants as item;
-ghost use Rattle.port_core.specs.declared.act.Act.TheVariants.{Push, Complete};
+ghost use Rattle.port_core.specs.declared.act.Act.TheVariants.{Pull, Push, Complete, Cancel};
 ghost use Rattle.port_core.specs.Call.{Obeys, Meets, starts, pulls, arrives, cancels};
 ghost use Rattle.stage_core.specs.declared.phase.Phase.TheVariants.{New, Open, Closed};
-ghost use Rattle.stage_dropping.specs.Recoverings.{Recover, port_state, Turned, begun};
+ghost use Rattle.port_core.specs.Picks.{MayNote, may_end, next_move};
+ghost use Rattle.stage_dropping.specs.Recoverings.{Recover, port_state, Turned, begun, follows, is_full, may_turn, turn_noted, stopped};
 
 use elem_core::count::one_more_small;
 use elem_core::elem::Elem;
 use elem_core::why::{Cause, NoMemory};
 use port_core::act::Act;
 use port_core::acts::Acts;
-use port_core::pick_log::PickLog;
+use port_core::pick_log::{Next, PickLog};
 use stage_core::phase::Phase;
 use std::alloc::Global;
 use std::marker::Model;
 
 /// The logic of a recover: it passes on what comes; a failure of its input it turns into an element of its own, which it gives
-/// when asked, and then completes. As the failure comes it notes how many elements passed. Rule: Akka Streams 2.6 reference.
+/// when asked, and then completes. As the failure comes it notes how many elements passed. One that follows a move does so where as many
+/// have passed as the move says, and stops where that cannot come about; one that follows none gives nothing behind a failure. Rule: Akka
+/// Streams 2.6 reference; moves: own.
 #[derive(Drop)]
 pub struct Recovering {
     own: Option<Elem>,
@@ -24,6 +28,8 @@ pub struct Recovering {
     passed: u32,
     asked: bool,
     over: bool,
+    // It does nothing more: it cannot make its next move, or has none and its input failed.
+    still: bool,
     phase: Phase,
 }
 
@@ -36,7 +42,17 @@ impl Model for Recovering {
 
     ghost coded = { Prim.hlevel (codes, tree_coded) };
 
-    ghost view = { λ l. record { phase = l.phase; own = l.own; passed = l.passed; asked = l.asked; over = l.over; moves = l.log.moves } };
+    ghost view = { λ l. record {
+      phase = l.phase;
+      own = l.own;
+      passed = l.passed;
+      asked = l.asked;
+      over = l.over;
+      still = l.still;
+      moves = l.log.moves;
+      left = l.log.left;
+      stuck = l.log.stuck;
+    } };
 }
 
 impl Recovering {
@@ -50,8 +66,18 @@ impl Recovering {
             passed: 0,
             asked: false,
             over: false,
+            still: false,
             phase: Phase::New,
         }
+    }
+
+    /// From now on a new recover follows these moves, of which it has at most one. It takes no memory.
+    pub fn follow(&mut self, moves: Vec<u32>)
+        requires new { (own : Tree) × (self.old ≡ begun own) }
+        requires one { vec_len moves ≤ 1 }
+        ensures { self.new ≡ follows moves.items self.old }
+    {
+        self.log = PickLog::follow(moves);
     }
 
     /// The run begins.
@@ -81,11 +107,13 @@ impl Recovering {
         ensures gives { OnOk result (Turned (pulls 0) self.old acts.new.items self.new) }
         ensures room { acts.new.room ≡ acts.old.room }
     {
-        if self.over {
+        if self.is_still() {
+            return Ok(());
+        }
+        if self.is_over() {
             self.give_own(acts);
         } else {
-            self.asked = true;
-            acts.add(Act::Pull(port));
+            self.ask(port, acts);
         }
         Ok(())
     }
@@ -102,8 +130,14 @@ impl Recovering {
         ensures room { acts.new.room ≡ acts.old.room }
         ensures refused { OnErr result ((self.new ≡ self.old) × (acts.new ≡ acts.old)) }
     {
-        self.passed = one_more_small(self.passed)?;
-        self.asked = false;
+        if self.is_still() {
+            return Ok(());
+        }
+        if self.is_full() {
+            self.stop();
+            return Ok(());
+        }
+        self.count()?;
         acts.add(Act::Push(port, e));
         Ok(())
     }
@@ -120,8 +154,14 @@ impl Recovering {
         ensures gives { OnOk result (Turned (arrives 0 item.Ended) self.old acts.new.items self.new) }
         ensures room { acts.new.room ≡ acts.old.room }
     {
-        acts.add(Act::Complete(port));
-        self.phase = Phase::Closed;
+        if self.is_still() {
+            return Ok(());
+        }
+        if self.may_end() {
+            self.complete(port, acts);
+        } else {
+            self.stop();
+        }
         Ok(())
     }
 
@@ -138,11 +178,14 @@ impl Recovering {
         ensures room { acts.new.room ≡ acts.old.room }
         ensures refused { OnErr result ((self.new ≡ self.old) × (acts.new ≡ acts.old)) }
     {
-        self.log.reserve()?;
-        self.log.note(self.passed);
-        self.over = true;
-        if self.asked {
-            self.give_own(acts);
+        if self.is_still() {
+            return Ok(());
+        }
+        if self.may_turn() {
+            self.note_turn()?;
+            self.turn(acts);
+        } else {
+            self.stop();
         }
         Ok(())
     }
@@ -159,11 +202,136 @@ impl Recovering {
         ensures gives { OnOk result (Turned (cancels 0) self.old acts.new.items self.new) }
         ensures room { acts.new.room ≡ acts.old.room }
     {
+        if self.is_still() {
+            return Ok(());
+        }
+        self.leave(port, acts);
+        Ok(())
+    }
+
+    fn is_still(&self) -> bool
+        ensures { result ≡ self.now.still }
+    {
+        self.still
+    }
+
+    fn is_over(&self) -> bool
+        ensures { result ≡ self.now.over }
+    {
+        self.over
+    }
+
+    // The output is asked, and so the input.
+    fn ask(&mut self, port: u8, acts: &mut Acts)
+        requires empty { acts.old.items ≡ [] }
+        requires room { 4 ≤ acts.old.room }
+        ensures stage { self.new ≡ record self.old { asked = true } }
+        ensures acts { acts.new.items ≡ Pull port ∷ [] }
+        ensures room { acts.new.room ≡ acts.old.room }
+    {
+        self.asked = true;
+        acts.add(Act::Pull(port));
+    }
+
+    // One more element passes.
+    fn count(&mut self) -> Result<(), NoMemory>
+        ensures stage { OnOk result (self.new ≡ record self.old { passed = self.old.passed + 1; asked = false }) }
+        ensures refused { OnErr result (self.new ≡ self.old) }
+    {
+        self.passed = one_more_small(self.passed)?;
+        self.asked = false;
+        Ok(())
+    }
+
+    fn complete(&mut self, port: u8, acts: &mut Acts)
+        requires empty { acts.old.items ≡ [] }
+        requires room { 4 ≤ acts.old.room }
+        ensures stage { self.new ≡ record self.old { phase = Closed } }
+        ensures acts { acts.new.items ≡ Complete port ∷ [] }
+        ensures room { acts.new.room ≡ acts.old.room }
+    {
+        acts.add(Act::Complete(port));
+        self.phase = Phase::Closed;
+    }
+
+    // How many elements passed is noted. It takes memory for the move alone; where that is refused, all is as before.
+    fn note_turn(&mut self) -> Result<(), NoMemory>
+        requires next { MayNote self.old.passed self.old.left }
+        ensures noted { OnOk result (self.new ≡ turn_noted self.old) }
+        ensures refused { OnErr result (self.new ≡ self.old) }
+    {
+        self.log.reserve()?;
+        self.log.note(self.passed);
+        Ok(())
+    }
+
+    // The input has failed: its own element is given where the output is asked.
+    fn turn(&mut self, acts: &mut Acts)
+        requires own { self.old.own ≢ None }
+        requires empty { acts.old.items ≡ [] }
+        requires room { 4 ≤ acts.old.room }
+        ensures waits { self.old.asked ≡ false → (self.new ≡ record self.old { over = true }) × (acts.new.items ≡ []) }
+        ensures stage { self.old.asked ≡ true → self.new ≡ record self.old { over = true; phase = Closed; own = None } }
+        ensures acts { self.old.asked ≡ true → IfSome self.old.own (λ t. acts.new.items ≡ Push 0 t ∷ Complete 0 ∷ []) }
+        ensures room { acts.new.room ≡ acts.old.room }
+    {
+        self.over = true;
+        if self.asked {
+            self.give_own(acts);
+        }
+    }
+
+    // The output was cancelled: so is the input, where it is not over.
+    fn leave(&mut self, port: u8, acts: &mut Acts)
+        requires empty { acts.old.items ≡ [] }
+        requires room { 4 ≤ acts.old.room }
+        ensures stage { self.new ≡ record self.old { phase = Closed } }
+        ensures going { self.old.over ≡ false → acts.new.items ≡ Cancel port ∷ [] }
+        ensures over { self.old.over ≡ true → acts.new.items ≡ [] }
+        ensures room { acts.new.room ≡ acts.old.room }
+    {
         if !self.over {
             acts.add(Act::Cancel(port));
         }
         self.phase = Phase::Closed;
-        Ok(())
+    }
+
+    // As many elements have passed as the next move says.
+    fn is_full(&self) -> bool
+        ensures { result ≡ is_full (next_move self.now.left) self.now.passed }
+    {
+        match self.log.next() {
+            Next::Move(k) => k == self.passed,
+            Next::Free | Next::UsedUp => false,
+        }
+    }
+
+    // No move is to be made.
+    fn may_end(&self) -> bool
+        ensures { result ≡ may_end (next_move self.now.left) }
+    {
+        !matches!(self.log.next(), Next::Move(_))
+    }
+
+    // A failure may be turned into its own element here.
+    fn may_turn(&self) -> bool
+        ensures { result ≡ may_turn (next_move self.now.left) self.now.passed }
+    {
+        match self.log.next() {
+            Next::Free => true,
+            Next::Move(k) => k == self.passed,
+            Next::UsedUp => false,
+        }
+    }
+
+    // It does nothing more. Where a move was to be made, that is marked.
+    fn stop(&mut self)
+        ensures { self.new ≡ stopped self.old }
+    {
+        if let Next::Move(_) = self.log.next() {
+            self.log.misfit();
+        }
+        self.still = true;
     }
 
     // Gives its own element, and completes.
@@ -187,7 +355,9 @@ impl Recovering {
 
     /// The run is over: the log of its moves. It takes no memory.
     pub fn close(self) -> PickLog
-        ensures { result.moves ≡ self.moves }
+        ensures moves { result.moves ≡ self.moves }
+        ensures left { result.left ≡ self.left }
+        ensures stuck { result.stuck ≡ self.stuck }
     {
         self.log
     }

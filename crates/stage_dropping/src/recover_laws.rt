@@ -1,9 +1,10 @@
 // Laws of the recover: each function has no body, and its contract is the law.
-ghost use Rattle.std.specs.Prelude.{◌≡◌, ◌≢◌, true, List};
+ghost use Rattle.std.specs.Prelude.{◌≡◌, ◌≢◌, ◌≤◌, true, false, ℕ, List, length, None};
 ghost use Rattle.elem_core.specs.Tree.{Tree};
 ghost use Rattle.elem_core.specs.declared.item.Item.{Item};
 ghost use Rattle.port_core.specs.declared.act.Act.{Act};
-ghost use Rattle.port_core.specs.View.{View, unpulled_ports};
+ghost use Rattle.port_core.specs.View.{View, in_at, unpulled_ports};
+ghost use Rattle.port_core.specs.Picks.{next_move, plan_of};
 ghost use Rattle.port_core.specs.Call.{Call, starts, CallAllowed, Obeys};
 ghost use Rattle.stream_model.specs.Node.{head_of};
 ghost use Rattle.stream_model.specs.Outlook.{Outlook, Agrees};
@@ -11,19 +12,39 @@ ghost use Rattle.stream_model.specs.FanIn.{AllAgree};
 ghost use Rattle.stream_model.specs.Picks.{recover_fits, recover_outlook};
 ghost use Rattle.stage_core.specs.Handling.{Starts, Handles};
 ghost use Rattle.stage_core.specs.declared.phase.Phase.TheVariants.{New, Open};
-ghost use Rattle.stage_dropping.specs.Recovers.{RecoverHeld, RecoverTurnAt, RecoverResidual, RecoverRest, RecoverRests, RecoverCounts};
-ghost use Rattle.stage_dropping.specs.Recoverings.{Recover, begun, port_state, held_of, Turned, RecoverFresh, RecoverPortState, RecoversAs};
+ghost use Rattle.stage_dropping.specs.Recovers.{RecoverHeld, RecoverTurnAt, RecoverResidual, RecoverRest, RecoverRests, FailedAt, RecoverMisfits, RecoverCause, RecoverCounts};
+ghost use Rattle.stage_dropping.specs.Recoverings.{Recover, begun, follows, port_state, held_of, Turned, RecoverFresh, RecoverPortState, RecoversAs};
 
-/// A new recover may be started, made no move, and knows that no port was asked.
+/// A new recover may be started, made no move, and knows that no port was asked; the same where it follows at most one move.
 pub fn a_new_recover_may_start()
-    ensures { (t : Tree) → RecoverFresh (begun t) unpulled_ports }
+    ensures new { (t : Tree) → RecoverFresh (begun t) unpulled_ports }
+    ensures follows { (t : Tree) (moves : List ℕ) → length moves ≤ 1 → RecoverFresh (follows moves (begun t)) unpulled_ports }
 {}
 
 /// Where its port state and its law hold, a recover that was started has closed both its ports, or has nothing to do: it waits for
-/// its input and has given all that it took, or nobody asks it.
+/// its input and has given all that it took, or nobody asks it. Where it follows no move, its input may be shut and have failed.
 pub fn a_started_recover_rests()
-    ensures { (first now : Recover) (v : View) (took gave : List (List Item)) → RecoverPortState now v → (law : RecoversAs first now v took gave)
-        → RecoverRests v law.by.law.ins law.by.law.out_list }
+    ensures rests { (first now : Recover) (v : View) (took gave : List (List Item)) → now.still ≡ false → RecoverPortState now v
+        → (law : RecoversAs first now v took gave) → RecoverRests v law.by.law.ins law.by.law.out_list }
+    ensures without { (first now : Recover) (v : View) (took gave : List (List Item)) → now.still ≡ true → now.stuck ≡ false → RecoverPortState now v
+        → (law : RecoversAs first now v took gave) → FailedAt (in_at v 0) law.by.law.ins }
+    ensures free { (first now : Recover) (v : View) (took gave : List (List Item)) → first.left ≡ None → RecoversAs first now v took gave
+        → (now.still ≡ false) × (now.left ≡ None) }
+{}
+
+/// A misfit has its cause, over what came: the input ended, or failed before as many passed as the move says, or gave more than that;
+/// and the same over the outlook of the input.
+pub fn a_misfit_has_its_cause()
+    ensures came { (first now : Recover) (v : View) (took gave : List (List Item)) → now.stuck ≡ true → RecoverPortState now v
+        → (law : RecoversAs first now v took gave) → RecoverMisfits (next_move now.left) law.by.law.ins }
+    ensures outlook { (is : List Outlook) (first now : Recover) (v : View) (took gave : List (List Item)) → now.stuck ≡ true → RecoverPortState now v
+        → (law : RecoversAs first now v took gave) → AllAgree is law.by.law.ins → RecoverCause (next_move now.left) is }
+{}
+
+/// What it follows is what it was handed in with, of which its moves are the first.
+pub fn moves_begin_the_plan()
+    ensures { (first now : Recover) (v : View) (took gave : List (List Item)) → RecoversAs first now v took gave
+        → plan_of now.moves now.left ≡ first.left }
 {}
 
 /// Where the port rules allow a call of a handler and the port state holds, a recover that was started is open.

@@ -1,6 +1,9 @@
-use Rattle.std.proofs.Common.{rules, []}
-use Rattle.stage_dropping.proofs.DropSteps.{turned_by, fails_so}
+use Rattle.std.proofs.Common.{◌∙◌, ap}
+use Rattle.stage_dropping.proofs.DropCalls.{Handled, failed_by}
 use Rattle.stage_dropping.proofs.dropping.Dropping.on_fail.Goals as goal
 
+pub returns-clause-ports : goal.returns-clause-ports
+returns-clause-ports c = (failed_by c.args.self.now c.end.new.self c.end.new.acts.items c.args.cause c.requires.open c.requires.meets (λ e. ((c.end.ensures.stuck e).0, ap (λ a. a.items) (c.end.ensures.stuck e).1 ∙ c.requires.empty)) c.end.ensures.settles).ports
+
 pub returns-clause-gives : goal.returns-clause-gives
-returns-clause-gives c = turned_by (fails_so c.self.inside.node c.self.inside.policy c.self.inside.ring.capacity c.self.inside.came c.self.inside.ring.items [] c.self.inside.asked c.self.inside.log.moves c.args.cause) (search rules) (search rules) (search rules)
+returns-clause-gives c = (failed_by c.args.self.now c.end.new.self c.end.new.acts.items c.args.cause c.requires.open c.requires.meets (λ e. ((c.end.ensures.stuck e).0, ap (λ a. a.items) (c.end.ensures.stuck e).1 ∙ c.requires.empty)) c.end.ensures.settles).gives

@@ -1,9 +1,9 @@
-use Rattle.std.proofs.Common.{rules}
-use Rattle.stage_dropping.proofs.DropSteps.{turned_by, ends_so, over_so}
+use Rattle.std.proofs.Common.{◌∙◌, ap}
+use Rattle.stage_dropping.proofs.DropCalls.{Handled, finished_by}
 use Rattle.stage_dropping.proofs.dropping.Dropping.on_finish.Goals as goal
 
-pub returns-then-holds_none-clause-gives : goal.returns-then-holds_none-clause-gives
-returns-then-holds_none-clause-gives c = turned_by (ends_so c.self.inside.node c.self.inside.policy c.self.inside.ring.capacity c.self.inside.came c.self.inside.asked c.self.inside.log.moves) (search rules) (search rules) (search rules)
+pub returns-clause-ports : goal.returns-clause-ports
+returns-clause-ports c = (finished_by c.args.self.now c.end.new.self c.end.new.acts.items c.requires.open c.requires.meets (λ e. ((c.end.ensures.stuck e).0, ap (λ a. a.items) (c.end.ensures.stuck e).1 ∙ c.requires.empty)) c.end.ensures.settles).ports
 
-pub returns-else-holds_none-clause-gives : goal.returns-else-holds_none-clause-gives
-returns-else-holds_none-clause-gives c = turned_by (over_so c.self.inside.node c.self.inside.policy c.self.inside.ring.capacity c.self.inside.came c.self.inside.ring.items c.self.inside.asked c.self.inside.log.moves) (search rules) (search rules) (search rules)
+pub returns-clause-gives : goal.returns-clause-gives
+returns-clause-gives c = (finished_by c.args.self.now c.end.new.self c.end.new.acts.items c.requires.open c.requires.meets (λ e. ((c.end.ensures.stuck e).0, ap (λ a. a.items) (c.end.ensures.stuck e).1 ∙ c.requires.empty)) c.end.ensures.settles).gives

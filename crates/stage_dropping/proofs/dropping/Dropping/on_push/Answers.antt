@@ -1,12 +1,20 @@
-use Rattle.std.proofs.Common.{rules, refl}
-use Rattle.stage_dropping.proofs.DropSteps.{turned_by, state, through_so, took_so, overflew_so}
+use Rattle.std.proofs.Common.{◌∙◌, sym, ap, false}
+use Rattle.stage_dropping.specs.Droppings.{Dropping}
+use Rattle.stage_dropping.proofs.DropCalls.{Handled, stays_still}
+use Rattle.stage_dropping.proofs.DropEnters.{enters_now, comes_asked, came_so}
 use Rattle.stage_dropping.proofs.dropping.Dropping.on_push.Goals as goal
 
-pub returns-then-self-clause-gives : goal.returns-then-self-clause-gives
-returns-then-self-clause-gives c = turned_by (through_so c.self.inside.node c.self.inside.policy c.self.inside.ring.capacity c.self.inside.came c.args.e c.self.inside.log.moves (search rules)) (search rules) (search rules) (search rules)
+pub enter-requires-clause-enters : goal.enter-requires-clause-enters
+enter-requires-clause-enters c = enters_now c.args.self.now c.make_room.new.self c.args.e (record { phase_is = c.requires.open; calm = sym (ap (λ (l : Dropping). l.log.stuck) c.self.view_is) ∙ sym c.is_stuck.ensures ∙ c.if-is_stuck.false }) c.requires.meets c.in_ok-may_count.ensures.fits c.make_room.ensures.kept
 
-pub returns-else-take_in-clause-gives : goal.returns-else-take_in-clause-gives
-returns-else-take_in-clause-gives c = turned_by (overflew_so c.self.inside.node c.self.inside.policy c.self.inside.ring.capacity c.take_in.result (state c.self.inside.node c.self.inside.policy c.self.inside.ring.capacity c.self.inside.phase c.in_ok-self-inside.field-0 c.self.inside.ring.items c.self.inside.asked c.self.inside.over c.note.new.self.moves) c.take_in.new.self c.self.inside.came c.self.inside.ring.items c.args.e c.self.inside.asked c.self.inside.log.moves (search rules) c.if-take_in.false c.take_in.ensures (search rules) (search rules)) (search rules) refl refl
+pub enter-requires-clause-going : goal.enter-requires-clause-going
+enter-requires-clause-going c = (comes_asked c.args.self.now c.make_room.new.self c.args.e (record { phase_is = c.requires.open; calm = sym (ap (λ (l : Dropping). l.log.stuck) c.self.view_is) ∙ sym c.is_stuck.ensures ∙ c.if-is_stuck.false }) c.requires.meets c.make_room.ensures.kept).0
 
-pub returns-then-take_in-clause-gives : goal.returns-then-take_in-clause-gives
-returns-then-take_in-clause-gives c = turned_by (took_so c.self.inside.node c.self.inside.policy c.self.inside.ring.capacity c.take_in.result (state c.self.inside.node c.self.inside.policy c.self.inside.ring.capacity c.self.inside.phase c.in_ok-self-inside.field-0 c.self.inside.ring.items c.self.inside.asked c.self.inside.over c.note.new.self.moves) c.self.inside.came c.self.inside.ring.items c.args.e c.self.inside.asked c.self.inside.log.moves (search rules) c.if-take_in.true c.take_in.ensures (search rules)) (search rules) refl refl
+pub enter-requires-clause-pulled : goal.enter-requires-clause-pulled
+enter-requires-clause-pulled c = (comes_asked c.args.self.now c.make_room.new.self c.args.e (record { phase_is = c.requires.open; calm = sym (ap (λ (l : Dropping). l.log.stuck) c.self.view_is) ∙ sym c.is_stuck.ensures ∙ c.if-is_stuck.false }) c.requires.meets c.make_room.ensures.kept).1
+
+pub returns-clause-ports : goal.returns-clause-ports
+returns-clause-ports c = (came_so c.args.self.now c.make_room.new.self c.enter.new.self c.enter.new.acts.items c.args.e (record { phase_is = c.requires.open; calm = sym (ap (λ (l : Dropping). l.log.stuck) c.self.view_is) ∙ sym c.is_stuck.ensures ∙ c.if-is_stuck.false }) c.requires.meets c.in_ok-may_count.ensures.fits c.make_room.ensures.kept c.enter.ensures.answered).ports
+
+pub returns-clause-gives : goal.returns-clause-gives
+returns-clause-gives c = (came_so c.args.self.now c.make_room.new.self c.enter.new.self c.enter.new.acts.items c.args.e (record { phase_is = c.requires.open; calm = sym (ap (λ (l : Dropping). l.log.stuck) c.self.view_is) ∙ sym c.is_stuck.ensures ∙ c.if-is_stuck.false }) c.requires.meets c.in_ok-may_count.ensures.fits c.make_room.ensures.kept c.enter.ensures.answered).gives

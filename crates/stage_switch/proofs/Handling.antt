@@ -1,6 +1,6 @@
 -- Each call of a valve and of a trip keeps the law of its histories and of its seat.
 use Rattle.std.specs.Prelude.{Result, OnOk, OnErr, IsOk, Ok, Err, slice_index_or}
-use Rattle.std.proofs.Common.{◌≡◌, ◌≢◌, ℕ, zero, suc, ◌+◌, List, [], ◌∷◌, ◌++◌, length, refl, sym, ap, subst, ◌∙◌, arith}
+use Rattle.std.proofs.Common.{◌≡◌, ◌≢◌, ℕ, zero, suc, ◌+◌, List, [], ◌∷◌, ◌++◌, length, refl, sym, ap, subst, ◌∙◌, arith, Bool, true, false, true≢false}
 use Rattle.elem_core.specs.Prefix.{IsPrefix}
 use Rattle.elem_core.specs.Items.{elements}
 use Rattle.elem_core.proofs.Prefixes.{prefix_refl}
@@ -29,8 +29,8 @@ use Rattle.stage_core.proofs.Histories.{in_node, ins_seen, ins_acted, begun}
 use Rattle.stage_core.specs.declared.phase.Phase.{Phase}
 use Rattle.stage_core.specs.declared.phase.Phase.TheVariants.{New, Open, Closed}
 use Rattle.stage_switch.specs.Valves.{ValveHeld, passes, ValveTurnAt, ValveKeeps, ValveLaw}
-use Rattle.stage_switch.specs.States.{passing_port_state, Valve, Unmoved, valve_port_state, valve_held, valve_held_in, ValveTurned, brought, Trip, trip_port_state, trip_held, trip_held_in, trip_stage, TripTurned}
-use Rattle.stage_switch.specs.Handling.{ValveFresh, ValvePortState, ValveAs, KeepsValve, TripFresh, TripPortState, TripAs, KeepsTrip}
+use Rattle.stage_switch.specs.States.{passing_port_state, Valve, Unmoved, MayCount, OnlyElements, GivesFew, valve_in, valve_port_state, valve_held, valve_held_in, valve_held_by, ValveTurned, brought, Trip, trip_port_state, trip_held, trip_held_in, trip_stage, TripTurned}
+use Rattle.stage_switch.specs.Handling.{ValveFresh, ValvePortState, FewGiven, ValveAs, KeepsValve, TripFresh, TripPortState, TripAs, KeepsTrip}
 use Rattle.stage_switch.proofs.ValveTurns.{valve_new, valve_call}
 use Rattle.stage_switch.proofs.Rows.{called_valve, none_new, none_open}
 
@@ -42,15 +42,45 @@ valve_keeps_ports call node old new v took gave acts may allowed turn law =
     in_node (ValveKeeps node (valve_held old)) (ValveKeeps node (valve_held new)) call v (acted_all (seen call v) acts) took gave acts (ins_acted acts (seen call v) ∙ ins_seen call v)
     (λ given l. valve_call node call (valve_held old) (valve_held new) v (λ i. slice_index_or took i []) given acts may allowed turn l) law
 
+elements-append : (is js : List Item) → elements (is ++ js) ≡ elements is + elements js
+elements-append [] js = omega arith
+elements-append (item.Elem e ∷ is) js = let h = elements-append is js in omega (arith, h)
+elements-append (item.Ended ∷ is) js = elements-append is js
+elements-append (item.Failed c ∷ is) js = elements-append is js
+
+only_more : (is js : List Item) → OnlyElements is → OnlyElements js → OnlyElements (is ++ js)
+only_more [] js a b = b
+only_more (item.Elem e ∷ is) js a b = only_more is js a b
+only_more (item.Ended ∷ is) js a b = absurd a
+only_more (item.Failed c ∷ is) js a b = absurd a
+
+-- what it gave with one call more
+given_more : (acts : List Act) (gave : List (List Item)) (given now : List Item) → gave ≡ given ∷ [] → histories.given_all acts gave ≡ now ∷ [] → now ≡ given ++ given_on 0 acts
+given_more acts gave given now was is = let z : now ∷ [] ≡ (given ++ given_on 0 acts) ∷ [] = sym is ∙ (ap (histories.given_all acts) was ∙ given_one acts given) in cc
+
+few_more : (old new : Valve) (given more : List Item) → FewGiven old given → GivesFew old new more → FewGiven new (given ++ more)
+few_more old new given more f t = record {
+  only = only_more given more f.only t.only;
+  count = let a = elements-append given more in let b = f.count in let c = t.count in omega (arith, a, b, c);
+  upto = t.upto;
+}
+
 valve_after : (call : Call) (first old new : Valve) (v : View) (acts : List Act) (took gave : List (List Item)) → CallAllowed call v → ActsAllowed (seen call v) acts → ValveTurned call old acts new → Unmoved new.phase new.moves → ValveAs first old v took gave
     → ValveAs first new (acted_all (seen call v) acts) (histories.brought_by call took) (histories.given_all acts gave)
 valve_after call first old new v acts took gave may allowed t unmoved law = record {
-  by = valve_keeps_ports call first.node old new v took gave acts may allowed (subst (λ (n : ℕ). ValveTurnAt n call (valve_held old) (given_on 0 acts) (valve_held new)) law.node t.turn) law.by;
+  by = by;
   node = t.node ∙ law.node;
   switch = t.switch ∙ law.switch;
+  plan = t.plan ∙ law.plan;
   valve = t.valve;
   unmoved = unmoved;
+  stops = t.stops;
+  few = λ m. subst (λ (given : List Item). FewGiven new given) (sym (given_more acts gave law.by.given by.given law.by.gave_is by.gave_is))
+      (few_more old new law.by.given (given_on 0 acts) (law.few (t.few m).moves) (t.few m));
 }
+  where
+    by : InPortsLaw (ValveKeeps first.node (valve_held new)) (acted_all (seen call v) acts) (histories.brought_by call took) (histories.given_all acts gave)
+    by = valve_keeps_ports call first.node old new v took gave acts may allowed (subst (λ (n : ℕ). ValveTurnAt n call (valve_held old) (given_on 0 acts) (valve_held new)) law.node t.turn) law.by
 
 pub valve_handled : (call : Call) (old new : Valve) (acts : List Act) → Obeys call (valve_port_state old) (valve_port_state new) acts → ValveTurned call old acts new → Handles ValvePortState ValveAs call old new acts
 valve_handled call old new acts o t = record {
@@ -69,20 +99,31 @@ new_ports New x y e r = absurd r
 new_ports Open x y e r = cc
 new_ports Closed x y e r = cc
 
+-- one that was not started goes on
+new_in : (b : Bool) (l : Valve) (x : InView) (y : OutView) → l.phase ≡ New → valve_in b l x y → (b ≡ false) × ((x ≡ Idle) × (y ≡ Unpulled))
+new_in false l x y e r = (refl, new_ports l.phase x y e r.0)
+new_in true l x y e r = absurd (let z : New ≡ Open = sym e ∙ r.0 in cc)
+
 valve_begun : (l : Valve) (v : View) (took gave : List (List Item)) → ValveFresh l v → histories.AllEmpty took → histories.AllEmpty gave → length took ≡ length v.ins → length gave ≡ length v.outs → ValveAs l l v took gave
 valve_begun l v took gave f a b m n =
-    let p = fresh_ports (passing_port_state l.phase) v.ins v.outs took gave f.ports.0 a b m n in
-    let ports = new_ports l.phase p.x p.y f.phase p.holds in
-    let open_out : GaveAs (out_at v 0) unended = rw (p.outs, ports.1) refl in
-    let idle : AllIdle v.ins = rw (p.ins, ports.0) (refl, tt) in
-    let held : valve_held l ≡ passes 0 = ap (λ (q : Phase). valve_held_in q l.passed l.moves) f.phase ∙ ap passes f.passed in
+    let p = fresh_ports (valve_in l.stuck l) v.ins v.outs took gave f.ports.0 a b m n in
+    let new = new_in l.stuck l p.x p.y f.phase p.holds in
+    let open_out : GaveAs (out_at v 0) unended = rw (p.outs, new.1.1) refl in
+    let idle : AllIdle v.ins = rw (p.ins, new.1.0) (refl, tt) in
+    let held : valve_held l ≡ passes 0 = ap (λ (b : Bool). valve_held_by b l) new.0 ∙ ap (λ (q : Phase). valve_held_in q l.passed l.moves) f.phase ∙ ap passes f.passed in
+    let by = begun (ValveKeeps l.node (valve_held l)) v took gave a b m (n ∙ ap length p.outs)
+    (subst (λ (x : ValveHeld). ValveLaw l.node x v (λ _. []) []) (sym held) (valve_new l.node v (ap length p.ins) idle open_out)) in
+    let none : by.given ≡ [] = (let z : by.given ∷ [] ≡ [] ∷ [] = sym by.gave_is ∙ p.gave_is in cc) in
+    let room : MayCount l.left l.passed = (subst (λ (b : Bool). valve_in b l p.x p.y) new.0 p.holds).1 in
     record {
-      by = begun (ValveKeeps l.node (valve_held l)) v took gave a b m (n ∙ ap length p.outs)
-          (subst (λ (x : ValveHeld). ValveLaw l.node x v (λ _. []) []) (sym held) (valve_new l.node v (ap length p.ins) idle open_out));
+      by = by;
       node = refl;
       switch = refl;
+      plan = refl;
       valve = f.valve;
       unmoved = f.ports.1;
+      stops = λ s. absurd (true≢false (sym s ∙ new.0));
+      few = λ moves. subst (λ (given : List Item). FewGiven l given) (sym none) (record { only = tt; count = f.passed; upto = room });
     }
 
 pub valve_started : (old new : Valve) (acts : List Act) → Obeys starts (valve_port_state old) (valve_port_state new) acts → ValveTurned starts old acts new → Starts ValvePortState ValveAs ValveFresh old new acts
@@ -96,12 +137,6 @@ valve_started old new acts o t = record {
 }
 
 -- ---- a trip
-
-elements-append : (is js : List Item) → elements (is ++ js) ≡ elements is + elements js
-elements-append [] js = omega arith
-elements-append (item.Elem e ∷ is) js = let h = elements-append is js in omega (arith, h)
-elements-append (item.Ended ∷ is) js = elements-append is js
-elements-append (item.Failed c ∷ is) js = elements-append is js
 
 -- what a call that may come brings to the one input
 one_brought : (call : Call) (v : View) → length v.ins ≡ 1 → CallAllowed call v → brought call ≡ elements (brought_to 0 call)
@@ -186,7 +221,7 @@ trip_started old new acts o t = record {
 -- ---- a call of a handler is of the one input or output
 
 pub valve_met : (call : Call) (l : Valve) → Meets call (ValvePortState l) → Meets (at_first call) (valve_port_state l)
-valve_met call l m = subst (λ c. Meets c (valve_port_state l)) (sym (first_port (passing_port_state l.phase) call m.0 m.1.0 m.1.1.ports.0)) (m.0, (m.1.0, m.1.1.ports))
+valve_met call l m = subst (λ c. Meets c (valve_port_state l)) (sym (first_port (valve_in l.stuck l) call m.0 m.1.0 m.1.1.ports.0)) (m.0, (m.1.0, m.1.1.ports))
 
 pub trip_met : (call : Call) (l : Trip) → Meets call (TripPortState l) → Meets (at_first call) (trip_port_state l)
 trip_met call l m = subst (λ c. Meets c (trip_port_state l)) (sym (first_port (passing_port_state l.phase) call m.0 m.1.0 m.1.1.ports)) (m.0, (m.1.0, m.1.1.ports))
@@ -194,7 +229,7 @@ trip_met call l m = subst (λ c. Meets c (trip_port_state l)) (sym (first_port (
 pub valve_handles : {T E : Type 0} (call : Call) (old new : Valve) (acts : List Act) (r : Result T E) → Meets call (ValvePortState old) → OnOk r (Obeys (at_first call) (valve_port_state old) (valve_port_state new) acts) → OnOk r (ValveTurned (at_first call) old acts new)
     → OnOk r (Handles ValvePortState ValveAs call old new acts)
 valve_handles call old new acts r m o t =
-    subst (λ c. OnOk r (Handles ValvePortState ValveAs c old new acts)) (first_port (passing_port_state old.phase) call m.0 m.1.0 m.1.1.ports.0) (on_ok_two r o t (λ a b. valve_handled (at_first call) old new acts a b))
+    subst (λ c. OnOk r (Handles ValvePortState ValveAs c old new acts)) (first_port (valve_in old.stuck old) call m.0 m.1.0 m.1.1.ports.0) (on_ok_two r o t (λ a b. valve_handled (at_first call) old new acts a b))
 
 pub trip_handles : {T E : Type 0} (call : Call) (old new : Trip) (acts : List Act) (r : Result T E) → Meets call (TripPortState old) → OnOk r (Obeys (at_first call) (trip_port_state old) (trip_port_state new) acts) → OnOk r (TripTurned (at_first call) old acts new)
     → OnOk r (Handles TripPortState TripAs call old new acts)
@@ -212,14 +247,14 @@ grown call old new acts (Ok x) e t = begins_with new.moves old.moves e
 grown call old new acts (Err x) e t = tt
 
 valve_same : (old new : Valve) → new ≡ old → KeepsValve old new
-valve_same old new e = rw e record { node = refl; switch = refl; moves = prefix_refl old.moves; valve = λ h. h }
+valve_same old new e = rw e record { node = refl; switch = refl; moves = prefix_refl old.moves; plan = refl; valve = λ h. h }
 
 -- its start
 pub valve_begins : {T E : Type 0} (old new : Valve) (acts : List Act) (r : Result T E) → Meets starts (ValveFresh old) → OnOk r (ValveTurned starts old acts new) → OnOk r (IsPrefix old.moves new.moves)
 valve_begins old new acts r m t = grown starts old new acts r (none_new starts old m.1.1.phase (m.0, (m.1.0, m.1.1.ports))) t
 
 pub valve_start_keeps : {T E : Type 0} (X : Type 0) (old new : Valve) (acts : List Act) (r : Result T E) → Meets starts (ValveFresh old) → OnOk r (ValveTurned starts old acts new) → OnErr r ((new ≡ old) × X) → KeepsValve old new
-valve_start_keeps X old new acts (Ok x) m t e = record { node = t.node; switch = t.switch; moves = begins_with new.moves old.moves (none_new starts old m.1.1.phase (m.0, (m.1.0, m.1.1.ports))); valve = λ h. t.valve }
+valve_start_keeps X old new acts (Ok x) m t e = record { node = t.node; switch = t.switch; moves = begins_with new.moves old.moves (none_new starts old m.1.1.phase (m.0, (m.1.0, m.1.1.ports))); plan = t.plan; valve = λ h. t.valve }
 valve_start_keeps X old new acts (Err x) m t e = valve_same old new e.0
 
 -- a further call

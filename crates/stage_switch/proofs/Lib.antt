@@ -2,6 +2,9 @@ pub mod Totals
 pub mod Keeps
 pub mod Gathering
 pub mod ValveTurns
+pub mod Following
+pub mod ValveSteps
+pub mod ValveCalls
 pub mod Rows
 pub mod Handling
 pub mod Outlooks

@@ -1,6 +1,6 @@
 -- The rows of valves and trips: where they rest, and where they are called.
 use Rattle.std.specs.Prelude.{slice_index_or}
-use Rattle.std.proofs.Common.{◌≡◌, ◌≢◌, ℕ, zero, suc, ◌≤◌, false, inl, inr, List, [], ◌∷◌, length, Option, IfSome, refl, sym, ap, subst, ◌∙◌, arith}
+use Rattle.std.proofs.Common.{◌≡◌, ◌≢◌, ℕ, zero, suc, ◌≤◌, ◌<◌, Bool, true, false, inl, inr, List, [], ◌∷◌, length, Option, IfSome, refl, sym, ap, subst, ◌∙◌, arith}
 use Rattle.std.proofs.Math.Seq.{take-length}
 use Rattle.elem_core.specs.Tree.{Tree}
 use Rattle.elem_core.specs.declared.item.Item.{Item}
@@ -11,8 +11,8 @@ use Rattle.port_core.specs.declared.view.OutView.{OutView}
 use Rattle.port_core.specs.declared.view.OutView.TheVariants as outlet
 use Rattle.port_core.specs.View.{View, in_at, out_at, OneOne, OneOneOf, unpulled_ports}
 use Rattle.port_core.specs.Call.{Call, starts, pulls, arrives, cancels, CallAllowed, Meets}
-use Rattle.stream_model.specs.Outlook.{End}
-use Rattle.stream_model.specs.FanIn.{Inflow}
+use Rattle.stream_model.specs.Outlook.{Outlook, End}
+use Rattle.stream_model.specs.FanIn.{Inflow, AllAgree}
 use Rattle.stage_core.specs.declared.phase.Phase.{Phase}
 use Rattle.stage_core.specs.declared.phase.Phase.TheVariants.{New, Open, Closed}
 use Rattle.stage_core.specs.Row.{BothClosed}
@@ -24,8 +24,12 @@ use Rattle.stage_core.specs.OwnPorts.{OwnRests}
 use Rattle.stage_core.proofs.OwnRows.{waiting_rests, idle_rests, closed_rests as own_closed}
 use Rattle.stage_switch.specs.declared.order.Order.{Order}
 use Rattle.stage_switch.specs.Public.{SwitchState, SeatState}
-use Rattle.stage_switch.specs.Valves.{passes, ValveKeeps, RestsAt, ValveRests, PassedAll}
-use Rattle.stage_switch.specs.States.{IsUnused, Valve, Unmoved, valve_port_state, passing_port_state, valve_held_in, new_valve_of, Trip, trip_held_in, trip_stage, new_trip_of}
+use Rattle.port_core.specs.Picks.{IsMove, next_move}
+use Rattle.stream_model.specs.Picks.{acted}
+use Rattle.stage_switch.proofs.Following.{counts_from_none}
+use Rattle.stage_core.proofs.Over.{over_at}
+use Rattle.stage_switch.specs.Valves.{passes, ValveKeeps, ValveMisfits, ValveCause, RestsAt, ValveRests, PassedAll}
+use Rattle.stage_switch.specs.States.{IsUnused, Valve, Unmoved, valve_port_state, valve_in, passing_port_state, valve_held_in, valve_held_by, counted_next, new_valve_of, follows_order, moves_by, Trip, trip_held_in, trip_stage, new_trip_of}
 use Rattle.stage_switch.specs.Handling.{ValveFresh, ValvePortState, ValveAs, TripFresh, TripPortState, TripAs}
 
 -- ---- where it rests
@@ -64,10 +68,43 @@ at_ports P (x ∷ []) [] r = absurd r
 at_ports P (x ∷ []) (y ∷ z ∷ ys) r = absurd r
 at_ports P (x ∷ w ∷ xs) ys r = absurd r
 
-pub valve_rests : (first now : Valve) (v : View) (took gave : List (List Item)) → ValvePortState now v → (law : ValveAs first now v took gave) → ValveRests v law.by.law.ins law.by.law.out_list
-valve_rests first l v took gave r law =
+-- what one that goes on knows of its ports
+pub going_ports : (b : Bool) (l : Valve) (x : InView) (y : OutView) → b ≡ false → valve_in b l x y → passing_port_state l.phase x y
+going_ports false l x y e r = r.0
+going_ports true l x y e r = cc
+
+-- one that does nothing more has the cause of its misfit; each other rests
+rests_by : (node : ℕ) (b : Bool) (l : Valve) (x : InView) (y : OutView) (ins : List Inflow) (g : List Tree) (e : End) → b ≡ false → l.phase ≢ New → valve_in b l x y → ValveKeeps node (valve_held_by b l) ins g e → RestsAt x y ins g
+rests_by node false l x y ins g e c n r k = rests_at node l.passed l.phase l.moves x y ins g e n r.0 k
+rests_by node true l x y ins g e c n r k = cc
+
+pub valve_rests : (first now : Valve) (v : View) (took gave : List (List Item)) → now.stuck ≡ false → ValvePortState now v → (law : ValveAs first now v took gave) → ValveRests v law.by.law.ins law.by.law.out_list
+valve_rests first l v took gave calm r law =
     let ports = law.by.law in
-    rests_at first.node l.passed l.phase l.moves (in_at v 0) (out_at v 0) ports.ins ports.out_list ports.out_end r.started (at_ports (passing_port_state l.phase) v.ins v.outs r.ports.0) ports.keeps
+    rests_by first.node l.stuck l (in_at v 0) (out_at v 0) ports.ins ports.out_list ports.out_end calm r.started (at_ports (valve_in l.stuck l) v.ins v.outs r.ports.0) ports.keeps
+
+-- one that does nothing more has moves to make, and the cause of a misfit
+stops_by : (node : ℕ) (b : Bool) (l : Valve) (ins : List Inflow) (g : List Tree) (e : End) → b ≡ true → ValveKeeps node (valve_held_by b l) ins g e → ValveMisfits (counted_next l.left) ins
+stops_by node false l ins g e s k = cc
+stops_by node true l [] g e s k = absurd k
+stops_by node true l (f ∷ []) g e s k = (k.1.0, subst (λ (h : List Tree). length h < counted_next l.left) k.1.1.0 k.1.1.1)
+stops_by node true l (f ∷ h ∷ fs) g e s k = absurd k
+
+pub valve_stops : (first now : Valve) (v : View) (took gave : List (List Item)) → now.stuck ≡ true → (law : ValveAs first now v took gave) → IsMove (next_move now.left) × ValveMisfits (counted_next now.left) law.by.law.ins
+valve_stops first l v took gave stuck law =
+    let ports = law.by.law in
+    ((law.stops stuck).1, stops_by first.node l.stuck l ports.ins ports.out_list ports.out_end stuck ports.keeps)
+
+-- and over the outlook of its input
+cause_over : (k : ℕ) (os : List Outlook) (ins : List Inflow) → AllAgree os ins → ValveMisfits k ins → ValveCause k os
+cause_over k (o ∷ []) (f ∷ []) a h = (length f.list, (h.1, over_at o f.list f.end a.0 h.0))
+cause_over k (o ∷ q ∷ os) (f ∷ []) a h = absurd a.1
+cause_over k [] (f ∷ []) a h = absurd a
+cause_over k os [] a h = absurd h
+cause_over k os (f ∷ g ∷ ins) a h = absurd h
+
+pub valve_cause : (os : List Outlook) (first now : Valve) (v : View) (took gave : List (List Item)) → now.stuck ≡ true → (law : ValveAs first now v took gave) → AllAgree os law.by.law.ins → ValveCause (counted_next now.left) os
+valve_cause os first now v took gave stuck law a = cause_over (counted_next now.left) os law.by.law.ins a (valve_stops first now v took gave stuck law).1
 
 -- where it waits it is asked, and gave all that came
 waits_at : (node n : ℕ) (p : Phase) (moves : List ℕ) (x : InView) (y : OutView) (ins : List Inflow) (g : List Tree) (e : End) → x ≡ Pulled → passing_port_state p x y → ValveKeeps node (valve_held_in p n moves) ins g e → (y ≡ outlet.Available) × PassedAll ins g
@@ -90,10 +127,14 @@ waits_at node n Open moves x y (f ∷ []) g e w r k = (by_view x y w r, k.1.1.0)
     by_view Pulled y w r = absurd r
     by_view x y w r = cc
 
+waits_by : (node : ℕ) (b : Bool) (l : Valve) (x : InView) (y : OutView) (ins : List Inflow) (g : List Tree) (e : End) → x ≡ Pulled → valve_in b l x y → ValveKeeps node (valve_held_by b l) ins g e → (y ≡ outlet.Available) × PassedAll ins g
+waits_by node false l x y ins g e w r k = waits_at node l.passed l.phase l.moves x y ins g e w r.0 k
+waits_by node true l x y ins g e w r k = absurd (let z : Finished ≡ Pulled = sym r.1.0 ∙ w in cc)
+
 pub valve_waits : (first now : Valve) (v : View) (took gave : List (List Item)) → ValvePortState now v → (law : ValveAs first now v took gave) → in_at v 0 ≡ Pulled → (out_at v 0 ≡ outlet.Available) × PassedAll law.by.law.ins law.by.law.out_list
 valve_waits first l v took gave r law w =
     let ports = law.by.law in
-    waits_at first.node l.passed l.phase l.moves (in_at v 0) (out_at v 0) ports.ins ports.out_list ports.out_end w (at_ports (passing_port_state l.phase) v.ins v.outs r.ports.0) ports.keeps
+    waits_by first.node l.stuck l (in_at v 0) (out_at v 0) ports.ins ports.out_list ports.out_end w (at_ports (valve_in l.stuck l) v.ins v.outs r.ports.0) ports.keeps
 
 -- ---- where it is called
 
@@ -132,8 +173,17 @@ open_lists p call (x ∷ w ∷ xs) ys n s h r = absurd r
 called_open : (p : Phase) (call : Call) (v : View) → p ≢ New → call ≢ starts → CallAllowed call v → OneOne (passing_port_state p) v → p ≡ Open
 called_open p call v n s h r = open_lists p call v.ins v.outs n s h r
 
+-- the same of a valve; one that does nothing more is open
+valve_open : (b : Bool) (l : Valve) (call : Call) (xs : List InView) (ys : List OutView) → l.phase ≢ New → call ≢ starts → CallAllowed call (record { ins = xs; outs = ys }) → OneOneOf (valve_in b l) xs ys → l.phase ≡ Open
+valve_open false l call (x ∷ []) (y ∷ []) n s h r = open_at l.phase call x y n s h r.0
+valve_open true l call (x ∷ []) (y ∷ []) n s h r = r.0
+valve_open b l call [] ys n s h r = absurd r
+valve_open b l call (x ∷ []) [] n s h r = absurd r
+valve_open b l call (x ∷ []) (y ∷ z ∷ ys) n s h r = absurd r
+valve_open b l call (x ∷ w ∷ xs) ys n s h r = absurd r
+
 pub called_valve : (l : Valve) (call : Call) (v : View) → call ≢ starts → CallAllowed call v → ValvePortState l v → l.phase ≡ Open
-called_valve l call v s h r = called_open l.phase call v r.started s h r.ports.0
+called_valve l call v s h r = valve_open l.stuck l call v.ins v.outs r.started s h r.ports.0
 
 pub called_trip : (l : Trip) (call : Call) (v : View) → call ≢ starts → CallAllowed call v → TripPortState l v → l.phase ≡ Open
 called_trip l call v s h r = called_open l.phase call v r.started s h r.ports
@@ -143,7 +193,7 @@ unmoved_new New moves e u = u
 unmoved_new Open moves e u = cc
 unmoved_new Closed moves e u = cc
 
-unmoved_open : (p : Phase) (moves : List ℕ) → p ≡ Open → Unmoved p moves → moves ≡ []
+pub unmoved_open : (p : Phase) (moves : List ℕ) → p ≡ Open → Unmoved p moves → moves ≡ []
 unmoved_open New moves e u = cc
 unmoved_open Open moves e u = u
 unmoved_open Closed moves e u = cc
@@ -180,7 +230,15 @@ trip_rests book d first l v took gave r law = trip_lists book (begin_work first.
 -- ---- before it was started
 
 pub new_valve : (node : ℕ) (switch : SwitchState) (seat : SeatState) → IsUnused switch seat → ValveFresh (new_valve_of node switch seat) unpulled_ports
-new_valve node switch seat u = record { phase = refl; passed = refl; valve = record { one = u.0; gave = u.1.0; knows = u.1.1; formed = refl }; ports = (tt, refl) }
+new_valve node switch seat u = record { phase = refl; passed = refl; valve = record { one = u.0; gave = u.1.0; knows = u.1.1; formed = refl }; ports = ((tt, tt), refl) }
+
+pub following_valve : (node : ℕ) (switch : SwitchState) (seat : SeatState) (moves : List ℕ) → IsUnused switch seat → moves ≡ moves_by (acted moves) → ValveFresh (follows_order moves (new_valve_of node switch seat)) unpulled_ports
+following_valve node switch seat moves u f = record {
+  phase = refl;
+  passed = refl;
+  valve = (record { one = u.0; gave = u.1.0; knows = u.1.1; formed = refl }, record { formed = refl; ahead = f });
+  ports = ((tt, counts_from_none moves), refl);
+}
 
 pub new_trip : (node : ℕ) (order : Order) (count : ℕ) (switch : SwitchState) (seat : SeatState) → IsUnused switch seat → 1 ≤ count → TripFresh (new_trip_of node order count switch seat) unpulled_ports
 new_trip node order count switch seat u c = record {

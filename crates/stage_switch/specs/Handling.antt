@@ -15,7 +15,8 @@ use Rattle.stage_core.specs.Law.{Law}
 use Rattle.stage_core.specs.declared.phase.Phase.TheVariants.{New}
 use Rattle.stage_core.specs.PortsLaws.{InPortsLaw}
 use Rattle.stage_switch.specs.Valves.{ValveKeeps}
-use Rattle.stage_switch.specs.States.{Valve, IsValve, Unmoved, valve_port_state, valve_held, Trip, IsTrip, trip_port_state, trip_held}
+use Rattle.port_core.specs.Picks.{IsMove, next_move, plan_of}
+use Rattle.stage_switch.specs.States.{Valve, SeatBy, Unmoved, StopsWell, OnlyElements, MayCount, valve_port_state, valve_held, Trip, IsTrip, trip_port_state, trip_held}
 
 -- ---- a valve
 
@@ -23,7 +24,7 @@ use Rattle.stage_switch.specs.States.{Valve, IsValve, Unmoved, valve_port_state,
 pub record ValveFresh (l : Valve) (v : View) : Type 0 where
   pub phase : l.phase ≡ New
   pub passed : l.passed ≡ 0
-  pub valve : IsValve l.switch l.seat l.moves
+  pub valve : SeatBy l.left l.switch l.seat l.moves
   pub ports : valve_port_state l v
 
 -- it was started, and its port state holds
@@ -31,21 +32,31 @@ pub record ValvePortState (l : Valve) (v : View) : Type 0 where
   pub started : l.phase ≢ New
   pub ports : valve_port_state l v
 
--- The law of a valve by what it did, which its moves say; its node and its switch stay, and its seat knows an order exactly
--- where its moves show it.
+-- what one gave that has moves to make: elements alone, which it counted, and no more than its moves count
+pub record FewGiven (l : Valve) (given : List Item) : Type 0 where
+  pub only : OnlyElements given
+  pub count : l.passed ≡ elements given
+  pub upto : MayCount l.left l.passed
+
+-- The law of a valve by what it did, which its moves say; its node, its switch and what it follows stay, and where it makes its own choices
+-- its seat knows an order exactly where its moves show it.
 pub record ValveAs (first now : Valve) (v : View) (took gave : List (List Item)) : Type 0 where
   pub by : InPortsLaw (ValveKeeps first.node (valve_held now)) v took gave
   pub node : now.node ≡ first.node
   pub switch : now.switch ≡ first.switch
-  pub valve : IsValve now.switch now.seat now.moves
+  pub plan : plan_of now.moves now.left ≡ plan_of first.moves first.left
+  pub valve : SeatBy now.left now.switch now.seat now.moves
   pub unmoved : Unmoved now.phase now.moves
+  pub stops : StopsWell now
+  pub few : IsMove (next_move now.left) → FewGiven now by.given
 
--- what of a valve outlives want of memory: its node, its switch, its moves, and that its seat knows no other order than they show
+-- what of a valve outlives want of memory: its node, its switch, its moves, what it follows, and what its seat tells of its moves
 pub record KeepsValve (old new : Valve) : Type 0 where
   pub node : new.node ≡ old.node
   pub switch : new.switch ≡ old.switch
   pub moves : IsPrefix old.moves new.moves
-  pub valve : IsValve old.switch old.seat old.moves → IsValve new.switch new.seat new.moves
+  pub plan : plan_of new.moves new.left ≡ plan_of old.moves old.left
+  pub valve : SeatBy old.left old.switch old.seat old.moves → SeatBy new.left new.switch new.seat new.moves
 
 -- ---- a trip
 

@@ -1,5 +1,7 @@
 -- The states of a valve and of a trip, what they know of their ports, and what each of their calls owes.
-use Rattle.std.specs.Prelude.{◌≡◌, ◌≢◌, ◌+◌, ◌≤◌, Bool, true, false, ℕ, List, [], ◌∷◌, Option, Some, None, IfSome, ⊤}
+use Rattle.std.specs.Prelude.{◌≡◌, ◌≢◌, ◌+◌, ◌≤◌, ◌==◌, if◌then◌else◌, Bool, true, false, ℕ, List, [], ◌∷◌, Option, Some, None, IfSome, ⊤}
+use Rattle.elem_core.specs.Items.{elements}
+use Rattle.elem_core.specs.declared.item.Item.{Item}
 use Rattle.elem_core.specs.declared.item.Item.TheVariants as item
 use Rattle.elem_core.specs.declared.why.Decider.{Decider}
 use Rattle.stage_switch.specs.declared.order.Order.{Order}
@@ -8,11 +10,12 @@ use Rattle.stage_switch.specs.Public.{SwitchState, SeatState, IsSeatOf, AnswersO
 use Rattle.port_core.specs.declared.act.Act.{Act}
 use Rattle.port_core.specs.declared.act.Act.TheVariants.{Complete, FailOut, Cancel}
 use Rattle.port_core.specs.declared.view.InView.{InView}
-use Rattle.port_core.specs.declared.view.InView.TheVariants.{Idle, Pulled}
+use Rattle.port_core.specs.declared.view.InView.TheVariants.{Idle, Pulled, Finished}
 use Rattle.port_core.specs.declared.view.OutView.{OutView}
 use Rattle.port_core.specs.declared.view.OutView.TheVariants.{Unpulled, Available}
 use Rattle.port_core.specs.View.{View, OneOne}
 use Rattle.port_core.specs.Asking.{PullsStand}
+use Rattle.port_core.specs.Picks.{IsMove, next_move, plan_of}
 use Rattle.port_core.specs.Call.{Call, starts, pulls, arrives, cancels, given_on}
 use Rattle.stream_model.specs.Machine.{going}
 use Rattle.stream_model.specs.Linear.{Book, Stage, passing, linear}
@@ -41,18 +44,25 @@ passing_port_state _ _ _ = ⊥
 
 -- ---- a valve
 
--- where it stands, its node, how many elements passed, its moves, its switch and what its seat has
+-- where it stands, its node, how many elements passed, its moves, those that it still follows, whether it cannot make them, its switch and
+-- what its seat has
 pub record Valve : Type 0 where
   pub phase : Phase
   pub node : ℕ
   pub passed : ℕ
   pub moves : List ℕ
+  pub left : Option (List ℕ)
+  pub stuck : Bool
   pub switch : SwitchState
   pub seat : SeatState
 
 -- a new valve
 abbrev pub new_valve_of : ℕ → SwitchState → SeatState → Valve
-new_valve_of node switch seat = record { phase = New; node = node; passed = 0; moves = []; switch = switch; seat = seat }
+new_valve_of node switch seat = record { phase = New; node = node; passed = 0; moves = []; left = None; stuck = false; switch = switch; seat = seat }
+
+-- the same where it follows moves
+abbrev pub follows_order : List ℕ → Valve → Valve
+follows_order moves l = record l { left = Some moves }
 
 -- one that has not closed made no move
 abbrev pub Unmoved : Phase → List ℕ → Type 0
@@ -60,9 +70,33 @@ Unmoved New moves = moves ≡ []
 Unmoved Open moves = moves ≡ []
 Unmoved Closed moves = ⊤
 
+-- no more passed than its next moves count
+abbrev pub MayCount : Option (List ℕ) → ℕ → Type 0
+MayCount None n = ⊤
+MayCount (Some []) n = ⊤
+MayCount (Some (m ∷ [])) n = ⊤
+MayCount (Some (m ∷ k ∷ l)) n = n ≤ k
+
+-- how many its next moves count
+abbrev pub counted_next : Option (List ℕ) → ℕ
+counted_next None = 0
+counted_next (Some []) = 0
+counted_next (Some (m ∷ [])) = 0
+counted_next (Some (m ∷ k ∷ l)) = k
+
+-- what it knows of a port of each side, by whether it does nothing more: else it can make its moves still; one that does nothing more has
+-- moves to make, and its input is over
+abbrev pub valve_in : Bool → Valve → InView → OutView → Type 0
+valve_in false l x y = passing_port_state l.phase x y × MayCount l.left l.passed
+valve_in true l x y = (l.phase ≡ Open) × ((x ≡ Finished) × (IsMove (next_move l.left) × MayCount l.left l.passed))
+
+-- one that does nothing more has not closed, and has moves to make
+abbrev pub StopsWell : Valve → Type 0
+StopsWell l = l.stuck ≡ true → (l.phase ≡ Open) × IsMove (next_move l.left)
+
 -- what it knows of its ports
 abbrev pub valve_port_state : Valve → View → Type 0
-valve_port_state l v = OneOne (passing_port_state l.phase) v × Unmoved l.phase l.moves
+valve_port_state l v = OneOne (valve_in l.stuck l) v × Unmoved l.phase l.moves
 
 -- the number of an order among the moves
 abbrev pub order_number : Order → ℕ
@@ -88,20 +122,64 @@ pub record IsValve (switch : SwitchState) (seat : SeatState) (moves : List ℕ) 
   pub knows : seat.knows ≡ order_by (acted moves)
   pub formed : moves ≡ moves_by (acted moves)
 
+-- the moves that it made, and those that it still follows, are each none, or an order and a count
+pub record FollowsOrder (moves left : List ℕ) : Type 0 where
+  pub formed : moves ≡ moves_by (acted moves)
+  pub ahead : left ≡ moves_by (acted left)
+
+-- what its seat tells of its moves, where it makes its own choices; where it follows moves, its seat is as it was handed in
+abbrev pub SeatBy : Option (List ℕ) → SwitchState → SeatState → List ℕ → Type 0
+SeatBy None switch seat moves = IsValve switch seat moves
+SeatBy (Some left) switch seat moves = IsValve switch seat [] × FollowsOrder moves left
+
+-- the order of a number among the moves
+abbrev pub numbered_order : ℕ → Order
+numbered_order m = if m == 1 then Shutdown else Abort
+
+-- the order of the moves that are left, where as many elements passed as they count
+abbrev pub due_order : List ℕ → ℕ → Option Order
+due_order [] n = None
+due_order (m ∷ []) n = None
+due_order (m ∷ k ∷ l) n = if k == n then Some (numbered_order m) else None
+
+-- one that follows moves acts by them alone
+abbrev pub IsDue : Option (List ℕ) → ℕ → Option Order → Type 0
+IsDue None n o = ⊤
+IsDue (Some left) n o = o ≡ due_order left n
+
 -- what a valve owes, and what it did, by where it stands
 abbrev pub valve_held_in : Phase → ℕ → List ℕ → ValveHeld
 valve_held_in New n moves = valve.passes n
 valve_held_in Open n moves = valve.passes n
 valve_held_in Closed n moves = valve.shut (acted moves)
 
+-- the same, by whether it does nothing more
+abbrev pub valve_held_by : Bool → Valve → ValveHeld
+valve_held_by false l = valve_held_in l.phase l.passed l.moves
+valve_held_by true l = valve.stopped (counted_next l.left)
+
 -- what a valve owes, and what it did
 abbrev pub valve_held : Valve → ValveHeld
-valve_held l = valve_held_in l.phase l.passed l.moves
+valve_held l = valve_held_by l.stuck l
 
 -- it looked, and found this: an order is noted with the number of elements that passed
+abbrev pub looked_and : Valve → Option Order → Valve
+looked_and l None = record l { seat = record l.seat { knows = None; looks = l.seat.looks + 1 } }
+looked_and l (Some o) = record l { moves = order_number o ∷ l.passed ∷ []; seat = record l.seat { knows = Some o; looks = l.seat.looks + 1 } }
+
+-- its moves gave this: an order, with the number of elements that passed, and then none is left
+abbrev pub moved_and : Valve → Option Order → Valve
+moved_and l None = l
+moved_and l (Some o) = record l { moves = order_number o ∷ l.passed ∷ []; left = Some [] }
+
+-- it found this order, or none: at its switch, or by the moves that it follows
+abbrev pub watched_by : Option (List ℕ) → Valve → Option Order → Valve
+watched_by None l o = looked_and l o
+watched_by (Some left) l o = moved_and l o
+
+-- the same, by what it follows
 abbrev pub watched : Valve → Option Order → Valve
-watched l None = record l { seat = record l.seat { knows = None; looks = l.seat.looks + 1 } }
-watched l (Some o) = record l { moves = order_number o ∷ l.passed ∷ []; seat = record l.seat { knows = Some o; looks = l.seat.looks + 1 } }
+watched l o = watched_by l.left l o
 
 -- how it acts by an order at its output: it completes, or fails
 abbrev pub stop_act : ℕ → Order → Act
@@ -113,15 +191,33 @@ abbrev pub stop_acts : ℕ → Order → Bool → List Act
 stop_acts node o true = stop_act node o ∷ Cancel 0 ∷ []
 stop_acts node o false = stop_act node o ∷ []
 
--- What a call owes: a step of the valve, by whatever its look found; one look; and after it its seat knows an order exactly
--- where it has acted by it. What passed is counted where it goes on, and stays as it was where it closes.
+-- these are elements alone
+abbrev pub OnlyElements : List Item → Type 0
+OnlyElements [] = ⊤
+OnlyElements (item.Elem e ∷ is) = OnlyElements is
+OnlyElements (item.Ended ∷ is) = ⊥
+OnlyElements (item.Failed c ∷ is) = ⊥
+
+-- a call that leaves moves to be made found some, gave elements alone, and counted them; and no more passed than the moves count
+pub record GivesFew (old new : Valve) (given : List Item) : Type 0 where
+  pub moves : IsMove (next_move old.left)
+  pub only : OnlyElements given
+  pub count : new.passed ≡ old.passed + elements given
+  pub upto : MayCount new.left new.passed
+
+-- What a call owes: a step of the valve, by whatever it found; where it makes its own choices one look, and after it its seat knows an
+-- order exactly where it has acted by it. What passed is counted where it goes on, and stays as it was where it closes. What it follows
+-- stays.
 pub record ValveTurned (call : Call) (old : Valve) (acts : List Act) (new : Valve) : Type 0 where
   pub turn : ValveTurnAt old.node call (valve_held old) (given_on 0 acts) (valve_held new)
   pub node : new.node ≡ old.node
   pub switch : new.switch ≡ old.switch
-  pub looks : new.seat.looks ≡ old.seat.looks + 1
-  pub valve : IsValve new.switch new.seat new.moves
+  pub looks : old.left ≡ None → new.seat.looks ≡ old.seat.looks + 1
+  pub valve : SeatBy new.left new.switch new.seat new.moves
   pub passed : new.phase ≡ Closed → new.passed ≡ old.passed
+  pub plan : plan_of new.moves new.left ≡ plan_of old.moves old.left
+  pub stops : StopsWell new
+  pub few : IsMove (next_move new.left) → GivesFew old new (given_on 0 acts)
   pub stands : PullsStand acts
   pub started : new.phase ≢ New
 

@@ -1,5 +1,5 @@
 // Laws of valves and trips: each function has no body, and its contract is the law.
-ghost use Rattle.std.specs.Prelude.{◌≡◌, ◌≢◌, ◌≤◌, ℕ, List, [], ◌∷◌, ◌++◌, length, true, false, IfSome, None};
+ghost use Rattle.std.specs.Prelude.{◌≡◌, ◌≢◌, ◌≤◌, ◌⊎◌, ℕ, List, [], ◌∷◌, ◌++◌, length, true, false, IfSome, Some, None};
 ghost use Rattle.elem_core.specs.Items.{elements};
 ghost use Rattle.elem_core.specs.declared.item.Item.{Item};
 ghost use Rattle.elem_core.specs.declared.why.Decider.{Decider};
@@ -15,14 +15,15 @@ ghost use Rattle.stream_model.specs.Graph.{Graph};
 ghost use Rattle.stream_model.specs.Node.{World, node_outlook};
 ghost use Rattle.stream_model.specs.Outlook.{Outlook, unended, Agrees};
 ghost use Rattle.stream_model.specs.FanIn.{AllAgree};
+ghost use Rattle.port_core.specs.Picks.{IsMove, next_move, plan_of};
 ghost use Rattle.stream_model.specs.Picks.{Acted, acted, valve_fits};
 ghost use Rattle.stream_model.specs.Linear.{Book, passing, linear, begin_work};
 ghost use Rattle.stage_core.specs.Handling.{Starts, Handles};
 ghost use Rattle.stage_core.specs.Law.{GaveAs};
 ghost use Rattle.stage_core.specs.OwnPorts.{OwnRests};
 ghost use Rattle.stage_core.specs.declared.phase.Phase.TheVariants.{Open};
-ghost use Rattle.stage_switch.specs.Valves.{ValveHeld, passes, shut, did, GaveUpTo, PassedAll, ValveTurnAt, ValveLaw, ValveStandsOf, ValveResidual, ValveRest, ValveRests};
-ghost use Rattle.stage_switch.specs.States.{IsUnused, Valve, IsValve, new_valve_of, valve_port_state, ValveTurned, Trip, new_trip_of, trip_port_state, TripTurned};
+ghost use Rattle.stage_switch.specs.Valves.{ValveHeld, passes, shut, did, GaveUpTo, PassedAll, ValveTurnAt, ValveLaw, ValveStandsOf, ValveResidual, ValveRest, ValveRests, ValveMisfits, ValveCause};
+ghost use Rattle.stage_switch.specs.States.{IsUnused, Valve, IsValve, new_valve_of, follows_order, moves_by, counted_next, valve_port_state, ValveTurned, Trip, new_trip_of, trip_port_state, TripTurned};
 ghost use Rattle.stage_switch.specs.Handling.{ValveFresh, ValvePortState, ValveAs, TripFresh, TripPortState, TripAs, trip_kind};
 
 /// The law of a valve holds before anything came, and every call keeps it, once the call's actions are done; what a valve gave
@@ -43,18 +44,26 @@ pub fn valves_keep_the_law()
         → ValveRest node n law.ins law.out_list }
 {}
 
-/// A new valve, and a new trip that counts from 1, may be started, and know that no port was asked.
+/// A new valve, also one that follows none or an order and a count, and a new trip that counts from 1, may be started, and know that no
+/// port was asked.
 pub fn a_new_stage_may_start()
     ensures valve { (node : ℕ) (switch : SwitchState) (seat : SeatState) → IsUnused switch seat → ValveFresh (new_valve_of node switch seat) unpulled_ports }
+    ensures following { (node : ℕ) (switch : SwitchState) (seat : SeatState) (moves : List ℕ) → IsUnused switch seat → moves ≡ moves_by (acted moves)
+        → ValveFresh (follows_order moves (new_valve_of node switch seat)) unpulled_ports }
     ensures trip { (node : ℕ) (order : Order) (count : ℕ) (switch : SwitchState) (seat : SeatState) → IsUnused switch seat → 1 ≤ count
         → TripFresh (new_trip_of node order count switch seat) unpulled_ports }
 {}
 
 /// Where its port state and its law hold, a stage that was started has closed its ports, or has nothing to do: it waits for its input
-/// and has given all that came, or nobody asks it. A valve that waits is asked, and has given all that came.
+/// and has given all that came, or nobody asks it. A valve that waits is asked, and has given all that came. A valve that does nothing
+/// more has moves to make, and its input is over before so many came as they say, also by its outlook.
 pub fn a_started_stage_rests()
-    ensures valve { (first now : Valve) (v : View) (took gave : List (List Item)) → ValvePortState now v → (law : ValveAs first now v took gave)
-        → ValveRests v law.by.law.ins law.by.law.out_list }
+    ensures valve { (first now : Valve) (v : View) (took gave : List (List Item)) → now.stuck ≡ false → ValvePortState now v
+        → (law : ValveAs first now v took gave) → ValveRests v law.by.law.ins law.by.law.out_list }
+    ensures misfit { (first now : Valve) (v : View) (took gave : List (List Item)) → now.stuck ≡ true → (law : ValveAs first now v took gave)
+        → IsMove (next_move now.left) × ValveMisfits (counted_next now.left) law.by.law.ins }
+    ensures cause { (is : List Outlook) (first now : Valve) (v : View) (took gave : List (List Item)) → now.stuck ≡ true
+        → (law : ValveAs first now v took gave) → AllAgree is law.by.law.ins → ValveCause (counted_next now.left) is }
     ensures waits { (first now : Valve) (v : View) (took gave : List (List Item)) → ValvePortState now v → (law : ValveAs first now v took gave)
         → in_at v 0 ≡ Pulled → (out_at v 0 ≡ Available) × PassedAll law.by.law.ins law.by.law.out_list }
     ensures trip { (book : Book) (d : Decider) (first now : Trip) (v : View) (took gave : List (List Item)) → TripPortState now v
@@ -105,11 +114,26 @@ pub fn a_trip_agrees_with_its_outlook()
         (law.law w.book d).out_list (law.law w.book d).out_end }
 {}
 
-/// What the laws tell of the seats, at every moment: each is of the switch that the stage was handed. That of a valve gave
-/// nothing, and knows an order exactly where the moves show it. That of a trip gave an order only where the element came at
+/// Where its law holds, a valve that follows moves made the first of them: none, or all where they are none or an order and a count.
+/// Its seat is of its switch, gave nothing and knows nothing. Where moves are to be made it gave no end, and no more elements than they
+/// count.
+pub fn a_valve_follows_its_moves()
+    ensures plan { (first now : Valve) (v : View) (took gave : List (List Item)) → ValveAs first now v took gave
+        → plan_of now.moves now.left ≡ plan_of first.moves first.left }
+    ensures whole { (first now : Valve) (v : View) (took gave : List (List Item)) → ValveAs first now v took gave → (plan : List ℕ)
+        → plan ≡ moves_by (acted plan) → first.moves ≡ [] → first.left ≡ Some plan → (now.moves ≡ []) ⊎ (now.moves ≡ plan) }
+    ensures seat { (first now : Valve) (v : View) (took gave : List (List Item)) → ValveAs first now v took gave → (plan : List ℕ)
+        → first.left ≡ Some plan → IsValve first.switch now.seat [] }
+    ensures few { (first now : Valve) (v : View) (took gave : List (List Item)) → (law : ValveAs first now v took gave) → IsMove (next_move now.left)
+        → (law.by.law.out_end ≡ unended) × (length law.by.law.out_list ≤ counted_next now.left) }
+{}
+
+/// What the laws tell of the seats, at every moment: each is of the switch that the stage was handed. That of a valve that makes its own
+/// choices gave nothing, and knows an order exactly where the moves show it. That of a trip gave an order only where the element came at
 /// which it gives it, and only that one, and knows an order from then on.
 pub fn laws_tell_of_seats()
-    ensures valve { (first now : Valve) (v : View) (took gave : List (List Item)) → ValveAs first now v took gave → IsValve first.switch now.seat now.moves }
+    ensures valve { (first now : Valve) (v : View) (took gave : List (List Item)) → ValveAs first now v took gave → first.left ≡ None
+        → IsValve first.switch now.seat now.moves }
     ensures trip { (first now : Trip) (v : View) (took gave : List (List Item)) → (law : TripAs first now v took gave)
         → IsSeatOf first.switch now.seat × IfSome now.seat.gave (λ o. (o ≡ first.order) × (first.count ≤ elements law.took_list))
         × (first.count ≤ elements law.took_list → now.seat.knows ≢ None) }

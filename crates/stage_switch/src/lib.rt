@@ -19,7 +19,7 @@
 //! makes room for the pair, then looks once at its switch, and where it finds an order it acts by it before anything else. So a refusal
 //! leaves stage, log and seat as they were. The word of the switch is in no clause: whatever a look finds, the call owes `ValveTurnAt` in
 //! the branch that it took, and the law is for every rest of the input and every act that may still come. What the seat knows is tied to
-//! the moves by the type invariant `IsValve`, and what a trip's seat gave to the elements that it took by `IsTrip`. Both have the node's
+//! the moves by the type invariant `SeatBy`, and what a trip's seat gave to the elements that it took by `IsTrip`. Both have the node's
 //! law behind them, so that after a run `laws_tell_of_seats` gives what `stage_switch` asks of each node.
 #![tactic(auto)]
 

@@ -1,5 +1,5 @@
 // Laws of the switches of a blueprint: each function has no body, and its contract is the law.
-ghost use Rattle.std.specs.Prelude.{◌≡◌, ◌≤◌, ℕ, List, Option, Some, length, slice_get, true};
+ghost use Rattle.std.specs.Prelude.{◌≡◌, ◌≤◌, ℕ, List, Option, Some, None, length, slice_get, true};
 ghost use Rattle.stage_switch.specs.Public.{SeatState, IsSeatOf};
 ghost use Rattle.stream_model.specs.declared.kind.Kind.{Kind};
 ghost use Rattle.stream_model.specs.Graph.{Graph, Node};
@@ -27,11 +27,11 @@ pub fn switches_show_one_order()
     ensures more { (name : List ℕ) (order : ℕ) (k : Kind) (few many : ℕ) → few ≤ many → CanTrip name order k few → CanTrip name order k many }
 {}
 
-/// The law of a valve, and that of a trip, tell of its seat what is asked of a node of its kind, and that it is of the switch
-/// that the node was handed.
+/// The law of a valve that makes its own choices, and that of a trip, tell of its seat what is asked of a node of its kind; that of each
+/// tells that it is of the switch that the node was handed.
 pub fn node_laws_tell_of_seats()
     ensures valve { (name : List ℕ) (first now : Valve) (v : View) (took gave : List (List Item)) → (law : ValveAs first now v took gave)
-        → IsSeatOf first.switch now.seat × ((count : ℕ) → SeatTold (kind.Valve name) now.moves count now.seat) }
+        → IsSeatOf first.switch now.seat × (first.left ≡ None → (count : ℕ) → SeatTold (kind.Valve name) now.moves count now.seat) }
     ensures trip { (name moves : List ℕ) (first now : Trip) (v : View) (took gave : List (List Item)) → (law : TripAs first now v took gave)
         → IsSeatOf first.switch now.seat × SeatTold (trip_kind first.order name first.count) moves (elements law.took_list) now.seat }
 {}

@@ -138,9 +138,9 @@ plain_port_state (Tripping l) v r = r.ports
 
 first_call : (call : Call) (l : StateLogic) (v : View) → CallAllowed call v → StatePortState l v → at_first call ≡ call
 first_call call (Machine l) v h r = first_port (machine.port_state_by l.size l.phase l.ending l.asked l.pending l.stage.work) call v h r.ports
-first_call call (Dropping l) v h r = first_port (dropping.drop_at l l.phase l.over l.asked) call v h r.ports
-first_call call (Recovering l) v h r = first_port (recover.recover_at l l.phase l.over l.asked) call v h r.ports
-first_call call (Obeying l) v h r = first_port (switch.passing_port_state l.phase) call v h r.ports.0
+first_call call (Dropping l) v h r = first_port (dropping.drop_in l.log.stuck l) call v h r.ports
+first_call call (Recovering l) v h r = first_port (recover.recover_in l.still l) call v h r.ports
+first_call call (Obeying l) v h r = first_port (switch.valve_in l.stuck l) call v h r.ports.0
 first_call call (Tripping l) v h r = first_port (switch.passing_port_state l.phase) call v h r.ports
 
 pub met_first : (call : Call) (l : StateLogic) → Meets call (StatePortState l) → Meets (at_first call) (port_state l)
@@ -183,7 +183,7 @@ MayMove l = ⊤
 
 moves_grow : (call : Call) (old new : StateLogic) (acts : List Act) → MayMove old → Turned call old acts new → IsPrefix (state_moves old) (state_moves new)
 moves_grow call (Machine l) (Machine m) acts u t = longer [] [] [] refl
-moves_grow call (Dropping l) (Dropping m) acts u t = longer m.moves l.moves t.more t.grows
+moves_grow call (Dropping l) (Dropping m) acts u t = longer m.log.moves l.log.moves t.more t.grows
 moves_grow call (Recovering l) (Recovering m) acts u t = longer m.moves l.moves t.more t.grows
 moves_grow call (Obeying l) (Obeying m) acts u t = rw u (longer m.moves [] m.moves refl)
 moves_grow call (Tripping l) (Tripping m) acts u t = longer [] [] [] refl

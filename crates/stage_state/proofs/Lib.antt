@@ -4,3 +4,4 @@ pub mod Pushes
 pub mod Rows
 pub mod MachineNodes
 pub mod Handling
+pub mod Following

@@ -1,11 +1,13 @@
-ghost use Rattle.std.specs.Prelude.{◌≡◌, ◌≢◌, ◌≤◌, [], Some, None, OnOk, OnErr, IfOk, IsOk};
+ghost use Rattle.std.specs.Prelude.{◌≡◌, ◌≢◌, ◌≤◌, ◌<◌, ◌^◌, [], Some, None, OnOk, OnErr, IfOk, IsOk, vec_len};
 ghost use Rattle.std.specs.Option.{option_map};
 ghost use Rattle.elem_core.specs.declared.item.Item.TheVariants as item;
 ghost use Rattle.port_core.specs.Call.{Obeys, Meets, starts, pulls, arrives, cancels};
 ghost use Rattle.stage_core.specs.declared.phase.Phase.TheVariants.{New, Open};
-ghost use Rattle.stage_state.specs.Handling.{Begins};
-ghost use Rattle.stage_state.specs.Logics.{Chooses, IsHandedEnd, IsStateful, TakesNone, TakesNoneAsked, TakesNoneEnded, TakesNoneFailed, phase_of, port_state, Turned};
-ghost use Rattle.stage_state.specs.Moves.{state_moves, state_picks, state_seat};
+ghost use Rattle.port_core.specs.View.{unpulled_ports};
+ghost use Rattle.stage_state.specs.Handling.{Begins, StateFresh};
+ghost use Rattle.stage_state.specs.Logics.{Chooses, IsHandedEnd, IsStateful, TakesNone, TakesNoneAsked, TakesNoneEnded, TakesNoneFailed, StateMayFollow, StateFollows, phase_of, port_state, Turned};
+ghost use Rattle.port_core.specs.Picks.{misfit_in};
+ghost use Rattle.stage_state.specs.Moves.{state_moves, state_picks, state_misfit, state_seat};
 
 use crate::machine::MachineLogic;
 use elem_core::elem::{Elem, Form};
@@ -94,6 +96,22 @@ impl StateLogic {
             )),
             kind => StateLogic::Machine(MachineLogic::new(alloc, stage, kind, decider)?),
         })
+    }
+
+    /// From now on a new stage that chooses follows these moves: of a buffer that drops each is 0 or 1, a recover has at most one, and a
+    /// valve none, or an order and a count. It takes no memory.
+    pub fn follow(&mut self, moves: Vec<u32>)
+        requires may { StateMayFollow moves.items self.old }
+        requires few { vec_len moves < 2 ^ 32 }
+        ensures follows { StateFollows moves.items self.old self.new }
+        ensures fresh { StateFresh self.new unpulled_ports }
+    {
+        match self {
+            StateLogic::Dropping(logic) => logic.follow(moves),
+            StateLogic::Recovering(logic) => logic.follow(moves),
+            StateLogic::Obeying(logic) => logic.follow(moves),
+            StateLogic::Machine(_) | StateLogic::Tripping(_) => unreachable!(),
+        }
     }
 
     /// The run begins. Only a valve takes memory, for the move that it may have to note; where that is refused, it is as before.
@@ -247,6 +265,7 @@ impl StateLogic {
     /// takes no memory.
     pub fn leave(self) -> (Option<PickLog>, Option<SwitchSeat>)
         ensures picks { option_map (λ log. log.moves) result.0 ≡ state_picks self }
+        ensures misfit { misfit_in result.0 ≡ state_misfit self }
         ensures seat { result.1 ≡ state_seat self }
     {
         match self {

@@ -22,7 +22,7 @@ less_number : (m n : ℕ) → m < n → (m == n) ≡ false
 less_number m n h = grind (arith, nat_tests)
 
 -- moves that find their elements find them in longer lists
-finds_more : (moves : List ℕ) (ls ks : List (List Tree)) → PrefixAll ls ks → Finds moves ls → Finds moves ks
+pub finds_more : (moves : List ℕ) (ls ks : List (List Tree)) → PrefixAll ls ks → Finds moves ls → Finds moves ks
 finds_more [] ls ks p f = tt
 finds_more (i ∷ is) ls ks p f =
     let r = at_place ls ks i f.0 f.1 p f.2 in

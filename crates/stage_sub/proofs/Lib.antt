@@ -16,3 +16,12 @@ pub mod Rows
 pub mod Nodes
 pub mod Standing
 pub mod Asking
+pub mod Following
+pub mod Picking
+pub mod LedReady
+pub mod LedTurns
+pub mod LedCalls
+pub mod LedIntake
+pub mod LedHandlers
+pub mod LedNodes
+pub mod LedStanding

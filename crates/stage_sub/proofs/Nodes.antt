@@ -51,7 +51,7 @@ module _ (yields : List Tree → End → Given Tree) (o : Opening) (start : Run 
   m = substreams yields o
 
   -- of what came until it has ended, all that the machine gave is ready
-  open_ready : (x : Run Subs Tagged) → (close m x unended).list ≡ x.gave
+  pub open_ready : (x : Run Subs Tagged) → (close m x unended).list ≡ x.gave
   open_ready x = by_state x.gave x.state
     where
       by_state : (g : List Tagged) (st : State Subs) → (close_at m g st unended).list ≡ g
@@ -59,7 +59,7 @@ module _ (yields : List Tree → End → Given Tree) (o : Opening) (start : Run 
       by_state g done = refl
       by_state g (broken c) = refl
 
-  failed_ready : (g : List Tagged) (st : State Subs) (c : Cause) → (close_at m g st (failed c)).list ≡ g
+  pub failed_ready : (g : List Tagged) (st : State Subs) (c : Cause) → (close_at m g st (failed c)).list ≡ g
   failed_ready g (going s) c = refl
   failed_ready g done c = refl
   failed_ready g (broken d) c = refl
@@ -68,12 +68,12 @@ module _ (yields : List Tree → End → Given Tree) (o : Opening) (start : Run 
   finish_ready g (adds l) = refl
   finish_ready g (refuses c) = sym (append-nil g)
 
-  ended_ready : (g : List Tagged) (st : State Subs) (i : ℕ) → (close_at m g st ended).list ≡ g ++ arising m (arrives i item.Ended) st
+  pub ended_ready : (g : List Tagged) (st : State Subs) (i : ℕ) → (close_at m g st ended).list ≡ g ++ arising m (arrives i item.Ended) st
   ended_ready g (going s) i = finish_ready g (m.finish s)
   ended_ready g done i = sym (append-nil g)
   ended_ready g (broken c) i = sym (append-nil g)
 
-  fed_ready : (g : List Tagged) (st : State Subs) (i : ℕ) (t : Tree) → (feed m (record { gave = g; state = st }) t).gave ≡ g ++ arising m (arrives i (item.Elem t)) st
+  pub fed_ready : (g : List Tagged) (st : State Subs) (i : ℕ) (t : Tree) → (feed m (record { gave = g; state = st }) t).gave ≡ g ++ arising m (arrives i (item.Elem t)) st
   fed_ready g (going s) i t = refl
   fed_ready g done i t = sym (append-nil g)
   fed_ready g (broken c) i t = sym (append-nil g)
@@ -271,7 +271,7 @@ module _ {C : Type 0} (whole rest : C → ListFunction) (is_open : C → Bool) w
               let step = subst (λ h. (y : Held Subs) × (Owes rest is_open f yields new y × (TurnAt (joined_machine yields (opening_of h)) 0 call (owing x) (given_on 0 acts) y × QueuesOutputs (substreams yields (opening_of h)) call (owing x) old t.gave new))) how (t.turn f same yields means (owing x) owes) in
               tells_owing x owes law counts queued r may allowed t step.0 step.1.0 step.1.1.0 step.1.1.1
 
-  law_after : (call : Call) (first old new : Logic C) (v : View) (acts : List Act) (took gave : List (List Item)) → port_state old v → CallAllowed call v → ActsAllowed (seen call v) acts → Turned whole rest is_open call old acts new
+  pub law_after : (call : Call) (first old new : Logic C) (v : View) (acts : List Act) (took gave : List (List Item)) → port_state old v → CallAllowed call v → ActsAllowed (seen call v) acts → Turned whole rest is_open call old acts new
       → SubLaw rest is_open whole first old v took gave → SubLaw rest is_open whole first new (acted_all (seen call v) acts) (histories.brought_by call took) (histories.given_all acts gave)
   law_after call first old new v acts took gave r may allowed t law = record {
     took_list = law.took_list ++ brought_to 0 call;
@@ -365,7 +365,7 @@ module _ {C : Type 0} (whole rest : C → ListFunction) (is_open : C → Bool) w
         queued = λ ms e open_. ap ports_given nothing ∙ ap ports_given (sym news.none) ∙ ap (λ (k : List ℕ). k ++ ports_given l.pending) (sym (unmoved_none l.moves ms u e));
       }
 
-  fresh_law : (l : Logic C) (v : View) (took gave : List (List Item)) → SubFresh rest is_open l v → histories.AllEmpty took → histories.AllEmpty gave → length took ≡ length v.ins → length gave ≡ length v.outs → SubLaw rest is_open whole l l v took gave
+  pub fresh_law : (l : Logic C) (v : View) (took gave : List (List Item)) → SubFresh rest is_open l v → histories.AllEmpty took → histories.AllEmpty gave → length took ≡ length v.ins → length gave ≡ length v.outs → SubLaw rest is_open whole l l v took gave
   fresh_law l v took gave fresh a b m n =
       let p = fresh_ports (port_state_in l.phase l.over l.asked l.pending) v.ins v.outs took gave fresh.ports a b m n in
       let news = new_ports l.phase l.over l.asked l.pending p.x p.y fresh.fresh p.holds in

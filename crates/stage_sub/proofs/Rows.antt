@@ -28,7 +28,7 @@ use Rattle.stage_sub.specs.States.{Logic, port_state, port_state_in, StateIs, Ow
 
 -- ---- where it is called
 
-some_open : (call : Call) (x : InView) (y : OutView) → CallAllowed call (record { ins = x ∷ []; outs = y ∷ [] }) → IsInOpen x ⊎ IsOutOpen y
+pub some_open : (call : Call) (x : InView) (y : OutView) → CallAllowed call (record { ins = x ∷ []; outs = y ∷ [] }) → IsInOpen x ⊎ IsOutOpen y
 some_open starts x y h = inl (rw h.0.0 tt)
 some_open (pulls j) x y h = may_come (pulls j) x y (λ e. cc) h
 some_open (arrives i b) x y h = may_come (arrives i b) x y (λ e. cc) h

@@ -7,5 +7,8 @@ pub mod KeptSubs
 pub mod Joined
 pub mod Logs
 pub mod Moves
+pub mod Picking
 pub mod States
+pub mod Leds
 pub mod Handling
+pub mod LedLaws

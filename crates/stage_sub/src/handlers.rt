@@ -2,7 +2,8 @@
 // output and of its moves over its whole history.
 ghost use Rattle.std.specs.Prelude.{[], false, ⊤};
 ghost use Rattle.line_chain.specs.Line.{line_whole, line_rest, line_is_open};
-ghost use Rattle.stage_sub.specs.Handling.{SubFresh, SubPortState, SubLaw, sub_moves};
+ghost use Rattle.stage_sub.specs.LedLaws.{LedNew, LedPortState, SubsLaw};
+ghost use Rattle.stage_sub.specs.Leds.{made_moves};
 
 use crate::logic::SubLogic;
 use elem_core::elem::Elem;
@@ -15,15 +16,15 @@ use std::alloc::Global;
 
 // Choice: docs/DECISIONS.md#stage-over-line-chains
 impl Stage for SubLogic<LineChain> {
-    ghost fresh = { SubFresh line_rest line_is_open };
+    ghost fresh = { LedNew line_rest line_is_open };
 
-    ghost port_state = { SubPortState line_rest line_is_open };
+    ghost port_state = { LedPortState line_rest line_is_open };
 
-    ghost law = { SubLaw line_rest line_is_open line_whole };
+    ghost law = { SubsLaw line_rest line_is_open line_whole };
 
     ghost asking = { λ l v. ⊤ };
 
-    ghost moves = { sub_moves };
+    ghost moves = { made_moves };
 
     ghost keeps = { λ old new. ⊤ };
 

@@ -1,5 +1,5 @@
 // Laws of the stages with substreams: each function has no body, and its contract is the law.
-ghost use Rattle.std.specs.Prelude.{◌≡◌, ◌≢◌, ℕ, true, List, Option, Some};
+ghost use Rattle.std.specs.Prelude.{◌≡◌, ◌≢◌, ◌+◌, ℕ, true, false, List, [], ◌∷◌, length, Option, Some};
 ghost use Rattle.stage_core.specs.Fans.{untagged};
 ghost use Rattle.elem_core.specs.Tree.{Tree};
 ghost use Rattle.elem_core.specs.declared.item.Item.{Item};
@@ -17,6 +17,10 @@ ghost use Rattle.stage_core.specs.declared.phase.Phase.TheVariants.{New, Open};
 ghost use Rattle.stage_sub.specs.Joined.{untag, joined_machine};
 ghost use Rattle.stage_sub.specs.KeptSubs.{opening_of};
 ghost use Rattle.stage_sub.specs.Handling.{SubPortState, TellsMachine, GaveAll};
+ghost use Rattle.port_core.specs.Picks.{next_move};
+ghost use Rattle.stream_model.specs.FanIn.{Inflow};
+ghost use Rattle.stage_sub.specs.Leds.{Led, led_port_state};
+ghost use Rattle.stage_sub.specs.LedLaws.{LedKeeps, MisfitBy, led_ready};
 ghost use Rattle.stage_sub.specs.States.{Logic, port_state, Owes, begun};
 ghost use Rattle.stage_sub.specs.declared.opening.OpenBy.{OpenBy};
 
@@ -60,4 +64,32 @@ pub fn a_waiting_stage_gave_all<C: Chain>()
 /// Where the port rules allow a call of a handler and the port state holds, a stage that was started is open.
 pub fn a_called_stage_is_open<C: Chain>()
     ensures { (l : Logic C) (call : Call) (v : View) → l.phase ≢ New → call ≢ starts → CallAllowed call v → port_state l v → l.phase ≡ Open }
+{}
+
+/// The same of one that may follow moves.
+pub fn a_called_stage_is_open_too<C: Chain>()
+    ensures { (l : Led C) (call : Call) (v : View) → l.logic.phase ≢ New → CallAllowed call v → led_port_state l v → l.logic.phase ≡ Open }
+{}
+
+/// At any moment, what a stage that follows moves gave is what the model lets a merge of substreams give of what it took, by the moves that it
+/// made.
+pub fn led_substreams_stand<C: Chain>()
+    ensures { (f : ListFunction) (yields : List Tree → End → Given Tree) (node : ℕ) (first now : Led C) (ms : List ℕ) (w : Inflow) (g : List Tree) (e : End)
+        → now.logic.moves ≡ Some ms → LedKeeps yields (opening_of first.logic.how) (begin_subs yields node) C.rest C.is_open f now (w ∷ []) g e
+        → MergedStands yields node (opening_of first.logic.how) ms w.list w.end g e }
+{}
+
+/// A misfit has its cause, over what came: behind all elements all outputs of the substream of the next move were given while another's were
+/// not; or the input has ended, and all outputs of that substream were given.
+pub fn a_misfit_has_its_cause<C: Chain>()
+    ensures { (f : ListFunction) (yields : List Tree → End → Given Tree) (start : Run Subs Tagged) (first now : Led C) (ms : List ℕ) (w : Inflow) (g : List Tree) (e : End)
+        → now.logic.moves ≡ Some ms → now.stuck ≡ true → LedKeeps yields (opening_of first.logic.how) start C.rest C.is_open f now (w ∷ []) g e
+        → MisfitBy yields (opening_of first.logic.how) start (next_move now.left) ms w }
+{}
+
+/// One that is open and did not stop gave, and holds, as many outputs as are ready.
+pub fn a_led_stage_loses_nothing<C: Chain>()
+    ensures { (f : ListFunction) (yields : List Tree → End → Given Tree) (start : Run Subs Tagged) (first now : Led C) (w : Inflow) (g : List Tree) (e : End)
+        → now.stuck ≡ false → now.logic.phase ≡ Open → LedKeeps yields (opening_of first.logic.how) start C.rest C.is_open f now (w ∷ []) g e
+        → length g + length now.logic.pending ≡ length (led_ready yields (opening_of first.logic.how) start w) }
 {}

@@ -1,6 +1,8 @@
 ghost use Rattle.std.specs.Prelude.{◌≡◌, [], ◌∷◌, ◌++◌, map, OnOk, IfSome, IfNone, true, ◌↔◌};
 ghost use Rattle.stream_model.specs.FanIn.{tag};
+ghost use Rattle.std.specs.Prelude.{Some, None, false, ◌≢◌};
 ghost use Rattle.stage_sub.specs.Outputs.{tagged};
+ghost use Rattle.stage_sub.specs.Picking.{first_kept, first_of_sub, IsFirstKept};
 
 use elem_core::elem::Elem;
 use elem_core::elems::Elems;
@@ -74,10 +76,50 @@ impl Outputs {
         self.queue.pop_front()
     }
 
+    /// Takes out the first output of substream `port`. It takes no memory.
+    #[tactic(auto, using(crate::proofs::Picking::some_tagged, crate::proofs::Picking::none_tagged))]
+    pub fn take_of(&mut self, port: u32) -> Option<Output>
+        ensures first { IfSome result (λ o. first_of_sub port self.old ≡ Some (tagged o, self.new)) }
+        ensures none { IfNone result ((first_of_sub port self.old ≡ None) × (self.new ≡ self.old)) }
+    {
+        take_from(&mut self.queue, port)
+    }
+
     /// Whether there is none.
     pub fn is_empty(&self) -> bool
         ensures { result ≡ true ↔ (self.now ≡ []) }
     {
         self.queue.is_empty()
     }
+}
+
+// Takes the first output of substream `port` out of a queue.
+fn take_from(queue: &mut VecDeque<Output>, port: u32) -> Option<Output>
+    ensures some { IfSome result (λ o. first_kept port queue.old.items ≡ Some (o, queue.new.items)) }
+    ensures none { IfNone result ((first_kept port queue.old.items ≡ None) × (queue.new.items ≡ queue.old.items)) }
+{
+    match first_at(queue, port) {
+        Some(place) => queue.remove(place),
+        None => None,
+    }
+}
+
+// The place of the first output of substream `port`.
+fn first_at(queue: &VecDeque<Output>, port: u32) -> Option<usize>
+    ensures { IsFirstKept port queue.now.items result }
+{
+    for place in 0..queue.len() {
+        if is_of(&queue[place], port) {
+            return Some(place);
+        }
+    }
+    None
+}
+
+// It is an output of substream `port`.
+fn is_of(output: &Output, port: u32) -> bool
+    ensures yes { result ≡ true → output.now.port ≡ port }
+    ensures no { result ≡ false → output.now.port ≢ port }
+{
+    output.port == port
 }

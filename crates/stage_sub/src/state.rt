@@ -1,6 +1,6 @@
-ghost use Rattle.std.specs.Prelude.{◌≡◌, ⊤, ◌≤◌, ◌<◌, true, ◌∷◌, ◌++◌, ◌+◌, [], length, OnOk, IfOk, List, None};
+ghost use Rattle.std.specs.Prelude.{◌≡◌, ◌≢◌, ⊤, ◌≤◌, ◌<◌, true, false, ◌∷◌, ◌++◌, ◌+◌, [], length, OnOk, IfOk, List, None};
 ghost use Rattle.elem_core.specs.Tree.{Tree};
-ghost use Rattle.port_core.specs.declared.act.Act.TheVariants.{FailOut};
+ghost use Rattle.port_core.specs.declared.act.Act.TheVariants.{FailOut, Complete};
 ghost use Rattle.port_core.specs.ListFunction.{ListFunction, Same};
 ghost use Rattle.stream_model.specs.Outlook.{End};
 ghost use Rattle.stream_model.specs.Machine.{Given};
@@ -10,6 +10,7 @@ ghost use Rattle.step_work.specs.Means.{Means};
 ghost use Rattle.stage_sub.specs.Subs.{SubsReach};
 ghost use Rattle.stage_sub.specs.KeptSubs.{Keeps, TakesBy};
 ghost use Rattle.stage_sub.specs.Moves.{port_in, first_output};
+ghost use Rattle.stage_sub.specs.Leds.{GivesOf};
 ghost use Rattle.stage_sub.specs.States.{begun, Ready, cause_of_blame, first_out, first_acts, answered, answer_acts, answer_gave, emptied, emptied_acts, pulled, pulled_acts, sealed, sealed_acts, sealed_gave, finished, finish_acts, finish_gave, cancel_acts};
 
 use crate::blame::Blame;
@@ -316,5 +317,77 @@ impl<C: Chain> SubState<C> {
                 None
             }
         }
+    }
+
+    // ---- where moves are followed
+
+    /// The output was asked.
+    pub fn want(&mut self)
+        ensures { self.new ≡ record self.old { asked = true } }
+    {
+        self.asked = true;
+    }
+
+    /// So many elements were taken.
+    pub fn count(&mut self, taken: u64)
+        ensures { self.new ≡ record self.old { taken = taken } }
+    {
+        self.taken = taken;
+    }
+
+    /// The input has ended.
+    pub fn end_input(&mut self)
+        ensures { self.new ≡ record self.old { over = true } }
+    {
+        self.over = true;
+    }
+
+    /// Whether the output is asked.
+    pub fn is_asked(&self) -> bool
+        ensures { result ≡ self.now.asked }
+    {
+        self.asked
+    }
+
+    /// Whether the input has ended.
+    pub fn is_over(&self) -> bool
+        ensures { result ≡ self.now.over }
+    {
+        self.over
+    }
+
+    /// Whether no output is held.
+    pub fn holds_none(&self) -> bool
+        ensures yes { result ≡ true → self.now.pending ≡ [] }
+        ensures no { result ≡ false → self.now.pending ≢ [] }
+    {
+        self.outs.is_empty()
+    }
+
+    /// The first output of substream `port` that is held goes out, where there is one.
+    pub fn give_of(&mut self, port: u32, acts: &mut Acts) -> bool
+        requires room { length acts.old.items < acts.old.room }
+        ensures gives { GivesOf port result self.old self.new acts.old.items acts.new.items }
+        ensures room { acts.new.room ≡ acts.old.room }
+    {
+        match self.outs.take_of(port) {
+            Some(o) => {
+                self.asked = false;
+                acts.add(Act::Push(0, o.item));
+                true
+            }
+            None => false,
+        }
+    }
+
+    /// The stage ends.
+    pub fn complete(&mut self, acts: &mut Acts)
+        requires room { length acts.old.items < acts.old.room }
+        ensures stage { self.new ≡ record self.old { phase = Closed } }
+        ensures acts { acts.new.items ≡ acts.old.items ++ Complete 0 ∷ [] }
+        ensures room { acts.new.room ≡ acts.old.room }
+    {
+        self.phase = Phase::Closed;
+        acts.add(Act::Complete(0));
     }
 }

@@ -4,7 +4,7 @@ use Rattle.line_chain.proofs.Sending.{line_send}
 use Rattle.line_chain.specs.Line.{line_whole, line_rest, line_is_open}
 use Rattle.port_core.specs.Call.{arrives}
 use Rattle.elem_core.specs.declared.item.Item.TheVariants as item
-use Rattle.stage_sub.proofs.Nodes.{handles}
+use Rattle.stage_sub.proofs.LedNodes.{handles, grew}
 use Rattle.stage_sub.proofs.handlers.SubLogicLineChainStage.on_fail.Goals as goal
 
 pub returns-clause-handles : goal.returns-clause-handles
@@ -12,3 +12,6 @@ returns-clause-handles c = handles line_whole line_rest line_is_open (arrives c.
 
 pub on_fail-requires-send-C : goal.on_fail-requires-send-C
 on_fail-requires-send-C c κs = param_send 0 _ (arg_send _ no _ line_send)
+
+pub returns-clause-grows : goal.returns-clause-grows
+returns-clause-grows c = grew line_whole line_rest line_is_open (arrives 0 (item.Failed c.args.cause)) _ _ _ _ c.on_fail.ensures.gives

@@ -1,17 +1,24 @@
-use Rattle.std.proofs.Common.{ap, sym}
-use Rattle.stage_sub.specs.Logs.{moves_in}
-use Rattle.stage_sub.proofs.Asking.{ended_ports}
-use Rattle.stage_sub.proofs.Turning.{goes_on, on_ended}
+use Rattle.std.proofs.Common.{ap, sym, ◌∙◌}
+use Rattle.port_core.specs.Call.{arrives}
+use Rattle.elem_core.specs.declared.item.Item.TheVariants as item
+use Rattle.stage_sub.specs.Leds.{Led}
+use Rattle.stage_sub.proofs.LedHandlers.{as_led, as_unled, unled_ports, unled_meets}
 use Rattle.stage_sub.proofs.logic.SubLogic.on_finish.Goals as goal
 
-pub returns-clause-gives : goal.returns-clause-gives
-returns-clause-gives g c =
-    on_ended g.C.Chain.whole g.C.Chain.rest g.C.Chain.is_open c.args.self.now c.self.inside.state.value c.end_in.new.self c.finish-gave.new.self c.in_ok-blame.blame c.finish-gave.new.acts.items c.finish-gave.result
-    (moves_in c.self.inside.log) (moves_in c.make_room.new.log) (moves_in c.note.new.log)
-    c.self.view_is c.requires.open (goes_on c.args.self.now c.requires.open c.requires.meets) (rw (sym c.deref_mut.ensures.value) c.in_ok-blame.ensures.stays) (rw (sym c.deref_mut.ensures.value) c.in_ok-blame.ensures.becomes)
-    (rw (sym c.deref_mut-2.ensures.value) c.finish-gave.ensures.stage) (rw (sym c.deref_mut-2.ensures.value) (ap (λ a. a.items) c.finish-gave.ensures.acts)) (rw (sym c.deref_mut-2.ensures.value) c.finish-gave.ensures.gave) c.make_room.ensures.moves c.note.ensures
+pub finish_by-requires-clause-follows : goal.finish_by-requires-clause-follows
+finish_by-requires-clause-follows g c = λ lts lives e. c.follows.ensures.yes c.if-follows.true (ap (λ (l : Led _). l.left) c.self.view_is ∙ e)
 
-pub returns-clause-ports : goal.returns-clause-ports
-returns-clause-ports g c =
-    ended_ports c.args.self.now c.self.inside.state.value c.end_in.new.self c.finish-gave.new.self c.in_ok-blame.blame c.finish-gave.new.acts.items (moves_in c.self.inside.log) (moves_in c.note.new.log)
-    c.self.view_is c.requires.open (rw (sym c.deref_mut.ensures.value) c.in_ok-blame.ensures.stays) (rw (sym c.deref_mut-2.ensures.value) c.finish-gave.ensures.stage) (rw (sym c.deref_mut-2.ensures.value) (ap (λ a. a.items) c.finish-gave.ensures.acts))
+pub finish_freely-requires-clause-free : goal.finish_freely-requires-clause-free
+finish_freely-requires-clause-free g c = λ lts lives. sym (ap (λ (l : Led _). l.left) c.self.view_is) ∙ c.follows.ensures.no c.if-follows.false
+
+pub finish_freely-requires-clause-meets : goal.finish_freely-requires-clause-meets
+finish_freely-requires-clause-meets g c = λ lts lives. unled_meets (arrives 0 item.Ended) c.args.self.now (sym (ap (λ (l : Led _). l.left) c.self.view_is) ∙ c.follows.ensures.no c.if-follows.false) c.requires.meets
+
+pub returns-then-follows-clause-gives : goal.returns-then-follows-clause-gives
+returns-then-follows-clause-gives g c = as_led g.C.Chain.whole g.C.Chain.rest g.C.Chain.is_open (arrives 0 item.Ended) c.args.self.now c.finish_by.new.self c.finish_by.new.acts.items c.finish_by.result (λ e. c.follows.ensures.yes c.if-follows.true (ap (λ (l : Led _). l.left) c.self.view_is ∙ e)) c.finish_by.ensures.gives
+
+pub returns-else-follows-clause-ports : goal.returns-else-follows-clause-ports
+returns-else-follows-clause-ports g c = unled_ports g.C.Chain.whole g.C.Chain.rest g.C.Chain.is_open (arrives 0 item.Ended) c.args.self.now c.finish_freely.new.self c.finish_freely.new.acts.items c.finish_freely.result (sym (ap (λ (l : Led _). l.left) c.self.view_is) ∙ c.follows.ensures.no c.if-follows.false) c.finish_freely.ensures.gives c.finish_freely.ensures.ports
+
+pub returns-else-follows-clause-gives : goal.returns-else-follows-clause-gives
+returns-else-follows-clause-gives g c = as_unled g.C.Chain.whole g.C.Chain.rest g.C.Chain.is_open (arrives 0 item.Ended) c.args.self.now c.finish_freely.new.self c.finish_freely.new.acts.items c.finish_freely.result (sym (ap (λ (l : Led _). l.left) c.self.view_is) ∙ c.follows.ensures.no c.if-follows.false) c.finish_freely.ensures.gives

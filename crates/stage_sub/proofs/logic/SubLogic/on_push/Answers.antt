@@ -1,11 +1,24 @@
-use Rattle.std.proofs.Common.{ap, sym}
-use Rattle.stage_sub.specs.Logs.{moves_in}
-use Rattle.stage_sub.proofs.Pushing.{waits, on_pushed}
+use Rattle.std.proofs.Common.{ap, sym, ◌∙◌}
+use Rattle.port_core.specs.Call.{arrives}
+use Rattle.elem_core.specs.declared.item.Item.TheVariants as item
+use Rattle.stage_sub.specs.Leds.{Led}
+use Rattle.stage_sub.proofs.LedHandlers.{as_led, as_unled, unled_ports, unled_meets}
 use Rattle.stage_sub.proofs.logic.SubLogic.on_push.Goals as goal
 
-pub returns-clause-gives : goal.returns-clause-gives
-returns-clause-gives g c =
-    on_pushed g.C.Chain.whole g.C.Chain.rest g.C.Chain.is_open c.args.self.now c.self.inside.state.value c.take_in.new.self c.answer-gave.new.self c.args.e c.in_ok-taken.taken c.in_ok-blame.blame c.answer-gave.new.acts.items c.answer-gave.result
-    (moves_in c.self.inside.log) (moves_in c.make_room.new.log) (moves_in c.note.new.log)
-    c.self.view_is c.requires.open (waits c.args.self.now c.args.e c.requires.open c.requires.meets) (rw (sym c.deref.ensures) c.in_ok-taken.ensures) (rw (sym c.deref_mut.ensures.value) c.in_ok-blame.ensures.stays) (rw (sym c.deref_mut.ensures.value) c.in_ok-blame.ensures.takes)
-    (rw (sym c.deref_mut-2.ensures.value) c.answer-gave.ensures.stage) (rw (sym c.deref_mut-2.ensures.value) (ap (λ a. a.items) c.answer-gave.ensures.acts)) (rw (sym c.deref_mut-2.ensures.value) c.answer-gave.ensures.gave) c.make_room.ensures.moves c.note.ensures
+pub push_by-requires-clause-follows : goal.push_by-requires-clause-follows
+push_by-requires-clause-follows g c = λ lts lives e. c.follows.ensures.yes c.if-follows.true (ap (λ (l : Led _). l.left) c.self.view_is ∙ e)
+
+pub push_freely-requires-clause-free : goal.push_freely-requires-clause-free
+push_freely-requires-clause-free g c = λ lts lives. sym (ap (λ (l : Led _). l.left) c.self.view_is) ∙ c.follows.ensures.no c.if-follows.false
+
+pub push_freely-requires-clause-meets : goal.push_freely-requires-clause-meets
+push_freely-requires-clause-meets g c = λ lts lives. unled_meets (arrives 0 (item.Elem c.args.e)) c.args.self.now (sym (ap (λ (l : Led _). l.left) c.self.view_is) ∙ c.follows.ensures.no c.if-follows.false) c.requires.meets
+
+pub returns-then-follows-clause-gives : goal.returns-then-follows-clause-gives
+returns-then-follows-clause-gives g c = as_led g.C.Chain.whole g.C.Chain.rest g.C.Chain.is_open (arrives 0 (item.Elem c.args.e)) c.args.self.now c.push_by.new.self c.push_by.new.acts.items c.push_by.result (λ e. c.follows.ensures.yes c.if-follows.true (ap (λ (l : Led _). l.left) c.self.view_is ∙ e)) c.push_by.ensures.gives
+
+pub returns-else-follows-clause-ports : goal.returns-else-follows-clause-ports
+returns-else-follows-clause-ports g c = unled_ports g.C.Chain.whole g.C.Chain.rest g.C.Chain.is_open (arrives 0 (item.Elem c.args.e)) c.args.self.now c.push_freely.new.self c.push_freely.new.acts.items c.push_freely.result (sym (ap (λ (l : Led _). l.left) c.self.view_is) ∙ c.follows.ensures.no c.if-follows.false) c.push_freely.ensures.gives c.push_freely.ensures.ports
+
+pub returns-else-follows-clause-gives : goal.returns-else-follows-clause-gives
+returns-else-follows-clause-gives g c = as_unled g.C.Chain.whole g.C.Chain.rest g.C.Chain.is_open (arrives 0 (item.Elem c.args.e)) c.args.self.now c.push_freely.new.self c.push_freely.new.acts.items c.push_freely.result (sym (ap (λ (l : Led _). l.left) c.self.view_is) ∙ c.follows.ensures.no c.if-follows.false) c.push_freely.ensures.gives

@@ -2,6 +2,8 @@ pub mod Acting
 pub mod Tables
 pub mod Islands
 pub mod Picking
+pub mod Least
+pub mod Leasts
 pub mod Seating
 pub mod Handing
 pub mod Gathering

@@ -6,5 +6,6 @@ pub mod LanePlaces
 pub mod Ways
 pub mod Handles
 pub mod Picks
+pub mod Misfits
 pub mod Seats
 pub mod Boundary

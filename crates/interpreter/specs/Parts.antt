@@ -9,7 +9,7 @@ use Rattle.nodes.specs.Kinds.{IsMaker, maker_of, IsFileSink, writes_of}
 use Rattle.stage_linear.specs.Handling.{LinearFresh}
 use Rattle.stage_state.specs.Handling.{StateFresh}
 use Rattle.line_chain.specs.Line.{line_rest, line_is_open}
-use Rattle.stage_sub.specs.Handling.{SubFresh}
+use Rattle.stage_sub.specs.LedLaws.{LedNew}
 use Rattle.stage_in.specs.Logics.{InFresh}
 use Rattle.stage_out.specs.OutLogics.{OutFresh}
 use Rattle.port_core.specs.View.{unpulled_ins, unpulled_outs}
@@ -93,7 +93,7 @@ IsUnused (Reading r) = r.kept ≡ []
 IsUnused (Making k) = IsMaker k
 IsUnused (Linear l) = LinearFresh l (record { ins = Idle ∷ []; outs = Unpulled ∷ [] })
 IsUnused (State l) = StateFresh l (record { ins = Idle ∷ []; outs = Unpulled ∷ [] })
-IsUnused (Sub l) = SubFresh line_rest line_is_open l (record { ins = Idle ∷ []; outs = Unpulled ∷ [] })
+IsUnused (Sub l) = LedNew line_rest line_is_open l (record { ins = Idle ∷ []; outs = Unpulled ∷ [] })
 IsUnused (FanIn l n) = InFresh l (unpulled_ins n)
 IsUnused (FanOut l n) = OutFresh l (unpulled_outs n)
 IsUnused (Writing k (Some d)) = IsFileSink k

@@ -1,5 +1,5 @@
 -- Room for an island: what it takes of memory before its nodes hold their handles.
-use Rattle.std.specs.Prelude.{◌≡◌, ℕ, ◌+◌, ◌≤◌, List, [], map, length, replicate, vec_len, vec_capacity}
+use Rattle.std.specs.Prelude.{◌≡◌, ℕ, ◌+◌, ◌≤◌, List, [], map, length, replicate, None, vec_len, vec_capacity}
 use Rattle.port_core.specs.Cell.{new_cell}
 use Rattle.stage_core.specs.declared.stage.TheConstants.{MOST_ACTS}
 use Rattle.interpreter.specs.declared.island.IslandEnd.{IslandEnd}
@@ -15,6 +15,7 @@ pub record HasRoom {S D : Type 0} (room : IslandEnd S D) (nodes wires : ℕ) : T
   pub no_sinks : room.sinks.items ≡ []
   pub no_wires : room.wires.items ≡ []
   pub no_picks : room.picks.items ≡ []
+  pub no_misfit : room.misfit ≡ None
   pub no_seats : room.seats.items ≡ []
   pub no_readers : room.readers.items ≡ []
   pub no_writers : room.writers.items ≡ []

@@ -8,6 +8,9 @@ ghost use Rattle.fused_net.specs.declared.queue.TheConstants.{MOST_CHASES};
 ghost use Rattle.nodes.specs.Nodes.{node_fresh, node_port_state, node_law, node_asking, node_moves, node_gone, node_passive, KeepsNode};
 ghost use Rattle.interpreter.specs.Parts.{AreParts, AllBecome, ends_of, wire_number, seat_place};
 ghost use Rattle.interpreter.specs.Picks.{place_number, pick_of, with_picks, picks_of};
+ghost use Rattle.interpreter.specs.Misfits.{least, found_at, least_of};
+ghost use Rattle.port_core.specs.Picks.{misfit_in};
+ghost use Rattle.nodes.specs.Nodes.{node_misfit};
 ghost use Rattle.interpreter.specs.Seats.{with_seat, seats_of};
 ghost use Rattle.interpreter.specs.Island.{IslandKeeps, counts_of, sinks_of, readers_of, writers_of};
 ghost use Rattle.std.specs.Option.{option_map};
@@ -116,6 +119,8 @@ pub struct IslandEnd<S: Source, D: Drain> {
     pub wires: Vec<(u32, WireCount)>,
     /// The moves of each stage whose kind chooses, also where it made none.
     pub picks: Vec<PickList>,
+    /// The least of its nodes that could not make its next move, and the place of that move, from 0.
+    pub misfit: Option<(u32, u32)>,
     /// Of each valve and each trip its node, and its seat at its kill switch.
     pub seats: Vec<(u32, SwitchSeat)>,
     /// The sources of bytes of its readers.
@@ -479,6 +484,7 @@ impl<S: Source, D: Drain, L: Logic, B: PlugBook> Island<S, D, L, B> {
         ensures sinks { IfOk result (λ e. e.sinks.items ≡ sinks_of self.net.nodes) }
         ensures wires { IfOk result (λ e. e.wires.items ≡ counts_of self.numbers self.net.wires) }
         ensures picks { IfOk result (λ e. map pick_of e.picks.items ≡ picks_of self.places self.net.nodes) }
+        ensures misfit { IfOk result (λ e. e.misfit ≡ least_of self.places self.net.nodes) }
         ensures seats { IfOk result (λ e. e.seats.items ≡ seats_of self.places self.net.nodes) }
         ensures readers { IfOk result (λ e. e.readers.items ≡ readers_of self.net.nodes) }
         ensures writers { IfOk result (λ e. e.writers.items ≡ writers_of self.net.nodes) }
@@ -558,6 +564,7 @@ fn leave<S: Source, D: Drain, L: Logic, B: PlugBook>(
     ensures sinks { result.sinks.items ≡ sinks_of engine.nodes }
     ensures wires { result.wires.items ≡ counts_of numbers.now engine.wires }
     ensures picks { map pick_of result.picks.items ≡ picks_of places.now engine.nodes }
+    ensures misfit { result.misfit ≡ least_of places.now engine.nodes }
     ensures seats { result.seats.items ≡ seats_of places.now engine.nodes }
     ensures readers { result.readers.items ≡ readers_of engine.nodes }
     ensures writers { result.writers.items ≡ writers_of engine.nodes }
@@ -576,6 +583,7 @@ fn gather<S: Source, D: Drain, L: Logic, B: PlugBook>(
 ) -> IslandEnd<S, D>
     requires no_sinks { end.sinks.items ≡ [] }
     requires no_picks { end.picks.items ≡ [] }
+    requires no_misfit { end.misfit ≡ None }
     requires no_seats { end.seats.items ≡ [] }
     requires no_readers { end.readers.items ≡ [] }
     requires no_writers { end.writers.items ≡ [] }
@@ -583,6 +591,7 @@ fn gather<S: Source, D: Drain, L: Logic, B: PlugBook>(
     requires places { length places.now ≡ vec_len nodes }
     ensures sinks { result.sinks.items ≡ sinks_of nodes.items }
     ensures picks { map pick_of result.picks.items ≡ picks_of places.now nodes.items }
+    ensures misfit { result.misfit ≡ least_of places.now nodes.items }
     ensures seats { result.seats.items ≡ seats_of places.now nodes.items }
     ensures readers { result.readers.items ≡ readers_of nodes.items }
     ensures writers { result.writers.items ≡ writers_of nodes.items }
@@ -628,6 +637,7 @@ impl<S: Source, D: Drain> IslandEnd<S, D> {
             sinks: Vec::with_capacity(alloc, nodes)?,
             wires: Vec::with_capacity(alloc, wires)?,
             picks: Vec::with_capacity(alloc, nodes)?,
+            misfit: None,
             seats: Vec::with_capacity(alloc, nodes)?,
             readers: Vec::with_capacity(alloc, nodes)?,
             writers: Vec::with_capacity(alloc, nodes)?,
@@ -639,6 +649,7 @@ impl<S: Source, D: Drain> IslandEnd<S, D> {
         requires { RoomFor self.old 1 }
         ensures sinks { self.new.sinks.items ≡ self.old.sinks.items ++ sinks_of (node ∷ []) }
         ensures picks { map pick_of self.new.picks.items ≡ map pick_of self.old.picks.items ++ picks_of (number ∷ []) (node ∷ []) }
+        ensures misfit { self.new.misfit ≡ least self.old.misfit (found_at number (node_misfit node)) }
         ensures seats { self.new.seats.items ≡ self.old.seats.items ++ seats_of (number ∷ []) (node ∷ []) }
         ensures readers { self.new.readers.items ≡ self.old.readers.items ++ readers_of (node ∷ []) }
         ensures writers { self.new.writers.items ≡ self.old.writers.items ++ writers_of (node ∷ []) }
@@ -646,6 +657,7 @@ impl<S: Source, D: Drain> IslandEnd<S, D> {
         ensures room { (n : ℕ) → RoomFor self.old (n + 1) → RoomFor self.new n }
     {
         let (end, log, seat) = node.close();
+        self.misfit = least(self.misfit, misfit_of(number, &log));
         add_picks(&mut self.picks, number, log);
         add_seat(&mut self.seats, number, seat);
         match end {
@@ -658,6 +670,30 @@ impl<S: Source, D: Drain> IslandEnd<S, D> {
                 }
             }
         }
+    }
+}
+
+/// The lesser of two nodes that could not make their next move.
+pub fn least(one: Option<(u32, u32)>, other: Option<(u32, u32)>) -> Option<(u32, u32)>
+    ensures { result ≡ least one other }
+{
+    match (one, other) {
+        (Some(first), Some(second)) if second.0 < first.0 => Some(second),
+        (Some(first), _) => Some(first),
+        (None, second) => second,
+    }
+}
+
+// The move that node `number` could not make, where it chooses and found one.
+fn misfit_of(number: u32, log: &Option<PickLog>) -> Option<(u32, u32)>
+    ensures { result ≡ found_at number (misfit_in log.now) }
+{
+    match log {
+        Some(log) => match log.misfit_at() {
+            Some(place) => Some((number, place)),
+            None => None,
+        },
+        None => None,
     }
 }
 

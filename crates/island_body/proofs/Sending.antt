@@ -39,6 +39,7 @@ use Rattle.stage_switch.proofs.valve.Valve.TheSendSync as valve
 use Rattle.stage_switch.specs.contracts.valve.Valve as valve_row
 use Rattle.stage_switch.specs.contracts.trip.Trip as trip_row
 use Rattle.stage_dropping.specs.contracts.dropping.Dropping as dropping
+use Rattle.stage_dropping.proofs.dropping.After.TheSendSync as after
 use Rattle.stage_dropping.specs.contracts.recover.Recovering as recovering
 use Rattle.stage_state.specs.contracts.machine.MachineLogic as machine
 use Rattle.stage_state.specs.contracts.keep.KeepLogic as keep
@@ -118,7 +119,7 @@ machine_send : IsSend machine.the_row
 machine_send = search (keep_send, buffer_send, crosses, knot.crosses, sendable) depth 60 fits 20000
 
 dropping_send : IsSend dropping.the_row
-dropping_send = search (heap.the_send, ring.the_field_send, ring.the_send, deed.the_send, cells.the_send, base.the_send, base.the_field_send, crosses, knot.crosses, sendable) depth 60 fits 20000
+dropping_send = search (after.the_field_send, heap.the_send, ring.the_field_send, cells.the_send, base.the_field_send, crosses, knot.crosses, sendable) depth 60 fits 20000
 
 recovering_send : IsSend recovering.the_row
 recovering_send = search (crosses, knot.crosses, sendable) depth 60 fits 20000
@@ -260,7 +261,7 @@ end_send S D s d p q =
         search rings depth 60 fits 20000,
         (
           search rings depth 60 fits 20000,
-          (search (switch_seat.the_send, rings) depth 60 fits 20000, (search (p, rings) depth 60 fits 20000, (search (q, rings) depth 60 fits 20000, tt))),
+          (search rings depth 60 fits 20000, (search (switch_seat.the_send, rings) depth 60 fits 20000, (search (p, rings) depth 60 fits 20000, (search (q, rings) depth 60 fits 20000, tt)))),
         ),
       ),
     )

@@ -5,6 +5,7 @@ ghost use Rattle.fused_net.specs.Costs.{Uses, total_cost};
 ghost use Rattle.lane_core.specs.Ends.{asked_in_all};
 ghost use Rattle.lane_core.specs.Boundary.{waits};
 ghost use Rattle.interpreter.specs.Island.{counts_of, sinks_of, readers_of, writers_of};
+ghost use Rattle.interpreter.specs.Misfits.{least_of};
 ghost use Rattle.interpreter.specs.Picks.{pick_of, picks_of};
 ghost use Rattle.interpreter.specs.Seats.{seats_of};
 ghost use Rattle.island_body.specs.Sending.{unit_of};
@@ -589,6 +590,7 @@ impl<S: Source, D: Drain, L: Logic, B: PlugBook> Body<S, D, L, B> {
         ensures sinks { result.sinks.items ≡ sinks_of self.island.net.nodes }
         ensures wires { result.wires.items ≡ counts_of self.island.numbers self.island.net.wires }
         ensures picks { map pick_of result.picks.items ≡ picks_of self.island.places self.island.net.nodes }
+        ensures misfit { result.misfit ≡ least_of self.island.places self.island.net.nodes }
         ensures seats { result.seats.items ≡ seats_of self.island.places self.island.net.nodes }
         ensures readers { result.readers.items ≡ readers_of self.island.net.nodes }
         ensures writers { result.writers.items ≡ writers_of self.island.net.nodes }

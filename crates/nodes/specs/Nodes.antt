@@ -9,14 +9,16 @@ use Rattle.stream_model.specs.Linear.{Book}
 use Rattle.stage_linear.specs.Handling.{LinearFresh, LinearPortState, LinearLaw}
 use Rattle.stage_state.specs.Handling.{StateFresh, StatePortState, StateLaw}
 use Rattle.stage_switch.specs.Public.{SeatState}
-use Rattle.stage_state.specs.Moves.{state_picks, state_seat}
+use Rattle.stage_state.specs.Moves.{state_picks, state_misfit, state_plan, state_seat}
 use Rattle.line_chain.specs.Line.{line_whole, line_rest, line_is_open}
-use Rattle.stage_sub.specs.Handling.{SubFresh, SubPortState, SubLaw, sub_picks}
-use Rattle.stage_in.specs.Logics.{InFresh, InPortState, InLaw}
-use Rattle.stage_in.specs.Moves.{in_picks}
+use Rattle.stage_sub.specs.Handling.{sub_picks}
+use Rattle.stage_sub.specs.Leds.{sub_plan, sub_misfit}
+use Rattle.stage_sub.specs.LedLaws.{LedNew, LedPortState, SubsLaw}
+use Rattle.stage_in.specs.Logics.{InAsking, InFresh, InPortState, InLaw}
+use Rattle.stage_in.specs.Moves.{in_picks, in_misfit, in_plan}
 use Rattle.stage_out.specs.OutLogics.{OutFresh, OutAsking, OutLaw}
 use Rattle.stage_out.specs.OutLogics as out
-use Rattle.stage_out.specs.Moves.{out_picks}
+use Rattle.stage_out.specs.Moves.{out_picks, out_misfit, out_plan}
 use Rattle.nodes.specs.declared.node.IslandNode.{IslandNode}
 use Rattle.nodes.specs.declared.node.IslandNode.TheVariants.{Reading, Making, Linear, State, Sub, FanIn, FanOut, Writing, Ignoring, Entering, Leaving}
 use Rattle.nodes.specs.declared.node.NodeEnd.{NodeEnd}
@@ -36,7 +38,7 @@ node_fresh (Reading x) v = LinesFresh x v
 node_fresh (Making x) v = MadeFresh x v
 node_fresh (Linear x) v = LinearFresh x v
 node_fresh (State x) v = StateFresh x v
-node_fresh (Sub x) v = SubFresh line_rest line_is_open x v
+node_fresh (Sub x) v = LedNew line_rest line_is_open x v
 node_fresh (FanIn x) v = InFresh x v
 node_fresh (FanOut x) v = OutFresh x v
 node_fresh (Writing x) v = SinkFresh x v
@@ -50,7 +52,7 @@ node_port_state (Reading x) v = lines_port_state x v
 node_port_state (Making x) v = made_port_state x v
 node_port_state (Linear x) v = LinearPortState x v
 node_port_state (State x) v = StatePortState x v
-node_port_state (Sub x) v = SubPortState line_rest line_is_open x v
+node_port_state (Sub x) v = LedPortState line_rest line_is_open x v
 node_port_state (FanIn x) v = InPortState x v
 node_port_state (FanOut x) v = out.port_state x v
 node_port_state (Writing x) v = sink_port_state x v
@@ -65,7 +67,7 @@ node_law sources drains book (Reading first) (Reading x) v took gave = LinesLaw 
 node_law sources drains book (Making first) (Making x) v took gave = MadeLaw first x v took gave
 node_law sources drains book (Linear first) (Linear x) v took gave = LinearLaw book first x v took gave
 node_law sources drains book (State first) (State x) v took gave = StateLaw first x v took gave
-node_law sources drains book (Sub first) (Sub x) v took gave = SubLaw line_rest line_is_open line_whole first x v took gave
+node_law sources drains book (Sub first) (Sub x) v took gave = SubsLaw line_rest line_is_open line_whole first x v took gave
 node_law sources drains book (FanIn first) (FanIn x) v took gave = InLaw first x v took gave
 node_law sources drains book (FanOut first) (FanOut x) v took gave = OutLaw first x v took gave
 node_law sources drains book (Writing first) (Writing x) v took gave = SinkLaw drains first x v took gave
@@ -74,8 +76,9 @@ node_law sources drains book (Entering first) (Entering x) v took gave = Enterin
 node_law sources drains book (Leaving first) (Leaving x) v took gave = LeavingLaw first x v took gave
 node_law sources drains book _ _ v took gave = ⊥
 
--- what it knows of its ports whenever it has just asked: only a stage with several outputs tells of it
+-- what it knows of its ports whenever it has just asked: only a stage with several inputs and one with several outputs tell of it
 abbrev pub node_asking : {S D L B : Type 0} → IslandNode S D L B → View → Type 0
+node_asking (FanIn x) v = InAsking x v
 node_asking (FanOut x) v = OutAsking x v
 node_asking x v = ⊤
 
@@ -85,13 +88,41 @@ node_picks (Reading x) = None
 node_picks (Making x) = None
 node_picks (Linear x) = None
 node_picks (State x) = state_picks x
-node_picks (Sub x) = sub_picks x
+node_picks (Sub x) = sub_picks x.logic
 node_picks (FanIn x) = in_picks x
 node_picks (FanOut x) = out_picks x
 node_picks (Writing x) = None
 node_picks (Ignoring x) = None
 node_picks (Entering x) = None
 node_picks (Leaving x) = None
+
+-- the place of the move that it cannot make, where it found one
+abbrev pub node_misfit : {S D L B : Type 0} → IslandNode S D L B → Option ℕ
+node_misfit (Reading x) = None
+node_misfit (Making x) = None
+node_misfit (Linear x) = None
+node_misfit (State x) = state_misfit x
+node_misfit (Sub x) = sub_misfit x
+node_misfit (FanIn x) = in_misfit x
+node_misfit (FanOut x) = out_misfit x
+node_misfit (Writing x) = None
+node_misfit (Ignoring x) = None
+node_misfit (Entering x) = None
+node_misfit (Leaving x) = None
+
+-- all the moves that it follows, where it follows any
+abbrev pub node_plan : {S D L B : Type 0} → IslandNode S D L B → Option (List ℕ)
+node_plan (Reading x) = None
+node_plan (Making x) = None
+node_plan (Linear x) = None
+node_plan (State x) = state_plan x
+node_plan (Sub x) = sub_plan x
+node_plan (FanIn x) = in_plan x
+node_plan (FanOut x) = out_plan x
+node_plan (Writing x) = None
+node_plan (Ignoring x) = None
+node_plan (Entering x) = None
+node_plan (Leaving x) = None
 
 -- the moves that it has recorded, and none where it does not choose
 abbrev pub node_moves : {S D L B : Type 0} → IslandNode S D L B → List ℕ

@@ -4,9 +4,10 @@ ghost use Rattle.std.specs.Option.{option_map};
 ghost use Rattle.elem_core.specs.Prefix.{IsPrefix};
 ghost use Rattle.elem_core.specs.declared.item.Item.TheVariants as item;
 ghost use Rattle.port_core.specs.Call.{Meets, pulls, arrives};
+ghost use Rattle.port_core.specs.Picks.{misfit_in};
 ghost use Rattle.stage_core.specs.declared.stage.TheConstants.{MOST_ACTS};
 ghost use Rattle.stage_core.specs.Handling.{PullsAs, StaysPassive, Handles};
-ghost use Rattle.nodes.specs.Nodes.{IsNotLinear, node_fresh, node_port_state, node_law, node_asking, node_moves, node_picks, node_seat, node_end, node_passive, node_gone, node_waits, KeepsNode};
+ghost use Rattle.nodes.specs.Nodes.{IsNotLinear, node_fresh, node_port_state, node_law, node_asking, node_moves, node_picks, node_misfit, node_seat, node_end, node_passive, node_gone, node_waits, KeepsNode};
 
 use crate::entering::Entering;
 use crate::ignoring::IgnoreSink;
@@ -94,6 +95,7 @@ impl<S: Source, D: Drain, L: Logic, B: PlugBook> IslandNode<S, D, L, B> {
     pub fn close(self) -> (NodeEnd<S, D>, Option<PickLog>, Option<SwitchSeat>)
         ensures end { result.0 ≡ node_end self }
         ensures picks { option_map (λ log. log.moves) result.1 ≡ node_picks self }
+        ensures misfit { misfit_in result.1 ≡ node_misfit self }
         ensures seat { result.2 ≡ node_seat self }
     {
         match self {

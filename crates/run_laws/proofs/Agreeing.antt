@@ -62,7 +62,7 @@ read_there g f cells k q (suc n) (suc p) j h e =
     let later : q + suc p ≡ (q + 1) + p = omega arith in
     read_there g f cells k (q + 1) n p j (omega (arith, h)) (rw later at e)
 
-list_agrees : (o : Outlook) (h : List Item) → AgreesWith o h → Agrees o (list_of h) (end_of_items h)
+pub list_agrees : (o : Outlook) (h : List Item) → AgreesWith o h → Agrees o (list_of h) (end_of_items h)
 list_agrees o h a = rw (a.is, list_of_told a.list a.end, standing_told a.list a.end) a.agrees
 
 module _ {N : Type 0} (port_state : N → View → Type 0) (law : N → N → View → List (List Item) → List (List Item) → Type 0) (asking : N → View → Type 0) (moves : N → List ℕ)
@@ -86,7 +86,7 @@ module _ {N : Type 0} (port_state : N → View → Type 0) (law : N → N → Vi
 
   -- by any outlooks of the wires
   module _ (sent : ℕ → Outlook) where
-    abbrev SentAgrees : ℕ → Type 0
+    abbrev pub SentAgrees : ℕ → Type 0
     SentAgrees u = Agrees (sent u) (list_of (a.near u).wire.sent) (end_of_items (a.near u).wire.sent)
 
     -- what came in at an input
@@ -98,7 +98,7 @@ module _ {N : Type 0} (port_state : N → View → Type 0) (law : N → N → Vi
         let passes = brought_passes g w (sent i) (lane_loss v.0.keep v.0.lane) (a.near i).wire.sent (a.far i).wire.got (b i v.0 v.1.0 v.1.1) (brings i v.0 v.1.0) in
         rw (v.1.0) passes
 
-    inputs_pass : (k : ℕ) (ps : List ℕ) → ((u : ℕ) (v : Edge) → slice_get g.wires u ≡ Some v → v.to ≡ k → SentAgrees u) → AllMayPass (ports_of g w sent k ps) (read_ins g got_of a.far k ps)
+    pub inputs_pass : (k : ℕ) (ps : List ℕ) → ((u : ℕ) (v : Edge) → slice_get g.wires u ≡ Some v → v.to ≡ k → SentAgrees u) → AllMayPass (ports_of g w sent k ps) (read_ins g got_of a.far k ps)
     inputs_pass k [] b = tt
     inputs_pass k (p ∷ ps) b =
         (input_passes k (find_wire k p g.wires) (λ i e. let r = found_first (λ (x : Edge). x.to) (λ (x : Edge). x.input) k p g.wires i e in (r.wire, (r.at, r.to))) b, inputs_pass k ps b)

@@ -45,7 +45,6 @@ use Rattle.run_laws.proofs.Coming.{elements_told, no_fewer}
 use Rattle.run_laws.proofs.Nodes.{KeptAs, kept_as, one_input, read_one}
 use Rattle.run_laws.specs.Made.{FirstWriting, FirstIgnoring, FirstOf}
 use Rattle.run_laws.specs.Runs.{IsRun}
-use Rattle.run_laws.specs.Telling.{WorldTells}
 use Rattle.run_laws.specs.Sinks.{TookList, SinkTells, SentTo, IsSinkAt, IgnoreTells, IsIgnorerAt}
 use Rattle.run_laws.proofs.OutlookCounting.{sent_by, rests_by, ignored_by}
 use Rattle.run_laws.proofs.Faults.{sent_wanted, none_behind}
@@ -54,7 +53,6 @@ use Rattle.run_laws.proofs.Passing.{passing_agrees}
 use Rattle.run_laws.proofs.Sinks.{sink_each, sink_took, sink_tells}
 use Rattle.run_laws.proofs.Written.{work_by, file_sink_work, end_by, written_agrees}
 use Rattle.run_laws.proofs.Writings.{file_sink_inputs}
-use Rattle.run_laws.proofs.OutlookAgreeing.{every_input_of}
 
 -- a sink is of no other kind
 not_linear : (shape : Kind) → IsFileSink shape → IsLinear shape → ⊥
@@ -232,11 +230,8 @@ module _ {S D L B : Type 0} (sources : S → SourceState) (drains : D → DrainS
       → whole_lines (length written) written ≡ now.count
   sink_lines k n first now written ni at h l = (has_lines drains first now (knows g a k n) (took g a k n) (gave g a k n) written (sink_law k n first now ni at) h l).0
 
-  module _ (w : World) (same : w.book ≡ book) (tells : WorldTells sources g w a) (rank : ℕ → ℕ) (ranked : IsRanked g rank) where
-    -- the run, by the book of this world
-    its_run : IsRun sources drains w.book g a
-    its_run = subst (λ (b : Book). IsRun sources drains b g a) (sym same) run
-
+  -- where what came to each node agrees with what a world lets come
+  module _ (w : World) (agrees_in : (k : ℕ) (n : graph.Node) → slice_get g.nodes k ≡ Some n → AllMayPass (ports_of g w (composed g w) k (count_from 0 (inputs_of n.kind))) (took g a k n)) where
     -- the outlook of what comes to a sink
     abbrev comes_in : ℕ → Outlook
     comes_in k = head_of (ports_of g w (composed g w) k (count_from 0 1))
@@ -244,7 +239,7 @@ module _ {S D L B : Type 0} (sources : S → SourceState) (drains : D → DrainS
     -- what came to its input agrees with that
     input_agrees : (k : ℕ) (n : graph.Node) (l : List Tree) (e : End) → slice_get g.nodes k ≡ Some n → inputs_of n.kind ≡ 1 → took g a k n ≡ told l e ∷ [] → Agrees (comes_in k) l e
     input_agrees k n l e ni one_in is =
-        let all : AllMayPass (ports_of g w (composed g w) k (count_from 0 (inputs_of n.kind))) (told l e ∷ []) = subst (λ (h : List (List Item)). AllMayPass (ports_of g w (composed g w) k (count_from 0 (inputs_of n.kind))) h) is (every_input_of sources drains g w a its_run tells rank ranked k n ni) in
+        let all : AllMayPass (ports_of g w (composed g w) k (count_from 0 (inputs_of n.kind))) (told l e ∷ []) = subst (λ (h : List (List Item)). AllMayPass (ports_of g w (composed g w) k (count_from 0 (inputs_of n.kind))) h) is (agrees_in k n ni) in
         let one : AllMayPass (ports_of g w (composed g w) k (count_from 0 1)) (told l e ∷ []) = subst (λ (c : ℕ). AllMayPass (ports_of g w (composed g w) k (count_from 0 c)) (told l e ∷ [])) one_in all in
         one.0 l e refl
 

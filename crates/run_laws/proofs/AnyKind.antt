@@ -18,7 +18,7 @@ use Rattle.run_laws.specs.Telling.{TellsNode, TellsMoves}
 use Rattle.run_laws.proofs.Readings.{reading_laws}
 use Rattle.run_laws.proofs.Stages.{stage_laws}
 use Rattle.run_laws.proofs.States.{state_laws}
-use Rattle.run_laws.proofs.Subs.{sub_laws}
+use Rattle.run_laws.proofs.LedSubs.{subs_laws}
 use Rattle.run_laws.proofs.Makings.{making_laws}
 use Rattle.run_laws.proofs.Writings.{writing_laws, ignoring_laws}
 
@@ -28,7 +28,7 @@ module _ {S D L B : Type 0} (sources : S → SourceState) (drains : D → DrainS
   node_laws (Making first) (Making now) v took gave made tells many law = making_laws g w k n first now v took gave made law
   node_laws (Linear first) (Linear now) v took gave made tells many law = stage_laws g w k n first now v took gave made law
   node_laws (State first) (State now) v took gave made tells many law = state_laws g w k n first now v took gave made tells.1 law
-  node_laws (Sub first) (Sub now) v took gave made tells many law = sub_laws g w k n first now v took gave made tells.1 law
+  node_laws (Sub first) (Sub now) v took gave made tells many law = subs_laws g w k n first now v took gave made tells.1 law
   node_laws (FanIn first) (FanIn now) v took gave made tells many law = in_laws g w k n first now v took gave made.begins many tells.1 law
   node_laws (FanOut first) (FanOut now) v took gave made tells many law = out_laws g w k n first now v took gave made.begins tells.1 law
   node_laws (Writing first) (Writing now) v took gave made tells many law = writing_laws g w k n drains first now v took gave made law

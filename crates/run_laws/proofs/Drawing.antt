@@ -1,6 +1,6 @@
 -- The picture of an account: lawful at every moment, and resting where no event is left, by what each kind tells of its ports.
 use Rattle.std.specs.Prelude.{slice_get, slice_index_or}
-use Rattle.std.proofs.Common.{◌≡◌, ℕ, zero, suc, ◌+◌, ◌<◌, ◌≤◌, Bool, List, [], ◌∷◌, map, length, Some, refl, ap, subst, ◌∙◌, arith}
+use Rattle.std.proofs.Common.{◌≡◌, ℕ, zero, suc, ◌+◌, ◌<◌, ◌≤◌, Bool, List, [], ◌∷◌, map, length, Some, None, refl, ap, subst, ◌∙◌, arith}
 use Rattle.elem_core.specs.Tree.{Tree}
 use Rattle.elem_core.specs.Items.{elements}
 use Rattle.elem_core.specs.declared.item.Item.{Item}
@@ -14,19 +14,22 @@ use Rattle.stream_model.specs.declared.outcome.WireCount.{WireCount}
 use Rattle.stream_model.specs.Graph.{Graph, Edge, find_wire, find_source}
 use Rattle.stream_model.specs.Graph as graph
 use Rattle.stream_model.specs.Node.{World}
-use Rattle.stream_model.specs.Composed.{inputs_of, count_from}
+use Rattle.stream_model.specs.Composed.{inputs_of, count_from, ports_of}
 use Rattle.stream_model.specs.Fits.{CanTrip, valve_order}
 use Rattle.stream_model.proofs.Compositions.{slice_get-below}
 use Rattle.stream_model.specs.View.{outputs_of, EachWire, ins, outs, ins_at, outs_at}
 use Rattle.stream_model.specs.View as picture
-use Rattle.stream_model.specs.Lawful.{WireLawful, RowLawful, sent_in, IsLawful}
-use Rattle.stream_model.specs.Rests.{Rests, SinksMatch}
+use Rattle.stream_model.specs.Lawful.{WireLawful, sent_in}
+use Rattle.stream_model.specs.Linear.{role_of}
+use Rattle.stream_model.specs.Rests.{SinksMatch}
 use Rattle.stage_core.specs.Held.{told}
 use Rattle.port_core.specs.Reading.{inp_of, out_of, got_of, sent_of}
 use Rattle.run_laws.specs.Account.{Account, read_ins, knows, took, gave, ins_wanted, outs_wanted, outs_shut, shut_of, NodeKeeps, KeepsLaws, AllMade, IsStill}
-use Rattle.run_laws.specs.KindLaws.{HearsAll, Moments, PictureLaws}
+use Rattle.run_laws.specs.Items.{AllMayPass}
+use Rattle.run_laws.specs.KindLaws.{HearsAll, Moments, PictureLawsBy}
 use Rattle.run_laws.specs.Pictures.{picture_counts, AllPass, in_port, out_port, in_ports, out_ports}
 use Rattle.run_laws.specs.Ports.{InPort, OutPort, EachPort, InStands, OutStands, InRests, OutRests}
+use Rattle.run_laws.specs.Replayed.{Plans, RestsBy, RoleLawfulBy, IsLawfulBy}
 use Rattle.stream_model.specs.Joined.{IsJoined}
 use Rattle.run_laws.proofs.Pictures.{ins_are, outs_are, reads_in, reads_out, each_in, each_out}
 use Rattle.run_laws.proofs.Reading.{found_both, length_ins}
@@ -56,13 +59,13 @@ first_came [] h = omega arith
 first_came (i ∷ is) h = let came = h.0.came in omega (arith, came)
 
 module _ {N : Type 0} (port_state : N → View → Type 0) (law : N → N → View → List (List Item) → List (List Item) → Type 0) (asking : N → View → Type 0) (moves : N → List ℕ) (has_ended : N → Bool)
-    (FirstOf : ℕ → graph.Node → N → Type 0) (Tells : ℕ → N → Type 0) (g : Graph) (w : World) (a : Account N) (joined : IsJoined g) (keeps : KeepsLaws port_state law asking moves g a) (made : AllMade FirstOf g a)
+    (FirstOf : ℕ → graph.Node → N → Type 0) (Tells : ℕ → N → Type 0) (g : Graph) (w : World) (plans : Plans) (a : Account N) (joined : IsJoined g) (keeps : KeepsLaws port_state law asking moves g a) (made : AllMade FirstOf g a)
     (tells : (k : ℕ) (now : N) → a.nodes k ≡ Some now → Tells k now)
     (hears : (k : ℕ) (n : graph.Node) → slice_get g.nodes k ≡ Some n → HearsAll (knows g a k n) (took g a k n))
-    (pictures : (k : ℕ) (n : graph.Node) (first now : N) (is : List InPort) (os : List OutPort) → FirstOf k n first → Tells k now
+    (pictures : (k : ℕ) (n : graph.Node) (first now : N) (is : List InPort) (os : List OutPort) → a.firsts k ≡ Some first → FirstOf k n first → Tells k now
     → port_state now (record { ins = map (λ (i : InPort). i.view) is; outs = map (λ (o : OutPort). o.view) os })
     → law first now (record { ins = map (λ (i : InPort). i.view) is; outs = map (λ (o : OutPort). o.view) os }) (map (λ (i : InPort). i.got) is) (map (λ (o : OutPort). o.sent) os)
-    → PictureLaws port_state law asking moves has_ended g w k n first now is os)
+    → PictureLawsBy port_state law asking moves has_ended g w plans k n first now is os)
     (outlook : ℕ → Outlook) where
   abbrev pub counts : List WireCount
   counts = picture_counts a g
@@ -148,8 +151,8 @@ module _ {N : Type 0} (port_state : N → View → Type 0) (law : N → N → Vi
     kept = keeps.each_node k n e
 
     -- what its kind tells
-    kind : PictureLaws port_state law asking moves has_ended g w k n kept.first kept.now (In k n) (Out k n)
-    kind = pictures k n kept.first kept.now (In k n) (Out k n) (made k n kept.first e kept.first_at) (tells k kept.now kept.now_at) (subst (λ (v : View). port_state kept.now v) views kept.port_state_holds) (rw (views, tooks, gaves) at kept.law_holds)
+    kind : PictureLawsBy port_state law asking moves has_ended g w plans k n kept.first kept.now (In k n) (Out k n)
+    kind = pictures k n kept.first kept.now (In k n) (Out k n) kept.first_at (made k n kept.first e kept.first_at) (tells k kept.now kept.now_at) (subst (λ (v : View). port_state kept.now v) views kept.port_state_holds) (rw (views, tooks, gaves) at kept.law_holds)
 
   module _ (passes : AllPass a g outlook) where
     port_in : (u : ℕ) (v : Edge) → slice_get g.wires u ≡ Some v → InStands (in_port a g outlook u v)
@@ -162,7 +165,9 @@ module _ {N : Type 0} (port_state : N → View → Type 0) (law : N → N → Vi
         in_stands u (a.near u) (a.far u) (a.asked u) (outlook u).list sn.0 sf.0 sn.1 sf.1 p.list p.end p.is p.part t.0 t.1.0 t.1.1 v.keep v.lane (keeps.wires u v e)
 
     port_out : (u : ℕ) (v : Edge) → slice_get g.wires u ≡ Some v → OutStands (out_port a g outlook u v)
-    port_out u v e = out_stands u (a.near u) (a.far u) (a.asked u) (outlook u).list v.keep v.lane (keeps.wires u v e)
+    port_out u v e =
+        let sn = keeps.near_sound u (slice_get-below g.wires u v e) in
+        out_stands u (a.near u) (a.far u) (a.asked u) (outlook u).list sn.0 sn.1 v.keep v.lane (keeps.wires u v e)
 
     ins_stand : (k : ℕ) (n : graph.Node) → slice_get g.nodes k ≡ Some n → EachPort InStands (In k n)
     ins_stand k n e = each_in a g outlook k InStands port_in (count_from 0 (inputs_of n.kind)) (all_in k n e)
@@ -170,7 +175,7 @@ module _ {N : Type 0} (port_state : N → View → Type 0) (law : N → N → Vi
     outs_stand : (k : ℕ) (n : graph.Node) → slice_get g.nodes k ≡ Some n → EachPort OutStands (Out k n)
     outs_stand k n e = each_out a g outlook k OutStands port_out (count_from 0 (outputs_of n.kind)) (all_out k n e)
 
-    row_lawful : (k : ℕ) (n : graph.Node) (e : slice_get g.nodes k ≡ Some n) → RowLawful g w k n.kind n.decider (ins g counts outlook k n.kind) (outs g counts outlook k n.kind)
+    row_lawful : (k : ℕ) (n : graph.Node) (e : slice_get g.nodes k ≡ Some n) → RoleLawfulBy g w plans k (role_of n.kind) n.decider (ins g counts outlook k n.kind) (outs g counts outlook k n.kind)
     row_lawful k n e = rw (ins_same k n e, outs_same k n e) ((kind k n e).lawful (ins_stand k n e) (outs_stand k n e) moments)
       where
         within : (p : ℕ) → 1 ≤ slice_index_or (ins_wanted g a k n) p 0 → p < inputs_of n.kind
@@ -190,9 +195,9 @@ module _ {N : Type 0} (port_state : N → View → Type 0) (law : N → N → Vi
     pub first_sent : (k : ℕ) (n : graph.Node) → slice_get g.nodes k ≡ Some n → elements (slice_index_or (took g a k n) 0 []) ≤ sent_in (ins g counts outlook k n.kind)
     first_sent k n e = rw (tooks k n e, ins_same k n e) (first_came (In k n) (ins_stand k n e))
 
-    -- where the order of each valve that acted was given by a trip
-    pub all_lawful : ((k : ℕ) (n : graph.Node) (v : List ℕ × ℕ) → slice_get g.nodes k ≡ Some n → valve_order n.kind (w.moves k) ≡ Some v
-        → (trip : ℕ) × (t : graph.Node) × (slice_get g.nodes trip ≡ Some t) × CanTrip v.0 v.1 t.kind (sent_in (ins g counts outlook trip t.kind))) → IsLawful g w counts outlook
+    -- where the order of each valve that acted and follows no moves was given by a trip
+    pub all_lawful : ((k : ℕ) (n : graph.Node) (v : List ℕ × ℕ) → slice_get g.nodes k ≡ Some n → plans k ≡ None → valve_order n.kind (w.moves k) ≡ Some v
+        → (trip : ℕ) × (t : graph.Node) × (slice_get g.nodes trip ≡ Some t) × CanTrip v.0 v.1 t.kind (sent_in (ins g counts outlook trip t.kind))) → IsLawfulBy g w plans counts outlook
     all_lawful orders = record { wires = wires_lawful; nodes = row_lawful; valves = orders }
 
   -- ---- where no event is left
@@ -207,9 +212,10 @@ module _ {N : Type 0} (port_state : N → View → Type 0) (law : N → N → Vi
     ins_rest : (k : ℕ) (n : graph.Node) → slice_get g.nodes k ≡ Some n → EachPort InRests (In k n)
     ins_rest k n e = each_in a g outlook k InRests rest_in (count_from 0 (inputs_of n.kind)) (all_in k n e)
 
-    pub all_rest : AllPass a g outlook → Rests g w counts outlook
-    all_rest passes k n e =
-        rw (ins_same k n e, outs_same k n e) ((kind k n e).rests (ins_stand passes k n e) (outs_stand passes k n e) (ins_rest k n e) (each_out a g outlook k OutRests rest_out (count_from 0 (outputs_of n.kind)) (all_out k n e)))
+    -- where what came at each node may pass by these outlooks
+    pub all_rest : AllPass a g outlook → ((k : ℕ) (n : graph.Node) → slice_get g.nodes k ≡ Some n → AllMayPass (ports_of g w outlook k (count_from 0 (inputs_of n.kind))) (took g a k n)) → RestsBy g w plans counts outlook
+    all_rest passes came k n e =
+        rw (ins_same k n e, outs_same k n e) ((kind k n e).rests (ports_of g w outlook k (count_from 0 (inputs_of n.kind))) (subst (AllMayPass (ports_of g w outlook k (count_from 0 (inputs_of n.kind)))) (tooks k n e) (came k n e)) (ins_stand passes k n e) (outs_stand passes k n e) (ins_rest k n e) (each_out a g outlook k OutRests rest_out (count_from 0 (outputs_of n.kind)) (all_out k n e)))
 
     -- by the nodes as they are now
     pub all_match : (ended : ℕ → Bool) → ((k : ℕ) (x : N) → a.nodes k ≡ Some x → ended k ≡ has_ended x) → SinksMatch g w counts outlook ended

@@ -1,5 +1,5 @@
 -- A node that is a stage of another type tells of its law for a picture what that stage tells.
-use Rattle.std.proofs.Common.{◌≡◌, ℕ, List, [], refl}
+use Rattle.std.proofs.Common.{◌≡◌, ℕ, List, refl}
 use Rattle.elem_core.specs.declared.item.Item.{Item}
 use Rattle.port_core.specs.View.{View}
 use Rattle.stream_io.specs.State.{SourceState, DrainState}
@@ -7,23 +7,25 @@ use Rattle.stream_model.specs.Graph.{Graph}
 use Rattle.stream_model.specs.Graph as graph
 use Rattle.stream_model.specs.Node.{World}
 use Rattle.stage_in.specs.declared.logic.InLogic.{InLogic}
-use Rattle.stage_in.specs.Logics.{InPortState, InLaw}
+use Rattle.stage_in.specs.Logics.{InAsking, InPortState, InLaw}
 use Rattle.stage_in.specs.Moves.{in_moves}
 use Rattle.stage_out.specs.declared.logic.OutLogic.{OutLogic}
 use Rattle.stage_out.specs.OutLogics.{OutAsking, OutLaw}
 use Rattle.stage_out.specs.OutLogics as out
+use Rattle.stage_out.specs.Moves.{out_moves}
 use Rattle.nodes.specs.declared.node.IslandNode.{IslandNode}
 use Rattle.nodes.specs.declared.node.IslandNode.TheVariants.{FanIn, FanOut}
 use Rattle.nodes.specs.Nodes.{node_port_state, node_law, node_asking, node_moves}
-use Rattle.run_laws.specs.KindLaws.{PictureLaws}
+use Rattle.run_laws.specs.KindLaws.{PictureLawsBy}
+use Rattle.run_laws.specs.Replayed.{Plans}
 use Rattle.run_laws.specs.Ports.{InPort, OutPort}
-use Rattle.run_laws.specs.Unmoved.{NoAsking, no_moves, never_ends}
+use Rattle.run_laws.specs.Unmoved.{never_ends}
 use Rattle.run_laws.proofs.FanStanding.{Stands, moments_of}
 use Rattle.run_laws.specs.Picture.{sink_ended}
 
-module _ {S D L B : Type 0} (sources : S → SourceState) (drains : D → DrainState) (g : Graph) (w : World) (k : ℕ) (n : graph.Node) where
+module _ {S D L B : Type 0} (sources : S → SourceState) (drains : D → DrainState) (g : Graph) (w : World) (plans : Plans) (k : ℕ) (n : graph.Node) where
   abbrev Laws : IslandNode S D L B → IslandNode S D L B → List InPort → List OutPort → Type 0
-  Laws first x is os = PictureLaws node_port_state (node_law sources drains w.book) node_asking node_moves sink_ended g w k n first x is os
+  Laws first x is os = PictureLawsBy node_port_state (node_law sources drains w.book) node_asking node_moves sink_ended g w plans k n first x is os
 
   in_same : (a b : InLogic) → ◌≡◌ {A = IslandNode S D L B} (FanIn a) (FanIn b) → a ≡ b
   in_same a b e = cc
@@ -32,25 +34,25 @@ module _ {S D L B : Type 0} (sources : S → SourceState) (drains : D → DrainS
   out_same a b e = cc
 
   in_stands : (first : InLogic) (old : IslandNode S D L B) (v : View) (took gave : List (List Item)) → node_port_state old v → node_law sources drains w.book (FanIn first) old v took gave
-      → Stands node_port_state (node_law sources drains w.book) node_asking node_moves in_moves InPortState InLaw NoAsking FanIn in_same first old v took gave
-  in_stands first (FanIn l) v took gave r law = record { stage = l; is = refl; port_state_holds = r; law_holds = law; asking_holds = λ a. tt; moves_on = λ now on. on }
+      → Stands node_port_state (node_law sources drains w.book) node_asking node_moves in_moves InPortState InLaw InAsking FanIn in_same first old v took gave
+  in_stands first (FanIn l) v took gave r law = record { stage = l; is = refl; port_state_holds = r; law_holds = law; asking_holds = λ a. a; moves_on = λ now on. on }
   in_stands first old v took gave r law = absurd law
 
   out_stands : (first : OutLogic) (old : IslandNode S D L B) (v : View) (took gave : List (List Item)) → node_port_state old v → node_law sources drains w.book (FanOut first) old v took gave
-      → Stands node_port_state (node_law sources drains w.book) node_asking node_moves no_moves out.port_state OutLaw OutAsking FanOut out_same first old v took gave
-  out_stands first (FanOut l) v took gave r law = record { stage = l; is = refl; port_state_holds = r; law_holds = law; asking_holds = λ a. a; moves_on = λ now on. record { rest = []; is = refl } }
+      → Stands node_port_state (node_law sources drains w.book) node_asking node_moves out_moves out.port_state OutLaw OutAsking FanOut out_same first old v took gave
+  out_stands first (FanOut l) v took gave r law = record { stage = l; is = refl; port_state_holds = r; law_holds = law; asking_holds = λ a. a; moves_on = λ now on. on }
   out_stands first old v took gave r law = absurd law
 
-  pub fan_in_picture : (first x : InLogic) (is : List InPort) (os : List OutPort) → PictureLaws InPortState InLaw NoAsking in_moves never_ends g w k n first x is os → Laws (FanIn first) (FanIn x) is os
+  pub fan_in_picture : (first x : InLogic) (is : List InPort) (os : List OutPort) → PictureLawsBy InPortState InLaw InAsking in_moves never_ends g w plans k n first x is os → Laws (FanIn first) (FanIn x) is os
   fan_in_picture first x is os p = record {
-    lawful = λ s so m. p.lawful s so (λ q some. moments_of node_port_state (node_law sources drains w.book) node_asking node_moves in_moves InPortState InLaw NoAsking FanIn in_same first (in_stands first) x is os q (m q some));
+    lawful = λ s so m. p.lawful s so (λ q some. moments_of node_port_state (node_law sources drains w.book) node_asking node_moves in_moves InPortState InLaw InAsking FanIn in_same first (in_stands first) x is os q (m q some));
     rests = p.rests;
     matches = p.matches;
   }
 
-  pub fan_out_picture : (first x : OutLogic) (is : List InPort) (os : List OutPort) → PictureLaws out.port_state OutLaw OutAsking no_moves never_ends g w k n first x is os → Laws (FanOut first) (FanOut x) is os
+  pub fan_out_picture : (first x : OutLogic) (is : List InPort) (os : List OutPort) → PictureLawsBy out.port_state OutLaw OutAsking out_moves never_ends g w plans k n first x is os → Laws (FanOut first) (FanOut x) is os
   fan_out_picture first x is os p = record {
-    lawful = λ s so m. p.lawful s so (λ q some. moments_of node_port_state (node_law sources drains w.book) node_asking node_moves no_moves out.port_state OutLaw OutAsking FanOut out_same first (out_stands first) x is os q (m q some));
+    lawful = λ s so m. p.lawful s so (λ q some. moments_of node_port_state (node_law sources drains w.book) node_asking node_moves out_moves out.port_state OutLaw OutAsking FanOut out_same first (out_stands first) x is os q (m q some));
     rests = p.rests;
     matches = p.matches;
   }

@@ -1,5 +1,5 @@
 -- What came at each input of a node is a list and an end, which is known there.
-use Rattle.std.proofs.Common.{ℕ, List, refl, sym, ◌∙◌, arith}
+use Rattle.std.proofs.Common.{◌≡◌, ℕ, List, Option, None, Some, refl, sym, ◌∙◌, arith}
 use Rattle.std.proofs.lemmas.Option.{slice_get_within}
 use Rattle.elem_core.specs.Tree.{Tree}
 use Rattle.elem_core.specs.declared.item.Item.{Item}
@@ -18,12 +18,16 @@ use Rattle.stage_core.specs.PortsLaws.{InPortsLaw}
 use Rattle.stage_state.specs.declared.logic.StateLogic.{StateLogic}
 use Rattle.stage_state.specs.declared.logic.StateLogic.TheVariants.{Machine, Dropping, Recovering, Obeying, Tripping}
 use Rattle.stage_state.specs.Handling.{StateLaw}
+use Rattle.line_chain.specs.Line.{Line, line_whole, line_rest, line_is_open}
+use Rattle.stage_sub.specs.Leds.{Led}
+use Rattle.stage_sub.specs.LedLaws.{SubsLaw}
 use Rattle.fused_net.proofs.Reading.{get_there}
 use Rattle.run_laws.proofs.InRuns.{in_hears, at_index}
 use Rattle.run_laws.proofs.OutStages.{out_hears}
-use Rattle.run_laws.specs.Made.{FirstOf}
+use Rattle.run_laws.specs.Made.{FirstOf, FirstSub}
 use Rattle.run_laws.proofs.Ports.{none_at, heard_one}
 use Rattle.run_laws.proofs.Subs.{sub_hears}
+use Rattle.run_laws.proofs.LedSubs.{some_followed, own_law}
 
 -- the law by ports tells what came at each input
 ports_hear : (K : List Inflow → List Tree → End → Type 0) (v : View) (took gave : List (List Item)) → InPortsLaw K v took gave → HearsAll v took
@@ -45,6 +49,11 @@ state_hears book (Tripping first) (Tripping now) v took gave law p h at =
     let its = law.law book Stop in heard_one v took law.took_list law.took_is (record { list = its.in_list; end = its.in_end; is = its.took_is; as_seen = its.took_as }) p h at
 state_hears book first now v took gave law p h at = absurd law
 
+-- a stage with substreams, by what it follows
+subs_hear : (chains : List graph.Chain) (k : ℕ) (n : graph.Node) (first now : Led Line) (v : View) (took gave : List (List Item)) → FirstSub chains k n first → SubsLaw line_rest line_is_open line_whole first now v took gave → (l : Option (List ℕ)) → first.left ≡ l → HearsAll v took
+subs_hear chains k n first now v took gave made law None e p h at = sub_hears k n first.logic now.logic v took gave made.begins.as_kind (law.unled e).1.1 p h at
+subs_hear chains k n first now v took gave made law (Some l) e p h at = let follows = some_followed first.left l e in ports_hear _ v took gave (own_law chains k n first made follows now v took gave (law.led follows)) p h at
+
 module _ {S D L B : Type 0} (sources : S → SourceState) (drains : D → DrainState) (book : Book) (chains : List graph.Chain) (k : ℕ) (n : graph.Node) where
   pub node_hears : (first now : IslandNode S D L B) (v : View) (took gave : List (List Item)) → FirstOf sources chains k n first → node_law sources drains book first now v took gave → HearsAll v took
   node_hears (Reading first) (Reading now) v took gave made law p h at = absurd (none_at took p h law.took_is at)
@@ -52,7 +61,7 @@ module _ {S D L B : Type 0} (sources : S → SourceState) (drains : D → DrainS
   node_hears (Linear first) (Linear now) v took gave made law p h at =
       let its = law.law in heard_one v took law.took_list law.took_is (record { list = its.in_list; end = its.in_end; is = its.took_is; as_seen = its.took_as }) p h at
   node_hears (State first) (State now) v took gave made law p h at = state_hears book first now v took gave law p h at
-  node_hears (Sub first) (Sub now) v took gave made law p h at = sub_hears chains k n first now v took gave made law p h at
+  node_hears (Sub first) (Sub now) v took gave made law p h at = subs_hear chains k n first now v took gave made law first.left refl p h at
   node_hears (FanIn first) (FanIn now) v took gave made law p h at = in_hears first now v took gave law p h at
   node_hears (FanOut first) (FanOut now) v took gave made law p h at = out_hears book k n.kind first now v took gave made.begins law p h at
   node_hears (Writing first) (Writing now) v took gave made law p h at = heard_one v took _ law.took_is (record { list = law.elems; end = law.in_end; is = refl; as_seen = law.took_as }) p h at

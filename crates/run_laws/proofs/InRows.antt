@@ -26,7 +26,7 @@ use Rattle.stage_core.proofs.ZipTurns.{zip_history_stands}
 use Rattle.stage_in.specs.declared.logic.InLogic.{InLogic}
 use Rattle.stage_in.specs.declared.logic.InLogic.TheVariants as logic
 use Rattle.stage_in.specs.Kinds.{taking_by, sorting}
-use Rattle.stage_in.specs.Logics.{InPortState, InLaw}
+use Rattle.stage_in.specs.Logics.{InAsking, InPortState, InLaw}
 use Rattle.stage_in.specs.Moves.{in_moves}
 use Rattle.stage_in.specs.Pairings.{Pairing, inlet_flow, port_state_by}
 use Rattle.stage_in.specs.Sortings as sorted
@@ -37,7 +37,6 @@ use Rattle.run_laws.specs.Account.{AllBegin, Earlier}
 use Rattle.run_laws.specs.KindLaws.{Moments}
 use Rattle.run_laws.specs.Ports.{InPort, OutPort, EachPort, InStands, OutStands, gots_of}
 use Rattle.run_laws.proofs.Coming.{elements_told, elements_prefix}
-use Rattle.run_laws.specs.Unmoved.{NoAsking}
 use Rattle.run_laws.proofs.Flows.{Flows, law_flows, flow_count, total_length, came_sent}
 use Rattle.run_laws.proofs.Counting.{stands_few, concat_few, turns_few, sorted_few, pairs_few, used_few, used_prefix}
 use Rattle.run_laws.proofs.Orders.{Views, Wants, Wires, used_up, FirstShut, concat_inputs, concat_asked, wants_some, waiting_count, one_waits, turn_ports, never_asked, asked_or_not}
@@ -47,7 +46,7 @@ abbrev pub InView_of : List InPort → OutPort → port.View
 InView_of is o = record { ins = Views is; outs = o.view ∷ [] }
 
 abbrev pub InMoments : InLogic → InLogic → List InPort → OutPort → Type 0
-InMoments first now is o = (p : ℕ) → 1 ≤ slice_index_or (Wants is) p 0 → Moments InPortState InLaw NoAsking in_moves first now is (o ∷ []) p
+InMoments first now is o = (p : ℕ) → 1 ≤ slice_index_or (Wants is) p 0 → Moments InPortState InLaw InAsking in_moves first now is (o ∷ []) p
 
 pub one_list : (x y : List Item) → x ∷ [] ≡ y ∷ [] → x ≡ y
 one_list x y e = cc
@@ -80,7 +79,7 @@ module _ (first now : Taking) (is : List InPort) (o : OutPort) (law : InLaw (log
     concat_inputs (Unit {0}) tt 0 (wanted o.wire) (Wires is) (λ p v at some. asked p v at (moments p (wants_some is p v stands at some)).0),
   )
     where
-      asked : (p : ℕ) (v : picture.SeenWire) → slice_get (Wires is) p ≡ Some v → Earlier InPortState InLaw NoAsking in_moves p (logic.Taking first) (logic.Taking now) (gots_of is) (o.sent ∷ []) (Wants is) (o.want ∷ []) (o.wire.shut ∷ []) → FirstShut p (Wires is) × (demand v + (0 + sent_in (take p (Wires is))) ≤ wanted o.wire)
+      asked : (p : ℕ) (v : picture.SeenWire) → slice_get (Wires is) p ≡ Some v → Earlier InPortState InLaw InAsking in_moves p (logic.Taking first) (logic.Taking now) (gots_of is) (o.sent ∷ []) (Wants is) (o.want ∷ []) (o.wire.shut ∷ []) → FirstShut p (Wires is) × (demand v + (0 + sent_in (take p (Wires is))) ≤ wanted o.wire)
       asked p v at e =
           let t = turn_of first e.old e.knew e.had e.given p e.port_state_held e.law_held e.waited in
           let count = t.count in
@@ -166,7 +165,7 @@ module _ (first now : Pairing) (o : OutPort) where
   SortedNow is = InLaw (logic.Sorting first) (logic.Sorting now) (InView_of is o) (gots_of is) (o.sent ∷ [])
 
   abbrev SortedEarlier : List InPort → ℕ → Type 0
-  SortedEarlier is p = Earlier InPortState InLaw NoAsking in_moves p (logic.Sorting first) (logic.Sorting now) (gots_of is) (o.sent ∷ []) (Wants is) (o.want ∷ []) (o.wire.shut ∷ [])
+  SortedEarlier is p = Earlier InPortState InLaw InAsking in_moves p (logic.Sorting first) (logic.Sorting now) (gots_of is) (o.sent ∷ []) (Wants is) (o.want ∷ []) (o.wire.shut ∷ [])
 
   sorted_ask : (i j : InPort) (c d : Inflow) (p : ℕ) → Flows (Views (i ∷ j ∷ [])) (gots_of (i ∷ j ∷ [])) (c ∷ d ∷ []) → SortedEarlier (i ∷ j ∷ []) p → SortedAsk p (sorting.from sorted.nowhere (map flow (c ∷ d ∷ []))) (slice_index_or (Wants (i ∷ j ∷ [])) p 0) (elements o.sent)
   sorted_ask i j c d p w e = by e.old e.port_state_held e.law_held
@@ -282,7 +281,7 @@ module _ (first now : Pairing) (o : OutPort) where
   ZipNow is = InLaw (logic.Zipping first) (logic.Zipping now) (InView_of is o) (gots_of is) (o.sent ∷ [])
 
   abbrev ZipEarlier : List InPort → ℕ → Type 0
-  ZipEarlier is p = Earlier InPortState InLaw NoAsking in_moves p (logic.Zipping first) (logic.Zipping now) (gots_of is) (o.sent ∷ []) (Wants is) (o.want ∷ []) (o.wire.shut ∷ [])
+  ZipEarlier is p = Earlier InPortState InLaw InAsking in_moves p (logic.Zipping first) (logic.Zipping now) (gots_of is) (o.sent ∷ []) (Wants is) (o.want ∷ []) (o.wire.shut ∷ [])
 
   -- what it had given when it asked there is all that had come there
   zip_gave : (l : Pairing) (p : ℕ) (xs : List InView) (hs : List (List Item)) (fs : List Inflow) (g : List Tree) (f : End) → Waits l p → ZipKeeps (zip.waits (inlet_flow l.left) (inlet_flow l.right)) fs g f → Flows xs hs fs → elements (slice_index_or hs p []) ≡ length g

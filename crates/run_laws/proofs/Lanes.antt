@@ -38,8 +38,8 @@ module _ (keep : Bool) (u s : ℕ) (near far : WireState) (p q : Bool) (asked : 
   }
 
 module _ (keep : Bool) (u s : ℕ) (near far : WireState) (asked : ℕ) (list : List Tree) where
-  pub stands_out : LaneKeeps keep s near far asked → OutStands (near_port u s near far asked list)
-  stands_out k = record { count = refl; wants = rw k.asked_is at (lane_wants keep s near far k.out k.inp k.out_keeps k.in_keeps k.met) }
+  pub stands_out : (p : Bool) → IsSound near.wire p → LaneKeeps keep s near far asked → OutStands (near_port u s near far asked list)
+  stands_out p sn k = record { count = refl; wants = rw k.asked_is at (lane_wants keep s near far k.out k.inp k.out_keeps k.in_keeps k.met); closed = λ c. out_shut near.wire p sn c }
 
   module _ (sn : IsSound near.wire false) (sf : IsSound far.wire false) (mn : IsMarked near) (mf : IsMarked far) (k : LaneKeeps keep s near far asked) (quiet : LaneQuiet keep s near far asked k) where
     pub rests_in : InRests (far_port u s near far asked list)

@@ -43,6 +43,8 @@ pub mod States
 pub mod Writings
 pub mod Makings
 pub mod AnyKind
+pub mod ServingNodes
+pub mod Replaying
 pub mod Hearing
 pub mod Islands
 pub mod Choosing
@@ -59,6 +61,7 @@ pub mod AgreeingSources
 pub mod StateChoices
 pub mod StateSwitches
 pub mod Subs
+pub mod LedSubs
 pub mod Telling
 pub mod OnePorts
 pub mod PictureStages
@@ -71,7 +74,14 @@ pub mod SwitchRows
 pub mod StateRows
 pub mod EndRows
 pub mod FanRows
+pub mod Freely
+pub mod Led
+pub mod ByPlan
 pub mod AnyPicture
 pub mod PictureOrders
 pub mod PictureRests
 pub mod SubRows
+pub mod Misfits
+pub mod Stopping
+pub mod Unled
+pub mod Plans

@@ -67,14 +67,19 @@ given_by m start l k e g f true h p all known = elim (end_or_not e) [
 given_by m start l k e g f false h p all known = sent_open m start l k e g f h p (λ is. known is refl)
 
 -- the first part of the row, of any machine: what was given
+pub most_given : {S : Type 0} (m : Machine S Tree) (start : Run S Tree) (i : InPort) → InStands i → (l : List Tree) (e : End) (g : List Tree) (f : End) → i.got ≡ told l e → TookAs i.view e → Stands m start l e g f
+    → length g ≤ (if i.wire.shut then length (close m (run m start (take i.wire.sent i.wire.list)) ended).list else length (run m start (take i.wire.sent i.wire.list)).gave)
+most_given m start i si l e g f got known stands =
+    given_by m start l (take i.wire.sent i.wire.list) e g f i.wire.shut stands (taken_part i si l e got)
+    (λ is. sym (ap (λ (n : ℕ). take n i.wire.list) (si.ended_all l (ended_told i l e got is)) ∙ prefix_is_take (si.part l e got)))
+    (λ is unshut. shut_not (si.over (end_known i.view e known is)) unshut)
+
 pub stage_given : {S : Type 0} (m : Machine S Tree) (start : Run S Tree) (h : Held S) (i : InPort) (o : OutPort) → Law m start h i.view o.view i.got o.sent → InStands i → OutStands o
     → o.wire.sent ≤ (if i.wire.shut then length (close m (run m start (take i.wire.sent i.wire.list)) ended).list else length (run m start (take i.wire.sent i.wire.list)).gave)
 stage_given m start h i o at si so =
     let stands : Stands m start at.in_list at.in_end at.out_list at.out_end = stage_stands m start h i.view o.view i.got o.sent at in
     let sent : o.wire.sent ≡ length at.out_list = so.count ∙ (ap elements at.gave_is ∙ elements_told at.out_list at.out_end) in
-    rw sent (given_by m start at.in_list (take i.wire.sent i.wire.list) at.in_end at.out_list at.out_end i.wire.shut stands (taken_part i si at.in_list at.in_end at.took_is)
-    (λ is. sym (ap (λ (n : ℕ). take n i.wire.list) (si.ended_all at.in_list (ended_told i at.in_list at.in_end at.took_is is)) ∙ prefix_is_take (si.part at.in_list at.in_end at.took_is)))
-    (λ is unshut. shut_not (si.over (end_known i.view at.in_end at.took_as is)) unshut))
+    rw sent (most_given m start i si at.in_list at.in_end at.out_list at.out_end at.took_is at.took_as stands)
 
 -- ---- what it had given when it asked: less may be wanted than it asked for
 
@@ -104,7 +109,8 @@ stage_asked m start i o si so l e got t g w begins one more some =
     let taken : elements t ≡ length w.in_list = ap elements w.took_is ∙ elements_told w.in_list w.in_end in
     let gave : elements g ≡ length w.out_list = ap elements w.gave_is ∙ elements_told w.out_list w.out_end in
     let wants = so.wants in
-    machine_asked m start w.in_list w.out_list i.wire.list w.state w.runs (had_part i si t w.in_list l w.in_end e w.took_is begins got) (demand i.wire) i.want (wanted o.wire) some si.reach (omega (arith, one, taken)) (omega (arith, gave, more, wants))
+    let count = w.count in
+    machine_asked m start w.in_list w.all i.wire.list w.state w.runs (had_part i si t w.in_list l w.in_end e w.took_is begins got) (demand i.wire) i.want (wanted o.wire) some si.reach (omega (arith, one, taken)) (omega (arith, gave, count, more, wants))
 
 -- ---- where no event is left
 
@@ -118,4 +124,4 @@ waited_rests m start i o si so ri ro w xi yo =
     let waits = ri.waits xi in
     let all : take i.wire.sent i.wire.list ≡ w.in_list = taken_all i si w.in_list w.in_end w.took_is waits.1 in
     let sent : o.wire.sent ≡ length w.out_list = so.count ∙ (ap elements w.gave_is ∙ elements_told w.out_list w.out_end) in
-    (ro.asked yo, waits.0, sent ∙ ap (λ r. length r.gave) (sym w.runs) ∙ ap (λ (z : List Tree). length (run m start z).gave) (sym all))
+    (ro.asked yo, waits.0, sent ∙ sym w.count ∙ ap (λ r. length r.gave) (sym w.runs) ∙ ap (λ (z : List Tree). length (run m start z).gave) (sym all))

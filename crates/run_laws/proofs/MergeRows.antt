@@ -17,22 +17,22 @@ use Rattle.stream_model.proofs.Fitting.{count_le}
 use Rattle.stream_model.proofs.MergeTraces.{length-merge_of}
 use Rattle.stream_model.specs.Lawful.{MergeLawful, MergeInputs}
 use Rattle.stage_core.specs.Merges.{GathersAs, Merged, lists_of, left_by}
-use Rattle.stage_core.proofs.MergeTurns.{merge_history_stands, soft_lists}
+use Rattle.stage_core.proofs.MergeTurns.{soft_lists}
 use Rattle.stage_core.specs.declared.phase.Phase.{Phase}
 use Rattle.stage_core.specs.declared.phase.Phase.TheVariants.{New, Open, Closed}
 use Rattle.stage_merge.specs.declared.merging.Queued.{Queued}
 use Rattle.stage_merge.specs.Mergings as merging
 use Rattle.stage_merge.specs.Mergings.{Merging, of_port, waiting, input_view, places}
-use Rattle.stage_merge.proofs.MergeNodes.{moves_held}
+use Rattle.stage_merge.proofs.MergeNodes.{law_stands}
+use Rattle.stage_in.proofs.Nodes.{merge_law}
 use Rattle.stage_merge.proofs.MergeRests.{count_left}
 use Rattle.stage_in.specs.declared.logic.InLogic.{InLogic}
 use Rattle.stage_in.specs.declared.logic.InLogic.TheVariants as logic
-use Rattle.stage_in.specs.Logics.{InPortState, InLaw}
+use Rattle.stage_in.specs.Logics.{InAsking, InPortState, InLaw}
 use Rattle.stage_in.specs.Moves.{in_moves}
 use Rattle.run_laws.specs.Account.{Earlier}
 use Rattle.run_laws.specs.Ports.{InPort, OutPort, EachPort, InStands, OutStands, gots_of}
 use Rattle.run_laws.proofs.Coming.{elements_told}
-use Rattle.run_laws.specs.Unmoved.{NoAsking}
 use Rattle.run_laws.proofs.Flows.{Flows, law_flows, flow_count}
 use Rattle.run_laws.proofs.Orders.{Views, Wants, Wires}
 use Rattle.run_laws.proofs.InMoments.{closed_wait}
@@ -70,23 +70,24 @@ waiting_none n zero (b ∷ over) q e = place_empty b (of_port n q) e
 waiting_none n (suc p) (b ∷ over) q e = waiting_none (n + 1) p over q e
 
 -- where an input waits all that came there went out
-merge_whole : (first l : Merging) (v : port.View) (had given : List (List Item)) (p : ℕ) → (l.core.phase ≡ New → ⊥) → merging.port_state l v → InLaw (logic.Merging first) (logic.Merging l) v had given → in_at v p ≡ Pulled
+merge_whole : (first l : Merging) (v : port.View) (had given : List (List Item)) (p : ℕ) → l.log.stuck ≡ false → (l.core.phase ≡ New → ⊥) → merging.port_state l v → InLaw (logic.Merging first) (logic.Merging l) v had given → in_at v p ≡ Pulled
     → elements (slice_index_or had p []) ≡ count_of p l.log.moves
-merge_whole first l v had given p started r law waits = by l.core.phase refl r
+merge_whole first l v had given p calm started r law waits = by l.core.phase refl (subst (λ b. merging.port_state_in b l v) calm r)
   where
-    by : (x : Phase) → l.core.phase ≡ x → merging.port_state_by x l.core v → elements (slice_index_or had p []) ≡ count_of p l.log.moves
+    by : (x : Phase) → l.core.phase ≡ x → merging.port_state_by x l.log.left l.core v → elements (slice_index_or had p []) ≡ count_of p l.log.moves
     by New e r = absurd (started e)
     by Closed e r = absurd (closed_wait v.ins p r.0 waits)
     by Open e r =
         let ins : List Inflow = softened_by first.gathers law.by.law.ins in
-        let keeps = subst (λ x. GathersAs first.gathers (merging.held_by x l.log.moves l.core) law.by.law.ins law.by.law.out_list law.by.law.out_end) e law.by.law.keeps in
+        let serves_on = subst (λ b. merging.KeepsAs first.gathers (merging.held_in b l) law.by.law.ins law.by.law.out_list law.by.law.out_end) calm law.by.law.keeps in
+        let keeps = subst (λ x. GathersAs first.gathers (merging.held_by x l.log.moves l.core) law.by.law.ins law.by.law.out_list law.by.law.out_end) e serves_on in
         let m : Merged l.log.moves ins law.by.law.out_list (waiting 0 l.core.over l.core.queue) = keeps.1 in
         let count = count_left l.log.moves (lists_of ins) p m.finds in
         let none : get_or (left_by l.log.moves (lists_of ins)) p [] ≡ [] =
         ap (λ ls. get_or ls p []) m.left ∙ waiting_none 0 p l.core.over l.core.queue (ap (λ (w : port.View). in_at w p) (sym r.0) ∙ waits) in
         let empty : length (get_or (left_by l.log.moves (lists_of ins)) p []) ≡ 0 = ap length none in
         let came : elements (slice_index_or had p []) ≡ length (get_or (lists_of ins) p []) =
-        came_at v.ins had law.by.law.ins p (law_flows (GathersAs first.gathers (merging.held l)) v had given law.by) ∙ ap (λ ls. length (get_or ls p [])) (sym (soft_lists first.gathers law.by.law.ins)) in
+        came_at v.ins had law.by.law.ins p (law_flows (merging.KeepsAs first.gathers (merging.held l)) v had given law.by) ∙ ap (λ ls. length (get_or ls p [])) (sym (soft_lists first.gathers law.by.law.ins)) in
         omega (arith, count, empty, came)
 
 -- ---- its row
@@ -115,19 +116,17 @@ module _ (first now : Merging) (is : List InPort) (o : OutPort) (law : InLaw (lo
   ins = softened_by first.gathers law.by.law.ins
 
   gave : MergeStands now.log.moves ins law.by.law.out_list law.by.law.out_end
-  gave =
-      subst (λ ms. MergeStands ms ins law.by.law.out_list law.by.law.out_end) (moves_held now)
-      (merge_history_stands first.gathers (merging.held now) (InView_of is o) (λ i. slice_index_or (gots_of is) i []) law.by.given law.by.law)
+  gave = law_stands first now (InView_of is o) (gots_of is) (o.sent ∷ []) (merge_law first now (InView_of is o) (gots_of is) (o.sent ∷ []) law)
 
-  asked : (p : ℕ) → Earlier InPortState InLaw NoAsking in_moves p (logic.Merging first) (logic.Merging now) (gots_of is) (o.sent ∷ []) (Wants is) (o.want ∷ []) (o.wire.shut ∷ []) → slice_index_or (Wants is) p 0 ≤ count_of p now.log.moves + 1
-  asked p e = by e.old e.port_state_held e.law_held e.moves_on
+  asked : (p : ℕ) → Earlier InPortState InLaw InAsking in_moves p (logic.Merging first) (logic.Merging now) (gots_of is) (o.sent ∷ []) (Wants is) (o.want ∷ []) (o.wire.shut ∷ []) → slice_index_or (Wants is) p 0 ≤ count_of p now.log.moves + 1
+  asked p e = by e.old e.port_state_held e.law_held e.asking_held e.moves_on
     where
-      by : (old : InLogic) → InPortState old e.knew → InLaw (logic.Merging first) old e.knew e.had e.given → IsPrefix (in_moves old) now.log.moves → slice_index_or (Wants is) p 0 ≤ count_of p now.log.moves + 1
-      by (logic.Taking l) r law on = absurd law.same
-      by (logic.Sorting l) r law on = absurd law.same
-      by (logic.Zipping l) r law on = absurd law.same
-      by (logic.Merging l) r law on =
-          let whole = merge_whole first l e.knew e.had e.given p r.started r.ports law e.waited in
+      by : (old : InLogic) → InPortState old e.knew → InLaw (logic.Merging first) old e.knew e.had e.given → InAsking old e.knew → IsPrefix (in_moves old) now.log.moves → slice_index_or (Wants is) p 0 ≤ count_of p now.log.moves + 1
+      by (logic.Taking l) r law calm on = absurd law.same
+      by (logic.Sorting l) r law calm on = absurd law.same
+      by (logic.Zipping l) r law calm on = absurd law.same
+      by (logic.Merging l) r law calm on =
+          let whole = merge_whole first l e.knew e.had e.given p calm r.started r.ports law e.waited in
           let one = e.one_more in
           let grown = count_prefix p l.log.moves now.log.moves on in
           omega (arith, whole, one, grown)
@@ -142,6 +141,6 @@ module _ (first now : Merging) (is : List InPort) (o : OutPort) (law : InLaw (lo
   merge_lawful moments = (
     so.count ∙ ap elements (one_list o.sent law.by.given law.by.gave_is ∙ law.by.law.gave_is) ∙ elements_told law.by.law.out_list law.by.law.out_end ∙ ap length gave.gave
         ∙ length-map (merge_of now.log.moves (lists_of ins)) (λ (x : Tagged). x.item) ∙ length-merge_of now.log.moves (lists_of ins) gave.finds,
-    inputs_lawful now.log.moves 0 is law.by.law.ins (law_flows (GathersAs first.gathers (merging.held now)) (InView_of is o) (gots_of is) (o.sent ∷ []) law.by) stands
+    inputs_lawful now.log.moves 0 is law.by.law.ins (law_flows (merging.KeepsAs first.gathers (merging.held now)) (InView_of is o) (gots_of is) (o.sent ∷ []) law.by) stands
         (λ p. let e : 0 + p ≡ p = omega arith in rw e (subst (λ ls. count_of p now.log.moves ≤ length (get_or ls p [])) (soft_lists first.gathers law.by.law.ins) (count_le now.log.moves (lists_of ins) p gave.finds))) (λ p. let e : 0 + p ≡ p = omega arith in rw e (wanted_few moments p)),
   )

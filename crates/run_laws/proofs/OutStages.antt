@@ -1,5 +1,5 @@
 -- What a stage with several outputs keeps in a run and gives for a picture, by its kind.
-use Rattle.std.proofs.Common.{◌≡◌, ℕ, List, map, refl}
+use Rattle.std.proofs.Common.{◌≡◌, ℕ, List, [], None, map, refl}
 use Rattle.elem_core.specs.declared.item.Item.{Item}
 use Rattle.port_core.specs.View.{View}
 use Rattle.stream_model.specs.declared.kind.Kind.{Kind}
@@ -16,12 +16,13 @@ use Rattle.stage_out.specs.declared.logic.OutLogic.TheVariants.{Machines, Balanc
 use Rattle.stage_out.specs.Machines as machines
 use Rattle.stage_out.specs.MachineNodes.{MachinesLaw}
 use Rattle.stage_out.specs.Machines.{IsMachines}
-use Rattle.stage_out.specs.Moves.{TellsMoves}
+use Rattle.stage_out.specs.Moves.{out_moves, out_plan, TellsMoves}
 use Rattle.stage_out.specs.OutLogics.{port_state, BeginsBalance, OutAsking, OutLaw, Begins}
-use Rattle.run_laws.specs.KindLaws.{HearsAll, PictureLaws, RunLaws}
+use Rattle.stage_merge.proofs.MergeNodes.{none_left_over}
+use Rattle.run_laws.specs.KindLaws.{HearsAll, Moments, PictureLaws, RunLaws}
 use Rattle.run_laws.specs.Ports.{InPort, OutPort, views_of}
 use Rattle.run_laws.specs.Unmoved.{NoAsking, no_moves, never_ends}
-use Rattle.run_laws.proofs.Balances.{BalanceAsking, balance_picture, balance_laws, balance_hears}
+use Rattle.run_laws.proofs.Balances.{BalanceAsking, made, balance_picture, balance_laws, balance_hears}
 use Rattle.run_laws.proofs.OutPictures.{machines_picture}
 use Rattle.run_laws.proofs.OutRuns.{machines_laws, machines_hear}
 use Rattle.run_laws.proofs.FanStanding.{Stands, moments_of}
@@ -35,36 +36,39 @@ balance_same : (a b : Balancing) → ◌≡◌ {A = OutLogic} (Balances a) (Bala
 balance_same a b e = cc
 
 machines_stand : (first : OutMachines) (old : OutLogic) (v : View) (took gave : List (List Item)) → port_state old v → OutLaw (Machines first) old v took gave
-    → Stands port_state OutLaw OutAsking no_moves no_moves machines.port_state MachinesLaw NoAsking Machines machines_same first old v took gave
-machines_stand first (Machines l) v took gave r law = record { stage = l; is = refl; port_state_holds = r; law_holds = law; asking_holds = λ a. tt; moves_on = λ now on. on }
+    → Stands port_state OutLaw OutAsking out_moves no_moves machines.port_state MachinesLaw NoAsking Machines machines_same first old v took gave
+machines_stand first (Machines l) v took gave r law = record { stage = l; is = refl; port_state_holds = r; law_holds = law; asking_holds = λ a. tt; moves_on = λ now on. record { rest = []; is = refl } }
 machines_stand first (Balances l) v took gave r law = absurd law
 
 balance_stand : (first : Balancing) (old : OutLogic) (v : View) (took gave : List (List Item)) → port_state old v → OutLaw (Balances first) old v took gave
-    → Stands port_state OutLaw OutAsking no_moves no_moves balance.port_state BalancesAs BalanceAsking Balances balance_same first old v took gave
+    → Stands port_state OutLaw OutAsking out_moves made balance.port_state BalancesAs BalanceAsking Balances balance_same first old v took gave
 balance_stand first (Balances l) v took gave r law = record { stage = l; is = refl; port_state_holds = r; law_holds = law; asking_holds = λ a. a; moves_on = λ now on. on }
 balance_stand first (Machines l) v took gave r law = absurd law
+
+pub balance_moments : (f l : Balancing) (is : List InPort) (os : List OutPort) (q : ℕ) → Moments port_state OutLaw OutAsking out_moves (Balances f) (Balances l) is os q → Moments balance.port_state BalancesAs BalanceAsking made f l is os q
+balance_moments f l is os q m = moments_of port_state OutLaw OutAsking out_moves made balance.port_state BalancesAs BalanceAsking Balances balance_same f (balance_stand f) l is os q m
 
 -- ---- a picture
 
 module _ (g : Graph) (w : World) (k : ℕ) (n : graph.Node) where
-  pub out_picture : (first now : OutLogic) (is : List InPort) (os : List OutPort) → Begins k n.kind first → TellsMoves w k now → port_state now (views_of is os)
-      → OutLaw first now (views_of is os) (map (λ (i : InPort). i.got) is) (map (λ (o : OutPort). o.sent) os) → PictureLaws port_state OutLaw OutAsking no_moves never_ends g w k n first now is os
-  out_picture (Machines f) (Machines l) is os b told r law =
+  pub out_picture : (first now : OutLogic) (is : List InPort) (os : List OutPort) → Begins k n.kind first → out_plan first ≡ None → TellsMoves w k now → port_state now (views_of is os)
+      → OutLaw first now (views_of is os) (map (λ (i : InPort). i.got) is) (map (λ (o : OutPort). o.sent) os) → PictureLaws port_state OutLaw OutAsking out_moves never_ends g w k n first now is os
+  out_picture (Machines f) (Machines l) is os b free told r law =
       let p = machines_picture g w k n f l is os b.as_kind.0 b.as_kind.1 r law in
       record {
-        lawful = λ s so m. p.lawful s so (λ q some. moments_of port_state OutLaw OutAsking no_moves no_moves machines.port_state MachinesLaw NoAsking Machines machines_same f (machines_stand f) l is os q (m q some));
+        lawful = λ s so m. p.lawful s so (λ q some. moments_of port_state OutLaw OutAsking out_moves no_moves machines.port_state MachinesLaw NoAsking Machines machines_same f (machines_stand f) l is os q (m q some));
         rests = p.rests;
         matches = p.matches;
       }
-  out_picture (Balances f) (Balances l) is os b told r law =
-      let p = balance_picture g w k n f l is os b.as_kind (told l.log.moves refl) r law in
+  out_picture (Balances f) (Balances l) is os b free told r law =
+      let p = balance_picture g w k n f l is os b.as_kind (none_left_over f.log free) (told l.log.moves refl) r law in
       record {
-        lawful = λ s so m. p.lawful s so (λ q some. moments_of port_state OutLaw OutAsking no_moves no_moves balance.port_state BalancesAs BalanceAsking Balances balance_same f (balance_stand f) l is os q (m q some));
+        lawful = λ s so m. p.lawful s so (λ q some. balance_moments f l is os q (m q some));
         rests = p.rests;
         matches = p.matches;
       }
-  out_picture (Machines f) (Balances l) is os b told r law = absurd law
-  out_picture (Balances f) (Machines l) is os b told r law = absurd law
+  out_picture (Machines f) (Balances l) is os b free told r law = absurd law
+  out_picture (Balances f) (Machines l) is os b free told r law = absurd law
 
 -- ---- a run
 

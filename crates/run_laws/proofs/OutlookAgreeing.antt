@@ -14,7 +14,9 @@ use Rattle.nodes.specs.declared.node.IslandNode.TheVariants.{Reading}
 use Rattle.nodes.specs.Nodes.{node_port_state, node_law, node_asking, node_moves}
 use Rattle.run_laws.specs.Account.{Account, took}
 use Rattle.run_laws.specs.Items.{AllMayPass, AgreesWith}
-use Rattle.run_laws.proofs.Agreeing.{every_wire, every_input, gives_by, all_fit}
+use Rattle.run_laws.proofs.Agreeing.{every_wire, every_input, gives_by, inputs_pass, list_agrees, all_fit}
+use Rattle.stream_model.proofs.Compositions.{slice_get-below}
+use Rattle.run_laws.specs.Pictures.{AllAgreeWith}
 use Rattle.run_laws.specs.Made.{FirstOf}
 use Rattle.run_laws.specs.Runs.{IsRun}
 use Rattle.run_laws.specs.Telling.{TellsNode, TellsMoves, TellsPicks, WorldTells}
@@ -51,3 +53,10 @@ module _ {S D L B : Type 0} (sources : S → SourceState) (drains : D → DrainS
       gives_by node_port_state (node_law sources drains w.book) node_asking node_moves (FirstOf sources g.chains) (λ x k m first now. TellsNode sources x m first now × TellsMoves x k now) g w
       (λ k m first now view took gave made told many law. node_laws sources drains g w k m first now view took gave made told many law) a run.joined run.keeps run.made sent j v n vi ni
       (λ first now fi xi. (no_lines sources w n first now other, chose v.from now xi)) b
+
+  -- what every node took, by any outlooks with which what was sent agrees
+  pub came_of : (outlook : ℕ → Outlook) → AllAgreeWith a g outlook → (k : ℕ) (n : graph.Node) → slice_get g.nodes k ≡ Some n → AllMayPass (ports_of g w outlook k (count_from 0 (inputs_of n.kind))) (took g a k n)
+  came_of outlook agree k n e =
+      inputs_pass node_port_state (node_law sources drains w.book) node_asking node_moves (FirstOf sources g.chains) (λ x k m first now. TellsNode sources x m first now × TellsMoves x k now) g w
+      (λ k m first now view took gave made told many law. node_laws sources drains g w k m first now view took gave made told many law) a run.joined run.keeps run.made outlook k (count_from 0 (inputs_of n.kind))
+      (λ u v at to. list_agrees (outlook u) (a.near u).wire.sent (agree u (slice_get-below g.wires u v at)))

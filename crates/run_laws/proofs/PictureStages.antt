@@ -1,5 +1,5 @@
 -- What the row of each kind of node says of its ports, and what its law says of the lists that passed there.
-use Rattle.std.proofs.Common.{◌≡◌, ◌≢◌, ◌⊎◌, inl, inr, ℕ, Bool, true, false, List, [], ◌∷◌, refl, sym, ap, ◌∙◌, append-nil}
+use Rattle.std.proofs.Common.{◌≡◌, ◌≢◌, ◌⊎◌, inl, inr, ℕ, Bool, true, false, List, [], ◌∷◌, length, refl, sym, ap, ◌∙◌, append-nil}
 use Rattle.elem_core.specs.Tree.{Tree}
 use Rattle.elem_core.specs.declared.item.Item.{Item}
 use Rattle.port_core.specs.declared.view.InView.{InView}
@@ -102,16 +102,18 @@ law_at m start start' h h' x x' y y' t t' g g' a b c d e f law = rw (← a, ← 
 pub same_start : (a b : Run Stage Tree) → owing a ≡ owing b → a ≡ b
 same_start a b e = cc
 
--- A stage that waits for its input: what it took there and what it gave, as its machine gives it, which goes on.
+-- A stage that waits for its input: what it took there, and what it gave, which is as many elements as its machine gives, which goes on.
 pub record Waited {S : Type 0} (m : Machine S Tree) (start : Run S Tree) (took gave : List Item) : Type 0 where
   pub in_list : List Tree
   pub in_end : End
   pub out_list : List Tree
   pub out_end : End
+  pub all : List Tree
   pub state : S
   pub took_is : took ≡ told in_list in_end
   pub gave_is : gave ≡ told out_list out_end
-  pub runs : run m start in_list ≡ record { gave = out_list; state = going state }
+  pub count : length all ≡ length out_list
+  pub runs : run m start in_list ≡ record { gave = all; state = going state }
 
 pub waited_of : {S : Type 0} (m : Machine S Tree) (start : Run S Tree) (s : S) (t g : List Item) → Law m start (owing (record { gave = []; state = going s })) Pulled outlet.Available t g → Waited m start t g
 waited_of m start s t g at = record {
@@ -119,9 +121,11 @@ waited_of m start s t g at = record {
   in_end = at.in_end;
   out_list = at.out_list;
   out_end = at.out_end;
+  all = at.out_list;
   state = s;
   took_is = at.took_is;
   gave_is = at.gave_is;
+  count = refl;
   runs = waiting_run m start (going s) t g at;
 }
 

@@ -1,6 +1,6 @@
 -- What a recover gives of its law for a picture: no more than came, and its own element behind the end of its input; while it waits
 -- it gave all that came. Its move is how many elements came.
-use Rattle.std.specs.Prelude.{slice_index_or, if◌then◌else◌}
+use Rattle.std.specs.Prelude.{slice_index_or, if◌then◌else◌, None}
 use Rattle.std.proofs.Common.{◌≡◌, ◌≢◌, ◌⊎◌, inl, inr, ℕ, zero, suc, ◌+◌, ◌≤◌, Bool, true, false, List, [], ◌∷◌, length, take, refl, sym, ap, ◌∙◌, subst, arith}
 use Rattle.std.proofs.lemmas.List.{length-append, length-take-le}
 use Rattle.elem_core.proofs.Prefixes.{prefix_length}
@@ -13,20 +13,27 @@ use Rattle.port_core.specs.declared.view.InView.TheVariants.{Idle, Pulled, Finis
 use Rattle.port_core.specs.declared.view.OutView.{OutView}
 use Rattle.port_core.specs.declared.view.OutView.TheVariants.{Unpulled, Available}
 use Rattle.stream_model.specs.FanIn.{Inflow}
-use Rattle.stream_model.specs.Outlook.{End, unended, ended, failed}
+use Rattle.port_core.specs.Picks.{next_move}
+use Rattle.port_core.specs.declared.pick_log.Next.{Next}
+use Rattle.port_core.specs.declared.pick_log.Next.TheVariants.{Free, Move, UsedUp}
+use Rattle.stream_model.specs.Outlook.{Outlook, End, unended, ended, failed, Agrees}
 use Rattle.stream_model.specs.Picks.{RecoverStands}
 use Rattle.stream_model.specs.View.{EachWire}
 use Rattle.stream_model.specs.OneWay.{as_it_is}
 use Rattle.stream_model.specs.Lawful.{RecoverLawful}
 use Rattle.stream_model.specs.Rests.{IsShut, StageRests}
 use Rattle.stage_core.specs.Law.{TookAs}
+use Rattle.stage_core.specs.OwnPorts.{own_input}
+use Rattle.stage_core.proofs.Over.{failed_at}
 use Rattle.stage_core.specs.Row.{InClosed, OutClosed}
 use Rattle.stage_core.specs.declared.phase.Phase.{Phase}
 use Rattle.stage_core.specs.declared.phase.Phase.TheVariants.{New, Open, Closed}
-use Rattle.stage_dropping.specs.Recovers.{RecoverHeld, passes, RecoverKeeps, RecoverStandsOf, RecoverCounts}
-use Rattle.stage_dropping.specs.Recoverings.{Recover, recover_at, held_in, held_of, RecoverPortState, RecoversAs}
+use Rattle.stage_dropping.specs.Recovers.{RecoverHeld, passes, IsBroken, FailedAt, RecoverKeeps, RecoverStandsOf, RecoverCounts}
+use Rattle.stage_dropping.specs.Recoverings.{Recover, StillBy, recover_at, recover_in, held_in, held_by, held_of, RecoverPortState, RecoversAs}
 use Rattle.stage_dropping.proofs.RecoverTurns.{recover_stands}
-use Rattle.stage_dropping.proofs.RecoverNodes.{counted}
+use Rattle.stage_dropping.proofs.RecoverNodes.{counted, stays_free}
+use Rattle.run_laws.specs.Items.{AllMayPass}
+use Rattle.run_laws.specs.Replayed.{ShutByFailure}
 use Rattle.run_laws.specs.Ports.{InPort, OutPort, InStands, OutStands, InRests, OutRests}
 use Rattle.run_laws.proofs.OneFlows.{OneFlow, one_flow, flow_got, flow_sent}
 use Rattle.run_laws.proofs.MachineRows.{idles}
@@ -51,6 +58,16 @@ ports_by l p over asked x y e v n r = absurd r
 
 pub recover_ports : (l : Recover) (x : InView) (y : OutView) → l.phase ≢ New → recover_at l l.phase l.over l.asked x y → RecoverPorts l x y
 recover_ports l x y n r = ports_by l l.phase l.over l.asked x y refl refl n r
+
+-- one that stopped waits for nothing
+still_unasked : (next : Next) (stuck : Bool) (x : InView) → StillBy next stuck x → x ≡ Pulled → ⊥
+still_unasked Free stuck x h e = h
+still_unasked (Move k) stuck x h e = h.2 e
+still_unasked UsedUp stuck x h e = let no : Finished ≡ Pulled = sym h.1 ∙ e in cc
+
+pub waits_moving : (l : Recover) (x : InView) (y : OutView) (b : Bool) → recover_in b l x y → x ≡ Pulled → b ≡ false
+waits_moving l x y false h e = refl
+waits_moving l x y true h e = absurd (still_unasked (next_move l.left) l.stuck x h.1.1 e)
 
 -- one that waits was asked, and is open before any failure
 pub waits_asked : (l : Recover) (x : InView) (y : OutView) → RecoverPorts l x y → x ≡ Pulled → (l.phase ≡ Open) × ((l.over ≡ false) × (y ≡ Available))
@@ -107,9 +124,9 @@ module _ (first now : Recover) (v : View) (took gave : List (List Item)) (law : 
   recover_flow = one_flow Kept v took gave law.by got sent ti gi
 
   -- one that waits gave all that came
-  pub passed_all : now.phase ≡ Open → now.over ≡ false → elements sent ≡ elements got
-  passed_all on lasts =
-      let owes : held_of now ≡ passes now.passed = ap (λ (p : Phase). held_in p now.over now.passed now.moves) on ∙ ap (λ (b : Bool). held_in Open b now.passed now.moves) lasts in
+  pub passed_all : now.still ≡ false → now.phase ≡ Open → now.over ≡ false → elements sent ≡ elements got
+  passed_all moving on lasts =
+      let owes : held_of now ≡ passes now.passed = ap (λ (b : Bool). held_by b now) moving ∙ ap (λ (p : Phase). held_in p now.over now.passed now.moves) on ∙ ap (λ (b : Bool). held_in Open b now.passed now.moves) lasts in
       let keeps : RecoverKeeps law.element (passes now.passed) (recover_flow.f ∷ []) law.by.law.out_list law.by.law.out_end =
       subst (λ (x : RecoverHeld). RecoverKeeps law.element x (recover_flow.f ∷ []) law.by.law.out_list law.by.law.out_end) owes recover_flow.keeps in
       flow_sent Kept v took gave law.by got sent recover_flow ∙ ap length keeps.1.1.0 ∙ sym (flow_got Kept v took gave law.by got sent recover_flow)
@@ -185,17 +202,45 @@ module _ (first now : Recover) (i : InPort) (o : OutPort) (law : RecoversAs firs
   abbrev Still : Type 0
   Still = (EachWire IsShut (i.wire ∷ []) × EachWire IsShut (o.wire ∷ [])) ⊎ StageRests (as_it_is 1 true) i.wire o.wire
 
-  recover_stays : InStands i → OutStands o → InRests i → OutRests o → RecoverPorts now i.view o.view → Still
-  recover_stays si so ri ro (busy on lasts xi yo) =
+  pub recover_stays : now.still ≡ false → InStands i → OutStands o → InRests i → OutRests o → RecoverPorts now i.view o.view → Still
+  recover_stays moving si so ri ro (busy on lasts xi yo) =
       let waits = ri.waits xi in
       let all = waits.1 in
       let count = so.count in
-      let same = passed_all first now Ports (i.got ∷ []) (o.sent ∷ []) law i.got o.sent refl refl on lasts in
+      let same = passed_all first now Ports (i.got ∷ []) (o.sent ∷ []) law i.got o.sent refl refl moving on lasts in
       let some = length-take-le i.wire.sent i.wire.list si.within in
       inr (inl (ro.asked yo, waits.0, omega (arith, all, count, same, some)))
-  recover_stays si so ri ro (free xi yo) = inr (inr (inl (ro.unasked yo, idles i ri xi)))
-  recover_stays si so ri ro (behind xi yo) = inr (inr (inr (refl, ro.unasked yo, ri.shut (subst InClosed (sym xi) tt))))
-  recover_stays si so ri ro (gone xi yo) = inl ((ri.shut xi, tt), (ro.shut yo, tt))
+  recover_stays moving si so ri ro (free xi yo) = inr (inr (inl (ro.unasked yo, idles i ri xi)))
+  recover_stays moving si so ri ro (behind xi yo) = inr (inr (inr (refl, ro.unasked yo, ri.shut (subst InClosed (sym xi) tt))))
+  recover_stays moving si so ri ro (gone xi yo) = inl ((ri.shut xi, tt), (ro.shut yo, tt))
 
-  pub recover_rests : InStands i → OutStands o → InRests i → OutRests o → RecoverPortState now Ports → Still
-  recover_rests si so ri ro r = recover_stays si so ri ro (recover_ports now i.view o.view r.started r.ports)
+  pub recover_rests : first.left ≡ None → InStands i → OutStands o → InRests i → OutRests o → RecoverPortState now Ports → Still
+  recover_rests none si so ri ro r =
+      let moving = (stays_free first now Ports (i.got ∷ []) (o.sent ∷ []) none law).0 in
+      recover_stays moving si so ri ro (recover_ports now i.view o.view r.started (subst (λ b. recover_in b now i.view o.view) moving r.ports).0)
+
+-- ---- one without a move, behind a failure
+
+module _ (first now : Recover) (i : InPort) (o : OutPort) (law : RecoversAs first now (record { ins = i.view ∷ []; outs = o.view ∷ [] }) (i.got ∷ []) (o.sent ∷ [])) where
+  -- how the input stands, by its end
+  shut_behind : (f : Inflow) (come : Outlook) (e : End) → f.end ≡ e → IsBroken e → elements i.got ≡ length f.list → Agrees come f.list f.end → InStands i → IsShut i.wire → ShutByFailure (come ∷ []) (i.wire ∷ [])
+  shut_behind f come unended is b got may si shut = absurd b
+  shut_behind f come ended is b got may si shut = absurd b
+  shut_behind f come (failed c) is b got may si shut =
+      let came = si.came in
+      (shut, (length f.list, (omega (arith, came, got), failed_at come f.list c (subst (λ (e : End). Agrees come f.list e) is may))))
+
+  -- the input of a stage that has one
+  input_closed : (x : InView) (l : List Tree) → IsShut (own_input x l) → InClosed x
+  input_closed Idle l e = cc
+  input_closed Pulled l e = cc
+  input_closed Finished l e = tt
+  input_closed Cancelled l e = tt
+
+  pub shut_by_failure : (comes : List Outlook) → AllMayPass comes (i.got ∷ []) → InStands i → InRests i → FailedAt i.view law.by.law.ins → ShutByFailure comes (i.wire ∷ [])
+  shut_by_failure [] may si ri failing = absurd may
+  shut_by_failure (come ∷ also ∷ comes) may si ri failing = absurd may.1
+  shut_by_failure (come ∷ []) may si ri failing =
+      let flow = recover_flow first now _ (i.got ∷ []) (o.sent ∷ []) law i.got o.sent refl refl in
+      let h : FailedAt i.view (flow.f ∷ []) = subst (λ (fs : List Inflow). FailedAt i.view fs) flow.ins failing in
+      shut_behind flow.f come flow.f.end refl h.1 (flow_got _ _ (i.got ∷ []) (o.sent ∷ []) law.by i.got o.sent flow) (may.0 flow.f.list flow.f.end flow.got_is) si (ri.shut (input_closed i.view flow.f.list h.0))

@@ -43,9 +43,9 @@ module _ (u : ℕ) (near far : WireState) (asked : ℕ) (list : List Tree) (p q 
       }
   in_stands keep (Some s) k = stands_in keep u s near far p q asked list m l f e sn sf sent_told part got_told k
 
-pub out_stands : (u : ℕ) (near far : WireState) (asked : ℕ) (list : List Tree) (keep : Bool) (lane : Option ℕ) → WireKeeps keep lane near far asked → OutStands (out_of u lane near far asked list)
-out_stands u near far asked list keep None k = record { count = refl; wants = omega arith }
-out_stands u near far asked list keep (Some s) k = stands_out keep u s near far asked list k
+pub out_stands : (u : ℕ) (near far : WireState) (asked : ℕ) (list : List Tree) (p : Bool) → IsSound near.wire p → (keep : Bool) (lane : Option ℕ) → WireKeeps keep lane near far asked → OutStands (out_of u lane near far asked list)
+out_stands u near far asked list p sn keep None k = record { count = refl; wants = omega arith; closed = λ c. out_shut near.wire p sn c }
+out_stands u near far asked list p sn keep (Some s) k = stands_out keep u s near far asked list p sn k
 
 module _ (u : ℕ) (near far : WireState) (asked : ℕ) (list : List Tree) (sn : IsSound near.wire false) (sf : IsSound far.wire false) (mn : IsMarked near) (mf : IsMarked far) where
   pub in_rests : (keep : Bool) (lane : Option ℕ) → WireKeeps keep lane near far asked → WireQuiet keep lane near far asked → InRests (in_of u lane near far asked list)

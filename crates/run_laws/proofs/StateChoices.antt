@@ -19,7 +19,9 @@ use Rattle.stream_model.specs.Picks.{recover_fits, recover_outlook}
 use Rattle.stream_model.specs.View as picture
 use Rattle.stream_model.specs.OneWay.{as_it_is, is_sink}
 use Rattle.stream_model.specs.Lawful.{RowLawful, StageLawful, RecoverLawful}
-use Rattle.stream_model.specs.Rests.{RowRests, StageRests, OneToOne}
+use Rattle.stream_model.specs.Rests.{RoleRests, RowRests, StageRests, OneToOne}
+use Rattle.stream_model.specs.Linear as role
+use Rattle.stream_model.specs.Linear.{role_of}
 use Rattle.stage_core.specs.Held.{told}
 use Rattle.stage_core.specs.PortsLaws.{InPortsLaw}
 use Rattle.stage_dropping.specs.Droppings as dropping
@@ -29,9 +31,10 @@ use Rattle.stage_dropping.specs.Recoverings as recover
 use Rattle.stage_dropping.specs.Recoverings.{RecoversAs}
 use Rattle.stage_dropping.proofs.RecoverNodes as recovers
 use Rattle.stage_state.specs.declared.logic.StateLogic.TheVariants.{Dropping, Recovering}
-use Rattle.stage_state.specs.Logics.{BeginsAs}
+use Rattle.run_laws.specs.Made.{LedAs}
 use Rattle.run_laws.specs.Items.{AllMayPass, AgreesWith}
 use Rattle.run_laws.specs.KindLaws.{RunLaws}
+use Rattle.run_laws.specs.Replayed.{Plans, RoleLawfulBy}
 use Rattle.run_laws.proofs.InRuns.{one_given}
 
 -- what may pass is what the outlooks let pass
@@ -55,21 +58,21 @@ pub record DropsFirst (k : ℕ) (kd : Kind) (x : dropping.Dropping) : Type 0 whe
   pub policy : Policy
   pub kind_is : kd ≡ Buffer room policy
   pub drops : policy ≢ Backpressure
-  pub is : x ≡ dropping.begun k room policy
+  pub is : dropping.Begins k room policy x
 
-pub drops_first : (k : ℕ) (kd : Kind) (d : Decider) (x : dropping.Dropping) → BeginsAs kd k d (Dropping x) → DropsFirst k kd x
+pub drops_first : (k : ℕ) (kd : Kind) (d : Decider) (x : dropping.Dropping) → LedAs kd k d (Dropping x) → DropsFirst k kd x
 drops_first k (Buffer n p) d x b = record { room = n; policy = p; kind_is = refl; drops = b.0; is = b.1 }
 drops_first k _ d x b = absurd b
 
-module _ (g : Graph) (w : World) (k : ℕ) (n : graph.Node) (first now : dropping.Dropping) (v : View) (took gave : List (List Item)) (begins : BeginsAs n.kind k n.decider (Dropping first)) (same : w.moves k ≡ now.moves) (law : DropsAs first now v took gave) where
+module _ (g : Graph) (w : World) (k : ℕ) (n : graph.Node) (first now : dropping.Dropping) (v : View) (took gave : List (List Item)) (begins : LedAs n.kind k n.decider (Dropping first)) (same : w.moves k ≡ now.log.moves) (law : DropsAs first now v took gave) where
   f : DropsFirst k n.kind first
   f = drops_first k n.kind n.decider first begins
 
-  at_node : w.moves first.node ≡ now.moves
-  at_node = ap (λ (x : dropping.Dropping). w.moves x.node) f.is ∙ same
+  at_node : w.moves first.node ≡ now.log.moves
+  at_node = ap (λ (x : dropping.Dropping). w.moves x.node) f.is.is ∙ same
 
   drops_so : first.policy ≢ Backpressure
-  drops_so = subst (λ (x : dropping.Dropping). x.policy ≢ Backpressure) (sym f.is) f.drops
+  drops_so = subst (λ (x : dropping.Dropping). x.policy ≢ Backpressure) (sym f.is.is) f.drops
 
   drops_give : (os : List Outlook) → AllMayPass os took → (p : ℕ) (h : List Item) → slice_get gave p ≡ Some h → AgreesWith (node_outlook g w k n.kind n.decider os p) h
   drops_give os a p h at =
@@ -77,7 +80,7 @@ module _ (g : Graph) (w : World) (k : ℕ) (n : graph.Node) (first now : droppin
       let l = law.by.law in
       let agree = drops.agrees first now v took gave law g w drops_so at_node n.decider os (flows_agree _ v took gave os law.by a) in
       let begun : Agrees (node_outlook g w k (Buffer f.room f.policy) n.decider os 0) l.out_list l.out_end =
-      subst (λ (x : dropping.Dropping). Agrees (node_outlook g w x.node (Buffer x.size x.policy) n.decider os 0) l.out_list l.out_end) f.is agree in
+      subst (λ (x : dropping.Dropping). Agrees (node_outlook g w x.node (Buffer x.size x.policy) n.decider os 0) l.out_list l.out_end) f.is.is agree in
       record {
         list = l.out_list;
         end = l.out_end;
@@ -89,7 +92,7 @@ module _ (g : Graph) (w : World) (k : ℕ) (n : graph.Node) (first now : droppin
   drops_fit : (os : List Outlook) → AllMayPass os took → moves_fit g w k n.kind os ≡ true
   drops_fit os a =
       subst (λ (kd : Kind). moves_fit g w k kd os ≡ true) (sym f.kind_is)
-      (subst (λ (x : dropping.Dropping). moves_fit g w x.node (Buffer x.size x.policy) os ≡ true) f.is (drops.fits first now v took gave law g w drops_so at_node os (flows_agree _ v took gave os law.by a)))
+      (subst (λ (x : dropping.Dropping). moves_fit g w x.node (Buffer x.size x.policy) os ≡ true) f.is.is (drops.fits first now v took gave law g w drops_so at_node os (flows_agree _ v took gave os law.by a)))
 
   pub dropping_laws : RunLaws g w k n took gave
   dropping_laws = record { gives = drops_give; fits = drops_fit }
@@ -101,20 +104,23 @@ pub record IsRecover (kd : Kind) (x : recover.Recover) : Type 0 where
   pub element : Tree
   pub outlook : (g : Graph) (w : World) (k : ℕ) (d : Decider) (os : List Outlook) (p : ℕ) → node_outlook g w k kd d os p ≡ recover_outlook element (w.moves k) (head_of os)
   pub fits_by : (g : Graph) (w : World) (k : ℕ) (os : List Outlook) → moves_fit g w k kd os ≡ recover_fits (w.moves k) (head_of os)
-  pub is : x ≡ recover.begun element
+  pub is : x ≡ record (recover.begun element) { left = x.left }
   pub no_sink : is_sink kd ≡ false
   pub lawful : (g : Graph) (w : World) (k : ℕ) (d : Decider) (is os : List picture.SeenWire) → OneToOne (StageLawful (as_it_is 1 true)) is os × OneToOne (RecoverLawful (w.moves k)) is os → RowLawful g w k kd d is os
   pub rests : (g : Graph) (w : World) (k : ℕ) (d : Decider) (is os : List picture.SeenWire) → OneToOne (StageRests (as_it_is 1 true)) is os → RowRests g w k kd d is os
+  pub role_is : role_of kd ≡ role.a_flow (role.recovers element)
+  pub own_rests : (g : Graph) (w : World) (k : ℕ) (d : Decider) (is os : List picture.SeenWire) → OneToOne (StageRests (as_it_is 1 true)) is os → RoleRests g w k (role.a_flow (role.recovers element)) d is os
+  pub lawful_by : (g : Graph) (w : World) (plans : Plans) (k : ℕ) (d : Decider) (is os : List picture.SeenWire) → RowLawful g w k kd d is os → RoleLawfulBy g w plans k (role_of kd) d is os
 
-pub recovers_first : (k : ℕ) (kd : Kind) (d : Decider) (x : recover.Recover) → BeginsAs kd k d (Recovering x) → IsRecover kd x
-recovers_first k (RecoverNum z) d x b = record { element = num z; outlook = λ g w k d os p. refl; fits_by = λ g w k os. refl; is = b; no_sink = refl; lawful = λ g w k d is os r. r; rests = λ g w k d is os r. r }
-recovers_first k (RecoverText l) d x b = record { element = text l; outlook = λ g w k d os p. refl; fits_by = λ g w k os. refl; is = b; no_sink = refl; lawful = λ g w k d is os r. r; rests = λ g w k d is os r. r }
+pub recovers_first : (k : ℕ) (kd : Kind) (d : Decider) (x : recover.Recover) → LedAs kd k d (Recovering x) → IsRecover kd x
+recovers_first k (RecoverNum z) d x b = record { element = num z; outlook = λ g w k d os p. refl; fits_by = λ g w k os. refl; is = b; no_sink = refl; lawful = λ g w k d is os r. r; rests = λ g w k d is os r. r; role_is = refl; own_rests = λ g w k d is os r. r; lawful_by = λ g w plans k d is os r. r }
+recovers_first k (RecoverText l) d x b = record { element = text l; outlook = λ g w k d os p. refl; fits_by = λ g w k os. refl; is = b; no_sink = refl; lawful = λ g w k d is os r. r; rests = λ g w k d is os r. r; role_is = refl; own_rests = λ g w k d is os r. r; lawful_by = λ g w plans k d is os r. r }
 recovers_first k _ d x b = absurd b
 
-some_is : (t u : Tree) → Some t ≡ Some u → t ≡ u
+pub some_is : (t u : Tree) → Some t ≡ Some u → t ≡ u
 some_is t u e = cc
 
-module _ (g : Graph) (w : World) (k : ℕ) (n : graph.Node) (first now : recover.Recover) (v : View) (took gave : List (List Item)) (begins : BeginsAs n.kind k n.decider (Recovering first)) (same : w.moves k ≡ now.moves) (law : RecoversAs first now v took gave) where
+module _ (g : Graph) (w : World) (k : ℕ) (n : graph.Node) (first now : recover.Recover) (v : View) (took gave : List (List Item)) (begins : LedAs n.kind k n.decider (Recovering first)) (same : w.moves k ≡ now.moves) (law : RecoversAs first now v took gave) where
   r : IsRecover n.kind first
   r = recovers_first k n.kind n.decider first begins
 

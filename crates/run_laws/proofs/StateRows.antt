@@ -1,7 +1,7 @@
 -- What a stage with state gives of its law for a picture: one that keeps, by its machine; and a buffer, which gives what came and
 -- asks for no more than it can hold.
 use Rattle.std.specs.Prelude.{slice_index_or}
-use Rattle.std.proofs.Common.{◌≡◌, ◌≢◌, ◌⊎◌, inl, inr, ℕ, zero, suc, ◌+◌, ◌-◌, ◌<◌, ◌≤◌, Bool, true, false, None, Some, List, [], ◌∷◌, length, take, map, refl, sym, ap, ◌∙◌, subst, arith}
+use Rattle.std.proofs.Common.{◌≡◌, ◌≢◌, ◌⊎◌, inl, inr, ℕ, zero, suc, ◌+◌, ◌-◌, ◌<◌, ◌≤◌, Bool, true, false, Option, None, Some, List, [], ◌∷◌, length, take, map, refl, sym, ap, ◌∙◌, subst, arith}
 use Rattle.elem_core.proofs.Prefixes.{prefix_length}
 use Rattle.elem_core.specs.Tree.{Tree}
 use Rattle.elem_core.specs.Items.{elements}
@@ -15,18 +15,20 @@ use Rattle.port_core.specs.declared.view.OutView.TheVariants.{Unpulled, Availabl
 use Rattle.stream_io.specs.State.{SourceState, DrainState}
 use Rattle.stream_model.specs.declared.kind.Kind.{Kind}
 use Rattle.stream_model.specs.declared.kind.Kind.TheVariants.{Grouped, Fold, Reduce, Scan, Buffer}
-use Rattle.stream_model.specs.declared.kind.Policy.TheVariants.{Backpressure}
+use Rattle.stream_model.specs.declared.kind.Policy.{Policy}
+use Rattle.stream_model.specs.declared.kind.Policy.TheVariants.{Backpressure, DropHead, DropTail, DropBuffer, DropNew, Fail}
 use Rattle.stream_model.specs.Graph.{Graph}
 use Rattle.stream_model.specs.Graph as graph
-use Rattle.stream_model.specs.Linear.{Book, Stage, Work, linear, begin_work, work_of}
+use Rattle.stream_model.specs.Linear.{Book, Role, Stage, Work, linear, begin_work, work_of, a_flow, buffers, role_of}
+use Rattle.stream_model.specs.Linear as role
 use Rattle.stream_model.specs.Machine.{State, going, is_going, run, Stands}
 use Rattle.stream_model.specs.Node.{World}
 use Rattle.stream_model.specs.Picks as picks
 use Rattle.stream_model.specs.Lane.{Carries}
-use Rattle.stream_model.specs.Outlook.{End, unended, ended, failed}
+use Rattle.stream_model.specs.Outlook.{Outlook, End, unended, ended, failed}
 use Rattle.stream_model.specs.Lawful.{RowLawful, RecoverLawful}
 use Rattle.stream_model.specs.OneWay.{as_it_is, holds_at_end, is_sink}
-use Rattle.stream_model.specs.Rests.{IsShut, BufferRests, DroppingRests, StageRests, RowRests}
+use Rattle.stream_model.specs.Rests.{IsShut, BufferRests, DroppingRests, StageRests, RoleRests, RowRests}
 use Rattle.stream_model.specs.View.{EachWire, demand, wanted}
 use Rattle.stage_core.specs.Held.{Held, owing}
 use Rattle.stage_core.specs.Law.{TookAs, Law}
@@ -47,24 +49,33 @@ use Rattle.nodes.specs.Nodes.{node_port_state, node_law, node_asking, node_moves
 use Rattle.stage_state.specs.declared.logic.StateLogic.{StateLogic}
 use Rattle.stage_state.specs.declared.logic.StateLogic.TheVariants.{Machine, Dropping, Recovering, Obeying, Tripping}
 use Rattle.stage_state.specs.Handling.{StatePortState, StateLaw}
-use Rattle.stage_state.specs.Logics.{BeginsAs}
+use Rattle.stage_dropping.specs.Drops.{DroppingRestsBy, DropMisfits}
 use Rattle.stage_dropping.specs.Droppings as drop
 use Rattle.stage_dropping.specs.Droppings.{DropPortState, DropsAs}
-use Rattle.stage_dropping.specs.Recoverings.{Recover, recover_at, RecoverPortState, RecoversAs}
+use Rattle.stage_dropping.specs.Recoverings.{Recover, recover_in, StillBy, RecoverPortState, RecoversAs}
+use Rattle.stage_dropping.specs.Recovers.{FailedAt, RecoverCause}
+use Rattle.stage_dropping.proofs.RecoverNodes as recovers
 use Rattle.stage_state.specs.MachineNodes.{MachinePortState, MachineLaw}
-use Rattle.run_laws.specs.KindLaws.{IsOneMachine, Moments, PictureLaws}
+use Rattle.run_laws.specs.Items.{AllMayPass}
+use Rattle.run_laws.specs.KindLaws.{IsOneMachine, Moments, PictureLaws, PictureLawsBy}
+use Rattle.run_laws.specs.Replayed.{Plans, left, RecoverRestsBy, RoleLawfulBy, RoleMisfits, RoleRestsBy, RowRestsBy, ShutByFailure}
 use Rattle.run_laws.specs.Ports.{InPort, OutPort, InStands, OutStands, InRests, OutRests}
 use Rattle.run_laws.proofs.Coming.{elements_told, elements_prefix}
 use Rattle.run_laws.proofs.Nodes.{begins_one}
-use Rattle.run_laws.specs.Made.{FirstState}
+use Rattle.run_laws.specs.Made.{FirstState, LedAs}
+use Rattle.port_core.specs.Picks.{next_move, plan_of}
+use Rattle.port_core.specs.declared.pick_log.Next.{Next}
+use Rattle.port_core.specs.declared.pick_log.Next.TheVariants.{Free, Move, UsedUp}
+use Rattle.stage_state.specs.Moves.{state_plan}
 use Rattle.run_laws.proofs.Machines.{IsKeeping, keeping_machine}
-use Rattle.run_laws.proofs.States.{KeepsFirst, BuffersFirst, state_cases, keeps_law, buffers_law, Told}
+use Rattle.run_laws.proofs.States.{KeepsFirst, BuffersFirst, state_cases, keeps_law, buffers_law, led_machine, led_trip, Told}
 use Rattle.run_laws.proofs.StateChoices.{DropsFirst, drops_first, IsRecover, recovers_first}
 use Rattle.run_laws.specs.Picture.{sink_ended}
 use Rattle.run_laws.proofs.MachineRows.{stage_given, stage_asked, waited_rests, idles}
 use Rattle.run_laws.proofs.OnePorts.{one_views, one_same, began, given_one, reached, not_both}
-use Rattle.run_laws.proofs.DropRows.{row_lawful, row_rests, drops_lawful, drops_rest}
-use Rattle.run_laws.proofs.RecoverRows.{recover_ports, waits_asked, take_few, passed_all, recover_given, recover_moved, recover_rests}
+use Rattle.run_laws.proofs.DropRows.{row_lawful, row_rests, drops_lawful, drops_rest, led_rests}
+use Rattle.run_laws.proofs.Misfits.{states_stop}
+use Rattle.run_laws.proofs.RecoverRows.{recover_ports, waits_moving, recover_stays, shut_by_failure, waits_asked, take_few, passed_all, recover_given, recover_moved, recover_rests}
 use Rattle.run_laws.proofs.PictureStages.{closed_both, law_at, same_start, Waited, waited_of}
 use Rattle.run_laws.proofs.SwitchRows.{valve_picture, trip_picture}
 
@@ -92,7 +103,7 @@ data BufferPorts (n : ℕ) (p : Phase) (e : StateEnd) (k : List Tree) (x : InVie
   drained : p ≡ Open → k ≡ [] → 0 < n → x ≡ Pulled → y ≡ Available → BufferPorts n p e k x y
   roomy : p ≡ Open → length k < n → x ≡ Pulled → y ≡ Unpulled → BufferPorts n p e k x y
   full : p ≡ Open → length k ≡ n → x ≡ Idle → y ≡ Unpulled → BufferPorts n p e k x y
-  left : x ≡ Finished → y ≡ Unpulled → BufferPorts n p e k x y
+  behind_end : x ≡ Finished → y ≡ Unpulled → BufferPorts n p e k x y
   gone : InClosed x → OutClosed y → BufferPorts n p e k x y
 
 buffer_ports : (n : ℕ) (p : Phase) (e : StateEnd) (a : Bool) (k : List Tree) (x : InView) (y : OutView) → p ≢ New → buffer_port_state n p e a k x y → BufferPorts n p e k x y
@@ -101,7 +112,7 @@ buffer_ports n Closed e a k x y nn r = let c = closed_both x y r in gone c.0 c.1
 buffer_ports n Open Lasting true k Pulled Available nn r = drained refl r.0 r.1 refl refl
 buffer_ports n Open Lasting false k Pulled Unpulled nn r = roomy refl r refl refl
 buffer_ports n Open Lasting false k Idle Unpulled nn r = full refl r.0 refl refl
-buffer_ports n Open Ended false k Finished Unpulled nn r = left refl refl
+buffer_ports n Open Ended false k Finished Unpulled nn r = behind_end refl refl
 buffer_ports n p e a k x y nn r = absurd r
 
 -- what an open stage owes
@@ -180,7 +191,7 @@ waits_roomy : (n : ℕ) (p : Phase) (e : StateEnd) (k : List Tree) (x : InView) 
 waits_roomy n p e k x y (drained on none some xi yo) i = let z : length k ≡ 0 = ap length none in (on, omega (arith, z, some))
 waits_roomy n p e k x y (roomy on room xi yo) i = (on, room)
 waits_roomy n p e k x y (full on room xi yo) i = cc
-waits_roomy n p e k x y (left xi yo) i = cc
+waits_roomy n p e k x y (behind_end xi yo) i = cc
 waits_roomy n p e k x y (gone xi yo) i = let no : InClosed Pulled = subst InClosed i xi in absurd no
 
 -- ---- the kinds
@@ -332,7 +343,7 @@ module _ {S D : Type 0} (L B : Type 0) (sources : S → SourceState) (drains : D
             | inl lane ↦ inr (inr (inr (inl (ro.unasked yo, inl lane, (least, inl lane)))))
             | inr fused ↦ let all = fused.1 in inr (inr (inr (inl (ro.unasked yo, inr fused.0, (least, inr (omega (arith, all, holds, room, count)))))))
           ]
-      buffer_rest si so ri ro (left xi yo) = inr (inr (inr (inr (ro.unasked yo, ri.shut (subst InClosed (sym xi) tt)))))
+      buffer_rest si so ri ro (behind_end xi yo) = inr (inr (inr (inr (ro.unasked yo, ri.shut (subst InClosed (sym xi) tt)))))
       buffer_rest si so ri ro (gone xi yo) = inl ((ri.shut xi, tt), (ro.shut yo, tt))
 
       in_row : (EachWire IsShut (i.wire ∷ []) × EachWire IsShut (o.wire ∷ [])) ⊎ BufferRests c.room i.wire o.wire → Still
@@ -351,27 +362,89 @@ module _ {S D : Type 0} (L B : Type 0) (sources : S → SourceState) (drains : D
 
   -- ---- one that drops
 
-  module _ (first x : drop.Dropping) (i : InPort) (o : OutPort) (begins : BeginsAs n.kind k n.decider (Dropping first)) (same : w.moves k ≡ x.moves) (r : DropPortState x (record { ins = i.view ∷ []; outs = o.view ∷ [] }))
+  module _ (first x : drop.Dropping) (i : InPort) (o : OutPort) (begins : LedAs n.kind k n.decider (Dropping first)) (same : w.moves k ≡ x.log.moves) (r : DropPortState x (record { ins = i.view ∷ []; outs = o.view ∷ [] }))
       (law : DropsAs first x (record { ins = i.view ∷ []; outs = o.view ∷ [] }) (i.got ∷ []) (o.sent ∷ [])) where
     drop_kind : DropsFirst k n.kind first
     drop_kind = drops_first k n.kind n.decider first begins
 
-    drop_row : InStands i → InRests i → OutRests o
-        → (EachWire IsShut (i.wire ∷ []) × EachWire IsShut (o.wire ∷ [])) ⊎ DroppingRests (picks.nothing_held (picks.buffered drop_kind.policy drop_kind.room x.moves i.wire.list picks.empty_buffer).held) i.wire o.wire
-    drop_row si ri ro =
-        subst (λ (z : drop.Dropping). (EachWire IsShut (i.wire ∷ []) × EachWire IsShut (o.wire ∷ [])) ⊎ DroppingRests (picks.nothing_held (picks.buffered z.policy z.size x.moves i.wire.list picks.empty_buffer).held) i.wire o.wire) drop_kind.is
-        (drops_rest first x i o law si ri ro r)
+    drop_row : first.log.left ≡ None → InStands i → InRests i → OutRests o
+        → (EachWire IsShut (i.wire ∷ []) × EachWire IsShut (o.wire ∷ [])) ⊎ DroppingRests (picks.nothing_held (picks.buffered drop_kind.policy drop_kind.room x.log.moves i.wire.list picks.empty_buffer).held) i.wire o.wire
+    drop_row bare si ri ro =
+        subst (λ (z : drop.Dropping). (EachWire IsShut (i.wire ∷ []) × EachWire IsShut (o.wire ∷ [])) ⊎ DroppingRests (picks.nothing_held (picks.buffered z.policy z.size x.log.moves i.wire.list picks.empty_buffer).held) i.wire o.wire) drop_kind.is.is
+        (drops_rest first x i o law bare si ri ro r)
 
-    drop_still : (EachWire IsShut (i.wire ∷ []) × EachWire IsShut (o.wire ∷ [])) ⊎ DroppingRests (picks.nothing_held (picks.buffered drop_kind.policy drop_kind.room x.moves i.wire.list picks.empty_buffer).held) i.wire o.wire
+    drop_still : (EachWire IsShut (i.wire ∷ []) × EachWire IsShut (o.wire ∷ [])) ⊎ DroppingRests (picks.nothing_held (picks.buffered drop_kind.policy drop_kind.room x.log.moves i.wire.list picks.empty_buffer).held) i.wire o.wire
         → (EachWire IsShut (i.wire ∷ []) × EachWire IsShut (o.wire ∷ [])) ⊎ RowRests g w k n.kind n.decider (i.wire ∷ []) (o.wire ∷ [])
     drop_still (inl h) = inl h
-    drop_still (inr h) = inr (subst (λ (kd : Kind). RowRests g w k kd n.decider (i.wire ∷ []) (o.wire ∷ [])) (sym drop_kind.kind_is) (row_rests g w k n.decider drop_kind.room x.moves same drop_kind.policy i.wire o.wire drop_kind.drops h))
+    drop_still (inr h) = inr (subst (λ (kd : Kind). RowRests g w k kd n.decider (i.wire ∷ []) (o.wire ∷ [])) (sym drop_kind.kind_is) (row_rests g w k n.decider drop_kind.room x.log.moves same drop_kind.policy i.wire o.wire drop_kind.drops h))
 
-    drops_picture : Laws (node.State (Dropping first)) (node.State (Dropping x)) (i ∷ []) (o ∷ [])
-    drops_picture = record {
-      lawful = λ si so m. subst (λ (kd : Kind). RowLawful g w k kd n.decider (i.wire ∷ []) (o.wire ∷ [])) (sym drop_kind.kind_is)
-          (row_lawful g w k n.decider drop_kind.room x.moves same drop_kind.policy i.wire o.wire drop_kind.drops (drops_lawful first x i o law si.0 so.0));
-      rests = λ si so ri ro. drop_still (drop_row si.0 ri.0 ro.0);
+    drops_row : InStands i → OutStands o → RowLawful g w k n.kind n.decider (i.wire ∷ []) (o.wire ∷ [])
+    drops_row si so =
+        subst (λ (kd : Kind). RowLawful g w k kd n.decider (i.wire ∷ []) (o.wire ∷ [])) (sym drop_kind.kind_is) (row_lawful g w k n.decider drop_kind.room x.log.moves same drop_kind.policy i.wire o.wire drop_kind.drops (drops_lawful first x i o law si so))
+
+    -- one that follows moves: it meets its row by what its next move is to be, or has the cause of a misfit
+    module _ (plans : Plans) (ms : List ℕ) (left_is : left g w plans k ≡ x.log.left) (follows : x.log.left ≡ Some ms) where
+      abbrev Empty : Policy → ℕ → Bool
+      Empty p m = picks.nothing_held (picks.buffered p m (w.moves k) i.wire.list picks.empty_buffer).held
+
+      row_by : (p : Policy) (next : Next) (comes : List Outlook) → p ≢ Backpressure → DroppingRestsBy next (Empty p drop_kind.room) i.wire o.wire → RoleRestsBy g w comes next k (a_flow (buffers drop_kind.room p)) n.decider (i.wire ∷ []) (o.wire ∷ [])
+      row_by Backpressure next comes drops h = absurd (drops refl)
+      row_by DropHead next comes drops h = h
+      row_by DropTail next comes drops h = h
+      row_by DropBuffer next comes drops h = h
+      row_by DropNew next comes drops h = h
+      row_by Fail next comes drops h = h
+
+      cause_by : (p : Policy) (rest : Option (List ℕ)) (come : Outlook) → p ≢ Backpressure → DropMisfits p drop_kind.room (next_move rest) (w.moves k) come → RoleMisfits g w rest k (a_flow (buffers drop_kind.room p)) (come ∷ [])
+      cause_by Backpressure rest come drops h = absurd (drops refl)
+      cause_by DropHead rest come drops h = h
+      cause_by DropTail rest come drops h = h
+      cause_by DropBuffer rest come drops h = h
+      cause_by DropNew rest come drops h = h
+      cause_by Fail rest come drops h = h
+
+      own_lawful : (kd : Kind) → kd ≡ Buffer drop_kind.room drop_kind.policy → RowLawful g w k kd n.decider (i.wire ∷ []) (o.wire ∷ []) → RoleLawfulBy g w plans k (role_of kd) n.decider (i.wire ∷ []) (o.wire ∷ [])
+      own_lawful kd is h =
+          subst (λ (t : Kind). RoleLawfulBy g w plans k (role_of t) n.decider (i.wire ∷ []) (o.wire ∷ [])) (sym is) (subst (λ (t : Kind). RowLawful g w k t n.decider (i.wire ∷ []) (o.wire ∷ [])) is h)
+
+      stopped : (comes : List Outlook) → AllMayPass comes (i.got ∷ []) → x.log.stuck ≡ true → RowRestsBy g w plans k n.kind n.decider comes (i.wire ∷ []) (o.wire ∷ [])
+      stopped comes may stuck =
+          let c = states_stop comes (Dropping first) (Dropping x) (record { ins = i.view ∷ []; outs = o.view ∷ [] }) (i.got ∷ []) (o.sent ∷ []) r law may stuck in
+          let policy_is : x.policy ≡ drop_kind.policy = law.policy ∙ ap (λ (z : drop.Dropping). z.policy) drop_kind.is.is in
+          let size_is : x.size ≡ drop_kind.room = law.size ∙ ap (λ (z : drop.Dropping). z.size) drop_kind.is.is in
+          let sized = subst (λ (m : ℕ). DropMisfits drop_kind.policy m (next_move x.log.left) x.log.moves c.0) size_is (subst (λ (p : Policy). DropMisfits p x.size (next_move x.log.left) x.log.moves c.0) policy_is c.1.1) in
+          let told = subst (λ (ls : List ℕ). DropMisfits drop_kind.policy drop_kind.room (next_move x.log.left) ls c.0) (sym same) sized in
+          let here = cause_by drop_kind.policy x.log.left c.0 drop_kind.drops told in
+          subst (λ (t : Kind). RowRestsBy g w plans k t n.decider comes (i.wire ∷ []) (o.wire ∷ [])) (sym drop_kind.kind_is)
+          (inr (subst (λ (l : Option (List ℕ)). RoleMisfits g w l k (a_flow (buffers drop_kind.room drop_kind.policy)) comes) (sym left_is) (subst (λ (os : List Outlook). RoleMisfits g w x.log.left k (a_flow (buffers drop_kind.room drop_kind.policy)) os) (sym c.1.0) here)))
+
+      goes_on : (comes : List Outlook) → x.log.stuck ≡ false → InRests i → OutRests o → (EachWire IsShut (i.wire ∷ []) × EachWire IsShut (o.wire ∷ [])) ⊎ RowRestsBy g w plans k n.kind n.decider comes (i.wire ∷ []) (o.wire ∷ [])
+      goes_on comes calm ri ro = by (led_rests first x i o law ms (Empty drop_kind.policy drop_kind.room) follows calm ri ro r)
+        where
+          by : (EachWire IsShut (i.wire ∷ []) × EachWire IsShut (o.wire ∷ [])) ⊎ DroppingRestsBy (next_move (Some ms)) (Empty drop_kind.policy drop_kind.room) i.wire o.wire
+              → (EachWire IsShut (i.wire ∷ []) × EachWire IsShut (o.wire ∷ [])) ⊎ RowRestsBy g w plans k n.kind n.decider comes (i.wire ∷ []) (o.wire ∷ [])
+          by (inl h) = inl h
+          by (inr h) =
+              inr
+              (subst (λ (t : Kind). RowRestsBy g w plans k t n.decider comes (i.wire ∷ []) (o.wire ∷ [])) (sym drop_kind.kind_is)
+              (inl (subst (λ (l : Option (List ℕ)). RoleRestsBy g w comes (next_move l) k (a_flow (buffers drop_kind.room drop_kind.policy)) n.decider (i.wire ∷ []) (o.wire ∷ [])) (sym (left_is ∙ follows)) (row_by drop_kind.policy (next_move (Some ms)) comes drop_kind.drops h))))
+
+      led_stays : (comes : List Outlook) → AllMayPass comes (i.got ∷ []) → InRests i → OutRests o → (stuck : Bool) → x.log.stuck ≡ stuck
+          → (EachWire IsShut (i.wire ∷ []) × EachWire IsShut (o.wire ∷ [])) ⊎ RowRestsBy g w plans k n.kind n.decider comes (i.wire ∷ []) (o.wire ∷ [])
+      led_stays comes may ri ro true e = inr (stopped comes may e)
+      led_stays comes may ri ro false e = goes_on comes e ri ro
+
+      pub drops_led : PictureLawsBy {N = IslandNode S D L B} node_port_state (node_law sources drains w.book) node_asking node_moves sink_ended g w plans k n (node.State (Dropping first)) (node.State (Dropping x)) (i ∷ []) (o ∷ [])
+      drops_led = record {
+        lawful = λ si so m. own_lawful n.kind drop_kind.kind_is (drops_row si.0 so.0);
+        rests = λ comes may si so ri ro. led_stays comes may ri.0 ro.0 x.log.stuck refl;
+        matches = λ sink ri. let no : is_sink (Buffer drop_kind.room drop_kind.policy) ≡ true = rw drop_kind.kind_is at sink in cc;
+      }
+
+    drops_picture : first.log.left ≡ None → Laws (node.State (Dropping first)) (node.State (Dropping x)) (i ∷ []) (o ∷ [])
+    drops_picture bare = record {
+      lawful = λ si so m. drops_row si.0 so.0;
+      rests = λ si so ri ro. drop_still (drop_row bare si.0 ri.0 ro.0);
       matches = λ sink ri. let no : is_sink (Buffer drop_kind.room drop_kind.policy) ≡ true = rw drop_kind.kind_is at sink in cc;
     }
 
@@ -386,7 +459,7 @@ module _ {S D : Type 0} (L B : Type 0) (sources : S → SourceState) (drains : D
   recover_now first (node.State (Recovering x)) v took gave r law = record { now = x; port_state_holds = r; law_holds = law }
   recover_now first x v took gave r law = absurd law
 
-  module _ (first x : Recover) (i : InPort) (o : OutPort) (begins : BeginsAs n.kind k n.decider (Recovering first)) (same : w.moves k ≡ x.moves) (r : RecoverPortState x (record { ins = i.view ∷ []; outs = o.view ∷ [] }))
+  module _ (first x : Recover) (i : InPort) (o : OutPort) (begins : LedAs n.kind k n.decider (Recovering first)) (same : w.moves k ≡ x.moves) (r : RecoverPortState x (record { ins = i.view ∷ []; outs = o.view ∷ [] }))
       (law : RecoversAs first x (record { ins = i.view ∷ []; outs = o.view ∷ [] }) (i.got ∷ []) (o.sent ∷ [])) where
     recover_kind : IsRecover n.kind first
     recover_kind = recovers_first k n.kind n.decider first begins
@@ -399,13 +472,14 @@ module _ {S D : Type 0} (L B : Type 0) (sources : S → SourceState) (drains : D
     recover_asked si so m =
         let e = m.0 in
         let l = recover_now first e.old e.knew e.had e.given e.port_state_held e.law_held in
-        let p = one_views (recover_at l.now l.now.phase l.now.over l.now.asked) e.knew l.port_state_holds.ports in
-        let ports = recover_ports l.now p.x p.y l.port_state_holds.started p.holds in
+        let p = one_views (recover_in l.now.still l.now) e.knew l.port_state_holds.ports in
+        let moving = waits_moving l.now p.x p.y l.now.still p.holds (sym p.inp ∙ e.waited) in
+        let ports = recover_ports l.now p.x p.y l.port_state_holds.started (subst (λ b. recover_in b l.now p.x p.y) moving p.holds).0 in
         let was = waits_asked l.now p.x p.y ports (sym p.inp ∙ e.waited) in
         let asked : out_at e.knew 0 ≡ Available = p.out ∙ was.1.1 in
         let b = began e.had i.got i.want e.took_on e.one_more in
         let q = given_one e.given o.sent o.want e.gave_on (e.wants 0 asked) in
-        let all = passed_all first l.now e.knew e.had e.given l.law_holds b.part q.0 b.is q.1.0 was.0 was.1.0 in
+        let all = passed_all first l.now e.knew e.had e.given l.law_holds b.part q.0 b.is q.1.0 moving was.0 was.1.0 in
         let one = b.one_more in
         let reach = si.reach in
         let more = q.1.1.1 in
@@ -423,61 +497,117 @@ module _ {S D : Type 0} (L B : Type 0) (sources : S → SourceState) (drains : D
     recover_still (inl h) = inl h
     recover_still (inr h) = inr (recover_kind.rests g w k n.decider (i.wire ∷ []) (o.wire ∷ []) h)
 
-    recover_picture : Laws (node.State (Recovering first)) (node.State (Recovering x)) (i ∷ []) (o ∷ [])
-    recover_picture = record {
-      lawful = λ si so m. recover_kind.lawful g w k n.decider (i.wire ∷ []) (o.wire ∷ []) (
-        (recover_given first x i o law si.0 so.0, λ some. recover_wants si.0 so.0 (m 0 (reached i si.0 some)) some),
-        subst (λ (ms : List ℕ). RecoverLawful ms i.wire o.wire) (sym same) (recover_moved first x i o law si.0 so.0),
-      );
-      rests = λ si so ri ro. recover_still (recover_rests first x i o law si.0 so.0 ri.0 ro.0 r);
+    recover_row : InStands i → OutStands o → (1 ≤ demand i.wire → LastAsk) → RowLawful g w k n.kind n.decider (i.wire ∷ []) (o.wire ∷ [])
+    recover_row si so m =
+        recover_kind.lawful g w k n.decider (i.wire ∷ []) (o.wire ∷ []) (
+          (recover_given first x i o law si so, λ some. recover_wants si so (m some) some),
+          subst (λ (ms : List ℕ). RecoverLawful ms i.wire o.wire) (sym same) (recover_moved first x i o law si so),
+        )
+
+    -- one that follows a move or none: its row is its kind's own, or it has no move and its input failed, or it cannot make its move
+    module _ (plans : Plans) (left_is : left g w plans k ≡ x.left) where
+      abbrev Row : List Outlook → Type 0
+      Row comes = (EachWire IsShut (i.wire ∷ []) × EachWire IsShut (o.wire ∷ [])) ⊎ RowRestsBy g w plans k n.kind n.decider comes (i.wire ∷ []) (o.wire ∷ [])
+
+      abbrev Own : Type 0
+      Own = RoleRests g w k (role.a_flow (role.recovers recover_kind.element)) n.decider (i.wire ∷ []) (o.wire ∷ [])
+
+      -- by its role, and by what it follows still
+      as_row : (comes : List Outlook) → RecoverRestsBy (next_move x.left) (w.moves k) comes Own (i.wire ∷ []) ⊎ RecoverCause (next_move x.left) comes → RowRestsBy g w plans k n.kind n.decider comes (i.wire ∷ []) (o.wire ∷ [])
+      as_row comes h =
+          subst (λ (t : Role). RoleRestsBy g w comes (next_move (left g w plans k)) k t n.decider (i.wire ∷ []) (o.wire ∷ []) ⊎ RoleMisfits g w (left g w plans k) k t comes) (sym recover_kind.role_is)
+          (subst (λ (l : Option (List ℕ)). RecoverRestsBy (next_move l) (w.moves k) comes Own (i.wire ∷ []) ⊎ RecoverCause (next_move l) comes) (sym left_is) h)
+
+      own_row : (next : Next) (comes : List Outlook) → Own → RecoverRestsBy next (w.moves k) comes Own (i.wire ∷ [])
+      own_row Free comes h = h
+      own_row (Move m) comes h = h
+      own_row UsedUp comes h = inl h
+
+      moves_on : (comes : List Outlook) → (EachWire IsShut (i.wire ∷ []) × EachWire IsShut (o.wire ∷ [])) ⊎ StageRests (as_it_is 1 true) i.wire o.wire → Row comes
+      moves_on comes (inl h) = inl h
+      moves_on comes (inr h) = inr (as_row comes (inl (own_row (next_move x.left) comes (recover_kind.own_rests g w k n.decider (i.wire ∷ []) (o.wire ∷ []) h))))
+
+      -- without a move, behind a failure
+      without : (next : Next) (comes : List Outlook) → StillBy next false i.view → w.moves k ≡ [] → ShutByFailure comes (i.wire ∷ []) → RecoverRestsBy next (w.moves k) comes Own (i.wire ∷ [])
+      without Free comes s none h = absurd s
+      without (Move m) comes s none h = let no : false ≡ true = s.0 in cc
+      without UsedUp comes s none h = inr (none, h)
+
+      rests_still : (comes : List Outlook) → AllMayPass comes (i.got ∷ []) → InStands i → InRests i → (stuck : Bool) → x.stuck ≡ stuck → x.still ≡ true → Row comes
+      rests_still comes may si ri true e still = inr (as_row comes (inr (states_stop comes (Recovering first) (Recovering x) (record { ins = i.view ∷ []; outs = o.view ∷ [] }) (i.got ∷ []) (o.sent ∷ []) r law may e)))
+      rests_still comes may si ri false e still =
+          let stands : recover_in true x i.view o.view = subst (λ (b : Bool). recover_in b x i.view o.view) still r.ports in
+          let failed : FailedAt i.view law.by.law.ins = recovers.rests_without first x (record { ins = i.view ∷ []; outs = o.view ∷ [] }) (i.got ∷ []) (o.sent ∷ []) still e r law in
+          inr (as_row comes (inl (without (next_move x.left) comes (subst (λ (b : Bool). StillBy (next_move x.left) b i.view) e stands.1.1) (same ∙ stands.1.0) (shut_by_failure first x i o law comes may si ri failed))))
+
+      led_row : (comes : List Outlook) → AllMayPass comes (i.got ∷ []) → InStands i → OutStands o → InRests i → OutRests o → (still : Bool) → x.still ≡ still → Row comes
+      led_row comes may si so ri ro true e = rests_still comes may si ri x.stuck refl e
+      led_row comes may si so ri ro false e =
+          moves_on comes (recover_stays first x i o law e si so ri ro (recover_ports x i.view o.view r.started (subst (λ b. recover_in b x i.view o.view) e r.ports).0))
+
+      pub recover_led : PictureLawsBy {N = IslandNode S D L B} node_port_state (node_law sources drains w.book) node_asking node_moves sink_ended g w plans k n (node.State (Recovering first)) (node.State (Recovering x)) (i ∷ []) (o ∷ [])
+      recover_led = record {
+        lawful = λ si so m. recover_kind.lawful_by g w plans k n.decider (i.wire ∷ []) (o.wire ∷ []) (recover_row si.0 so.0 (λ some. m 0 (reached i si.0 some)));
+        rests = λ comes may si so ri ro. led_row comes may si.0 so.0 ri.0 ro.0 x.still refl;
+        matches = λ sink ri. absurd (not_both recover_kind.no_sink sink);
+      }
+
+    recover_picture : first.left ≡ None → Laws (node.State (Recovering first)) (node.State (Recovering x)) (i ∷ []) (o ∷ [])
+    recover_picture bare = record {
+      lawful = λ si so m. recover_row si.0 so.0 (λ some. m 0 (reached i si.0 some));
+      rests = λ si so ri ro. recover_still (recover_rests first x i o law bare si.0 so.0 ri.0 ro.0 r);
       matches = λ sink ri. absurd (not_both recover_kind.no_sink sink);
     }
 
-  one_picture_of : (first x : StateLogic) (i : InPort) (o : OutPort) → FirstState k n first → Told w k x → StatePortState x (record { ins = i.view ∷ []; outs = o.view ∷ [] })
+  none_left : (moves : List ℕ) (left : Option (List ℕ)) → plan_of moves left ≡ None → left ≡ None
+  none_left moves None e = refl
+  none_left moves (Some l) e = cc
+
+  one_picture_of : (first x : StateLogic) (i : InPort) (o : OutPort) → FirstState k n first → state_plan first ≡ None → Told w k x → StatePortState x (record { ins = i.view ∷ []; outs = o.view ∷ [] })
       → StateLaw first x (record { ins = i.view ∷ []; outs = o.view ∷ [] }) (i.got ∷ []) (o.sent ∷ []) → Laws (node.State first) (node.State x) (i ∷ []) (o ∷ [])
-  one_picture_of (Machine first) (Machine x) i o f told r law = one_picture first x i o f.begins.as_kind.0 f.begins.as_kind.1 r law
-  one_picture_of (Dropping first) (Dropping x) i o f told r law = drops_picture first x i o f.begins.as_kind (told x.moves refl) r law
-  one_picture_of (Recovering first) (Recovering x) i o f told r law = recover_picture first x i o f.begins.as_kind (told x.moves refl) r law
-  one_picture_of (Obeying first) (Obeying x) i o f told r law = valve_picture L B sources drains g w k n first x i o f.begins.as_kind (told x.moves refl) r law
-  one_picture_of (Tripping first) (Tripping x) i o f told r law = trip_picture L B sources drains g w k n first x i o f.begins.as_kind r law
-  one_picture_of first x i o f told r law = absurd law
+  one_picture_of (Machine first) (Machine x) i o f bare told r law = let b = led_machine n.kind k n.decider first f.begins.as_kind in one_picture first x i o b.0 b.1 r law
+  one_picture_of (Dropping first) (Dropping x) i o f bare told r law = drops_picture first x i o f.begins.as_kind (told x.log.moves refl) r law (none_left first.log.moves first.log.left bare)
+  one_picture_of (Recovering first) (Recovering x) i o f bare told r law = recover_picture first x i o f.begins.as_kind (told x.moves refl) r law (none_left first.moves first.left bare)
+  one_picture_of (Obeying first) (Obeying x) i o f bare told r law = valve_picture L B sources drains g w k n first x i o f.begins.as_kind (told x.moves refl) r law (none_left first.moves first.left bare)
+  one_picture_of (Tripping first) (Tripping x) i o f bare told r law = trip_picture L B sources drains g w k n first x i o (led_trip n.kind k n.decider first f.begins.as_kind) r law
+  one_picture_of first x i o f bare told r law = absurd law
 
   -- it has one input and one output
-  abbrev NotOne : StateLogic → List InPort → List OutPort → Type 0
+  abbrev pub NotOne : StateLogic → List InPort → List OutPort → Type 0
   NotOne x is os = StatePortState x (record { ins = map (λ (i : InPort). i.view) is; outs = map (λ (o : OutPort). o.view) os }) → ⊥
 
-  no_input : (x : StateLogic) (os : List OutPort) → NotOne x [] os
+  pub no_input : (x : StateLogic) (os : List OutPort) → NotOne x [] os
   no_input (Machine x) os r = r.ports
   no_input (Dropping x) os r = r.ports
   no_input (Recovering x) os r = r.ports
   no_input (Obeying x) os r = r.ports.0
   no_input (Tripping x) os r = r.ports
 
-  no_output : (x : StateLogic) (i : InPort) → NotOne x (i ∷ []) []
+  pub no_output : (x : StateLogic) (i : InPort) → NotOne x (i ∷ []) []
   no_output (Machine x) i r = r.ports
   no_output (Dropping x) i r = r.ports
   no_output (Recovering x) i r = r.ports
   no_output (Obeying x) i r = r.ports.0
   no_output (Tripping x) i r = r.ports
 
-  two_outputs : (x : StateLogic) (i : InPort) (o p : OutPort) (os : List OutPort) → NotOne x (i ∷ []) (o ∷ p ∷ os)
+  pub two_outputs : (x : StateLogic) (i : InPort) (o p : OutPort) (os : List OutPort) → NotOne x (i ∷ []) (o ∷ p ∷ os)
   two_outputs (Machine x) i o p os r = r.ports
   two_outputs (Dropping x) i o p os r = r.ports
   two_outputs (Recovering x) i o p os r = r.ports
   two_outputs (Obeying x) i o p os r = r.ports.0
   two_outputs (Tripping x) i o p os r = r.ports
 
-  two_inputs : (x : StateLogic) (i j : InPort) (is : List InPort) (os : List OutPort) → NotOne x (i ∷ j ∷ is) os
+  pub two_inputs : (x : StateLogic) (i j : InPort) (is : List InPort) (os : List OutPort) → NotOne x (i ∷ j ∷ is) os
   two_inputs (Machine x) i j is os r = r.ports
   two_inputs (Dropping x) i j is os r = r.ports
   two_inputs (Recovering x) i j is os r = r.ports
   two_inputs (Obeying x) i j is os r = r.ports.0
   two_inputs (Tripping x) i j is os r = r.ports
 
-  pub state_picture : (first x : StateLogic) (is : List InPort) (os : List OutPort) → FirstState k n first → Told w k x → StatePortState x (record { ins = map (λ (i : InPort). i.view) is; outs = map (λ (o : OutPort). o.view) os })
+  pub state_picture : (first x : StateLogic) (is : List InPort) (os : List OutPort) → FirstState k n first → state_plan first ≡ None → Told w k x → StatePortState x (record { ins = map (λ (i : InPort). i.view) is; outs = map (λ (o : OutPort). o.view) os })
       → StateLaw first x (record { ins = map (λ (i : InPort). i.view) is; outs = map (λ (o : OutPort). o.view) os }) (map (λ (i : InPort). i.got) is) (map (λ (o : OutPort). o.sent) os) → Laws (node.State first) (node.State x) is os
-  state_picture first x (i ∷ []) (o ∷ []) f told r law = one_picture_of first x i o f told r law
-  state_picture first x [] os f told r law = absurd (no_input x os r)
-  state_picture first x (i ∷ []) [] f told r law = absurd (no_output x i r)
-  state_picture first x (i ∷ []) (o ∷ p ∷ os) f told r law = absurd (two_outputs x i o p os r)
-  state_picture first x (i ∷ j ∷ is) os f told r law = absurd (two_inputs x i j is os r)
+  state_picture first x (i ∷ []) (o ∷ []) f bare told r law = one_picture_of first x i o f bare told r law
+  state_picture first x [] os f bare told r law = absurd (no_input x os r)
+  state_picture first x (i ∷ []) [] f bare told r law = absurd (no_output x i r)
+  state_picture first x (i ∷ []) (o ∷ p ∷ os) f bare told r law = absurd (two_outputs x i o p os r)
+  state_picture first x (i ∷ j ∷ is) os f bare told r law = absurd (two_inputs x i j is os r)

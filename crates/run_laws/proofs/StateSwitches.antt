@@ -20,12 +20,13 @@ use Rattle.stream_model.specs.FanIn.{Inflow, AllAgree}
 use Rattle.stream_model.specs.Picks.{valve_fits}
 use Rattle.stage_core.specs.Law.{Law}
 use Rattle.stage_core.proofs.Whole.{stage_agrees}
-use Rattle.stage_switch.specs.Valves.{ValveHeld, passes, shut, ValveKeeps}
+use Rattle.stage_switch.specs.Valves.{ValveHeld, passes, stopped, shut, ValveKeeps}
 use Rattle.stage_switch.specs.States.{Valve, valve_held, Trip, trip_held}
 use Rattle.stage_switch.specs.Handling.{ValveAs, TripAs, trip_kind}
 use Rattle.stage_switch.proofs.Outlooks as valves
 use Rattle.stage_state.specs.declared.logic.StateLogic.TheVariants.{Obeying, Tripping}
 use Rattle.stage_state.specs.Logics.{BeginsAs}
+use Rattle.run_laws.specs.Made.{LedAs}
 use Rattle.run_laws.specs.Items.{AllMayPass, AgreesWith}
 use Rattle.run_laws.specs.KindLaws.{IsOneMachine, RunLaws}
 use Rattle.run_laws.proofs.InRuns.{one_given}
@@ -40,20 +41,23 @@ pub record ValveFirst (k : ℕ) (kd : Kind) (x : Valve) : Type 0 where
   pub kind_is : kd ≡ kind.Valve name
   pub node : x.node ≡ k
 
-pub valve_first : (k : ℕ) (kd : Kind) (d : Decider) (x : Valve) → BeginsAs kd k d (Obeying x) → ValveFirst k kd x
+pub valve_first : (k : ℕ) (kd : Kind) (d : Decider) (x : Valve) → LedAs kd k d (Obeying x) → ValveFirst k kd x
 valve_first k (kind.Valve name) d x b = record { name = name; kind_is = refl; node = ap (λ (y : Valve). y.node) b.1 }
 valve_first k _ d x b = absurd b
 
 -- it has one input
-one_flow : (node : ℕ) (x : ValveHeld) (fs : List Inflow) (g : List Tree) (e : End) → ValveKeeps node x fs g e → length fs ≡ 1
+pub one_flow : (node : ℕ) (x : ValveHeld) (fs : List Inflow) (g : List Tree) (e : End) → ValveKeeps node x fs g e → length fs ≡ 1
 one_flow node (passes n) [] g e h = absurd h
 one_flow node (passes n) (f ∷ []) g e h = refl
 one_flow node (passes n) (f ∷ i ∷ fs) g e h = absurd h
+one_flow node (stopped n) [] g e h = absurd h
+one_flow node (stopped n) (f ∷ []) g e h = refl
+one_flow node (stopped n) (f ∷ i ∷ fs) g e h = absurd h
 one_flow node (shut a) [] g e h = absurd h
 one_flow node (shut a) (f ∷ []) g e h = refl
 one_flow node (shut a) (f ∷ i ∷ fs) g e h = absurd h
 
-one_outlook : (os : List Outlook) (fs : List Inflow) → length fs ≡ 1 → AllAgree os fs → (o : Outlook) × (os ≡ o ∷ [])
+pub one_outlook : (os : List Outlook) (fs : List Inflow) → length fs ≡ 1 → AllAgree os fs → (o : Outlook) × (os ≡ o ∷ [])
 one_outlook [] [] n a = absurd (omega (arith, n))
 one_outlook [] (f ∷ fs) n a = absurd a
 one_outlook (o ∷ []) fs n a = (o, refl)
@@ -61,7 +65,7 @@ one_outlook (o ∷ x ∷ os) [] n a = absurd a
 one_outlook (o ∷ x ∷ os) (f ∷ []) n a = absurd a.1
 one_outlook (o ∷ x ∷ os) (f ∷ i ∷ fs) n a = absurd (omega (arith, n))
 
-module _ (g : Graph) (w : World) (k : ℕ) (n : graph.Node) (first now : Valve) (v : View) (took gave : List (List Item)) (begins : BeginsAs n.kind k n.decider (Obeying first)) (same : w.moves k ≡ now.moves) (law : ValveAs first now v took gave) where
+module _ (g : Graph) (w : World) (k : ℕ) (n : graph.Node) (first now : Valve) (v : View) (took gave : List (List Item)) (begins : LedAs n.kind k n.decider (Obeying first)) (same : w.moves k ≡ now.moves) (law : ValveAs first now v took gave) where
   f : ValveFirst k n.kind first
   f = valve_first k n.kind n.decider first begins
 

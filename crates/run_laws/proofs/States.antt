@@ -28,7 +28,9 @@ use Rattle.stage_state.specs.Moves.{state_picks}
 use Rattle.stage_state.specs.Handling.{StateLaw}
 use Rattle.stage_state.specs.MachineNodes.{MachineLaw}
 use Rattle.run_laws.specs.KindLaws.{RunLaws}
-use Rattle.run_laws.specs.Made.{FirstState}
+use Rattle.run_laws.specs.Made.{FirstState, LedAs}
+use Rattle.stage_state.specs.Logics.{BeginsAs}
+use Rattle.stage_switch.specs.States.{Trip}
 use Rattle.run_laws.specs.Items.{MayPass, AllMayPass, AgreesWith}
 use Rattle.run_laws.proofs.Machines.{IsKeeping, keeping_machine}
 use Rattle.run_laws.proofs.Readings.{one_port}
@@ -131,10 +133,19 @@ module _ (g : Graph) (w : World) (k : ℕ) (n : graph.Node) (first now : Logic) 
 abbrev pub Told : World → ℕ → StateLogic → Type 0
 Told w k now = (moves : List ℕ) → state_picks now ≡ Some moves → w.moves k ≡ moves
 
+-- a stage that makes no choice follows nothing
+pub led_machine : (kd : Kind) (k : ℕ) (d : Decider) (x : Logic) → LedAs kd k d (Machine x) → BeginsAs kd k d (Machine x)
+led_machine (Buffer n p) k d x b = b
+led_machine kd k d x b = b
+
+pub led_trip : (kd : Kind) (k : ℕ) (d : Decider) (x : Trip) → LedAs kd k d (Tripping x) → BeginsAs kd k d (Tripping x)
+led_trip (Buffer n p) k d x b = b
+led_trip kd k d x b = b
+
 pub state_laws : (g : Graph) (w : World) (k : ℕ) (n : graph.Node) (first now : StateLogic) (v : View) (took gave : List (List Item)) → FirstState k n first → Told w k now → StateLaw first now v took gave → RunLaws g w k n took gave
-state_laws g w k n (Machine first) (Machine now) v took gave made told law = machine_laws g w k n first now v took gave made.begins.as_kind.0 made.begins.as_kind.1 law
-state_laws g w k n (Dropping first) (Dropping now) v took gave made told law = dropping_laws g w k n first now v took gave made.begins.as_kind (told now.moves refl) law
+state_laws g w k n (Machine first) (Machine now) v took gave made told law = let b = led_machine n.kind k n.decider first made.begins.as_kind in machine_laws g w k n first now v took gave b.0 b.1 law
+state_laws g w k n (Dropping first) (Dropping now) v took gave made told law = dropping_laws g w k n first now v took gave made.begins.as_kind (told now.log.moves refl) law
 state_laws g w k n (Recovering first) (Recovering now) v took gave made told law = recover_laws g w k n first now v took gave made.begins.as_kind (told now.moves refl) law
 state_laws g w k n (Obeying first) (Obeying now) v took gave made told law = valve_laws g w k n first now v took gave made.begins.as_kind (told now.moves refl) law
-state_laws g w k n (Tripping first) (Tripping now) v took gave made told law = trip_laws g w k n first now v took gave made.begins.as_kind law
+state_laws g w k n (Tripping first) (Tripping now) v took gave made told law = trip_laws g w k n first now v took gave (led_trip n.kind k n.decider first made.begins.as_kind) law
 state_laws g w k n first now v took gave made told law = absurd law

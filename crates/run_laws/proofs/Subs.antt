@@ -25,7 +25,10 @@ use Rattle.stream_model.proofs.SubTraces.{concat_trace, merged_trace}
 use Rattle.stream_model.proofs.Agreeing.{sub_moves_fit}
 use Rattle.stream_model.specs.View as picture
 use Rattle.stream_model.specs.Lawful.{RowLawful, StageLawful, SubsLawful}
+use Rattle.stream_model.specs.Linear.{role_of}
 use Rattle.stream_model.specs.OneWay.{of_machine, is_sink}
+use Rattle.port_core.specs.declared.pick_log.Next.{Next}
+use Rattle.run_laws.specs.Replayed.{Plans, subs_rest, subs_misfit, RoleLawfulBy, RoleRestsBy, RoleMisfits}
 use Rattle.stream_model.specs.Rests.{RowRests, StageRests, OneToOne}
 use Rattle.stage_core.specs.Held.{owing}
 use Rattle.step_work.specs.Means.{Means}
@@ -36,25 +39,27 @@ use Rattle.stage_sub.specs.declared.opening.OpenBy.TheVariants.{Before, Behind, 
 use Rattle.stage_sub.specs.KeptSubs.{opening_of}
 use Rattle.stage_sub.specs.Joined.{untag}
 use Rattle.stage_sub.specs.States.{Logic, Owes, begun}
-use Rattle.stage_sub.specs.Handling.{BeginsAs, ChoosesAs, SubLaw, TellsMachine, new_log}
+use Rattle.stage_sub.specs.Handling.{BeginsAs, ChoosesAs, SubLaw, SubPortState, TellsMachine, new_log}
+use Rattle.stage_sub.specs.Leds.{Led, port_state_by}
+use Rattle.stage_sub.specs.LedLaws.{LedPortState}
 use Rattle.stage_sub.proofs.Beginning.{begun_owes}
 use Rattle.stage_sub.proofs.Standing.{concat_stands, merge_stands}
 use Rattle.line_chain.specs.Line.{Line, line_whole, line_rest, line_is_open, no_plugs, IsLine}
 use Rattle.run_laws.specs.Items.{AllMayPass, MayPass, AgreesWith}
 use Rattle.run_laws.specs.KindLaws.{RunLaws, HearsAll}
 use Rattle.run_laws.proofs.InRuns.{one_given}
-use Rattle.run_laws.specs.Made.{FirstSub, chain_name}
+use Rattle.run_laws.specs.Made.{chain_name}
 use Rattle.run_laws.proofs.Ports.{heard_one}
 use Rattle.run_laws.proofs.Stages.{one_input}
 
 -- ---- by its kind
 
 -- the outlook of its output, and whether its moves fit, by the way of joining
-abbrev outlook_by : Joining → (List Tree → End → Given Tree) → ℕ → Opening → List ℕ → Outlook → Outlook
+abbrev pub outlook_by : Joining → (List Tree → End → Given Tree) → ℕ → Opening → List ℕ → Outlook → Outlook
 outlook_by Merge c node o moves i = merge_subs c node o moves i
 outlook_by Concat c node o moves i = concat_subs c node o i
 
-abbrev fits_by : Joining → (List Tree → End → Given Tree) → ℕ → Opening → List ℕ → Outlook → Bool
+abbrev pub fits_by : Joining → (List Tree → End → Given Tree) → ℕ → Opening → List ℕ → Outlook → Bool
 fits_by Merge c node o moves i = subs_fit c node o moves i
 fits_by Concat c node o moves i = true
 
@@ -62,24 +67,27 @@ fits_by Concat c node o moves i = true
 abbrev pub yields_of : Graph → World → ℕ → Kind → List Tree → End → Given Tree
 yields_of g w k kd = through w.book (chain_of k (steps_of (chain_name kd) g.chains))
 
--- a kind with substreams that open and are joined so: in a run, and in a picture
+-- a kind with substreams that open and are joined so: in a run, and in a picture, where it may follow moves
 pub record IsSubKind (kd : Kind) (o : Opening) (j : Joining) : Type 0 where
   pub no_sink : is_sink kd ≡ false
   pub outlook : (g : Graph) (w : World) (k : ℕ) (d : Decider) (os : List Outlook) (p : ℕ) → node_outlook g w k kd d os p ≡ outlook_by j (yields_of g w k kd) k o (w.moves k) (head_of os)
   pub fits : (g : Graph) (w : World) (k : ℕ) (os : List Outlook) → moves_fit g w k kd os ≡ fits_by j (yields_of g w k kd) k o (w.moves k) (head_of os)
   pub lawful : (g : Graph) (w : World) (k : ℕ) (d : Decider) (is os : List picture.SeenWire) → OneToOne (StageLawful (of_machine (substreams (yields_of g w k kd) o) (begin_subs (yields_of g w k kd) k) true)) is os → OneToOne (SubsLawful j (w.moves k)) is os → RowLawful g w k kd d is os
   pub rests : (g : Graph) (w : World) (k : ℕ) (d : Decider) (is os : List picture.SeenWire) → OneToOne (StageRests (of_machine (substreams (yields_of g w k kd) o) (begin_subs (yields_of g w k kd) k) true)) is os → RowRests g w k kd d is os
+  pub lawful_by : (g : Graph) (w : World) (plans : Plans) (k : ℕ) (d : Decider) (is os : List picture.SeenWire) → RowLawful g w k kd d is os → RoleLawfulBy g w plans k (role_of kd) d is os
+  pub rests_by : (g : Graph) (w : World) (comes : List Outlook) (next : Next) (k : ℕ) (d : Decider) (is os : List picture.SeenWire) → subs_rest g w comes next j (RowRests g w k kd d is os) os → RoleRestsBy g w comes next k (role_of kd) d is os
+  pub misfits : (g : Graph) (w : World) (left : Option (List ℕ)) (k : ℕ) (comes : List Outlook) → subs_misfit g w left k j o (chain_name kd) comes → RoleMisfits g w left k (role_of kd) comes
 
 group_kind : (n : ℕ) (f : MapFn) (name : List ℕ) → IsSubKind (GroupBy n f name) (by_key n f) Merge
-group_kind n f name = record { no_sink = refl; outlook = λ g w k d os p. refl; fits = λ g w k os. refl; lawful = λ g w k d is os r m. (r, m); rests = λ g w k d is os r. r }
+group_kind n f name = record { no_sink = refl; outlook = λ g w k d os p. refl; fits = λ g w k os. refl; lawful = λ g w k d is os r m. (r, m); rests = λ g w k d is os r. r; lawful_by = λ g w plans k d is os h. h; rests_by = λ g w comes next k d is os h. h; misfits = λ g w left k comes h. h }
 
 when_kind : (p : Pred) (name : List ℕ) (j : Joining) → IsSubKind (SplitWhen p name j) (before p) j
-when_kind p name Merge = record { no_sink = refl; outlook = λ g w k d os p. refl; fits = λ g w k os. refl; lawful = λ g w k d is os r m. (r, m); rests = λ g w k d is os r. r }
-when_kind p name Concat = record { no_sink = refl; outlook = λ g w k d os p. refl; fits = λ g w k os. refl; lawful = λ g w k d is os r m. (r, m); rests = λ g w k d is os r. r }
+when_kind p name Merge = record { no_sink = refl; outlook = λ g w k d os p. refl; fits = λ g w k os. refl; lawful = λ g w k d is os r m. (r, m); rests = λ g w k d is os r. r; lawful_by = λ g w plans k d is os h. h; rests_by = λ g w comes next k d is os h. h; misfits = λ g w left k comes h. h }
+when_kind p name Concat = record { no_sink = refl; outlook = λ g w k d os p. refl; fits = λ g w k os. refl; lawful = λ g w k d is os r m. (r, m); rests = λ g w k d is os r. r; lawful_by = λ g w plans k d is os h. h; rests_by = λ g w comes next k d is os h. h; misfits = λ g w left k comes h. h }
 
 after_kind : (p : Pred) (name : List ℕ) (j : Joining) → IsSubKind (SplitAfter p name j) (behind p) j
-after_kind p name Merge = record { no_sink = refl; outlook = λ g w k d os p. refl; fits = λ g w k os. refl; lawful = λ g w k d is os r m. (r, m); rests = λ g w k d is os r. r }
-after_kind p name Concat = record { no_sink = refl; outlook = λ g w k d os p. refl; fits = λ g w k os. refl; lawful = λ g w k d is os r m. (r, m); rests = λ g w k d is os r. r }
+after_kind p name Merge = record { no_sink = refl; outlook = λ g w k d os p. refl; fits = λ g w k os. refl; lawful = λ g w k d is os r m. (r, m); rests = λ g w k d is os r. r; lawful_by = λ g w plans k d is os h. h; rests_by = λ g w comes next k d is os h. h; misfits = λ g w left k comes h. h }
+after_kind p name Concat = record { no_sink = refl; outlook = λ g w k d os p. refl; fits = λ g w k os. refl; lawful = λ g w k d is os r m. (r, m); rests = λ g w k d is os r. r; lawful_by = λ g w plans k d is os h. h; rests_by = λ g w comes next k d is os h. h; misfits = λ g w left k comes h. h }
 
 -- a stage of such a kind at its start
 pub record SubFirst (k : ℕ) (kd : Kind) (chain : Line) (x : Logic Line) : Type 0 where
@@ -93,6 +101,10 @@ sub_first k (GroupBy n f name) chain x b = record { how = Key n f; join = Merge;
 sub_first k (SplitWhen p name j) chain x b = record { how = Before p; join = j; kind = when_kind p name j; is = b }
 sub_first k (SplitAfter p name j) chain x b = record { how = Behind p; join = j; kind = after_kind p name j; is = b }
 sub_first k _ chain x b = absurd b
+
+-- where nothing is followed, what it knows of its ports is what its logic knows
+pub unled_ports : (l : Led Line) (v : View) → l.left ≡ None → LedPortState line_rest line_is_open l v → SubPortState line_rest line_is_open l.logic v
+unled_ports l v none r = record { started = r.started; ready = r.ready; ports = subst (λ (p : Option (List ℕ)). port_state_by p l v) none r.ports }
 
 -- ---- what its law tells, by its chain
 
@@ -117,8 +129,8 @@ module _ (k : ℕ) (first now : Logic Line) (v : View) (took gave : List (List I
       let its = (tells_by (line_whole first.chain) (through no_plugs first.chain.starts) same (chain_means no_plugs first.chain.starts)).law in
       heard_one v took law.took_list law.took_is (record { list = its.in_list; end = its.in_end; is = its.took_is; as_seen = its.took_as }) p h at
 
-pub sub_hears : (chains : List graph.Chain) (k : ℕ) (n : graph.Node) (first now : Logic Line) (v : View) (took gave : List (List Item)) → FirstSub chains k n first → SubLaw line_rest line_is_open line_whole first now v took gave → HearsAll v took
-sub_hears chains k n first now v took gave made law = let f = sub_first k n.kind first.chain first made.begins.as_kind in hears_of k first now v took gave f.how f.join f.is law
+pub sub_hears : (k : ℕ) (n : graph.Node) (first now : Logic Line) (v : View) (took gave : List (List Item)) → BeginsAs n.kind k first.chain first → SubLaw line_rest line_is_open line_whole first now v took gave → HearsAll v took
+sub_hears k n first now v took gave begins law = let f = sub_first k n.kind first.chain first begins in hears_of k first now v took gave f.how f.join f.is law
 
 -- ---- in a run
 
@@ -128,16 +140,16 @@ logs_on (Some l) (Some ms) c e = (ms, refl)
 logs_on (Some l) None c e = absurd c
 logs_on None now c e = cc
 
-module _ (g : Graph) (w : World) (k : ℕ) (n : graph.Node) (first now : Logic Line) (v : View) (took gave : List (List Item)) (made : FirstSub g.chains k n first) (told_moves : (ms : List ℕ) → now.moves ≡ Some ms → w.moves k ≡ ms)
-    (law : SubLaw line_rest line_is_open line_whole first now v took gave) where
+module _ (g : Graph) (w : World) (k : ℕ) (n : graph.Node) (first now : Logic Line) (v : View) (took gave : List (List Item)) (begins : BeginsAs n.kind k first.chain first) (line : IsLine k (steps_of (chain_name n.kind) g.chains) first.chain)
+    (told_moves : (ms : List ℕ) → now.moves ≡ Some ms → w.moves k ≡ ms) (law : SubLaw line_rest line_is_open line_whole first now v took gave) where
   f : SubFirst k n.kind first.chain first
-  f = sub_first k n.kind first.chain first made.begins.as_kind
+  f = sub_first k n.kind first.chain first begins
 
   abbrev yields : List Tree → End → Given Tree
   yields = yields_of g w k n.kind
 
   its : TellsMachine line_rest line_is_open (list_function w.book (chain_of k (steps_of (chain_name n.kind) g.chains))) yields (begin_subs yields k) first now v law.took_list law.gave_list
-  its = tells_of k first now v took gave f.how f.join f.is law w.book (steps_of (chain_name n.kind) g.chains) made.line
+  its = tells_of k first now v took gave f.how f.join f.is law w.book (steps_of (chain_name n.kind) g.chains) line
 
   how_is : opening_of first.how ≡ opening_of f.how
   how_is = ap (λ (x : Logic Line). opening_of x.how) f.is

@@ -1,7 +1,7 @@
 -- What a valve and a trip give of their laws for a picture. A valve gives no more than came, and where it acted just what its moves
 -- count; while it waits it gave all that came. A trip is a machine that passes all on.
 use Rattle.std.specs.Prelude.{if◌then◌else◌}
-use Rattle.std.proofs.Common.{◌≡◌, ◌≢◌, ◌⊎◌, inl, inr, ℕ, ◌+◌, ◌-◌, ◌<◌, ◌≤◌, Bool, true, false, List, [], ◌∷◌, length, take, refl, sym, ap, ◌∙◌, subst, arith}
+use Rattle.std.proofs.Common.{◌≡◌, ◌≢◌, ◌⊎◌, inl, inr, ℕ, ◌+◌, ◌-◌, ◌<◌, ◌≤◌, Bool, true, false, Option, None, Some, List, [], ◌∷◌, length, take, refl, sym, ap, ◌∙◌, subst, arith}
 use Rattle.std.proofs.lemmas.List.{length-take-le}
 use Rattle.elem_core.proofs.Prefixes.{prefix_length}
 use Rattle.elem_core.specs.Tree.{Tree}
@@ -18,10 +18,11 @@ use Rattle.stream_model.specs.declared.kind.Kind.TheVariants as kind
 use Rattle.stream_model.specs.Graph.{Graph}
 use Rattle.stream_model.specs.Graph as graph
 use Rattle.stream_model.specs.FanIn.{Inflow}
-use Rattle.stream_model.specs.Linear.{Book, passing, linear, begin_work}
+use Rattle.stream_model.specs.Linear.{Book, passing, linear, begin_work, role_of}
 use Rattle.stream_model.specs.Machine.{is_going, run}
 use Rattle.stream_model.specs.Node.{World}
-use Rattle.stream_model.specs.Outlook.{End, unended, ended, failed}
+use Rattle.stream_model.specs.Outlook.{Outlook, End, unended, ended, failed}
+use Rattle.port_core.specs.Picks.{second_move}
 use Rattle.stream_model.specs.Picks.{Acted, untouched, completed, aborted, acted, ValveStands}
 use Rattle.stream_model.specs.View as picture
 use Rattle.stream_model.specs.View.{EachWire, demand, wanted}
@@ -32,17 +33,21 @@ use Rattle.stage_core.specs.Law.{Law}
 use Rattle.stage_core.specs.Row.{InClosed, OutClosed}
 use Rattle.stage_core.specs.declared.phase.Phase.{Phase}
 use Rattle.stage_core.specs.declared.phase.Phase.TheVariants.{New, Open, Closed}
-use Rattle.stage_switch.specs.Valves.{ValveKeeps, ValveStandsOf, PassedAll}
-use Rattle.stage_switch.specs.States.{Valve, valve_held, passing_port_state, Trip, trip_held, trip_held_in, trip_stage}
+use Rattle.stage_switch.specs.Valves.{ValveCause, ValveKeeps, ValveStandsOf, PassedAll}
+use Rattle.stage_switch.specs.States.{Valve, counted_next, valve_held, passing_port_state, Trip, trip_held, trip_held_in, trip_stage}
 use Rattle.stage_switch.specs.Handling.{ValvePortState, ValveAs, TripPortState, TripAs}
 use Rattle.stage_switch.proofs.Outlooks as valves
-use Rattle.stage_switch.proofs.Rows.{valve_waits}
+use Rattle.stage_switch.proofs.Rows.{valve_waits, going_ports}
 use Rattle.stage_state.specs.declared.logic.StateLogic.TheVariants.{Obeying, Tripping}
 use Rattle.stage_state.specs.Logics.{BeginsAs}
 use Rattle.nodes.specs.declared.node.IslandNode.{IslandNode}
 use Rattle.nodes.specs.declared.node.IslandNode.TheVariants as node
 use Rattle.nodes.specs.Nodes.{node_port_state, node_law, node_asking, node_moves}
-use Rattle.run_laws.specs.KindLaws.{IsOneMachine, Moments, PictureLaws}
+use Rattle.run_laws.specs.Made.{LedAs}
+use Rattle.run_laws.specs.Items.{AllMayPass}
+use Rattle.run_laws.specs.KindLaws.{IsOneMachine, Moments, PictureLaws, PictureLawsBy}
+use Rattle.run_laws.specs.Replayed.{Plans, left, OrderCause, RoleLawfulBy, RowRestsBy}
+use Rattle.run_laws.proofs.Misfits.{states_stop}
 use Rattle.run_laws.specs.Ports.{InPort, OutPort, InStands, OutStands, InRests, OutRests}
 use Rattle.run_laws.proofs.StateSwitches.{ValveFirst, valve_first, TripFirst, trip_first, trip_machine}
 use Rattle.run_laws.specs.Picture.{sink_ended}
@@ -116,6 +121,19 @@ all_sent : (i : InPort) (m : ℕ) (b : Bool) → InStands i → m ≤ i.wire.sen
 all_sent i m true si few = let some = length-take-le i.wire.sent i.wire.list si.within in omega (arith, some, few)
 all_sent i m false si few = let some = length-take-le i.wire.sent i.wire.list si.within in omega (arith, some, few)
 
+-- nothing is over before no element
+no_cause : (os : List Outlook) → ValveCause 0 os → ⊥
+no_cause [] h = h
+no_cause (o ∷ []) h = let few = h.1.0 in absurd (omega (arith, few))
+no_cause (o ∷ p ∷ os) h = h
+
+-- the cause of a valve's stop is that of its second move
+pub order_cause : (left : Option (List ℕ)) (os : List Outlook) → ValveCause (counted_next left) os → OrderCause (second_move left) os
+order_cause (Some (m ∷ j ∷ l)) os h = h
+order_cause None os h = absurd (no_cause os h)
+order_cause (Some []) os h = absurd (no_cause os h)
+order_cause (Some (m ∷ [])) os h = absurd (no_cause os h)
+
 moved_by : (ms : List ℕ) (n : ℕ) (i o : picture.SeenWire) → ((order m : ℕ) → ms ≡ order ∷ m ∷ [] → n ≡ m) → o.sent ≡ n → ValveLawful ms i o
 moved_by [] n i o c s = tt
 moved_by (a ∷ []) n i o c s = tt
@@ -136,7 +154,7 @@ module _ {S D : Type 0} (L B : Type 0) (sources : S → SourceState) (drains : D
   valve_now first (node.State (Obeying x)) v took gave r law = record { now = x; port_state_holds = r; law_holds = law }
   valve_now first x v took gave r law = absurd law
 
-  module _ (first x : Valve) (i : InPort) (o : OutPort) (begins : BeginsAs n.kind k n.decider (Obeying first)) (same : w.moves k ≡ x.moves) (r : ValvePortState x (record { ins = i.view ∷ []; outs = o.view ∷ [] }))
+  module _ (first x : Valve) (i : InPort) (o : OutPort) (begins : LedAs n.kind k n.decider (Obeying first)) (same : w.moves k ≡ x.moves) (r : ValvePortState x (record { ins = i.view ∷ []; outs = o.view ∷ [] }))
       (law : ValveAs first x (record { ins = i.view ∷ []; outs = o.view ∷ [] }) (i.got ∷ []) (o.sent ∷ [])) where
     valve_kind : ValveFirst k n.kind first
     valve_kind = valve_first k n.kind n.decider first begins
@@ -193,13 +211,52 @@ module _ {S D : Type 0} (L B : Type 0) (sources : S → SourceState) (drains : D
     valve_still (inl h) = inl h
     valve_still (inr h) = inr (subst (λ (kd : Kind). RowRests g w k kd n.decider (i.wire ∷ []) (o.wire ∷ [])) (sym valve_kind.kind_is) h)
 
-    pub valve_picture : Laws (node.State (Obeying first)) (node.State (Obeying x)) (i ∷ []) (o ∷ [])
-    valve_picture = record {
-      lawful = λ si so m. subst (λ (kd : Kind). RowLawful g w k kd n.decider (i.wire ∷ []) (o.wire ∷ [])) (sym valve_kind.kind_is) (
-        (valve_given si.0 so.0, λ some. valve_wants si.0 so.0 (m 0 (reached i si.0 some)) some),
-        subst (λ (ms : List ℕ). ValveLawful ms i.wire o.wire) (sym same) (valve_moved so.0),
-      );
-      rests = λ si so ri ro. valve_still (valve_stays si.0 so.0 ri.0 ro.0 (passing_ports x.phase i.view o.view r.started r.ports.0));
+    valve_row : InStands i → OutStands o → (1 ≤ demand i.wire → LastAsk) → RowLawful g w k n.kind n.decider (i.wire ∷ []) (o.wire ∷ [])
+    valve_row si so m = subst (λ (kd : Kind). RowLawful g w k kd n.decider (i.wire ∷ []) (o.wire ∷ [])) (sym valve_kind.kind_is) (
+      (valve_given si so, λ some. valve_wants si so (m some) some),
+      subst (λ (ms : List ℕ). ValveLawful ms i.wire o.wire) (sym same) (valve_moved so),
+    )
+
+    valve_rests : x.stuck ≡ false → InStands i → OutStands o → InRests i → OutRests o → (EachWire IsShut (i.wire ∷ []) × EachWire IsShut (o.wire ∷ [])) ⊎ RowRests g w k n.kind n.decider (i.wire ∷ []) (o.wire ∷ [])
+    valve_rests calm si so ri ro = valve_still (valve_stays si so ri ro (passing_ports x.phase i.view o.view r.started (going_ports x.stuck x i.view o.view calm r.ports.0)))
+
+    -- one that follows an order and a count: its row is its kind's own, or its input was over before the count
+    module _ (plans : Plans) (left_is : left g w plans k ≡ x.left) where
+      own_lawful : (kd : Kind) → kd ≡ kind.Valve valve_kind.name → RowLawful g w k kd n.decider (i.wire ∷ []) (o.wire ∷ []) → RoleLawfulBy g w plans k (role_of kd) n.decider (i.wire ∷ []) (o.wire ∷ [])
+      own_lawful kd is h =
+          subst (λ (t : Kind). RoleLawfulBy g w plans k (role_of t) n.decider (i.wire ∷ []) (o.wire ∷ [])) (sym is) (subst (λ (t : Kind). RowLawful g w k t n.decider (i.wire ∷ []) (o.wire ∷ [])) is h)
+
+      own_rests : (kd : Kind) (comes : List Outlook) → kd ≡ kind.Valve valve_kind.name → RowRests g w k kd n.decider (i.wire ∷ []) (o.wire ∷ []) → RowRestsBy g w plans k kd n.decider comes (i.wire ∷ []) (o.wire ∷ [])
+      own_rests kd comes is h =
+          subst (λ (t : Kind). RowRestsBy g w plans k t n.decider comes (i.wire ∷ []) (o.wire ∷ [])) (sym is) (inl (subst (λ (t : Kind). RowRests g w k t n.decider (i.wire ∷ []) (o.wire ∷ [])) is h))
+
+      stopped : (comes : List Outlook) → AllMayPass comes (i.got ∷ []) → x.stuck ≡ true → RowRestsBy g w plans k n.kind n.decider comes (i.wire ∷ []) (o.wire ∷ [])
+      stopped comes may stuck =
+          let cause = states_stop comes (Obeying first) (Obeying x) (record { ins = i.view ∷ []; outs = o.view ∷ [] }) (i.got ∷ []) (o.sent ∷ []) r law may stuck in
+          let here : OrderCause (second_move (left g w plans k)) comes = subst (λ (l : Option (List ℕ)). OrderCause (second_move l) comes) (sym left_is) (order_cause x.left comes cause) in
+          subst (λ (t : Kind). RowRestsBy g w plans k t n.decider comes (i.wire ∷ []) (o.wire ∷ [])) (sym valve_kind.kind_is) (inr here)
+
+      led_rests : (comes : List Outlook) → AllMayPass comes (i.got ∷ []) → InStands i → OutStands o → InRests i → OutRests o → (stuck : Bool) → x.stuck ≡ stuck
+          → (EachWire IsShut (i.wire ∷ []) × EachWire IsShut (o.wire ∷ [])) ⊎ RowRestsBy g w plans k n.kind n.decider comes (i.wire ∷ []) (o.wire ∷ [])
+      led_rests comes may si so ri ro true e = inr (stopped comes may e)
+      led_rests comes may si so ri ro false e = by (valve_rests e si so ri ro)
+        where
+          by : (EachWire IsShut (i.wire ∷ []) × EachWire IsShut (o.wire ∷ [])) ⊎ RowRests g w k n.kind n.decider (i.wire ∷ []) (o.wire ∷ [])
+              → (EachWire IsShut (i.wire ∷ []) × EachWire IsShut (o.wire ∷ [])) ⊎ RowRestsBy g w plans k n.kind n.decider comes (i.wire ∷ []) (o.wire ∷ [])
+          by (inl h) = inl h
+          by (inr h) = inr (own_rests n.kind comes valve_kind.kind_is h)
+
+      pub valve_led : PictureLawsBy {N = IslandNode S D L B} node_port_state (node_law sources drains w.book) node_asking node_moves sink_ended g w plans k n (node.State (Obeying first)) (node.State (Obeying x)) (i ∷ []) (o ∷ [])
+      valve_led = record {
+        lawful = λ si so m. own_lawful n.kind valve_kind.kind_is (valve_row si.0 so.0 (λ some. m 0 (reached i si.0 some)));
+        rests = λ comes may si so ri ro. led_rests comes may si.0 so.0 ri.0 ro.0 x.stuck refl;
+        matches = λ sink ri. let no : is_sink (kind.Valve valve_kind.name) ≡ true = rw valve_kind.kind_is at sink in cc;
+      }
+
+    pub valve_picture : first.left ≡ None → Laws (node.State (Obeying first)) (node.State (Obeying x)) (i ∷ []) (o ∷ [])
+    valve_picture bare = record {
+      lawful = λ si so m. valve_row si.0 so.0 (λ some. m 0 (reached i si.0 some));
+      rests = λ si so ri ro. valve_rests (valves.free_goes_on first x _ _ _ law bare) si.0 so.0 ri.0 ro.0;
       matches = λ sink ri. let no : is_sink (kind.Valve valve_kind.name) ≡ true = rw valve_kind.kind_is at sink in cc;
     }
 

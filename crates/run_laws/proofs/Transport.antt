@@ -1,6 +1,6 @@
 -- A row of a picture that rests, proved once over a stage's own ports, is a row of the picture's wires: a wire shows what the
 -- port shows, or it is a lane, which may be read as idling.
-use Rattle.std.proofs.Common.{◌≡◌, ◌≢◌, ◌⊎◌, inl, inr, ℕ, ◌+◌, ◌≤◌, Bool, true, false, List, [], ◌∷◌, map, None, Some, refl, sym, ap, subst, ◌∙◌, arith}
+use Rattle.std.proofs.Common.{◌≡◌, ◌≢◌, ◌⊎◌, inl, inr, ℕ, zero, suc, ◌+◌, ◌≤◌, Bool, true, false, List, [], ◌∷◌, map, None, Some, refl, sym, ap, subst, ◌∙◌, arith}
 use Rattle.port_core.specs.declared.view.InView.{InView}
 use Rattle.port_core.specs.declared.view.InView.TheVariants.{Idle, Pulled, Finished, Cancelled}
 use Rattle.port_core.specs.declared.view.OutView.{OutView}
@@ -42,6 +42,10 @@ use Rattle.port_core.specs.View.{input_closed, output_closed}
 use Rattle.stage_core.specs.OwnPorts.{is_waiting, is_asked}
 use Rattle.stage_core.specs.Row.{InClosed, OutClosed}
 use Rattle.stage_out.specs.Machines.{DealsRest}
+use Rattle.stage_merge.specs.Rows.{InputWaits, MergeRestsBy}
+use Rattle.stage_out.specs.BalanceRows.{OutputUnasked, BalanceRestsBy}
+use Rattle.port_core.specs.declared.pick_log.Next.{Next}
+use Rattle.port_core.specs.declared.pick_log.Next.TheVariants.{Free, Move, UsedUp}
 use Rattle.run_laws.specs.Items.{list_of}
 use Rattle.run_laws.specs.Ports.{InPort, OutPort, EachPort, InStands, OutStands, InRests, OutRests}
 
@@ -95,7 +99,7 @@ out_closed_is outlet.Unpulled e = absurd cc
 out_closed_is outlet.Available e = absurd cc
 
 module _ (i : InPort) (r : InRests i) where
-  waits : Waits (own_in i) → Waits i.wire
+  pub waits : Waits (own_in i) → Waits i.wire
   waits h = (r.waits (waiting_is i.view h.0)).0
 
   waits_sent : Waits (own_in i) → i.wire.sent ≡ elements i.got
@@ -125,7 +129,7 @@ module _ (o : OutPort) (r : OutRests o) where
   asked : IsAsked (own_out o) → IsAsked o.wire
   asked h = r.asked (asked_is o.view h.0)
 
-  unasked : IsUnasked (own_out o) → IsUnasked o.wire
+  pub unasked : IsUnasked (own_out o) → IsUnasked o.wire
   unasked h = r.unasked (unasked_is o.view h.0 h.1)
 
   pub out_shuts : IsShut (own_out o) → IsShut o.wire
@@ -189,6 +193,19 @@ module _ (is : List InPort) (o : OutPort) (r : EachPort InRests is) (ro : OutRes
   pub merge_rests : (moves : List ℕ) → MergeRests moves (map own_in is) (own_out o) → MergeRests moves (map (λ (i : InPort). i.wire) is) o.wire
   merge_rests moves (inl h) = inl (asked o ro h.0, some Waits Waits waits is r h.1, each (λ i. Waits i ⊎ IsShut i) (λ i. Waits i ⊎ IsShut i) waits_or_shut is r h.2)
   merge_rests moves (inr h) = inr (unasked o ro h.0, merge_waits moves 0 is r h.1)
+
+  input_waits : (m : ℕ) (js : List InPort) → EachPort InRests js → InputWaits m (map own_in js) → InputWaits m (map (λ (i : InPort). i.wire) js)
+  input_waits m [] q h = λ v at. let no : None ≡ Some v = at in absurd cc
+  input_waits zero (j ∷ js) q h = λ v at. let same : j.wire ≡ v = cc in subst Waits same (waits j q.0 (h (own_in j) refl))
+  input_waits (suc m) (j ∷ js) q h = λ v at. input_waits m js q.1 (λ u there. h u there) v at
+
+  -- the same of one that may follow moves, by what its next move is to be
+  pub merge_rests_by : (next : Next) (moves : List ℕ) → MergeRestsBy next moves (map own_in is) (own_out o) → MergeRestsBy next moves (map (λ (i : InPort). i.wire) is) o.wire
+  merge_rests_by Free moves h = merge_rests moves h
+  merge_rests_by (Move m) moves (inl h) = inl (asked o ro h.0, input_waits m is r h.1)
+  merge_rests_by (Move m) moves (inr h) = inr (unasked o ro h.0, merge_waits moves 0 is r h.1)
+  merge_rests_by UsedUp moves (inl h) = inl (asked o ro h)
+  merge_rests_by UsedUp moves (inr h) = inr (unasked o ro h.0, merge_waits moves 0 is r h.1)
 
   sorted_stands : SortedStands (map own_in is) (own_out o) → SortedStands (map (λ (i : InPort). i.wire) is) o.wire
   sorted_stands (inl h) = inl (asked o ro h.0, some Waits Waits waits is r h.1)
@@ -362,3 +379,15 @@ module _ (i : InPort) (os : List OutPort) (s : InStands i) (r : InRests i) (ss :
         each_out (λ o. IsShut o ⊎ IsUnasked o) (λ o. IsShut o ⊎ IsUnasked o) shut_or_unasked os ss ro h.1,
         any i r h.2,
       )
+
+  output_unasked : (j : ℕ) (ps : List OutPort) → EachPort OutRests ps → OutputUnasked j (map own_out ps) → OutputUnasked j (map (λ (o : OutPort). o.wire) ps)
+  output_unasked j [] q h = λ v at. let no : None ≡ Some v = at in absurd cc
+  output_unasked zero (o ∷ ps) q h = λ v at. let same : o.wire ≡ v = cc in subst IsUnasked same (unasked o q.0 (h (own_out o) refl))
+  output_unasked (suc j) (o ∷ ps) q h = λ v at. output_unasked j ps q.1 (λ u there. h u there) v at
+
+  -- the same of one that may follow moves, by what its next move is to be
+  pub balance_rests_by : (next : Next) → BalanceRestsBy next (own_in i) (map own_out os) → BalanceRestsBy next i.wire (map (λ (o : OutPort). o.wire) os)
+  balance_rests_by Free h = balance_rests h
+  balance_rests_by (Move j) (inl h) = inl (waits i r h)
+  balance_rests_by (Move j) (inr h) = inr (output_unasked j os ro h)
+  balance_rests_by UsedUp h = tt

@@ -1,7 +1,7 @@
 -- What a sink wrote whose drain does not tell what it holds: the same as one that tells it.
 use Rattle.std.specs.Prelude.{Option, slice_get}
 use Rattle.std.specs.Option.{option_map}
-use Rattle.std.proofs.Common.{◌≡◌, ℕ, List, [], ◌++◌, Some, refl, ap, ◌∙◌}
+use Rattle.std.proofs.Common.{◌≡◌, ℕ, List, [], ◌++◌, Some, refl, sym, ap, subst, ◌∙◌}
 use Rattle.elem_core.specs.Text.{text_lines}
 use Rattle.elem_core.specs.Tree.{Tree}
 use Rattle.elem_core.specs.declared.item.Item.{Item}
@@ -11,6 +11,7 @@ use Rattle.stream_model.specs.declared.outcome.EndState.TheVariants.{Ended, Fail
 use Rattle.stream_model.specs.Graph.{Graph}
 use Rattle.stream_model.specs.Graph as graph
 use Rattle.stream_model.specs.Composed.{sink_outlook}
+use Rattle.stream_model.specs.Node.{World}
 use Rattle.stream_io.specs.State.{SourceState, DrainState}
 use Rattle.nodes.specs.declared.node.IslandNode.{IslandNode}
 use Rattle.nodes.specs.Sink.{Sink, WroteAll, SinkStandsAs, SinkLaw}
@@ -19,6 +20,8 @@ use Rattle.run_laws.specs.Account.{Account, knows, took, gave}
 use Rattle.run_laws.specs.Runs.{IsRun}
 use Rattle.run_laws.specs.Sinks.{IsSinkAt, SinkWrote}
 use Rattle.run_laws.proofs.AgreeingSinks.{sink_law, its_list}
+use Rattle.run_laws.proofs.OutlookAgreeing.{every_input_of}
+use Rattle.run_laws.proofs.Replaying.{every_input_serves}
 use Rattle.run_laws.proofs.Sinks.{sink_tells}
 use Rattle.stream_model.specs.Linear.{Book}
 
@@ -74,6 +77,10 @@ module _ {D : Type 0} (drains : D → DrainState) (first now : Sink D) (v : View
   }
 
 module _ {S D L B : Type 0} (sources : S → SourceState) (drains : D → DrainState) (book : Book) (g : Graph) (a : Account (IslandNode S D L B)) (run : IsRun sources drains book g a) where
+  -- the run, by the book of a world
+  its_run : (w : World) → w.book ≡ book → IsRun sources drains w.book g a
+  its_run w same = subst (λ (b : Book). IsRun sources drains b g a) (sym same) run
+
   pub sink_wrote : (k : ℕ) (n : graph.Node) (first now : Sink D) → slice_get g.nodes k ≡ Some n → IsSinkAt a k first now → SinkWrote sources drains book g a k n first now
   unfolding law_over
   sink_wrote k n first now ni at =
@@ -88,5 +95,8 @@ module _ {S D L B : Type 0} (sources : S → SourceState) (drains : D → DrainS
         holds = its.holds;
         tells = λ w rank same tells ranked.
             sink_tells (λ (s : DrainState). s) before after (knows g a k n) (took g a k n) (gave g a k n) then (sink_outlook g w k n)
-            (its_list sources drains book g a run w same tells rank ranked k n first now ni at) its.bytes refl refl;
+            (its_list sources drains book g a run w (every_input_of sources drains g w a (its_run w same) tells rank ranked) k n first now ni at) its.bytes refl refl;
+        serves = λ w rank same files serves ranked.
+            sink_tells (λ (s : DrainState). s) before after (knows g a k n) (took g a k n) (gave g a k n) then (sink_outlook g w k n)
+            (its_list sources drains book g a run w (every_input_serves sources drains g w a (its_run w same) files serves rank ranked) k n first now ni at) its.bytes refl refl;
       }

@@ -11,7 +11,7 @@ use Rattle.stream_model.specs.declared.kind.Kind.{Kind}
 use Rattle.stream_model.specs.Fits.{moves_fit}
 use Rattle.stream_model.specs.Graph.{Graph}
 use Rattle.stream_model.specs.Graph as graph
-use Rattle.stream_model.specs.Linear.{Work, linear, begin_work}
+use Rattle.stream_model.specs.Linear.{Work, linear, begin_work, role_of}
 use Rattle.stream_model.specs.Node.{World, node_outlook, of_work}
 use Rattle.stream_model.specs.Outlook.{Outlook, End}
 use Rattle.stream_model.specs.Lawful.{RowLawful, StageLawful}
@@ -20,6 +20,7 @@ use Rattle.stream_model.specs.Rests.{RowRests, StageRests, OneToOne}
 use Rattle.stream_model.specs.View.{EachWire}
 use Rattle.stream_model.specs.View as picture
 use Rattle.stream_model.specs.Rests.{IsShut}
+use Rattle.run_laws.specs.Replayed.{Plans, RoleLawfulBy, RowRestsBy}
 use Rattle.run_laws.specs.Items.{AllMayPass, AgreesWith}
 use Rattle.run_laws.specs.Account.{Earlier, LastAsked}
 use Rattle.run_laws.specs.Ports.{InPort, OutPort, EachPort, InStands, OutStands, InRests, OutRests}
@@ -60,7 +61,7 @@ Moments port_state law asking moves first now is os p =
     × LastAsked port_state law asking moves first now (map (λ (i : InPort). i.got) is) (map (λ (o : OutPort). o.sent) os) (map (λ (i : InPort). i.want) is)
     (map (λ (o : OutPort). o.want) os) (map (λ (o : OutPort). o.wire.shut) os)
 
--- In a picture, by the ports and by the moments of the node's asks: its port_state of a lawful one, its port_state of one that rests, and that
+-- In a picture, of a node that follows no moves, by the ports and by the moments of the node's asks: its port_state of a lawful one, its port_state of one that rests, and that
 -- the input of a sink is shut exactly where it has ended.
 pub record PictureLaws {N : Type 0} (port_state : N → View → Type 0) (law : N → N → View → List (List Item) → List (List Item) → Type 0)
     (asking : N → View → Type 0) (moves : N → List ℕ) (ended : N → Bool)
@@ -71,4 +72,18 @@ pub record PictureLaws {N : Type 0} (port_state : N → View → Type 0) (law : 
   pub rests : EachPort InStands is → EachPort OutStands os → EachPort InRests is → EachPort OutRests os
       → (EachWire IsShut (map (λ (i : InPort). i.wire) is) × EachWire IsShut (map (λ (o : OutPort). o.wire) os))
       ⊎ RowRests g w k n.kind n.decider (map (λ (i : InPort). i.wire) is) (map (λ (o : OutPort). o.wire) os)
+  pub matches : is_sink n.kind ≡ true → EachPort InRests is → EachWire (λ (i : picture.SeenWire). i.shut ≡ ended now) (map (λ (i : InPort). i.wire) is)
+
+-- In a picture, by the ports and by the moments of the node's asks, where nodes follow these plans: its row of a lawful one; its row of one that
+-- rests, where what it took may pass by these outlooks; and that the input of a sink is shut exactly where it has ended.
+pub record PictureLawsBy {N : Type 0} (port_state : N → View → Type 0) (law : N → N → View → List (List Item) → List (List Item) → Type 0)
+    (asking : N → View → Type 0) (moves : N → List ℕ) (ended : N → Bool)
+    (g : Graph) (w : World) (plans : Plans) (k : ℕ) (n : graph.Node) (first now : N) (is : List InPort) (os : List OutPort) : Type 0 where
+  pub lawful : EachPort InStands is → EachPort OutStands os
+      → ((p : ℕ) → 1 ≤ slice_index_or (map (λ (i : InPort). i.want) is) p 0 → Moments port_state law asking moves first now is os p)
+      → RoleLawfulBy g w plans k (role_of n.kind) n.decider (map (λ (i : InPort). i.wire) is) (map (λ (o : OutPort). o.wire) os)
+  pub rests : (comes : List Outlook) → AllMayPass comes (map (λ (i : InPort). i.got) is) → EachPort InStands is → EachPort OutStands os → EachPort InRests is
+      → EachPort OutRests os
+      → (EachWire IsShut (map (λ (i : InPort). i.wire) is) × EachWire IsShut (map (λ (o : OutPort). o.wire) os))
+      ⊎ RowRestsBy g w plans k n.kind n.decider comes (map (λ (i : InPort). i.wire) is) (map (λ (o : OutPort). o.wire) os)
   pub matches : is_sink n.kind ≡ true → EachPort InRests is → EachWire (λ (i : picture.SeenWire). i.shut ≡ ended now) (map (λ (i : InPort). i.wire) is)

@@ -15,3 +15,5 @@ pub mod Telling
 pub mod Sinks
 pub mod Reads
 pub mod Picture
+pub mod Replayed
+pub mod Serving

@@ -1,17 +1,26 @@
 -- Of which blueprint a net of nodes was made: a node for each of its nodes, as it is handed in, and a wire for each of its wires.
-use Rattle.std.specs.Prelude.{◌≡◌, ℕ, List, [], length, slice_get, Some, None}
+use Rattle.std.specs.Prelude.{◌≡◌, ◌≢◌, ℕ, List, [], length, slice_get, Some, None}
 use Rattle.stream_model.specs.declared.kind.Kind.{Kind}
 use Rattle.stream_model.specs.declared.kind.Kind.TheVariants as kind
+use Rattle.stream_model.specs.declared.kind.Policy.TheVariants.{Backpressure}
+use Rattle.elem_core.specs.declared.why.Decider.{Decider}
+use Rattle.elem_core.specs.Tree.{num, text}
 use Rattle.stream_model.specs.declared.outcome.EndState.TheVariants.{Unended}
 use Rattle.stream_model.specs.Graph.{Graph, Edge, steps_of}
 use Rattle.stream_model.specs.Graph as graph
 use Rattle.stream_model.specs.Linear.{Mention, no_name, a_file, a_switch, a_trip, a_plug, a_chain, mention_of}
+use Rattle.port_core.specs.View.{unpulled_ports}
 use Rattle.stream_io.specs.State.{SourceState}
 use Rattle.stage_linear.specs.States.{Logic, IsLinear, Begins}
 use Rattle.stage_state.specs.declared.logic.StateLogic.{StateLogic}
-use Rattle.stage_state.specs.Logics.{IsStateful}
+use Rattle.stage_state.specs.declared.logic.StateLogic.TheVariants as logic
+use Rattle.stage_state.specs.Logics.{IsStateful, BeginsAs}
+use Rattle.stage_switch.specs.States.{IsUnused, new_valve_of}
+use Rattle.stage_dropping.specs.Droppings as dropping
+use Rattle.stage_dropping.specs.Recoverings as recover
 use Rattle.stage_state.specs.Handling as state
-use Rattle.stage_sub.specs.States as subs
+use Rattle.stage_sub.specs.Leds as subs
+use Rattle.stage_sub.specs.LedLaws as led_sub
 use Rattle.stage_sub.specs.Handling as sub
 use Rattle.line_chain.specs.Line.{Line, line_rest, line_is_open, IsLine}
 use Rattle.stage_in.specs.declared.logic.InLogic.{InLogic}
@@ -41,10 +50,23 @@ pub record FirstLinear (k : ℕ) (n : graph.Node) (x : Logic) : Type 0 where
   pub is_linear : IsLinear n.kind
   pub begins : Begins k n.kind n.decider x
 
--- a stage with state at its start
+-- a new stage of this kind, as one that makes its own choices, but that it may follow moves
+abbrev pub LedAs : Kind → ℕ → Decider → StateLogic → Type 0
+LedAs (kind.Buffer n p) node d (logic.Dropping l) = (p ≢ Backpressure) × dropping.Begins node n p l
+LedAs (kind.RecoverNum k) node d (logic.Recovering l) = l ≡ record (recover.begun (num k)) { left = l.left }
+LedAs (kind.RecoverText t) node d (logic.Recovering l) = l ≡ record (recover.begun (text t)) { left = l.left }
+LedAs (kind.Valve name) node d (logic.Obeying l) = IsUnused l.switch l.seat × (l ≡ record (new_valve_of node l.switch l.seat) { left = l.left })
+LedAs shape node d l = BeginsAs shape node d l
+
+-- a new stage of node `node` is so, and may be started
+pub record BeginsLed (node : ℕ) (kind : Kind) (d : Decider) (x : StateLogic) : Type 0 where
+  pub as_kind : LedAs kind node d x
+  pub fresh : state.StateFresh x unpulled_ports
+
+-- a stage with state at its start, or one that follows moves
 pub record FirstState (k : ℕ) (n : graph.Node) (x : StateLogic) : Type 0 where
   pub is_state : IsStateful n.kind
-  pub begins : state.Begins k n.kind n.decider x
+  pub begins : BeginsLed k n.kind n.decider x
 
 -- the chain that a mention names
 abbrev mentioned_chain : Mention → List ℕ
@@ -59,13 +81,13 @@ mentioned_chain (a_chain name) = name
 abbrev pub chain_name : Kind → List ℕ
 chain_name k = mentioned_chain (mention_of k)
 
--- a stage with substreams at its start, each of which goes through the chain that its kind names
-pub record FirstSub (chains : List graph.Chain) (k : ℕ) (n : graph.Node) (x : subs.Logic Line) : Type 0 where
+-- a stage with substreams at its start, each of which goes through the chain that its kind names; or one that follows moves
+pub record FirstSub (chains : List graph.Chain) (k : ℕ) (n : graph.Node) (x : subs.Led Line) : Type 0 where
   pub is_sub : sub.IsSub n.kind
-  pub begins : sub.Begins line_rest line_is_open k n.kind x.chain x
-  pub line : IsLine k (steps_of (chain_name n.kind) chains) x.chain
+  pub begins : led_sub.LedBegins line_rest line_is_open k n.kind x.logic.chain x
+  pub line : IsLine k (steps_of (chain_name n.kind) chains) x.logic.chain
 
--- a stage with several inputs at its start
+-- a stage with several inputs at its start, or one that follows moves
 pub record FirstFanIn (k : ℕ) (n : graph.Node) (x : InLogic) : Type 0 where
   pub is_in : fan_in.IsFanIn n.kind
   pub begins : fan_in.Begins k n.kind n.decider x

@@ -5,7 +5,7 @@ use Rattle.stream_model.specs.Graph.{Graph, Edge, find_wire, find_source}
 use Rattle.stream_model.specs.Outlook.{Outlook}
 use Rattle.stream_model.specs.declared.outcome.WireCount.{WireCount}
 use Rattle.stream_model.specs.View.{view_of}
-use Rattle.run_laws.specs.Items.{WithinOutlook}
+use Rattle.run_laws.specs.Items.{AgreesWith, WithinOutlook}
 use Rattle.run_laws.specs.Account.{Account}
 use Rattle.run_laws.specs.Ports.{InPort, OutPort, wire_count}
 
@@ -22,6 +22,10 @@ module _ {N : Type 0} (a : Account N) where
   -- what was sent on each wire is a first part of the list of its outlook
   abbrev pub AllPass : Graph → (ℕ → Outlook) → Type 0
   AllPass g outlook = (u : ℕ) → u < length g.wires → WithinOutlook (outlook u) (a.near u).wire.sent
+
+  -- and what was sent agrees with it, also the end
+  abbrev pub AllAgreeWith : Graph → (ℕ → Outlook) → Type 0
+  AllAgreeWith g outlook = (u : ℕ) → u < length g.wires → AgreesWith (outlook u) (a.near u).wire.sent
 
   module _ (g : Graph) (outlook : ℕ → Outlook) where
     -- the input of a node to which wire u leads, with what the picture says of the wire

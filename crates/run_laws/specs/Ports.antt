@@ -74,11 +74,13 @@ pub record InStands (i : InPort) : Type 0 where
   -- what is wanted beyond a lane's size, the node has asked for
   pub reach : demand i.wire ≤ i.want
 
--- how an output stands at any moment: as many elements were sent as the picture says, and what the node was asked for is wanted
+-- how an output stands at any moment: as many elements were sent as the picture says, what the node was asked for is wanted, and a wire
+-- that the node knows to be closed is shut
 pub record OutStands (o : OutPort) : Type 0 where
   pub count : o.wire.sent ≡ elements o.sent
   -- what the node was asked for is wanted
   pub wants : o.want ≤ wanted o.wire
+  pub closed : OutClosed o.view → o.wire.shut ≡ true
 
 -- how an input stands where no event is left
 pub record InRests (i : InPort) : Type 0 where

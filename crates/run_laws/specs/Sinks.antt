@@ -20,7 +20,7 @@ use Rattle.nodes.specs.declared.node.IslandNode.{IslandNode}
 use Rattle.nodes.specs.declared.node.IslandNode.TheVariants.{Writing, Ignoring}
 use Rattle.nodes.specs.Sink.{Sink, end_seen}
 use Rattle.nodes.specs.Ignoring.{Ignorer}
-use Rattle.run_laws.specs.Telling.{WorldTells}
+use Rattle.run_laws.specs.Telling.{TellsFiles, ServesPlans, WorldTells}
 
 -- it took a list that may pass and stand as its input does
 pub record TookList (o : Outlook) (e : EndState) (took : List (List Item)) : Type 0 where
@@ -55,14 +55,16 @@ pub record IsSinkAt {S D L B : Type 0} (a : Account (IslandNode S D L B)) (k : �
   pub at_last : a.nodes k ≡ Some (Writing now)
 
 -- What a sink with a file wrote, whether its drain tells what it holds or not: so many whole lines as it counts, and bytes that its
--- outlook lets it write, by every world of this book of plugs that tells of the files of the sources. A drain that was empty at
--- first, and tells what it holds, holds just those bytes.
+-- outlook lets it write, by every world of this book of plugs that tells of the files of the sources and of what the stages chose, and by every
+-- one whose moves they serve. A drain that was empty at first, and tells what it holds, holds just those bytes.
 pub record SinkWrote {S D L B : Type 0} (sources : S → SourceState) (drains : D → DrainState) (book : Book) (g : Graph) (a : Account (IslandNode S D L B))
     (k : ℕ) (n : graph.Node) (first now : Sink D) : Type 0 where
   pub written : List ℕ
   pub lines_are : whole_lines (length written) written ≡ now.count
   pub holds : (drains first.drain).holds ≡ Some [] → (drains now.drain).holds ≡ Some written
   pub tells : (w : World) (rank : ℕ → ℕ) → w.book ≡ book → WorldTells sources g w a → IsRanked g rank → SinkTells (sink_outlook g w k n) now.end written
+  pub serves : (w : World) (rank : ℕ → ℕ) → w.book ≡ book → TellsFiles sources g w a → ServesPlans g w a → IsRanked g rank
+      → SinkTells (sink_outlook g w k n) now.end written
 
 -- So many elements were sent to a sink that keeps nothing: they are a list that may pass and stand so; while it waits, the
 -- list that it took, and one element more at most.

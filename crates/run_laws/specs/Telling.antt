@@ -13,7 +13,9 @@ use Rattle.stream_io.specs.State.{SourceState}
 use Rattle.run_laws.specs.Account.{Account}
 use Rattle.nodes.specs.declared.node.IslandNode.{IslandNode}
 use Rattle.nodes.specs.declared.node.IslandNode.TheVariants.{Reading}
-use Rattle.nodes.specs.Nodes.{node_picks, node_moves, node_seat}
+use Rattle.nodes.specs.Nodes.{node_picks, node_moves, node_plan, node_seat}
+use Rattle.run_laws.specs.Replayed.{Plans}
+use Rattle.run_laws.specs.Serving.{ServesPlan}
 use Rattle.stage_switch.specs.Settling.{AllSettled, kinds_of}
 
 -- the file's bytes are told; so many of them were handed out by now; and it tells a fault where the count of failed reads rose
@@ -30,6 +32,19 @@ module _ {S D L B : Type 0} where
   -- the moves of all stages whose kinds choose
   abbrev pub TellsPicks : World → Account (IslandNode S D L B) → Type 0
   TellsPicks w a = (k : ℕ) (now : IslandNode S D L B) → a.nodes k ≡ Some now → TellsMoves w k now
+
+-- where it chooses it serves the moves that the world has of it
+abbrev pub ServesMoves : {S D L B : Type 0} → Graph → World → ℕ → graph.Node → IslandNode S D L B → IslandNode S D L B → Type 0
+ServesMoves g w k n first now = (moves : List ℕ) → node_picks now ≡ Some moves → ServesPlan g w k n (node_plan first) moves
+
+-- The world has of each node that chooses the moves that it made; or those that it follows, where they fit, and no failure may come on its wires.
+abbrev pub ServesPlans : {S D L B : Type 0} → Graph → World → Account (IslandNode S D L B) → Type 0
+ServesPlans {S} {D} {L} {B} g w a = (k : ℕ) (n : graph.Node) (first now : IslandNode S D L B) → slice_get g.nodes k ≡ Some n → a.firsts k ≡ Some first
+    → a.nodes k ≡ Some now → ServesMoves g w k n first now
+
+-- these are the plans of the nodes of an account
+abbrev pub FollowsPlans : {S D L B : Type 0} → Plans → Account (IslandNode S D L B) → Type 0
+FollowsPlans {S} {D} {L} {B} plans a = (k : ℕ) (first : IslandNode S D L B) → a.firsts k ≡ Some first → plans k ≡ node_plan first
 
 -- the moves of a node, where there is one
 abbrev pub moves_at : {S D L B : Type 0} → Option (IslandNode S D L B) → List ℕ

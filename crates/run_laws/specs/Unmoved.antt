@@ -1,5 +1,5 @@
--- What a stage with several inputs or several outputs leaves out: it tells nothing of its ports when it asks, with several
--- outputs makes no moves, and is no sink that ends.
+-- What a stage with several inputs or several outputs leaves out: the machines of one tell nothing of its ports when it asks and make no
+-- moves, and none is a sink that ends.
 use Rattle.std.specs.Prelude.{ℕ, Bool, false, List, [], ⊤}
 use Rattle.port_core.specs.View.{View}
 

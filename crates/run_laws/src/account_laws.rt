@@ -51,15 +51,15 @@ pub fn a_lane_brings_what_was_sent()
 {}
 
 /// At every moment a lane stands for the nodes at its ends as any wire does: no more came than was sent; a lane that is not asked
-/// was sent as many elements as it has places; what is wanted of it beyond its places the node at its input has asked for; and
-/// what the node at its output was asked for is wanted of it.
+/// was sent as many elements as it has places; what is wanted of it beyond its places the node at its input has asked for; what the
+/// node at its output was asked for is wanted of it; and it is shut where that node knows it to be closed.
 pub fn a_lane_stands_as_a_wire()
     ensures input { (keep : Bool) (u s : ℕ) (near far : WireState) (p q : Bool) (asked : ℕ) (list m l : List Tree) (f e : End) → IsSound near.wire p
         → IsSound far.wire q
         → near.wire.sent ≡ told m f → IsPrefix m list → far.wire.got ≡ told l e
         → LaneKeeps keep s near far asked → InStands (far_port u s near far asked list) }
-    ensures output { (keep : Bool) (u s : ℕ) (near far : WireState) (asked : ℕ) (list : List Tree) → LaneKeeps keep s near far asked
-        → OutStands (near_port u s near far asked list) }
+    ensures output { (keep : Bool) (u s : ℕ) (near far : WireState) (asked : ℕ) (list : List Tree) (p : Bool) → IsSound near.wire p
+        → LaneKeeps keep s near far asked → OutStands (near_port u s near far asked list) }
 {}
 
 /// Where no island has an event, it also rests as any wire does: a node that waits at its input has got all that was sent, and

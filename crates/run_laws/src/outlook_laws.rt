@@ -30,7 +30,7 @@ ghost use Rattle.run_laws.specs.Made.{FirstOf, Materializes};
 ghost use Rattle.run_laws.specs.Runs.{IsRun};
 ghost use Rattle.run_laws.specs.Reads.{IsSourceAt, SentLines, GivesTexts};
 ghost use Rattle.run_laws.specs.Sinks.{TookList, SinkTells, SinkWrote, SentTo, IsSinkAt, IgnoreTells, IsIgnorerAt};
-ghost use Rattle.run_laws.specs.Telling.{TellsPicks, WorldTells};
+ghost use Rattle.run_laws.specs.Telling.{TellsFiles, TellsPicks, WorldTells, ServesPlans};
 
 use plug_logic::book::PlugBook;
 use plug_logic::logic::Logic;
@@ -89,6 +89,24 @@ pub fn every_sink_agrees<S: Source, D: Drain, L: Logic, B: PlugBook>()
         → (k : ℕ) (n : graph.Node) → slice_get g.nodes k ≡ Some n → n.kind ≡ kind.Ignore → (first : Ignorer) × ((now : Ignorer) × IsIgnorerAt a k first now) }
     ensures ignores { (g : Graph) (w : World) (rank : ℕ → ℕ) (a : Account (IslandNode S D L B)) → IsRun S.state D.state w.book g a → WorldTells S.state g w a
         → IsRanked g rank
+        → (k : ℕ) (n : graph.Node) (first now : Ignorer) (u : ℕ) (v : Edge) → slice_get g.nodes k ≡ Some n → IsIgnorerAt a k first now
+        → slice_get g.wires u ≡ Some v → v.to ≡ k
+        → IgnoreTells (sink_outlook g w k n) now.end (elements (a.far u).wire.sent) }
+{}
+
+/// The same by a world that has, of each node, the moves that it made, or else all of those that it follows, where they fit and no failure may come
+/// on its wires: what was sent on each wire agrees with the composed outlook of that wire (`wires`), and so with those of sinks do what they took
+/// and how they stand (`tells`, `ignores`).
+pub fn every_plan_is_served<S: Source, D: Drain, L: Logic, B: PlugBook>()
+    ensures wires { (g : Graph) (w : World) (rank : ℕ → ℕ) (a : Account (IslandNode S D L B)) → IsRun S.state D.state w.book g a → TellsFiles S.state g w a
+        → ServesPlans g w a → IsRanked g rank
+        → (i : ℕ) → i < length g.wires → AgreesWith (composed g w i) (a.near i).wire.sent }
+    ensures tells { (g : Graph) (w : World) (rank : ℕ → ℕ) (a : Account (IslandNode S D L B)) → IsRun S.state D.state w.book g a → TellsFiles S.state g w a
+        → ServesPlans g w a → IsRanked g rank
+        → (k : ℕ) (n : graph.Node) (first now : Sink D) (written : List ℕ) → slice_get g.nodes k ≡ Some n → IsSinkAt a k first now
+        → (D.state first.drain).holds ≡ Some [] → (D.state now.drain).holds ≡ Some written → SinkTells (sink_outlook g w k n) now.end written }
+    ensures ignores { (g : Graph) (w : World) (rank : ℕ → ℕ) (a : Account (IslandNode S D L B)) → IsRun S.state D.state w.book g a → TellsFiles S.state g w a
+        → ServesPlans g w a → IsRanked g rank
         → (k : ℕ) (n : graph.Node) (first now : Ignorer) (u : ℕ) (v : Edge) → slice_get g.nodes k ≡ Some n → IsIgnorerAt a k first now
         → slice_get g.wires u ≡ Some v → v.to ≡ k
         → IgnoreTells (sink_outlook g w k n) now.end (elements (a.far u).wire.sent) }

@@ -1,5 +1,5 @@
-use Rattle.run_laws.proofs.InPictures.{in_picture}
+use Rattle.run_laws.proofs.ByPlan.{in_by_plan}
 use Rattle.run_laws.proofs.fan_laws.a_node_with_several_inputs_tells_its_rows.Goals as goal
 
 pub returns : goal.returns
-returns c = in_picture
+returns c = in_by_plan

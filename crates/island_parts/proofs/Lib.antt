@@ -7,6 +7,7 @@ pub mod Splitting
 mod Starting
 pub mod Behind
 pub mod EndsJoining
+pub mod Misfits
 pub mod Leaving
 pub mod Listing
 pub mod OfNodes

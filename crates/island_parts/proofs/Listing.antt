@@ -5,6 +5,8 @@ use Rattle.std.proofs.lemmas.List.{append-nil}
 use Rattle.std.specs.declared.vec.Vec.{Vec}
 use Rattle.std.specs.declared.alloc.Global.{Global}
 use Rattle.interpreter.specs.declared.island.IslandEnd.{IslandEnd}
+use Rattle.interpreter.specs.Misfits.{least, least_all}
+use Rattle.interpreter.proofs.Least.{least_none, least_three}
 use Rattle.scatter.specs.Shares.{items_at}
 use Rattle.island_parts.specs.declared.lists.EndLists.{EndLists}
 use Rattle.island_parts.specs.Room.{AreEmptyLists, AreSorted, IsEndPut}
@@ -14,6 +16,7 @@ pub record SortedSoFar {S D : Type 0} (ends : List (IslandEnd S D)) (l : EndList
   pub sinks : map (λ (e : IslandEnd S D). e.sinks) ends ≡ l.sinks.items ++ map (λ (e : IslandEnd S D). e.sinks) rest
   pub wires : map (λ (e : IslandEnd S D). e.wires) ends ≡ l.wires.items ++ map (λ (e : IslandEnd S D). e.wires) rest
   pub picks : map (λ (e : IslandEnd S D). e.picks) ends ≡ l.picks.items ++ map (λ (e : IslandEnd S D). e.picks) rest
+  pub misfit : least_all (map (λ (e : IslandEnd S D). e.misfit) ends) ≡ least l.misfit (least_all (map (λ (e : IslandEnd S D). e.misfit) rest))
   pub seats : map (λ (e : IslandEnd S D). e.seats) ends ≡ l.seats.items ++ map (λ (e : IslandEnd S D). e.seats) rest
   pub readers : map (λ (e : IslandEnd S D). e.readers) ends ≡ l.readers.items ++ map (λ (e : IslandEnd S D). e.readers) rest
   pub writers : map (λ (e : IslandEnd S D). e.writers) ends ≡ l.writers.items ++ map (λ (e : IslandEnd S D). e.writers) rest
@@ -30,6 +33,7 @@ module _ {S D : Type 0} where
     sinks = begins _ _ a.no_sinks;
     wires = begins _ _ a.no_wires;
     picks = begins _ _ a.no_picks;
+    misfit = ap (λ o. least o (least_all (map (λ (e : IslandEnd S D). e.misfit) ends))) (sym a.no_misfit);
     seats = begins _ _ a.no_seats;
     readers = begins _ _ a.no_readers;
     writers = begins _ _ a.no_writers;
@@ -40,6 +44,7 @@ module _ {S D : Type 0} where
     sinks = moves _ _ _ _ e.sinks s.sinks p.sinks;
     wires = moves _ _ _ _ e.wires s.wires p.wires;
     picks = moves _ _ _ _ e.picks s.picks p.picks;
+    misfit = s.misfit ∙ sym (least_three l.misfit e.misfit (least_all (map (λ (x : IslandEnd S D). x.misfit) rest))) ∙ ap (λ o. least o (least_all (map (λ (x : IslandEnd S D). x.misfit) rest))) (sym p.misfit);
     seats = moves _ _ _ _ e.seats s.seats p.seats;
     readers = moves _ _ _ _ e.readers s.readers p.readers;
     writers = moves _ _ _ _ e.writers s.writers p.writers;
@@ -50,6 +55,7 @@ module _ {S D : Type 0} where
     sinks = sym (s.sinks ∙ append-nil _);
     wires = sym (s.wires ∙ append-nil _);
     picks = sym (s.picks ∙ append-nil _);
+    misfit = sym (s.misfit ∙ least_none l.misfit);
     seats = sym (s.seats ∙ append-nil _);
     readers = sym (s.readers ∙ append-nil _);
     writers = sym (s.writers ∙ append-nil _);

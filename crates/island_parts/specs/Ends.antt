@@ -8,6 +8,7 @@ use Rattle.nodes.specs.declared.node.IslandNode.TheVariants as node
 use Rattle.interpreter.specs.declared.island.IslandEnd.{IslandEnd}
 use Rattle.interpreter.specs.Island.{sinks_of, readers_of, writers_of}
 use Rattle.interpreter.specs.Picks.{pick_of, picks_of}
+use Rattle.interpreter.specs.Misfits.{least_of, FindsMisfit, IsLeast}
 use Rattle.interpreter.specs.Seats.{seats_of}
 use Rattle.scatter.specs.Shares.{of_home}
 use Rattle.island_parts.specs.declared.room.EndHomes.{EndHomes}
@@ -101,6 +102,7 @@ pub record Whole (S D L B : Type 0) : Type 0 where
 pub record IsEndOf {S D L B : Type 0} (w : Whole S D L B) (k : ℕ) (e : IslandEnd S D) : Type 0 where
   pub sinks : e.sinks.items ≡ sinks_of (of_home w.homes k w.nodes)
   pub picks : map pick_of e.picks.items ≡ picks_of (of_home w.homes k w.numbers) (of_home w.homes k w.nodes)
+  pub misfit : e.misfit ≡ least_of (of_home w.homes k w.numbers) (of_home w.homes k w.nodes)
   pub seats : e.seats.items ≡ seats_of (of_home w.homes k w.numbers) (of_home w.homes k w.nodes)
   pub readers : e.readers.items ≡ readers_of (of_home w.homes k w.nodes)
   pub writers : e.writers.items ≡ writers_of (of_home w.homes k w.nodes)
@@ -130,6 +132,7 @@ pub record IsWholeEnd {S D L B : Type 0} (w : Whole S D L B) (e : IslandEnd S D)
   pub sinks : e.sinks.items ≡ sinks_of w.nodes
   pub wires : e.wires.items ≡ w.counts
   pub picks : map pick_of e.picks.items ≡ picks_of w.numbers w.nodes
+  pub misfit : IsLeast (FindsMisfit w.numbers w.nodes) e.misfit
   pub seats : e.seats.items ≡ seats_of w.numbers w.nodes
   pub readers : e.readers.items ≡ readers_of w.nodes
   pub writers : e.writers.items ≡ writers_of w.nodes

@@ -1,6 +1,7 @@
 -- Room for what islands leave at their ends.
-use Rattle.std.specs.Prelude.{◌≡◌, ◌≤◌, ◌<◌, ◌+◌, ◌++◌, ◌∷◌, [], ℕ, List, length, map, slice_index, vec_len, vec_capacity}
+use Rattle.std.specs.Prelude.{◌≡◌, ◌≤◌, ◌<◌, ◌+◌, ◌++◌, ◌∷◌, [], ℕ, List, length, map, slice_index, Option, None, vec_len, vec_capacity}
 use Rattle.interpreter.specs.declared.island.IslandEnd.{IslandEnd}
+use Rattle.interpreter.specs.Misfits.{least, least_all}
 use Rattle.scatter.specs.Shares.{share_of}
 use Rattle.island_parts.specs.declared.lists.EndLists.{EndLists}
 use Rattle.island_parts.specs.declared.room.EndHomes.{EndHomes}
@@ -20,6 +21,7 @@ pub record AreEmptyLists {S D : Type 0} (count : ℕ) (l : EndLists S D) : Type 
   pub no_sinks : l.sinks.items ≡ []
   pub no_wires : l.wires.items ≡ []
   pub no_picks : l.picks.items ≡ []
+  pub no_misfit : l.misfit ≡ None
   pub no_seats : l.seats.items ≡ []
   pub no_readers : l.readers.items ≡ []
   pub no_writers : l.writers.items ≡ []
@@ -30,6 +32,7 @@ pub record IsEndPut {S D : Type 0} (old : EndLists S D) (e : IslandEnd S D) (new
   pub sinks : new.sinks.items ≡ old.sinks.items ++ e.sinks ∷ []
   pub wires : new.wires.items ≡ old.wires.items ++ e.wires ∷ []
   pub picks : new.picks.items ≡ old.picks.items ++ e.picks ∷ []
+  pub misfit : new.misfit ≡ least old.misfit e.misfit
   pub seats : new.seats.items ≡ old.seats.items ++ e.seats ∷ []
   pub readers : new.readers.items ≡ old.readers.items ++ e.readers ∷ []
   pub writers : new.writers.items ≡ old.writers.items ++ e.writers ∷ []
@@ -40,6 +43,7 @@ pub record AreSorted {S D : Type 0} (ends : List (IslandEnd S D)) (l : EndLists 
   pub sinks : l.sinks.items ≡ map (λ (e : IslandEnd S D). e.sinks) ends
   pub wires : l.wires.items ≡ map (λ (e : IslandEnd S D). e.wires) ends
   pub picks : l.picks.items ≡ map (λ (e : IslandEnd S D). e.picks) ends
+  pub misfit : l.misfit ≡ least_all (map (λ (e : IslandEnd S D). e.misfit) ends)
   pub seats : l.seats.items ≡ map (λ (e : IslandEnd S D). e.seats) ends
   pub readers : l.readers.items ≡ map (λ (e : IslandEnd S D). e.readers) ends
   pub writers : l.writers.items ≡ map (λ (e : IslandEnd S D). e.writers) ends

@@ -4,7 +4,7 @@ ghost use Rattle.scatter.specs.Shares.{items_at};
 ghost use Rattle.island_parts.specs.Room.{AreEmptyLists, AreSorted, HasRoomForMore, IsEndPut};
 
 use elem_core::why::NoMemory;
-use interpreter::island::{IslandEnd, SinkStand};
+use interpreter::island::{IslandEnd, SinkStand, least};
 use stage_switch::seat::SwitchSeat;
 use std::alloc::Global;
 use stream_io::outside::{Drain, Source};
@@ -16,6 +16,8 @@ pub struct EndLists<S: Source, D: Drain> {
     pub sinks: Vec<Vec<SinkStand>>,
     pub wires: Vec<Vec<(u32, WireCount)>>,
     pub picks: Vec<Vec<PickList>>,
+    /// Of all islands together.
+    pub misfit: Option<(u32, u32)>,
     pub seats: Vec<Vec<(u32, SwitchSeat)>>,
     pub readers: Vec<Vec<S>>,
     pub writers: Vec<Vec<D>>,
@@ -30,6 +32,7 @@ impl<S: Source, D: Drain> EndLists<S, D> {
             sinks: Vec::with_capacity(alloc, count)?,
             wires: Vec::with_capacity(alloc, count)?,
             picks: Vec::with_capacity(alloc, count)?,
+            misfit: None,
             seats: Vec::with_capacity(alloc, count)?,
             readers: Vec::with_capacity(alloc, count)?,
             writers: Vec::with_capacity(alloc, count)?,
@@ -45,6 +48,7 @@ impl<S: Source, D: Drain> EndLists<S, D> {
             sinks,
             wires,
             picks,
+            misfit,
             seats,
             readers,
             writers,
@@ -52,6 +56,7 @@ impl<S: Source, D: Drain> EndLists<S, D> {
         self.sinks.push_reserved(sinks);
         self.wires.push_reserved(wires);
         self.picks.push_reserved(picks);
+        self.misfit = least(self.misfit, misfit);
         self.seats.push_reserved(seats);
         self.readers.push_reserved(readers);
         self.writers.push_reserved(writers);

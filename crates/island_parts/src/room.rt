@@ -59,6 +59,7 @@ fn empty_end<S: Source, D: Drain>(
         sinks: Vec::with_capacity(alloc, homes.sinks.len())?,
         wires: Vec::with_capacity(alloc, homes.wires.len())?,
         picks: Vec::with_capacity(alloc, homes.picks.len())?,
+        misfit: None,
         seats: Vec::with_capacity(alloc, homes.seats.len())?,
         readers: Vec::with_capacity(alloc, homes.readers.len())?,
         writers: Vec::with_capacity(alloc, homes.writers.len())?,

@@ -8,6 +8,7 @@ use Rattle.scatter.specs.Shares.{share_of}
 use Rattle.blue_check.specs.declared.plan.LanePlan.{LanePlan}
 use Rattle.interpreter.specs.Island.{Kept, counts_of, sinks_of, readers_of, writers_of}
 use Rattle.interpreter.specs.Picks.{pick_of, picks_of}
+use Rattle.interpreter.specs.Misfits.{least_of}
 use Rattle.interpreter.specs.Seats.{seats_of}
 use Rattle.island_body.specs.declared.output.OutputBoundary.{OutputBoundary}
 use Rattle.island_body.specs.declared.input.IslandInput.{IslandInput}
@@ -85,6 +86,7 @@ module _ {S D L B : Type 0} where
     pub sinks : e.sinks.items ≡ sinks_of b.island.net.nodes
     pub wires : e.wires.items ≡ counts_of b.island.numbers b.island.net.wires
     pub picks : map pick_of e.picks.items ≡ picks_of b.island.places b.island.net.nodes
+    pub misfit : e.misfit ≡ least_of b.island.places b.island.net.nodes
     pub seats : e.seats.items ≡ seats_of b.island.places b.island.net.nodes
     pub readers : e.readers.items ≡ readers_of b.island.net.nodes
     pub writers : e.writers.items ≡ writers_of b.island.net.nodes

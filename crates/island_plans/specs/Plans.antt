@@ -1,5 +1,5 @@
 -- The plans of a blueprint's islands: what they take of memory before its files are opened, and their parts.
-use Rattle.std.specs.Prelude.{◌≡◌, ℕ, ◌+◌, ◌≤◌, List, [], length, map, slice_get, Some, vec_len, vec_capacity}
+use Rattle.std.specs.Prelude.{◌≡◌, ℕ, ◌+◌, ◌≤◌, List, [], length, map, slice_get, Option, Some, vec_len, vec_capacity}
 use Rattle.stream_model.specs.Graph.{Edge}
 use Rattle.stream_model.specs.declared.blueprint.Blueprint.{Blueprint}
 use Rattle.stream_model.specs.declared.blueprint.Node.{Node}
@@ -18,7 +18,7 @@ use Rattle.island_parts.specs.Whole.{AreNodes, own_links, whole_homes, whole_lin
 use Rattle.materializer.specs.Fit.{CanRun}
 use Rattle.materializer.specs.Graphs.{chains_of}
 use Rattle.materializer.specs.Board.{IsBoard, AreAtSwitches}
-use Rattle.materializer.specs.Planned.{ArePlanned, places_from, planned_seat}
+use Rattle.materializer.specs.Planned.{ArePlanned, places_from, planned_seat, planned_plan}
 use Rattle.materializer.specs.Seats.{AreSeats, place_seat}
 use Rattle.island_plans.specs.Ends.{AreEndHomes}
 use Rattle.island_plans.specs.Homes.{AreNumberedHomes}
@@ -39,6 +39,10 @@ pub record IsPlans {S D L B : Type 0} (p : Plans S D L B) : Type 0 where
   pub at_switches : AreAtSwitches (map (λ (n : Node). n.kind) p.blueprint.value.nodes.items) p.board (map planned_seat p.seats.items)
   pub empty : p.places.items ≡ []
   pub room_for_places : vec_len p.seats + length p.lanes.items + length p.lanes.items ≤ vec_capacity p.places
+
+-- of each node the moves that it follows, where it follows some
+abbrev pub led_plans : {S D L B : Type 0} → Plans S D L B → List (Option (List ℕ))
+led_plans p = map planned_plan p.seats.items
 
 -- the parts and the room of island k of these nodes, which have these homes, where these wires join them and these lanes are cut
 pub record IsIslandOf {S D L B : Type 0} (homes : List ℕ) (ws : List Edge) (lanes : List LanePlan) (nodes : List (Seated S D L B)) (k : ℕ)

@@ -1,9 +1,11 @@
 // The plans of a blueprint's islands, and their parts.
 ghost use Rattle.std.specs.List.{All};
 ghost use Rattle.std.specs.Prelude.{◌≡◌, ◌+◌, IfOk, length, map, vec_len};
+ghost use Rattle.materializer.specs.Choosers.{PlansFit, moves_of};
 ghost use Rattle.materializer.specs.Fit.{CanRun};
 ghost use Rattle.materializer.specs.Files.{inputs_of_nodes, outputs_of_nodes};
-ghost use Rattle.island_plans.specs.Plans.{IsPlans, IsFilled};
+ghost use Rattle.materializer.specs.Seats.{place_plan};
+ghost use Rattle.island_plans.specs.Plans.{IsPlans, IsFilled, led_plans};
 ghost use Rattle.materializer.specs.HandedPlugs.{GivesAsListed, HasPlugs};
 
 use crate::ends::end_homes;
@@ -97,17 +99,20 @@ fn all_places(nodes: usize, lanes: usize) -> Result<usize, NoMemory>
 }
 
 /// The plans of the islands of a blueprint. They take all memory that islands want before their nodes hold their handles; a number
-/// that is out of 32 bits is want of memory.
+/// that is out of 32 bits is want of memory. Each node that chooses follows its moves of `plans`, where there are some.
 pub fn plans_of<S: Source, D: Drain, L: Logic, B: PlugBook>(
     alloc: Global,
     b: Blueprint,
     plugs: Vec<Plug<L>>,
+    plans: Vec<Option<Vec<u32>>>,
 ) -> Result<Plans<S, D, L, B>, NoMemory>
     requires runs { CanRun b }
     requires has { HasPlugs (map (λ p. p.head) plugs.items) b.nodes.items }
     requires listed { All (GivesAsListed L.gives B.lists) plugs.items }
+    requires follow { PlansFit (map (λ n. n.kind) b.nodes.items) (map moves_of plans.items) }
     ensures blueprint { IfOk result (λ plans. plans.blueprint.value ≡ b) }
     ensures plans { IfOk result IsPlans }
+    ensures led { IfOk result (λ made. led_plans made ≡ map moves_of plans.items) }
 {
     let blueprint = Snapshot::of(&b);
     let wires = links_of(alloc, &b.nodes, &b.wires)?;
@@ -122,7 +127,7 @@ pub fn plans_of<S: Source, D: Drain, L: Logic, B: PlugBook>(
     let (board, switches) = Board::of(alloc, &b.nodes)?;
     let handed = hand_out::<L, B>(alloc, &b.nodes, plugs)?;
     let unseated = b.nodes;
-    let seats = seat_all(alloc, &b.chains, unseated, switches, handed)?;
+    let seats = seat_all(alloc, &b.chains, unseated, switches, handed, plans)?;
     let places = Vec::with_capacity(alloc, all_places(seats.len(), lanes.len())?)?;
     Ok(Plans {
         seats,
@@ -145,7 +150,7 @@ impl<S: Source, D: Drain, L: Logic, B: PlugBook> Plans<S, D, L, B> {
         requires plans { IsPlans self }
         requires sources { vec_len sources ≡ length (inputs_of_nodes self.blueprint.value.nodes.items) }
         requires drains { vec_len drains ≡ length (outputs_of_nodes self.blueprint.value.nodes.items) }
-        ensures filled { IsFilled self.blueprint.value sources.items drains.items result }
+        ensures filled { (filled : IsFilled self.blueprint.value sources.items drains.items result) × (map place_plan filled.nodes ≡ led_plans self) }
         ensures lanes { result.lanes ≡ self.lanes }
         ensures homes { result.homes ≡ self.homes }
         ensures count { result.count ≡ self.count }

@@ -21,7 +21,7 @@ use Rattle.stage_state.specs.States.{IsMachine}
 use Rattle.stage_state.specs.declared.logic.StateLogic.{StateLogic}
 use Rattle.stage_state.specs.declared.logic.StateLogic.TheVariants as state
 use Rattle.stage_state.specs.Handling.{StateLaw}
-use Rattle.stage_state.specs.Logics.{IsStateful, BeginsAs}
+use Rattle.stage_state.specs.Logics.{IsStateful}
 use Rattle.stage_state.specs.Moves.{state_picks, state_seat}
 use Rattle.stage_sub.specs.States as subs
 use Rattle.stage_sub.specs.Handling.{IsSub, ChoosesAs, new_log, sub_picks}
@@ -53,6 +53,8 @@ use Rattle.interpreter.specs.Parts.{Becomes, BecomesOf}
 use Rattle.interpreter.specs.declared.parts.Seated.{Seated}
 use Rattle.interpreter.specs.declared.parts.Work.{Work}
 use Rattle.interpreter.specs.declared.parts.Work.TheVariants as work
+use Rattle.run_laws.specs.Made.{LedAs}
+use Rattle.run_laws.proofs.States.{led_machine}
 use Rattle.stream_model.specs.declared.blueprint.Node as blue
 use Rattle.blue_names.specs.Picks.{picks, is_merged}
 use Rattle.materializer.specs.Board.{switch_of}
@@ -151,7 +153,7 @@ module _ {S D L B : Type 0} (sources : S → SourceState) (drains : D → DrainS
   law_stays (node.Making f) (node.Making x) v took gave law = record { sinks = refl; picks = refl; seats = refl; handles = record { readers = refl; writers = refl }; ends = refl }
   law_stays (node.Linear f) (node.Linear x) v took gave law = record { sinks = refl; picks = refl; seats = refl; handles = record { readers = refl; writers = refl }; ends = refl }
   law_stays (node.State f) (node.State x) v took gave law = record { sinks = refl; picks = state_stays f x v took gave law; seats = state_seated f x v took gave law; handles = record { readers = refl; writers = refl }; ends = refl }
-  law_stays (node.Sub f) (node.Sub x) v took gave law = record { sinks = refl; picks = sub_stays f.moves x.moves law.chooses; seats = refl; handles = record { readers = refl; writers = refl }; ends = refl }
+  law_stays (node.Sub f) (node.Sub x) v took gave law = record { sinks = refl; picks = sub_stays f.logic.moves x.logic.moves law.chooses; seats = refl; handles = record { readers = refl; writers = refl }; ends = refl }
   law_stays (node.FanIn f) (node.FanIn x) v took gave law = record { sinks = refl; picks = in_stays f x law.same; seats = refl; handles = record { readers = refl; writers = refl }; ends = refl }
   law_stays (node.FanOut f) (node.FanOut x) v took gave law = record { sinks = refl; picks = out_stays f x v took gave law; seats = refl; handles = record { readers = refl; writers = refl }; ends = refl }
   law_stays (node.Writing f) (node.Writing x) v took gave law = record { sinks = refl; picks = refl; seats = refl; handles = record { readers = refl; writers = refl }; ends = refl }
@@ -330,26 +332,26 @@ drop_picks n DropBuffer drops = refl
 drop_picks n DropNew drops = refl
 drop_picks n Fail drops = refl
 
-drop_chooses : (k : ℕ) (shape : Kind) (d : Decider) (f : Dropping) → BeginsAs shape k d (state.Dropping f) → picks shape ≡ true
+drop_chooses : (k : ℕ) (shape : Kind) (d : Decider) (f : Dropping) → LedAs shape k d (state.Dropping f) → picks shape ≡ true
 drop_chooses k (kind.Buffer n p) d f b = drop_picks n p b.0
 drop_chooses k shape d f b = absurd b
 
-recover_chooses : (k : ℕ) (shape : Kind) (d : Decider) (f : Recover) → BeginsAs shape k d (state.Recovering f) → picks shape ≡ true
+recover_chooses : (k : ℕ) (shape : Kind) (d : Decider) (f : Recover) → LedAs shape k d (state.Recovering f) → picks shape ≡ true
 recover_chooses k (kind.RecoverNum z) d f b = refl
 recover_chooses k (kind.RecoverText l) d f b = refl
 recover_chooses k shape d f b = absurd b
 
-valve_chooses : (k : ℕ) (shape : Kind) (d : Decider) (f : Valve) → BeginsAs shape k d (state.Obeying f) → picks shape ≡ true
+valve_chooses : (k : ℕ) (shape : Kind) (d : Decider) (f : Valve) → LedAs shape k d (state.Obeying f) → picks shape ≡ true
 valve_chooses k (kind.Valve name) d f b = refl
 valve_chooses k shape d f b = absurd b
 
-trip_free : (k : ℕ) (shape : Kind) (d : Decider) (f : Trip) → BeginsAs shape k d (state.Tripping f) → picks shape ≡ false
+trip_free : (k : ℕ) (shape : Kind) (d : Decider) (f : Trip) → LedAs shape k d (state.Tripping f) → picks shape ≡ false
 trip_free k (kind.TripShutdown name n) d f b = refl
 trip_free k (kind.TripAbort name n) d f b = refl
 trip_free k shape d f b = absurd b
 
-state_chooses : (k : ℕ) (shape : Kind) (d : Decider) (f : StateLogic) → BeginsAs shape k d f → leaves_something (state_picks f) ≡ picks shape
-state_chooses k shape d (state.Machine f) b = sym (machine_free shape b.0)
+state_chooses : (k : ℕ) (shape : Kind) (d : Decider) (f : StateLogic) → LedAs shape k d f → leaves_something (state_picks f) ≡ picks shape
+state_chooses k shape d (state.Machine f) b = sym (machine_free shape (led_machine shape k d f b).0)
 state_chooses k shape d (state.Dropping f) b = sym (drop_chooses k shape d f b)
 state_chooses k shape d (state.Recovering f) b = sym (recover_chooses k shape d f b)
 state_chooses k shape d (state.Obeying f) b = sym (valve_chooses k shape d f b)
@@ -442,26 +444,26 @@ fan_out_unseated kind.Unzip h = refl
 fan_out_unseated (kind.Balance n) h = refl
 fan_out_unseated _ h = absurd h
 
-drop_unseated : (k : ℕ) (shape : Kind) (d : Decider) (f : Dropping) → BeginsAs shape k d (state.Dropping f) → is_some (switch_of shape) ≡ false
+drop_unseated : (k : ℕ) (shape : Kind) (d : Decider) (f : Dropping) → LedAs shape k d (state.Dropping f) → is_some (switch_of shape) ≡ false
 drop_unseated k (kind.Buffer n p) d f b = refl
 drop_unseated k shape d f b = absurd b
 
-recover_unseated : (k : ℕ) (shape : Kind) (d : Decider) (f : Recover) → BeginsAs shape k d (state.Recovering f) → is_some (switch_of shape) ≡ false
+recover_unseated : (k : ℕ) (shape : Kind) (d : Decider) (f : Recover) → LedAs shape k d (state.Recovering f) → is_some (switch_of shape) ≡ false
 recover_unseated k (kind.RecoverNum z) d f b = refl
 recover_unseated k (kind.RecoverText l) d f b = refl
 recover_unseated k shape d f b = absurd b
 
-valve_seated : (k : ℕ) (shape : Kind) (d : Decider) (f : Valve) → BeginsAs shape k d (state.Obeying f) → is_some (switch_of shape) ≡ true
+valve_seated : (k : ℕ) (shape : Kind) (d : Decider) (f : Valve) → LedAs shape k d (state.Obeying f) → is_some (switch_of shape) ≡ true
 valve_seated k (kind.Valve name) d f b = refl
 valve_seated k shape d f b = absurd b
 
-trip_seated : (k : ℕ) (shape : Kind) (d : Decider) (f : Trip) → BeginsAs shape k d (state.Tripping f) → is_some (switch_of shape) ≡ true
+trip_seated : (k : ℕ) (shape : Kind) (d : Decider) (f : Trip) → LedAs shape k d (state.Tripping f) → is_some (switch_of shape) ≡ true
 trip_seated k (kind.TripShutdown name n) d f b = refl
 trip_seated k (kind.TripAbort name n) d f b = refl
 trip_seated k shape d f b = absurd b
 
-state_seats : (k : ℕ) (shape : Kind) (d : Decider) (f : StateLogic) → BeginsAs shape k d f → leaves_something (state_seat f) ≡ is_some (switch_of shape)
-state_seats k shape d (state.Machine f) b = sym (machine_unseated shape b.0)
+state_seats : (k : ℕ) (shape : Kind) (d : Decider) (f : StateLogic) → LedAs shape k d f → leaves_something (state_seat f) ≡ is_some (switch_of shape)
+state_seats k shape d (state.Machine f) b = sym (machine_unseated shape (led_machine shape k d f b).0)
 state_seats k shape d (state.Dropping f) b = sym (drop_unseated k shape d f b)
 state_seats k shape d (state.Recovering f) b = sym (recover_unseated k shape d f b)
 state_seats k shape d (state.Obeying f) b = sym (valve_seated k shape d f b)
@@ -499,7 +501,7 @@ module _ {S D L B : Type 0} where
   work_leaves chains k m n ss ds (work.State l) x is b =
       subst (λ (y : IslandNode S D L B). LeavesBy n.kind y) (sym b) (inner n.kind (node.State l) refl refl refl (state_chooses k n.kind n.decider l is.begins.as_kind) (state_seats k n.kind n.decider l is.begins.as_kind) (state_plain n.kind is.is_state))
   work_leaves chains k m n ss ds (work.Sub l) x is b =
-      subst (λ (y : IslandNode S D L B). LeavesBy n.kind y) (sym b) (inner n.kind (node.Sub l) refl refl refl (sub_chooses k n.kind l.chain l is.begins.as_kind) (sym (sub_unseated n.kind is.is_sub)) (sub_plain n.kind is.is_sub))
+      subst (λ (y : IslandNode S D L B). LeavesBy n.kind y) (sym b) (inner n.kind (node.Sub l) refl refl refl (sub_chooses k n.kind l.logic.chain l.logic is.begins.as_kind) (sym (sub_unseated n.kind is.is_sub)) (sub_plain n.kind is.is_sub))
   work_leaves chains k m n ss ds (work.FanIn l inputs) x is b =
       subst (λ (y : IslandNode S D L B). LeavesBy n.kind y) (sym b) (inner n.kind (node.FanIn l) refl refl refl (fan_in_chooses n.kind l is.begins.takes) (sym (fan_in_unseated n.kind is.is_in)) (fan_in_plain n.kind is.is_in))
   work_leaves chains k m n ss ds (work.FanOut l outputs) x is b =

@@ -45,19 +45,21 @@ module _ {S D L B : Type 0} (sources : S → SourceState) (drains : D → DrainS
     (h : HaveBegun sources drains book b ss ds begun crossings r) (ran_on : lanes ≡ crossings) (same : lent ≡ crossings) (joined : AllJoined BodiesJoined now lanes) where
   -- they ran over the crossings that were lent
   pub have_run : (budget used : ℕ) (more : Bool) → AllOf (BodyKeeps sources drains book) now → EachOf BodyGoes begun now → used ≡ sum_by (λ (x : Body S D L B). x.spent) now → used ≤ budget
-      → (more ≡ false → AtRest is_pending BodiesJoined now lanes) → (more ≡ true → used ≡ budget) → HaveRun sources drains book b ss ds begun now lent r budget used (not more)
+      → (more ≡ false → AtRest is_pending BodiesJoined now lanes) → (more ≡ true → used ≡ budget) → (run : HaveRun sources drains book b ss ds begun now lent r budget used (not more)) × (run.began.nodes ≡ h.nodes)
   have_run budget used more keep went spent within rest all =
-      subst (λ (cs : List Crossing). HaveRun sources drains book b ss ds begun now cs r budget used (not more)) (sym same)
-      (record {
-        began = h;
-        keep = keep;
-        went = went;
-        joined = subst (λ (cs : List Crossing). AllJoined BodiesJoined now cs) ran_on joined;
-        used_is = spent;
-        within = within;
-        rest = λ still. subst (λ (cs : List Crossing). AtRest is_pending BodiesJoined now cs) ran_on (rest (no_more more still));
-        more = λ left. all (some_more more left);
-      })
+      subst (λ (cs : List Crossing). (run : HaveRun sources drains book b ss ds begun now cs r budget used (not more)) × (run.began.nodes ≡ h.nodes)) (sym same) (
+        record {
+          began = h;
+          keep = keep;
+          went = went;
+          joined = subst (λ (cs : List Crossing). AllJoined BodiesJoined now cs) ran_on joined;
+          used_is = spent;
+          within = within;
+          rest = λ still. subst (λ (cs : List Crossing). AtRest is_pending BodiesJoined now cs) ran_on (rest (no_more more still));
+          more = λ left. all (some_more more left);
+        },
+        refl,
+      )
 
   -- or memory was wanting
   pub have_broken : WholeOrBroken (BodyKeeps sources drains book) BodyGoes (BodyBreaks sources drains book) begun now → HaveBroken sources drains book b ss ds begun now lent r

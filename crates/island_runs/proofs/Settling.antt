@@ -12,10 +12,10 @@ use Rattle.stream_model.specs.Graph as graph
 use Rattle.stream_model.specs.declared.kind.Kind.{Kind}
 use Rattle.stream_model.specs.declared.kind.Kind.TheVariants as kind
 use Rattle.stage_switch.specs.States.{Valve, Trip}
+use Rattle.stage_switch.proofs.Nodes.{valve_tells}
 use Rattle.stage_state.specs.declared.logic.StateLogic.{StateLogic}
 use Rattle.stage_state.specs.declared.logic.StateLogic.TheVariants as state
 use Rattle.stage_state.specs.Handling.{StateLaw}
-use Rattle.stage_state.specs.Logics.{BeginsAs}
 use Rattle.stage_state.specs.Moves.{state_seat}
 use Rattle.nodes.specs.Nodes.{node_law, node_seat}
 use Rattle.nodes.specs.declared.node.IslandNode.{IslandNode}
@@ -26,7 +26,7 @@ use Rattle.interpreter.specs.declared.parts.Seated.{Seated}
 use Rattle.interpreter.specs.declared.parts.Work.{Work}
 use Rattle.interpreter.specs.declared.parts.Work.TheVariants as work
 use Rattle.run_laws.specs.Account.{Account}
-use Rattle.run_laws.specs.Made.{FirstOf}
+use Rattle.run_laws.specs.Made.{FirstOf, LedAs}
 use Rattle.run_laws.specs.Runs.{IsRun}
 use Rattle.run_laws.specs.Telling.{seat_at, AreSettled}
 use Rattle.stream_model.specs.declared.blueprint.Blueprint.{Blueprint}
@@ -46,20 +46,20 @@ SeatStays None None = ⊤
 SeatStays (Some s) (Some t) = t.switch ≡ s.switch
 SeatStays _ _ = ⊥
 
-valve_unused : (k : ℕ) (shape : Kind) (d : Decider) (x : Valve) → BeginsAs shape k d (state.Obeying x) → x.seat.switch ≡ x.switch
+valve_unused : (k : ℕ) (shape : Kind) (d : Decider) (x : Valve) → LedAs shape k d (state.Obeying x) → x.seat.switch ≡ x.switch
 valve_unused k (kind.Valve name) d x b = b.0.0
 valve_unused k shape d x b = absurd b
 
-trip_unused : (k : ℕ) (shape : Kind) (d : Decider) (x : Trip) → BeginsAs shape k d (state.Tripping x) → x.seat.switch ≡ x.switch
+trip_unused : (k : ℕ) (shape : Kind) (d : Decider) (x : Trip) → LedAs shape k d (state.Tripping x) → x.seat.switch ≡ x.switch
 trip_unused k (kind.TripShutdown name n) d x b = b.1.0.0
 trip_unused k (kind.TripAbort name n) d x b = b.1.0.0
 trip_unused k shape d x b = absurd b
 
-state_stays : (k : ℕ) (shape : Kind) (d : Decider) (first now : StateLogic) (v : View) (took gave : List (List Item)) → BeginsAs shape k d first → StateLaw first now v took gave → SeatStays (state_seat first) (state_seat now)
+state_stays : (k : ℕ) (shape : Kind) (d : Decider) (first now : StateLogic) (v : View) (took gave : List (List Item)) → LedAs shape k d first → StateLaw first now v took gave → SeatStays (state_seat first) (state_seat now)
 state_stays k shape d (state.Machine f) (state.Machine x) v took gave b law = tt
 state_stays k shape d (state.Dropping f) (state.Dropping x) v took gave b law = tt
 state_stays k shape d (state.Recovering f) (state.Recovering x) v took gave b law = tt
-state_stays k shape d (state.Obeying f) (state.Obeying x) v took gave b law = law.valve.one ∙ law.switch ∙ sym (valve_unused k shape d f b)
+state_stays k shape d (state.Obeying f) (state.Obeying x) v took gave b law = (valve_tells [] f x v took gave law).0 ∙ sym (valve_unused k shape d f b)
 state_stays k shape d (state.Tripping f) (state.Tripping x) v took gave b law = law.trip.one ∙ law.switch ∙ sym (trip_unused k shape d f b)
 state_stays k shape d first now v took gave b law = absurd law
 

@@ -14,7 +14,9 @@ use Rattle.nodes.specs.Nodes.{KeepsNode, node_seat}
 use Rattle.nodes.specs.declared.node.IslandNode.{IslandNode}
 use Rattle.fused_net.specs.Laws.{AllKept}
 use Rattle.interpreter.specs.Island.{readers_of, writers_of}
+use Rattle.stream_model.specs.Composed.{count_from}
 use Rattle.interpreter.specs.Picks.{pick_of}
+use Rattle.interpreter.specs.Misfits.{FindsMisfit, IsLeast}
 use Rattle.interpreter.specs.declared.island.IslandEnd.{IslandEnd}
 use Rattle.interpreter.specs.declared.parts.Seated.{Seated}
 use Rattle.run_laws.specs.Account.{Account, IsStill}
@@ -67,24 +69,29 @@ module _ {S D L B : Type 0} (sources : S → SourceState) (drains : D → DrainS
   -- bodies that were taken apart between two events, where the seats that their nodes left were settled
   pub leaves : (budget : ℕ) (s : Stopped S D) (e : IslandEnd S D) (near : ℕ → WireState) → (s.at_rest ≡ true → IsStill (graph_of b) acc) → CancelsCross (graph_of b) acc → IsLeftBy (blueprint_wires b) near last e → s.end ≡ record e { seats = s.end.seats }
       → AllSettled (map (λ (n : blue.Node). n.kind) b.nodes.items) (seat_in (map node_seat last)) → s.wires.items ≡ picture_counts acc (graph_of b) → s.used ≤ budget → (s.at_rest ≡ false → s.used ≡ budget)
-      → all_sent (picture_counts acc (graph_of b)) + taken_off (blueprint_wires b) (picture_counts acc (graph_of b)) ≤ s.used → s.used + length (blueprint_wires b) ≤ count_needed (graph_of b) (picture_counts acc (graph_of b)) → RunLeaves L B sources drains book b ss ds budget s
-  leaves budget s e near still cancels l same_end settled wires within spent least most = record {
-    account = alone;
-    nodes = last;
-    moment = moment;
-    still = λ h. still_alone (graph_of b) acc left.firsts last (still (is_so s.at_rest h));
-    settled = settled_run b last alone (λ (k : ℕ). refl) settled;
-    cancels = cancels;
-    sinks = ap (λ (x : IslandEnd S D). x.sinks.items) same_end ∙ l.sinks;
-    picks = ap (λ (x : IslandEnd S D). map pick_of x.picks.items) same_end ∙ l.picks;
-    wires = wires ∙ sym same;
-    readers = ap (λ (x : IslandEnd S D). x.readers.items) same_end ∙ l.readers;
-    writers = ap (λ (x : IslandEnd S D). x.writers.items) same_end ∙ l.writers;
-    within = within;
-    spent = spent;
-    least = subst (λ (cs : List WireCount). all_sent cs + taken_off (blueprint_wires b) cs ≤ s.used) (sym same) least;
-    most = subst (λ (cs : List WireCount). s.used + length (blueprint_wires b) ≤ count_needed (graph_of b) cs) (sym same) most;
-  }
+      → all_sent (picture_counts acc (graph_of b)) + taken_off (blueprint_wires b) (picture_counts acc (graph_of b)) ≤ s.used → s.used + length (blueprint_wires b) ≤ count_needed (graph_of b) (picture_counts acc (graph_of b)) → (l : RunLeaves L B sources drains book b ss ds budget s) × (l.moment.places ≡ nodes)
+  unfolding moment
+  leaves budget s e near still cancels l same_end settled wires within spent least most = (
+    record {
+      account = alone;
+      nodes = last;
+      moment = moment;
+      still = λ h. still_alone (graph_of b) acc left.firsts last (still (is_so s.at_rest h));
+      settled = settled_run b last alone (λ (k : ℕ). refl) settled;
+      cancels = cancels;
+      sinks = ap (λ (x : IslandEnd S D). x.sinks.items) same_end ∙ l.sinks;
+      picks = ap (λ (x : IslandEnd S D). map pick_of x.picks.items) same_end ∙ l.picks;
+      misfit = subst (λ (x : IslandEnd S D). IsLeast (FindsMisfit (count_from 0 (length last)) last) x.misfit) (sym same_end) l.misfit;
+      wires = wires ∙ sym same;
+      readers = ap (λ (x : IslandEnd S D). x.readers.items) same_end ∙ l.readers;
+      writers = ap (λ (x : IslandEnd S D). x.writers.items) same_end ∙ l.writers;
+      within = within;
+      spent = spent;
+      least = subst (λ (cs : List WireCount). all_sent cs + taken_off (blueprint_wires b) cs ≤ s.used) (sym same) least;
+      most = subst (λ (cs : List WireCount). s.used + length (blueprint_wires b) ≤ count_needed (graph_of b) cs) (sym same) most;
+    },
+    refl,
+  )
 
   -- their nodes have their seats at the switches of the board at which they were handed in
   pub kept : (board : Board) → AreAtSwitches (map (λ (n : blue.Node). n.kind) b.nodes.items) board (map place_seat nodes) → AreAtSwitches (map (λ (n : blue.Node). n.kind) b.nodes.items) board (map node_seat last)

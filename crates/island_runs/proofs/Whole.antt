@@ -1,6 +1,6 @@
 -- What bodies between turns leave is what the nodes and the wires of their blueprint leave.
 use Rattle.std.specs.Prelude.{slice_get, Option, All}
-use Rattle.std.proofs.Common.{◌≡◌, ℕ, ◌<◌, List, ◌++◌, length, map, Some, None, ap, sym, ◌∙◌, subst}
+use Rattle.std.proofs.Common.{◌≡◌, ℕ, ◌<◌, List, ◌++◌, length, map, Some, None, true, refl, ap, sym, ◌∙◌, subst}
 use Rattle.std.proofs.lemmas.List.{length-map}
 use Rattle.std.proofs.lemmas.Option.{slice_get_within}
 use Rattle.stream_io.specs.State.{SourceState, DrainState}
@@ -9,10 +9,14 @@ use Rattle.stream_model.specs.Graph.{Graph, Edge}
 use Rattle.fused_net.proofs.Reading.{get_there}
 use Rattle.fused_net.specs.Net.{Net, view_of, took, gave}
 use Rattle.nodes.specs.Nodes.{node_picks, node_seat}
+use Rattle.nodes.specs.Nodes.{node_misfit}
 use Rattle.nodes.specs.declared.node.IslandNode.{IslandNode}
+use Rattle.nodes.specs.declared.node.IslandNode.TheVariants as node
+use Rattle.island_parts.specs.Ends.{is_lane_end}
 use Rattle.interpreter.specs.Island.{counts_of, sinks_of, readers_of, writers_of}
 use Rattle.interpreter.specs.Parts.{wire_number}
 use Rattle.interpreter.specs.Picks.{place_number, picks_of}
+use Rattle.interpreter.specs.Misfits.{least_of, FindsMisfit, IsLeast}
 use Rattle.interpreter.specs.Seats.{seats_of}
 use Rattle.interpreter.specs.declared.island.IslandEnd.{IslandEnd}
 use Rattle.interpreter.specs.declared.parts.Seated.{Seated}
@@ -30,6 +34,7 @@ use Rattle.island_parts.proofs.Wiring.{there}
 use Rattle.island_parts.specs.Ends.{Whole, sink_of, reader_of, writer_of, leaves_something, homes_left, AreLaneEnds, AreEndsOf, AreHomesOf, IsEndOf, IsWholeEnd}
 use Rattle.island_parts.specs.declared.room.EndHomes.{EndHomes}
 use Rattle.island_parts.proofs.Behind.{sinks_behind, readers_behind, writers_behind, picks_behind, seats_behind, homes_behind}
+use Rattle.island_parts.proofs.Misfits.{least_first}
 use Rattle.island_plans.specs.Ends.{wire_home, homes_in, leaves_in, AreEndHomes}
 use Rattle.island_plans.specs.declared.ends.EndList.{EndList}
 use Rattle.island_plans.specs.declared.ends.EndList.TheVariants.{Sinks, Picks, Seats, Readers, Writers}
@@ -50,6 +55,20 @@ use Rattle.island_runs.proofs.Numbers.{map_both, all_read, seat_numbers}
 use Rattle.island_runs.proofs.Became.{ends_at, node_began, end_began}
 use Rattle.island_runs.proofs.Wires.{wires_are, told_many}
 use Rattle.stream_model.specs.Linear.{Book}
+
+-- a stage at an end of a lane chooses nothing
+bare_misfit : {S D L B : Type 0} (x : IslandNode S D L B) → is_lane_end x ≡ true → node_misfit x ≡ None
+bare_misfit (node.Entering x) e = refl
+bare_misfit (node.Leaving x) e = refl
+bare_misfit (node.Reading x) e = absurd cc
+bare_misfit (node.Making x) e = absurd cc
+bare_misfit (node.Linear x) e = absurd cc
+bare_misfit (node.State x) e = absurd cc
+bare_misfit (node.Sub x) e = absurd cc
+bare_misfit (node.FanIn x) e = absurd cc
+bare_misfit (node.FanOut x) e = absurd cc
+bare_misfit (node.Writing x) e = absurd cc
+bare_misfit (node.Ignoring x) e = absurd cc
 
 -- a node of a settled net leaves what it left as it began
 pub settled_stays : {S D L B : Type 0} (sources : S → SourceState) (drains : D → DrainState) (book : Book) (bodies : List (Body S D L B)) → AllSettled sources drains book bodies → (k p : ℕ) (first x : IslandNode S D L B) → slice_get (net_of bodies k).firsts p ≡ Some first → slice_get (net_of bodies k).nodes p ≡ Some x → LeavesAs first x
@@ -115,6 +134,7 @@ module _ {S D L B : Type 0} (sources : S → SourceState) (drains : D → DrainS
         record {
           sinks = i.sinks ∙ ap sinks_of (sym share);
           picks = i.picks ∙ (ap (λ (ns : List ℕ). picks_of ns b.0.island.net.nodes) places ∙ ap (λ (xs : List (IslandNode S D L B)). picks_of (of_home (place_homes homes ws) k (map place_number (whole_seats nodes (lanes_from homes 0 ws)))) xs) (sym share));
+          misfit = i.misfit ∙ (ap (λ (ns : List ℕ). least_of ns b.0.island.net.nodes) places ∙ ap (λ (xs : List (IslandNode S D L B)). least_of (of_home (place_homes homes ws) k (map place_number (whole_seats nodes (lanes_from homes 0 ws)))) xs) (sym share));
           seats = i.seats ∙ (ap (λ (ns : List ℕ). seats_of ns b.0.island.net.nodes) places ∙ ap (λ (xs : List (IslandNode S D L B)). seats_of (of_home (place_homes homes ws) k (map place_number (whole_seats nodes (lanes_from homes 0 ws)))) xs) (sym share));
           readers = i.readers ∙ ap readers_of (sym share);
           writers = i.writers ∙ ap writers_of (sym share);
@@ -160,6 +180,9 @@ module _ {S D L B : Type 0} (sources : S → SourceState) (drains : D → DrainS
       sinks = is.sinks ∙ sinks_behind last more lane_ends;
       picks = is.picks ∙ (ap (λ (l : List ℕ). picks_of l (last ++ more)) (map_both place_number nodes (ends_at (lanes_from homes 0 ws))) ∙ (picks_behind (map place_number nodes) (map place_number (ends_at {S = S} {D = D} {L = L} {B = B} (lanes_from homes 0 ws))) last more (length-map nodes place_number ∙ sym same) lane_ends
           ∙ ap (λ (l : List ℕ). picks_of l last) (seat_numbers g.chains 0 ns ss ds nodes seats ∙ ap (count_from 0) (sym same))));
+      misfit = subst (λ (l : List ℕ). IsLeast (FindsMisfit l last) x.misfit) (seat_numbers g.chains 0 ns ss ds nodes seats ∙ ap (count_from 0) (sym same))
+          (least_first last more (λ k y at. bare_misfit y (lane_ends k y at)) (map place_number nodes) (map place_number (ends_at {S = S} {D = D} {L = L} {B = B} (lanes_from homes 0 ws))) x.misfit (length-map nodes place_number ∙ sym same)
+          (subst (λ (l : List ℕ). IsLeast (FindsMisfit l (last ++ more)) x.misfit) (map_both place_number nodes (ends_at (lanes_from homes 0 ws))) is.misfit));
       seats = is.seats ∙ (ap (λ (l : List ℕ). seats_of l (last ++ more)) (map_both place_number nodes (ends_at (lanes_from homes 0 ws))) ∙ (seats_behind (map place_number nodes) (map place_number (ends_at {S = S} {D = D} {L = L} {B = B} (lanes_from homes 0 ws))) last more (length-map nodes place_number ∙ sym same) lane_ends
           ∙ ap (λ (l : List ℕ). seats_of l last) (seat_numbers g.chains 0 ns ss ds nodes seats ∙ ap (count_from 0) (sym same))));
       wires = is.wires;

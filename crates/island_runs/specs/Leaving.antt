@@ -16,6 +16,7 @@ use Rattle.interpreter.specs.declared.island.IslandEnd.{IslandEnd}
 use Rattle.interpreter.specs.declared.parts.Seated.{Seated}
 use Rattle.interpreter.specs.Parts.{AllBecome}
 use Rattle.interpreter.specs.Picks.{pick_of, picks_of}
+use Rattle.interpreter.specs.Misfits.{FindsMisfit, IsLeast}
 use Rattle.interpreter.specs.Island.{sinks_of, readers_of, writers_of}
 use Rattle.run_laws.specs.Account.{Account, IsStill}
 use Rattle.run_laws.specs.Pictures.{picture_counts}
@@ -61,6 +62,7 @@ pub record RunLeaves {S D : Type 0} (L B : Type 0) (sources : S → SourceState)
   pub cancels : CancelsCross (graph_of b) account
   pub sinks : s.end.sinks.items ≡ sinks_of nodes
   pub picks : map pick_of s.end.picks.items ≡ picks_of (count_from 0 (length nodes)) nodes
+  pub misfit : IsLeast (FindsMisfit (count_from 0 (length nodes)) nodes) s.end.misfit
   pub wires : s.wires.items ≡ picture_counts account (graph_of b)
   pub readers : s.end.readers.items ≡ readers_of nodes
   pub writers : s.end.writers.items ≡ writers_of nodes

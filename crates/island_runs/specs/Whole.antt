@@ -6,6 +6,7 @@ use Rattle.port_core.specs.Cell.{WireState}
 use Rattle.nodes.specs.declared.node.IslandNode.{IslandNode}
 use Rattle.interpreter.specs.Island.{sinks_of, readers_of, writers_of}
 use Rattle.interpreter.specs.Picks.{place_number, pick_of, picks_of}
+use Rattle.interpreter.specs.Misfits.{FindsMisfit, IsLeast}
 use Rattle.interpreter.specs.Seats.{seats_of}
 use Rattle.interpreter.specs.declared.island.IslandEnd.{IslandEnd}
 use Rattle.interpreter.specs.declared.parts.Seated.{Seated}
@@ -32,6 +33,7 @@ whole_of homes ws nodes near last ends = record {
 pub record IsLeftBy {S D L B : Type 0} (ws : List Edge) (near : ℕ → WireState) (nodes : List (IslandNode S D L B)) (e : IslandEnd S D) : Type 0 where
   pub sinks : e.sinks.items ≡ sinks_of nodes
   pub picks : map pick_of e.picks.items ≡ picks_of (count_from 0 (length nodes)) nodes
+  pub misfit : IsLeast (FindsMisfit (count_from 0 (length nodes)) nodes) e.misfit
   pub seats : e.seats.items ≡ seats_of (count_from 0 (length nodes)) nodes
   pub wires : e.wires.items ≡ told_from near 0 ws
   pub readers : e.readers.items ≡ readers_of nodes

@@ -1,7 +1,9 @@
 // What the run of a blueprint's islands takes of memory before its files are opened.
 ghost use Rattle.std.specs.List.{All};
 ghost use Rattle.std.specs.Prelude.{◌≡◌, IfOk, map};
+ghost use Rattle.materializer.specs.Choosers.{PlansFit, moves_of};
 ghost use Rattle.materializer.specs.Fit.{CanRun};
+ghost use Rattle.island_plans.specs.Plans.{led_plans};
 ghost use Rattle.island_runs.specs.Prepared.{IsPrepared};
 ghost use Rattle.materializer.specs.HandedPlugs.{GivesAsListed, HasPlugs};
 
@@ -40,20 +42,23 @@ pub struct Prepared<S: Source, D: Drain, L: Logic, B: PlugBook> {
 }
 
 /// Takes all memory that the run of a blueprint's islands wants before its files are opened, and hands each node that names a plug its
-/// own of `plugs`. A number that is out of 32 bits is want of memory.
+/// own of `plugs`, and each that chooses its moves of `plans`, where there are some. A number that is out of 32 bits is want of memory.
 pub fn prepare<S: Source, D: Drain, L: Logic, B: PlugBook>(
     alloc: Global,
     b: Blueprint,
     plugs: Vec<Plug<L>>,
+    plans: Vec<Option<Vec<u32>>>,
 ) -> Result<Prepared<S, D, L, B>, NoMemory>
     requires runs { CanRun b }
     requires has { HasPlugs (map (λ p. p.head) plugs.items) b.nodes.items }
     requires listed { All (GivesAsListed L.gives B.lists) plugs.items }
+    requires follow { PlansFit (map (λ n. n.kind) b.nodes.items) (map moves_of plans.items) }
     ensures blueprint { IfOk result (λ p. p.plans.blueprint.value ≡ b) }
     ensures prepared { IfOk result IsPrepared }
+    ensures led { IfOk result (λ p. led_plans p.plans ≡ map moves_of plans.items) }
 {
     filled_islands_are_seated::<S, D, L, B>();
-    let plans = plans_of(alloc, b, plugs)?;
+    let plans = plans_of(alloc, b, plugs, plans)?;
     let count = plans.count;
     let ends = ends_of(alloc, &plans.lanes, count)?;
     let bodies = BodyRoom::of(alloc, &plans.ends.wires, &plans.lanes, count)?;

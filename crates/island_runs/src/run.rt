@@ -4,6 +4,8 @@ ghost use Rattle.elem_core.specs.declared.count.TheConstants.{MOST_COUNT};
 ghost use Rattle.stream_model.specs.declared.blueprint.Blueprint as plan;
 ghost use Rattle.island_body.specs.declared.body.Body as island;
 ghost use Rattle.materializer.specs.Files.{inputs_of_nodes, outputs_of_nodes};
+ghost use Rattle.materializer.specs.Seats.{place_plan};
+ghost use Rattle.island_plans.specs.Plans.{led_plans};
 ghost use Rattle.island_runs.specs.Begun.{HaveBegun, HaveRun, HaveBroken};
 ghost use Rattle.island_runs.specs.Leaving.{HasHandles, RunLeaves, LeavesBroken, LeavesBrokenAs};
 ghost use Rattle.island_runs.specs.Prepared.{IsPrepared};
@@ -99,7 +101,8 @@ fn begin<S: Source, D: Drain, L: Logic, B: PlugBook>(
     requires drains { vec_len drains ≡ length (outputs_of_nodes prepared.plans.blueprint.value.nodes.items) }
     requires unread { All (λ s. (S.state s).given ≡ 0) sources.items }
     ensures begun { IfOk result
-        (λ begun. HaveBegun S.state D.state B.lists prepared.plans.blueprint.value sources.items drains.items begun.bodies.items begun.crossings.items begun.remains) }
+        (λ begun. (h : HaveBegun S.state D.state B.lists prepared.plans.blueprint.value sources.items drains.items begun.bodies.items begun.crossings.items begun.remains)
+        × (map place_plan h.nodes ≡ led_plans prepared.plans)) }
     ensures unmade { IfErr result (HasHandles S.state D.state sources.items drains.items) }
 {
     filled_islands_are_seated::<S, D, L, B>();
@@ -171,8 +174,8 @@ fn stop<S: Source, D: Drain, L: Logic, B: PlugBook>(
     requires { (b : plan.Blueprint) × ((ss : List S) × ((ds : List D) × ((begun : List (island.Body S D L B))
         × ((budget : ℕ) × HaveRun S.state D.state B.lists b ss ds begun bodies.items crossings.now remains budget used at_rest)))) }
     ensures leaves { (b : plan.Blueprint) (ss : List S) (ds : List D) (begun : List (island.Body S D L B)) (budget : ℕ)
-        → HaveRun S.state D.state B.lists b ss ds begun bodies.items crossings.now remains budget used at_rest
-        → RunLeaves L B S.state D.state B.lists b ss ds budget result }
+        → (run : HaveRun S.state D.state B.lists b ss ds begun bodies.items crossings.now remains budget used at_rest)
+        → (l : RunLeaves L B S.state D.state B.lists b ss ds budget result) × (l.moment.places ≡ run.began.nodes) }
     ensures same { (result.used ≡ used) × (result.at_rest ≡ at_rest) × (result.ran ≡ ran) }
 {
     ends_stay_at_their_crossings::<S, D, L, B>();
@@ -200,6 +203,7 @@ fn stop<S: Source, D: Drain, L: Logic, B: PlugBook>(
         sinks,
         wires: told,
         picks,
+        misfit,
         seats,
         readers,
         writers,
@@ -210,6 +214,7 @@ fn stop<S: Source, D: Drain, L: Logic, B: PlugBook>(
             sinks,
             wires: told,
             picks,
+            misfit,
             seats: Vec::new(alloc),
             readers,
             writers,
@@ -271,8 +276,8 @@ fn run_bodies<
     requires begun { (b : plan.Blueprint)
         × ((ss : List S) × ((ds : List D) × HaveBegun S.state D.state B.lists b ss ds begun.bodies.items begun.crossings.items begun.remains)) }
     ensures leaves { (b : plan.Blueprint) (ss : List S) (ds : List D)
-        → HaveBegun S.state D.state B.lists b ss ds begun.bodies.items begun.crossings.items begun.remains
-        → IfOk result (λ stopped. RunLeaves L B S.state D.state B.lists b ss ds budget stopped) }
+        → (h : HaveBegun S.state D.state B.lists b ss ds begun.bodies.items begun.crossings.items begun.remains)
+        → IfOk result (λ stopped. (l : RunLeaves L B S.state D.state B.lists b ss ds budget stopped) × (l.moment.places ≡ h.nodes)) }
     ensures receipt { (b : plan.Blueprint) (ss : List S) (ds : List D)
         → HaveBegun S.state D.state B.lists b ss ds begun.bodies.items begun.crossings.items begun.remains
         → IfOk result (λ stopped. IsReceipt b workers stopped.used stopped.at_rest stopped.ran) }
@@ -326,7 +331,8 @@ pub fn run<
     requires sources { vec_len sources ≡ length (inputs_of_nodes prepared.plans.blueprint.value.nodes.items) }
     requires drains { vec_len drains ≡ length (outputs_of_nodes prepared.plans.blueprint.value.nodes.items) }
     requires unread { All (λ s. (S.state s).given ≡ 0) sources.items }
-    ensures leaves { IfOk result (λ stopped. RunLeaves L B S.state D.state B.lists prepared.plans.blueprint.value sources.items drains.items budget stopped) }
+    ensures leaves { IfOk result (λ stopped. (l : RunLeaves L B S.state D.state B.lists prepared.plans.blueprint.value sources.items drains.items budget stopped)
+        × (map place_plan l.moment.places ≡ led_plans prepared.plans)) }
     ensures receipt { IfOk result (λ stopped. IsReceipt prepared.plans.blueprint.value workers stopped.used stopped.at_rest stopped.ran) }
     ensures breaks { IfErr result (λ broken. LeavesBrokenAs L B S.state D.state B.lists prepared.plans.blueprint.value sources.items drains.items broken) }
 {

@@ -21,7 +21,7 @@ use Rattle.interpreter.specs.Handles.{with_source, with_drain, sources_in, drain
 use Rattle.stream_model.specs.declared.blueprint.Node.{Node}
 use Rattle.materializer.specs.Files.{source_file, output_of, inputs_of_nodes, outputs_of_nodes}
 use Rattle.materializer.specs.Seats.{handle_of, handles_left, IsWork, AreSeats}
-use Rattle.materializer.specs.Planned.{IsPlanned, ArePlanned, reads, writes, reads_in, writes_in, places_from}
+use Rattle.materializer.specs.Planned.{IsLedPlan, ArePlanned, reads, writes, reads_in, writes_in, places_from}
 use Rattle.materializer.specs.declared.seats.Planned.{Planned}
 use Rattle.materializer.specs.declared.seats.Planned.TheVariants.{Reads, Writes, Works}
 use Rattle.materializer.specs.declared.seats.Seat.{Seat}
@@ -42,12 +42,12 @@ no_file : (o : Option (List ℕ)) (names : List (List ℕ)) (m : ℕ) → o ≡ 
 no_file o names m e h = let size : length (cons_option o names) ≡ length names = ap (λ p. length (cons_option p names)) e in omega (arith, size, h)
 
 module _ {S D L B : Type 0} where
-  reads_here : (chains : List graph.Chain) (k : ℕ) (n : Node) (q : Planned S D L B) (names : List (List ℕ)) (m : ℕ) → IsPlanned chains k n q → m ≡ length names → reads q + m ≡ length (cons_option (source_file n.kind) names)
+  reads_here : (chains : List graph.Chain) (k : ℕ) (n : Node) (q : Planned S D L B) (names : List (List ℕ)) (m : ℕ) → IsLedPlan chains k n q → m ≡ length names → reads q + m ≡ length (cons_option (source_file n.kind) names)
   reads_here chains k n Reads names m p h = one_file (source_file n.kind) p.file names m (ap source_file p.kind_is) h
   reads_here chains k n (Writes shape) names m p h = no_file (source_file n.kind) names m (sink_file n.kind p.is_sink).1.1 h
   reads_here chains k n (Works w) names m p h = no_file (source_file n.kind) names m p.no_input h
 
-  writes_here : (chains : List graph.Chain) (k : ℕ) (n : Node) (q : Planned S D L B) (names : List (List ℕ)) (m : ℕ) → IsPlanned chains k n q → m ≡ length names → writes q + m ≡ length (cons_option (output_of n.kind) names)
+  writes_here : (chains : List graph.Chain) (k : ℕ) (n : Node) (q : Planned S D L B) (names : List (List ℕ)) (m : ℕ) → IsLedPlan chains k n q → m ≡ length names → writes q + m ≡ length (cons_option (output_of n.kind) names)
   writes_here chains k n Reads names m p h = no_file (output_of n.kind) names m (ap output_of p.kind_is) h
   writes_here chains k n (Writes shape) names m p h = let f = sink_file n.kind p.is_sink in one_file (output_of n.kind) f.0 names m f.1.0 h
   writes_here chains k n (Works w) names m p h = no_file (output_of n.kind) names m p.no_output h

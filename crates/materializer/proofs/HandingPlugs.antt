@@ -20,7 +20,7 @@ at_all : {X : Type 0} (P : X → Type 0) (xs : List X) (i : ℕ) (x : X) → sli
 at_all P xs i x at all = subst P (get_or_from_slice_get xs i x x at) (all i x (slice_get_within xs i x at))
 
 -- the node at this place is the first of those that are left
-here : (nodes : List Node) (i : ℕ) (n : Node) → i < length nodes → n ≡ get_or nodes i n → drop i nodes ≡ n ∷ drop (i + 1) nodes
+pub here : (nodes : List Node) (i : ℕ) (n : Node) → i < length nodes → n ≡ get_or nodes i n → drop i nodes ≡ n ∷ drop (i + 1) nodes
 here nodes i n less is = drop_more nodes i n less ∙ ap (λ m. m ∷ drop (i + 1) nodes) (sym is)
 
 names_same : {L : Type 0} (plugs : List (Plug L)) → map (λ (h : PlugHead). h.name) (map (λ p. p.head) plugs) ≡ names_of plugs

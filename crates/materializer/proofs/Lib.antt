@@ -17,4 +17,7 @@ pub mod SeatLoops
 pub mod Switches
 pub mod Plugs
 pub mod Filling
+pub mod Choosing
+pub mod ChooserLoops
 pub mod SubPlaces
+pub mod Leading

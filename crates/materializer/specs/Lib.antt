@@ -8,5 +8,6 @@ pub mod Files
 pub mod Seats
 pub mod Handed
 pub mod Choices
+pub mod Choosers
 pub mod Firsts
 pub mod Planned

@@ -1,5 +1,5 @@
 -- The nodes of a blueprint at their places, before its files are opened.
-use Rattle.std.specs.Prelude.{◌≡◌, ℕ, ◌+◌, List, [], ◌∷◌, Option, None, ⊤}
+use Rattle.std.specs.Prelude.{◌≡◌, ℕ, ◌+◌, List, [], ◌∷◌, Option, None, Some, ⊤}
 use Rattle.stage_switch.specs.Public.{SeatState}
 use Rattle.stream_model.specs.Graph as graph
 use Rattle.stream_model.specs.declared.kind.Kind.{Kind}
@@ -12,7 +12,7 @@ use Rattle.interpreter.specs.declared.parts.Seated.{Seated}
 use Rattle.interpreter.specs.declared.parts.Work.{Work}
 use Rattle.stream_model.specs.declared.blueprint.Node.{Node}
 use Rattle.materializer.specs.Files.{source_file, output_of}
-use Rattle.materializer.specs.Seats.{handles_left, IsFreeWork, IsWork, work_seat}
+use Rattle.materializer.specs.Seats.{handles_left, IsFreeWork, IsLedWork, IsWork, work_seat, work_plan, WorkMayFollow, WorkFollows}
 use Rattle.materializer.specs.declared.seats.Planned.{Planned}
 use Rattle.materializer.specs.declared.seats.Planned.TheVariants.{Reads, Writes, Works}
 use Rattle.materializer.specs.declared.seats.Seat.{Seat}
@@ -44,10 +44,43 @@ IsPlanned chains k n Reads = PlansReader n
 IsPlanned chains k n (Writes shape) = PlansWriter n shape
 IsPlanned chains k n (Works w) = PlansWork chains k n w
 
+-- a node without a file, which follows moves or not
+pub record LeadsWork {S D L B : Type 0} (chains : List graph.Chain) (k : ℕ) (n : Node) (w : Work S D L B) : Type 0 where
+  pub work : IsLedWork chains k n.kind n.decider w
+  pub no_input : source_file n.kind ≡ None
+  pub no_output : output_of n.kind ≡ None
+
+-- what is to stand at the place of node k, which follows moves or not
+abbrev pub IsLedPlan : {S D L B : Type 0} → List graph.Chain → ℕ → Node → Planned S D L B → Type 0
+IsLedPlan chains k n Reads = PlansReader n
+IsLedPlan chains k n (Writes shape) = PlansWriter n shape
+IsLedPlan chains k n (Works w) = LeadsWork chains k n w
+
+-- the moves that what is to stand at a place follows
+abbrev pub plan_of_planned : {S D L B : Type 0} → Planned S D L B → Option (List ℕ)
+plan_of_planned Reads = None
+plan_of_planned (Writes shape) = None
+plan_of_planned (Works w) = work_plan w
+
+-- what is to stand at a place may follow these moves
+abbrev pub PlannedMayFollow : {S D L B : Type 0} → List ℕ → Planned S D L B → Type 0
+PlannedMayFollow moves (Works w) = WorkMayFollow moves w
+PlannedMayFollow moves p = ⊥
+
+-- it is the same, but follows these moves, where there are some
+abbrev pub PlannedFollows : {S D L B : Type 0} → Option (List ℕ) → Planned S D L B → Planned S D L B → Type 0
+PlannedFollows None old new = new ≡ old
+PlannedFollows (Some moves) (Works old) (Works new) = WorkFollows moves old new
+PlannedFollows (Some moves) old new = ⊥
+
+-- the moves that what is to stand at a place follows
+abbrev pub planned_plan : {S D L B : Type 0} → Seat S D L B → Option (List ℕ)
+planned_plan s = plan_of_planned s.planned
+
 -- this is to stand at the place of node k, in a blueprint with these chains
 pub record IsSeat {S D L B : Type 0} (chains : List graph.Chain) (k : ℕ) (n : Node) (s : Seat S D L B) : Type 0 where
   pub node : s.node ≡ k
-  pub planned : IsPlanned chains k n s.planned
+  pub planned : IsLedPlan chains k n s.planned
 
 -- these nodes, of which the first is node k, each at its place
 abbrev pub ArePlanned : {S D L B : Type 0} → List graph.Chain → ℕ → List Node → List (Seat S D L B) → Type 0

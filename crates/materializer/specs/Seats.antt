@@ -11,20 +11,24 @@ use Rattle.stream_io.specs.Reading.{ReaderState}
 use Rattle.stage_switch.specs.Public.{SeatState}
 use Rattle.stage_linear.specs.States.{Logic, IsLinear, Begins}
 use Rattle.stage_state.specs.declared.logic.StateLogic.{StateLogic}
-use Rattle.stage_state.specs.Logics.{IsStateful}
-use Rattle.stage_state.specs.Moves.{state_seat}
+use Rattle.stage_state.specs.Logics.{IsStateful, StateMayFollow, StateFollows}
+use Rattle.stage_state.specs.Moves.{state_seat, state_plan}
 use Rattle.stage_state.specs.Handling as state
-use Rattle.stage_sub.specs.States as subs
+use Rattle.stage_sub.specs.Leds as subs
+use Rattle.stage_sub.specs.LedLaws as led_sub
 use Rattle.stage_sub.specs.Handling as sub
 use Rattle.line_chain.specs.Line.{Line, line_rest, line_is_open, IsLine}
 use Rattle.stage_in.specs.declared.logic.InLogic.{InLogic}
 use Rattle.stage_in.specs.Logics.{IsFanIn}
 use Rattle.stage_in.specs.Logics as fan_in
+use Rattle.stage_in.specs.Moves.{in_plan}
 use Rattle.stage_out.specs.declared.logic.OutLogic.{OutLogic}
 use Rattle.stage_out.specs.OutLogics.{IsOut}
 use Rattle.stage_out.specs.OutLogics as fan_out
+use Rattle.stage_out.specs.Moves.{out_plan}
 use Rattle.nodes.specs.Kinds.{IsMaker, IsFileSink}
-use Rattle.run_laws.specs.Made.{chain_name}
+use Rattle.port_core.specs.View.{unpulled_ports}
+use Rattle.run_laws.specs.Made.{chain_name, BeginsLed}
 use Rattle.interpreter.specs.declared.parts.Seated.{Seated}
 use Rattle.interpreter.specs.declared.parts.Work.{Work}
 use Rattle.interpreter.specs.declared.parts.Work.TheVariants as work
@@ -57,20 +61,46 @@ pub record StagesState (k : ℕ) (kind : Kind) (d : Decider) (l : StateLogic) : 
   pub is_state : IsStateful kind
   pub begins : state.Begins k kind d l
 
--- a stage with substreams is at its start, and each of them goes through the chain that its kind names
-pub record StagesSub (chains : List graph.Chain) (k : ℕ) (kind : Kind) (l : subs.Logic Line) : Type 0 where
+-- a stage with substreams is at its start, follows no moves, and each of them goes through the chain that its kind names
+pub record StagesSub (chains : List graph.Chain) (k : ℕ) (kind : Kind) (l : subs.Led Line) : Type 0 where
   pub is_sub : sub.IsSub kind
-  pub begins : sub.Begins line_rest line_is_open k kind l.chain l
-  pub line : IsLine k (steps_of (chain_name kind) chains) l.chain
+  pub begins : led_sub.LedBegins line_rest line_is_open k kind l.logic.chain l
+  pub free : l.left ≡ None
+  pub line : IsLine k (steps_of (chain_name kind) chains) l.logic.chain
 
--- a stage with several inputs is at its start, and has so many
+-- a stage with several inputs is at its start, follows no moves, and has so many
 pub record StagesIn (k : ℕ) (kind : Kind) (d : Decider) (l : InLogic) (inputs : ℕ) : Type 0 where
+  pub is_in : IsFanIn kind
+  pub begins : fan_in.Begins k kind d l
+  pub free : in_plan l ≡ None
+  pub inputs_are : inputs ≡ inputs_of kind
+
+-- a stage with several outputs is at its start, follows no moves, and has so many
+pub record StagesOut (k : ℕ) (kind : Kind) (l : OutLogic) (outputs : ℕ) : Type 0 where
+  pub is_out : IsOut kind
+  pub begins : fan_out.Begins k kind l
+  pub free : out_plan l ≡ None
+  pub outputs_are : outputs ≡ outputs_of kind
+
+-- a stage with state is at its start, or follows moves
+pub record LeadsState (k : ℕ) (kind : Kind) (d : Decider) (l : StateLogic) : Type 0 where
+  pub is_state : IsStateful kind
+  pub begins : BeginsLed k kind d l
+
+-- a stage with substreams is at its start, or follows moves, and each of them goes through the chain that its kind names
+pub record LeadsSub (chains : List graph.Chain) (k : ℕ) (kind : Kind) (l : subs.Led Line) : Type 0 where
+  pub is_sub : sub.IsSub kind
+  pub begins : led_sub.LedBegins line_rest line_is_open k kind l.logic.chain l
+  pub line : IsLine k (steps_of (chain_name kind) chains) l.logic.chain
+
+-- a stage with several inputs is at its start, or follows moves, and has so many
+pub record LeadsIn (k : ℕ) (kind : Kind) (d : Decider) (l : InLogic) (inputs : ℕ) : Type 0 where
   pub is_in : IsFanIn kind
   pub begins : fan_in.Begins k kind d l
   pub inputs_are : inputs ≡ inputs_of kind
 
--- a stage with several outputs is at its start, and has so many
-pub record StagesOut (k : ℕ) (kind : Kind) (l : OutLogic) (outputs : ℕ) : Type 0 where
+-- a stage with several outputs is at its start, or follows moves, and has so many
+pub record LeadsOut (k : ℕ) (kind : Kind) (l : OutLogic) (outputs : ℕ) : Type 0 where
   pub is_out : IsOut kind
   pub begins : fan_out.Begins k kind l
   pub outputs_are : outputs ≡ outputs_of kind
@@ -102,11 +132,51 @@ IsFreeWork chains k kind d (work.FanOut l outputs) = StagesOut k kind l outputs
 IsFreeWork chains k kind d (work.Writing shape None) = WritesNone kind shape
 IsFreeWork chains k kind d _ = ⊥
 
+-- the same, or one that follows moves
+abbrev pub IsLedWork : {S D L B : Type 0} → List graph.Chain → ℕ → Kind → Decider → Work S D L B → Type 0
+IsLedWork chains k kind d (work.State l) = LeadsState k kind d l
+IsLedWork chains k kind d (work.Sub l) = LeadsSub chains k kind l
+IsLedWork chains k kind d (work.FanIn l inputs) = LeadsIn k kind d l inputs
+IsLedWork chains k kind d (work.FanOut l outputs) = LeadsOut k kind l outputs
+IsLedWork chains k kind d w = IsFreeWork chains k kind d w
+
+-- the moves that a work follows, where it follows some
+abbrev pub work_plan : {S D L B : Type 0} → Work S D L B → Option (List ℕ)
+work_plan (work.State l) = state_plan l
+work_plan (work.Sub l) = subs.sub_plan l
+work_plan (work.FanIn l inputs) = in_plan l
+work_plan (work.FanOut l outputs) = out_plan l
+work_plan w = None
+
+-- the moves that what stands at a place follows
+abbrev pub place_plan : {S D L B : Type 0} → Seated S D L B → Option (List ℕ)
+place_plan p = work_plan p.work
+
+-- a new work may follow these moves
+abbrev pub WorkMayFollow : {S D L B : Type 0} → List ℕ → Work S D L B → Type 0
+WorkMayFollow moves (work.State l) = StateMayFollow moves l
+WorkMayFollow moves (work.Sub l) = l.logic.moves ≡ Some []
+WorkMayFollow moves (work.FanIn l inputs) = fan_in.MayFollow moves l
+WorkMayFollow moves (work.FanOut l outputs) = fan_out.OutMayFollow moves l
+WorkMayFollow moves w = ⊥
+
+-- it is the same, but follows these moves
+abbrev pub WorkFollows : {S D L B : Type 0} → List ℕ → Work S D L B → Work S D L B → Type 0
+WorkFollows moves (work.State old) (work.State new) = StateFollows moves old new × state.StateFresh new unpulled_ports
+WorkFollows moves (work.Sub old) (work.Sub new) =
+    ((node : ℕ) (kind : Kind) (chain : Line) → led_sub.LedBegins line_rest line_is_open node kind chain old → led_sub.LedBegins line_rest line_is_open node kind chain new)
+    × (subs.sub_plan new ≡ Some moves)
+WorkFollows moves (work.FanIn old inputs) (work.FanIn new same) =
+    (same ≡ inputs) × (((node : ℕ) (kind : Kind) (d : Decider) → fan_in.Begins node kind d old → fan_in.Begins node kind d new) × (in_plan new ≡ Some moves))
+WorkFollows moves (work.FanOut old outputs) (work.FanOut new same) =
+    (same ≡ outputs) × (((node : ℕ) (kind : Kind) → fan_out.Begins node kind old → fan_out.Begins node kind new) × (out_plan new ≡ Some moves))
+WorkFollows moves old new = ⊥
+
 -- the work of node k, where these sources and drains are left, in a blueprint with these chains
 abbrev pub IsWork : {S D L B : Type 0} → List graph.Chain → ℕ → Node → List S → List D → Work S D L B → Type 0
 IsWork chains k n sources drains (work.Reading r) = ReadsNext n sources r
 IsWork chains k n sources drains (work.Writing shape (Some d)) = WritesNext n drains shape d
-IsWork chains k n sources drains w = IsFreeWork chains k n.kind n.decider w
+IsWork chains k n sources drains w = IsLedWork chains k n.kind n.decider w
 
 -- these nodes of a blueprint with these chains, of which the first is node k, each at its place; in their order they take the sources and the drains
 abbrev pub AreSeats : {S D L B : Type 0} → List graph.Chain → ℕ → List Node → List S → List D → List (Seated S D L B) → Type 0

@@ -23,6 +23,7 @@
 #![tactic(auto)]
 
 mod chains;
+pub mod choosers;
 pub mod heads;
 pub mod laws;
 pub mod names;

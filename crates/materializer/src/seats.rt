@@ -1,5 +1,5 @@
 // What stands at the place of each node.
-ghost use Rattle.std.specs.Prelude.{◌≡◌, ◌+◌, ◌<◌, ◌≤◌, List, [], ◌∷◌, true, None, IfOk, map, vec_len, vec_capacity};
+ghost use Rattle.std.specs.Prelude.{◌≡◌, ◌+◌, ◌<◌, ◌≤◌, ◌^◌, List, [], ◌∷◌, true, None, IfOk, IfSome, map, vec_len, vec_capacity};
 ghost use Rattle.std.specs.List.{list_all};
 ghost use Rattle.std.specs.Vec.Iter.{into_iter_items, into_iter_len};
 ghost use Rattle.blue_names.specs.Sizes.{sizes_fit};
@@ -12,8 +12,9 @@ ghost use Rattle.stream_model.specs.declared.blueprint.Node as blue;
 ghost use Rattle.materializer.specs.Files.{source_file, output_of};
 ghost use Rattle.materializer.specs.Graphs.{graph_chain};
 ghost use Rattle.materializer.specs.Board.{switch_of, IsHandedAt, AreHanded, seat_of_end};
-ghost use Rattle.materializer.specs.Seats.{IsFreeWork, AreSeats, work_seat, place_seat};
-ghost use Rattle.materializer.specs.Planned.{IsPlanned, IsSeat, ArePlanned, Fills, seat_of_plan, planned_seat, reads, writes, reads_in, writes_in};
+ghost use Rattle.materializer.specs.Seats.{IsFreeWork, AreSeats, work_seat, place_seat, place_plan, WorkMayFollow, WorkFollows};
+ghost use Rattle.materializer.specs.Choosers.{moves_of, PlanFits, PlansFit};
+ghost use Rattle.materializer.specs.Planned.{IsPlanned, IsSeat, ArePlanned, Fills, seat_of_plan, planned_seat, planned_plan, PlannedMayFollow, PlannedFollows, reads, writes, reads_in, writes_in};
 ghost use Rattle.materializer.specs.HandedPlugs.{GivesAsListed, IsPlugged, ArePlugged};
 ghost use Rattle.blue_names.specs.Names.{plug_of};
 ghost use Rattle.stream_model.specs.Graph as graph;
@@ -60,7 +61,7 @@ pub struct Seat<S: Source, D: Drain, L: Logic, B: PlugBook> {
 }
 
 /// The next handle of some.
-fn take_next<T: Drop>(handles: &mut IntoIter<T, Global>) -> T
+pub(crate) fn take_next<T: Drop>(handles: &mut IntoIter<T, Global>) -> T
     requires { 0 < into_iter_len handles.old }
     ensures items { into_iter_items handles.old ≡ result ∷ into_iter_items handles.new }
     ensures len { into_iter_len handles.old ≡ into_iter_len handles.new + 1 }
@@ -276,8 +277,41 @@ fn stand<S: Source, D: Drain, L: Logic, B: PlugBook>(
     }
 }
 
-/// What stands at the place of node k, whose handle is not there yet. A valve and a trip have this of their switch, and a stage that
-/// the caller made is this plug.
+/// From now on a work that chooses follows these moves.
+fn follow<S: Source, D: Drain, L: Logic, B: PlugBook>(work: &mut Work<S, D, L, B>, moves: Vec<u32>)
+    requires may { WorkMayFollow moves.items work.old }
+    requires few { vec_len moves < 2 ^ 32 }
+    ensures { WorkFollows moves.items work.old work.new }
+{
+    match work {
+        Work::State(logic) => logic.follow(moves),
+        Work::FanIn(logic, _) => logic.follow(moves),
+        Work::FanOut(logic, _) => logic.follow(moves),
+        Work::Sub(logic) => logic.follow(moves),
+        _ => unreachable!(),
+    }
+}
+
+/// What is to stand at a place, which follows these moves, where there are some.
+fn led<S: Source, D: Drain, L: Logic, B: PlugBook>(
+    planned: Planned<S, D, L, B>,
+    moves: Option<Vec<u32>>,
+) -> Planned<S, D, L, B>
+    requires { IfSome moves (λ m. PlannedMayFollow m.items planned × (vec_len m < 2 ^ 32)) }
+    ensures { PlannedFollows (moves_of moves) planned result }
+{
+    let mut planned = planned;
+    if let Some(moves) = moves {
+        match &mut planned {
+            Planned::Works(work) => follow(work, moves),
+            Planned::Reads | Planned::Writes(_) => unreachable!(),
+        }
+    }
+    planned
+}
+
+/// What stands at the place of node k, whose handle is not there yet. A valve and a trip have this of their switch, a stage that
+/// the caller made is this plug, and one that chooses follows these moves, where there are some.
 fn plan<S: Source, D: Drain, L: Logic, B: PlugBook>(
     alloc: Global,
     chains: &[ChainDecl],
@@ -285,12 +319,15 @@ fn plan<S: Source, D: Drain, L: Logic, B: PlugBook>(
     node: Node,
     switch: Option<SwitchEnd>,
     plug: Option<Plug<L>>,
+    moves: Option<Vec<u32>>,
 ) -> Result<Seat<S, D, L, B>, NoMemory>
     requires sized { sizes_fit node.kind ≡ true }
     requires handed { IsHandedAt (switch_of node.kind) switch }
     requires plugged { IsPlugged L.gives B.lists (plug_of node.kind) plug }
+    requires follows { PlanFits node.kind (moves_of moves) }
     ensures planned { IfOk result (IsSeat (map graph_chain chains.now) k node) }
     ensures seat { IfOk result (λ s. planned_seat s ≡ seat_of_end switch) }
+    ensures plan { IfOk result (λ s. planned_plan s ≡ moves_of moves) }
 {
     let Node {
         name,
@@ -299,33 +336,41 @@ fn plan<S: Source, D: Drain, L: Logic, B: PlugBook>(
     } = node;
     let _ = name;
     let planned = stand(alloc, chains, k, kind, decider, switch, plug)?;
-    Ok(Seat { node: k, planned })
+    Ok(Seat {
+        node: k,
+        planned: led(planned, moves),
+    })
 }
 
 /// The nodes in order, each at its place, whose handles are not there yet. Each is handed what it has of its switch: a valve and a
-/// trip a seat that gave nothing and knows nothing; and a node that names a plug is handed that. The substreams of a stage go through
-/// the chain of these that it names.
+/// trip a seat that gave nothing and knows nothing; and a node that names a plug is handed that. A stage that chooses follows its
+/// moves of `plans`, where there are some. The substreams of a stage go through the chain of these that it names.
 pub fn seat_all<S: Source, D: Drain, L: Logic, B: PlugBook>(
     alloc: Global,
     chains: &[ChainDecl],
     nodes: Vec<Node>,
     ends: Vec<Option<SwitchEnd>>,
     plugs: Vec<Option<Plug<L>>>,
+    plans: Vec<Option<Vec<u32>>>,
 ) -> Result<Vec<Seat<S, D, L, B>>, NoMemory>
     requires sized { list_all (λ n. sizes_fit n.kind) nodes.items ≡ true }
     requires handed { AreHanded (map (λ n. n.kind) nodes.items) ends.items }
     requires plugged { ArePlugged L.gives B.lists (map (λ n. n.kind) nodes.items) plugs.items }
+    requires follow { PlansFit (map (λ n. n.kind) nodes.items) (map moves_of plans.items) }
     ensures planned { IfOk result (λ seats. ArePlanned (map graph_chain chains.now) 0 nodes.items seats.items) }
     ensures seats { IfOk result (λ seats. map planned_seat seats.items ≡ map seat_of_end ends.items) }
+    ensures plans { IfOk result (λ seats. map planned_plan seats.items ≡ map moves_of plans.items) }
 {
     let mut unhanded = ends.into_iter();
     let mut unplugged = plugs.into_iter();
+    let mut unmade = plans.into_iter();
     let mut seats = Vec::new(alloc);
     for node in nodes {
         let k = numbered(seats.len())?;
         let end = take_next(&mut unhanded);
         let plug = take_next(&mut unplugged);
-        seats.push(plan(alloc, chains, k, node, end, plug)?)?;
+        let moves = take_next(&mut unmade);
+        seats.push(plan(alloc, chains, k, node, end, plug, moves)?)?;
     }
     Ok(seats)
 }
@@ -343,6 +388,7 @@ fn fill<S: Source, D: Drain, L: Logic, B: PlugBook>(
     ensures fills { (chains : List graph.Chain) → Fills chains seat (into_iter_items sources.old) (into_iter_items drains.old) result
         (into_iter_items sources.new) (into_iter_items drains.new) }
     ensures seat { place_seat result ≡ planned_seat seat }
+    ensures plan { place_plan result ≡ planned_plan seat }
     ensures fewer_sources { into_iter_len sources.old ≡ into_iter_len sources.new + reads seat.planned }
     ensures fewer_drains { into_iter_len drains.old ≡ into_iter_len drains.new + writes seat.planned }
 {
@@ -373,6 +419,7 @@ pub fn fill_all<S: Source, D: Drain, L: Logic, B: PlugBook>(
     ensures room { vec_capacity result ≡ vec_capacity places }
     ensures each { vec_len result ≡ vec_len seats }
     ensures kept { map place_seat result.items ≡ map planned_seat seats.items }
+    ensures plans { map place_plan result.items ≡ map planned_plan seats.items }
 {
     let mut unread = sources.into_iter();
     let mut unwritten = drains.into_iter();

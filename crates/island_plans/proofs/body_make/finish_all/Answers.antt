@@ -31,7 +31,7 @@ loop-body-preserved g c =
       fewer _ _ _ _ _ next.0 (sym next.1) kept.2,
       omega (arith, kept.3, next.1, put.len, put.capacity),
       going_next (EndsAt c.args.bodies.items) c.args.bodies.items _ _ _ _ _ _ kept.4 next.0 put.items
-          (ends_at c.args.bodies.items _ _ _ at (record { sinks = left.sinks; wires = left.wires; picks = left.picks; seats = left.seats; readers = left.readers; writers = left.writers })),
+          (ends_at c.args.bodies.items _ _ _ at (record { sinks = left.sinks; wires = left.wires; picks = left.picks; misfit = left.misfit; seats = left.seats; readers = left.readers; writers = left.writers })),
     )
 
 pub returns : goal.returns

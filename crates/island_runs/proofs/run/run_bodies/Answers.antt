@@ -33,7 +33,7 @@ stop-requires g c =
             c.args.begun.bodies.items,
             (
               c.args.budget,
-              have_run g.S.Source.state g.D.Drain.state g.B.PlugBook.lists b ss ds c.args.begun.bodies.items f.bodies.items c.deref.result.now c.args.begun.crossings.items c.deref-in-Ok.result.now c.args.begun.remains c.requires.begun.1.1.1 c.deref.ensures.value c.deref-in-Ok.ensures.value e.joined c.args.budget f.used f.more e.keeps e.goes e.spent e.within e.rest (λ more. (e.more more).0),
+              (have_run g.S.Source.state g.D.Drain.state g.B.PlugBook.lists b ss ds c.args.begun.bodies.items f.bodies.items c.deref.result.now c.args.begun.crossings.items c.deref-in-Ok.result.now c.args.begun.remains c.requires.begun.1.1.1 c.deref.ensures.value c.deref-in-Ok.ensures.value e.joined c.args.budget f.used f.more e.keeps e.goes e.spent e.within e.rest (λ more. (e.more more).0)).0,
             ),
           ),
         ),
@@ -44,8 +44,9 @@ pub returns-in-Ok-clause-leaves : goal.returns-in-Ok-clause-leaves
 returns-in-Ok-clause-leaves g c = λ b ss ds h.
     let e = c.in-Ok.ensures in
     let f = c.in-Ok.finish in
-    c.stop.ensures.leaves b ss ds c.args.begun.bodies.items c.args.budget
-    (have_run g.S.Source.state g.D.Drain.state g.B.PlugBook.lists b ss ds c.args.begun.bodies.items f.bodies.items c.deref.result.now c.args.begun.crossings.items c.deref-in-Ok.result.now c.args.begun.remains h c.deref.ensures.value c.deref-in-Ok.ensures.value e.joined c.args.budget f.used f.more e.keeps e.goes e.spent e.within e.rest (λ more. (e.more more).0))
+    let run = have_run g.S.Source.state g.D.Drain.state g.B.PlugBook.lists b ss ds c.args.begun.bodies.items f.bodies.items c.deref.result.now c.args.begun.crossings.items c.deref-in-Ok.result.now c.args.begun.remains h c.deref.ensures.value c.deref-in-Ok.ensures.value e.joined c.args.budget f.used f.more e.keeps e.goes e.spent e.within e.rest (λ more. (e.more more).0) in
+    let left = c.stop.ensures.leaves b ss ds c.args.begun.bodies.items c.args.budget run.0 in
+    (left.0, left.1 ∙ run.1)
 
 pub returns-in-Ok-clause-receipt : goal.returns-in-Ok-clause-receipt
 returns-in-Ok-clause-receipt g c = λ b ss ds h.

@@ -7,7 +7,9 @@ use Rattle.blue_names.specs.Sizes.{sizes_fit}
 use Rattle.materializer.specs.HandedPlugs.{ArePlugged}
 use Rattle.materializer.specs.Board.{AreHanded, seat_of_end}
 use Rattle.materializer.specs.Graphs.{graph_chain}
-use Rattle.materializer.specs.Planned.{planned_seat}
+use Rattle.materializer.specs.Choosers.{moves_of, PlansFit}
+use Rattle.materializer.specs.Planned.{planned_plan, planned_seat}
+use Rattle.materializer.proofs.Leading.{moves_left, moves_next, no_moves_left}
 use Rattle.materializer.proofs.Plugs.{plugs_left, plug_next}
 use Rattle.materializer.proofs.SeatLoops.{all_next, planned_start, planned_next, planned_end}
 use Rattle.materializer.proofs.Switches.{kinds_of, ends_left, end_next, no_ends, map_next, map_end}
@@ -31,6 +33,9 @@ loop-node-init g c =
       ap (λ l. map planned_seat l ++ map seat_of_end (into_iter_items c.into_iter-unhanded.result)) c.new-seats.ensures.items ∙ ap (map seat_of_end) c.into_iter-unhanded.ensures.rest,
       subst (λ l. ArePlugged g.L.Logic.gives g.B.PlugBook.lists (kinds_of l) (into_iter_items c.into_iter-unplugged.result)) (sym all) (subst (λ l. ArePlugged g.L.Logic.gives g.B.PlugBook.lists (kinds_of c.args.nodes.items) l) (sym c.into_iter-unplugged.ensures.rest) c.requires.plugged),
       search rules,
+      subst (λ l. PlansFit (kinds_of l) (map moves_of (into_iter_items c.into_iter-unmade.result))) (sym all) (subst (λ l. PlansFit (kinds_of c.args.nodes.items) (map moves_of l)) (sym c.into_iter-unmade.ensures.rest) c.requires.follow),
+      search rules,
+      ap (λ l. map planned_plan l ++ map moves_of (into_iter_items c.into_iter-unmade.result)) c.new-seats.ensures.items ∙ ap (map moves_of) c.into_iter-unmade.ensures.rest,
     )
 
 pub loop-node-preserved : goal.loop-node-preserved
@@ -49,6 +54,9 @@ loop-node-preserved g c =
       map_next planned_seat seat_of_end _ _ _ _ _ _ _ c.take_next-end.ensures.items c.in_ok-push.ensures.items c.in_ok-plan.ensures.seat kept.7,
       (plug_next g.L.Logic.gives g.B.PlugBook.lists node _ _ _ _ _ next.0 c.take_next-plug.ensures.items kept.8).1,
       len_next _ _ _ _ _ c.take_next-plug.ensures.items (sym c.take_next-plug.ensures.len) kept.9,
+      (moves_next node _ _ _ _ _ next.0 c.take_next-moves.ensures.items kept.10).1,
+      len_next _ _ _ _ _ c.take_next-moves.ensures.items (sym c.take_next-moves.ensures.len) kept.11,
+      map_next planned_plan moves_of _ _ _ _ _ _ _ c.take_next-moves.ensures.items c.in_ok-push.ensures.items c.in_ok-plan.ensures.plan kept.12,
     )
 
 pub take_next-end-requires : goal.take_next-end-requires
@@ -56,6 +64,12 @@ take_next-end-requires g c = ends_left c.in-Some.node _ _ _ _ c.in-Some.ensures.
 
 pub take_next-plug-requires : goal.take_next-plug-requires
 take_next-plug-requires g c = plugs_left g.L.Logic.gives g.B.PlugBook.lists c.in-Some.node _ _ _ _ c.in-Some.ensures.steps.0 c.loop-node.invariant.8 c.loop-node.invariant.9
+
+pub take_next-moves-requires : goal.take_next-moves-requires
+take_next-moves-requires g c = moves_left c.in-Some.node _ _ _ _ c.in-Some.ensures.steps.0 c.loop-node.invariant.10 c.loop-node.invariant.11
+
+pub plan-requires-clause-follows : goal.plan-requires-clause-follows
+plan-requires-clause-follows g c = (moves_next c.in-Some.node _ _ _ _ _ c.in-Some.ensures.steps.0 c.take_next-moves.ensures.items c.loop-node.invariant.10).0
 
 pub plan-requires-clause-handed : goal.plan-requires-clause-handed
 plan-requires-clause-handed g c = (end_next c.in-Some.node _ _ _ _ _ c.in-Some.ensures.steps.0 c.take_next-end.ensures.items c.loop-node.invariant.5).0
@@ -70,3 +84,8 @@ returns-clause-seats g c =
 
 pub returns-clause-planned : goal.returns-clause-planned
 returns-clause-planned g c = planned_end _ _ _ _ (none_left _ _ c.in-None.ensures.steps.0 c.loop-node.invariant.2) c.loop-node.invariant.4
+
+pub returns-clause-plans : goal.returns-clause-plans
+returns-clause-plans g c =
+    let kept = c.loop-node.invariant in
+    map_end planned_plan moves_of _ _ _ (no_moves_left _ _ (none_left _ _ c.in-None.ensures.steps.0 kept.2) kept.10) kept.12

@@ -4,13 +4,14 @@ use Rattle.std.specs.List.{list_all}
 use Rattle.std.specs.Vec.Iter.{into_iter_items, into_iter_len}
 use Rattle.blue_names.specs.Sizes.{sizes_fit}
 use Rattle.materializer.specs.Graphs.{graph_chain}
-use Rattle.materializer.specs.Planned.{ArePlanned, planned_seat}
+use Rattle.materializer.specs.Planned.{ArePlanned, planned_plan, planned_seat}
+use Rattle.materializer.specs.Choosers.{moves_of, PlansFit}
 use Rattle.materializer.specs.HandedPlugs.{ArePlugged}
 use Rattle.materializer.specs.Board.{AreHanded, seat_of_end}
 use Rattle.materializer.proofs.seats.seat_all.Given as goal
 
 -- the sizes of the nodes that are left fit, and behind the seats that there are they complete all;
--- each is handed its own seat and its own plug, and so it was with those that are done
+-- each is handed its own seat, its own plug and its own moves, and so it was with those that are done
 abbrev pub invariant-loop-node : goal.invariant-loop-node
 invariant-loop-node g l =
     (goal.iterator-loop-node g).can_next l.node-iterator
@@ -23,3 +24,6 @@ invariant-loop-node g l =
     × (map planned_seat l.seats.items ++ map seat_of_end (into_iter_items l.unhanded) ≡ map seat_of_end l.fn.ends.items)
     × ArePlugged g.L.Logic.gives g.B.PlugBook.lists (map (λ n. n.kind) (into_iter_items l.node-iterator)) (into_iter_items l.unplugged)
     × (into_iter_len l.unplugged ≡ length (into_iter_items l.unplugged))
+    × PlansFit (map (λ n. n.kind) (into_iter_items l.node-iterator)) (map moves_of (into_iter_items l.unmade))
+    × (into_iter_len l.unmade ≡ length (into_iter_items l.unmade))
+    × (map planned_plan l.seats.items ++ map moves_of (into_iter_items l.unmade) ≡ map moves_of l.fn.plans.items)

@@ -15,4 +15,4 @@ new-requires-2-send-C g c κs = param_send 0 _ (arg_send _ no _ line_send)
 pub returns-clause-work : goal.returns-clause-work
 returns-clause-work g c =
     let chain = c.in_ok-chain.chain in
-    stages_sub (map graph_chain c.args.chains.now) c.args.k c.args.kind chain c.in_ok-logic.logic c.requires c.in_ok-logic.ensures.begins (subst (λ s. IsLine c.args.k s chain) c.steps_of_kind.ensures c.in_ok-chain.ensures)
+    stages_sub (map graph_chain c.args.chains.now) c.args.k c.args.kind chain c.in_ok-logic.logic c.requires c.in_ok-logic.ensures.begins c.in_ok-logic.ensures.free (subst (λ s. IsLine c.args.k s chain) c.steps_of_kind.ensures c.in_ok-chain.ensures)

@@ -67,18 +67,20 @@ returns-clause-filled g c =
     let laws = c.islands_have_parts.ensures in
     let parts : (k : ℕ) → AreParts (of_home (whole_homes homes cut) k (whole_seats nodes cut)) (own_links (whole_homes homes cut) (whole_links (length nodes) ws) k) =
     λ k. laws.parts homes ws nodes k each (keeps_inside _ ws homes p.homes_are.are) joined (few_whole homes self.count ws ns nodes self.split p.split same) in
-    let islands = c.join-islands.ensures in
-    record {
-      nodes = nodes;
-      seats = seats;
-      joined = joined;
-      sources_are = all_sources (chains_of b) 0 ns ss ds nodes seats (sym c.args.sources.ok.0 ∙ c.requires.sources);
-      drains_are = all_drains (chains_of b) 0 ns ss ds nodes seats (sym c.args.drains.ok.0 ∙ c.requires.drains);
-      homes_are = p.homes_are;
-      lanes_are = p.lanes_are;
-      ends_are = p.ends_are;
-      board_is = p.board_is;
-      at_switches = subst (λ l. AreAtSwitches (map (λ (n : Node). n.kind) ns) self.board l) (sym c.fill_all-nodes.ensures.kept) p.at_switches;
-      many = islands.many ∙ p.split.ready.spaces_many;
-      each = λ k x at. island_is homes self.count ws ns nodes self.split p.split same self.lanes.items c.deref.result.now c.whole_seats.result.items parts (laws.places nodes cut) p.lanes_are c.deref.ensures.value c.whole_seats.ensures k x (islands.each k x at);
-    }
+    let islands = c.join-islands.ensures in (
+      record {
+        nodes = nodes;
+        seats = seats;
+        joined = joined;
+        sources_are = all_sources (chains_of b) 0 ns ss ds nodes seats (sym c.args.sources.ok.0 ∙ c.requires.sources);
+        drains_are = all_drains (chains_of b) 0 ns ss ds nodes seats (sym c.args.drains.ok.0 ∙ c.requires.drains);
+        homes_are = p.homes_are;
+        lanes_are = p.lanes_are;
+        ends_are = p.ends_are;
+        board_is = p.board_is;
+        at_switches = subst (λ l. AreAtSwitches (map (λ (n : Node). n.kind) ns) self.board l) (sym c.fill_all-nodes.ensures.kept) p.at_switches;
+        many = islands.many ∙ p.split.ready.spaces_many;
+        each = λ k x at. island_is homes self.count ws ns nodes self.split p.split same self.lanes.items c.deref.result.now c.whole_seats.result.items parts (laws.places nodes cut) p.lanes_are c.deref.ensures.value c.whole_seats.ensures k x (islands.each k x at);
+      },
+      c.fill_all-nodes.ensures.plans,
+    )

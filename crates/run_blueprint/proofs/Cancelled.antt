@@ -7,6 +7,10 @@ use Rattle.port_core.specs.declared.view.InView.{InView}
 use Rattle.port_core.specs.declared.view.InView.TheVariants.{Idle, Pulled, Finished, Cancelled}
 use Rattle.port_core.specs.declared.view.OutView.{OutView}
 use Rattle.port_core.specs.declared.view.OutView.TheVariants as outlet
+use Rattle.port_core.specs.Picks.{next_move}
+use Rattle.port_core.specs.declared.pick_log.Next.{Next}
+use Rattle.port_core.specs.declared.pick_log.Next.TheVariants.{Free, Move, UsedUp}
+use Rattle.stream_model.specs.Outlook.{End, unended, ended, failed}
 use Rattle.stream_model.specs.FanIn.{Tagged}
 use Rattle.stream_model.specs.Linear.{Work}
 use Rattle.stage_core.specs.OpenOuts.{OutsClosed}
@@ -23,10 +27,13 @@ use Rattle.stage_state.specs.States as keeping
 use Rattle.stage_state.specs.Handling.{StatePortState}
 use Rattle.stage_state.specs.declared.logic.StateLogic.{StateLogic}
 use Rattle.stage_state.specs.declared.logic.StateLogic.TheVariants as state
-use Rattle.stage_dropping.specs.Droppings.{Dropping, drop_at}
-use Rattle.stage_dropping.specs.Recoverings.{Recover, recover_at}
-use Rattle.stage_switch.specs.States.{passing_port_state}
+use Rattle.stage_dropping.specs.Droppings.{Dropping, in_of, drop_at, drop_in}
+use Rattle.stage_dropping.specs.Recoverings.{Recover, StillBy, recover_at, recover_in}
+use Rattle.stage_switch.specs.States.{Valve, passing_port_state, valve_in}
 use Rattle.stage_sub.specs.States as sub
+use Rattle.stage_sub.specs.Leds as led
+use Rattle.stage_sub.specs.Leds.{Led}
+use Rattle.line_chain.specs.Line.{Line}
 use Rattle.stage_merge.specs.Mergings as merging
 use Rattle.stage_merge.specs.declared.merging.Queued.{Queued}
 use Rattle.stage_in.specs.Logics.{InPortState}
@@ -125,18 +132,23 @@ machine_left : (n : Option ℕ) (ph : Phase) (e : StateEnd) (a : Bool) (p : List
 machine_left None ph e a p w y h = keep_left ph e a p w y h
 machine_left (Some n) ph e a p w y h = buffer_left n ph e a p y h
 
-drop_left : (l : Dropping) (ph : Phase) (over asked : Bool) (y : OutView) → drop_at l ph over asked Cancelled y → OutClosed y
-drop_left l New true asked y h = absurd h
-drop_left l New false true y h = absurd h
-drop_left l New false false y h = absurd h
-drop_left l Open true true y h = absurd h
-drop_left l Open true false y h = absurd h
-drop_left l Open false true y h = absurd h
-drop_left l Open false false y h = absurd h
-drop_left l Closed over asked outlet.Unpulled h = absurd h
-drop_left l Closed over asked outlet.Available h = absurd h
-drop_left l Closed over asked outlet.Closed h = tt
-drop_left l Closed over asked outlet.Cancelled h = tt
+uncancelled : (e : End) (b : Bool) → Cancelled ≡ in_of e b → ⊥
+uncancelled unended true h = cc
+uncancelled unended false h = cc
+uncancelled ended b h = cc
+uncancelled (failed c) b h = cc
+
+drop_left : (l : Dropping) (ph : Phase) (y : OutView) → drop_at l ph Cancelled y → OutClosed y
+drop_left l New y h = absurd (uncancelled l.after l.pulled h.0.input)
+drop_left l Open y h = absurd (uncancelled l.after l.pulled h.0.input)
+drop_left l Closed outlet.Unpulled h = absurd h
+drop_left l Closed outlet.Available h = absurd h
+drop_left l Closed outlet.Closed h = tt
+drop_left l Closed outlet.Cancelled h = tt
+
+drop_gone : (l : Dropping) (stuck : Bool) (y : OutView) → drop_in stuck l Cancelled y → OutClosed y
+drop_gone l false y h = drop_left l l.phase y h
+drop_gone l true y h = absurd (h.uncancelled refl)
 
 recover_left : (l : Recover) (ph : Phase) (over asked : Bool) (y : OutView) → recover_at l ph over asked Cancelled y → OutClosed y
 recover_left l New true asked y h = absurd h
@@ -159,11 +171,24 @@ passing_left Closed outlet.Available h = absurd h
 passing_left Closed outlet.Closed h = tt
 passing_left Closed outlet.Cancelled h = tt
 
+valve_gone : (l : Valve) (stuck : Bool) (y : OutView) → valve_in stuck l Cancelled y → OutClosed y
+valve_gone l false y h = passing_left l.phase y h.0
+valve_gone l true y h = absurd (let z : Cancelled ≡ Finished = h.1.0 in cc)
+
+recover_still : (next : Next) (stuck : Bool) → StillBy next stuck Cancelled → ⊥
+recover_still Free stuck h = h
+recover_still (Move k) stuck h = h.1 refl
+recover_still UsedUp stuck h = let z : Cancelled ≡ Finished = h.1 in cc
+
+recover_gone : (l : Recover) (still : Bool) (y : OutView) → recover_in still l Cancelled y → OutClosed y
+recover_gone l false y h = recover_left l l.phase l.over l.asked y h.0
+recover_gone l true y h = absurd (recover_still (next_move l.left) l.stuck h.1.1)
+
 state_left : (x : StateLogic) (v : View) (p : ℕ) → StatePortState x v → slice_get v.ins p ≡ Some Cancelled → OutsClosed v.outs
 state_left (state.Machine l) v p h e = one_left (keeping.port_state_by l.size l.phase l.ending l.asked l.pending l.stage.work) (machine_left l.size l.phase l.ending l.asked l.pending l.stage.work) v.ins v.outs p h.ports e
-state_left (state.Dropping l) v p h e = one_left (drop_at l l.phase l.over l.asked) (drop_left l l.phase l.over l.asked) v.ins v.outs p h.ports e
-state_left (state.Recovering l) v p h e = one_left (recover_at l l.phase l.over l.asked) (recover_left l l.phase l.over l.asked) v.ins v.outs p h.ports e
-state_left (state.Obeying l) v p h e = one_left (passing_port_state l.phase) (passing_left l.phase) v.ins v.outs p h.ports.0 e
+state_left (state.Dropping l) v p h e = one_left (drop_in l.log.stuck l) (drop_gone l l.log.stuck) v.ins v.outs p h.ports e
+state_left (state.Recovering l) v p h e = one_left (recover_in l.still l) (recover_gone l l.still) v.ins v.outs p h.ports e
+state_left (state.Obeying l) v p h e = one_left (valve_in l.stuck l) (valve_gone l l.stuck) v.ins v.outs p h.ports.0 e
 state_left (state.Tripping l) v p h e = one_left (passing_port_state l.phase) (passing_left l.phase) v.ins v.outs p h.ports e
 
 sub_left : (ph : Phase) (over asked : Bool) (p : List Tagged) (y : OutView) → sub.port_state_in ph over asked p Cancelled y → OutClosed y
@@ -178,6 +203,28 @@ sub_left Closed over asked p outlet.Unpulled h = absurd h
 sub_left Closed over asked p outlet.Available h = absurd h
 sub_left Closed over asked p outlet.Closed h = tt
 sub_left Closed over asked p outlet.Cancelled h = tt
+
+given_input : (over asked : Bool) (p : List Tagged) → Cancelled ≡ led.led_input over asked p → ⊥
+given_input true asked p e = cc
+given_input false true [] e = cc
+given_input false true (x ∷ p) e = cc
+given_input false false p e = cc
+
+led_left : (l : Led Line) (ph : Phase) (y : OutView) → led.led_at l ph Cancelled y → OutClosed y
+led_left l New y h = absurd (given_input l.logic.over l.logic.asked l.logic.pending h.rests.input)
+led_left l Open y h = absurd (given_input l.logic.over l.logic.asked l.logic.pending h.input)
+led_left l Closed outlet.Unpulled h = absurd h
+led_left l Closed outlet.Available h = absurd h
+led_left l Closed outlet.Closed h = tt
+led_left l Closed outlet.Cancelled h = tt
+
+led_gone : (l : Led Line) (stuck : Bool) (y : OutView) → led.led_in stuck l Cancelled y → OutClosed y
+led_gone l false y h = led_left l l.logic.phase y h
+led_gone l true y h = absurd (h.uncancelled refl)
+
+subs_left : (follows : Option (List ℕ)) (l : Led Line) (v : View) (p : ℕ) → led.port_state_by follows l v → slice_get v.ins p ≡ Some Cancelled → OutsClosed v.outs
+subs_left None l v p h e = one_left (sub.port_state_in l.logic.phase l.logic.over l.logic.asked l.logic.pending) (sub_left l.logic.phase l.logic.over l.logic.asked l.logic.pending) v.ins v.outs p h e
+subs_left (Some moves) l v p h e = one_left (led.led_in l.stuck l) (led_gone l l.stuck) v.ins v.outs p h e
 
 -- ---- stages with several inputs
 
@@ -246,16 +293,20 @@ pair_left Sound New l v p h e = open_left v pairing.new_view p h.0 (new_open p) 
 pair_left Sound Open l v p h e = open_left v (pairing.pair_view l) p h.0 (pair_open l p) e
 pair_left Sound Closed l v p h e = one_closed v.outs h.1
 
-merge_left : (ph : Phase) (l : merging.Core) (v : View) (p : ℕ) → merging.port_state_by ph l v → slice_get v.ins p ≡ Some Cancelled → OutsClosed v.outs
-merge_left New l v p h e = open_left v (merging.new_view l) p h.0 (idles_open l.over p) e
-merge_left Open l v p h e = open_left v (merging.view_of l) p h.0 (places_open 0 l.over l.queue p) e
-merge_left Closed l v p h e = one_closed v.outs h.1
+merge_left : (ph : Phase) (plan : Option (List ℕ)) (l : merging.Core) (v : View) (p : ℕ) → merging.port_state_by ph plan l v → slice_get v.ins p ≡ Some Cancelled → OutsClosed v.outs
+merge_left New plan l v p h e = open_left v (merging.new_view l) p h.0 (idles_open l.over p) e
+merge_left Open plan l v p h e = open_left v (merging.view_of l) p h.0 (places_open 0 l.over l.queue p) e
+merge_left Closed plan l v p h e = one_closed v.outs h.1
+
+merge_gone : (stuck : Bool) (l : merging.Merging) (v : View) (p : ℕ) → merging.port_state_in stuck l v → slice_get v.ins p ≡ Some Cancelled → OutsClosed v.outs
+merge_gone false l v p h e = merge_left l.core.phase l.log.left l.core v p h e
+merge_gone true l v p h e = absurd (h.uncancelled p e)
 
 in_left : (x : InLogic) (v : View) (p : ℕ) → InPortState x v → slice_get v.ins p ≡ Some Cancelled → OutsClosed v.outs
 in_left (fan_in.Taking l) v p h e = taking_left l.live l v p h.ports e
 in_left (fan_in.Sorting l) v p h e = pair_left sorted.Sound l.phase l v p h.ports e
 in_left (fan_in.Zipping l) v p h e = pair_left zipping.Sound l.phase l v p h.ports e
-in_left (fan_in.Merging l) v p h e = merge_left l.core.phase l.core v p h.ports e
+in_left (fan_in.Merging l) v p h e = merge_gone l.log.stuck l v p h.ports e
 
 -- ---- stages with several outputs
 
@@ -285,14 +336,15 @@ part_left : (live : Bool) (l : part.PartitionLogic) (v : View) (p : ℕ) → par
 part_left true l v p h e = open_left v (part.view_of l) p h.0 (one_open (part.input_of l.over l.waits) p (dealt_open l.over l.waits)) e
 part_left false l v p h e = h.1
 
-balance_left : (live : Bool) (l : balance.Core) (v : View) (p : ℕ) → balance.port_state_by live l v → slice_get v.ins p ≡ Some Cancelled → OutsClosed v.outs
-balance_left true l v p h e = open_left v (balance.view_of l) p h.0 (one_open (balance.input_of l.over l.pulled) p (balanced_open l.over l.pulled)) e
-balance_left false l v p h e = h.1
+balance_left : (live stuck : Bool) (l : balance.Balancing) (v : View) (p : ℕ) → balance.port_state_by live stuck l v → slice_get v.ins p ≡ Some Cancelled → OutsClosed v.outs
+balance_left true false l v p h e = open_left v (balance.view_of l.core) p h.0 (one_open (balance.input_of l.core.over l.core.pulled) p (balanced_open l.core.over l.core.pulled)) e
+balance_left true true l v p h e = absurd (one_open Finished p (λ z. cc) (subst (λ (is : List InView). slice_get is p ≡ Some Cancelled) h.input e))
+balance_left false stuck l v p h e = h.1
 
 out_left : (x : OutLogic) (v : View) (p : ℕ) → out.port_state x v → slice_get v.ins p ≡ Some Cancelled → OutsClosed v.outs
 out_left (fan_out.Machines (Copies l)) v p h e = copy_left l.live l v p h e
 out_left (fan_out.Machines (Deals l)) v p h e = part_left l.live l v p h e
-out_left (fan_out.Balances l) v p h e = balance_left l.core.live l.core v p h e
+out_left (fan_out.Balances l) v p h e = balance_left l.core.live l.log.stuck l v p h e
 
 -- ---- any node
 
@@ -304,7 +356,7 @@ closes_outs (node.Reading x) v p h e = source_left (lines_port_state_in x.phase)
 closes_outs (node.Making x) v p h e = source_left (lines_port_state_in x.phase) v.ins v.outs p h e
 closes_outs (node.Linear x) v p h e = one_left (linear.port_state_in x.phase x.course x.pending x.stage.work x.ready) (linear_left x.phase x.course x.pending x.stage.work x.ready) v.ins v.outs p h.ports e
 closes_outs (node.State x) v p h e = state_left x v p h e
-closes_outs (node.Sub x) v p h e = one_left (sub.port_state_in x.phase x.over x.asked x.pending) (sub_left x.phase x.over x.asked x.pending) v.ins v.outs p h.ports e
+closes_outs (node.Sub x) v p h e = subs_left x.left x v p h.ports e
 closes_outs (node.FanIn x) v p h e = in_left x v p h e
 closes_outs (node.FanOut x) v p h e = out_left x v p h e
 closes_outs (node.Writing x) v p h e = sink_left (sink_port_state_in x.started x.end) v.ins v.outs h

@@ -23,7 +23,6 @@ use Rattle.stage_state.specs.States.{IsMachine}
 use Rattle.stage_state.specs.declared.logic.StateLogic.{StateLogic}
 use Rattle.stage_state.specs.declared.logic.StateLogic.TheVariants as state
 use Rattle.stage_state.specs.Handling.{StateLaw}
-use Rattle.stage_state.specs.Logics.{BeginsAs}
 use Rattle.stage_state.specs.Moves.{state_picks}
 use Rattle.stage_sub.specs.States as subs
 use Rattle.stage_sub.specs.Handling.{new_log}
@@ -45,7 +44,8 @@ use Rattle.nodes.specs.Kinds.{IsMaker, IsFileSink}
 use Rattle.nodes.specs.declared.node.IslandNode.{IslandNode}
 use Rattle.nodes.specs.declared.node.IslandNode.TheVariants as node
 use Rattle.interpreter.specs.Picks.{Pick, with_picks, picks_of}
-use Rattle.run_laws.specs.Made.{FirstOf}
+use Rattle.run_laws.specs.Made.{FirstOf, LedAs}
+use Rattle.run_laws.proofs.States.{led_machine}
 use Rattle.stream_model.specs.declared.blueprint.Node as blue
 use Rattle.blue_names.specs.Picks.{picks, is_merged}
 use Rattle.materializer.specs.Graphs.{graph_node}
@@ -99,27 +99,27 @@ drop_picks n DropBuffer drops = refl
 drop_picks n DropNew drops = refl
 drop_picks n Fail drops = refl
 
-drop_chooses : (k : ℕ) (shape : Kind) (d : Decider) (first : Dropping) → BeginsAs shape k d (state.Dropping first) → picks shape ≡ true
+drop_chooses : (k : ℕ) (shape : Kind) (d : Decider) (first : Dropping) → LedAs shape k d (state.Dropping first) → picks shape ≡ true
 drop_chooses k (kind.Buffer n p) d first b = drop_picks n p b.0
 drop_chooses k shape d first b = absurd b
 
-recover_chooses : (k : ℕ) (shape : Kind) (d : Decider) (first : Recover) → BeginsAs shape k d (state.Recovering first) → picks shape ≡ true
+recover_chooses : (k : ℕ) (shape : Kind) (d : Decider) (first : Recover) → LedAs shape k d (state.Recovering first) → picks shape ≡ true
 recover_chooses k (kind.RecoverNum z) d first b = refl
 recover_chooses k (kind.RecoverText l) d first b = refl
 recover_chooses k shape d first b = absurd b
 
-valve_chooses : (k : ℕ) (shape : Kind) (d : Decider) (first : Valve) → BeginsAs shape k d (state.Obeying first) → picks shape ≡ true
+valve_chooses : (k : ℕ) (shape : Kind) (d : Decider) (first : Valve) → LedAs shape k d (state.Obeying first) → picks shape ≡ true
 valve_chooses k (kind.Valve name) d first b = refl
 valve_chooses k shape d first b = absurd b
 
-trip_free : (k : ℕ) (shape : Kind) (d : Decider) (first : Trip) → BeginsAs shape k d (state.Tripping first) → picks shape ≡ false
+trip_free : (k : ℕ) (shape : Kind) (d : Decider) (first : Trip) → LedAs shape k d (state.Tripping first) → picks shape ≡ false
 trip_free k (kind.TripShutdown name n) d first b = refl
 trip_free k (kind.TripAbort name n) d first b = refl
 trip_free k shape d first b = absurd b
 
-state_chooses : (k : ℕ) (shape : Kind) (d : Decider) (first now : StateLogic) (v : View) (took gave : List (List Item)) → BeginsAs shape k d first → StateLaw first now v took gave → ChoosesAs (picks shape) (state_picks now)
-state_chooses k shape d (state.Machine f) (state.Machine x) v took gave b law = no_choice (picks shape) None (machine_free shape b.0) refl
-state_chooses k shape d (state.Dropping f) (state.Dropping x) v took gave b law = subst (λ (c : Bool). ChoosesAs c (Some x.moves)) (sym (drop_chooses k shape d f b)) (x.moves, refl)
+state_chooses : (k : ℕ) (shape : Kind) (d : Decider) (first now : StateLogic) (v : View) (took gave : List (List Item)) → LedAs shape k d first → StateLaw first now v took gave → ChoosesAs (picks shape) (state_picks now)
+state_chooses k shape d (state.Machine f) (state.Machine x) v took gave b law = no_choice (picks shape) None (machine_free shape (led_machine shape k d f b).0) refl
+state_chooses k shape d (state.Dropping f) (state.Dropping x) v took gave b law = subst (λ (c : Bool). ChoosesAs c (Some x.log.moves)) (sym (drop_chooses k shape d f b)) (x.log.moves, refl)
 state_chooses k shape d (state.Recovering f) (state.Recovering x) v took gave b law = subst (λ (c : Bool). ChoosesAs c (Some x.moves)) (sym (recover_chooses k shape d f b)) (x.moves, refl)
 state_chooses k shape d (state.Obeying f) (state.Obeying x) v took gave b law = subst (λ (c : Bool). ChoosesAs c (Some x.moves)) (sym (valve_chooses k shape d f b)) (x.moves, refl)
 state_chooses k shape d (state.Tripping f) (state.Tripping x) v took gave b law = no_choice (picks shape) None (trip_free k shape d f b) refl
@@ -183,7 +183,7 @@ node_chooses sources drains book chains k n (node.Reading f) (node.Reading x) v 
 node_chooses sources drains book chains k n (node.Making f) (node.Making x) v took gave made law = no_choice (picks n.kind) None (maker_free n.kind made.is_maker) refl
 node_chooses sources drains book chains k n (node.Linear f) (node.Linear x) v took gave made law = no_choice (picks n.kind) None (linear_free n.kind made.is_linear) refl
 node_chooses sources drains book chains k n (node.State f) (node.State x) v took gave made law = state_chooses k n.kind n.decider f x v took gave made.begins.as_kind law
-node_chooses sources drains book chains k n (node.Sub f) (node.Sub x) v took gave made law = sub_chooses k n.kind f.chain f x made.begins.as_kind law.chooses
+node_chooses sources drains book chains k n (node.Sub f) (node.Sub x) v took gave made law = sub_chooses k n.kind f.logic.chain f.logic x.logic made.begins.as_kind law.chooses
 node_chooses sources drains book chains k n (node.FanIn f) (node.FanIn x) v took gave made law = fan_in_chooses n.kind f x made.begins.takes law.same
 node_chooses sources drains book chains k n (node.FanOut f) (node.FanOut x) v took gave made law = fan_out_chooses k n.kind f x v took gave made.begins.as_kind law
 node_chooses sources drains book chains k n (node.Writing f) (node.Writing x) v took gave made law = no_choice (picks n.kind) None (sink_free n.kind made.is_sink) refl

@@ -1,9 +1,10 @@
 -- From the account of a blueprint's run at its end to what the run leaves in the folder.
 use Rattle.std.proofs.Common.{◌≡◌, ◌≢◌, ◌⊎◌, inl, inr, ℕ, suc, ◌+◌, ◌<◌, ◌≤◌, Bool, true, false, List, [], ◌∷◌, map, length, slice_get, refl, sym, ap, ◌∙◌, subst, arith}
-use Rattle.std.specs.Prelude.{IsTrue, Option, None, Some, ◌==◌, ◌||◌}
+use Rattle.std.specs.Prelude.{IsTrue, Option, None, Some, unwrap_or, ◌==◌, ◌||◌}
 use Rattle.std.specs.Option.{option_to_list}
 use Rattle.std.specs.List.{Contains, filter_map, list_any}
 use Rattle.std.proofs.lemmas.List.{length-map}
+use Rattle.elem_core.specs.Prefix.{IsPrefix}
 use Rattle.elem_core.specs.Tree.{Tree, text}
 use Rattle.elem_core.specs.Items.{elements}
 use Rattle.elem_core.specs.declared.item.Item.{Item}
@@ -16,11 +17,9 @@ use Rattle.stream_model.specs.Graph.{Graph, Edge, find_wire}
 use Rattle.stream_model.specs.Graph as graph
 use Rattle.stream_model.specs.Node.{World}
 use Rattle.stream_model.specs.Outlook.{Outlook, unended}
-use Rattle.stream_model.specs.Composed.{next, composed, sink_outlook, IsRanked, inputs_of}
-use Rattle.stream_model.specs.Fits.{Fits}
+use Rattle.stream_model.specs.Composed.{next, composed, count_from, sink_outlook, IsRanked, inputs_of}
 use Rattle.stream_model.proofs.Compositions.{found_first}
 use Rattle.stream_model.specs.Lane.{lane_loss}
-use Rattle.stream_model.specs.Lawful.{IsLawful}
 use Rattle.stream_model.specs.OneWay as oneway
 use Rattle.stream_model.specs.Rests.{Rests, SinksMatch}
 use Rattle.stream_model.specs.Shape.{IsPolytree, IsWired, sent_at, need, count_needed}
@@ -33,9 +32,11 @@ use Rattle.nodes.specs.Drawing.{ended_lines}
 use Rattle.nodes.specs.Source.{Lines}
 use Rattle.nodes.specs.Sink.{Sink, SinkStandsAs}
 use Rattle.nodes.specs.Ignoring.{Ignorer}
+use Rattle.nodes.specs.Nodes.{node_picks, node_moves, node_misfit, node_plan}
 use Rattle.nodes.specs.declared.node.IslandNode.{IslandNode}
 use Rattle.nodes.specs.declared.node.IslandNode.TheVariants as node
 use Rattle.interpreter.specs.Picks.{Pick, pick_of}
+use Rattle.interpreter.specs.Misfits.{Found, FindsMisfit, IsLeast}
 use Rattle.run_laws.specs.Account.{Account, IsStill, took}
 use Rattle.run_laws.specs.Items.{list_of, end_of_items, AgreesWith}
 use Rattle.run_laws.specs.Pictures as pictures
@@ -43,9 +44,12 @@ use Rattle.run_laws.specs.Ports.{wire_count}
 use Rattle.run_laws.proofs.Coming.{elements_told}
 use Rattle.run_laws.proofs.Pictures.{counts_at}
 use Rattle.run_laws.specs.Runs.{IsRun}
-use Rattle.run_laws.specs.Telling.{TellsPicks, WorldTells, AreSettled}
+use Rattle.run_laws.specs.Replayed.{Plans, IsAtOnce, FitsBy, IsLawfulBy, RestsBy, MisfitsOver}
+use Rattle.run_laws.specs.Serving.{IsSureAt, ServesPlan}
+use Rattle.run_laws.specs.Telling.{FollowsPlans, ServesPlans, TellsFiles, TellsPicks, WorldTells, AreSettled, moves_at}
+use Rattle.run_laws.proofs.Unled.{misfit_has_more, rests_freely}
 use Rattle.run_laws.proofs.Choosing.{chosen_told}
-use Rattle.run_laws.specs.Sinks.{TookList, SinkWrote, SentTo, IsSinkAt, IgnoreTells, IsIgnorerAt}
+use Rattle.run_laws.specs.Sinks.{TookList, SinkTells, SinkWrote, SentTo, IsSinkAt, IgnoreTells, IsIgnorerAt}
 use Rattle.run_laws.specs.Reads.{IsSourceAt, ReadsAhead, SentLines, GivesTexts}
 use Rattle.stream_model.specs.declared.blueprint.Blueprint.{Blueprint}
 use Rattle.stream_model.specs.declared.blueprint.ChainDecl.{ChainDecl}
@@ -56,24 +60,29 @@ use Rattle.blue_check.specs.Forest.{wiring}
 use Rattle.stream_model.specs.declared.head.PlugHead.{PlugHead}
 use Rattle.materializer.specs.Fit.{CanRun}
 use Rattle.materializer.specs.Files.{output_of, inputs_of_nodes, outputs_of_nodes, is_sink}
+use Rattle.materializer.specs.Choosers.{NoneFollow, plan_at}
+use Rattle.materializer.specs.Seats.{place_plan}
 use Rattle.materializer.specs.Graphs.{graph_node, graph_of, graph_chain}
 use Rattle.stream_io.specs.Names.{drain_names}
 use Rattle.run_blueprint.specs.Checked.{PassesRules}
 use Rattle.run_blueprint.specs.Plugs.{KeepsPlugTypes}
 use Rattle.run_blueprint.specs.Sent.{SendsItsType}
-use Rattle.run_blueprint.specs.Carrying.{WiresCarry, AgreesWithFiles, PictureStands, ShutBy, OverBy, AskedBy, SinkTook, IgnorerTook, as_passed}
+use Rattle.run_blueprint.specs.Carrying.{WiresCarry, AgreesWithFiles, PictureStands, MisfitByPassed, ShutBy, OverBy, AskedBy, SinkTook, IgnorerTook, as_passed}
 use Rattle.run_blueprint.specs.Choosing.{picked}
-use Rattle.run_blueprint.proofs.Carried.{IsTold, unread, agrees_told, passes_exactly, told_sent, carries}
+use Rattle.run_blueprint.proofs.Carried.{IsTold, unread, agrees_told, agrees_exactly, passes_exactly, told_sent, carries}
 use Rattle.run_blueprint.specs.Drawing.{Drawn, IsSource, WasRead, IsWorldOf, DrawsFirst}
 use Rattle.island_runs.specs.Leaving.{Moment, RunLeaves, HasAsMany}
 use Rattle.run_blueprint.specs.Opening.{Opens}
 use Rattle.run_blueprint.specs.Tracing.{IsApart, Traces}
 use Rattle.run_blueprint.specs.Sending.{SentOn}
-use Rattle.run_blueprint.specs.Running.{SinkLeaves, IgnoreLeaves, LeavesFiles, FailedWritesOf, Runs}
+use Rattle.run_blueprint.specs.Replaying.{HasMade, MakesItsMoves, IsReplayOf, ServesItsMoves, IsMisfit}
+use Rattle.run_blueprint.specs.Running.{SinkLeaves, IgnoreLeaves, ServesAll, LeavesFiles, MisfitByFiles, FailedWritesOf, Runs}
 use Rattle.run_blueprint.specs.Stands.{SinkStand, has_ended_at, is_write_fault, is_unended}
 use Rattle.bodies_run.specs.Counts.{all_sent, taken_off}
 use Rattle.run_blueprint.specs.Units.{Pays}
 use Rattle.island_runs.specs.declared.run.Stopped.{Stopped}
+use Rattle.island_runs.specs.declared.ran.Ran.{Ran}
+use Rattle.run_blueprint.proofs.Replays.{none_at, follow_along, count_at, chose_along, made_along, misfit_chooses}
 use Rattle.run_blueprint.specs.declared.run.RunResult.{RunResult}
 use Rattle.run_blueprint.proofs.Counts.{rose_by, rose_from_none, is_positive, positive, contains_or_not}
 use Rattle.run_blueprint.proofs.Units.{need_more, passed_within}
@@ -227,24 +236,36 @@ module _ {S D : Type 0} (L B : Type 0) (sources : S → SourceState) (drains : D
       → (sources first.reader.source).whole ≡ Some bytes → SentLines bytes (sources first.reader.source) (sources now.reader.source) (a.near u).wire.sent
 
   abbrev LawfulLaw : Type 0
-  LawfulLaw = (g : Graph) (w : World) (rank : ℕ → ℕ) (a : Account (IslandNode S D L B)) → IsRun sources drains w.book g a → AreSettled g a
-      → WorldTells sources g w a → IsRanked g rank → IsLawful g w (pictures.picture_counts a g) (composed g w)
+  LawfulLaw = (g : Graph) (w : World) (plans : Plans) (rank : ℕ → ℕ) (a : Account (IslandNode S D L B)) → IsRun sources drains w.book g a → AreSettled g a
+      → WorldTells sources g w a → FollowsPlans plans a → IsRanked g rank → IsLawfulBy g w plans (pictures.picture_counts a g) (composed g w)
 
   abbrev RestsLaw : Type 0
-  RestsLaw = (g : Graph) (w : World) (rank : ℕ → ℕ) (a : Account (IslandNode S D L B)) → IsRun sources drains w.book g a → IsStill g a
-      → WorldTells sources g w a → IsRanked g rank → Rests g w (pictures.picture_counts a g) (composed g w)
+  RestsLaw = (g : Graph) (w : World) (plans : Plans) (rank : ℕ → ℕ) (a : Account (IslandNode S D L B)) → IsRun sources drains w.book g a → IsStill g a
+      → WorldTells sources g w a → FollowsPlans plans a → IsRanked g rank → RestsBy g w plans (pictures.picture_counts a g) (composed g w)
 
   abbrev LawfulByLaw : Type 0
-  LawfulByLaw = (g : Graph) (w : World) (a : Account (IslandNode S D L B)) (outlook : ℕ → Outlook) → IsRun sources drains w.book g a → AreSettled g a → TellsPicks w a
-      → pictures.AllPass a g outlook → IsLawful g w (pictures.picture_counts a g) outlook
+  LawfulByLaw = (g : Graph) (w : World) (plans : Plans) (a : Account (IslandNode S D L B)) (outlook : ℕ → Outlook) → IsRun sources drains w.book g a → AreSettled g a → TellsPicks w a → FollowsPlans plans a
+      → pictures.AllPass a g outlook → IsLawfulBy g w plans (pictures.picture_counts a g) outlook
 
   abbrev RestsByLaw : Type 0
-  RestsByLaw = (g : Graph) (w : World) (a : Account (IslandNode S D L B)) (outlook : ℕ → Outlook) → IsRun sources drains w.book g a → IsStill g a → TellsPicks w a
-      → pictures.AllPass a g outlook → Rests g w (pictures.picture_counts a g) outlook
+  RestsByLaw = (g : Graph) (w : World) (plans : Plans) (a : Account (IslandNode S D L B)) (outlook : ℕ → Outlook) → IsRun sources drains w.book g a → IsStill g a → TellsPicks w a → FollowsPlans plans a
+      → pictures.AllAgreeWith a g outlook → RestsBy g w plans (pictures.picture_counts a g) outlook
 
   abbrev MovesLaw : Type 0
-  MovesLaw = (g : Graph) (w : World) (rank : ℕ → ℕ) (a : Account (IslandNode S D L B)) → IsRun sources drains w.book g a → AreSettled g a
-      → WorldTells sources g w a → IsRanked g rank → Fits g w
+  MovesLaw = (g : Graph) (w : World) (plans : Plans) (rank : ℕ → ℕ) (a : Account (IslandNode S D L B)) → IsRun sources drains w.book g a → AreSettled g a
+      → WorldTells sources g w a → FollowsPlans plans a → IsRanked g rank → FitsBy g w plans
+
+  abbrev BeginsLaw : Type 0
+  BeginsLaw = (g : Graph) (w : World) (a : Account (IslandNode S D L B)) → IsRun sources drains w.book g a → (k : ℕ) (n : graph.Node) (first now : IslandNode S D L B) (plan : List ℕ)
+      → slice_get g.nodes k ≡ Some n → a.firsts k ≡ Some first → a.nodes k ≡ Some now → node_plan first ≡ Some plan → IsPrefix (node_moves now) plan × (IsAtOnce n.kind → (node_moves now ≡ []) ⊎ (node_moves now ≡ plan))
+
+  abbrev MisfitLaw : Type 0
+  MisfitLaw = (g : Graph) (w : World) (plans : Plans) (a : Account (IslandNode S D L B)) (outlook : ℕ → Outlook) → IsRun sources drains w.book g a → TellsPicks w a → FollowsPlans plans a → pictures.AllAgreeWith a g outlook
+      → (k : ℕ) (n : graph.Node) (now : IslandNode S D L B) (place : ℕ) → slice_get g.nodes k ≡ Some n → a.nodes k ≡ Some now → node_misfit now ≡ Some place → (place ≡ length (node_moves now)) × MisfitsOver g w plans outlook k n
+
+  abbrev ServesLaw : Type 0
+  ServesLaw = (g : Graph) (w : World) (rank : ℕ → ℕ) (a : Account (IslandNode S D L B)) → IsRun sources drains w.book g a → TellsFiles sources g w a → ServesPlans g w a → IsRanked g rank
+      → (i : ℕ) → i < length g.wires → AgreesWith (composed g w i) (a.near i).wire.sent
 
   abbrev MatchLaw : Type 0
   MatchLaw = (g : Graph) (w : World) (a : Account (IslandNode S D L B)) (outlook : ℕ → Outlook) → IsRun sources drains book g a → IsStill g a
@@ -297,6 +318,9 @@ module _ {S D : Type 0} (L B : Type 0) (sources : S → SourceState) (drains : D
     pub rests : RestsLaw
     pub rests_by : RestsByLaw
     pub moves : MovesLaw
+    pub begins : BeginsLaw
+    pub misfit : MisfitLaw
+    pub serves : ServesLaw
     pub match : MatchLaw
     pub ignorer : IgnorerThere
     pub took : TookLaw
@@ -304,7 +328,7 @@ module _ {S D : Type 0} (L B : Type 0) (sources : S → SourceState) (drains : D
 -- ---- what a run leaves
 
 module _ {S D L B : Type 0} (sources : S → SourceState) (drains : D → DrainState) (book : Book) (handles : HandleLaws L B sources drains book) (laws : RunLaws L B sources drains book) (b : Blueprint) (can : CanRun b) (ss : List S) (ds : List D) (budget : ℕ) (st : Stopped S D) (l : RunLeaves L B sources drains book b ss ds budget st)
-    (old mid : FolderState) (trace : Option (List ℕ)) (separate : IsApart b trace) (opens : Opens old mid (inputs_of_nodes b.nodes.items) (outputs_of_nodes b.nodes.items) (option_to_list trace) (map sources ss) (map drains ds)) (new : FolderState)
+    (plans : List (Option (List ℕ))) (led : map place_plan l.moment.places ≡ plans) (old mid : FolderState) (trace : Option (List ℕ)) (separate : IsApart b trace) (opens : Opens old mid (inputs_of_nodes b.nodes.items) (outputs_of_nodes b.nodes.items) (option_to_list trace) (map sources ss) (map drains ds)) (new : FolderState)
     (closes : Shuts mid new (option_to_list trace) (map sources st.end.readers.items) (map drains st.end.writers.items)) where
   abbrev nodes : List blue.Node
   nodes = b.nodes.items
@@ -368,6 +392,10 @@ module _ {S D L B : Type 0} (sources : S → SourceState) (drains : D → DrainS
   -- so it is by the plugs of every world that has these
   run_at : (w : World) → w.book ≡ book → IsRun sources drains w.book g left
   run_at w is = subst (λ (x : Book). IsRun sources drains x g left) (sym is) run
+
+  -- what each node follows
+  follows : FollowsPlans (plan_at plans) left
+  follows k first at = subst (λ (ps : List (Option (List ℕ))). plan_at ps k ≡ node_plan first) led (follow_along between.places between.firsts between.become k first (sym (between.first_at k) ∙ at))
 
   still : IsTrue st.at_rest → IsStill g left
   still rest = l.still rest
@@ -556,6 +584,9 @@ module _ {S D L B : Type 0} (sources : S → SourceState) (drains : D → DrainS
   all_pass : pictures.AllPass left g (as_passed carried)
   all_pass u below = let v = place_of (blueprint_wires b) u below in passes_exactly (left.near u).wire.sent (sent_list u v.0 v.1)
 
+  all_agree : pictures.AllAgreeWith left g (as_passed carried)
+  all_agree u below = let v = place_of (blueprint_wires b) u below in agrees_exactly (left.near u).wire.sent (sent_list u v.0 v.1)
+
   picture_wired : IsWired g picture
   picture_wired =
       let joined = run.joined in
@@ -585,28 +616,93 @@ module _ {S D L B : Type 0} (sources : S → SourceState) (drains : D → DrainS
       (laws.match g w left outlook run (still rest) k n at is))
 
   -- in a polytree every sink has ended where no event was left
-  ending : IsPolytree (wiring (blueprint_wires b)) → IsTrue st.at_rest → list_any (λ (s : SinkStand). is_unended s.2) st.end.sinks.items ≡ false
-  ending tree rest =
+  ending : NoneFollow plans → IsPolytree (wiring (blueprint_wires b)) → IsTrue st.at_rest → list_any (λ (s : SinkStand). is_unended s.2) st.end.sinks.items ≡ false
+  ending none tree rest =
       none_unended st.end.sinks.items (λ i s at.
       let h = sink_here i s at in
       let n : slice_get g.nodes h.is.to ≡ Some (graph_node h.node) = subst (λ j. slice_get g.nodes j ≡ Some (graph_node h.node)) (sym h.to) (mapped_at graph_node nodes s.0 h.node h.at) in
       let over : ended_there (left.nodes h.is.to) ≡ true =
-      laws.trees g (unread book moved) picture (as_passed carried) picture_wired (laws.rests_by g (unread book moved) left (as_passed carried) run (still rest) told_moves all_pass) (tree_by_wires g tree)
+      laws.trees g (unread book moved) picture (as_passed carried) picture_wired
+      (rests_freely g (unread book moved) (plan_at plans) (none_at plans none) picture (as_passed carried) (laws.rests_by g (unread book moved) (plan_at plans) left (as_passed carried) run (still rest) told_moves follows all_agree)) (tree_by_wires g tree)
       (λ k. ended_there (left.nodes k)) (laws.match g (unread book moved) left (as_passed carried) run (still rest)) h.wire h.is (graph_node h.node) h.there n h.shape in
       ended_goes s.2 (sym h.ended ∙ ap (λ (k : ℕ). ended_there (left.nodes k)) (sym h.to) ∙ over))
 
   -- the picture by what passed
-  pictured : PictureStands book b st.end.sinks.items drawn.picks st.wires.items st.at_rest
+  pictured : PictureStands book b plans st.end.sinks.items drawn.picks st.wires.items st.at_rest
   pictured = record {
     carries = carried;
     lawful = λ w is has.
-        subst (λ (c : List WireCount). IsLawful g w c (as_passed carried)) (sym wires_are)
-        (laws.lawful_by g w left (as_passed carried) (run_at w is) settled (picks_told sources drains book handles b can ss ds left last between old mid opens w has) all_pass);
+        subst (λ (c : List WireCount). IsLawfulBy g w (plan_at plans) c (as_passed carried)) (sym wires_are)
+        (laws.lawful_by g w (plan_at plans) left (as_passed carried) (run_at w is) settled (picks_told sources drains book handles b can ss ds left last between old mid opens w has) follows all_pass);
     rest = λ rest w is has.
-        subst (λ (c : List WireCount). Rests g w c (as_passed carried)) (sym wires_are)
-        (laws.rests_by g w left (as_passed carried) (run_at w is) (still rest) (picks_told sources drains book handles b can ss ds left last between old mid opens w has) all_pass);
+        subst (λ (c : List WireCount). RestsBy g w (plan_at plans) c (as_passed carried)) (sym wires_are)
+        (laws.rests_by g w (plan_at plans) left (as_passed carried) (run_at w is) (still rest) (picks_told sources drains book handles b can ss ds left last between old mid opens w has) follows all_agree);
     matching = λ rest w. matched rest w (as_passed carried);
   }
+
+  -- a node of the blueprint, as it is at its place
+  node_there : (k : ℕ) (x : IslandNode S D L B) → slice_get last k ≡ Some x → left.nodes k ≡ Some x
+  node_there k x at = between.node_at k ∙ at
+
+  -- what the stages that follow moves made of them
+  made : MakesItsMoves b plans drawn.picks
+  made k n plan moves at is chose =
+      let c = chose_along 0 last chose.0 k moves chose.1 in
+      let place : c.at ≡ k = let p = c.place in omega (arith, p) in
+      let there = node_there k c.node (subst (λ (j : ℕ). slice_get last j ≡ Some c.node) place c.there) in
+      let here = mapped_at graph_node nodes k n at in
+      let m = run.keeps.each_node k (graph_node n) here in
+      let its = laws.begins g (unread book moved) left run k (graph_node n) m.first c.node plan here m.first_at there (sym (follows k m.first m.first_at) ∙ is) in
+      subst (λ (ms : List ℕ). IsPrefix ms plan × (IsAtOnce n.kind → (ms ≡ []) ⊎ (ms ≡ plan))) (ap (λ (o : Option (List ℕ)). unwrap_or o []) c.picks) its
+
+  -- one that could not make its next move, by what is told of its cause
+  abbrev Told : (ℕ → blue.Node → Type 0) → Type 0
+  Told Cause = (k : ℕ) (n : blue.Node) (x : IslandNode S D L B) (place : ℕ) → slice_get nodes k ≡ Some n → left.nodes k ≡ Some x → node_misfit x ≡ Some place → Cause k n
+
+  stopped : (Cause : ℕ → blue.Node → Type 0) → Told Cause → (stage place : ℕ) → st.end.misfit ≡ Some (stage, place) → IsMisfit b plans drawn.picks Cause stage place
+  stopped Cause causes stage place is =
+      let f : FindsMisfit (count_from 0 (length last)) last stage place = (subst (λ (o : Option Found). IsLeast (FindsMisfit (count_from 0 (length last)) last) o) is l.misfit).0 in
+      let number : stage ≡ 0 + f.at = count_at 0 (length last) f.at stage f.number in
+      let same : f.at ≡ stage = omega (arith, number) in
+      let found : slice_get last stage ≡ Some f.node = subst (λ (j : ℕ). slice_get last j ≡ Some f.node) same f.there in
+      let below : stage < length nodes = subst (λ (m : ℕ). stage < m) (sym (as_many sources drains book handles b ss ds left last between old mid opens)) (place_within last stage f.node found) in
+      let n = place_of nodes stage below in
+      let here = mapped_at graph_node nodes stage n.0 n.1 in
+      let there = node_there stage f.node found in
+      let why = laws.misfit g (unread book moved) (plan_at plans) left (as_passed carried) run told_moves follows all_agree stage (graph_node n.0) f.node place here there f.found in
+      let more = misfit_has_more g (unread book moved) (plan_at plans) (as_passed carried) stage (graph_node n.0) why.1 in
+      let moves : List ℕ = node_moves f.node in
+      let size : length (moved stage) ≡ length (node_moves f.node) = ap (λ (o : Option (IslandNode S D L B)). length (moves_at o)) there in
+      let chose = made_along 0 last f.at stage f.node (node_moves f.node) number f.there (misfit_chooses f.node place f.found) in
+      let many : place ≡ length (node_moves f.node) = why.0 in
+      let longer : length (moved stage) < length more.moves = more.more in
+      record {
+        node = n.0;
+        there = n.1;
+        plan = more.moves;
+        follows = more.is;
+        moves = node_moves f.node;
+        made = chose;
+        place_is = why.0;
+        more = omega (arith, size, many, longer);
+        first = (made stage n.0 more.moves (node_moves f.node) n.1 more.is chose).0;
+        cause = causes stage n.0 f.node place n.1 there f.found;
+      }
+
+  by_passed : Told (MisfitByPassed carried plans)
+  by_passed k n x place at there found = λ w is has. (laws.misfit g w (plan_at plans) left (as_passed carried) (run_at w is) (picks_told sources drains book handles b can ss ds left last between old mid opens w has) follows all_agree k (graph_node n) x place (mapped_at graph_node nodes k n at) there found).1
+
+  -- the picture by what passed, and the cause of a misfit by that
+  abbrev Pictured : List Pick → Type 0
+  Pictured ps = (p : PictureStands book b plans st.end.sinks.items ps st.wires.items st.at_rest)
+      × ((stage place : ℕ) → st.end.misfit ≡ Some (stage, place) → IsMisfit b plans ps (MisfitByPassed p.carries plans) stage place)
+
+  pictured_so : Pictured drawn.picks
+  unfolding pictured
+  pictured_so = (pictured, stopped (MisfitByPassed carried plans) by_passed)
+
+  pictured_told : Pictured (map pick_of st.end.picks.items)
+  pictured_told = subst Pictured (sym l.picks) pictured_so
 
   module _ (tells_was : IsTrue old.tells) where
     abbrev Drew : Type 0
@@ -630,6 +726,12 @@ module _ {S D L B : Type 0} (sources : S → SourceState) (drains : D → DrainS
     -- what was sent on each wire may pass
     sent_agrees : (u : ℕ) (v : Edge) → slice_get (blueprint_wires b) u ≡ Some v → (w : World) → IsWorldOf book nodes drawn w → AgreesWith (composed g w u) (left.near u).wire.sent
     sent_agrees u v at w is = let ranked = laws.ranked b can.plugs can.taken can.fit in laws.agree g w ranked.0 left (run_at w is.book_is) (world_tells w is) ranked.1 u (place_within (blueprint_wires b) u v at)
+
+    by_files : Told (MisfitByFiles book b plans drawn)
+    by_files k n x place at there found = λ w is.
+        let ranked = laws.ranked b can.plugs can.taken can.fit in
+        let tells = world_tells w is in
+        (laws.misfit g w (plan_at plans) left (composed g w) (run_at w is.book_is) tells.picks follows (laws.agree g w ranked.0 left (run_at w is.book_is) tells ranked.1) k (graph_node n) x place (mapped_at graph_node nodes k n at) there found).1
 
     -- one world that has the files
     abbrev world : World
@@ -686,22 +788,90 @@ module _ {S D L B : Type 0} (sources : S → SourceState) (drains : D → DrainS
         let le : sent_at st.wires.items (0 + k) ≤ length (composed g w (0 + k)).list = omega (arith, sent, within) in
         le)
 
-    -- what passed each wire agrees with what may pass it
-    carried_so : (c : WiresCarry book b st.end.sinks.items st.wires.items drawn.picks) × AgreesWithFiles drawn c
-    carried_so = (carried, λ w is i v at. agrees_told (composed g w i) (left.near i).wire.sent (sent_agrees i v at w is))
+    -- a world that has the moves that the stages follow, where each made all of them or nothing may fail at it
+    module _ (w : World) (is : IsReplayOf book nodes plans drawn w) (fits : FitsBy g w (plan_at plans)) (serve : ServesItsMoves b plans drawn.picks w) where
+      files_there : TellsFiles sources g w left
+      files_there = drew.files w is.files
 
-    carried_told : (c : WiresCarry book b st.end.sinks.items st.wires.items (map pick_of st.end.picks.items)) × AgreesWithFiles drawn c
-    carried_told = subst (λ (ps : List Pick). (c : WiresCarry book b st.end.sinks.items st.wires.items ps) × AgreesWithFiles drawn c) (sym l.picks) carried_so
+      serves_there : ServesPlans g w left
+      serves_there k n first now gi fi ni moves at = by (node_plan first) refl
+        where
+          m : (x : blue.Node) × ((slice_get nodes k ≡ Some x) × (n ≡ graph_node x))
+          m = unmapped_at graph_node nodes k n gi
 
-    leaves_files : LeavesFiles book old new b trace st.end.sinks.items (map pick_of st.end.picks.items) st.wires.items st.at_rest
+          found : slice_get last k ≡ Some now
+          found = sym (between.node_at k) ∙ ni
+
+          chose : HasMade drawn.picks k moves
+          chose = made_along 0 last k k now moves (omega arith) found at
+
+          -- it made no others
+          one : (plan : List ℕ) → HasMade drawn.picks k plan → plan ≡ moves
+          one plan h =
+              let c = chose_along 0 last h.0 k plan h.1 in
+              let place : c.at ≡ k = let p = c.place in omega (arith, p) in
+              let same : c.node ≡ now = place_one last k c.node now (subst (λ (j : ℕ). slice_get last j ≡ Some c.node) place c.there) found in
+              some_one plan moves (sym c.picks ∙ ap node_picks same ∙ at)
+
+          by_plan : (plan : List ℕ) → plan_at plans k ≡ Some plan → HasMade drawn.picks k plan ⊎ IsSureAt g w k (graph_node m.0) → ServesPlan g w k n (Some plan) moves
+          by_plan plan p (inl all) = inl (is.followed k plan p ∙ one plan all)
+          by_plan plan p (inr sure) = inr (is.followed k plan p, (fits.each k n gi, subst (λ (x : graph.Node). IsSureAt g w k x) (sym m.1.1) sure))
+
+          by : (o : Option (List ℕ)) → node_plan first ≡ o → ServesPlan g w k n o moves
+          by None e = is.chosen k moves (follows k first fi ∙ e) chose
+          by (Some plan) e = let p = follows k first fi ∙ e in by_plan plan p (serve k m.0 plan m.1.0 p)
+
+      serves_wires : (i : ℕ) → i < length g.wires → AgreesWith (composed g w i) (left.near i).wire.sent
+      serves_wires = let ranked = laws.ranked b can.plugs can.taken can.fit in laws.serves g w ranked.0 left (run_at w is.book_is) files_there serves_there ranked.1
+
+      wire_serves : (i : ℕ) (v : Edge) → slice_get (blueprint_wires b) i ≡ Some v → AgreesWith (composed g w i) (left.near i).wire.sent
+      wire_serves i v at = serves_wires i (place_within (blueprint_wires b) i v at)
+
+      serves_all : ServesAll book new b drawn.picks st.end.sinks.items st.wires.items carried w
+      serves_all = record {
+        sink = λ i s n file at here shape.
+            let ranked = laws.ranked b can.plugs can.taken can.fit in
+            let found = stand_of i s n file at here shape in
+            let f = found.0 in
+            let its = wrote s.0 n file here f in (
+              its.written,
+              (
+                λ tells. sink_held s.0 file f tells ∙ its.holds (f.start.holds (closes.told tells)),
+                subst (λ (t : SinkStand). SinkTells (sink_outlook g w s.0 (graph_node n)) t.2 its.written) (sym found.1) (its.serves w ranked.0 is.book_is files_there serves_there ranked.1),
+              ),
+            );
+        ignores = λ i s n at here shape u v wire to.
+            let x = ignorer_of i s n at here shape in
+            let now = x.1.0 in
+            let same : (now.node, 0, now.end) ≡ s = x.1.1.1 in
+            subst (λ (e : EndState). IgnoreTells (sink_outlook g w s.0 (graph_node n)) e (sent_at st.wires.items u)) (ap (λ (t : SinkStand). t.2) same)
+            (subst (λ (c : ℕ). IgnoreTells (sink_outlook g w s.0 (graph_node n)) now.end c) (sym (wire_count_at u v wire))
+            (ignorer_told sources drains book g left run u v wire w (wire_serves u v wire) s.0 (graph_node n) (mapped_at graph_node nodes s.0 n here) shape to x.0 now x.1.1.0));
+        passed = λ i v at. agrees_told (composed g w i) (left.near i).wire.sent (wire_serves i v at);
+      }
+
+    -- what passed each wire agrees with what may pass it, and all is as by all the moves of stages that follow some
+    abbrev Carried : List Pick → Type 0
+    Carried ps = (c : WiresCarry book b st.end.sinks.items st.wires.items ps) × (AgreesWithFiles drawn c × ((w : World) → IsReplayOf book nodes plans drawn w → FitsBy g w (plan_at plans) → ServesItsMoves b plans ps w
+        → ServesAll book new b ps st.end.sinks.items st.wires.items c w))
+
+    carried_so : Carried drawn.picks
+    carried_so = (carried, (λ w is i v at. agrees_told (composed g w i) (left.near i).wire.sent (sent_agrees i v at w is), λ w is fits serve. serves_all w is fits serve))
+
+    carried_told : Carried (map pick_of st.end.picks.items)
+    carried_told = subst Carried (sym l.picks) carried_so
+
+    leaves_files : LeavesFiles book old new b plans trace st.end.sinks.items (map pick_of st.end.picks.items) st.wires.items st.at_rest
     leaves_files =
         let ranked = laws.ranked b can.plugs can.taken can.fit in
         record {
           drawn = drawn;
           chose = sym l.picks;
           carries = carried_told.0;
-          passed = carried_told.1;
-          fits = λ w is. laws.moves g w ranked.0 left (run_at w is.book_is) settled (world_tells w is) ranked.1;
+          passed = carried_told.1.0;
+          fits = λ w is. laws.moves g w (plan_at plans) ranked.0 left (run_at w is.book_is) settled (world_tells w is) follows ranked.1;
+          made = subst (MakesItsMoves b plans) (sym l.picks) made;
+          served = carried_told.1.1;
           read = λ k file is. was_read k file (source_at k file is);
           world = world;
           has_files = has_files;
@@ -718,10 +888,15 @@ module _ {S D L B : Type 0} (sources : S → SourceState) (drains : D → DrainS
               let told = draws_told d.bytes (sources f.first.reader.source) (sources f.now.reader.source) (left.near u).wire.sent (sent_at st.wires.items u) f.start.faults (wire_count_at u v at)
               (laws.reads g left run k (graph_node is.node) f.first f.now u v d.bytes (mapped_at graph_node nodes k is.node is.at) f.there at from d.whole) in
               rw (d.drawn_bytes, d.given, d.faulted) told;
-          lawful = λ w is. subst (λ (c : List WireCount). IsLawful g w c (composed g w)) (sym wires_are) (laws.lawful g w ranked.0 left (run_at w is.book_is) settled (world_tells w is) ranked.1);
-          rest = λ rest w is. subst (λ (c : List WireCount). Rests g w c (composed g w)) (sym wires_are) (laws.rests g w ranked.0 left (run_at w is.book_is) (still rest) (world_tells w is) ranked.1);
+          lawful = λ w is. subst (λ (c : List WireCount). IsLawfulBy g w (plan_at plans) c (composed g w)) (sym wires_are) (laws.lawful g w (plan_at plans) ranked.0 left (run_at w is.book_is) settled (world_tells w is) follows ranked.1);
+          rest = λ rest w is. subst (λ (c : List WireCount). RestsBy g w (plan_at plans) c (composed g w)) (sym wires_are) (laws.rests g w (plan_at plans) ranked.0 left (run_at w is.book_is) (still rest) (world_tells w is) follows ranked.1);
           matching = λ rest w. matched rest w (composed g w);
         }
+
+    -- with what was drawn
+    leaves_so : (x : LeavesFiles book old new b plans trace st.end.sinks.items (map pick_of st.end.picks.items) st.wires.items st.at_rest) × (x.drawn ≡ drawn)
+    unfolding leaves_files
+    leaves_so = (leaves_files, refl)
 
   calm_output : ((i : ℕ) (s : SinkStand) → slice_get st.end.sinks.items i ≡ Some s → is_write_fault s.2 ≡ false) → (n : List ℕ) → Contains (outputs_of_nodes nodes) n → Grew (old.wfaults n) 0 (new.wfaults n)
   calm_output none n c =
@@ -752,6 +927,19 @@ module _ {S D L B : Type 0} (sources : S → SourceState) (drains : D → DrainS
     | inr never ↦ (calm_other calm n never)
   ]
 
+  -- the result, whether or not a write to the trace's file failed
+  abbrev result : Bool → Ran → RunResult
+  result failed ran = record {
+    sinks = st.end.sinks;
+    picks = st.end.picks;
+    misfit = st.end.misfit;
+    wires = st.wires;
+    used = st.used;
+    at_rest = st.at_rest;
+    trace_failed = failed;
+    ran = ran;
+  }
+
   -- the trace, as it was left where none of the sinks' drains has its name
   abbrev Traced : RunResult → Type 0
   Traced ran = ((n : List ℕ) → Contains (option_to_list trace) n → Contains (drain_names (map drains st.end.writers.items)) n → ⊥) → Traces old new b trace (map pick_of ran.picks.items) ran.trace_failed
@@ -759,22 +947,25 @@ module _ {S D L B : Type 0} (sources : S → SourceState) (drains : D → DrainS
   traced_so : (ran : RunResult) → Traced ran → Traces old new b trace (map pick_of ran.picks.items) ran.trace_failed
   traced_so ran traced = traced (unwritten sources drains b can last st.end.readers.items st.end.writers.items apart old mid _ _ opens new closes lone)
 
-  pub runs_of : (ran : RunResult) → Traced ran → ran.sinks.items ≡ st.end.sinks.items → ran.picks.items ≡ st.end.picks.items → ran.wires.items ≡ st.wires.items → ran.used ≡ st.used → ran.at_rest ≡ st.at_rest → Runs book old new b trace budget ran
-  runs_of ran traced sinks chosen wires used rest = record {
-    sinks_are = ap (map (λ (s : SinkStand). s.0)) (sinks ∙ l.sinks) ∙ stands_are sources drains book handles b ss ds left last between old mid opens;
-    picks_are = ap picked (ap (map pick_of) chosen ∙ l.picks) ∙ picks_stand sources drains book handles b can ss ds left last between old mid opens;
+  pub runs_of : (failed : Bool) (ran : Ran) → Traced (result failed ran) → Runs book old new b plans trace budget (result failed ran)
+  runs_of failed ran traced = record {
+    sinks_are = ap (map (λ (s : SinkStand). s.0)) l.sinks ∙ stands_are sources drains book handles b ss ds left last between old mid opens;
+    picks_are = ap picked l.picks ∙ picks_stand sources drains book handles b can ss ds left last between old mid opens;
     told = tells_old sources drains b can last st.end.readers.items st.end.writers.items apart old mid _ _ opens new closes lone;
-    traces = traced_so ran traced;
-    leaves = λ h. rw (sinks, chosen, wires, rest) (leaves_files h);
+    traces = traced_so (result failed ran) traced;
+    leaves = λ h. (leaves_so h).0;
+    stuck = λ h stage place is.
+        subst (λ (d : Drawn). IsMisfit b plans (map pick_of st.end.picks.items) (MisfitByFiles book b plans d) stage place) (sym (leaves_so h).1)
+        (subst (λ (ps : List Pick). IsMisfit b plans ps (MisfitByFiles book b plans drawn) stage place) (sym l.picks) (stopped (MisfitByFiles book b plans drawn) (by_files h) stage place is));
     refusals = refused sources drains b can last st.end.readers.items st.end.writers.items apart old mid _ _ opens new closes lone;
     reads = other_reads sources drains b can last st.end.readers.items st.end.writers.items apart old mid _ _ opens new closes lone;
     writes = λ i s n file at here shape.
-        let found = stand_of i s n file (subst (λ (x : List SinkStand). slice_get x i ≡ Some s) sinks at) here shape in
+        let found = stand_of i s n file at here shape in
         let f = found.0 in
         subst (λ (t : SinkStand). FailedWritesOf t.2 (old.wfaults file) (new.wfaults file)) (sym found.1)
         (stands_writes f.now.end (drains f.first.drain) (drains f.now.drain) f.law.wrote f.now.count (old.wfaults file) (new.wfaults file) f.law.stands f.start.faults (sink_writes s.0 file f));
     faults = λ i s at fault.
-        let among : slice_get (filter_map stand_in last) i ≡ Some s = subst (λ (x : List SinkStand). slice_get x i ≡ Some s) (sinks ∙ l.sinks ∙ sinks_filtered last) at in
+        let among : slice_get (filter_map stand_in last) i ≡ Some s = subst (λ (x : List SinkStand). slice_get x i ≡ Some s) (l.sinks ∙ sinks_filtered last) at in
         let from = unfiltered_at stand_in last i s among in
         let below : from.0 < length nodes = subst (λ m. from.0 < m) (sym (as_many sources drains book handles b ss ds left last between old mid opens)) (place_within last from.0 from.1.0 from.1.1.0) in
         let m = place_of nodes from.0 below in
@@ -791,13 +982,15 @@ module _ {S D L B : Type 0} (sources : S → SourceState) (drains : D → DrainS
           rose = subst (λ (e : EndState). FailedWritesOf e (old.wfaults shape.0) (new.wfaults shape.0)) failed
               (stands_writes f.now.end (drains f.first.drain) (drains f.now.drain) f.law.wrote f.now.count (old.wfaults shape.0) (new.wfaults shape.0) f.law.stands f.start.faults (sink_writes from.0 shape.0 f));
         };
-    calm = λ none calm. calm_writes (λ i s at. none i s (subst (λ (x : List SinkStand). slice_get x i ≡ Some s) (sym sinks) at)) (calm_trace old new b trace _ ran.trace_failed (traced_so ran traced) calm);
+    calm = λ none calm. calm_writes none (calm_trace old new b trace _ failed (traced_so (result failed ran) traced) calm);
     other_writes = λ n never aside. other_writes sources drains b can last st.end.readers.items st.end.writers.items apart old mid _ _ opens new closes lone n never (unlisted trace n aside);
     other_draws = other_draws sources drains b can last st.end.readers.items st.end.writers.items apart old mid _ _ opens new closes lone;
-    within = rw used l.within;
-    spent = λ h. used ∙ l.spent (sym rest ∙ h);
-    pays = rw (wires, used) pays;
-    picture = rw (sinks, wires, chosen, l.picks, rest) pictured;
-    ending = rw (sinks, rest) ending;
-    wired = λ some. sinks_wired (subst (λ (x : List SinkStand). 1 ≤ length x) sinks some);
+    within = l.within;
+    spent = l.spent;
+    pays = pays;
+    picture = pictured_told.0;
+    ending = ending;
+    misfit = pictured_told.1;
+    made = subst (MakesItsMoves b plans) (sym l.picks) made;
+    wired = sinks_wired;
   }

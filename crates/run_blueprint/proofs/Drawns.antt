@@ -105,10 +105,15 @@ module _ {S D L B : Type 0} (sources : S → SourceState) (drains : D → DrainS
     pub given : drawn.given k ≡ (sources f.now.reader.source).given
     pub faulted : drawn.faulted k ≡ is_positive (sources f.now.reader.source).faults
 
+  -- the world has the files as they were read
+  abbrev pub HasFiles : World → Type 0
+  HasFiles w = (k : ℕ) (file : List ℕ) → IsSource nodes k file → w.file file ≡ record { bytes = drawn.bytes k; read = drawn.given k; faulted = drawn.faulted k }
+
   -- the same of every source; and a world that has the files as they were read tells of them
   pub record Draws : Type 0 where
     pub source : (k : ℕ) (file : List ℕ) (f : Source k file) → DrawsOf k file f
     pub tells : (w : World) → IsWorldOf book nodes drawn w → WorldTells sources (graph_of b) w left
+    pub files : (w : World) → HasFiles w → TellsFiles sources (graph_of b) w left
     pub has_files : IsWorldOf book nodes drawn (world_of book nodes drawn made_moves)
 
   module _ (tells_was : IsTrue old.tells) where
@@ -146,23 +151,24 @@ module _ {S D L B : Type 0} (sources : S → SourceState) (drains : D → DrainS
           faulted = λ rose. subst IsTrue (sym d.faulted) (positive (sources f.now.reader.source).faults (rose_from_none (sources f.first.reader.source).faults (sources f.now.reader.source).faults f.start.faults rose));
         })
 
-    files_told : (w : World) → IsWorldOf book nodes drawn w → TellsFiles sources (graph_of b) w left
-    files_told w is k n first now gi fi ni = tells_node sources w n first now (λ a c name fa nc shape.
+    files_told : (w : World) → HasFiles w → TellsFiles sources (graph_of b) w left
+    files_told w has k n first now gi fi ni = tells_node sources w n first now (λ a c name fa nc shape.
         let m = unmapped_at graph_node nodes k n gi in
         let place : IsSource nodes k name = record { node = m.0; at = m.1.0; kind_is = ap (λ (x : graph.Node). x.kind) (sym m.1.1) ∙ shape } in
         let f = source_facts sources drains book handles b ss ds left last l old mid opens k name place in
         let first_is : f.first ≡ a = reading_same f.first a first (one_node first (node.Reading f.first) fi f.there.at_first) fa in
         let now_is : f.now ≡ c = reading_same f.now c now (one_node now (node.Reading f.now) ni f.there.at_last) nc in
         subst (λ (x : Lines S). TellsFile (sources x.reader.source) (sources c.reader.source) (w.file name)) first_is
-        (subst (λ (x : Lines S). TellsFile (sources f.first.reader.source) (sources x.reader.source) (w.file name)) now_is (file_told k name f w (is.files k name place))))
+        (subst (λ (x : Lines S). TellsFile (sources f.first.reader.source) (sources x.reader.source) (w.file name)) now_is (file_told k name f w (has k name place))))
 
     world_tells : (w : World) → IsWorldOf book nodes drawn w → WorldTells sources (graph_of b) w left
-    world_tells w is = record { files = files_told w is; picks = picks_told w is.moves }
+    world_tells w is = record { files = files_told w is.files; picks = picks_told w is.moves }
 
     pub draws_all : Draws
     draws_all = record {
       source = draws_of;
       tells = world_tells;
+      files = files_told;
       has_files = world_has book nodes drawn made_moves (λ i k m n name at here p q. one_file b can.plugs can.taken can.fit i k m n name at here (ap file_of p) (ap file_of q))
           (has_made (world_of book nodes drawn made_moves) (λ k. refl));
     }

@@ -7,8 +7,8 @@ use Rattle.stream_model.specs.Composed.{inputs_of, count_from}
 use Rattle.stream_model.specs.Graph.{Graph, Edge, find_wire}
 use Rattle.stream_model.specs.Graph as graph
 use Rattle.stream_model.specs.Joined.{IsJoined}
-use Rattle.stream_model.specs.Lawful.{MergeInputs, MergeLawful, RowLawful, IsLawful}
-use Rattle.stream_model.specs.Linear.{Book}
+use Rattle.stream_model.specs.Lawful.{MergeInputs, MergeLawful, RowLawful}
+use Rattle.stream_model.specs.Linear.{Book, role_of}
 use Rattle.stream_model.specs.Node.{World}
 use Rattle.stream_model.specs.Outlook.{Outlook}
 use Rattle.stream_model.specs.Picks.{count_of}
@@ -25,8 +25,10 @@ use Rattle.blue_names.specs.Hubs.{hub_size}
 use Rattle.blue_check.specs.Fitness.{IsFit}
 use Rattle.blue_check.specs.Wires.{blueprint_wires}
 use Rattle.interpreter.specs.Picks.{pick_of}
+use Rattle.materializer.specs.Choosers.{plan_at}
 use Rattle.materializer.specs.Graphs.{graph_node, graph_of}
 use Rattle.materializer.proofs.Fitting.{fit_joined}
+use Rattle.run_laws.specs.Replayed.{Plans, IsLawfulBy, RoleLawfulBy}
 use Rattle.run_blueprint.specs.Carrying.{as_passed}
 use Rattle.run_blueprint.specs.Choosing.{HasPicks}
 use Rattle.run_blueprint.specs.Running.{Runs}
@@ -97,12 +99,12 @@ module _ (b : Blueprint) (wires : List WireCount) (counted : length wires ≡ le
       let c = place_of wires w.0 (omega (arith, within, counted)) in
       record { index = w.0; wire = f.wire; count = c.0; found = w.1; at = f.at; counted = c.1 }
 
-  hub_left : (w : World) (outlook : ℕ → Outlook) → IsLawful (graph_of b) w wires outlook → (k : ℕ) (n : graph.Node) (own producers : ℕ) → slice_get (graph_of b).nodes k ≡ Some n → n.kind ≡ MergeHub own producers
+  hub_left : (w : World) (plans : Plans) (outlook : ℕ → Outlook) → IsLawfulBy (graph_of b) w plans wires outlook → (k : ℕ) (n : graph.Node) (own producers : ℕ) → slice_get (graph_of b).nodes k ≡ Some n → n.kind ≡ MergeHub own producers
       → (u : ℕ) (v : Edge) (c : WireCount) (size : ℕ) → slice_get (blueprint_wires b) u ≡ Some v → v.to ≡ k → v.lane ≡ Some size → slice_get wires u ≡ Some c
       → (count_of v.input (w.moves k) ≤ c.sent) × (c.sent ≤ count_of v.input (w.moves k) + (size + 1))
-  hub_left w outlook lawful k n own producers at is u v c size there to lane count =
+  hub_left w plans outlook lawful k n own producers at is u v c size there to lane count =
       let row : RowLawful (graph_of b) w k (MergeHub own producers) n.decider (ins (graph_of b) wires outlook k (MergeHub own producers)) (outs (graph_of b) wires outlook k (MergeHub own producers)) =
-      subst (λ (x : Kind). RowLawful (graph_of b) w k x n.decider (ins (graph_of b) wires outlook k x) (outs (graph_of b) wires outlook k x)) is (lawful.nodes k n at) in
+      subst (λ (x : Kind). RoleLawfulBy (graph_of b) w plans k (role_of x) n.decider (ins (graph_of b) wires outlook k x) (outs (graph_of b) wires outlook k x)) is (lawful.nodes k n at) in
       let one = one_out (MergeLawful (w.moves k)) (ins (graph_of b) wires outlook k (MergeHub own producers)) (outs (graph_of b) wires outlook k (MergeHub own producers)) row in
       let t = joined.target u v there in
       let both : Some t.0 ≡ Some n = sym (subst (λ (x : ℕ). slice_get (graph_of b).nodes x ≡ Some t.0) to t.1) ∙ at in
@@ -113,8 +115,8 @@ module _ (b : Blueprint) (wires : List WireCount) (counted : length wires ≡ le
       let owed = row_at (graph_of b) wires outlook (w.moves k) k producers 0 v.input u v c (omega arith) (omega (arith, less)) ports found there count one.1.1 in
       (owed.0, lane_few u v c (outlook u) size (count_of v.input (w.moves k)) lane owed.1)
 
-pub hub_leaves : (book : Book) (old new : FolderState) (b : Blueprint) (trace : Option (List ℕ)) (budget : ℕ) (ran : RunResult) (plugs : List PlugHead) (taken : List (List ℕ)) (w : World) → Runs book old new b trace budget ran → IsFit b plugs taken → w.book ≡ book → HasPicks (map pick_of ran.picks.items) w
+pub hub_leaves : (book : Book) (old new : FolderState) (b : Blueprint) (plans : List (Option (List ℕ))) (trace : Option (List ℕ)) (budget : ℕ) (ran : RunResult) (plugs : List PlugHead) (taken : List (List ℕ)) (w : World) → Runs book old new b plans trace budget ran → IsFit b plugs taken → w.book ≡ book → HasPicks (map pick_of ran.picks.items) w
     → (k : ℕ) (n : Node) (own producers u : ℕ) (v : Edge) (c : WireCount) (size : ℕ) → slice_get b.nodes.items k ≡ Some n → n.kind ≡ MergeHub own producers → slice_get (blueprint_wires b) u ≡ Some v → v.to ≡ k → hub_size b.nodes.items v.from v.to ≡ Some size → slice_get ran.wires.items u ≡ Some c
     → (count_of v.input (w.moves k) ≤ c.sent) × (c.sent ≤ count_of v.input (w.moves k) + (size + 1))
-hub_leaves book old new b trace budget ran plugs taken w runs fit same has k n own producers u v c size at is there to hub count =
-    hub_left b ran.wires.items runs.pays.counted (fit_joined b plugs taken fit) w (as_passed runs.picture.carries) (runs.picture.lawful w same has) k (graph_node n) own producers (mapped_at graph_node b.nodes.items k n at) is u v c size there to (hub_wire b u v size there hub).0 count
+hub_leaves book old new b plans trace budget ran plugs taken w runs fit same has k n own producers u v c size at is there to hub count =
+    hub_left b ran.wires.items runs.pays.counted (fit_joined b plugs taken fit) w (plan_at plans) (as_passed runs.picture.carries) (runs.picture.lawful w same has) k (graph_node n) own producers (mapped_at graph_node b.nodes.items k n at) is u v c size there to (hub_wire b u v size there hub).0 count

@@ -38,5 +38,6 @@ pub mod Drawns
 pub mod ShutWires
 pub mod Parties
 pub mod HubRows
+pub mod Replays
 pub mod Closing
 pub mod Breaking

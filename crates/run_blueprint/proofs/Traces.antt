@@ -16,7 +16,8 @@ use Rattle.stream_io.specs.Names.{drain_names}
 use Rattle.stream_io.specs.Opening.{HoldsNone, OpensAll}
 use Rattle.stream_io.specs.Closing.{ClosesAll}
 use Rattle.stream_io.proofs.Counts.{rose_after}
-use Rattle.run_report.specs.Trace.{trace_text, moves_in}
+use Rattle.plan_reader.specs.Text.{trace_text}
+use Rattle.run_report.specs.Trace.{moves_in}
 use Rattle.stream_io.specs.Putting.{Puts, PutsPart}
 use Rattle.run_blueprint.specs.Opening.{Opens, OpensTrace, OpensAs, WritesAs, ClosesAs}
 use Rattle.run_blueprint.specs.Tracing.{written_files, IsApart, picks_text, HoldsTrace, BreaksTrace, Traces}

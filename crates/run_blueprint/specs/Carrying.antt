@@ -11,9 +11,8 @@ use Rattle.stream_model.specs.Composed.{next, composed}
 use Rattle.stream_model.specs.Graph.{Edge}
 use Rattle.stream_model.specs.Lane.{lane_loss, Carries}
 use Rattle.stream_model.specs.Node.{World}
-use Rattle.stream_model.specs.Lawful.{IsLawful}
 use Rattle.stream_model.specs.Outlook.{Outlook, End, unended, Agrees}
-use Rattle.stream_model.specs.Rests.{Rests, SinksMatch}
+use Rattle.stream_model.specs.Rests.{SinksMatch}
 use Rattle.stream_model.specs.Shape.{sent_at}
 use Rattle.stream_model.specs.declared.blueprint.Blueprint.{Blueprint}
 use Rattle.stream_model.specs.declared.blueprint.Node.{Node}
@@ -22,10 +21,12 @@ use Rattle.nodes.specs.Ignoring.{EndsWith}
 use Rattle.nodes.specs.Kinds.{writes_of}
 use Rattle.nodes.specs.Sink.{WritesOf}
 use Rattle.run_laws.specs.Items.{lane_size}
+use Rattle.run_laws.specs.Replayed.{RestsBy, IsLawfulBy, MisfitsOver}
 use Rattle.blue_check.specs.Fitness.{IsFit}
 use Rattle.blue_check.specs.Wires.{blueprint_wires}
 use Rattle.materializer.specs.Files.{output_of}
-use Rattle.materializer.specs.Graphs.{graph_of}
+use Rattle.materializer.specs.Choosers.{plan_at}
+use Rattle.materializer.specs.Graphs.{graph_of, graph_node}
 use Rattle.run_blueprint.specs.Checked.{wire_type}
 use Rattle.run_blueprint.specs.Sent.{exact}
 use Rattle.run_blueprint.specs.Stands.{SinkStand, has_ended_at}
@@ -141,11 +142,17 @@ abbrev pub AgreesWithFiles : {book : Book} → {b : Blueprint} → {stands : Lis
 AgreesWithFiles {book} {b} d c = (w : World) → IsWorldOf book b.nodes.items d w → (i : ℕ) (v : Edge) → slice_get (blueprint_wires b) i ≡ Some v
     → Agrees (composed (graph_of b) w i) (c.lists i) (c.ends i)
 
+-- a stage cannot make its next move by what passed the wires
+abbrev pub MisfitByPassed : {book : Book} → {b : Blueprint} → {stands : List SinkStand} → {wires : List WireCount} → {picks : List Pick}
+    → WiresCarry book b stands wires picks → List (Option (List ℕ)) → ℕ → Node → Type 0
+MisfitByPassed {book} {b} {stands} {wires} {picks} c plans k n = (w : World) → w.book ≡ book → HasPicks picks w
+    → MisfitsOver (graph_of b) w (plan_at plans) (as_passed c) k (graph_node n)
+
 -- The picture of a run by what passed its wires, whatever the folder tells of its files. By every world that has the plugs of the run
--- and what its stages chose it is lawful, and where no event was left it rests; then a sink's input is shut exactly where the sink has
+-- and what its stages chose it is lawful, and where no event was left it rests, but for the stages that cannot make their next move; then a sink's input is shut exactly where the sink has
 -- ended.
-pub record PictureStands (book : Book) (b : Blueprint) (sinks : List SinkStand) (picks : List Pick) (wires : List WireCount) (at_rest : Bool) : Type 0 where
+pub record PictureStands (book : Book) (b : Blueprint) (plans : List (Option (List ℕ))) (sinks : List SinkStand) (picks : List Pick) (wires : List WireCount) (at_rest : Bool) : Type 0 where
   pub carries : WiresCarry book b sinks wires picks
-  pub lawful : (w : World) → w.book ≡ book → HasPicks picks w → IsLawful (graph_of b) w wires (as_passed carries)
-  pub rest : IsTrue at_rest → (w : World) → w.book ≡ book → HasPicks picks w → Rests (graph_of b) w wires (as_passed carries)
+  pub lawful : (w : World) → w.book ≡ book → HasPicks picks w → IsLawfulBy (graph_of b) w (plan_at plans) wires (as_passed carries)
+  pub rest : IsTrue at_rest → (w : World) → w.book ≡ book → HasPicks picks w → RestsBy (graph_of b) w (plan_at plans) wires (as_passed carries)
   pub matching : IsTrue at_rest → (w : World) → SinksMatch (graph_of b) w wires (as_passed carries) (has_ended_at sinks)

@@ -5,6 +5,7 @@ pub mod Checked
 pub mod Sent
 pub mod Choosing
 pub mod Drawing
+pub mod Replaying
 pub mod Stands
 pub mod Units
 pub mod Carrying

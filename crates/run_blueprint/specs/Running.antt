@@ -14,22 +14,24 @@ use Rattle.stream_model.specs.declared.outcome.EndState.TheVariants.{Unended, Wr
 use Rattle.stream_model.specs.Graph.{Edge}
 use Rattle.stream_model.specs.Node.{World}
 use Rattle.stream_model.specs.Composed.{composed, sink_outlook}
-use Rattle.stream_model.specs.Fits.{Fits}
 use Rattle.stream_model.specs.Sources.{whole_lines}
-use Rattle.stream_model.specs.Lawful.{IsLawful}
-use Rattle.stream_model.specs.Rests.{Rests, SinksMatch}
+use Rattle.stream_model.specs.Outlook.{Agrees}
+use Rattle.stream_model.specs.Rests.{SinksMatch}
 use Rattle.stream_model.specs.Shape.{IsPolytree, sent_at, need, count_needed}
 use Rattle.stream_io.specs.Counts.{Rose, Grew}
 use Rattle.stream_io.specs.State.{FolderState}
+use Rattle.run_laws.specs.Replayed.{RestsBy, IsLawfulBy, FitsBy, MisfitsOver}
 use Rattle.run_laws.specs.Sinks.{SinkTells, IgnoreTells}
+use Rattle.materializer.specs.Choosers.{plan_at, NoneFollow}
 use Rattle.materializer.specs.Graphs.{graph_node, graph_of}
 use Rattle.materializer.specs.Files.{output_of, inputs_of_nodes, outputs_of_nodes}
 use Rattle.stream_io.specs.Quiet.{Quiet}
 use Rattle.stream_io.specs.Opening.{GivesUp}
 use Rattle.interpreter.specs.Picks.{Pick, pick_of}
-use Rattle.run_blueprint.specs.Carrying.{WiresCarry, AgreesWithFiles, PictureStands}
+use Rattle.run_blueprint.specs.Carrying.{WiresCarry, AgreesWithFiles, PictureStands, MisfitByPassed}
 use Rattle.run_blueprint.specs.Choosing.{pick_places, picked}
 use Rattle.run_blueprint.specs.Drawing.{Drawn, IsSource, WasRead, WereRead, IsWorldOf, DrawsFirst}
+use Rattle.run_blueprint.specs.Replaying.{MakesItsMoves, IsReplayOf, ServesItsMoves, IsMisfit}
 use Rattle.run_blueprint.specs.Sending.{SentOn}
 use Rattle.run_blueprint.specs.Stands.{SinkStand, sink_places, has_ended_at, is_write_fault, is_unended}
 use Rattle.run_blueprint.specs.Tracing.{Traces, written_files}
@@ -59,6 +61,18 @@ pub record IgnoreLeaves (book : Book) (b : Blueprint) (d : Drawn) (wires : List 
   pub tells : (w : World) → IsWorldOf book b.nodes.items d w → (u : ℕ) (v : Edge) → slice_get (blueprint_wires b) u ≡ Some v → v.to ≡ k
       → IgnoreTells (sink_outlook (graph_of b) w k (graph_node n)) end (sent_at wires u)
 
+-- What is told of each sink by a world: it wrote what the composed outlook of the sink lets it write; and what passed each wire agrees with the
+-- wire's.
+pub record ServesAll (book : Book) (new : FolderState) (b : Blueprint) (picks : List Pick) (sinks : List SinkStand) (wires : List WireCount)
+    (carries : WiresCarry book b sinks wires picks) (w : World) : Type 0 where
+  pub sink : (i : ℕ) (s : SinkStand) (n : Node) (file : List ℕ) → slice_get sinks i ≡ Some s → slice_get b.nodes.items s.0 ≡ Some n
+      → output_of n.kind ≡ Some file
+      → (held : List ℕ) × ((IsTrue new.tells → new.file file ≡ Some held) × SinkTells (sink_outlook (graph_of b) w s.0 (graph_node n)) s.2 held)
+  pub ignores : (i : ℕ) (s : SinkStand) (n : Node) → slice_get sinks i ≡ Some s → slice_get b.nodes.items s.0 ≡ Some n → n.kind ≡ Ignore
+      → (u : ℕ) (v : Edge) → slice_get (blueprint_wires b) u ≡ Some v → v.to ≡ s.0
+      → IgnoreTells (sink_outlook (graph_of b) w s.0 (graph_node n)) s.2 (sent_at wires u)
+  pub passed : (i : ℕ) (v : Edge) → slice_get (blueprint_wires b) i ≡ Some v → Agrees (composed (graph_of b) w i) (carries.lists i) (carries.ends i)
+
 -- The inputs were read, and each sink wrote what its outlook lets it write. No other file but that of the trace is changed, where the
 -- folder still tells its files. The lines that were
 -- drawn are the first of each input, and little more than those was read. Each wire stands by what was sent on it and by how its sink
@@ -67,7 +81,7 @@ pub record IgnoreLeaves (book : Book) (b : Blueprint) (d : Drawn) (wires : List 
 -- these moves, which fit what may come in on their inputs. There is a world that has the input files as they were read, and these
 -- moves.
 -- Choice: docs/DECISIONS.md#polytrees-never-stall
-pub record LeavesFiles (book : Book) (old new : FolderState) (b : Blueprint) (trace : Option (List ℕ)) (sinks : List SinkStand) (picks : List Pick)
+pub record LeavesFiles (book : Book) (old new : FolderState) (b : Blueprint) (plans : List (Option (List ℕ))) (trace : Option (List ℕ)) (sinks : List SinkStand) (picks : List Pick)
     (wires : List WireCount) (at_rest : Bool) : Type 0 where
   pub drawn : Drawn
   pub chose : drawn.picks ≡ picks
@@ -82,16 +96,26 @@ pub record LeavesFiles (book : Book) (old new : FolderState) (b : Blueprint) (tr
   pub others : IsTrue new.tells → (n : List ℕ) → ¬ (Contains (outputs_of_nodes b.nodes.items) n) → trace ≢ Some n → new.file n ≡ old.file n
   pub draws : (k : ℕ) (file : List ℕ) (u : ℕ) (v : Edge) → IsSource b.nodes.items k file → slice_get (blueprint_wires b) u ≡ Some v → v.from ≡ k
       → DrawsFirst (drawn.bytes k) (drawn.given k) (drawn.faulted k) (sent_at wires u)
-  pub fits : (w : World) → IsWorldOf book b.nodes.items drawn w → Fits (graph_of b) w
+  pub fits : (w : World) → IsWorldOf book b.nodes.items drawn w → FitsBy (graph_of b) w (plan_at plans)
   pub carries : WiresCarry book b sinks wires picks
   pub passed : AgreesWithFiles drawn carries
   -- the picture, by the composed outlooks
-  pub lawful : (w : World) → IsWorldOf book b.nodes.items drawn w → IsLawful (graph_of b) w wires (composed (graph_of b) w)
-  pub rest : IsTrue at_rest → (w : World) → IsWorldOf book b.nodes.items drawn w → Rests (graph_of b) w wires (composed (graph_of b) w)
+  pub lawful : (w : World) → IsWorldOf book b.nodes.items drawn w → IsLawfulBy (graph_of b) w (plan_at plans) wires (composed (graph_of b) w)
+  pub rest : IsTrue at_rest → (w : World) → IsWorldOf book b.nodes.items drawn w → RestsBy (graph_of b) w (plan_at plans) wires (composed (graph_of b) w)
   pub matching : IsTrue at_rest → (w : World) → SinksMatch (graph_of b) w wires (composed (graph_of b) w) (has_ended_at sinks)
-  pub ending : IsPolytree (wiring (blueprint_wires b)) → IsTrue at_rest → list_any (λ s. is_unended s.2) sinks ≡ false
+  pub ending : NoneFollow plans → IsPolytree (wiring (blueprint_wires b)) → IsTrue at_rest → list_any (λ s. is_unended s.2) sinks ≡ false
+  -- the stages that follow moves made the first of them; and where each made all of them, or nothing may fail at it, and they fit, all is as by
+  -- all of them
+  pub made : MakesItsMoves b plans picks
+  pub served : (w : World) → IsReplayOf book b.nodes.items plans drawn w → FitsBy (graph_of b) w (plan_at plans) → ServesItsMoves b plans picks w
+      → ServesAll book new b picks sinks wires carries w
   -- the units that suffice for what was sent suffice for all that may be sent
   pub needed : (w : World) → IsWorldOf book b.nodes.items drawn w → count_needed (graph_of b) wires ≤ need (graph_of b) (composed (graph_of b) w)
+
+-- a stage cannot make its next move, by every world that has the input files as they were read and what the stages chose
+abbrev pub MisfitByFiles : Book → Blueprint → List (Option (List ℕ)) → Drawn → ℕ → Node → Type 0
+MisfitByFiles book b plans d k n = (w : World) → IsWorldOf book b.nodes.items d w
+    → MisfitsOver (graph_of b) w (plan_at plans) (composed (graph_of b) w) k (graph_node n)
 
 -- the count of failed writes of a sink's file rose exactly where a write failed
 abbrev pub FailedWritesOf : EndState → ℕ → ℕ → Type 0
@@ -108,12 +132,14 @@ pub record SomeWriteRose (old new : FolderState) (b : Blueprint) : Type 0 where
 -- stage whose kind chooses, in order of nodes, and no other; the trace's file, where one is wanted, holds the text of these moves, or
 -- a first part where a write to it failed. Whatever the folder tells, the units are within the budget and pay for what passed, the picture
 -- stands by what passed, and where no event was left every sink of a polytree has ended.
-pub record Runs (book : Book) (old new : FolderState) (b : Blueprint) (trace : Option (List ℕ)) (budget : ℕ) (ran : RunResult) : Type 0 where
+pub record Runs (book : Book) (old new : FolderState) (b : Blueprint) (plans : List (Option (List ℕ))) (trace : Option (List ℕ)) (budget : ℕ) (ran : RunResult) : Type 0 where
   pub sinks_are : map (λ (s : SinkStand). s.0) ran.sinks.items ≡ sink_places 0 b.nodes.items
   pub picks_are : picked (map pick_of ran.picks.items) ≡ pick_places 0 b.nodes.items
   pub told : IsTrue new.tells → IsTrue old.tells
   pub traces : Traces old new b trace (map pick_of ran.picks.items) ran.trace_failed
-  pub leaves : IsTrue old.tells → LeavesFiles book old new b trace ran.sinks.items (map pick_of ran.picks.items) ran.wires.items ran.at_rest
+  pub leaves : IsTrue old.tells → LeavesFiles book old new b plans trace ran.sinks.items (map pick_of ran.picks.items) ran.wires.items ran.at_rest
+  pub stuck : (tells : IsTrue old.tells) (stage place : ℕ) → ran.misfit ≡ Some (stage, place)
+      → IsMisfit b plans (map pick_of ran.picks.items) (MisfitByFiles book b plans (leaves tells).drawn) stage place
   pub refusals : Quiet old.refusals new.refusals
   pub reads : (n : List ℕ) → ¬ (Contains (inputs_of_nodes b.nodes.items) n) → Grew (old.rfaults n) 0 (new.rfaults n)
   pub writes : (i : ℕ) (s : SinkStand) (n : Node) (file : List ℕ) → slice_get ran.sinks.items i ≡ Some s → slice_get b.nodes.items s.0 ≡ Some n
@@ -126,8 +152,11 @@ pub record Runs (book : Book) (old new : FolderState) (b : Blueprint) (trace : O
   pub within : ran.used ≤ budget
   pub spent : ran.at_rest ≡ false → ran.used ≡ budget
   pub pays : Pays b ran.wires.items ran.used
-  pub picture : PictureStands book b ran.sinks.items (map pick_of ran.picks.items) ran.wires.items ran.at_rest
-  pub ending : IsPolytree (wiring (blueprint_wires b)) → IsTrue ran.at_rest → list_any (λ s. is_unended s.2) ran.sinks.items ≡ false
+  pub picture : PictureStands book b plans ran.sinks.items (map pick_of ran.picks.items) ran.wires.items ran.at_rest
+  pub ending : NoneFollow plans → IsPolytree (wiring (blueprint_wires b)) → IsTrue ran.at_rest → list_any (λ s. is_unended s.2) ran.sinks.items ≡ false
+  pub misfit : (stage place : ℕ) → ran.misfit ≡ Some (stage, place)
+      → IsMisfit b plans (map pick_of ran.picks.items) (MisfitByPassed picture.carries plans) stage place
+  pub made : MakesItsMoves b plans (map pick_of ran.picks.items)
   pub wired : 1 ≤ length ran.sinks.items → 1 ≤ length (blueprint_wires b)
 
 -- A source of a run in which memory was wanting: its file was there with these bytes, so many of them were read, and at most one

@@ -9,7 +9,7 @@ use Rattle.interpreter.specs.Picks.{Pick}
 use Rattle.stream_model.specs.declared.blueprint.Blueprint.{Blueprint}
 use Rattle.materializer.specs.Choices.{pick_names}
 use Rattle.materializer.specs.Files.{inputs_of_nodes, outputs_of_nodes}
-use Rattle.run_report.specs.Trace.{trace_text}
+use Rattle.plan_reader.specs.Text.{trace_text}
 
 -- the files that a run opens to write them, in order: those of its sinks, and that of its trace where one is wanted
 abbrev pub written_files : Blueprint → Option (List ℕ) → List (List ℕ)

@@ -137,8 +137,8 @@ pub fn every_wire_carries_its_type<S: Source, D: Drain, L: Logic, B: PlugBook>()
 /// Whenever a run stopped whose folder had told its files, also where its units were used up: the wire of a sink that goes on, lane or
 /// not, is told shut only where all was sent that may pass it, unless its outlook has a failure.
 pub fn a_shut_wire_carried_all()
-    ensures { (book : Book) (old new : FolderState) (b : Blueprint) (trace : Option (List ℕ)) (sinks : List SinkStand) (picks : List Pick)
-        (wires : List WireCount) (at_rest : Bool) (l : LeavesFiles book old new b trace sinks picks wires at_rest) (w : World)
+    ensures { (book : Book) (old new : FolderState) (b : Blueprint) (plans : List (Option (List ℕ))) (trace : Option (List ℕ)) (sinks : List SinkStand)
+        (picks : List Pick) (wires : List WireCount) (at_rest : Bool) (l : LeavesFiles book old new b plans trace sinks picks wires at_rest) (w : World)
         → IsWorldOf book b.nodes.items l.drawn w
         → (k : ℕ) (s : SinkStand) (i : ℕ) (v : Edge) (c : WireCount) → slice_get sinks k ≡ Some s → s.2 ≡ Unended
         → slice_get (blueprint_wires b) i ≡ Some v → v.to ≡ s.0 → slice_get wires i ≡ Some c → c.shut ≡ true
@@ -158,8 +158,8 @@ pub fn hubs_carry_each_party<S: Source, D: Drain, L: Logic, B: PlugBook>()
 /// Whenever a run stopped, whatever its folder tells: of each producer a merge hub gave no more elements than were sent, by the moves that
 /// the run answers, and of those that were sent all but as many as the hub's size and one, which the hub itself may have.
 pub fn a_merge_hub_leaves_few()
-    ensures { (book : Book) (old new : FolderState) (b : Blueprint) (trace : Option (List ℕ)) (budget : ℕ) (ran : RunResult) (plugs : List PlugHead)
-        (taken : List (List ℕ)) (w : World) → Runs book old new b trace budget ran → IsFit b plugs taken → w.book ≡ book
+    ensures { (book : Book) (old new : FolderState) (b : Blueprint) (plans : List (Option (List ℕ))) (trace : Option (List ℕ)) (budget : ℕ) (ran : RunResult)
+        (plugs : List PlugHead) (taken : List (List ℕ)) (w : World) → Runs book old new b plans trace budget ran → IsFit b plugs taken → w.book ≡ book
         → HasPicks (map pick_of ran.picks.items) w
         → (k : ℕ) (n : Node) (own producers u : ℕ) (v : Edge) (c : WireCount) (size : ℕ) → slice_get b.nodes.items k ≡ Some n
         → n.kind ≡ kind.MergeHub own producers → slice_get (blueprint_wires b) u ≡ Some v → v.to ≡ k → hub_size b.nodes.items v.from v.to ≡ Some size

@@ -5,10 +5,13 @@ ghost use Rattle.stream_model.specs.declared.blueprint.Blueprint as plan;
 ghost use Rattle.stream_io.specs.State.{FolderState};
 ghost use Rattle.materializer.specs.Fit.{CanRun};
 ghost use Rattle.materializer.specs.Choices.{pick_names};
+ghost use Rattle.materializer.specs.Choosers.{PlansFit, moves_of};
+ghost use Rattle.materializer.specs.Seats.{place_plan};
 ghost use Rattle.materializer.specs.Files.{inputs_of_nodes, outputs_of_nodes};
 ghost use Rattle.stream_io.specs.Opening.{MissesInput, RefusesOutput};
 ghost use Rattle.stream_io.specs.Closing.{ClosesAll};
-ghost use Rattle.run_report.specs.Trace.{trace_text, moves_in};
+ghost use Rattle.plan_reader.specs.Text.{trace_text};
+ghost use Rattle.run_report.specs.Trace.{moves_in};
 ghost use Rattle.island_runs.specs.Leaving.{RunLeaves, LeavesBroken, HasAsMany};
 ghost use Rattle.run_blueprint.specs.Receipt.{IsReceipt};
 ghost use Rattle.run_blueprint.specs.Opening.{Opens, OpensAs, WritesAs, ClosesAs};
@@ -30,9 +33,11 @@ use materializer::names::{input_names, output_names, pick_names};
 use plug_logic::book::PlugBook;
 use plug_logic::logic::Logic;
 use plug_logic::plug::Plug;
+use run_laws::misfit_laws::{every_misfit_has_its_cause, every_node_begins_its_plan};
 use run_laws::outlook_laws::{
-    every_node_gives_of_what_came, every_sink_agrees, every_sink_counts_its_lines,
-    every_sink_writes, every_source_reads_little_ahead, every_wire_agrees,
+    every_node_gives_of_what_came, every_plan_is_served, every_sink_agrees,
+    every_sink_counts_its_lines, every_sink_writes, every_source_reads_little_ahead,
+    every_wire_agrees,
 };
 use run_laws::picture_laws::{
     a_picture_without_events_rests, every_move_fits, every_picture_is_lawful,
@@ -49,12 +54,14 @@ use stream_model::outcome::{PickList, WireCount};
 use stream_model::picture_laws::polytrees_end;
 
 /// What a run came to: of each sink, in order of nodes, its node, how many whole lines it wrote and how it stands; the moves of
-/// each stage whose kind chooses, in order of nodes; what each wire carried; how many units were used, and whether no event was left;
-/// whether a write to the trace's file failed; and the receipt of the run.
+/// each stage whose kind chooses, in order of nodes; the least of them that could not make its next move, and the place of that move;
+/// what each wire carried; how many units were used, and whether no event was left; whether a write to the trace's file failed; and the
+/// receipt of the run.
 #[derive(Drop)]
 pub struct RunResult {
     pub sinks: Vec<SinkStand>,
     pub picks: Vec<PickList>,
+    pub misfit: Option<(u32, u32)>,
     pub wires: Vec<WireCount>,
     pub used: u32,
     pub at_rest: bool,
@@ -150,11 +157,13 @@ fn close<F: Folder, L: Logic, B: PlugBook>(
     room: Vec<u8>,
 ) -> RunResult
     requires { room.items ≡ [] }
-    ensures runs { (old : FolderState) (b : plan.Blueprint) (trace : Option (List ℕ)) (budget : ℕ) (ss : List F.Inp) (ds : List F.Out) → CanRun b
+    ensures runs { (old : FolderState) (b : plan.Blueprint) (plans : List (Option (List ℕ))) (trace : Option (List ℕ)) (budget : ℕ) (ss : List F.Inp)
+        (ds : List F.Out) → CanRun b
         → IsApart b trace → choosers.now ≡ pick_names b.nodes.items
         → Opens old (F.state folder.old) (inputs_of_nodes b.nodes.items) (outputs_of_nodes b.nodes.items) (option_to_list trace) (map F.Inp.state ss)
         (map F.Out.state ds) → OpensAs (F.state folder.old) trace (option_map F.Out.state drain)
-        → RunLeaves L B F.Inp.state F.Out.state B.lists b ss ds budget stopped → Runs B.lists old (F.state folder.new) b trace budget result }
+        → (left : RunLeaves L B F.Inp.state F.Out.state B.lists b ss ds budget stopped) → map place_plan left.moment.places ≡ plans
+        → Runs B.lists old (F.state folder.new) b plans trace budget result }
     ensures handles { F.handles folder.new ≡ F.handles folder.old - (length stopped.end.readers.items + length stopped.end.writers.items + length
         (option_to_list drain)) }
     ensures all { (old : FolderState) (b : plan.Blueprint) (trace : Option (List ℕ)) (budget : ℕ) (ss : List F.Inp) (ds : List F.Out) → CanRun b
@@ -172,6 +181,9 @@ fn close<F: Folder, L: Logic, B: PlugBook>(
     every_picture_is_lawful::<F::Inp, F::Out, L, B>();
     a_picture_without_events_rests::<F::Inp, F::Out, L, B>();
     every_move_fits::<F::Inp, F::Out, L, B>();
+    every_node_begins_its_plan::<F::Inp, F::Out, L, B>();
+    every_misfit_has_its_cause::<F::Inp, F::Out, L, B>();
+    every_plan_is_served::<F::Inp, F::Out, L, B>();
     polytrees_end();
     fit_blueprints_are_whole();
     fit_blueprints_pass_the_rules();
@@ -191,6 +203,7 @@ fn close<F: Folder, L: Logic, B: PlugBook>(
     RunResult {
         sinks: end.sinks,
         picks: end.picks,
+        misfit: end.misfit,
         wires,
         used,
         at_rest,
@@ -245,9 +258,10 @@ fn close_unmade<F: Folder>(folder: &mut F, end: IslandEnd<F::Inp, F::Out>, drain
 
 // Choice: docs/DECISIONS.md#as-many-handles
 /// Opens the files of a blueprint, its inputs in order and then its outputs in order, and behind them the file of its trace where one is
-/// wanted; lets so many workers, 1 to 64, run its islands by at most `budget` units; writes the trace, which takes no memory, and closes the files, also where
-/// memory is wanting. The trace is then left empty. But for what its nodes want as they start and run all memory is taken before
-/// the first opening. It leaves as many open handles as there were.
+/// wanted; lets so many workers, 1 to 64, run its islands by at most `budget` units, where each stage that chooses follows its moves of
+/// `plans`, if there are some; writes the trace, which takes no memory, and closes the files, also where memory is wanting. The trace is
+/// then left empty. But for what its nodes want as they start and run all memory is taken before the first opening. It leaves as many
+/// open handles as there were.
 pub fn run<R: Threads + Wait + Sync, F: Folder, L: Logic + Send, B: PlugBook + Send>(
     rt: &R,
     alloc: Global,
@@ -257,14 +271,16 @@ pub fn run<R: Threads + Wait + Sync, F: Folder, L: Logic + Send, B: PlugBook + S
     workers: u32,
     budget: u32,
     plugs: Vec<Plug<L>>,
+    plans: Vec<Option<Vec<u32>>>,
 ) -> Result<RunResult, OpenEnd>
     requires runs { CanRun b }
     requires has { HasPlugs (map (λ p. p.head) plugs.items) b.nodes.items }
     requires listed { All (GivesAsListed L.gives B.lists) plugs.items }
+    requires follow { PlansFit (map (λ n. n.kind) b.nodes.items) (map moves_of plans.items) }
     requires apart { IsApart b trace }
     requires workers { (0 < workers) × (workers ≤ 64) }
     requires budget { budget ≤ MOST_COUNT }
-    ensures ran { IfOk result (λ ran. Runs B.lists (F.state folder.old) (F.state folder.new) b trace budget ran) }
+    ensures ran { IfOk result (λ ran. Runs B.lists (F.state folder.old) (F.state folder.new) b (map moves_of plans.items) trace budget ran) }
     ensures receipt { IfOk result (λ ran. IsReceipt b workers ran.used ran.at_rest ran.ran) }
     ensures no_input { (n : List ℕ) → result ≡ Err (OpenEnd.MissingInput n) → MissesInput (F.state folder.old) (F.state folder.new)
         (inputs_of_nodes b.nodes.items) n }
@@ -283,7 +299,7 @@ pub fn run<R: Threads + Wait + Sync, F: Folder, L: Logic + Send, B: PlugBook + S
         choosers,
         room,
     } = named;
-    let Ok(prepared) = prepare::<F::Inp, F::Out, L, B>(alloc, b, plugs) else {
+    let Ok(prepared) = prepare::<F::Inp, F::Out, L, B>(alloc, b, plugs, plans) else {
         return Err(OpenEnd::NoMemory);
     };
     let Opened {

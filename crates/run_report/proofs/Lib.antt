@@ -10,3 +10,4 @@ pub mod Walking
 pub mod Rows
 pub mod Telling
 pub mod Texts
+pub mod Replays

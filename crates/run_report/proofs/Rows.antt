@@ -10,7 +10,7 @@ use Rattle.clap.proofs.WalkLemmas.{raw_values-rows}
 use Rattle.clap.specs.declared.builder.value_parser.Reading.{Reading}
 use Rattle.clap.specs.declared.parser.matches.ArgMatches.{ArgMatches}
 use Rattle.clap.specs.declared.parser.matches.ValueSource.TheVariants.{CommandLine}
-use Rattle.run_report.specs.Parts.{Part, Setting, generate, workers, turns, trace, given, file, files_of, is_setting, values_of}
+use Rattle.run_report.specs.Parts.{Part, Setting, generate, workers, turns, trace, replay, given, file, files_of, is_setting, values_of}
 use Rattle.run_report.specs.Shape.{SaysAll, SaysParts, value_list}
 use Rattle.run_report.proofs.Steps.{file_id, files_rule, id_of}
 use Rattle.run_report.proofs.Walking.{add, rows_with}
@@ -62,30 +62,41 @@ same_setting generate generate = refl
 same_setting generate workers = refl
 same_setting generate turns = refl
 same_setting generate trace = refl
+same_setting generate replay = refl
 same_setting workers generate = refl
 same_setting workers workers = refl
 same_setting workers turns = refl
 same_setting workers trace = refl
+same_setting workers replay = refl
 same_setting turns generate = refl
 same_setting turns workers = refl
 same_setting turns turns = refl
 same_setting turns trace = refl
+same_setting turns replay = refl
 same_setting trace generate = refl
 same_setting trace workers = refl
 same_setting trace turns = refl
 same_setting trace trace = refl
+same_setting trace replay = refl
+same_setting replay generate = refl
+same_setting replay workers = refl
+same_setting replay turns = refl
+same_setting replay trace = refl
+same_setting replay replay = refl
 
 no_file : (s : Setting) → bytes_eq file_id (id_of s) ≡ false
 no_file generate = refl
 no_file workers = refl
 no_file turns = refl
 no_file trace = refl
+no_file replay = refl
 
 no_setting : (s : Setting) → bytes_eq (id_of s) file_id ≡ false
 no_setting generate = refl
 no_setting workers = refl
 no_setting turns = refl
 no_setting trace = refl
+no_setting replay = refl
 
 join : (b : Bool) (xs ys : List Text) (v : Text) → cond b (xs ++ v ∷ []) xs ++ ys ≡ xs ++ cond b (v ∷ ys) ys
 join true xs ys v = append_assoc xs (v ∷ []) ys
@@ -124,6 +135,7 @@ says_all m parts e = record {
   workers_is = listed m (id_of workers) (fold add [] parts) e ∙ values_grow workers parts [];
   turns_is = listed m (id_of turns) (fold add [] parts) e ∙ values_grow turns parts [];
   trace_is = listed m (id_of trace) (fold add [] parts) e ∙ values_grow trace parts [];
+  replay_is = listed m (id_of replay) (fold add [] parts) e ∙ values_grow replay parts [];
 }
 
 pub says_parts : (m : ArgMatches) (parts : Option (List Part)) → Some (rows_of (found_of m)) ≡ rows_with [] parts → SaysParts parts m

@@ -9,7 +9,7 @@ use Rattle.clap.specs.Kinds.{Kinds, or_else}
 use Rattle.clap.specs.Faults.{flag_word_fault, flags_fault, settle_fault, step_fault, turn_fault, walk_fault}
 use Rattle.clap.specs.declared.builder.action.ArgAction.TheVariants.{Append}
 use Rattle.clap.specs.declared.builder.value_parser.ValueParser.TheVariants as vp
-use Rattle.run_report.specs.Parts.{Setting, generate, workers, turns, trace, setting_of}
+use Rattle.run_report.specs.Parts.{Setting, generate, workers, turns, trace, replay, setting_of}
 use Rattle.run_report.specs.Shape.{streams_app}
 
 -- an argument as clap fills it in
@@ -39,6 +39,7 @@ id_of generate = codes "gen"
 id_of workers = codes "workers"
 id_of turns = codes "turns"
 id_of trace = codes "trace"
+id_of replay = codes "replay"
 
 abbrev pub file_id : Text
 file_id = codes "file"
@@ -50,7 +51,7 @@ abbrev pub files_rule : Rule
 files_rule = filled_rule None (Some 1) file_id
 
 abbrev pub rules : List Rule
-rules = files_rule ∷ setting_rule generate ∷ setting_rule workers ∷ setting_rule turns ∷ setting_rule trace ∷ []
+rules = files_rule ∷ setting_rule generate ∷ setting_rule workers ∷ setting_rule turns ∷ setting_rule trace ∷ setting_rule replay ∷ []
 
 abbrev pub shape : Shape
 shape = record (built streams_app).top { rules = rules }
@@ -171,6 +172,7 @@ step_value rows generate x xs dashes long short = turn rows (Some (id_of generat
 step_value rows workers x xs dashes long short = turn rows (Some (id_of workers, [])) (option (id_of workers)) x xs ∙ rw (dashes, long, short) refl
 step_value rows turns x xs dashes long short = turn rows (Some (id_of turns, [])) (option (id_of turns)) x xs ∙ rw (dashes, long, short) refl
 step_value rows trace x xs dashes long short = turn rows (Some (id_of trace, [])) (option (id_of trace)) x xs ∙ rw (dashes, long, short) refl
+step_value rows replay x xs dashes long short = turn rows (Some (id_of replay, [])) (option (id_of replay)) x xs ∙ rw (dashes, long, short) refl
 
 pub cut_by_option : (rows : List Row) (s t : Setting) (wt : Waiting) (x name : Text) (v : Option Text) (xs : List Text)
     → bytes_eq x (45 ∷ 45 ∷ []) ≡ false → long_of x ≡ Some (name, v) → arg_by_long rules name ≡ Some (setting_rule t)
@@ -179,33 +181,40 @@ cut_by_option rows generate t wt x name (Some v) xs dashes long found = turn row
 cut_by_option rows workers t wt x name (Some v) xs dashes long found = turn rows (Some (id_of workers, [])) wt x xs ∙ rw (dashes, long, found) refl
 cut_by_option rows turns t wt x name (Some v) xs dashes long found = turn rows (Some (id_of turns, [])) wt x xs ∙ rw (dashes, long, found) refl
 cut_by_option rows trace t wt x name (Some v) xs dashes long found = turn rows (Some (id_of trace, [])) wt x xs ∙ rw (dashes, long, found) refl
+cut_by_option rows replay t wt x name (Some v) xs dashes long found = turn rows (Some (id_of replay, [])) wt x xs ∙ rw (dashes, long, found) refl
 cut_by_option rows generate t wt x name None xs dashes long found = turn rows (Some (id_of generate, [])) wt x xs ∙ rw (dashes, long, found) refl
 cut_by_option rows workers t wt x name None xs dashes long found = turn rows (Some (id_of workers, [])) wt x xs ∙ rw (dashes, long, found) refl
 cut_by_option rows turns t wt x name None xs dashes long found = turn rows (Some (id_of turns, [])) wt x xs ∙ rw (dashes, long, found) refl
 cut_by_option rows trace t wt x name None xs dashes long found = turn rows (Some (id_of trace, [])) wt x xs ∙ rw (dashes, long, found) refl
+cut_by_option rows replay t wt x name None xs dashes long found = turn rows (Some (id_of replay, [])) wt x xs ∙ rw (dashes, long, found) refl
 
 ends_cut : (rows : List Row) (s : Setting) (wt : Waiting) (xs : List Text) → outcome (at rows (Some (id_of s, [])) wt true) xs ≡ None
 ends_cut rows generate wt [] = refl
 ends_cut rows workers wt [] = refl
 ends_cut rows turns wt [] = refl
 ends_cut rows trace wt [] = refl
+ends_cut rows replay wt [] = refl
 ends_cut rows generate wt (x ∷ xs) = refl
 ends_cut rows workers wt (x ∷ xs) = refl
 ends_cut rows turns wt (x ∷ xs) = refl
 ends_cut rows trace wt (x ∷ xs) = refl
+ends_cut rows replay wt (x ∷ xs) = refl
 
 pub cut_by_dashes : (rows : List Row) (s : Setting) (wt : Waiting) (xs : List Text) → outcome (at rows (Some (id_of s, [])) wt false) ((45 ∷ 45 ∷ []) ∷ xs) ≡ None
 cut_by_dashes rows s wt xs = step_dashes rows (Some (id_of s, [])) wt xs ∙ ends_cut rows s wt xs
 
 -- the option of a name, by clap and by the grammar
 pub find_long : (name : Text) → arg_by_long rules name ≡ option_map setting_rule (setting_of (45 ∷ 45 ∷ name))
-find_long name = go (bytes_eq (codes "gen") name) (bytes_eq (codes "workers") name) (bytes_eq (codes "turns") name) (bytes_eq (codes "trace") name)
+find_long name =
+    go (bytes_eq (codes "gen") name) (bytes_eq (codes "workers") name) (bytes_eq (codes "turns") name) (bytes_eq (codes "trace") name)
+    (bytes_eq (codes "replay") name)
   where
-    go : (a b c d : Bool)
-        → cond (a || false) (Some (setting_rule generate)) (cond (b || false) (Some (setting_rule workers)) (cond (c || false) (Some (setting_rule turns)) (cond (d || false) (Some (setting_rule trace)) None)))
-        ≡ option_map setting_rule (cond a (Some generate) (cond b (Some workers) (cond c (Some turns) (cond d (Some trace) None))))
-    go true b c d = refl
-    go false true c d = refl
-    go false false true d = refl
-    go false false false true = refl
-    go false false false false = refl
+    go : (a b c d e : Bool)
+        → cond (a || false) (Some (setting_rule generate)) (cond (b || false) (Some (setting_rule workers)) (cond (c || false) (Some (setting_rule turns)) (cond (d || false) (Some (setting_rule trace)) (cond (e || false) (Some (setting_rule replay)) None))))
+        ≡ option_map setting_rule (cond a (Some generate) (cond b (Some workers) (cond c (Some turns) (cond d (Some trace) (cond e (Some replay) None)))))
+    go true b c d e = refl
+    go false true c d e = refl
+    go false false true d e = refl
+    go false false false true e = refl
+    go false false false false true = refl
+    go false false false false false = refl

@@ -22,7 +22,7 @@ AllBare (a ∷ more) = (a.defaults ≡ []) × AllBare more
 
 bare : AllBare rules
 unfolding AllBare
-bare = (refl, (refl, (refl, (refl, (refl, tt)))))
+bare = (refl, (refl, (refl, (refl, (refl, (refl, tt))))))
 
 same_rows : (b : Bool) (rows : List Row) → cond b rows rows ≡ rows
 same_rows true rows = refl

@@ -8,8 +8,8 @@ use Rattle.std.proofs.lemmas.Bool.{cases_Bool, and_parts, and_from, eqb-true}
 use Rattle.std.proofs.lemmas.Str.{IsUtf8-from_ascii}
 use Rattle.elem_core.specs.Number.{is_numeral}
 use Rattle.blue_words.specs.Names.{is_file_byte, is_file_name}
-use Rattle.run_report.specs.Parts.{Part, Setting, generate, workers, turns, trace, given, file, with_part, files_of, is_dashed, name_in, parts_from, parts_of, setting_of, value_in, values_of, with_value}
-use Rattle.run_report.specs.Asking.{Asked, asked_by, asked_of, asked_input, number_or, number_within, only, trace_of, most_generated, most_turns, most_workers, usual_turns, usual_workers}
+use Rattle.run_report.specs.Parts.{Part, Setting, generate, workers, turns, trace, replay, given, file, with_part, files_of, is_dashed, name_in, parts_from, parts_of, setting_of, value_in, values_of, with_value}
+use Rattle.run_report.specs.Asking.{Asked, asked_by, asked_of, asked_input, number_or, number_within, only, trace_of, replay_of, most_generated, most_turns, most_workers, usual_turns, usual_workers}
 use Rattle.run_report.specs.Shape.{are_texts, is_text}
 
 abbrev is_low : ℕ → Bool
@@ -74,7 +74,7 @@ value_of (file v) = v
 abbrev values : List Part → List (List ℕ)
 values parts = map value_of parts
 
-some_is : {A B : Type 0} (f : A → Option B) (o : Option A) (b : B) → option_and_then f o ≡ Some b → (a : A) × ((o ≡ Some a) × (f a ≡ Some b))
+pub some_is : {A B : Type 0} (f : A → Option B) (o : Option A) (b : B) → option_and_then f o ≡ Some b → (a : A) × ((o ≡ Some a) × (f a ≡ Some b))
 some_is f None b e = absurd (true≢false (sym (ap (λ o. is_some o) e)))
 some_is f (Some a) b e = (a, (refl, e))
 
@@ -109,15 +109,33 @@ trace_text other (v ∷ []) path e = go (cases_Bool (is_file_name v)) e
     go (inr is) h = let none : trace_of other (only (v ∷ [])) ≡ None = rw is refl in absurd (true≢false (sym (ap (λ o. is_some o) (sym none ∙ h))))
 trace_text other (v ∷ w ∷ vs) path e = absurd (true≢false (sym (ap (λ o. is_some o) e)))
 
+replay_text : (vs : List (List ℕ)) (number crew : Option (Option (List ℕ))) (other : List ℕ) (path : Option (List ℕ)) (moves : Option (List ℕ))
+    → replay_of (only vs) number crew other path ≡ Some moves → are_texts vs ≡ true
+replay_text [] number crew other path moves e = refl
+replay_text (v ∷ []) None crew other path moves e = absurd (true≢false (sym (ap (λ o. is_some o) e)))
+replay_text (v ∷ []) (Some (Some n)) crew other path moves e = absurd (true≢false (sym (ap (λ o. is_some o) e)))
+replay_text (v ∷ []) (Some None) None other path moves e = absurd (true≢false (sym (ap (λ o. is_some o) e)))
+replay_text (v ∷ []) (Some None) (Some (Some w)) other path moves e = absurd (true≢false (sym (ap (λ o. is_some o) e)))
+replay_text (v ∷ []) (Some None) (Some None) other path moves e = go (cases_Bool (is_file_name v)) e
+  where
+    go : (is_file_name v ≡ true) ⊎ (is_file_name v ≡ false) → replay_of (only (v ∷ [])) (Some None) (Some None) other path ≡ Some moves → are_texts (v ∷ []) ≡ true
+    go (inl is) h = and_from _ _ (name_text v is) refl
+    go (inr is) h =
+        let none : replay_of (only (v ∷ [])) (Some None) (Some None) other path ≡ None = rw is refl in
+        absurd (true≢false (sym (ap (λ o. is_some o) (sym none ∙ h))))
+replay_text (v ∷ w ∷ vs) number crew other path moves e = absurd (true≢false (sym (ap (λ o. is_some o) e)))
+
 -- all values are texts where those of each option and the files are
 gathered : (parts : List Part) → are_texts (files_of parts) ≡ true → are_texts (values_of generate parts) ≡ true → are_texts (values_of workers parts) ≡ true
-    → are_texts (values_of turns parts) ≡ true → are_texts (values_of trace parts) ≡ true → are_texts (values parts) ≡ true
-gathered [] f g w t p = refl
-gathered (file v ∷ parts) f g w t p = let h = and_parts (is_text v) (are_texts (files_of parts)) f in and_from _ _ h.0 (gathered parts h.1 g w t p)
-gathered (given generate v ∷ parts) f g w t p = let h = and_parts (is_text v) (are_texts (values_of generate parts)) g in and_from _ _ h.0 (gathered parts f h.1 w t p)
-gathered (given workers v ∷ parts) f g w t p = let h = and_parts (is_text v) (are_texts (values_of workers parts)) w in and_from _ _ h.0 (gathered parts f g h.1 t p)
-gathered (given turns v ∷ parts) f g w t p = let h = and_parts (is_text v) (are_texts (values_of turns parts)) t in and_from _ _ h.0 (gathered parts f g w h.1 p)
-gathered (given trace v ∷ parts) f g w t p = let h = and_parts (is_text v) (are_texts (values_of trace parts)) p in and_from _ _ h.0 (gathered parts f g w t h.1)
+    → are_texts (values_of turns parts) ≡ true → are_texts (values_of trace parts) ≡ true → are_texts (values_of replay parts) ≡ true
+    → are_texts (values parts) ≡ true
+gathered [] f g w t p m = refl
+gathered (file v ∷ parts) f g w t p m = let h = and_parts (is_text v) (are_texts (files_of parts)) f in and_from _ _ h.0 (gathered parts h.1 g w t p m)
+gathered (given generate v ∷ parts) f g w t p m = let h = and_parts (is_text v) (are_texts (values_of generate parts)) g in and_from _ _ h.0 (gathered parts f h.1 w t p m)
+gathered (given workers v ∷ parts) f g w t p m = let h = and_parts (is_text v) (are_texts (values_of workers parts)) w in and_from _ _ h.0 (gathered parts f g h.1 t p m)
+gathered (given turns v ∷ parts) f g w t p m = let h = and_parts (is_text v) (are_texts (values_of turns parts)) t in and_from _ _ h.0 (gathered parts f g w h.1 p m)
+gathered (given trace v ∷ parts) f g w t p m = let h = and_parts (is_text v) (are_texts (values_of trace parts)) p in and_from _ _ h.0 (gathered parts f g w t h.1 m)
+gathered (given replay v ∷ parts) f g w t p m = let h = and_parts (is_text v) (are_texts (values_of replay parts)) m in and_from _ _ h.0 (gathered parts f g w t p h.1)
 
 mapped : {A B : Type 0} (f : A → B) (o : Option A) (b : B) → option_map f o ≡ Some b → (a : A) × (o ≡ Some a)
 mapped f None b e = absurd (true≢false (sym (ap (λ o. is_some o) e)))
@@ -128,12 +146,14 @@ asked_texts parts asked e =
     let input = some_is _ (asked_input (only (files_of parts)) (only (values_of generate parts))) asked e in
     let crew = some_is _ (number_or usual_workers most_workers (only (values_of workers parts))) asked input.1.1 in
     let budget = some_is _ (number_or usual_turns most_turns (only (values_of turns parts))) asked crew.1.1 in
-    let path = mapped _ (trace_of input.0.0 (only (values_of trace parts))) asked budget.1.1 in
+    let path = some_is _ (trace_of input.0.0 (only (values_of trace parts))) asked budget.1.1 in
+    let moves = mapped _ (replay_of (only (values_of replay parts)) (only (values_of generate parts)) (only (values_of workers parts)) input.0.0 path.0) asked path.1.1 in
     let files = input_text (files_of parts) (values_of generate parts) input.0 input.1.0 in
     gathered parts files.0 files.1
     (numbers_text usual_workers most_workers (values_of workers parts) crew.0 crew.1.0)
     (numbers_text usual_turns most_turns (values_of turns parts) budget.0 budget.1.0)
-    (trace_text input.0.0 (values_of trace parts) path.0 path.1)
+    (trace_text input.0.0 (values_of trace parts) path.0 path.1.0)
+    (replay_text (values_of replay parts) (only (values_of generate parts)) (only (values_of workers parts)) input.0.0 path.0 moves.0 moves.1)
 
 -- a word is low where its name and its value are
 low_word : (w : List ℕ) → are_low (name_in w) ≡ true → ((v : List ℕ) → value_in w ≡ Some v → are_low v ≡ true) → are_low w ≡ true
@@ -149,19 +169,22 @@ low_word (b ∷ bs) n v = go (low_word bs) (cases_Bool (b == 61)) n v
         and_from _ _ parts.0 (low parts.1 (λ u e. v u (rw is e)))
 
 low_setting : (n : List ℕ) (s : Setting) → setting_of n ≡ Some s → are_low n ≡ true
-low_setting n s = go (cases_Bool (bytes_eq (codes "--gen") n)) (cases_Bool (bytes_eq (codes "--workers") n)) (cases_Bool (bytes_eq (codes "--turns") n)) (cases_Bool (bytes_eq (codes "--trace") n))
+low_setting n s =
+    go (cases_Bool (bytes_eq (codes "--gen") n)) (cases_Bool (bytes_eq (codes "--workers") n)) (cases_Bool (bytes_eq (codes "--turns") n))
+    (cases_Bool (bytes_eq (codes "--trace") n)) (cases_Bool (bytes_eq (codes "--replay") n))
   where
     is_name : (m : List ℕ) → are_low m ≡ true → bytes_eq m n ≡ true → are_low n ≡ true
     is_name m low e = subst (λ k. are_low k ≡ true) ((bytes_decides m n).0 e) low
 
     go : (bytes_eq (codes "--gen") n ≡ true) ⊎ (bytes_eq (codes "--gen") n ≡ false) → (bytes_eq (codes "--workers") n ≡ true) ⊎ (bytes_eq (codes "--workers") n ≡ false)
         → (bytes_eq (codes "--turns") n ≡ true) ⊎ (bytes_eq (codes "--turns") n ≡ false) → (bytes_eq (codes "--trace") n ≡ true) ⊎ (bytes_eq (codes "--trace") n ≡ false)
-        → setting_of n ≡ Some s → are_low n ≡ true
-    go (inl a) b c d e = is_name (codes "--gen") refl a
-    go (inr a) (inl b) c d e = is_name (codes "--workers") refl b
-    go (inr a) (inr b) (inl c) d e = is_name (codes "--turns") refl c
-    go (inr a) (inr b) (inr c) (inl d) e = is_name (codes "--trace") refl d
-    go (inr a) (inr b) (inr c) (inr d) e = let none : setting_of n ≡ None = rw (a, b, c, d) refl in absurd (true≢false (sym (ap (λ o. is_some o) (sym none ∙ e))))
+        → (bytes_eq (codes "--replay") n ≡ true) ⊎ (bytes_eq (codes "--replay") n ≡ false) → setting_of n ≡ Some s → are_low n ≡ true
+    go (inl a) b c d r e = is_name (codes "--gen") refl a
+    go (inr a) (inl b) c d r e = is_name (codes "--workers") refl b
+    go (inr a) (inr b) (inl c) d r e = is_name (codes "--turns") refl c
+    go (inr a) (inr b) (inr c) (inl d) r e = is_name (codes "--trace") refl d
+    go (inr a) (inr b) (inr c) (inr d) (inl r) e = is_name (codes "--replay") refl r
+    go (inr a) (inr b) (inr c) (inr d) (inr r) e = let none : setting_of n ≡ None = rw (a, b, c, d, r) refl in absurd (true≢false (sym (ap (λ o. is_some o) (sym none ∙ e))))
 
 option_text : (w : List ℕ) (s : Setting) → setting_of (name_in w) ≡ Some s → ((v : List ℕ) → value_in w ≡ Some v → is_text v ≡ true) → is_text w ≡ true
 option_text w s is v =

@@ -6,7 +6,8 @@ use Rattle.std.proofs.lemmas.Bool.Decides.{leb_tells}
 use Rattle.std.proofs.lemmas.List.{append-nil}
 use Rattle.stream_io.specs.State.{DrainState}
 use Rattle.stream_model.specs.declared.outcome.PickList.{PickList}
-use Rattle.run_report.specs.Trace.{pick_line, trace_text, moves_in}
+use Rattle.plan_reader.specs.Text.{pick_line, trace_text}
+use Rattle.run_report.specs.Trace.{moves_in}
 use Rattle.stream_io.specs.Putting.{Puts, PutsPart}
 use Rattle.run_report.specs.Writing.{LeavesRest}
 use Rattle.stream_io.proofs.Puttings.{puts_nothing, puts_two, puts_then_part}

@@ -3,7 +3,7 @@ use Rattle.std.proofs.Common.{◌≡◌, ◌∙◌, Bool, true, false, refl, ap,
 use Rattle.std.specs.Prelude.{option_map}
 use Rattle.std.proofs.lemmas.Bool.{and_parts}
 use Rattle.clap.specs.Walk.{Row, Text, Waiting, arg_by_long, nothing_held, option, positional, used, walk_from}
-use Rattle.run_report.specs.Parts.{Part, Setting, generate, workers, turns, trace, given, file, with_part, setting_of, name_in, value_in, with_value, parts_from, parts_of}
+use Rattle.run_report.specs.Parts.{Part, Setting, generate, workers, turns, trace, replay, given, file, with_part, setting_of, name_in, value_in, with_value, parts_from, parts_of}
 use Rattle.run_report.specs.Shape.{is_text, are_texts}
 use Rattle.run_report.proofs.Cuts.{View, IsLongWord, view, plain, dashes, long, short}
 use Rattle.run_report.proofs.Steps.{Calm, after, at, cut_by_dashes, cut_by_option, file_id, files_rule, find_long, id_of, open_wait, outcome, rules, setting_rule, step_dashes, step_given, step_plain, step_short, step_trailing, step_unknown, step_value, step_waits}
@@ -28,6 +28,7 @@ calm_setting generate v rows = refl
 calm_setting workers v rows = refl
 calm_setting turns v rows = refl
 calm_setting trace v rows = refl
+calm_setting replay v rows = refl
 
 calm_none : Calm None
 calm_none rows = refl
@@ -37,6 +38,7 @@ after_setting rows generate v = refl
 after_setting rows workers v = refl
 after_setting rows turns v = refl
 after_setting rows trace v = refl
+after_setting rows replay v = refl
 
 -- behind `--`
 trailing_files : (xs : List Text) (rows : List Row) (p : Option (Text × List Text)) (wt : Waiting) → Calm p
@@ -64,6 +66,7 @@ awaits_nothing rows generate = refl
 awaits_nothing rows workers = refl
 awaits_nothing rows turns = refl
 awaits_nothing rows trace = refl
+awaits_nothing rows replay = refl
 
 opens_option : (x : Text) (xs : List Text) (w : IsLongWord x) → Opens xs → Awaits xs
     → (rows : List Row) (p : Option (Text × List Text)) (b : Bool) → Calm p

@@ -1,20 +1,21 @@
 -- What the words of the command ask for.
-use Rattle.std.specs.Prelude.{ℕ, not, ◌&&◌, nat_le, if◌then◌else◌, List, [], ◌∷◌, length, Option, Some, None, option_map, option_and_then, codes}
+use Rattle.std.specs.Prelude.{ℕ, Bool, true, not, ◌&&◌, nat_le, if◌then◌else◌, List, [], ◌∷◌, length, Option, Some, None, option_map, option_and_then, codes}
 use Rattle.std.specs.Str.{bytes_eq}
 use Rattle.std.specs.Str.Parse.{digits_value}
 use Rattle.elem_core.specs.Number.{is_numeral}
 use Rattle.elem_core.specs.declared.count.TheConstants.{MOST_COUNT}
 use Rattle.blue_words.specs.Names.{is_file_name}
-use Rattle.run_report.specs.Parts.{Part, generate, workers, turns, trace, parts_of, files_of, values_of}
+use Rattle.run_report.specs.Parts.{Part, generate, workers, turns, trace, replay, parts_of, files_of, values_of}
 
 -- the run of a file's blueprint, perhaps with so many lines generated before it, by so many workers and at most so many turns, and
--- perhaps a file for the trace
+-- perhaps a file for the trace, and perhaps the file of a trace whose moves are to be followed
 pub record Asked : Type 0 where
   pub file : List ℕ
   pub generated : Option ℕ
   pub workers : ℕ
   pub turns : ℕ
   pub trace : Option (List ℕ)
+  pub replay : Option (List ℕ)
 
 -- the most lines that may be asked for
 abbrev pub most_generated : ℕ
@@ -66,13 +67,27 @@ trace_of other (Some None) = Some None
 trace_of other (Some (Some word)) = if is_file_name word && not (bytes_eq word other) then Some (Some word) else None
 trace_of other None = None
 
+-- the word is another than that, where there is one
+abbrev pub is_other : Option (List ℕ) → List ℕ → Bool
+is_other None word = true
+is_other (Some path) word = not (bytes_eq word path)
+
+-- The file of the moves to follow, which is another than the blueprint's and the trace's. Beside it no number of lines and no number of
+-- workers is given.
+abbrev pub replay_of : Option (Option (List ℕ)) → Option (Option (List ℕ)) → Option (Option (List ℕ)) → List ℕ → Option (List ℕ) → Option (Option (List ℕ))
+replay_of (Some None) number crew other path = Some None
+replay_of (Some (Some word)) (Some None) (Some None) other path = if is_file_name word && not (bytes_eq word other) && is_other path word then Some (Some word) else None
+replay_of _ _ _ _ _ = None
+
 -- what the parts ask for, where each option is given once at most and each value is within its limits
 abbrev pub asked_by : List Part → Option Asked
 asked_by parts =
     option_and_then (λ input.
     option_and_then (λ w.
     option_and_then (λ t.
-    option_map (λ path. record { file = input.0; generated = input.1; workers = w; turns = t; trace = path })
+    option_and_then (λ path.
+    option_map (λ moves. record { file = input.0; generated = input.1; workers = w; turns = t; trace = path; replay = moves })
+    (replay_of (only (values_of replay parts)) (only (values_of generate parts)) (only (values_of workers parts)) input.0 path))
     (trace_of input.0 (only (values_of trace parts))))
     (number_or usual_turns most_turns (only (values_of turns parts))))
     (number_or usual_workers most_workers (only (values_of workers parts))))

@@ -8,6 +8,7 @@ pub data Setting : Type 0 where
   workers : Setting
   turns : Setting
   trace : Setting
+  replay : Setting
 
 -- an option with its value, or a file
 pub data Part : Type 0 where
@@ -35,7 +36,8 @@ setting_of name =
     if bytes_eq (codes "--gen") name then Some generate
     else (if bytes_eq (codes "--workers") name then Some workers
     else (if bytes_eq (codes "--turns") name then Some turns
-    else (if bytes_eq (codes "--trace") name then Some trace else None)))
+    else (if bytes_eq (codes "--trace") name then Some trace
+    else (if bytes_eq (codes "--replay") name then Some replay else None))))
 
 -- the part, and then those of the rest
 abbrev pub with_part : Part → Option (List Part) → Option (List Part)
@@ -82,6 +84,7 @@ is_setting generate generate = true
 is_setting workers workers = true
 is_setting turns turns = true
 is_setting trace trace = true
+is_setting replay replay = true
 is_setting _ _ = false
 
 -- the values that some parts give of an option

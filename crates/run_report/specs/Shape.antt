@@ -5,7 +5,7 @@ use Rattle.std.specs.Str.{bytes_eq}
 use Rattle.std.specs.Borrow.{Bor}
 use Rattle.clap.specs.Matches.{found_of, matched_of, raw_values}
 use Rattle.clap.specs.declared.parser.matches.ArgMatches.{ArgMatches}
-use Rattle.run_report.specs.Parts.{Part, generate, workers, turns, trace, files_of, values_of}
+use Rattle.run_report.specs.Parts.{Part, generate, workers, turns, trace, replay, files_of, values_of}
 use Rattle.clap.specs.Walk.{Rule}
 use Rattle.clap.specs.Simple.{App, new_app, new_rule, with_rule, on_top}
 use Rattle.clap.specs.declared.builder.action.ArgAction.TheVariants.{Append}
@@ -22,10 +22,10 @@ option_rule name = record (new_rule name) { long = Some name; action = Some Appe
 abbrev pub bare_app : App
 bare_app = on_top (λ s. record s { no_binary_name = true; disable_help_flag = true }) (new_app (codes "streams"))
 
--- the command as its parser is told of it: the files, and the four options
+-- the command as its parser is told of it: the files, and the five options
 abbrev pub streams_app : App
-streams_app = with_rule (with_rule (with_rule (with_rule (with_rule bare_app file_rule) (option_rule (codes "gen"))) (option_rule (codes "workers")))
-    (option_rule (codes "turns"))) (option_rule (codes "trace"))
+streams_app = with_rule (with_rule (with_rule (with_rule (with_rule (with_rule bare_app file_rule) (option_rule (codes "gen"))) (option_rule (codes "workers")))
+    (option_rule (codes "turns"))) (option_rule (codes "trace"))) (option_rule (codes "replay"))
 
 -- the word is ASCII, and not `-` alone
 abbrev pub is_text : List ℕ → Bool
@@ -50,6 +50,7 @@ pub record SaysAll (matches : ArgMatches) (parts : List Part) : Type 0 where
   pub workers_is : value_list matches (codes "workers") ≡ values_of workers parts
   pub turns_is : value_list matches (codes "turns") ≡ values_of turns parts
   pub trace_is : value_list matches (codes "trace") ≡ values_of trace parts
+  pub replay_is : value_list matches (codes "replay") ≡ values_of replay parts
 
 -- there are parts, and they are what was found
 abbrev pub SaysParts : Option (List Part) → ArgMatches → Type 0

@@ -10,7 +10,8 @@ ghost use Rattle.run_report.specs.Parts.{Part, parts_of, files_of, values_of};
 ghost use Rattle.run_report.specs.Parts as part;
 
 use crate::limits::{
-    MOST_TURNS, MOST_WORKERS, USUAL_TURNS, USUAL_WORKERS, asked_input, number_or, trace_of,
+    MOST_TURNS, MOST_WORKERS, USUAL_TURNS, USUAL_WORKERS, asked_input, number_or, replay_of,
+    trace_of,
 };
 use crate::parts::{Said, matches_of, parts_in, texts_of};
 use elem_core::line::Line;
@@ -48,6 +49,8 @@ pub struct Command {
     pub turns: u32,
     /// The file of the trace, which is another than the blueprint's.
     pub trace: Option<Line>,
+    /// The file of the moves to follow, which is another than these two; then there is one worker, and nothing is generated.
+    pub replay: Option<Line>,
 }
 
 /// The options and the file that the words ask for, as texts of theirs.
@@ -58,6 +61,7 @@ struct Choice<'a> {
     workers: u32,
     turns: u32,
     trace: Option<&'a str>,
+    replay: Option<&'a str>,
 }
 
 /// What the parts ask for, where each value is within its limits.
@@ -68,9 +72,11 @@ fn choice_of<'a>(said: &Said<'a>) -> Option<Choice<'a>>
         → text_in said.now.workers ≡ only (values_of part.workers parts)
         → text_in said.now.turns ≡ only (values_of part.turns parts)
         → text_in said.now.trace ≡ only (values_of part.trace parts)
+        → text_in said.now.replay ≡ only (values_of part.replay parts)
         → option_map chosen result ≡ asked_by parts }
     ensures file { IfSome result (λ choice. IsTrue (is_file_name choice.file.now)) }
     ensures trace { IfSome result (λ choice. IfSome choice.trace (λ path. IsTrue (is_file_name path.now))) }
+    ensures replay { IfSome result (λ choice. IfSome choice.replay (λ path. IsTrue (is_file_name path.now))) }
     ensures workers { IfSome result (λ choice. (1 ≤ choice.workers) × (choice.workers ≤ 64)) }
     ensures turns { IfSome result (λ choice. (1 ≤ choice.turns) × (choice.turns ≤ MOST_COUNT)) }
     ensures generated { IfSome result (λ choice. IfSome choice.generated (λ n. (1 ≤ n) × (n ≤ 10000000))) }
@@ -79,12 +85,14 @@ fn choice_of<'a>(said: &Said<'a>) -> Option<Choice<'a>>
     let workers = number_or(USUAL_WORKERS, MOST_WORKERS, said.workers)?;
     let turns = number_or(USUAL_TURNS, MOST_TURNS, said.turns)?;
     let trace = trace_of(file, said.trace)?;
+    let replay = replay_of(said.replay, said.generate, said.workers, file, trace)?;
     Some(Choice {
         file,
         generated,
         workers,
         turns,
         trace,
+        replay,
     })
 }
 
@@ -101,10 +109,15 @@ fn line_of(alloc: Global, name: &str) -> Result<Line, AllocError>
 fn command_of(alloc: Global, choice: &Choice<'_>) -> Result<Command, AllocError>
     requires file { IsTrue (is_file_name choice.now.file.now) }
     requires trace { IfSome choice.now.trace (λ path. IsTrue (is_file_name path.now)) }
+    requires replay { IfSome choice.now.replay (λ path. IsTrue (is_file_name path.now)) }
     ensures { IfOk result (λ command. asked command ≡ chosen choice.now) }
 {
     let file = line_of(alloc, choice.file)?;
     let trace = match choice.trace {
+        Some(path) => Some(line_of(alloc, path)?),
+        None => None,
+    };
+    let replay = match choice.replay {
         Some(path) => Some(line_of(alloc, path)?),
         None => None,
     };
@@ -114,12 +127,13 @@ fn command_of(alloc: Global, choice: &Choice<'_>) -> Result<Command, AllocError>
         workers: choice.workers,
         turns: choice.turns,
         trace,
+        replay,
     })
 }
 
 // Choices: docs/DECISIONS.md#clap-takes-repeats, docs/DECISIONS.md#ascii-words, docs/DECISIONS.md#no-help
-/// What the words ask for: `(FILE | --gen N) [--workers N] [--turns N] [--trace FILE]`, in any order. Usage comes exactly for
-/// all other words; NoMemory may come in place of either.
+/// What the words ask for: `(FILE | --gen N) [--workers N] [--turns N] [--trace FILE] [--replay FILE]`, in any order, and beside `--replay`
+/// neither `--gen` nor `--workers`. Usage comes exactly for all other words; NoMemory may come in place of either.
 pub fn read_words(alloc: Global, words: &[Line]) -> Result<Command, WordsEnd>
     ensures command { IfOk result (λ command. asked_of words.now ≡ Some (asked command)) }
     ensures usage { result ≡ Err WordsEnd.Usage → asked_of words.now ≡ None }

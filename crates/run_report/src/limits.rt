@@ -1,7 +1,7 @@
 // The values of options, with their limits.
 ghost use Rattle.std.specs.Prelude.{◌≡◌, ◌≤◌, IsTrue, IfSome, option_map};
 ghost use Rattle.blue_words.specs.Names.{is_file_name};
-ghost use Rattle.run_report.specs.Asking.{number_within, number_or, asked_input, trace_of};
+ghost use Rattle.run_report.specs.Asking.{number_within, number_or, asked_input, trace_of, is_other, replay_of};
 ghost use Rattle.run_report.specs.Shape.{text_in};
 
 use blue_words::names::is_file_name;
@@ -84,6 +84,39 @@ pub(crate) fn trace_of<'a>(other: &str, file: Option<Option<&'a str>>) -> Option
     match file {
         Some(None) => Some(None),
         Some(Some(file)) if is_file_name(file.as_bytes()) && file != other => Some(Some(file)),
+        _ => None,
+    }
+}
+
+/// Whether the word is another than that, where there is one.
+fn is_other(path: Option<&str>, word: &str) -> bool
+    ensures { result ≡ is_other (option_map (λ path. path.now) path.entry) word.now }
+{
+    match path {
+        None => true,
+        Some(path) => word != path,
+    }
+}
+
+/// The file of the moves to follow, which is another than the blueprint's and the trace's. Beside it no number of lines and no number of
+/// workers is given.
+pub(crate) fn replay_of<'a>(
+    replay: Option<Option<&'a str>>,
+    number: Option<Option<&str>>,
+    workers: Option<Option<&str>>,
+    other: &str,
+    path: Option<&str>,
+) -> Option<Option<&'a str>>
+    ensures moves { text_in result ≡ replay_of (text_in replay.entry) (text_in number.entry) (text_in workers.entry) other.now
+        (option_map (λ path. path.now) path.entry) }
+    ensures name { IfSome result (λ moves. IfSome moves (λ moves. IsTrue (is_file_name moves.now))) }
+{
+    match (replay, number, workers) {
+        (Some(None), _, _) => Some(None),
+        (Some(Some(word)), Some(None), Some(None))
+            if is_file_name(word.as_bytes()) && word != other && is_other(path, word) => {
+            Some(Some(word))
+        }
         _ => None,
     }
 }

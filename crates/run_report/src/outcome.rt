@@ -20,6 +20,10 @@ pub enum Status {
     Stalled,
     /// Some sink has not ended, an event is left, and the units are used up.
     OutOfTurns,
+    /// The line with this number in the file of moves is at fault, or 0: that file is too long.
+    BadTrace(u32),
+    /// The stage with the first number could not make the move at the place with the second, from 0.
+    Misfit(u32, u32),
     /// A file is not there, or its opening was refused.
     Missing(Line),
     /// A read of the blueprint's file failed.
@@ -42,6 +46,8 @@ impl Drop for Status {
             | Status::StreamFailed
             | Status::Stalled
             | Status::OutOfTurns
+            | Status::BadTrace(_)
+            | Status::Misfit(_, _)
             | Status::ReadFault
             | Status::WriteFault
             | Status::NoMemory => {}

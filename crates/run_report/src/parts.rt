@@ -22,6 +22,7 @@ pub(crate) struct Said<'a> {
     pub(crate) workers: Option<Option<&'a str>>,
     pub(crate) turns: Option<Option<&'a str>>,
     pub(crate) trace: Option<Option<&'a str>>,
+    pub(crate) replay: Option<Option<&'a str>>,
 }
 
 fn are_ascii(bytes: &[u8]) -> bool
@@ -86,7 +87,8 @@ fn streams<'a>(alloc: Global) -> Result<Command<'a>, AllocError>
         .arg(option(alloc, "gen"))?
         .arg(option(alloc, "workers"))?
         .arg(option(alloc, "turns"))?
-        .arg(option(alloc, "trace"))
+        .arg(option(alloc, "trace"))?
+        .arg(option(alloc, "replay"))
 }
 
 /// The words told apart, or Usage where one is an unknown option or an option without a value.
@@ -125,6 +127,7 @@ pub(crate) fn parts_in<'a>(matches: &ArgMatches<'a>) -> Said<'a>
     ensures workers { text_in result.workers ≡ only (value_list matches.now (codes "workers")) }
     ensures turns { text_in result.turns ≡ only (value_list matches.now (codes "turns")) }
     ensures trace { text_in result.trace ≡ only (value_list matches.now (codes "trace")) }
+    ensures replay { text_in result.replay ≡ only (value_list matches.now (codes "replay")) }
 {
     Said {
         file: value_of(matches, "file"),
@@ -132,5 +135,6 @@ pub(crate) fn parts_in<'a>(matches: &ArgMatches<'a>) -> Said<'a>
         workers: value_of(matches, "workers"),
         turns: value_of(matches, "turns"),
         trace: value_of(matches, "trace"),
+        replay: value_of(matches, "replay"),
     }
 }

@@ -24,7 +24,7 @@ pub fn code(status: &Status) -> u8
     match status {
         Status::Done => 0,
         Status::Usage => 1,
-        Status::Refused(_) | Status::Unfit(_) => 2,
+        Status::Refused(_) | Status::Unfit(_) | Status::BadTrace(_) | Status::Misfit(_, _) => 2,
         Status::StreamFailed => 3,
         Status::Stalled => 4,
         Status::OutOfTurns => 5,
@@ -92,6 +92,39 @@ fn put_refused<D: Drain>(console: &mut D, fault: BlueFault) -> Result<(), Failed
     )
 }
 
+/// Puts the number of the line at fault in the file of moves.
+fn put_bad_trace<D: Drain>(console: &mut D, line: u32) -> Result<(), Failed>
+    ensures ok { OnOk result (Puts (D.state console.old) (D.state console.new) (codes "trace line " ++ decimal line ++ codes "\n")) }
+    ensures err { OnErr result (PutsPart (D.state console.old) (D.state console.new) (codes "trace line " ++ decimal line ++ codes "\n")) }
+{
+    let mut buffer = Buffer::new();
+    put_parts(
+        console,
+        &[b"trace line ", buffer.format(line).as_bytes(), b"\n"],
+    )
+}
+
+/// Puts the stage that could not make its move, and the place of that move.
+fn put_misfit<D: Drain>(console: &mut D, node: u32, place: u32) -> Result<(), Failed>
+    ensures ok { OnOk result (Puts (D.state console.old) (D.state console.new)
+        (codes "misfit stage " ++ decimal node ++ codes " pick " ++ decimal place ++ codes "\n")) }
+    ensures err { OnErr result (PutsPart (D.state console.old) (D.state console.new)
+        (codes "misfit stage " ++ decimal node ++ codes " pick " ++ decimal place ++ codes "\n")) }
+{
+    let mut stage = Buffer::new();
+    let mut pick = Buffer::new();
+    put_parts(
+        console,
+        &[
+            b"misfit stage ",
+            stage.format(node).as_bytes(),
+            b" pick ",
+            pick.format(place).as_bytes(),
+            b"\n",
+        ],
+    )
+}
+
 /// Puts the line of a rule that is broken, of which this is the detail.
 fn put_unfit<D: Drain>(console: &mut D, fault: &CheckFault, detail: &[u8]) -> Result<(), Failed>
     requires { detail.now ≡ detail_text fault.now }
@@ -134,6 +167,8 @@ fn put_status<D: Drain>(
         Status::StreamFailed => put_parts(console, &[b"failed\n"]),
         Status::Stalled => put_parts(console, &[b"stalled\n"]),
         Status::OutOfTurns => put_used(console, used),
+        Status::BadTrace(line) => put_bad_trace(console, *line),
+        Status::Misfit(stage, pick) => put_misfit(console, *stage, *pick),
         Status::Missing(name) => put_parts(console, &[b"missing ", name.bytes(), b"\n"]),
         Status::ReadFault => put_parts(console, &[b"read fault\n"]),
         Status::WriteFault => put_parts(console, &[b"write fault\n"]),

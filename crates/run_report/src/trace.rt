@@ -1,7 +1,8 @@
 // The trace of a run: what its stages chose.
 ghost use Rattle.std.specs.Prelude.{◌≡◌, ◌+◌, ◌≤◌, ◌++◌, [], IsTrue, codes, length, map, vec_capacity, OnOk, OnErr};
 ghost use Rattle.std.specs.List.{flat_map};
-ghost use Rattle.run_report.specs.Trace.{move_text, pick_line, trace_text, moves_in};
+ghost use Rattle.plan_reader.specs.Text.{move_text, pick_line, trace_text};
+ghost use Rattle.run_report.specs.Trace.{moves_in};
 ghost use Rattle.stream_io.specs.Putting.{Puts, PutsPart};
 ghost use Rattle.run_report.specs.Writing.{LeavesRest};
 

@@ -7,7 +7,7 @@ use Rattle.run_blueprint.proofs.Traces.{traces_of, text_written, name_opened, na
 use Rattle.run_blueprint.proofs.run.close.Goals as goal
 
 pub returns-clause-runs : goal.returns-clause-runs
-returns-clause-runs g c = λ old b trace budget ss ds can separate named opens opened leaves.
+returns-clause-runs g c = λ old b plans trace budget ss ds can separate named opens opened leaves led.
     let wrote = c.write_trace-drain.ensures.writes in
     let shut = c.close_all.ensures.closes in
     let closed = c.close_trace.ensures.closes in
@@ -35,15 +35,17 @@ returns-clause-runs g c = λ old b trace budget ss ds can separate named opens o
       rests = c.a_picture_without_events_rests.ensures.composed;
       rests_by = c.a_picture_without_events_rests.ensures.any;
       moves = c.every_move_fits.ensures;
+      begins = c.every_node_begins_its_plan.ensures;
+      misfit = c.every_misfit_has_its_cause.ensures.any;
+      serves = c.every_plan_is_served.ensures.wires;
       match = c.a_picture_without_events_rests.ensures.sinks;
       ignorer = c.every_sink_agrees.ensures.ignorer;
       took = c.every_sink_agrees.ensures.took;
     })
-    b can ss ds budget _ leaves old _ trace separate opens _
+    b can ss ds budget _ leaves plans led old _ trace separate opens _
     (shuts_of _ _ _ (option_to_list trace) _ _ _ shut closed (name_written (option_to_list trace) _ _ _ _ wrote (name_opened _ trace _ opened)))
-    _
+    _ _
     (traces_of old _ _ _ b _ _ _ trace _ _ _ opened opens.wfaults (text_written b _ _ _ _ _ _ named c.deref.ensures.value wrote) shut closed)
-    refl refl refl refl refl
 
 pub returns-clause-all : goal.returns-clause-all
 returns-clause-all g c = λ old b trace budget ss ds can separate opens opened leaves.
@@ -71,9 +73,12 @@ returns-clause-all g c = λ old b trace budget ss ds can separate opens opened l
       rests = c.a_picture_without_events_rests.ensures.composed;
       rests_by = c.a_picture_without_events_rests.ensures.any;
       moves = c.every_move_fits.ensures;
+      begins = c.every_node_begins_its_plan.ensures;
+      misfit = c.every_misfit_has_its_cause.ensures.any;
+      serves = c.every_plan_is_served.ensures.wires;
       match = c.a_picture_without_events_rests.ensures.sinks;
       ignorer = c.every_sink_agrees.ensures.ignorer;
       took = c.every_sink_agrees.ensures.took;
     })
-    b can ss ds budget _ leaves old _ trace separate opens _
+    b can ss ds budget _ leaves _ refl old _ trace separate opens _
     (shuts_of _ _ _ (option_to_list trace) _ _ _ c.close_all.ensures.closes c.close_trace.ensures.closes (name_written (option_to_list trace) _ _ _ _ c.write_trace-drain.ensures.writes (name_opened _ trace _ opened)))

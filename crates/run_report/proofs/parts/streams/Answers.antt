@@ -15,4 +15,5 @@ returns c =
     let generate = c.in_ok-arg-2.ensures.shape c.option.ensures.local ∙ ap₂ with_rule files c.option.ensures.rule in
     let workers = c.in_ok-arg-3.ensures.shape c.option-2.ensures.local ∙ ap₂ with_rule generate c.option-2.ensures.rule in
     let turns = c.in_ok-arg-4.ensures.shape c.option-3.ensures.local ∙ ap₂ with_rule workers c.option-3.ensures.rule in
-    IfOk-weaker c.arg-5.result _ _ (λ m h. h.shape c.option-4.ensures.local ∙ ap₂ with_rule turns c.option-4.ensures.rule) c.arg-5.ensures
+    let trace = c.in_ok-arg-5.ensures.shape c.option-4.ensures.local ∙ ap₂ with_rule turns c.option-4.ensures.rule in
+    IfOk-weaker c.arg-6.result _ _ (λ m h. h.shape c.option-5.ensures.local ∙ ap₂ with_rule trace c.option-5.ensures.rule) c.arg-6.ensures

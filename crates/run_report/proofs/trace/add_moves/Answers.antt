@@ -1,5 +1,5 @@
 -- The goals of `trace::add_moves` that the search leaves.
-use Rattle.run_report.specs.Trace.{move_text}
+use Rattle.plan_reader.specs.Text.{move_text}
 use Rattle.stream_io.proofs.Puttings.{on_err}
 use Rattle.run_report.proofs.Tracing.{gathers_part, gathers_stop_part}
 use Rattle.run_report.proofs.trace.add_moves.Goals as goal

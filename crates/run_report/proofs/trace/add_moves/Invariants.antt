@@ -1,7 +1,7 @@
 -- The loop of `trace::add_moves`.
 use Rattle.std.proofs.Common.{◌++◌, drop}
 use Rattle.std.specs.List.{flat_map}
-use Rattle.run_report.specs.Trace.{move_text}
+use Rattle.plan_reader.specs.Text.{move_text}
 use Rattle.run_report.specs.Writing.{LeavesRest}
 use Rattle.run_report.proofs.trace.add_moves.Given as goal
 

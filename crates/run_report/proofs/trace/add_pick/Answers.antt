@@ -1,7 +1,8 @@
 -- The goals of `trace::add_pick` that the search leaves.
 use Rattle.std.proofs.Common.{codes, ◌++◌}
 use Rattle.std.specs.List.{flat_map}
-use Rattle.run_report.specs.Trace.{move_text, moves_in}
+use Rattle.plan_reader.specs.Text.{move_text}
+use Rattle.run_report.specs.Trace.{moves_in}
 use Rattle.stream_io.proofs.Puttings.{on_err}
 use Rattle.run_report.proofs.Tracing.{stops_first, then_adds, then_stops}
 use Rattle.run_report.proofs.trace.add_pick.Goals as goal

@@ -1,6 +1,7 @@
 -- The loop of `trace::add_picks`.
 use Rattle.std.proofs.Common.{◌++◌, map}
-use Rattle.run_report.specs.Trace.{trace_text, moves_in}
+use Rattle.plan_reader.specs.Text.{trace_text}
+use Rattle.run_report.specs.Trace.{moves_in}
 use Rattle.run_report.specs.Writing.{LeavesRest}
 use Rattle.run_report.proofs.Tracing.{lines_from}
 use Rattle.run_report.proofs.trace.add_picks.Given as goal

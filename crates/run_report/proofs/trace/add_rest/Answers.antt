@@ -1,7 +1,7 @@
 -- The goals of `trace::add_rest` that the search leaves.
 use Rattle.std.proofs.Common.{codes}
 use Rattle.std.specs.List.{flat_map}
-use Rattle.run_report.specs.Trace.{move_text}
+use Rattle.plan_reader.specs.Text.{move_text}
 use Rattle.stream_io.proofs.Puttings.{on_err}
 use Rattle.run_report.proofs.Tracing.{stops_first, then_adds, then_stops}
 use Rattle.run_report.proofs.trace.add_rest.Goals as goal

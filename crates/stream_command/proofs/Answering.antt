@@ -10,11 +10,13 @@ use Rattle.run_report.specs.declared.outcome.Status.TheVariants as status
 use Rattle.run_report.specs.Asking.{Asked, asked_of}
 use Rattle.run_report.specs.Generated.{Generates, StopsGenerating}
 use Rattle.run_report.specs.Texts.{lines_file, blueprint_file}
-use Rattle.stream_command.specs.Outcome.{Blank, EndedBefore, CausesBefore, SinksOf, RoseNowhere, RanWithoutFault}
+use Rattle.stream_command.specs.Outcome.{Blank, EndedBefore, CausesBefore, SinksOf, RoseNowhere, RanWithoutFault, plan_limit}
 use Rattle.stream_io.specs.Text.{text_limit}
 use Rattle.stream_io.proofs.Quiets.{read_none}
 use Rattle.stream_command.specs.Answers.{AnswersCommand, AnswersTo, RunsFile, StopsBefore, IsValidFor}
 use Rattle.stream_command.specs.Asked.{Plugged}
+use Rattle.stream_command.specs.Receipts.{ReceiptsBy, ReceiptsOf, IslandsFor, IslandsOf}
+use Rattle.island_runs.specs.declared.ran.Ran.{Ran}
 
 none_some : (c : Asked) (o : Option Asked) → o ≡ None → o ≡ Some c → ⊥
 none_some c o e f = cc
@@ -42,6 +44,8 @@ stopped (status.Unfit f) n old new h = absurd h
 stopped status.StreamFailed n old new h = absurd h
 stopped status.Stalled n old new h = absurd h
 stopped status.OutOfTurns n old new h = absurd h
+stopped (status.BadTrace line) n old new h = absurd h
+stopped (status.Misfit stage pick) n old new h = absurd h
 stopped status.ReadFault n old new h = absurd h
 
 -- where no count rose only want of memory ends it
@@ -58,6 +62,8 @@ calm_stops (status.Unfit f) n old new calm h = absurd h
 calm_stops status.StreamFailed n old new calm h = tt
 calm_stops status.Stalled n old new calm h = tt
 calm_stops status.OutOfTurns n old new calm h = tt
+calm_stops (status.BadTrace line) n old new calm h = absurd h
+calm_stops (status.Misfit stage pick) n old new calm h = tt
 calm_stops status.ReadFault n old new calm h = absurd h
 
 -- ---- the files were generated
@@ -86,27 +92,28 @@ told_before plugged None a old new h t = subst (λ (f : FolderState). IsTrue f.t
 told_before plugged (Some c) a old new h t = told_to plugged c.generated c a old new h t
 
 -- how much of the blueprint's file is read
-read_to : (plugged : Plugged) (g : Option ℕ) (c : Asked) (a : Answer) (old new : FolderState) → AnswersTo plugged g c a old new → GrewAtMost (old.read c.file) text_limit (new.read c.file)
-read_to plugged None c a old new h = h.reads
-read_to plugged (Some n) c a old new (inl h) = read_none (old.read c.file) (new.read c.file) text_limit ((stopped a.status n old new h.stops).read c.file)
-read_to plugged (Some n) c a old new (inr h) = subst (λ k. GrewAtMost k text_limit (new.read c.file)) (h.generates.two.read c.file) h.runs.reads
+read_to : (plugged : Plugged) (g : Option ℕ) (c : Asked) (a : Answer) (old new : FolderState) → AnswersTo plugged g c a old new → c.replay ≢ Some c.file → GrewAtMost (old.read c.file) text_limit (new.read c.file)
+read_to plugged None c a old new h apart = h.reads apart
+read_to plugged (Some n) c a old new (inl h) apart = read_none (old.read c.file) (new.read c.file) text_limit ((stopped a.status n old new h.stops).read c.file)
+read_to plugged (Some n) c a old new (inr h) apart = subst (λ k. GrewAtMost k text_limit (new.read c.file)) (h.generates.two.read c.file) (h.runs.reads apart)
 
-pub reads_little : (plugged : Plugged) (o : Option Asked) (a : Answer) (old new : FolderState) → AnswersCommand plugged o a old new → (c : Asked) → o ≡ Some c → GrewAtMost (old.read c.file) text_limit (new.read c.file)
-reads_little plugged None a old new h c e = absurd (none_some c None refl e)
-reads_little plugged (Some d) a old new h c e = subst (λ (x : Asked). GrewAtMost (old.read x.file) text_limit (new.read x.file)) (some_same e) (read_to plugged d.generated d a old new h)
+pub reads_little : (plugged : Plugged) (o : Option Asked) (a : Answer) (old new : FolderState) → AnswersCommand plugged o a old new → (c : Asked) → o ≡ Some c → c.replay ≢ Some c.file → GrewAtMost (old.read c.file) text_limit (new.read c.file)
+reads_little plugged None a old new h c e apart = absurd (none_some c None refl e)
+reads_little plugged (Some d) a old new h c e apart =
+    subst (λ (x : Asked). GrewAtMost (old.read x.file) text_limit (new.read x.file)) (some_same e) (read_to plugged d.generated d a old new h (subst (λ (x : Asked). x.replay ≢ Some x.file) (sym (some_same e)) apart))
 
 -- a valid blueprint and no fault give a run
-complete_to : (plugged : Plugged) (g : Option ℕ) (c : Asked) (a : Answer) (old new : FolderState) → AnswersTo plugged g c a old new → IsValidFor plugged g c.file c.trace old new → RoseNowhere old new → RanWithoutFault a.status
+complete_to : (plugged : Plugged) (g : Option ℕ) (c : Asked) (a : Answer) (old new : FolderState) → AnswersTo plugged g c a old new → IsValidFor plugged g c.file c.trace c.replay old new → RoseNowhere old new → RanWithoutFault a.status
 complete_to plugged None c a old new h v calm = h.complete v.0 v.1 calm
 complete_to plugged (Some n) c a old new (inl h) v calm = calm_stops a.status n old new calm h.stops
 complete_to plugged (Some n) c a old new (inr h) v calm =
     let tells = h.runs.tells v.0 in
     h.runs.complete tells (v.1 h.between h.generates tells) (calm_behind old h.between new n h.generates calm)
 
-pub completes : (plugged : Plugged) (o : Option Asked) (a : Answer) (old new : FolderState) → AnswersCommand plugged o a old new → (c : Asked) → o ≡ Some c → IsValidFor plugged c.generated c.file c.trace old new → RoseNowhere old new → RanWithoutFault a.status
+pub completes : (plugged : Plugged) (o : Option Asked) (a : Answer) (old new : FolderState) → AnswersCommand plugged o a old new → (c : Asked) → o ≡ Some c → IsValidFor plugged c.generated c.file c.trace c.replay old new → RoseNowhere old new → RanWithoutFault a.status
 completes plugged None a old new h c e v calm = absurd (none_some c None refl e)
 completes plugged (Some d) a old new h c e v calm =
-    complete_to plugged d.generated d a old new h (subst (λ (x : Asked). IsValidFor plugged x.generated x.file x.trace old new) (sym (some_same e)) v) calm
+    complete_to plugged d.generated d a old new h (subst (λ (x : Asked). IsValidFor plugged x.generated x.file x.trace x.replay old new) (sym (some_same e)) v) calm
 
 -- usage is told of words that are no command alone
 no_usage_to : (plugged : Plugged) (g : Option ℕ) (c : Asked) (a : Answer) (old new : FolderState) → AnswersTo plugged g c a old new → a.status ≡ status.Usage → ⊥
@@ -144,24 +151,44 @@ none_stops n s = record {
 no_memory_usage : (s : Status) → s ≡ status.NoMemory → s ≡ status.Usage → ⊥
 no_memory_usage s e f = cc
 
-none_runs : (plugged : Plugged) (file : List ℕ) (trace : Option (List ℕ)) (turns : ℕ) (a : Answer) (s : FolderState) → a.status ≡ status.NoMemory → Blank a → RunsFile plugged file trace turns a s s
-none_runs plugged file trace turns a s e blank = record {
+none_runs : (plugged : Plugged) (file : List ℕ) (trace replay : Option (List ℕ)) (turns : ℕ) (a : Answer) (s : FolderState) → a.status ≡ status.NoMemory → Blank a → RunsFile plugged file trace replay turns a s s
+none_runs plugged file trace replay turns a s e blank = record {
   tells = λ t. t;
-  told = λ t. inl (subst (λ x. EndedBefore plugged x a file trace s s) (sym e) (record { files = record { telling = refl; files = λ h n. refl }; blank = blank }));
+  told = λ t. inl (subst (λ x. EndedBefore plugged x a file trace replay s s) (sym e) (record { files = record { telling = refl; files = λ h n. refl }; blank = blank }));
   complete = λ t v calm. subst (λ x. RanWithoutFault x) (sym e) tt;
-  causes = inl (subst (λ x. CausesBefore x file s s) (sym e) (quiet_same s.refusals s.refusals (λ m. refl), quiet_same s.rfaults s.rfaults (λ m. refl), quiet_same s.wfaults s.wfaults (λ m. refl), λ m never. quiet_same s.read s.read (λ k. refl) m));
+  causes = inl (subst (λ x. CausesBefore x file replay s s) (sym e) (quiet_same s.refusals s.refusals (λ m. refl), quiet_same s.rfaults s.rfaults (λ m. refl), quiet_same s.wfaults s.wfaults (λ m. refl), λ m never. quiet_same s.read s.read (λ k. refl) m));
   sinks = subst (λ x. SinksOf x a trace) (sym e) blank;
   no_usage = no_memory_usage a.status e;
-  reads = read_none (s.read file) (s.read file) text_limit refl;
+  reads = λ apart. read_none (s.read file) (s.read file) text_limit refl;
+  reads_moves = λ t is other. read_none (s.read t) (s.read t) plan_limit refl;
 }
 
 none_to : (plugged : Plugged) (g : Option ℕ) (c : Asked) (a : Answer) (s : FolderState) → a.status ≡ status.NoMemory → Blank a → AnswersTo plugged g c a s s
-none_to plugged None c a s e blank = none_runs plugged c.file c.trace c.turns a s e blank
+none_to plugged None c a s e blank = none_runs plugged c.file c.trace c.replay c.turns a s e blank
 none_to plugged (Some n) c a s e blank = inl (record { blank = blank; stops = subst (λ x. StopsBefore x n s s) (sym e) (none_stops n s) })
 
 pub gave_up : (plugged : Plugged) (o : Option Asked) (a : Answer) (s : FolderState) → a.status ≡ status.NoMemory → Blank a → AnswersCommand plugged o a s s
 gave_up plugged None a s e blank = record { status = inr e; blank = blank; same = refl }
 gave_up plugged (Some c) a s e blank = none_to plugged c.generated c a s e blank
+
+-- ---- memory was wanting before a run: nothing was run, and there is no receipt
+
+receipt_none : (generated : Option ℕ) (s : Status) (a : Answer) (workers : ℕ) (ran : Option Ran) → s ≡ status.NoMemory → ran ≡ None → ReceiptsBy generated s a workers ran
+receipt_none None s a workers ran e none = rw e none
+receipt_none (Some n) s a workers ran e none = rw e none
+
+pub none_received : (o : Option Asked) (a : Answer) (ran : Option Ran) → a.status ≡ status.NoMemory → ran ≡ None → ReceiptsOf o a ran
+none_received None a ran e none = none
+none_received (Some c) a ran e none = receipt_none c.generated a.status a c.workers ran e none
+
+none_run : (p : Plugged) (generated : Option ℕ) (file : List ℕ) (trace replay : Option (List ℕ)) (ran : Option Ran) (old new : FolderState) → ran ≡ None
+    → IslandsFor p generated file trace replay ran old new
+none_run p None file trace replay ran old new none = λ tells. rw none tt
+none_run p (Some n) file trace replay ran old new none = inl none
+
+pub no_islands : (p : Plugged) (o : Option Asked) (ran : Option Ran) (old new : FolderState) → ran ≡ None → IslandsOf p o ran old new
+no_islands p None ran old new none = none
+no_islands p (Some c) ran old new none = none_run p c.generated c.file c.trace c.replay ran old new none
 
 -- ---- steps of the call
 
@@ -174,15 +201,16 @@ pub ended : (plugged : Plugged) (n : ℕ) (c : Asked) (s : Status) (a : Answer) 
 ended plugged n c s a old new stops e blank = inl (record { blank = blank; stops = subst (λ x. StopsBefore x n old new) (sym e) stops })
 
 -- the generated files were run
-pub ran : (plugged : Plugged) (n : ℕ) (c : Asked) (a : Answer) (old between new : FolderState) → Generates old between n → RunsFile plugged c.file c.trace c.turns a between new → AnswersTo plugged (Some n) c a old new
+pub ran : (plugged : Plugged) (n : ℕ) (c : Asked) (a : Answer) (old between new : FolderState) → Generates old between n → RunsFile plugged c.file c.trace c.replay c.turns a between new → AnswersTo plugged (Some n) c a old new
 ran plugged n c a old between new g r = inr (record { between = between; generates = g; runs = r })
 
--- the run of a file, where the trace's name is lent
-pub runs_as : (plugged : Plugged) (file : List ℕ) (lent trace : Option (List ℕ)) (turns : ℕ) (a : Answer) (old new : FolderState) → lent ≡ trace → RunsFile plugged file lent turns a old new → RunsFile plugged file trace turns a old new
-runs_as plugged file lent trace turns a old new e h = subst (λ (t : Option (List ℕ)). RunsFile plugged file t turns a old new) e h
+-- the run of a file, where the names of the trace and of the moves are lent
+pub runs_as : (plugged : Plugged) (file : List ℕ) (lent trace given replay : Option (List ℕ)) (turns : ℕ) (a : Answer) (old new : FolderState) → lent ≡ trace → given ≡ replay → RunsFile plugged file lent given turns a old new → RunsFile plugged file trace replay turns a old new
+runs_as plugged file lent trace given replay turns a old new e f h =
+    subst (λ (t : Option (List ℕ)). RunsFile plugged file trace t turns a old new) f (subst (λ (t : Option (List ℕ)). RunsFile plugged file t given turns a old new) e h)
 
 -- one with a file to run
-pub file_was_run : (plugged : Plugged) (c : Asked) (a : Answer) (old new : FolderState) → c.generated ≡ None → RunsFile plugged c.file c.trace c.turns a old new → AnswersCommand plugged (Some c) a old new
+pub file_was_run : (plugged : Plugged) (c : Asked) (a : Answer) (old new : FolderState) → c.generated ≡ None → RunsFile plugged c.file c.trace c.replay c.turns a old new → AnswersCommand plugged (Some c) a old new
 file_was_run plugged c a old new g r = subst (λ (o : Option ℕ). AnswersTo plugged o c a old new) (sym g) r
 
 -- one with lines to generate

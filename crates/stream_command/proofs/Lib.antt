@@ -10,3 +10,6 @@ pub mod Plugs
 pub mod Answering
 pub mod Types
 pub mod SinkFiles
+pub mod MovesRead
+pub mod Small
+pub mod Alike

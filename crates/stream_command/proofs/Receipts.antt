@@ -16,7 +16,7 @@ use Rattle.run_blueprint.specs.Receipt.{HasIslands, IsReceipt}
 use Rattle.run_report.specs.declared.outcome.Status.{Status}
 use Rattle.run_report.specs.declared.outcome.Status.TheVariants as status
 use Rattle.stream_io.specs.State.{FolderState}
-use Rattle.stream_command.specs.AfterRun.{status_after}
+use Rattle.stream_command.specs.AfterRun.{status_found, status_after}
 use Rattle.stream_command.specs.Outcome.{taken_files, SaysFit}
 use Rattle.stream_command.proofs.TextRead.{denotes_read}
 use Rattle.stream_command.specs.RunReceipts.{HasReceipt, Receipts, RanIslands, RanSaid, RanText, RanFile}
@@ -30,19 +30,24 @@ module _ (b : Blueprint) (workers used : ℕ) (r : Ran) (ran : Option Ran) (is :
   abbrev has : (rest : Bool) → IsReceipt b workers used rest r → HasReceipt workers used ran
   has rest i = record { receipt = r; there = is; workers_are = i.workers_are; used_is = i.used_is }
 
-  -- by whether a write failed, a sink has not ended, a sink failed, and no event was left
-  by_tests : (fault unended failed rest : Bool) → IsReceipt b workers used rest r
-      → Receipts (if fault then status.WriteFault else (if unended then (if rest then status.Stalled else status.OutOfTurns) else (if failed then status.StreamFailed else status.Done))) workers used ran
-  by_tests true u f rest i = has rest i
-  by_tests false true f true i = (has true i, i.more_is)
-  by_tests false true f false i = (has false i, i.more_is)
-  by_tests false false true rest i = has rest i
-  by_tests false false false rest i = has rest i
+  -- by whether a sink has not ended, a sink failed, and no event was left
+  by_sinks : (unended failed rest : Bool) → IsReceipt b workers used rest r
+      → Receipts (if unended then (if rest then status.Stalled else status.OutOfTurns) else (if failed then status.StreamFailed else status.Done)) workers used ran
+  by_sinks true f true i = (has true i, i.more_is)
+  by_sinks true f false i = (has false i, i.more_is)
+  by_sinks false true rest i = has rest i
+  by_sinks false false rest i = has rest i
 
-  pub after_run : (s : Status) (stands : List SinkStand) (trace_failed rest : Bool) → s ≡ status_after stands trace_failed rest → IsReceipt b workers used rest r → Receipts s workers used ran
-  after_run s stands trace_failed rest e i =
-      as_status s (status_after stands trace_failed rest) workers used ran e
-      (by_tests (list_any (λ (x : SinkStand). is_write_fault x.2) stands || trace_failed) (list_any (λ (x : SinkStand). is_unended x.2) stands) (list_any (λ (x : SinkStand). is_failed x.2) stands) rest i)
+  -- and before that by whether a write failed, and a stage could not make its next move
+  by_tests : (fault : Bool) (found : Option (ℕ × ℕ)) (stands : List SinkStand) (rest : Bool) → IsReceipt b workers used rest r → Receipts (if fault then status.WriteFault else status_found found stands rest) workers used ran
+  by_tests true found stands rest i = has rest i
+  by_tests false (Some found) stands rest i = has rest i
+  by_tests false None stands rest i = by_sinks (list_any (λ (x : SinkStand). is_unended x.2) stands) (list_any (λ (x : SinkStand). is_failed x.2) stands) rest i
+
+  pub after_run : (s : Status) (stands : List SinkStand) (trace_failed : Bool) (misfit : Option (ℕ × ℕ)) (rest : Bool) → s ≡ status_after stands trace_failed misfit rest → IsReceipt b workers used rest r → Receipts s workers used ran
+  after_run s stands trace_failed misfit rest e i =
+      as_status s (status_after stands trace_failed misfit rest) workers used ran e
+      (by_tests (list_any (λ (x : SinkStand). is_write_fault x.2) stands || trace_failed) misfit stands rest i)
 
   -- the islands of the receipt
   pub its_islands : (rest : Bool) → IsReceipt b workers used rest r → IfSome ran (λ (t : Ran). HasIslands b t.islands)
@@ -76,9 +81,9 @@ of_text plugged text t taken ran says h = told_on (λ (r : Ran). (c : Blueprint)
     (λ r i. (i.0, (record { text = t; says = says; flat = i.1.0 }, i.1.1))) ran h
 
 -- that of a file that was read
-pub of_file : (plugged : Plugged) (old mid : FolderState) (file text : List ℕ) (trace : Option (List ℕ)) (taken : List (List ℕ)) (ran : Option Ran) → IsTrue old.tells → ReadsFile old mid file text → taken ≡ taken_files file trace → RanText plugged text taken ran → RanFile plugged old file trace ran
-of_file plugged old mid file text trace taken ran tells read same h =
-    told_on (λ (r : Ran). (c : Blueprint) × (Denotes (language.Says text) c × RanIslands plugged c taken r)) (λ (r : Ran). (c : Blueprint) × (SaysFit plugged old file trace c × HasIslands c r.islands))
+pub of_file : (plugged : Plugged) (old mid : FolderState) (file text : List ℕ) (trace replay : Option (List ℕ)) (taken : List (List ℕ)) (ran : Option Ran) → IsTrue old.tells → ReadsFile old mid file text → taken ≡ taken_files file trace replay → RanText plugged text taken ran → RanFile plugged old file trace replay ran
+of_file plugged old mid file text trace replay taken ran tells read same h =
+    told_on (λ (r : Ran). (c : Blueprint) × (Denotes (language.Says text) c × RanIslands plugged c taken r)) (λ (r : Ran). (c : Blueprint) × (SaysFit plugged old file trace replay c × HasIslands c r.islands))
     (λ r i. (
       i.0,
       (

@@ -1,6 +1,6 @@
 -- From what is told of a call to what the files of its sinks hold.
 use Rattle.std.proofs.Common.{◌≡◌, ◌≢◌, ℕ, zero, suc, ◌+◌, Bool, true, false, List, [], ◌∷◌, ◌⊎◌, inl, inr, refl, sym, ap, ◌∙◌, subst, arith, length, slice_get}
-use Rattle.std.specs.Prelude.{IsTrue, Option, Some, ◌==◌, ◌||◌, ◌&&◌, if◌then◌else◌}
+use Rattle.std.specs.Prelude.{IsTrue, Option, None, Some, ◌==◌, ◌||◌, ◌&&◌, if◌then◌else◌}
 use Rattle.std.proofs.lemmas.List.{length-map}
 use Rattle.elem_core.specs.Text.{text_lines}
 use Rattle.elem_core.specs.Tree.{Tree}
@@ -41,8 +41,8 @@ use Rattle.run_report.specs.declared.outcome.Status.{Status}
 use Rattle.run_report.specs.declared.outcome.Status.TheVariants as status
 use Rattle.stream_command.specs.AfterRun.{told_end, told_ends, is_ended, all_ended}
 use Rattle.stream_command.specs.Asked.{Plugged, AskedRun}
-use Rattle.stream_command.specs.Headline.{HoldsWhole, HoldsBetween, RanOver, WholeFiles, AnswersSink, EndedFiles, FailedWhole}
-use Rattle.stream_command.specs.Outcome.{SaysFile, SaysFit, taken_files, RanTo, LacksInput, LacksOutput, EndedBefore, EndedRun, Told}
+use Rattle.stream_command.specs.Headline.{HoldsWhole, HoldsBetween, RanOver, WholeFiles, AnswersSink, EndedFiles, ReplayedFiles, FailedWhole}
+use Rattle.stream_command.specs.Outcome.{SaysFile, SaysFit, taken_files, Blank, RanTo, LacksInput, LacksOutput, EndedBefore, EndedReplay, EndedRun, EndedChecked, FollowsFile, Told}
 
 some_one : {A : Type 0} {a b : A} → Some a ≡ Some b → a ≡ b
 some_one e = cc
@@ -137,9 +137,9 @@ nothing_picked (p ∷ ps) e = absurd cc
 
 -- ---- what a run leaves
 
-module _ (p : Plugged) (a : Answer) (c : AskedRun) (old new : FolderState) (tells : IsTrue new.tells) (b : Blueprint) (said : SaysFit p old c.file c.trace b) (ran : RanTo p old new b c.trace c.turns a) where
+module _ (p : Plugged) (a : Answer) (c : AskedRun) (old new : FolderState) (tells : IsTrue new.tells) (b : Blueprint) (said : SaysFit p old c.file c.trace c.replay b) (plans : List (Option (List ℕ))) (follows : FollowsFile old c.replay b.nodes.items plans) (ran : RanTo p old new b plans c.trace c.turns a) where
   over : RanOver p c old new b ran.leaves.drawn
-  over = record { said = said; read = ran.leaves.read; fits = ran.leaves.fits; world = ran.leaves.world; is_one = ran.leaves.has_files }
+  over = record { said = said; plans = plans; follows = follows; read = ran.leaves.read; fits = ran.leaves.fits; world = ran.leaves.world; is_one = ran.leaves.has_files }
 
   -- a node at a place among the sinks stands there
   stand_at : (i k : ℕ) → slice_get (sink_places 0 b.nodes.items) i ≡ Some k → (s : SinkStand) × ((slice_get ran.stands i ≡ Some s) × (k ≡ s.0))
@@ -190,6 +190,29 @@ module _ (p : Plugged) (a : Answer) (c : AskedRun) (old new : FolderState) (tell
         between_text new file held.0 (sink_outlook (graph_of b) w k (graph_node n)) stand.0.2 cause (stands_so k n file (state.Failed cause) x stand.0 stand.1.0) held.1.0 held.1.1;
   }
 
+  replayed_files : ReplayedFiles p a c old new
+  unfolding over
+  replayed_files = record {
+    blueprint = b;
+    drawn = ran.leaves.drawn;
+    by_moves = ran.leaves.chose;
+    ran = over;
+    made = ran.leaves.made;
+    ended = λ w k n file is fit serves x.
+        let stand = stand_at x.place k x.sink in
+        let held = (ran.leaves.served w is fit serves).sink x.place stand.0 n file stand.1.0 (subst (λ (m : ℕ). slice_get b.nodes.items m ≡ Some n) stand.1.1 x.node) x.writes in
+        whole_text new file held.0 (sink_outlook (graph_of b) w k (graph_node n)) stand.0.2 (stands_so k n file state.Ended x stand.0 stand.1.0) (held.1.0 tells)
+        (subst (λ (m : ℕ). SinkTells (sink_outlook (graph_of b) w m (graph_node n)) stand.0.2 held.0) (sym stand.1.1) held.1.1);
+  }
+
+-- a call that ran a blueprint, by these moves
+record WasRun (p : Plugged) (a : Answer) (c : AskedRun) (old new : FolderState) : Type 0 where
+  blueprint : Blueprint
+  said : SaysFit p old c.file c.trace c.replay blueprint
+  plans : List (Option (List ℕ))
+  follows : FollowsFile old c.replay blueprint.nodes.items plans
+  ran : RanTo p old new blueprint plans c.trace c.turns a
+
 -- ---- what a call is told to have left
 
 -- the same nodes, where both are said by one file
@@ -200,51 +223,90 @@ same_nodes folder file b d x y =
     ap (λ (q : PlainBlueprint). q.nodes) (x.flat.is ∙ (ap flat text ∙ sym y.flat.is))
 
 abbrev TellsAs : Status → Plugged → Answer → AskedRun → FolderState → FolderState → Type 0
-TellsAs s p a c old new = EndedBefore p s a c.file c.trace old new ⊎ ((b : Blueprint) × (SaysFit p old c.file c.trace b × EndedRun p s a b c.trace c.turns old new))
+TellsAs s p a c old new = EndedBefore p s a c.file c.trace c.replay old new ⊎ ((b : Blueprint) × (SaysFit p old c.file c.trace c.replay b × EndedChecked p s a b c.trace c.replay c.turns old new))
+
+-- a call that ended as the moves were read ran nothing
+replay_blank : (s : Status) (a : Answer) (nodes : List Node) (replay : Option (List ℕ)) (old new : FolderState) → EndedReplay s a nodes replay old new → Blank a
+replay_blank (status.Missing n) a nodes (Some f) old new h = h.0.blank
+replay_blank (status.Missing n) a nodes None old new h = absurd h
+replay_blank status.ReadFault a nodes (Some f) old new h = h.0.blank
+replay_blank status.ReadFault a nodes None old new h = absurd h
+replay_blank (status.BadTrace line) a nodes (Some f) old new h = h.0.blank
+replay_blank (status.BadTrace line) a nodes None old new h = absurd h
+replay_blank status.NoMemory a nodes replay old new h = h.blank
+replay_blank status.Done a nodes replay old new h = absurd h
+replay_blank status.StreamFailed a nodes replay old new h = absurd h
+replay_blank status.Stalled a nodes replay old new h = absurd h
+replay_blank status.OutOfTurns a nodes replay old new h = absurd h
+replay_blank (status.Misfit stage place) a nodes replay old new h = absurd h
+replay_blank status.WriteFault a nodes replay old new h = absurd h
+replay_blank status.Usage a nodes replay old new h = absurd h
+replay_blank (status.Refused f) a nodes replay old new h = absurd h
+replay_blank (status.Unfit f) a nodes replay old new h = absurd h
 
 module _ (p : Plugged) (a : Answer) (c : AskedRun) (old new : FolderState) where
   done_told : Told p a c old new → a.status ≡ status.Done → TellsAs status.Done p a c old new
   done_told told e = subst (λ (s : Status). TellsAs s p a c old new) e told
 
+  whole_checked : IsTrue new.tells → (b : Blueprint) → SaysFit p old c.file c.trace c.replay b → EndedChecked p status.Done a b c.trace c.replay c.turns old new → WholeFiles p a.picks c old new
+  whole_checked tells b said (inl h) = absurd h
+  whole_checked tells b said (inr h) = whole_files p a c old new tells b said h.0 h.1.0 h.1.1.0 a.picks refl h.1.1.2
+
   whole_by : IsTrue new.tells → TellsAs status.Done p a c old new → WholeFiles p a.picks c old new
   whole_by tells (inl h) = absurd h
-  whole_by tells (inr h) = whole_files p a c old new tells h.0 h.1.0 h.1.1.0 a.picks refl h.1.1.2
+  whole_by tells (inr h) = whole_checked tells h.0 h.1.0 h.1.1
+
+  unchosen_checked : IsTrue new.tells → (b : Blueprint) → SaysFit p old c.file c.trace c.replay b → needs_picks b.nodes.items ≡ false → EndedChecked p status.Done a b c.trace c.replay c.turns old new → WholeFiles p [] c old new
+  unchosen_checked tells b said none (inl h) = absurd h
+  unchosen_checked tells b said none (inr h) = whole_files p a c old new tells b said h.0 h.1.0 h.1.1.0 [] (no_moves p a c old new tells b said h.0 h.1.0 h.1.1.0 none) h.1.1.2
 
   unchosen_by : (b : Blueprint) → IsTrue new.tells → SaysFile old c.file b → needs_picks b.nodes.items ≡ false → TellsAs status.Done p a c old new → WholeFiles p [] c old new
   unchosen_by b tells says none (inl h) = absurd h
   unchosen_by b tells says none (inr h) =
       let here : needs_picks h.0.nodes.items ≡ false = ap needs_picks (same_nodes old c.file h.0 b h.1.0.says says) ∙ none in
-      whole_files p a c old new tells h.0 h.1.0 h.1.1.0 [] (no_moves p a c old new tells h.0 h.1.0 h.1.1.0 here) h.1.1.2
+      unchosen_checked tells h.0 h.1.0 here h.1.1
 
   -- where some sink is answered the blueprint was run
-  module _ (some : a.sinks ≢ []) (tells : IsTrue new.tells) where
+  module _ (some : a.sinks ≢ []) where
     not_opened : (b : Blueprint) (n : List ℕ) → LacksInput old new b n a ⊎ LacksOutput old new b c.trace n a → ⊥
     not_opened b n (inl l) = some l.nothing.blank.no_sinks
     not_opened b n (inr l) = some l.blank.no_sinks
 
-    ended_by : (s : Status) → TellsAs s p a c old new → EndedFiles p a c old new
-    ended_by status.Done (inl h) = absurd h
-    ended_by status.Done (inr h) = ended_files p a c old new tells h.0 h.1.0 h.1.1.0
-    ended_by status.StreamFailed (inl h) = absurd h
-    ended_by status.StreamFailed (inr h) = ended_files p a c old new tells h.0 h.1.0 h.1.1.0
-    ended_by status.Stalled (inl h) = absurd h
-    ended_by status.Stalled (inr h) = ended_files p a c old new tells h.0 h.1.0 h.1.1.0
-    ended_by status.OutOfTurns (inl h) = absurd h
-    ended_by status.OutOfTurns (inr h) = ended_files p a c old new tells h.0 h.1.0 h.1.1.0
-    ended_by status.WriteFault (inl h) = absurd h
-    ended_by status.WriteFault (inr h) = ended_files p a c old new tells h.0 h.1.0 h.1.1.0
-    ended_by status.Usage (inl h) = absurd h
-    ended_by status.Usage (inr h) = absurd h.1.1
+    module _ (b : Blueprint) (said : SaysFit p old c.file c.trace c.replay b) where
+      ended_run : (s : Status) (plans : List (Option (List ℕ))) → FollowsFile old c.replay b.nodes.items plans → EndedRun p s a b plans c.trace c.turns old new → WasRun p a c old new
+      ended_run status.Done plans follows h = record { blueprint = b; said = said; plans = plans; follows = follows; ran = h.0 }
+      ended_run status.StreamFailed plans follows h = record { blueprint = b; said = said; plans = plans; follows = follows; ran = h.0 }
+      ended_run status.Stalled plans follows h = record { blueprint = b; said = said; plans = plans; follows = follows; ran = h.0 }
+      ended_run status.OutOfTurns plans follows h = record { blueprint = b; said = said; plans = plans; follows = follows; ran = h.0 }
+      ended_run (status.Misfit stage place) plans follows h = record { blueprint = b; said = said; plans = plans; follows = follows; ran = h.0 }
+      ended_run status.WriteFault plans follows h = record { blueprint = b; said = said; plans = plans; follows = follows; ran = h.0 }
+      ended_run (status.Missing n) plans follows h = absurd (not_opened b n h)
+      ended_run status.NoMemory plans follows h = absurd (some h.0.no_sinks)
+      ended_run (status.BadTrace line) plans follows h = absurd h
+      ended_run status.Usage plans follows h = absurd h
+      ended_run status.ReadFault plans follows h = absurd h
+      ended_run (status.Refused f) plans follows h = absurd h
+      ended_run (status.Unfit f) plans follows h = absurd h
+
+      ended_checked : (s : Status) → EndedChecked p s a b c.trace c.replay c.turns old new → WasRun p a c old new
+      ended_checked s (inl h) = absurd (some (replay_blank s a b.nodes.items c.replay old new h).no_sinks)
+      ended_checked s (inr h) = ended_run s h.0 h.1.0 h.1.1
+
+    ended_by : (s : Status) → TellsAs s p a c old new → WasRun p a c old new
+    ended_by s (inr h) = ended_checked h.0 h.1.0 s h.1.1
     ended_by status.ReadFault (inl h) = absurd (some h.0.blank.no_sinks)
-    ended_by status.ReadFault (inr h) = absurd h.1.1
     ended_by (status.Refused f) (inl h) = absurd (some h.0.blank.no_sinks)
-    ended_by (status.Refused f) (inr h) = absurd h.1.1
     ended_by (status.Unfit f) (inl h) = absurd (some h.0.blank.no_sinks)
-    ended_by (status.Unfit f) (inr h) = absurd h.1.1
     ended_by (status.Missing n) (inl h) = absurd (some h.0.blank.no_sinks)
-    ended_by (status.Missing n) (inr h) = absurd (not_opened h.0 n h.1.1)
     ended_by status.NoMemory (inl h) = absurd (some h.blank.no_sinks)
-    ended_by status.NoMemory (inr h) = absurd (some h.1.1.0.no_sinks)
+    ended_by status.Done (inl h) = absurd h
+    ended_by status.StreamFailed (inl h) = absurd h
+    ended_by status.Stalled (inl h) = absurd h
+    ended_by status.OutOfTurns (inl h) = absurd h
+    ended_by status.WriteFault (inl h) = absurd h
+    ended_by (status.BadTrace line) (inl h) = absurd h
+    ended_by (status.Misfit stage place) (inl h) = absurd h
+    ended_by status.Usage (inl h) = absurd h
 
 pub done_whole : (p : Plugged) (a : Answer) (c : AskedRun) (old new : FolderState) → Told p a c old new → a.status ≡ status.Done → IsTrue new.tells → WholeFiles p a.picks c old new
 done_whole p a c old new told e tells = whole_by p a c old new tells (done_told p a c old new told e)
@@ -253,7 +315,14 @@ pub unchosen_whole : (p : Plugged) (a : Answer) (c : AskedRun) (old new : Folder
 unchosen_whole p a c old new b told e tells says none = unchosen_by p a c old new b tells says none (done_told p a c old new told e)
 
 pub ends_tell : (p : Plugged) (a : Answer) (c : AskedRun) (old new : FolderState) → Told p a c old new → IsTrue new.tells → a.sinks ≢ [] → EndedFiles p a c old new
-ends_tell p a c old new told tells some = ended_by p a c old new some tells a.status told
+ends_tell p a c old new told tells some =
+    let r = ended_by p a c old new some a.status told in
+    ended_files p a c old new tells r.blueprint r.said r.plans r.follows r.ran
+
+pub replays_tell : (p : Plugged) (a : Answer) (c : AskedRun) (old new : FolderState) → Told p a c old new → IsTrue new.tells → a.sinks ≢ [] → ReplayedFiles p a c old new
+replays_tell p a c old new told tells some =
+    let r = ended_by p a c old new some a.status told in
+    replayed_files p a c old new tells r.blueprint r.said r.plans r.follows r.ran
 
 -- ---- a failure that reaches a sink behind all that passes
 
@@ -273,7 +342,7 @@ module _ (ranked : (b : Blueprint) (plugs : List PlugHead) (taken : List (List �
   pub failed_whole : (p : Plugged) (a : Answer) (c : AskedRun) (old new : FolderState) → Told p a c old new → IsTrue new.tells → a.sinks ≢ [] → FailedWhole p a c old new
   failed_whole p a c old new told tells some =
       let e = ends_tell p a c old new told tells some in
-      let rank = ranked e.blueprint p.heads (taken_files c.file c.trace) e.ran.said.fit in
+      let rank = ranked e.blueprint p.heads (taken_files c.file c.trace c.replay) e.ran.said.fit in
       record {
         blueprint = e.blueprint;
         drawn = e.drawn;

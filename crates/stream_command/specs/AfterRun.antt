@@ -1,5 +1,5 @@
 -- What a run makes of the status, and what is told of it.
-use Rattle.std.specs.Prelude.{◌≡◌, ℕ, Bool, true, false, ◌||◌, nat_lt, if◌then◌else◌, List, [], ◌∷◌, map, slice_get}
+use Rattle.std.specs.Prelude.{◌≡◌, ℕ, Bool, true, false, ◌||◌, nat_lt, if◌then◌else◌, List, [], ◌∷◌, map, slice_get, Option, Some, None}
 use Rattle.std.specs.List.{list_any, list_all}
 use Rattle.stream_model.specs.declared.outcome.EndState.{EndState}
 use Rattle.stream_model.specs.declared.outcome.EndState.TheVariants as state
@@ -52,13 +52,21 @@ abbrev pub sink_ends : List (List ℕ) → List SinkStand → List SinkEnd
 sink_ends (n ∷ ns) (s ∷ ss) = record { name = n; count = s.1; end = s.2 } ∷ sink_ends ns ss
 sink_ends _ _ = []
 
--- the status, by how the sinks stand, whether a write to the trace's file failed and whether no event was left: a failed write comes
--- first, then a sink that goes on, then one that failed
-abbrev pub status_after : List SinkStand → Bool → Bool → Status
-status_after stands trace_failed rest =
-    if list_any (λ s. is_write_fault s.2) stands || trace_failed then status.WriteFault
-    else (if list_any (λ s. is_unended s.2) stands then (if rest then status.Stalled else status.OutOfTurns)
-    else (if list_any (λ s. is_failed s.2) stands then status.StreamFailed else status.Done))
+-- the status of a run whose stages made all moves that they came to, in which no write failed
+abbrev pub status_by : List SinkStand → Bool → Status
+status_by stands rest =
+    if list_any (λ s. is_unended s.2) stands then (if rest then status.Stalled else status.OutOfTurns)
+    else (if list_any (λ s. is_failed s.2) stands then status.StreamFailed else status.Done)
+
+-- the same where a stage could not make its next move, or not
+abbrev pub status_found : Option (ℕ × ℕ) → List SinkStand → Bool → Status
+status_found (Some found) stands rest = status.Misfit found.0 found.1
+status_found None stands rest = status_by stands rest
+
+-- the status, by how the sinks stand, whether a write to the trace's file failed, which stage could not make its next move, and whether no
+-- event was left: a failed write comes first, then that stage, then a sink that goes on, then one that failed
+abbrev pub status_after : List SinkStand → Bool → Option (ℕ × ℕ) → Bool → Status
+status_after stands trace_failed misfit rest = if list_any (λ s. is_write_fault s.2) stands || trace_failed then status.WriteFault else status_found misfit stands rest
 
 -- the run stalled
 abbrev pub is_stalled : Status → Bool
@@ -71,7 +79,7 @@ no_event_left a turns = is_stalled a.status || nat_lt a.used turns
 
 -- what is told of the run
 pub record AfterRun (names : List (List ℕ)) (ran : RunResult) (a : Answer) : Type 0 where
-  pub status : a.status ≡ status_after ran.sinks.items ran.trace_failed ran.at_rest
+  pub status : a.status ≡ status_after ran.sinks.items ran.trace_failed ran.misfit ran.at_rest
   pub sinks : a.sinks ≡ sink_ends names ran.sinks.items
   pub wires : a.wires ≡ ran.wires.items
   pub picks : a.picks ≡ map pick_of ran.picks.items

@@ -4,10 +4,11 @@ use Rattle.stream_model.specs.Linear.{Book}
 use Rattle.stream_model.specs.declared.head.PlugHead.{PlugHead}
 use Rattle.plug_logic.specs.declared.plug.Plug.{Plug}
 
--- the run of a file's blueprint, by so many units at most, and perhaps a file for the trace
+-- the run of a file's blueprint, by so many units at most, and perhaps a file for the trace, and a file of the moves to follow
 pub record AskedRun : Type 0 where
   pub file : List ℕ
   pub trace : Option (List ℕ)
+  pub replay : Option (List ℕ)
   pub turns : ℕ
 
 -- the plugs that a caller hands in: what is known of each, and the book of what they give

@@ -1,5 +1,5 @@
 -- What the sinks' files hold after a call, said shortly, of what is told of the call.
-use Rattle.std.specs.Prelude.{◌≡◌, ℕ, IsTrue, List, length, slice_get, Some}
+use Rattle.std.specs.Prelude.{◌≡◌, ℕ, IsTrue, List, length, slice_get, Option, Some}
 use Rattle.elem_core.specs.Prefix.{IsPrefix}
 use Rattle.elem_core.specs.Text.{text_lines}
 use Rattle.elem_core.specs.Tree.{Tree}
@@ -10,19 +10,22 @@ use Rattle.stream_model.specs.declared.outcome.EndState.{EndState}
 use Rattle.stream_model.specs.declared.outcome.EndState.TheVariants as state
 use Rattle.stream_model.specs.Composed.{sink_outlook}
 use Rattle.stream_model.specs.Exact.{ReachesLast}
-use Rattle.stream_model.specs.Fits.{Fits}
 use Rattle.stream_model.specs.Node.{World}
 use Rattle.stream_model.specs.Outlook.{Outlook, Allows}
 use Rattle.stream_io.specs.State.{FolderState}
 use Rattle.materializer.specs.Files.{output_of}
 use Rattle.materializer.specs.Graphs.{graph_of, graph_node}
 use Rattle.interpreter.specs.Picks.{Pick}
-use Rattle.run_blueprint.specs.Drawing.{Drawn, WereRead, IsWorldOf}
+use Rattle.stream_io.specs.Counts.{Rose}
+use Rattle.run_blueprint.specs.Drawing.{Drawn, IsSource, WereRead, IsWorldOf}
 use Rattle.run_blueprint.specs.Stands.{sink_places}
 use Rattle.run_report.specs.Answer.{Answer}
 use Rattle.run_report.specs.declared.outcome.SinkEnd.{SinkEnd}
 use Rattle.stream_command.specs.Asked.{AskedRun, Plugged}
-use Rattle.stream_command.specs.Outcome.{SaysFit}
+use Rattle.run_blueprint.specs.Replaying.{HasMade, IsReplayOf, MakesItsMoves, ServesItsMoves}
+use Rattle.materializer.specs.Choosers.{plan_at}
+use Rattle.run_laws.specs.Replayed.{FitsBy}
+use Rattle.stream_command.specs.Outcome.{SaysFit, FollowsFile}
 
 -- The file holds the text of all that may pass, and nothing else; and an end may follow all of it.
 pub record HoldsWhole (folder : FolderState) (file : List ℕ) (o : Outlook) : Type 0 where
@@ -39,9 +42,11 @@ pub record HoldsBetween (folder : FolderState) (file : List ℕ) (o : Outlook) (
 -- The command's file says this blueprint, which breaks no rule; its input files were there before the call, and were read so; the
 -- moves of its stages fit. There is a world that has these files, these moves, and the plugs that were handed in.
 pub record RanOver (p : Plugged) (c : AskedRun) (old new : FolderState) (b : Blueprint) (d : Drawn) : Type 0 where
-  pub said : SaysFit p old c.file c.trace b
+  pub said : SaysFit p old c.file c.trace c.replay b
+  pub plans : List (Option (List ℕ))
+  pub follows : FollowsFile old c.replay b.nodes.items plans
   pub read : WereRead old new b.nodes.items d
-  pub fits : (w : World) → IsWorldOf p.book b.nodes.items d w → Fits (graph_of b) w
+  pub fits : (w : World) → IsWorldOf p.book b.nodes.items d w → FitsBy (graph_of b) w (plan_at plans)
   pub world : World
   pub is_one : IsWorldOf p.book b.nodes.items d world
 
@@ -80,6 +85,42 @@ pub record EndedFiles (p : Plugged) (a : Answer) (c : AskedRun) (old new : Folde
   pub failed : (w : World) (k : ℕ) (n : Node) (file : List ℕ) (cause : Cause) → IsWorldOf p.book blueprint.nodes.items drawn w
       → AnswersSink a blueprint k n file (state.Failed cause)
       → HoldsBetween new file (sink_outlook (graph_of blueprint) w k (graph_node n)) cause
+
+-- A second call ran what the same text says over input files of the same bytes, by the same moves; and no read of a file failed in either.
+pub record RunsAlike (p : Plugged) (a x : Answer) (c e : AskedRun) (old new before after : FolderState) (first : EndedFiles p a c old new) : Type 0 where
+  pub text : old.file c.file ≡ before.file e.file
+  pub moves : a.picks ≡ x.picks
+  pub inputs : (k : ℕ) (file : List ℕ) → IsSource first.blueprint.nodes.items k file → old.file file ≡ before.file file
+  pub calm : (n : List ℕ) → ¬ (Rose (old.rfaults n) (new.rfaults n))
+  pub quiet : (n : List ℕ) → ¬ (Rose (before.rfaults n) (after.rfaults n))
+
+-- Of a call whose stages follow moves: they made the first of those that the file of moves says. Where each of them made all, or no failure may
+-- come on any of its wires, and all fit, the file of each sink that ended holds the text of the whole list by all of them, also by those that
+-- were not made.
+pub record ReplayedFiles (p : Plugged) (a : Answer) (c : AskedRun) (old new : FolderState) : Type 0 where
+  pub blueprint : Blueprint
+  pub drawn : Drawn
+  pub by_moves : drawn.picks ≡ a.picks
+  pub ran : RanOver p c old new blueprint drawn
+  pub made : MakesItsMoves blueprint ran.plans a.picks
+  pub ended : (w : World) (k : ℕ) (n : Node) (file : List ℕ) → IsReplayOf p.book blueprint.nodes.items ran.plans drawn w
+      → FitsBy (graph_of blueprint) w (plan_at ran.plans) → ServesItsMoves blueprint ran.plans a.picks w → AnswersSink a blueprint k n file state.Ended
+      → HoldsWhole new file (sink_outlook (graph_of blueprint) w k (graph_node n))
+
+-- A second call ran what the same text says over input files of the same bytes, and of each stage that chose in the first its file of moves says
+-- those that it made; no read of a file failed in either. All its stages made all their moves, or no failure may come on their wires, and the
+-- moves fit.
+pub record ReplaysRun (p : Plugged) (a x : Answer) (c e : AskedRun) (old new before after : FolderState) (first : EndedFiles p a c old new)
+    (second : ReplayedFiles p x e before after) : Type 0 where
+  pub text : old.file c.file ≡ before.file e.file
+  pub moves : (k : ℕ) (moves : List ℕ) → HasMade a.picks k moves → plan_at second.ran.plans k ≡ Some moves
+  pub inputs : (k : ℕ) (file : List ℕ) → IsSource first.blueprint.nodes.items k file → old.file file ≡ before.file file
+  pub calm : (n : List ℕ) → ¬ (Rose (old.rfaults n) (new.rfaults n))
+  pub quiet : (n : List ℕ) → ¬ (Rose (before.rfaults n) (after.rfaults n))
+  pub fits : (w : World) → IsReplayOf p.book second.blueprint.nodes.items second.ran.plans second.drawn w
+      → FitsBy (graph_of second.blueprint) w (plan_at second.ran.plans)
+  pub serves : (w : World) → IsReplayOf p.book second.blueprint.nodes.items second.ran.plans second.drawn w
+      → ServesItsMoves second.blueprint second.ran.plans x.picks w
 
 -- Of a call whose answer has every sink: the file of a sink that failed holds the text of that whole list too, where the failure reaches
 -- it behind all that passes.

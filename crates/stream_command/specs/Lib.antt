@@ -3,6 +3,7 @@ pub mod Outcome
 pub mod AfterRun
 pub mod RunCalls
 pub mod Texts
+pub mod Replays
 pub mod RunReceipts
 pub mod Answers
 pub mod Calls

@@ -28,7 +28,7 @@ IsReported end said_old said_new =
 pub record AnswersShipped (words : List (List ℕ)) (end : RunEnd) (old new : FolderState) (said_old said_new : DrainState) : Type 0 where
   pub usage : end.status ≢ status.NoMemory → (end.status ≡ status.Usage ↔ asked_of words ≡ None)
   pub answers : AnswersCommand shipped_plugs (asked_of words) (answer_of end) old new
-  pub complete : (c : Asked) → asked_of words ≡ Some c → IsValidFor shipped_plugs c.generated c.file c.trace old new → RoseNowhere old new
+  pub complete : (c : Asked) → asked_of words ≡ Some c → IsValidFor shipped_plugs c.generated c.file c.trace c.replay old new → RoseNowhere old new
       → RanWithoutFault end.status
   pub ran : ReceiptsOf (asked_of words) (answer_of end) end.ran
   pub islands : IslandsOf shipped_plugs (asked_of words) end.ran old new

@@ -26,18 +26,18 @@ ReceiptsOf None a ran = ran ≡ None
 ReceiptsOf (Some c) a ran = ReceiptsFor c.generated a c.workers ran
 
 -- The islands are those of the blueprint that the generated file says, wherever the folder still tells its files after the run.
-pub record RanGenerated (p : Plugged) (n : ℕ) (file : List ℕ) (trace : Option (List ℕ)) (ran : Option Ran) (old new : FolderState) : Type 0 where
+pub record RanGenerated (p : Plugged) (n : ℕ) (file : List ℕ) (trace replay : Option (List ℕ)) (ran : Option Ran) (old new : FolderState) : Type 0 where
   pub between : FolderState
   pub generates : Generates old between n
   pub tells : IsTrue new.tells → IsTrue between.tells
-  pub islands : IsTrue between.tells → RanFile p between file trace ran
+  pub islands : IsTrue between.tells → RanFile p between file trace replay ran
 
 -- the islands of the file's blueprint, in a folder that told its files; where the generator ended the call nothing was run
-abbrev pub IslandsFor : Plugged → Option ℕ → List ℕ → Option (List ℕ) → Option Ran → FolderState → FolderState → Type 0
-IslandsFor p None file trace ran old new = IsTrue old.tells → RanFile p old file trace ran
-IslandsFor p (Some n) file trace ran old new = (ran ≡ None) ⊎ RanGenerated p n file trace ran old new
+abbrev pub IslandsFor : Plugged → Option ℕ → List ℕ → Option (List ℕ) → Option (List ℕ) → Option Ran → FolderState → FolderState → Type 0
+IslandsFor p None file trace replay ran old new = IsTrue old.tells → RanFile p old file trace replay ran
+IslandsFor p (Some n) file trace replay ran old new = (ran ≡ None) ⊎ RanGenerated p n file trace replay ran old new
 
 -- the islands that were run are those of the blueprint that the words ask for; words that are no command run none
 abbrev pub IslandsOf : Plugged → Option Asked → Option Ran → FolderState → FolderState → Type 0
 IslandsOf p None ran old new = ran ≡ None
-IslandsOf p (Some c) ran old new = IslandsFor p c.generated c.file c.trace ran old new
+IslandsOf p (Some c) ran old new = IslandsFor p c.generated c.file c.trace c.replay ran old new

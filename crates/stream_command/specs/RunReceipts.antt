@@ -29,6 +29,7 @@ Receipts status.Done workers used ran = HasReceipt workers used ran
 Receipts status.StreamFailed workers used ran = HasReceipt workers used ran
 Receipts status.Stalled workers used ran = (r : HasReceipt workers used ran) × (r.receipt.more ≡ false)
 Receipts status.OutOfTurns workers used ran = (r : HasReceipt workers used ran) × (r.receipt.more ≡ true)
+Receipts (status.Misfit stage pick) workers used ran = HasReceipt workers used ran
 Receipts status.WriteFault workers used ran = HasReceipt workers used ran
 Receipts _ workers used ran = ran ≡ None
 
@@ -46,5 +47,5 @@ abbrev pub RanText : Plugged → List ℕ → List (List ℕ) → Option Ran →
 RanText p text taken ran = IfSome ran (λ r. (b : Blueprint) × (Denotes (language.Says text) b × RanIslands p b taken r))
 
 -- those of the blueprint of what this file says
-abbrev pub RanFile : Plugged → FolderState → List ℕ → Option (List ℕ) → Option Ran → Type 0
-RanFile p folder file trace ran = IfSome ran (λ r. (b : Blueprint) × (SaysFit p folder file trace b × HasIslands b r.islands))
+abbrev pub RanFile : Plugged → FolderState → List ℕ → Option (List ℕ) → Option (List ℕ) → Option Ran → Type 0
+RanFile p folder file trace replay ran = IfSome ran (λ r. (b : Blueprint) × (SaysFit p folder file trace replay b × HasIslands b r.islands))

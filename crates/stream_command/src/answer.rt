@@ -1,5 +1,5 @@
 // The answer of a call, from the blueprint's file to the status and what is told of a run.
-ghost use Rattle.std.specs.Prelude.{ℕ, List, ◌≡◌, ◌<◌, ◌≤◌, ◌||◌, [], ◌⊎◌, Option, map, length, IfOk, IfSome, IsTrue, Some, None, Err, vec_len, vec_capacity};
+ghost use Rattle.std.specs.Prelude.{ℕ, List, ◌≡◌, ◌<◌, ◌≤◌, ◌||◌, ◌++◌, ◌≢◌, [], ◌⊎◌, Option, map, length, IfOk, IfSome, IsTrue, Some, None, Err, vec_len, vec_capacity};
 ghost use Rattle.blue_modules.specs.Plain.{plain};
 ghost use Rattle.blue_modules.specs.Text.{plain_text};
 ghost use Rattle.blue_modules.specs.Fitness.{IsFlat};
@@ -11,20 +11,23 @@ ghost use Rattle.run_blueprint.specs.Stands.{is_unended, is_write_fault, is_fail
 ghost use Rattle.run_blueprint.specs.Tracing.{IsApart};
 ghost use Rattle.run_report.specs.Report.{detail_of};
 ghost use Rattle.std.specs.List.{All, Contains, list_any};
-ghost use Rattle.std.specs.Option.{option_copied};
+ghost use Rattle.std.specs.Option.{option_copied, option_to_list};
 ghost use Rattle.elem_core.specs.declared.count.TheConstants.{MOST_COUNT};
 ghost use Rattle.materializer.specs.Fit.{CanRun};
 ghost use Rattle.materializer.specs.Files.{inputs_of_nodes, sinks_of_nodes};
 ghost use Rattle.stream_command.specs.AfterRun.{AfterRun, of_outcome, status_after, sink_ends};
 ghost use Rattle.stream_io.specs.Counts.{GrewAtMost};
-ghost use Rattle.stream_command.specs.Outcome.{taken_files, Blank, EndedRun, Told, RunCauses, Causes, SinksOf, QuietButAll, QuietAmong};
+ghost use Rattle.stream_command.specs.Outcome.{taken_files, Blank, EndedRun, EndedChecked, Told, RunCauses, Causes, SinksOf, QuietButAll, QuietAmong, ReadsMost, plan_limit};
+ghost use Rattle.stream_command.specs.Replays.{IsReadApart, plans_status};
+ghost use Rattle.materializer.specs.Choosers.{moves_of, PlansFit};
 ghost use Rattle.stream_io.specs.Text.{text_limit};
 ghost use Rattle.run_blueprint.specs.Receipt.{HasIslands};
 ghost use Rattle.stream_command.specs.RunReceipts.{Receipts, RanIslands, RanSaid, RanText, RanFile};
-ghost use Rattle.stream_command.specs.Texts.{EndedParsed, EndedSaid, EndedText, CausesParsed, CausesSaid, CausesText};
+ghost use Rattle.stream_command.specs.Texts.{EndedParsed, EndedSaid, EndedText, CausesChecked, CausesParsed, CausesSaid, CausesText};
 ghost use Rattle.materializer.specs.HandedPlugs.{GivesAsListed, HasPlugs};
 ghost use Rattle.stream_command.specs.Asked.{plugged_by};
 
+use crate::replays::{PlansEnd, plans_of_file};
 use blue_check::check::{CheckEnd, check};
 use blue_check::checked::Checked;
 use blue_check::detail::put_detail;
@@ -159,12 +162,19 @@ fn some_failed(sinks: &[SinkStand]) -> bool
 }
 
 // Choices: docs/DECISIONS.md#failed-inputs, docs/DECISIONS.md#stalled-or-out-of-turns, docs/DECISIONS.md#order-of-statuses
-/// The status of a run, by how its sinks stand, whether a write to the trace's file failed and whether no event was left.
-fn status_of(sinks: &[SinkStand], trace_failed: bool, at_rest: bool) -> Status
-    ensures { result ≡ status_after sinks.now trace_failed at_rest }
+/// The status of a run, by how its sinks stand, whether a write to the trace's file failed, which stage could not make its next move, and whether no event was left.
+fn status_of(
+    sinks: &[SinkStand],
+    trace_failed: bool,
+    misfit: Option<(u32, u32)>,
+    at_rest: bool,
+) -> Status
+    ensures { result ≡ status_after sinks.now trace_failed misfit at_rest }
 {
     if some_write_fault(sinks) || trace_failed {
         Status::WriteFault
+    } else if let Some((stage, pick)) = misfit {
+        Status::Misfit(stage, pick)
     } else if some_unended(sinks) {
         if at_rest {
             Status::Stalled
@@ -190,6 +200,7 @@ fn after_run(alloc: Global, names: Vec<Line>, room: Vec<SinkEnd>, ran: RunResult
     let RunResult {
         sinks,
         picks,
+        misfit,
         wires,
         used,
         at_rest,
@@ -197,7 +208,7 @@ fn after_run(alloc: Global, names: Vec<Line>, room: Vec<SinkEnd>, ran: RunResult
         ran,
     } = ran;
     CallEnd {
-        status: status_of(&sinks, trace_failed, at_rest),
+        status: status_of(&sinks, trace_failed, misfit, at_rest),
         detail: Vec::new(alloc),
         sinks: told_ends(names, &sinks, room),
         picture: Picture { wires },
@@ -225,6 +236,7 @@ fn run_fit<R: Threads + Wait + Sync, F: Folder, L: Logic + Send, B: PlugBook + S
     folder: &mut F,
     b: Blueprint,
     trace: Option<Line>,
+    plans: Vec<Option<Vec<u32>>>,
     workers: u32,
     turns: u32,
     plugs: Vec<Plug<L>>,
@@ -233,12 +245,13 @@ fn run_fit<R: Threads + Wait + Sync, F: Folder, L: Logic + Send, B: PlugBook + S
     requires has { HasPlugs (map (λ p. p.head) plugs.items) b.nodes.items }
     requires listed { All (GivesAsListed L.gives B.lists) plugs.items }
     requires apart { IsApart b trace }
+    requires follow { PlansFit (map (λ n. n.kind) b.nodes.items) (map moves_of plans.items) }
     requires workers { (0 < workers) × (workers ≤ 64) }
     requires turns { turns ≤ MOST_COUNT }
-    ensures told { IsTrue (F.state folder.old).tells → EndedRun (plugged_by B.lists plugs.items) result.status (of_outcome result) b trace turns
+    ensures told { IsTrue (F.state folder.old).tells → EndedRun (plugged_by B.lists plugs.items) result.status (of_outcome result) b (map moves_of plans.items) trace turns
         (F.state folder.old) (F.state folder.new) }
     ensures tells { IsTrue (F.state folder.new).tells → IsTrue (F.state folder.old).tells }
-    ensures causes { RunCauses (plugged_by B.lists plugs.items) result.status (of_outcome result) b trace turns (F.state folder.old) (F.state folder.new) }
+    ensures causes { RunCauses (plugged_by B.lists plugs.items) result.status (of_outcome result) b (map moves_of plans.items) trace turns (F.state folder.old) (F.state folder.new) }
     ensures sinks { SinksOf result.status (of_outcome result) trace }
     ensures detail { result.detail.items ≡ detail_of result.status }
     ensures reads { QuietButAll (inputs_of_nodes b.nodes.items) (F.state folder.old).read (F.state folder.new).read }
@@ -250,7 +263,7 @@ fn run_fit<R: Threads + Wait + Sync, F: Folder, L: Logic + Send, B: PlugBook + S
     let Ok((names, room)) = sinks_to_tell(alloc, &b) else {
         return without_run(alloc, Status::NoMemory);
     };
-    match run::<R, F, L, B>(rt, alloc, folder, b, trace, workers, turns, plugs) {
+    match run::<R, F, L, B>(rt, alloc, folder, b, trace, workers, turns, plugs, plans) {
         Ok(ran) => after_run(alloc, names, room, ran),
         Err(OpenEnd::MissingInput(name)) => without_run(alloc, Status::Missing(name)),
         Err(OpenEnd::MissingOutput(name)) => without_run(alloc, Status::Missing(name)),
@@ -258,13 +271,29 @@ fn run_fit<R: Threads + Wait + Sync, F: Folder, L: Logic + Send, B: PlugBook + S
     }
 }
 
-/// Runs a blueprint that was checked.
+/// There are no moves to follow.
+fn without_plans(alloc: Global, end: PlansEnd, replay: Option<Line>) -> CallEnd
+    ensures status { result.status ≡ plans_status replay end }
+    ensures detail { result.detail.items ≡ detail_of result.status }
+    ensures blank { Blank (of_outcome result) }
+    ensures ran { result.ran ≡ None }
+{
+    match (end, replay) {
+        (PlansEnd::Missing, Some(name)) => without_run(alloc, Status::Missing(name)),
+        (PlansEnd::ReadFault, _) => without_run(alloc, Status::ReadFault),
+        (PlansEnd::BadTrace(line), _) => without_run(alloc, Status::BadTrace(line)),
+        (_, _) => without_run(alloc, Status::NoMemory),
+    }
+}
+
+/// Runs a blueprint that was checked, once the moves were read that its stages follow.
 fn run_checked<R: Threads + Wait + Sync, F: Folder, L: Logic + Send, B: PlugBook + Send>(
     rt: &R,
     alloc: Global,
     folder: &mut F,
     checked: Checked,
     trace: Option<Line>,
+    replay: Option<Line>,
     workers: u32,
     turns: u32,
     plugs: Vec<Plug<L>>,
@@ -272,31 +301,30 @@ fn run_checked<R: Threads + Wait + Sync, F: Folder, L: Logic + Send, B: PlugBook
     requires listed { All (GivesAsListed L.gives B.lists) plugs.items }
     requires fit { (taken : List (List ℕ)) × IsFit (checked_blueprint checked) (map (λ p. p.head) plugs.items) taken }
     requires apart { IsApart (checked_blueprint checked) trace }
+    requires other { IsReadApart (checked_blueprint checked) replay }
+    requires few { length (checked_blueprint checked).nodes.items ≤ 1024 }
     requires workers { (0 < workers) × (workers ≤ 64) }
     requires turns { turns ≤ MOST_COUNT }
-    ensures told { IsTrue (F.state folder.old).tells → EndedRun (plugged_by B.lists plugs.items) result.status (of_outcome result)
-        (checked_blueprint checked) trace turns (F.state folder.old) (F.state folder.new) }
+    ensures told { IsTrue (F.state folder.old).tells → EndedChecked (plugged_by B.lists plugs.items) result.status (of_outcome result)
+        (checked_blueprint checked) trace replay turns (F.state folder.old) (F.state folder.new) }
     ensures tells { IsTrue (F.state folder.new).tells → IsTrue (F.state folder.old).tells }
-    ensures causes { RunCauses (plugged_by B.lists plugs.items) result.status (of_outcome result) (checked_blueprint checked) trace turns (F.state folder.old)
+    ensures causes { CausesChecked (plugged_by B.lists plugs.items) result.status (of_outcome result) (checked_blueprint checked) trace replay turns (F.state folder.old)
         (F.state folder.new) }
     ensures sinks { SinksOf result.status (of_outcome result) trace }
     ensures detail { result.detail.items ≡ detail_of result.status }
-    ensures reads { QuietButAll (inputs_of_nodes (checked_blueprint checked).nodes.items) (F.state folder.old).read (F.state folder.new).read }
+    ensures reads { QuietButAll (option_to_list replay ++ inputs_of_nodes (checked_blueprint checked).nodes.items) (F.state folder.old).read (F.state folder.new).read }
+    ensures reads_moves { ReadsMost replay (F.state folder.old).read (F.state folder.new).read }
     ensures ran { Receipts result.status workers result.used result.ran }
     ensures islands { (taken : List (List ℕ)) → IsFit (checked_blueprint checked) (map (λ p. p.head) plugs.items) taken
         → IfSome result.ran (λ r. RanIslands (plugged_by B.lists plugs.items) (checked_blueprint checked) taken r) }
     ensures handles { F.handles folder.new ≡ F.handles folder.old }
 {
-    run_fit::<R, F, L, B>(
-        rt,
-        alloc,
-        folder,
-        checked.into_blueprint(),
-        trace,
-        workers,
-        turns,
-        plugs,
-    )
+    let b = checked.into_blueprint();
+    let plans = match plans_of_file(alloc, folder, &b.nodes, replay.as_ref()) {
+        Ok(plans) => plans,
+        Err(end) => return without_plans(alloc, end, replay),
+    };
+    run_fit::<R, F, L, B>(rt, alloc, folder, b, trace, plans, workers, turns, plugs)
 }
 
 /// Checks a blueprint, where these files are taken, and runs it.
@@ -307,22 +335,26 @@ fn run_parsed<R: Threads + Wait + Sync, F: Folder, L: Logic + Send, B: PlugBook 
     b: Blueprint,
     taken: &[Line],
     trace: Option<Line>,
+    replay: Option<Line>,
     workers: u32,
     turns: u32,
     plugs: Vec<Plug<L>>,
 ) -> CallEnd
     requires listed { All (GivesAsListed L.gives B.lists) plugs.items }
     requires taken { (t : List ℕ) → trace ≡ Some t → Contains taken.now t }
+    requires moves { (t : List ℕ) → replay ≡ Some t → Contains taken.now t }
+    requires few { length b.nodes.items ≤ 1024 }
     requires workers { (0 < workers) × (workers ≤ 64) }
     requires turns { turns ≤ MOST_COUNT }
-    ensures told { IsTrue (F.state folder.old).tells → EndedParsed (plugged_by B.lists plugs.items) result.status (of_outcome result) b taken.now trace turns
+    ensures told { IsTrue (F.state folder.old).tells → EndedParsed (plugged_by B.lists plugs.items) result.status (of_outcome result) b taken.now trace replay turns
         (F.state folder.old) (F.state folder.new) }
     ensures tells { IsTrue (F.state folder.new).tells → IsTrue (F.state folder.old).tells }
-    ensures causes { CausesParsed (plugged_by B.lists plugs.items) result.status (of_outcome result) b taken.now trace turns (F.state folder.old)
+    ensures causes { CausesParsed (plugged_by B.lists plugs.items) result.status (of_outcome result) b taken.now trace replay turns (F.state folder.old)
         (F.state folder.new) }
     ensures sinks { SinksOf result.status (of_outcome result) trace }
     ensures detail { result.detail.items ≡ detail_of result.status }
-    ensures reads { QuietAmong taken.now (F.state folder.old).read (F.state folder.new).read }
+    ensures reads { QuietAmong taken.now replay (F.state folder.old).read (F.state folder.new).read }
+    ensures reads_moves { ReadsMost replay (F.state folder.old).read (F.state folder.new).read }
     ensures ran { Receipts result.status workers result.used result.ran }
     ensures islands { IfSome result.ran (λ r. RanIslands (plugged_by B.lists plugs.items) b taken.now r) }
     ensures handles { F.handles folder.new ≡ F.handles folder.old }
@@ -332,7 +364,7 @@ fn run_parsed<R: Threads + Wait + Sync, F: Folder, L: Logic + Send, B: PlugBook 
     };
     match check(alloc, b, &heads, taken) {
         Ok(checked) => run_checked::<R, F, L, B>(
-            rt, alloc, folder, checked, trace, workers, turns, plugs,
+            rt, alloc, folder, checked, trace, replay, workers, turns, plugs,
         ),
         Err(CheckEnd::Fault(fault)) => unfit(alloc, fault),
         Err(CheckEnd::NoMemory) => without_run(alloc, Status::NoMemory),
@@ -355,29 +387,32 @@ fn run_said<R: Threads + Wait + Sync, F: Folder, L: Logic + Send, B: PlugBook + 
     text: BlueText,
     taken: &[Line],
     trace: Option<Line>,
+    replay: Option<Line>,
     workers: u32,
     turns: u32,
     plugs: Vec<Plug<L>>,
 ) -> CallEnd
     requires listed { All (GivesAsListed L.gives B.lists) plugs.items }
     requires taken { (t : List ℕ) → trace ≡ Some t → Contains taken.now t }
+    requires moves { (t : List ℕ) → replay ≡ Some t → Contains taken.now t }
     requires workers { (0 < workers) × (workers ≤ 64) }
     requires turns { turns ≤ MOST_COUNT }
     ensures told { IsTrue (F.state folder.old).tells → EndedSaid (plugged_by B.lists plugs.items) result.status
-        (of_outcome result) (plain_text text) taken.now trace turns (F.state folder.old) (F.state folder.new) }
+        (of_outcome result) (plain_text text) taken.now trace replay turns (F.state folder.old) (F.state folder.new) }
     ensures tells { IsTrue (F.state folder.new).tells → IsTrue (F.state folder.old).tells }
-    ensures causes { CausesSaid (plugged_by B.lists plugs.items) result.status (of_outcome result) (plain_text text) taken.now trace turns (F.state folder.old)
+    ensures causes { CausesSaid (plugged_by B.lists plugs.items) result.status (of_outcome result) (plain_text text) taken.now trace replay turns (F.state folder.old)
         (F.state folder.new) }
     ensures sinks { SinksOf result.status (of_outcome result) trace }
     ensures detail { result.detail.items ≡ detail_of result.status }
-    ensures reads { QuietAmong taken.now (F.state folder.old).read (F.state folder.new).read }
+    ensures reads { QuietAmong taken.now replay (F.state folder.old).read (F.state folder.new).read }
+    ensures reads_moves { ReadsMost replay (F.state folder.old).read (F.state folder.new).read }
     ensures ran { Receipts result.status workers result.used result.ran }
     ensures islands { RanSaid (plugged_by B.lists plugs.items) (plain_text text) taken.now result.ran }
     ensures handles { F.handles folder.new ≡ F.handles folder.old }
 {
     match blueprint_of(alloc, text) {
         Ok(b) => run_parsed::<R, F, L, B>(
-            rt, alloc, folder, b, taken, trace, workers, turns, plugs,
+            rt, alloc, folder, b, taken, trace, replay, workers, turns, plugs,
         ),
         Err(CheckEnd::Fault(fault)) => unfit(alloc, fault),
         Err(CheckEnd::NoMemory) => without_run(alloc, Status::NoMemory),
@@ -392,29 +427,32 @@ fn run_text<R: Threads + Wait + Sync, F: Folder, L: Logic + Send, B: PlugBook + 
     text: &[u8],
     taken: &[Line],
     trace: Option<Line>,
+    replay: Option<Line>,
     workers: u32,
     turns: u32,
     plugs: Vec<Plug<L>>,
 ) -> CallEnd
     requires listed { All (GivesAsListed L.gives B.lists) plugs.items }
     requires taken { (t : List ℕ) → trace ≡ Some t → Contains taken.now t }
+    requires moves { (t : List ℕ) → replay ≡ Some t → Contains taken.now t }
     requires workers { (0 < workers) × (workers ≤ 64) }
     requires turns { turns ≤ MOST_COUNT }
     ensures told { IsTrue (F.state folder.old).tells → EndedText (plugged_by B.lists plugs.items) result.status
-        (of_outcome result) text.now taken.now trace turns (F.state folder.old) (F.state folder.new) }
+        (of_outcome result) text.now taken.now trace replay turns (F.state folder.old) (F.state folder.new) }
     ensures tells { IsTrue (F.state folder.new).tells → IsTrue (F.state folder.old).tells }
-    ensures causes { CausesText (plugged_by B.lists plugs.items) result.status (of_outcome result) text.now taken.now trace turns (F.state folder.old)
+    ensures causes { CausesText (plugged_by B.lists plugs.items) result.status (of_outcome result) text.now taken.now trace replay turns (F.state folder.old)
         (F.state folder.new) }
     ensures sinks { SinksOf result.status (of_outcome result) trace }
     ensures detail { result.detail.items ≡ detail_of result.status }
-    ensures reads { QuietAmong taken.now (F.state folder.old).read (F.state folder.new).read }
+    ensures reads { QuietAmong taken.now replay (F.state folder.old).read (F.state folder.new).read }
+    ensures reads_moves { ReadsMost replay (F.state folder.old).read (F.state folder.new).read }
     ensures ran { Receipts result.status workers result.used result.ran }
     ensures islands { RanText (plugged_by B.lists plugs.items) text.now taken.now result.ran }
     ensures handles { F.handles folder.new ≡ F.handles folder.old }
 {
     match parse(alloc, text) {
         Ok(said) => run_said::<R, F, L, B>(
-            rt, alloc, folder, said, taken, trace, workers, turns, plugs,
+            rt, alloc, folder, said, taken, trace, replay, workers, turns, plugs,
         ),
         Err(ParseEnd::Fault(fault)) => without_run(alloc, Status::Refused(fault)),
         Err(ParseEnd::NoMemory) => without_run(alloc, Status::NoMemory),
@@ -432,35 +470,51 @@ fn copy_of(alloc: Global, name: Option<&Line>) -> Result<Option<Line>, NoMemory>
 }
 
 /// The files that no source and no sink may name.
-fn taken_by(alloc: Global, file: &Line, trace: Option<&Line>) -> Result<Vec<Line>, NoMemory>
-    ensures { IfOk result (λ names. names.items ≡ taken_files file.now (option_copied trace.entry)) }
+fn taken_by(
+    alloc: Global,
+    file: &Line,
+    trace: Option<&Line>,
+    replay: Option<&Line>,
+) -> Result<Vec<Line>, NoMemory>
+    ensures { IfOk result (λ names. names.items ≡ taken_files file.now (option_copied trace.entry) (option_copied replay.entry)) }
 {
     let mut taken = Vec::new(alloc);
     taken.push(file.copy(alloc)?)?;
     if let Some(name) = trace {
         taken.push(name.copy(alloc)?)?;
     }
+    if let Some(name) = replay {
+        taken.push(name.copy(alloc)?)?;
+    }
     Ok(taken)
 }
 
-/// The names of a call: that of its file, to tell that it is missing, that of its trace, and those of the files that are taken.
+/// The names of a call: that of its file, to tell that it is missing, those of its trace and of its file of moves, and those of the files that are taken.
 #[derive(Drop)]
 struct Names {
     file: Line,
     trace: Option<Line>,
+    replay: Option<Line>,
     taken: Vec<Line>,
 }
 
 /// Copies the names of a call.
-fn names_of(alloc: Global, file: &Line, trace: Option<&Line>) -> Result<Names, NoMemory>
+fn names_of(
+    alloc: Global,
+    file: &Line,
+    trace: Option<&Line>,
+    replay: Option<&Line>,
+) -> Result<Names, NoMemory>
     ensures file { IfOk result (λ names. names.file ≡ file.now) }
     ensures trace { IfOk result (λ names. names.trace ≡ option_copied trace.entry) }
-    ensures taken { IfOk result (λ names. names.taken.items ≡ taken_files file.now (option_copied trace.entry)) }
+    ensures replay { IfOk result (λ names. names.replay ≡ option_copied replay.entry) }
+    ensures taken { IfOk result (λ names. names.taken.items ≡ taken_files file.now (option_copied trace.entry) (option_copied replay.entry)) }
 {
     Ok(Names {
         file: file.copy(alloc)?,
         trace: copy_of(alloc, trace)?,
-        taken: taken_by(alloc, file, trace)?,
+        replay: copy_of(alloc, replay)?,
+        taken: taken_by(alloc, file, trace, replay)?,
     })
 }
 
@@ -471,6 +525,7 @@ pub fn run_file<R: Threads + Wait + Sync, F: Folder, L: Logic + Send, B: PlugBoo
     folder: &mut F,
     file: &Line,
     trace: Option<&Line>,
+    replay: Option<&Line>,
     workers: u32,
     turns: u32,
     plugs: Vec<Plug<L>>,
@@ -479,30 +534,33 @@ pub fn run_file<R: Threads + Wait + Sync, F: Folder, L: Logic + Send, B: PlugBoo
     requires workers { (0 < workers) × (workers ≤ 64) }
     requires turns { turns ≤ MOST_COUNT }
     ensures told { IsTrue (F.state folder.old).tells → Told (plugged_by B.lists plugs.items) (of_outcome result)
-        (record { file = file.now; trace = option_copied trace.entry; turns = turns }) (F.state folder.old) (F.state folder.new) }
-    ensures causes { Causes (plugged_by B.lists plugs.items) result.status (of_outcome result) file.now (option_copied trace.entry) turns (F.state folder.old)
+        (record { file = file.now; trace = option_copied trace.entry; replay = option_copied replay.entry; turns = turns }) (F.state folder.old) (F.state folder.new) }
+    ensures causes { Causes (plugged_by B.lists plugs.items) result.status (of_outcome result) file.now (option_copied trace.entry) (option_copied replay.entry) turns (F.state folder.old)
         (F.state folder.new) }
     ensures sinks { SinksOf result.status (of_outcome result) (option_copied trace.entry) }
     ensures no_usage { result.status ≡ Status.Usage → ⊥ }
     ensures tells { IsTrue (F.state folder.new).tells → IsTrue (F.state folder.old).tells }
     ensures detail { result.detail.items ≡ detail_of result.status }
-    ensures reads { GrewAtMost ((F.state folder.old).read file.now) text_limit ((F.state folder.new).read file.now) }
+    ensures reads { option_copied replay.entry ≢ Some file.now → GrewAtMost ((F.state folder.old).read file.now) text_limit ((F.state folder.new).read file.now) }
+    ensures reads_moves { (t : List ℕ) → option_copied replay.entry ≡ Some t → t ≢ file.now
+        → GrewAtMost ((F.state folder.old).read t) plan_limit ((F.state folder.new).read t) }
     ensures ran { Receipts result.status workers result.used result.ran }
     ensures islands { IsTrue (F.state folder.old).tells → RanFile (plugged_by B.lists plugs.items) (F.state folder.old) file.now
-        (option_copied trace.entry) result.ran }
+        (option_copied trace.entry) (option_copied replay.entry) result.ran }
     ensures handles { F.handles folder.new ≡ F.handles folder.old }
 {
-    let Ok(names) = names_of(alloc, file, trace) else {
+    let Ok(names) = names_of(alloc, file, trace, replay) else {
         return without_run(alloc, Status::NoMemory);
     };
     let Names {
         file: name,
         trace: path,
+        replay: moves,
         taken,
     } = names;
     match read_file(alloc, folder, file) {
         Ok(text) => run_text::<R, F, L, B>(
-            rt, alloc, folder, &text, &taken, path, workers, turns, plugs,
+            rt, alloc, folder, &text, &taken, path, moves, workers, turns, plugs,
         ),
         Err(ReadEnd::Missing) => without_run(alloc, Status::Missing(name)),
         Err(ReadEnd::Fault) => without_run(alloc, Status::ReadFault),

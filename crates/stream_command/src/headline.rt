@@ -1,12 +1,14 @@
-// What the sinks' files hold after a call, in four short laws: each function does nothing, and its contract is the law. Each follows
+// What the sinks' files hold after a call, in seven short laws: each function does nothing, and its contract is the law. Each follows
 // from `told` of `run_file` alone, and `run_streams` hands that on in its clause `answers`.
-ghost use Rattle.std.specs.Prelude.{◌≡◌, ◌≢◌, [], false, IsTrue};
+ghost use Rattle.std.specs.Prelude.{◌≡◌, ◌≢◌, [], false, IsTrue, List, ℕ};
 ghost use Rattle.blue_names.specs.Picks.{needs_picks};
 ghost use Rattle.run_report.specs.Answer.{Answer};
 ghost use Rattle.stream_io.specs.State.{FolderState};
 ghost use Rattle.stream_model.specs.declared.blueprint.Blueprint.{Blueprint};
 ghost use Rattle.stream_command.specs.Asked.{AskedRun, Plugged};
-ghost use Rattle.stream_command.specs.Headline.{WholeFiles, EndedFiles, FailedWhole};
+ghost use Rattle.stream_model.specs.declared.blueprint.Node.{Node};
+ghost use Rattle.stream_model.specs.declared.outcome.EndState.TheVariants.{Ended};
+ghost use Rattle.stream_command.specs.Headline.{WholeFiles, AnswersSink, EndedFiles, RunsAlike, ReplayedFiles, ReplaysRun, FailedWhole};
 ghost use Rattle.stream_command.specs.Outcome.{SaysFile, Told};
 
 use materializer::laws::fit_blueprints_are_whole;
@@ -32,6 +34,28 @@ pub fn done_without_choice_means_whole_files()
 pub fn each_end_tells_its_file()
     ensures { (p : Plugged) (a : Answer) (c : AskedRun) (old new : FolderState) → Told p a c old new → IsTrue new.tells → a.sinks ≢ []
         → EndedFiles p a c old new }
+{}
+
+/// Two calls that ran what one text says over input files of the same bytes, by the same moves, where no read of a file failed: each
+/// sink that ended in both wrote the same bytes. So does a replay that made all moves of a run's own trace.
+pub fn the_same_moves_write_the_same()
+    ensures { (p : Plugged) (a x : Answer) (c e : AskedRun) (old new before after : FolderState) → (first : EndedFiles p a c old new) → (second : EndedFiles p x e before after)
+        → RunsAlike p a x c e old new before after first → (k : ℕ) (n : Node) (file : List ℕ) → AnswersSink a first.blueprint k n file Ended
+        → AnswersSink x second.blueprint k n file Ended → new.file file ≡ after.file file }
+{}
+
+/// Whatever the status of a call that answers some sink, its stages made the first of the moves that its file of moves says. And where
+/// each made all of them, or no failure may come on its wires, the text is that by all moves of the file.
+pub fn each_replay_tells_its_files()
+    ensures { (p : Plugged) (a : Answer) (c : AskedRun) (old new : FolderState) → Told p a c old new → IsTrue new.tells → a.sinks ≢ []
+        → ReplayedFiles p a c old new }
+{}
+
+/// A replay of the moves that another run made, of the same text over the same bytes: each sink that ended in both wrote the same bytes.
+pub fn a_replay_writes_what_was_written()
+    ensures { (p : Plugged) (a x : Answer) (c e : AskedRun) (old new before after : FolderState) → (first : EndedFiles p a c old new)
+        → (second : ReplayedFiles p x e before after) → ReplaysRun p a x c e old new before after first second → (k : ℕ) (n : Node) (file : List ℕ)
+        → AnswersSink a first.blueprint k n file Ended → AnswersSink x second.blueprint k n file Ended → new.file file ≡ after.file file }
 {}
 
 /// With no lane that does not keep, no buffer, no stage that holds outputs, no partition and no fan-in between the stage that failed and

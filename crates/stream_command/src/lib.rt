@@ -1,6 +1,7 @@
 //! The whole call: the command's words, the run of the file that they name, the report, and the plugs that the program ships.
 //!
 //! - `answer`, `sure`, `top`: The run of a file: its blueprint is read and run, and the report is written.
+//! - `replays`: The moves that the stages of a blueprint follow, by the file of moves.
 //! - `run`: The command: its words are read, files are generated where they ask for it, the file is run, and the report is written.
 //! - `laws`, `shipped_run`: The whole call with the plugs that the program ships.
 //! - `headline`: What the sinks' files hold after a call, in three short laws.
@@ -11,6 +12,7 @@ mod answer;
 pub mod headline;
 pub mod laws;
 pub mod process;
+pub mod replays;
 pub mod run;
 pub mod shipped_run;
 pub mod sure;

@@ -49,7 +49,7 @@ pub fn run_streams<R: Threads + Wait + Sync, F: Folder, C: Drain, B: PlugBook + 
     ensures answers { AnswersCommand (plugged_by B.lists plugs.items) (asked_of words.now) (answer_of result) (F.state folder.old) (F.state folder.new) }
 
     // A valid blueprint and no fault give a run, or memory was wanting.
-    ensures complete { (c : Asked) → asked_of words.now ≡ Some c → IsValidFor (plugged_by B.lists plugs.items) c.generated c.file c.trace (F.state folder.old)
+    ensures complete { (c : Asked) → asked_of words.now ≡ Some c → IsValidFor (plugged_by B.lists plugs.items) c.generated c.file c.trace c.replay (F.state folder.old)
         (F.state folder.new) → RoseNowhere (F.state folder.old) (F.state folder.new) → RanWithoutFault result.status }
 
     // After a run, and only there, there is a receipt, of the command's workers and as many islands as the file's blueprint has.
@@ -90,7 +90,7 @@ fn run_words<R: Threads + Wait + Sync, F: Folder, C: Drain, L: Logic + Send, B: 
     ensures answers { AnswersCommand (plugged_by B.lists plugs.items) (asked_of words.now) (answer_of result) (F.state folder.old) (F.state folder.new) }
 
     // A valid blueprint and no fault give a run, or memory was wanting.
-    ensures complete { (c : Asked) → asked_of words.now ≡ Some c → IsValidFor (plugged_by B.lists plugs.items) c.generated c.file c.trace (F.state folder.old)
+    ensures complete { (c : Asked) → asked_of words.now ≡ Some c → IsValidFor (plugged_by B.lists plugs.items) c.generated c.file c.trace c.replay (F.state folder.old)
         (F.state folder.new) → RoseNowhere (F.state folder.old) (F.state folder.new) → RanWithoutFault result.status }
 
     // After a run, and only there, there is a receipt, of the command's workers and as many islands as the file's blueprint has.
@@ -162,11 +162,11 @@ fn run_command_file<
     requires listed { All (GivesAsListed L.gives B.lists) plugs.items }
     requires workers { (0 < command.now.workers) × (command.now.workers ≤ 64) }
     requires turns { command.now.turns ≤ MOST_COUNT }
-    ensures runs { RunsFile (plugged_by B.lists plugs.items) command.now.file command.now.trace command.now.turns (answer_of result) (F.state folder.old)
+    ensures runs { RunsFile (plugged_by B.lists plugs.items) command.now.file command.now.trace command.now.replay command.now.turns (answer_of result) (F.state folder.old)
         (F.state folder.new) }
     ensures ran { Receipts result.status command.now.workers result.used result.ran }
     ensures islands { IsTrue (F.state folder.old).tells → RanFile (plugged_by B.lists plugs.items)
-        (F.state folder.old) command.now.file command.now.trace result.ran }
+        (F.state folder.old) command.now.file command.now.trace command.now.replay result.ran }
     ensures handles { F.handles folder.new ≡ F.handles folder.old }
     ensures console { (Puts (C.state console.old) (C.state console.new) (report_of (answer_of result)) × (result.code ≡ code_of result.status))
         ⊎ (PutsPart (C.state console.old) (C.state console.new) (report_of (answer_of result)) × (result.code ≡ 8)) }
@@ -176,6 +176,7 @@ fn run_command_file<
         alloc,
         &command.file,
         command.trace.as_ref(),
+        command.replay.as_ref(),
         command.workers,
         command.turns,
         folder,
@@ -207,7 +208,7 @@ fn run_generated<
     requires turns { command.now.turns ≤ MOST_COUNT }
     ensures answers { AnswersTo (plugged_by B.lists plugs.items) (Some n) (asked command.now) (answer_of result) (F.state folder.old) (F.state folder.new) }
     ensures ran { ReceiptsFor (Some n) (answer_of result) command.now.workers result.ran }
-    ensures islands { IslandsFor (plugged_by B.lists plugs.items) (Some n) command.now.file command.now.trace result.ran (F.state folder.old)
+    ensures islands { IslandsFor (plugged_by B.lists plugs.items) (Some n) command.now.file command.now.trace command.now.replay result.ran (F.state folder.old)
         (F.state folder.new) }
     ensures handles { F.handles folder.new ≡ F.handles folder.old }
     ensures console { (Puts (C.state console.old) (C.state console.new) (report_of (answer_of result)) × (result.code ≡ code_of result.status))

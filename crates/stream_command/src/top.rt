@@ -1,11 +1,11 @@
 // The run of a file, and the report of a call.
-ghost use Rattle.std.specs.Prelude.{◌≡◌, ◌<◌, ◌≤◌, ◌⊎◌, ℕ, [], None, IsTrue};
+ghost use Rattle.std.specs.Prelude.{◌≡◌, ◌≢◌, ◌<◌, ◌≤◌, ◌⊎◌, ℕ, List, [], Some, None, IsTrue};
 ghost use Rattle.std.specs.List.{All};
 ghost use Rattle.std.specs.Option.{option_copied};
 ghost use Rattle.elem_core.specs.declared.count.TheConstants.{MOST_COUNT};
 ghost use Rattle.stream_io.specs.Counts.{GrewAtMost};
 ghost use Rattle.stream_command.specs.RunCalls.{answer_of};
-ghost use Rattle.stream_command.specs.Outcome.{Blank, Told, Causes, SinksOf, IsValid, RoseNowhere, RanWithoutFault};
+ghost use Rattle.stream_command.specs.Outcome.{Blank, Told, Causes, SinksOf, IsValid, RoseNowhere, RanWithoutFault, plan_limit};
 ghost use Rattle.stream_io.specs.Text.{text_limit};
 ghost use Rattle.stream_command.specs.RunReceipts.{Receipts, RanFile};
 ghost use Rattle.run_report.specs.Report.{detail_of, report_of, code_of};
@@ -16,6 +16,7 @@ ghost use Rattle.stream_command.specs.Asked.{plugged_by};
 use crate::answer::{self, CallEnd};
 use elem_core::line::Line;
 use island_runs::ran::Ran;
+use plan_reader::laws::a_text_has_one_reading;
 use plug_logic::book::PlugBook;
 use plug_logic::logic::Logic;
 use plug_logic::plug::Plug;
@@ -41,12 +42,13 @@ pub struct RunEnd {
     pub ran: Option<Ran>,
 }
 
-/// Reads the blueprint of the file of that name, lets so many workers, 1 to 64, run it by at most so many units, 4,000,000,000 at most, and writes the report to the console. Where a file for the trace is given, it is opened behind those of the sinks, and what the stages chose is written into it after the run, a line for each stage whose kind chooses, in order of nodes. No source and no sink may name it, nor the blueprint's file.
+/// Reads the blueprint of the file of that name, lets so many workers, 1 to 64, run it by at most so many units, 4,000,000,000 at most, and writes the report to the console. Where a file for the trace is given, it is opened behind those of the sinks, and what the stages chose is written into it after the run, a line for each stage whose kind chooses, in order of nodes. No source and no sink may name it, nor the blueprint's file. Where a file of moves is given, it is read once the blueprint was checked, no source and no sink may name it, and each stage that chooses makes the moves of its line.
 pub fn run_file<R: Threads + Wait + Sync, F: Folder, C: Drain, L: Logic + Send, B: PlugBook + Send>(
     rt: &R,
     alloc: Global,
     file: &Line,
     trace: Option<&Line>,
+    replay: Option<&Line>,
     workers: u32,
     turns: u32,
     folder: &mut F,
@@ -60,27 +62,29 @@ pub fn run_file<R: Threads + Wait + Sync, F: Folder, C: Drain, L: Logic + Send, 
     // What is answered and left where the folder told its files before. What files hold then is said where it still tells them.
     ensures tells { IsTrue (F.state folder.new).tells → IsTrue (F.state folder.old).tells }
     ensures told { IsTrue (F.state folder.old).tells → Told (plugged_by B.lists plugs.items) (answer_of result)
-        (record { file = file.now; trace = option_copied trace.entry; turns = turns }) (F.state folder.old) (F.state folder.new) }
+        (record { file = file.now; trace = option_copied trace.entry; replay = option_copied replay.entry; turns = turns }) (F.state folder.old) (F.state folder.new) }
 
     // A valid text and inputs and no fault give a run, or memory was wanting.
-    ensures complete { IsTrue (F.state folder.old).tells → IsValid (plugged_by B.lists plugs.items) file.now (option_copied trace.entry) (F.state folder.old)
+    ensures complete { IsTrue (F.state folder.old).tells → IsValid (plugged_by B.lists plugs.items) file.now (option_copied trace.entry) (option_copied replay.entry) (F.state folder.old)
         → RoseNowhere (F.state folder.old) (F.state folder.new) → RanWithoutFault result.status }
 
     // Which counts rose, and what the units and the picture of the run are, whether it tells them or not.
-    ensures causes { Causes (plugged_by B.lists plugs.items) result.status (answer_of result) file.now (option_copied trace.entry) turns (F.state folder.old)
+    ensures causes { Causes (plugged_by B.lists plugs.items) result.status (answer_of result) file.now (option_copied trace.entry) (option_copied replay.entry) turns (F.state folder.old)
         (F.state folder.new) }
     ensures sinks { SinksOf result.status (answer_of result) (option_copied trace.entry) }
 
     // After a run, and only there, there is a receipt, of so many workers and as many islands as the blueprint of the file has.
     ensures ran { Receipts result.status workers result.used result.ran }
     ensures islands { IsTrue (F.state folder.old).tells → RanFile (plugged_by B.lists plugs.items) (F.state folder.old) file.now
-        (option_copied trace.entry) result.ran }
+        (option_copied trace.entry) (option_copied replay.entry) result.ran }
 
     // A file is no want of words.
     ensures no_usage { result.status ≡ Status.Usage → ⊥ }
 
-    // Reading the blueprint's file stops after so many bytes.
-    ensures reads { GrewAtMost ((F.state folder.old).read file.now) text_limit ((F.state folder.new).read file.now) }
+    // Reading the blueprint's file stops after so many bytes, and so does reading the file of moves.
+    ensures reads { option_copied replay.entry ≢ Some file.now → GrewAtMost ((F.state folder.old).read file.now) text_limit ((F.state folder.new).read file.now) }
+    ensures reads_moves { (t : List ℕ) → option_copied replay.entry ≡ Some t → t ≢ file.now
+        → GrewAtMost ((F.state folder.old).read t) plan_limit ((F.state folder.new).read t) }
 
     // Every file that it opened is closed, whatever is answered.
     ensures handles { F.handles folder.new ≡ F.handles folder.old }
@@ -89,6 +93,7 @@ pub fn run_file<R: Threads + Wait + Sync, F: Folder, C: Drain, L: Logic + Send, 
     ensures console { (Puts (C.state console.old) (C.state console.new) (report_of (answer_of result)) × (result.code ≡ code_of result.status))
         ⊎ (PutsPart (C.state console.old) (C.state console.new) (report_of (answer_of result)) × (result.code ≡ 8)) }
 {
+    a_text_has_one_reading();
     let CallEnd {
         status,
         detail,
@@ -97,7 +102,9 @@ pub fn run_file<R: Threads + Wait + Sync, F: Folder, C: Drain, L: Logic + Send, 
         picks,
         used,
         ran,
-    } = answer::run_file::<R, F, L, B>(rt, alloc, folder, file, trace, workers, turns, plugs);
+    } = answer::run_file::<R, F, L, B>(
+        rt, alloc, folder, file, trace, replay, workers, turns, plugs,
+    );
     let code = match put_report(console, &status, &detail, &sinks, &picture.wires, used) {
         Ok(()) => code(&status),
         Err(Failed) => 8,

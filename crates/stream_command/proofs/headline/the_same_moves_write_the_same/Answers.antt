@@ -1,0 +1,5 @@
+use Rattle.stream_command.proofs.Alike.{same_bytes}
+use Rattle.stream_command.proofs.headline.the_same_moves_write_the_same.Goals as goal
+
+pub returns : goal.returns
+returns c = λ p a x d e old new before after first second alike k n file here there. same_bytes p a x d e old new before after first second alike k n file here there

@@ -106,10 +106,12 @@ fn chains_run_through_their_bound(rt: HostRuntime) -> Result<(), Fail> {
 #[test]
 fn logs_keep_their_moves(rt: HostRuntime) -> Result<(), Fail> {
     let mut log = PickLog::new(rt.alloc());
-    for m in [3, 1, 2] {
-        log.reserve()?;
-        log.note(m);
-    }
+    log.reserve()?;
+    log.note(3);
+    log.reserve()?;
+    log.note(1);
+    log.reserve()?;
+    log.note(2);
     assert_eq!(rt; log.into_moves().as_slice(), [3, 1, 2].as_slice());
     Ok(())
 }

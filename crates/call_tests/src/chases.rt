@@ -7,6 +7,7 @@ use elem_core::function::MapFn;
 use elem_core::why::NoMemory;
 use interpreter::island::Island;
 use island_plans::plans::plans_of;
+use materializer::choosers::no_plans;
 use materializer::names::{input_names, output_names};
 use plug_logic::book::Shipped;
 use plug_logic::dedup::Dedup;
@@ -58,7 +59,8 @@ fn longest_chase(alloc: Global, source: Kind, stages: u8) -> Result<Option<u32>,
     if inputs.len() > 0 || outputs.len() > 0 {
         return Ok(None);
     }
-    let plans = plans_of::<MemSource, MemDrain, Dedup, Shipped>(alloc, b, Vec::new(alloc))?;
+    let free = no_plans(alloc, b.nodes.len())?;
+    let plans = plans_of::<MemSource, MemDrain, Dedup, Shipped>(alloc, b, Vec::new(alloc), free)?;
     let filled = plans.fill(alloc, Vec::new(alloc), Vec::new(alloc));
     let mut islands = filled.islands;
     let Some((parts, room)) = islands.pop() else {

@@ -29,6 +29,7 @@ fn sure_calls_run(rt: HostRuntime) -> Result<(), Fail> {
         alloc,
         &file,
         None,
+        None,
         2,
         1000,
         &mut folder,

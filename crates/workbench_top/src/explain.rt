@@ -98,7 +98,9 @@ fn of_run(
         blueprint: b,
     };
     let mut out = Vec::new(alloc);
-    if put_status(&mut out, Some(scene), line)? && put_lines(alloc, &mut out, scene, later)? {
+    if put_status(alloc, &mut out, Some(scene), line)?
+        && put_lines(alloc, &mut out, scene, later)?
+    {
         Ok(Some(out))
     } else {
         Ok(None)
@@ -108,7 +110,7 @@ fn of_run(
 /// What is said of a report where the text says no blueprint.
 fn of_words(alloc: Global, line: &[u8], later: &[u8]) -> Result<Option<Vec<u8>>, NoMemory> {
     let mut out = Vec::new(alloc);
-    if later.is_empty() && put_status(&mut out, None, line)? {
+    if later.is_empty() && put_status(alloc, &mut out, None, line)? {
         Ok(Some(out))
     } else {
         Ok(None)

@@ -1,10 +1,12 @@
 // The first line of a report, in words.
 use crate::scene::{Scene, put_node};
+use blue_check::picks::picks;
 use blue_names::claims::file_of;
 use blue_words::places::count_place;
 use blue_words::words::is_word;
 use elem_core::why::NoMemory;
-use workbench_draw::message::put_shown;
+use std::alloc::Global;
+use workbench_draw::message::{put_number, put_shown};
 
 /// What a first line says that is always the same.
 fn fixed(line: &[u8]) -> Option<&'static [u8]> {
@@ -58,8 +60,89 @@ fn put_used(out: &mut Vec<u8>, word: &[u8]) -> Result<bool, NoMemory> {
     Ok(count_place(word).is_ok())
 }
 
+/// The number of the stage that chooses whose line that one of a file of moves is.
+fn chooser_of(scene: Scene<'_>, line: u64) -> Option<usize> {
+    let mut left = line;
+    for i in 0..scene.blueprint.nodes.len() {
+        if picks(&scene.blueprint.nodes[i].kind) {
+            match left.checked_sub(1) {
+                Some(0) => return Some(i),
+                Some(more) => left = more,
+                None => return None,
+            }
+        }
+    }
+    None
+}
+
+/// Appends which line of the file of moves is at fault, and whose line is to stand there.
+fn put_bad_trace(
+    out: &mut Vec<u8>,
+    scene: Option<Scene<'_>>,
+    word: &[u8],
+) -> Result<bool, NoMemory> {
+    let Ok(line) = count_place(word) else {
+        return Ok(false);
+    };
+    if line == 0 {
+        out.extend_from_slice(
+            b"The file of moves is too long. Nothing was run, and no file was changed.\n",
+        )?;
+        return Ok(true);
+    }
+    out.extend_from_slice(b"Line ")?;
+    put_number(out, line)?;
+    out.extend_from_slice(b" of the file of moves is at fault")?;
+    if let Some(scene) = scene {
+        match chooser_of(scene, line) {
+            Some(number) => {
+                out.extend_from_slice(b": moves of ")?;
+                put_node(out, scene, number)?;
+                out.extend_from_slice(b" are to stand there")?;
+            }
+            None => out.extend_from_slice(b": there is no stage more that chooses")?,
+        }
+    }
+    out.extend_from_slice(b". Nothing was run, and no file was changed.\n")?;
+    Ok(true)
+}
+
+/// Appends which stage could not make its next move.
+fn put_misfit(
+    alloc: Global,
+    out: &mut Vec<u8>,
+    scene: Option<Scene<'_>>,
+    rest: &[u8],
+) -> Result<bool, NoMemory> {
+    let Some(scene) = scene else {
+        return Ok(false);
+    };
+    let mut words = Vec::new(alloc);
+    for word in rest.split(|byte| *byte == b' ') {
+        words.push(word)?;
+    }
+    match words.as_slice() {
+        [stage, pick, place] if is_word(pick, b"pick") => {
+            let (Ok(stage), Ok(place)) = (count_place(stage), count_place(place)) else {
+                return Ok(false);
+            };
+            if !put_node(out, scene, stage as usize)? {
+                return Ok(false);
+            }
+            out.extend_from_slice(b" could not make its move ")?;
+            put_number(out, place)?;
+            out.extend_from_slice(
+                b", counted from 0, and did nothing more. The files hold what the moves before it gave.\n",
+            )?;
+            Ok(true)
+        }
+        _ => Ok(false),
+    }
+}
+
 /// Appends what the first line of a report says, but for a text that has a fault, and says whether it is such a line.
 pub(crate) fn put_status(
+    alloc: Global,
     out: &mut Vec<u8>,
     scene: Option<Scene<'_>>,
     line: &[u8],
@@ -71,6 +154,12 @@ pub(crate) fn put_status(
     if let Some(name) = line.strip_prefix(b"missing ") {
         put_missing(out, scene, name)?;
         return Ok(true);
+    }
+    if let Some(word) = line.strip_prefix(b"trace line ") {
+        return put_bad_trace(out, scene, word);
+    }
+    if let Some(rest) = line.strip_prefix(b"misfit stage ") {
+        return put_misfit(alloc, out, scene, rest);
     }
     match line.strip_prefix(b"out of turns ") {
         Some(used) => put_used(out, used),

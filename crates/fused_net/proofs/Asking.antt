@@ -23,7 +23,7 @@ use Rattle.stage_core.specs.Handling.{Pulls}
 use Rattle.fused_net.specs.PortLists.{PortLists}
 use Rattle.port_core.specs.Reading.{no_wire}
 use Rattle.fused_net.specs.Net.{Net, end_at, port_at, wire_at, ports_at, view_of, wire_for, target, put, acted, acted_all, told_by, delivered_on, with_node, before}
-use Rattle.fused_net.specs.Laws.{AnyRow, AnyLaw, Wired, NetGoesOn, NodeStays, IsAsking, MovesGrow, IsMinded, LastAsk, AllAsked, Busy}
+use Rattle.fused_net.specs.Laws.{AnyRow, AnyLaw, Wired, NetGoesOn, NodeStays, TellsStill, IsAsking, MovesGrow, IsMinded, LastAsk, AllAsked, Busy}
 use Rattle.fused_net.proofs.Reading.{same_or_not, some_same, get_there, get_within, get_set_same, get_set_other}
 use Rattle.fused_net.proofs.Ongoing.{goes_same, goes_trans, goes_put, goes_node}
 use Rattle.fused_net.proofs.Acting.{Fits, PortAt, fits, act_allowed, port_within, queued, acted_busy, acts_busy, acts_here}
@@ -146,13 +146,13 @@ module _ {N : Type 0} where
     | inr other ↦ rw (get_or-set_other net.wires w u new no_wire other) (grown_same (wire_at net u))
   ]
 
-  -- what stays over two stretches stays over both
-  stays_trans : (a b c : Net N) (w : ℕ) → NetGoesOn a b → IsPrefix (wire_at a w).wire.got (wire_at b w).wire.got → IsPrefix (wire_at b w).wire.got (wire_at c w).wire.got → NodeStays a b w → NodeStays b c w → NodeStays a c w
-  stays_trans a b c w on p q f g k ins outs same =
+  -- what a node tells still over one stretch it tells over two, where it is as it was over the other
+  stays_trans : (tells : N → View → Type 0) (a b c : Net N) (w : ℕ) → NetGoesOn a b → IsPrefix (wire_at a w).wire.got (wire_at b w).wire.got → IsPrefix (wire_at b w).wire.got (wire_at c w).wire.got → TellsStill tells a b w → NodeStays b c w → TellsStill tells a c w
+  stays_trans tells a b c w on p q f g k ins outs same x at =
       let count : length (wire_at c w).wire.got ≡ length (wire_at a w).wire.got = ap (λ (l : List Item). length l) same in
       let then : (wire_at a w).wire.got ≡ (wire_at b w).wire.got = prefix_whole p (omega (arith, count, prefix_length q)) in
       let ports : ports_at b k ≡ ports_at a k = ap (λ (l : List PortLists). port_at l k) on.ports in
-      g k (ap (λ (x : PortLists). x.ins) ports ∙ ins) (ap (λ (x : PortLists). x.outs) ports ∙ outs) (same ∙ then) ∙ f k ins outs (sym then)
+      f k ins outs (sym then) x (sym (g k (ap (λ (z : PortLists). z.ins) ports ∙ ins) (ap (λ (z : PortLists). z.outs) ports ∙ outs) (same ∙ then)) ∙ at)
 
   -- ---- an event
 
@@ -233,7 +233,7 @@ module _ {N : Type 0} (port_state : N → View → Type 0) (law : N → N → Vi
     waits = a.waits;
     asked = a.asked;
     same = same ∙ a.same;
-    stays = stays_trans a.old net new w a.on (a.grown w (rw a.on.wires at h)).got (grown w).got a.stays stays;
+    stays = stays_trans asking a.old net new w a.on (a.grown w (rw a.on.wires at h)).got (grown w).got a.stays stays;
     minded = a.minded;
     asking_then = a.asking_then;
   }
@@ -296,7 +296,10 @@ module _ {N : Type 0} (port_state : N → View → Type 0) (law : N → N → Vi
           waits = k.waits;
           asked = mark ∙ ap wants k.step;
           same = refl;
-          stays = λ j _ _ _. refl;
+          stays = λ j ins outs same x at.
+              let within : j < length net.nodes = get_within net.nodes j x at in
+              let here : n ≡ j = sym to ∙ (busy.wired.input_to j 0 w within (ap (λ (l : List ℕ). slice_get l 0) ins)).1.0 in
+              subst (λ (i : ℕ). asking x (view_of net i)) here (k.tells x (ap (slice_get net.nodes) here ∙ at));
           minded = rw to minded;
           asking_then = rw to k.tells;
         }
@@ -321,6 +324,31 @@ module _ {N : Type 0} (port_state : N → View → Type 0) (law : N → N → Vi
       later (before net w) (with_node (delivered_on net w d) n y) u within (goes_trans (before net w) (delivered_on net w d) (with_node (delivered_on net w d) n y) (goes_told net w d) (goes_node (delivered_on net w d) n y)) (told_grown net w d h) moved
       (λ k ins outs same. node_elsewhere net n k y (λ e. came_there d net w u k ne wired h (e ∙ to) ins outs same))
       (told_wanted net w d h u) (all u within (subst (λ (m : ℕ). 1 ≤ m) (told_wanted net w d h u) some))
+
+  -- another node stands in the place of one, and tells still what that told as it last pulled
+  pub swap_asked : (net : Net N) (n : ℕ) (x y : N) → n < length net.nodes → slice_get net.nodes n ≡ Some x → ((v : View) → asking x v → asking y v) → MovesGrow moves net (with_node net n y) → AllAsked port_state law asking moves net → AllAsked port_state law asking moves (with_node net n y)
+  swap_asked net n x y h at tells moved all w l some =
+      let last = all w l some in
+      record {
+        old = last.old;
+        on = goes_trans last.old net (with_node net n y) last.on (goes_node net n y);
+        grown = last.grown;
+        moves_on = moves_trans moves last.old net (with_node net n y) last.on last.moves_on moved;
+        sound = last.sound;
+        marked = last.marked;
+        waits = last.waits;
+        asked = last.asked;
+        same = last.same;
+        stays = λ k ins outs got z zi. elim (same_or_not k n) [
+          | inl e ↦
+              let there : slice_get (with_node net n y).nodes n ≡ Some z = ap (slice_get (with_node net n y).nodes) (sym e) ∙ zi in
+              let same : y ≡ z = some_same y z (sym (get_set_same net.nodes n y h) ∙ there) in
+              subst (λ (a : N). asking a (view_of last.old k)) same (tells (view_of last.old k) (last.stays k ins outs got x (ap (slice_get net.nodes) e ∙ at)))
+          | inr ne ↦ last.stays k ins outs got z (sym (node_elsewhere net n k y ne) ∙ zi)
+        ];
+        minded = last.minded;
+        asking_then = last.asking_then;
+      }
 
   -- another node stands in the place of one that has not pulled
   pub node_asked : (net : Net N) (n : ℕ) (y : N) → ((u : ℕ) → u < length net.wires → (ports_at net n).ins ≡ u ∷ [] → 1 ≤ wanted (wire_at net u) → ⊥) → MovesGrow moves net (with_node net n y) → AllAsked port_state law asking moves net → AllAsked port_state law asking moves (with_node net n y)

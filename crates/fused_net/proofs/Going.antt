@@ -151,7 +151,7 @@ module _ {N : Type 0} (port_state : N → View → Type 0) (law : N → N → Vi
       acts_moments port_state law asking moves (with_node old n r.node) n r.acts any (allowed_of port_state law (with_node old n r.node) n r.acts r.busy) r.busy.here (asked_after old new n r) later moments in
       rw r.is (acts_settled port_state law asking moves (with_node old n r.node) n r.acts r.busy later last)
 
-  response_uses : (old new : Net N) (n : ℕ) → Responds port_state law asking moves old new n → Uses old new 0
+  pub response_uses : (old new : Net N) (n : ℕ) → Responds port_state law asking moves old new n → Uses old new 0
   response_uses old new n r =
       let u = acts_uses r.acts (with_node old n r.node) n (busy_any port_state law _ n r.acts r.busy) in
       rw r.is (record { least = u.least; most = u.most; each = u.each })

@@ -14,4 +14,5 @@ pub mod Responding
 pub mod Keeping
 pub mod Poking
 pub mod Still
+pub mod Settling
 pub mod Handling

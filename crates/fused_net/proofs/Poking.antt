@@ -1,26 +1,23 @@
 -- A node that acts outside of its handlers, or from which something is handed out: the graph's laws stand.
-use Rattle.std.proofs.Common.{◌≡◌, ◌≢◌, inl, inr, ℕ, zero, suc, ◌<◌, ◌≤◌, None, Some, List, [], ◌∷◌, ◌++◌, length, map, get_or, slice_get, set, refl, sym, ap, ◌∙◌, subst, arith}
+use Rattle.std.proofs.Common.{◌≡◌, inl, inr, ℕ, zero, suc, ◌<◌, None, Some, List, [], ◌∷◌, length, map, get_or, slice_get, set, refl, sym, ap, ◌∙◌, subst, arith}
 use Rattle.std.specs.Prelude.{Option, IfNone, IfSome}
 use Rattle.std.proofs.lemmas.List.{length-set}
 use Rattle.elem_core.specs.Tree.{Tree}
 use Rattle.elem_core.specs.declared.item.Item.{Item}
-use Rattle.port_core.specs.View.{View, in_at}
+use Rattle.port_core.specs.View.{View}
 use Rattle.port_core.specs.Asking.{PullsStand}
 use Rattle.port_core.specs.declared.act.Act.{Act}
 use Rattle.port_core.specs.declared.act.Act.TheVariants.{Pull, Push, Complete, FailOut, Cancel}
-use Rattle.port_core.specs.declared.view.InView.TheVariants.{Pulled}
 use Rattle.stage_core.specs.Handling.{Pulls}
 use Rattle.stage_core.specs.Handing.{Hands}
-use Rattle.fused_net.specs.PortLists.{PortLists}
-use Rattle.fused_net.specs.declared.net.WireEnds.{WireEnds}
-use Rattle.fused_net.specs.Net.{Net, end_at, port_at, wire_at, ports_at, view_of, took, gave, acted, acted_all, with_node}
-use Rattle.fused_net.specs.Laws.{AnyRow, AnyLaw, IsAsking, MovesGrow, Minds, IsMinded, Settled, Busy, LastAsk, AllAsked, AllMoments, NetGoesOn}
+use Rattle.fused_net.specs.Net.{Net, view_of, took, gave, acted, acted_all, with_node}
+use Rattle.fused_net.specs.Laws.{AnyRow, AnyLaw, IsAsking, MovesGrow, Minds, IsMinded, Settled, Busy, AllAsked, AllMoments, NetGoesOn}
 use Rattle.fused_net.specs.Costs.{Uses}
 use Rattle.fused_net.specs.Poking.{AtNode, HandsAt, TellsPoked}
-use Rattle.fused_net.proofs.Reading.{same_or_not, some_same, get_there, get_set_same, get_set_other}
-use Rattle.fused_net.proofs.Ongoing.{goes_trans, goes_node, goes_acts, nodes-acts}
+use Rattle.fused_net.proofs.Reading.{same_or_not, some_same, get_set_same, get_set_other}
+use Rattle.fused_net.proofs.Ongoing.{goes_node, goes_acts, nodes-acts}
 use Rattle.fused_net.proofs.Acting.{busy_any, acts_settled}
-use Rattle.fused_net.proofs.Asking.{moves_trans, moves_node, asking_kept, after_acts}
+use Rattle.fused_net.proofs.Asking.{moves_node, asking_kept, after_acts, swap_asked}
 use Rattle.fused_net.proofs.Moments.{allowed_of, acts_moments, node_moments}
 use Rattle.fused_net.proofs.Going.{acts_uses}
 use Rattle.fused_net.proofs.Responding.{node_is}
@@ -81,53 +78,17 @@ module _ {N : Type 0} (port_state : N → View → Type 0) (law : N → N → Vi
       })
 
   module _ (gone waits : N → List Item) where
-    -- an input that waits for an element, at the moment of its last ask
-    waiting_at : (net : Net N) (w k : ℕ) → (wire_at net w).wire.inp ≡ Pulled → (ports_at net k).ins ≡ w ∷ [] → in_at (view_of net k) 0 ≡ Pulled
-    waiting_at net w k waits ins = rw ins waits
-
     -- the moves of the nodes only grow
-    hands_moved : (net : Net N) (n : ℕ) (x y : N) (given : List Item) → n < length net.nodes → slice_get net.nodes n ≡ Some x → Hands port_state law moves gone waits x given y → MovesGrow moves net (with_node net n y)
+    hands_moved : (net : Net N) (n : ℕ) (x y : N) (given : List Item) → n < length net.nodes → slice_get net.nodes n ≡ Some x → Hands port_state law asking moves gone waits x given y → MovesGrow moves net (with_node net n y)
     hands_moved net n x y given h at hands = moves_node moves net n y h (λ z zi. let same : x ≡ z = some_same x z (sym at ∙ zi) in rw same at hands.grows)
 
-    hands_asked : (net : Net N) (n : ℕ) (x y : N) (given : List Item) → Settled port_state law asking moves net → n < length net.nodes → slice_get net.nodes n ≡ Some x → Hands port_state law moves gone waits x given y → AllAsked port_state law asking moves (with_node net n y)
-    hands_asked net n x y given s h at hands w l some =
-        let last = s.asked w l some in
-        record {
-          old = last.old;
-          on = goes_trans last.old net (with_node net n y) last.on (goes_node net n y);
-          grown = last.grown;
-          moves_on = moves_trans moves last.old net (with_node net n y) last.on last.moves_on (hands_moved net n x y given h at hands);
-          sound = last.sound;
-          marked = last.marked;
-          waits = last.waits;
-          asked = last.asked;
-          same = last.same;
-          stays = stays last;
-          minded = last.minded;
-          asking_then = last.asking_then;
-        }
-      where
-        stays : (last : LastAsk port_state law asking moves net w) (k : ℕ) → (ports_at last.old k).ins ≡ w ∷ [] → (ports_at last.old k).outs ≡ [] → (wire_at net w).wire.got ≡ (wire_at last.old w).wire.got → slice_get (with_node net n y).nodes k ≡ slice_get last.old.nodes k
-        stays last k ins outs got = elim (same_or_not k n) [
-          | inl e ↦
-              let was : slice_get net.nodes k ≡ slice_get last.old.nodes k = last.stays k ins outs got in
-              let here : slice_get last.old.nodes k ≡ Some x = sym was ∙ ap (slice_get net.nodes) e ∙ at in
-              let ports : ports_at net k ≡ ports_at last.old k = ap (λ (p : List PortLists). port_at p k) last.on.ports in
-              let within : n < length net.firsts = rw s.each_first h in
-              let fewer : n < length last.old.firsts = subst (λ (l : List N). n < length l) last.on.firsts within in
-              let first = get_there last.old.firsts n fewer in
-              let wired = s.wired.input_to k 0 w (rw e h) (rw ports (rw ins refl)) in
-              let target : (end_at last.old.ends w).to ≡ k = ap (λ (q : List WireEnds). (end_at q w).to) (sym last.on.ends) ∙ wired.1.0 in
-              let m : Minds port_state law x first.0 (view_of last.old k) (took last.old k) (gave last.old k) [] = (subst (λ (j : ℕ). IsMinded port_state law last.old j []) target last.minded) x first.0 here (ap (slice_get last.old.firsts) e ∙ first.1) in
-              let same : y ≡ x = hands.still (view_of last.old k) m.port_state_holds (waiting_at last.old w k last.waits ins) in
-              ap (slice_get (set net.nodes n y)) e ∙ get_set_same net.nodes n y h ∙ ap (λ (z : N). Some z) same ∙ sym here
-          | inr ne ↦ get_set_other net.nodes n k y ne ∙ last.stays k ins outs got
-        ]
+    hands_asked : (net : Net N) (n : ℕ) (x y : N) (given : List Item) → Settled port_state law asking moves net → n < length net.nodes → slice_get net.nodes n ≡ Some x → Hands port_state law asking moves gone waits x given y → AllAsked port_state law asking moves (with_node net n y)
+    hands_asked net n x y given s h at hands = swap_asked port_state law asking moves net n x y h at hands.asks (hands_moved net n x y given h at hands) s.asked
 
-    hands_minds : (x y first : N) (given : List Item) (v : View) (t g : List (List Item)) → Hands port_state law moves gone waits x given y → Minds port_state law x first v t g [] → Minds port_state law y first v t g []
+    hands_minds : (x y first : N) (given : List Item) (v : View) (t g : List (List Item)) → Hands port_state law asking moves gone waits x given y → Minds port_state law x first v t g [] → Minds port_state law y first v t g []
     hands_minds x y first given v t g h m = record { allowed = tt; port_state_holds = h.port_state_holds v m.port_state_holds; law_holds = h.law_holds first v t g m.port_state_holds m.law_holds }
 
-    hands_settled : (net : Net N) (n : ℕ) (x y : N) (given : List Item) → Settled port_state law asking moves net → n < length net.nodes → slice_get net.nodes n ≡ Some x → Hands port_state law moves gone waits x given y → Settled port_state law asking moves (with_node net n y)
+    hands_settled : (net : Net N) (n : ℕ) (x y : N) (given : List Item) → Settled port_state law asking moves net → n < length net.nodes → slice_get net.nodes n ≡ Some x → Hands port_state law asking moves gone waits x given y → Settled port_state law asking moves (with_node net n y)
     hands_settled net n x y given s h at hands = record {
       wired = rw length-set s.wired;
       each_first = rw length-set s.each_first;
@@ -145,7 +106,7 @@ module _ {N : Type 0} (port_state : N → View → Type 0) (law : N → N → Vi
     }
 
     -- what the code leaves once it called the node
-    pub handed : (net v new : Net N) (n : ℕ) (x y : N) (given : List Item) → v ≡ net → n < length net.nodes → x ≡ get_or v.nodes n x → Settled port_state law asking moves net → Hands port_state law moves gone waits x given y → new ≡ with_node v n y → (HandsAt gone waits net n given new) × Settled port_state law asking moves new
+    pub handed : (net v new : Net N) (n : ℕ) (x y : N) (given : List Item) → v ≡ net → n < length net.nodes → x ≡ get_or v.nodes n x → Settled port_state law asking moves net → Hands port_state law asking moves gone waits x given y → new ≡ with_node v n y → (HandsAt gone waits net n given new) × Settled port_state law asking moves new
     handed net v new n x y given e h is s hands on =
         let at = node_is net v n x e h is in
         let to : new ≡ with_node net n y = on ∙ ap (λ (a : Net N). with_node a n y) e in
@@ -160,11 +121,11 @@ module _ {N : Type 0} (port_state : N → View → Type 0) (law : N → N → Vi
           λ z zi. ap waits (some_same z x (sym zi ∙ at)) ∙ none.0,
         )
 
-    pub hand_some : (net v new : Net N) (n : ℕ) (x y : N) (r : Option Item) → v ≡ net → n < length net.nodes → x ≡ get_or v.nodes n x → Settled port_state law asking moves net → new ≡ with_node v n y → IfSome r (λ i. Hands port_state law moves gone waits x (i ∷ []) y) → IfSome r (λ i. HandsAt gone waits net n (i ∷ []) new)
+    pub hand_some : (net v new : Net N) (n : ℕ) (x y : N) (r : Option Item) → v ≡ net → n < length net.nodes → x ≡ get_or v.nodes n x → Settled port_state law asking moves net → new ≡ with_node v n y → IfSome r (λ i. Hands port_state law asking moves gone waits x (i ∷ []) y) → IfSome r (λ i. HandsAt gone waits net n (i ∷ []) new)
     hand_some net v new n x y None e h is s on some = tt
     hand_some net v new n x y (Some i) e h is s on some = (handed net v new n x y (i ∷ []) e h is s some on).0
 
-    pub hand_laws : (net v new : Net N) (n : ℕ) (x y : N) (r : Option Item) → v ≡ net → n < length net.nodes → x ≡ get_or v.nodes n x → Settled port_state law asking moves net → new ≡ with_node v n y → IfNone r ((waits x ≡ []) × (y ≡ x)) → IfSome r (λ i. Hands port_state law moves gone waits x (i ∷ []) y) → Settled port_state law asking moves new
+    pub hand_laws : (net v new : Net N) (n : ℕ) (x y : N) (r : Option Item) → v ≡ net → n < length net.nodes → x ≡ get_or v.nodes n x → Settled port_state law asking moves net → new ≡ with_node v n y → IfNone r ((waits x ≡ []) × (y ≡ x)) → IfSome r (λ i. Hands port_state law asking moves gone waits x (i ∷ []) y) → Settled port_state law asking moves new
     hand_laws net v new n x y None e h is s on none some = rw (hand_none net v new n x y None e h is on none).0 s
     hand_laws net v new n x y (Some i) e h is s on none some = (handed net v new n x y (i ∷ []) e h is s some on).1
 

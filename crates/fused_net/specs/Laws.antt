@@ -54,10 +54,15 @@ pub record NetGoesOn {N : Type 0} (old new : Net N) : Type 0 where
   pub wires : length new.wires ≡ length old.wires
 
 -- a node whose one port is the input of wire w is as it was, where that wire brought it nothing since
--- Choice: docs/DECISIONS.md#nodes-that-hear-one-wire
 abbrev pub NodeStays : {N : Type 0} → Net N → Net N → ℕ → Type 0
 NodeStays old new w = (k : ℕ) → (ports_at old k).ins ≡ w ∷ [] → (ports_at old k).outs ≡ [] → (wire_at new w).wire.got ≡ (wire_at old w).wire.got
     → slice_get new.nodes k ≡ slice_get old.nodes k
+
+-- A node whose one port is the input of wire w tells still what it told of its ports then, where that wire brought it nothing since.
+-- Choice: docs/DECISIONS.md#nodes-that-hear-one-wire
+abbrev pub TellsStill : {N : Type 0} → (N → View → Type 0) → Net N → Net N → ℕ → Type 0
+TellsStill {N = N} asking old new w = (k : ℕ) → (ports_at old k).ins ≡ w ∷ [] → (ports_at old k).outs ≡ [] → (wire_at new w).wire.got ≡ (wire_at old w).wire.got
+    → (x : N) → slice_get new.nodes k ≡ Some x → asking x (view_of old k)
 
 -- what a stage tells of its ports whenever it has just pulled, of node n
 abbrev pub IsAsking : {N : Type 0} → (N → View → Type 0) → Net N → ℕ → Type 0
@@ -112,7 +117,7 @@ module _ {N : Type 0} (port_state : N → View → Type 0) (law : N → N → Vi
     pub waits : (wire_at old w).wire.inp ≡ Pulled
     pub asked : (wire_at old w).asked ≡ true
     pub same : wanted (wire_at net w) ≡ wanted (wire_at old w)
-    pub stays : NodeStays old net w
+    pub stays : TellsStill asking old net w
     pub minded : IsMinded port_state law old (end_at old.ends w).to []
     pub asking_then : IsAsking asking old (end_at old.ends w).to
 

@@ -9,6 +9,7 @@ ghost use Rattle.port_core.specs.declared.act.Act.TheVariants as act;
 ghost use Rattle.port_core.specs.declared.conn.Event.TheVariants as events;
 ghost use Rattle.stage_core.specs.declared.stage.TheConstants.{MOST_ACTS};
 ghost use Rattle.stage_core.specs.Handling.{PullsAs, StaysPassive, Handles};
+ghost use Rattle.stage_core.specs.Handing.{cancel_first};
 ghost use Rattle.port_core.specs.Cell.{new_cell, brought_in, Tells};
 ghost use Rattle.fused_net.specs.Net.{acted, acted_all, event_told, put, wire_at, end_at, Able, port_at, node_for, call_for, IsBrought, before, Takes};
 ghost use Rattle.fused_net.specs.declared.queue.TheConstants.{MOST_CHASES};
@@ -717,6 +718,54 @@ impl<S: Stage> Engine<S> {
         ensures uses { Uses self.old self.new 0 }
     {
         self.pull(n as usize, i);
+    }
+
+    // Node n cancels its first input, where it failed, and else does nothing.
+    fn cancel_if(&mut self, n: usize, failed: bool)
+        requires { failed ≡ true → Able self.old n (act.Cancel 0) }
+        ensures { self.new ≡ acted_all self.old n (cancel_first failed) }
+    {
+        if failed {
+            self.cancel(n, 0);
+        }
+    }
+
+    // Node n writes what it has put off, and cancels its first input where that failed.
+    fn put_off_at(&mut self, n: usize)
+        requires laws { Settled S.port_state S.law S.asking S.moves self.old }
+        requires within { n < length self.old.nodes }
+        requires few { all_asks self.old ≤ MOST_COUNT }
+        ensures laws { Settled S.port_state S.law S.asking S.moves self.new }
+        ensures on { NetGoesOn self.old self.new }
+        ensures uses { Uses self.old self.new 0 }
+        ensures gone { map S.gone self.new.nodes ≡ map S.gone self.old.nodes }
+        ensures still { StandsStill S.passive self.old self.new }
+        ensures untouched { Untouched S.passive None self.old self.new }
+        ensures here { AtNode self.new n (λ x. S.late x ≡ 0) }
+        ensures others { (k : ℕ) → k ≢ n → slice_get self.new.nodes k ≡ slice_get self.old.nodes k }
+    {
+        let failed = self.nodes[n].put_off();
+        self.cancel_if(n, failed);
+    }
+
+    // Choice: docs/DECISIONS.md#sinks-write-at-rest
+    /// Each node writes, outside of its handlers, what it has put off, and cancels its first input where that failed: only then is there
+    /// a new event. No passive node hears of anything. It takes no memory and costs no unit.
+    pub fn put_off(&mut self)
+        requires laws { Settled S.port_state S.law S.asking S.moves self.old }
+        requires few { all_asks self.old ≤ MOST_COUNT }
+        ensures laws { Settled S.port_state S.law S.asking S.moves self.new }
+        ensures on { NetGoesOn self.old self.new }
+        ensures uses { Uses self.old self.new 0 }
+        ensures gone { map S.gone self.new.nodes ≡ map S.gone self.old.nodes }
+        ensures still { StandsStill S.passive self.old self.new }
+        ensures untouched { Untouched S.passive None self.old self.new }
+        ensures all { (k : ℕ) → AtNode self.new k (λ x. S.late x ≡ 0) }
+    {
+        let count = self.nodes.len();
+        for n in 0..count {
+            self.put_off_at(n);
+        }
     }
 
     /// Whether no event is left.

@@ -27,29 +27,29 @@ use Rattle.interpreter.specs.Boundary.{BeginsOut, EntersBy, LeavesBy, way_in, wa
 use Rattle.stream_model.specs.Linear.{Book}
 
 module _ {S D L B : Type 0} where
-  entering_becomes : (k : ℕ) (w : Work S D L B) (x : IslandNode S D L B) → BecomesOf k w x → is_lane_in w ≡ true → IsEntering x
-  entering_becomes k (work.LaneIn u) x b e = subst IsEntering (sym b) tt
-  entering_becomes k (work.LaneOut u) x b e = absurd cc
-  entering_becomes k (work.Reading r) x b e = absurd cc
-  entering_becomes k (work.Making r) x b e = absurd cc
-  entering_becomes k (work.Linear r) x b e = absurd cc
-  entering_becomes k (work.State r) x b e = absurd cc
-  entering_becomes k (work.Sub r) x b e = absurd cc
-  entering_becomes k (work.FanIn r n) x b e = absurd cc
-  entering_becomes k (work.FanOut r n) x b e = absurd cc
-  entering_becomes k (work.Writing r d) x b e = absurd cc
+  entering_becomes : (k room : ℕ) (w : Work S D L B) (x : IslandNode S D L B) → BecomesOf k room w x → is_lane_in w ≡ true → IsEntering x
+  entering_becomes k room (work.LaneIn u) x b e = subst IsEntering (sym b) tt
+  entering_becomes k room (work.LaneOut u) x b e = absurd cc
+  entering_becomes k room (work.Reading r) x b e = absurd cc
+  entering_becomes k room (work.Making r) x b e = absurd cc
+  entering_becomes k room (work.Linear r) x b e = absurd cc
+  entering_becomes k room (work.State r) x b e = absurd cc
+  entering_becomes k room (work.Sub r) x b e = absurd cc
+  entering_becomes k room (work.FanIn r n) x b e = absurd cc
+  entering_becomes k room (work.FanOut r n) x b e = absurd cc
+  entering_becomes k room (work.Writing r d) x b e = absurd cc
 
-  leaving_becomes : (k : ℕ) (w : Work S D L B) (x : IslandNode S D L B) → BecomesOf k w x → is_lane_out w ≡ true → IsLeaving x
-  leaving_becomes k (work.LaneOut u) x b e = subst IsLeaving (sym b) tt
-  leaving_becomes k (work.LaneIn u) x b e = absurd cc
-  leaving_becomes k (work.Reading r) x b e = absurd cc
-  leaving_becomes k (work.Making r) x b e = absurd cc
-  leaving_becomes k (work.Linear r) x b e = absurd cc
-  leaving_becomes k (work.State r) x b e = absurd cc
-  leaving_becomes k (work.Sub r) x b e = absurd cc
-  leaving_becomes k (work.FanIn r n) x b e = absurd cc
-  leaving_becomes k (work.FanOut r n) x b e = absurd cc
-  leaving_becomes k (work.Writing r d) x b e = absurd cc
+  leaving_becomes : (k room : ℕ) (w : Work S D L B) (x : IslandNode S D L B) → BecomesOf k room w x → is_lane_out w ≡ true → IsLeaving x
+  leaving_becomes k room (work.LaneOut u) x b e = subst IsLeaving (sym b) tt
+  leaving_becomes k room (work.LaneIn u) x b e = absurd cc
+  leaving_becomes k room (work.Reading r) x b e = absurd cc
+  leaving_becomes k room (work.Making r) x b e = absurd cc
+  leaving_becomes k room (work.Linear r) x b e = absurd cc
+  leaving_becomes k room (work.State r) x b e = absurd cc
+  leaving_becomes k room (work.Sub r) x b e = absurd cc
+  leaving_becomes k room (work.FanIn r n) x b e = absurd cc
+  leaving_becomes k room (work.FanOut r n) x b e = absurd cc
+  leaving_becomes k room (work.Writing r d) x b e = absurd cc
 
   some_is : (x y : IslandNode S D L B) → Some x ≡ Some y → x ≡ y
   some_is x y e = cc
@@ -57,14 +57,14 @@ module _ {S D L B : Type 0} where
   -- the node at a place of a lane's end
   entering_at : (places : List (Seated S D L B)) (nodes : List (IslandNode S D L B)) (n : ℕ) (x : IslandNode S D L B) → AllBecome places nodes → slice_get nodes n ≡ Some x → comes_in places n ≡ true → IsEntering x
   entering_at [] [] n x b e c = absurd cc
-  entering_at (s ∷ ss) (y ∷ ys) zero x b e c = subst IsEntering (some_is y x e) (entering_becomes s.node s.work y b.0 c)
+  entering_at (s ∷ ss) (y ∷ ys) zero x b e c = subst IsEntering (some_is y x e) (entering_becomes s.node s.room s.work y b.0 c)
   entering_at (s ∷ ss) (y ∷ ys) (suc n) x b e c = entering_at ss ys n x b.1 e c
   entering_at [] (y ∷ ys) n x b e c = absurd b
   entering_at (s ∷ ss) [] n x b e c = absurd b
 
   leaving_at : (places : List (Seated S D L B)) (nodes : List (IslandNode S D L B)) (n : ℕ) (x : IslandNode S D L B) → AllBecome places nodes → slice_get nodes n ≡ Some x → goes_out places n ≡ true → IsLeaving x
   leaving_at [] [] n x b e c = absurd cc
-  leaving_at (s ∷ ss) (y ∷ ys) zero x b e c = subst IsLeaving (some_is y x e) (leaving_becomes s.node s.work y b.0 c)
+  leaving_at (s ∷ ss) (y ∷ ys) zero x b e c = subst IsLeaving (some_is y x e) (leaving_becomes s.node s.room s.work y b.0 c)
   leaving_at (s ∷ ss) (y ∷ ys) (suc n) x b e c = leaving_at ss ys n x b.1 e c
   leaving_at [] (y ∷ ys) n x b e c = absurd b
   leaving_at (s ∷ ss) [] n x b e c = absurd b
@@ -142,21 +142,21 @@ module _ {S D L B : Type 0} where
   leaving_passive (node.Writing x) e = absurd e
   leaving_passive (node.Ignoring x) e = absurd e
 
-  leaving_gone : (k : ℕ) (w : Work S D L B) (x : IslandNode S D L B) → BecomesOf k w x → is_lane_out w ≡ true → node_gone x ≡ []
-  leaving_gone k (work.LaneOut u) x b e = ap node_gone b
-  leaving_gone k (work.LaneIn u) x b e = absurd cc
-  leaving_gone k (work.Reading r) x b e = absurd cc
-  leaving_gone k (work.Making r) x b e = absurd cc
-  leaving_gone k (work.Linear r) x b e = absurd cc
-  leaving_gone k (work.State r) x b e = absurd cc
-  leaving_gone k (work.Sub r) x b e = absurd cc
-  leaving_gone k (work.FanIn r n) x b e = absurd cc
-  leaving_gone k (work.FanOut r n) x b e = absurd cc
-  leaving_gone k (work.Writing r d) x b e = absurd cc
+  leaving_gone : (k room : ℕ) (w : Work S D L B) (x : IslandNode S D L B) → BecomesOf k room w x → is_lane_out w ≡ true → node_gone x ≡ []
+  leaving_gone k room (work.LaneOut u) x b e = ap node_gone b
+  leaving_gone k room (work.LaneIn u) x b e = absurd cc
+  leaving_gone k room (work.Reading r) x b e = absurd cc
+  leaving_gone k room (work.Making r) x b e = absurd cc
+  leaving_gone k room (work.Linear r) x b e = absurd cc
+  leaving_gone k room (work.State r) x b e = absurd cc
+  leaving_gone k room (work.Sub r) x b e = absurd cc
+  leaving_gone k room (work.FanIn r n) x b e = absurd cc
+  leaving_gone k room (work.FanOut r n) x b e = absurd cc
+  leaving_gone k room (work.Writing r d) x b e = absurd cc
 
   none_gone_at : (places : List (Seated S D L B)) (nodes : List (IslandNode S D L B)) (n : ℕ) (x : IslandNode S D L B) → AllBecome places nodes → slice_get nodes n ≡ Some x → goes_out places n ≡ true → node_gone x ≡ []
   none_gone_at [] [] n x b e c = absurd cc
-  none_gone_at (s ∷ ss) (y ∷ ys) zero x b e c = ap node_gone (sym (some_is y x e)) ∙ leaving_gone s.node s.work y b.0 c
+  none_gone_at (s ∷ ss) (y ∷ ys) zero x b e c = ap node_gone (sym (some_is y x e)) ∙ leaving_gone s.node s.room s.work y b.0 c
   none_gone_at (s ∷ ss) (y ∷ ys) (suc n) x b e c = none_gone_at ss ys n x b.1 e c
   none_gone_at [] (y ∷ ys) n x b e c = absurd b
   none_gone_at (s ∷ ss) [] n x b e c = absurd b

@@ -70,45 +70,45 @@ IsNew (node.Ignoring x) = ⊤
 IsNew (node.Entering x) = ⊤
 IsNew (node.Leaving x) = ⊤
 
-becomes_new : {S D L B : Type 0} (k : ℕ) (w : Work S D L B) (x : IslandNode S D L B) → BecomesOf k w x → IsNew x
-becomes_new k (work.Reading r) x b = subst IsNew (sym b) refl
-becomes_new k (work.Making kind) x b = subst IsNew (sym b) tt
-becomes_new k (work.Linear l) x b = subst IsNew (sym b) tt
-becomes_new k (work.State l) x b = subst IsNew (sym b) tt
-becomes_new k (work.Sub l) x b = subst IsNew (sym b) tt
-becomes_new k (work.FanIn l n) x b = subst IsNew (sym b) tt
-becomes_new k (work.FanOut l n) x b = subst IsNew (sym b) tt
-becomes_new k (work.Writing kind (Some d)) x b = subst IsNew (sym b) tt
-becomes_new k (work.Writing kind None) x b = subst IsNew (sym b) tt
-becomes_new k (work.LaneIn u) x b = subst IsNew (sym b) tt
-becomes_new k (work.LaneOut u) x b = subst IsNew (sym b) tt
+becomes_new : {S D L B : Type 0} (k room : ℕ) (w : Work S D L B) (x : IslandNode S D L B) → BecomesOf k room w x → IsNew x
+becomes_new k room (work.Reading r) x b = subst IsNew (sym b) refl
+becomes_new k room (work.Making kind) x b = subst IsNew (sym b) tt
+becomes_new k room (work.Linear l) x b = subst IsNew (sym b) tt
+becomes_new k room (work.State l) x b = subst IsNew (sym b) tt
+becomes_new k room (work.Sub l) x b = subst IsNew (sym b) tt
+becomes_new k room (work.FanIn l n) x b = subst IsNew (sym b) tt
+becomes_new k room (work.FanOut l n) x b = subst IsNew (sym b) tt
+becomes_new k room (work.Writing kind (Some d)) x b = subst IsNew (sym b) tt
+becomes_new k room (work.Writing kind None) x b = subst IsNew (sym b) tt
+becomes_new k room (work.LaneIn u) x b = subst IsNew (sym b) tt
+becomes_new k room (work.LaneOut u) x b = subst IsNew (sym b) tt
 
 -- the handle of a work is that of its node
-source_becomes : {S D L B : Type 0} (k : ℕ) (w : Work S D L B) (x : IslandNode S D L B) (rest : List S) → BecomesOf k w x → with_read (node_end x) rest ≡ with_source w rest
-source_becomes k (work.Reading r) x rest b = ap (λ (y : IslandNode _ _ _ _). with_read (node_end y) rest) b
-source_becomes k (work.Making kind) x rest b = ap (λ (y : IslandNode _ _ _ _). with_read (node_end y) rest) b
-source_becomes k (work.Linear l) x rest b = ap (λ (y : IslandNode _ _ _ _). with_read (node_end y) rest) b
-source_becomes k (work.State l) x rest b = ap (λ (y : IslandNode _ _ _ _). with_read (node_end y) rest) b
-source_becomes k (work.Sub l) x rest b = ap (λ (y : IslandNode _ _ _ _). with_read (node_end y) rest) b
-source_becomes k (work.FanIn l n) x rest b = ap (λ (y : IslandNode _ _ _ _). with_read (node_end y) rest) b
-source_becomes k (work.FanOut l n) x rest b = ap (λ (y : IslandNode _ _ _ _). with_read (node_end y) rest) b
-source_becomes k (work.Writing kind (Some d)) x rest b = ap (λ (y : IslandNode _ _ _ _). with_read (node_end y) rest) b
-source_becomes k (work.Writing kind None) x rest b = ap (λ (y : IslandNode _ _ _ _). with_read (node_end y) rest) b
-source_becomes k (work.LaneIn u) x rest b = ap (λ (y : IslandNode _ _ _ _). with_read (node_end y) rest) b
-source_becomes k (work.LaneOut u) x rest b = ap (λ (y : IslandNode _ _ _ _). with_read (node_end y) rest) b
+source_becomes : {S D L B : Type 0} (k room : ℕ) (w : Work S D L B) (x : IslandNode S D L B) (rest : List S) → BecomesOf k room w x → with_read (node_end x) rest ≡ with_source w rest
+source_becomes k room (work.Reading r) x rest b = ap (λ (y : IslandNode _ _ _ _). with_read (node_end y) rest) b
+source_becomes k room (work.Making kind) x rest b = ap (λ (y : IslandNode _ _ _ _). with_read (node_end y) rest) b
+source_becomes k room (work.Linear l) x rest b = ap (λ (y : IslandNode _ _ _ _). with_read (node_end y) rest) b
+source_becomes k room (work.State l) x rest b = ap (λ (y : IslandNode _ _ _ _). with_read (node_end y) rest) b
+source_becomes k room (work.Sub l) x rest b = ap (λ (y : IslandNode _ _ _ _). with_read (node_end y) rest) b
+source_becomes k room (work.FanIn l n) x rest b = ap (λ (y : IslandNode _ _ _ _). with_read (node_end y) rest) b
+source_becomes k room (work.FanOut l n) x rest b = ap (λ (y : IslandNode _ _ _ _). with_read (node_end y) rest) b
+source_becomes k room (work.Writing kind (Some d)) x rest b = ap (λ (y : IslandNode _ _ _ _). with_read (node_end y) rest) b
+source_becomes k room (work.Writing kind None) x rest b = ap (λ (y : IslandNode _ _ _ _). with_read (node_end y) rest) b
+source_becomes k room (work.LaneIn u) x rest b = ap (λ (y : IslandNode _ _ _ _). with_read (node_end y) rest) b
+source_becomes k room (work.LaneOut u) x rest b = ap (λ (y : IslandNode _ _ _ _). with_read (node_end y) rest) b
 
-drain_becomes : {S D L B : Type 0} (k : ℕ) (w : Work S D L B) (x : IslandNode S D L B) (rest : List D) → BecomesOf k w x → with_write (node_end x) rest ≡ with_drain w rest
-drain_becomes k (work.Reading r) x rest b = ap (λ (y : IslandNode _ _ _ _). with_write (node_end y) rest) b
-drain_becomes k (work.Making kind) x rest b = ap (λ (y : IslandNode _ _ _ _). with_write (node_end y) rest) b
-drain_becomes k (work.Linear l) x rest b = ap (λ (y : IslandNode _ _ _ _). with_write (node_end y) rest) b
-drain_becomes k (work.State l) x rest b = ap (λ (y : IslandNode _ _ _ _). with_write (node_end y) rest) b
-drain_becomes k (work.Sub l) x rest b = ap (λ (y : IslandNode _ _ _ _). with_write (node_end y) rest) b
-drain_becomes k (work.FanIn l n) x rest b = ap (λ (y : IslandNode _ _ _ _). with_write (node_end y) rest) b
-drain_becomes k (work.FanOut l n) x rest b = ap (λ (y : IslandNode _ _ _ _). with_write (node_end y) rest) b
-drain_becomes k (work.Writing kind (Some d)) x rest b = ap (λ (y : IslandNode _ _ _ _). with_write (node_end y) rest) b
-drain_becomes k (work.Writing kind None) x rest b = ap (λ (y : IslandNode _ _ _ _). with_write (node_end y) rest) b
-drain_becomes k (work.LaneIn u) x rest b = ap (λ (y : IslandNode _ _ _ _). with_write (node_end y) rest) b
-drain_becomes k (work.LaneOut u) x rest b = ap (λ (y : IslandNode _ _ _ _). with_write (node_end y) rest) b
+drain_becomes : {S D L B : Type 0} (k room : ℕ) (w : Work S D L B) (x : IslandNode S D L B) (rest : List D) → BecomesOf k room w x → with_write (node_end x) rest ≡ with_drain w rest
+drain_becomes k room (work.Reading r) x rest b = ap (λ (y : IslandNode _ _ _ _). with_write (node_end y) rest) b
+drain_becomes k room (work.Making kind) x rest b = ap (λ (y : IslandNode _ _ _ _). with_write (node_end y) rest) b
+drain_becomes k room (work.Linear l) x rest b = ap (λ (y : IslandNode _ _ _ _). with_write (node_end y) rest) b
+drain_becomes k room (work.State l) x rest b = ap (λ (y : IslandNode _ _ _ _). with_write (node_end y) rest) b
+drain_becomes k room (work.Sub l) x rest b = ap (λ (y : IslandNode _ _ _ _). with_write (node_end y) rest) b
+drain_becomes k room (work.FanIn l n) x rest b = ap (λ (y : IslandNode _ _ _ _). with_write (node_end y) rest) b
+drain_becomes k room (work.FanOut l n) x rest b = ap (λ (y : IslandNode _ _ _ _). with_write (node_end y) rest) b
+drain_becomes k room (work.Writing kind (Some d)) x rest b = ap (λ (y : IslandNode _ _ _ _). with_write (node_end y) rest) b
+drain_becomes k room (work.Writing kind None) x rest b = ap (λ (y : IslandNode _ _ _ _). with_write (node_end y) rest) b
+drain_becomes k room (work.LaneIn u) x rest b = ap (λ (y : IslandNode _ _ _ _). with_write (node_end y) rest) b
+drain_becomes k room (work.LaneOut u) x rest b = ap (λ (y : IslandNode _ _ _ _). with_write (node_end y) rest) b
 
 module _ {S D : Type 0} (sources : S → SourceState) (drains : D → DrainState) where
   -- a node that leaves no source leaves none later
@@ -167,13 +167,13 @@ module _ {S D L B : Type 0} (sources : S → SourceState) (drains : D → DrainS
   source_kept (node.Leaving x) y rest n k = ap (map sources) (none_read sources drains (node_end {S = S} {D = D} {L = L} {B = B} (node.Leaving x)) (node_end y) rest (tt {0}) k.ends)
 
   -- one node, which is as it was handed in or has kept its handle
-  source_here : (k : ℕ) (w : Work S D L B) (x y : IslandNode S D L B) (rest : List S) → BecomesOf k w x → ((y ≡ x) ⊎ KeepsNode sources drains x y) → map sources (with_read (node_end y) rest) ≡ map sources (with_source w rest)
-  source_here k w x y rest b (inl e) = ap (λ (z : IslandNode S D L B). map sources (with_read (node_end z) rest)) e ∙ ap (map sources) (source_becomes k w x rest b)
-  source_here k w x y rest b (inr h) = source_kept x y rest (becomes_new k w x b) h ∙ ap (map sources) (source_becomes k w x rest b)
+  source_here : (k room : ℕ) (w : Work S D L B) (x y : IslandNode S D L B) (rest : List S) → BecomesOf k room w x → ((y ≡ x) ⊎ KeepsNode sources drains x y) → map sources (with_read (node_end y) rest) ≡ map sources (with_source w rest)
+  source_here k room w x y rest b (inl e) = ap (λ (z : IslandNode S D L B). map sources (with_read (node_end z) rest)) e ∙ ap (map sources) (source_becomes k room w x rest b)
+  source_here k room w x y rest b (inr h) = source_kept x y rest (becomes_new k room w x b) h ∙ ap (map sources) (source_becomes k room w x rest b)
 
-  drain_here : (k : ℕ) (w : Work S D L B) (x y : IslandNode S D L B) (rest : List D) → BecomesOf k w x → ((y ≡ x) ⊎ KeepsNode sources drains x y) → map drains (with_write (node_end y) rest) ≡ map drains (with_drain w rest)
-  drain_here k w x y rest b (inl e) = ap (λ (z : IslandNode S D L B). map drains (with_write (node_end z) rest)) e ∙ ap (map drains) (drain_becomes k w x rest b)
-  drain_here k w x y rest b (inr h) = drain_kept sources drains (node_end x) (node_end y) rest h.ends ∙ ap (map drains) (drain_becomes k w x rest b)
+  drain_here : (k room : ℕ) (w : Work S D L B) (x y : IslandNode S D L B) (rest : List D) → BecomesOf k room w x → ((y ≡ x) ⊎ KeepsNode sources drains x y) → map drains (with_write (node_end y) rest) ≡ map drains (with_drain w rest)
+  drain_here k room w x y rest b (inl e) = ap (λ (z : IslandNode S D L B). map drains (with_write (node_end z) rest)) e ∙ ap (map drains) (drain_becomes k room w x rest b)
+  drain_here k room w x y rest b (inr h) = drain_kept sources drains (node_end x) (node_end y) rest h.ends ∙ ap (map drains) (drain_becomes k room w x rest b)
 
   pub readers_back : (places : List (Seated S D L B)) (firsts nodes : List (IslandNode S D L B)) → AllBecome places firsts → AllKept (KeepsNode sources drains) firsts nodes → map sources (readers_of nodes) ≡ map sources (sources_in places)
   readers_back [] [] [] b k = refl
@@ -184,7 +184,7 @@ module _ {S D L B : Type 0} (sources : S → SourceState) (drains : D → DrainS
   readers_back (s ∷ ss) (x ∷ xs) (y ∷ ys) b k =
       ap (map sources) (readers_end y ys)
       ∙ read_front sources drains (node_end y) (readers_of ys) (sources_in ss) (readers_back ss xs ys b.1 k.1)
-      ∙ source_here s.node s.work x y (sources_in ss) b.0 k.0
+      ∙ source_here s.node s.room s.work x y (sources_in ss) b.0 k.0
 
   pub writers_back : (places : List (Seated S D L B)) (firsts nodes : List (IslandNode S D L B)) → AllBecome places firsts → AllKept (KeepsNode sources drains) firsts nodes → map drains (writers_of nodes) ≡ map drains (drains_in places)
   writers_back [] [] [] b k = refl
@@ -195,7 +195,7 @@ module _ {S D L B : Type 0} (sources : S → SourceState) (drains : D → DrainS
   writers_back (s ∷ ss) (x ∷ xs) (y ∷ ys) b k =
       ap (map drains) (writers_end y ys)
       ∙ write_front sources drains (node_end y) (writers_of ys) (drains_in ss) (writers_back ss xs ys b.1 k.1)
-      ∙ drain_here s.node s.work x y (drains_in ss) b.0 k.0
+      ∙ drain_here s.node s.room s.work x y (drains_in ss) b.0 k.0
 
   -- all of them
   pub hands_back : (places : List (Seated S D L B)) (firsts nodes : List (IslandNode S D L B)) (e : IslandEnd S D) → AllBecome places firsts → AllKept (KeepsNode sources drains) firsts nodes → e.readers.items ≡ readers_of nodes → e.writers.items ≡ writers_of nodes → HandsBack sources drains places e

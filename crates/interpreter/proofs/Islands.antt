@@ -4,6 +4,8 @@ use Rattle.std.proofs.lemmas.List.{length-map}
 use Rattle.std.proofs.lemmas.Option.{slice_get_within}
 use Rattle.port_core.specs.declared.view.InView.TheVariants.{Idle}
 use Rattle.port_core.specs.declared.view.OutView.TheVariants.{Unpulled}
+use Rattle.nodes.proofs.Sinks.{new_fresh}
+use Rattle.nodes.specs.Kinds.{writes_of}
 use Rattle.nodes.specs.Nodes.{node_fresh, node_port_state, node_law, node_asking, node_moves}
 use Rattle.nodes.specs.declared.node.IslandNode.{IslandNode}
 use Rattle.nodes.specs.declared.node.IslandNode.TheVariants as node
@@ -47,18 +49,18 @@ new_maker k (kind.Range low high) = refl
 new_maker k (kind.Empty b) = refl
 new_maker k _ = refl
 
-becomes_fresh : {S D L B : Type 0} (k : ℕ) (w : Work S D L B) (x : IslandNode S D L B) → IsUnused w → BecomesOf k w x → node_fresh x (record { ins = replicate (work_inputs w) Idle; outs = replicate (work_outputs w) Unpulled })
-becomes_fresh k (Reading r) x u b = rw b (record { phase = refl; drawn = refl; kept = u; port = refl })
-becomes_fresh k (Making kind) x u b = rw b (record { phase = new_maker k kind; port = refl })
-becomes_fresh k (Linear l) x u b = rw b u
-becomes_fresh k (State l) x u b = rw b u
-becomes_fresh k (Sub l) x u b = rw b u
-becomes_fresh k (FanIn l n) x u b = rw b u
-becomes_fresh k (FanOut l n) x u b = rw b u
-becomes_fresh k (Writing kind (Some d)) x u b = rw b (record { started = refl; end = refl; kept = refl; count = refl; port = refl })
-becomes_fresh k (Writing kind None) x u b = rw b (record { started = refl; end = refl; port = refl })
-becomes_fresh k (LaneIn u) x t b = rw b refl
-becomes_fresh k (LaneOut u) x t b = rw b (record { waits = refl; gone = refl; port = refl })
+becomes_fresh : {S D L B : Type 0} (k room : ℕ) (w : Work S D L B) (x : IslandNode S D L B) → IsUnused w → BecomesOf k room w x → node_fresh x (record { ins = replicate (work_inputs w) Idle; outs = replicate (work_outputs w) Unpulled })
+becomes_fresh k room (Reading r) x u b = rw b (record { phase = refl; drawn = refl; kept = u; port = refl })
+becomes_fresh k room (Making kind) x u b = rw b (record { phase = new_maker k kind; port = refl })
+becomes_fresh k room (Linear l) x u b = rw b u
+becomes_fresh k room (State l) x u b = rw b u
+becomes_fresh k room (Sub l) x u b = rw b u
+becomes_fresh k room (FanIn l n) x u b = rw b u
+becomes_fresh k room (FanOut l n) x u b = rw b u
+becomes_fresh k room (Writing kind (Some d)) x u b = rw b (new_fresh k (writes_of kind) _ d)
+becomes_fresh k room (Writing kind None) x u b = rw b (record { started = refl; end = refl; port = refl })
+becomes_fresh k room (LaneIn u) x t b = rw b refl
+becomes_fresh k room (LaneOut u) x t b = rw b (record { waits = refl; gone = refl; port = refl })
 
 -- the node at place n
 fresh_at : {S D L B : Type 0} (places : List (Seated S D L B)) (nodes : List (IslandNode S D L B)) (n : ℕ) (x : IslandNode S D L B) → AllUnused places → AllBecome places nodes → slice_get nodes n ≡ Some x
@@ -66,7 +68,7 @@ fresh_at : {S D L B : Type 0} (places : List (Seated S D L B)) (nodes : List (Is
 fresh_at [] [] n x u b e = absurd cc
 fresh_at [] (y ∷ ys) n x u b e = absurd b
 fresh_at (s ∷ ss) [] n x u b e = absurd b
-fresh_at (s ∷ ss) (y ∷ ys) zero x u b e = let same : y ≡ x = some_same y x e in becomes_fresh s.node s.work x u.0 (subst (λ z. BecomesOf s.node s.work z) same b.0)
+fresh_at (s ∷ ss) (y ∷ ys) zero x u b e = let same : y ≡ x = some_same y x e in becomes_fresh s.node s.room s.work x u.0 (subst (λ z. BecomesOf s.node s.room s.work z) same b.0)
 fresh_at (s ∷ ss) (y ∷ ys) (suc n) x u b e = fresh_at ss ys n x u.1 b.1 e
 
 pub all_fresh : {S D L B : Type 0} (places : List (Seated S D L B)) (nodes : List (IslandNode S D L B)) (ports : List PortLists) → AllUnused places → AllBecome places nodes → IsSized (inputs_at places) (outputs_at places) (length places) ports

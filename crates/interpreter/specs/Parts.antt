@@ -6,6 +6,7 @@ use Rattle.stream_model.specs.declared.kind.Kind.TheVariants.{Ignore}
 use Rattle.stream_model.specs.declared.outcome.EndState.TheVariants.{Unended}
 use Rattle.stage_core.specs.declared.phase.Phase.TheVariants.{New}
 use Rattle.nodes.specs.Kinds.{IsMaker, maker_of, IsFileSink, writes_of}
+use Rattle.nodes.specs.Sink.{new_sink}
 use Rattle.stage_linear.specs.Handling.{LinearFresh}
 use Rattle.stage_state.specs.Handling.{StateFresh}
 use Rattle.line_chain.specs.Line.{line_rest, line_is_open}
@@ -126,31 +127,23 @@ pub record AreParts {S D L B : Type 0} (places : List (Seated S D L B)) (links :
   pub once : IsOnce places links
   pub few : length links < 2 ^ 32
 
--- the node of a work, with its number
-abbrev pub BecomesOf : {S D L B : Type 0} → ℕ → Work S D L B → IslandNode S D L B → Type 0
-BecomesOf k (Reading r) x = x ≡ node.Reading (record { node = k; reader = r; drawn = 0; phase = New })
-BecomesOf k (Making kind) x = x ≡ node.Making (maker_of k kind)
-BecomesOf k (Linear l) x = x ≡ node.Linear l
-BecomesOf k (State l) x = x ≡ node.State l
-BecomesOf k (Sub l) x = x ≡ node.Sub l
-BecomesOf k (FanIn l n) x = x ≡ node.FanIn l
-BecomesOf k (FanOut l n) x = x ≡ node.FanOut l
-BecomesOf k (Writing kind (Some d)) x = x ≡ node.Writing (record {
-  node = k;
-  drain = d;
-  writes = writes_of kind;
-  kept = None;
-  count = 0;
-  started = false;
-  end = Unended;
-})
-BecomesOf k (Writing kind None) x = x ≡ node.Ignoring (record { node = k; started = false; end = Unended })
-BecomesOf k (LaneIn u) x = x ≡ node.Entering (record { wire = u })
-BecomesOf k (LaneOut u) x = x ≡ node.Leaving (record { wire = u; waits = []; gone = [] })
+-- the node of a work, with its number, where it may put so many lines together
+abbrev pub BecomesOf : {S D L B : Type 0} → ℕ → ℕ → Work S D L B → IslandNode S D L B → Type 0
+BecomesOf k room (Reading r) x = x ≡ node.Reading (record { node = k; reader = r; drawn = 0; phase = New })
+BecomesOf k room (Making kind) x = x ≡ node.Making (maker_of k kind)
+BecomesOf k room (Linear l) x = x ≡ node.Linear l
+BecomesOf k room (State l) x = x ≡ node.State l
+BecomesOf k room (Sub l) x = x ≡ node.Sub l
+BecomesOf k room (FanIn l n) x = x ≡ node.FanIn l
+BecomesOf k room (FanOut l n) x = x ≡ node.FanOut l
+BecomesOf k room (Writing kind (Some d)) x = x ≡ node.Writing (new_sink k (writes_of kind) room d)
+BecomesOf k room (Writing kind None) x = x ≡ node.Ignoring (record { node = k; started = false; end = Unended })
+BecomesOf k room (LaneIn u) x = x ≡ node.Entering (record { wire = u })
+BecomesOf k room (LaneOut u) x = x ≡ node.Leaving (record { wire = u; waits = []; gone = [] })
 
 -- the node that stands at a place
 abbrev pub Becomes : {S D L B : Type 0} → Seated S D L B → IslandNode S D L B → Type 0
-Becomes s x = BecomesOf s.node s.work x
+Becomes s x = BecomesOf s.node s.room s.work x
 
 -- the nodes that stand at the places, in order
 abbrev pub AllBecome : {S D L B : Type 0} → List (Seated S D L B) → List (IslandNode S D L B) → Type 0

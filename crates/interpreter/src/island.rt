@@ -5,7 +5,7 @@ ghost use Rattle.fused_net.specs.Net.{wire_at};
 ghost use Rattle.fused_net.specs.Costs.{all_asks, Uses};
 ghost use Rattle.fused_net.specs.Outside.{BreaksAside, StandsStill, Untouched};
 ghost use Rattle.fused_net.specs.declared.queue.TheConstants.{MOST_CHASES};
-ghost use Rattle.nodes.specs.Nodes.{node_fresh, node_port_state, node_law, node_asking, node_moves, node_gone, node_passive, KeepsNode};
+ghost use Rattle.nodes.specs.Nodes.{node_fresh, node_port_state, node_law, node_asking, node_moves, node_gone, node_passive, KeepsNode, NoneLate};
 ghost use Rattle.interpreter.specs.Parts.{AreParts, AllBecome, ends_of, wire_number, seat_place};
 ghost use Rattle.interpreter.specs.Picks.{place_number, pick_of, with_picks, picks_of};
 ghost use Rattle.interpreter.specs.Misfits.{least, found_at, least_of};
@@ -242,6 +242,25 @@ impl<S: Source, D: Drain, L: Logic, B: PlugBook> Island<S, D, L, B> {
         self.used += advance.used;
         self.broken = false;
         Ok(advance)
+    }
+
+    /// Each of its sinks writes the lines that it has put off. Where that fails the sink cancels its input, and only then an event is new.
+    /// It takes no memory and costs no unit.
+    pub fn put_off(&mut self)
+        requires whole { self.old.broken ≡ false }
+        ensures whole { self.new.broken ≡ false }
+        ensures on { NetGoesOn self.old.net self.new.net }
+        ensures numbers { self.new.numbers ≡ self.old.numbers }
+        ensures places { self.new.places ≡ self.old.places }
+        ensures ways { (self.new.ins ≡ self.old.ins) × (self.new.outs ≡ self.old.outs) }
+        ensures gone { map node_gone self.new.net.nodes ≡ map node_gone self.old.net.nodes }
+        ensures still { StandsStill node_passive self.old.net self.new.net }
+        ensures untouched { Untouched node_passive None self.old.net self.new.net }
+        ensures used { self.new.used ≡ self.old.used }
+        ensures uses { Uses self.old.net self.new.net 0 }
+        ensures all { NoneLate self.new.net.nodes }
+    {
+        self.engine.put_off();
     }
 
     /// Each of its connections that has an event waits for its turn: only what is caused from now on may be handled at once. Nothing that

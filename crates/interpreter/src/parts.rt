@@ -91,6 +91,8 @@ impl<S: Source, D: Drain, L: Logic, B: PlugBook> Drop for Work<S, D, L, B> {
 pub struct Seated<S: Source, D: Drain, L: Logic, B: PlugBook> {
     /// The number of its node.
     pub node: u32,
+    /// How many lines it may put together, where it is a sink that writes each: one where no lane leads to it.
+    pub room: u32,
     /// What it does.
     pub work: Work<S, D, L, B>,
 }
@@ -98,7 +100,11 @@ pub struct Seated<S: Source, D: Drain, L: Logic, B: PlugBook> {
 // Dropped by a call, as its work is.
 impl<S: Source, D: Drain, L: Logic, B: PlugBook> Drop for Seated<S, D, L, B> {
     fn drop(self) {
-        let Seated { node: _, work: _ } = self;
+        let Seated {
+            node: _,
+            room: _,
+            work: _,
+        } = self;
     }
 }
 
@@ -123,10 +129,10 @@ pub struct Place {
 }
 
 impl<S: Source, D: Drain, L: Logic, B: PlugBook> Work<S, D, L, B> {
-    // The node of this number, which did nothing yet.
-    fn into_node(self, alloc: Global, node: u32) -> IslandNode<S, D, L, B>
+    // The node of this number, which did nothing yet, and which may put so many lines together.
+    fn into_node(self, alloc: Global, node: u32, room: u32) -> IslandNode<S, D, L, B>
         requires { IsUnused self }
-        ensures { BecomesOf node self result }
+        ensures { BecomesOf node room self result }
     {
         match self {
             Work::Reading(reader) => IslandNode::Reading(LinesSource::new(node, reader)),
@@ -141,7 +147,9 @@ impl<S: Source, D: Drain, L: Logic, B: PlugBook> Work<S, D, L, B> {
             Work::Writing(kind, drain) => {
                 let writes = written(kind);
                 match drain {
-                    Some(drain) => IslandNode::Writing(FileSink::new(alloc, node, writes, drain)),
+                    Some(drain) => {
+                        IslandNode::Writing(FileSink::new(alloc, node, writes, room, drain))
+                    }
                     None => IslandNode::Ignoring(IgnoreSink::new(node)),
                 }
             }
@@ -155,8 +163,8 @@ impl<S: Source, D: Drain, L: Logic, B: PlugBook> Seated<S, D, L, B> {
         requires { IsUnused self.work }
         ensures { Becomes self result }
     {
-        let Seated { node, work } = self;
-        work.into_node(alloc, node)
+        let Seated { node, room, work } = self;
+        work.into_node(alloc, node, room)
     }
 }
 

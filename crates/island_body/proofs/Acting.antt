@@ -239,8 +239,8 @@ module _ {S D L B : Type 0} where
   }
 
   -- none found anything in a whole turn
-  pub idle_turn : (a b c d : Body S D L B) → TookNoneBelow a b (length a.ins.items) → FoundNoneBelow b c (length b.outs.items) → d.island ≡ c.island → d.ins ≡ c.ins → d.outs ≡ c.outs → c.island.net.queue ≡ [] → IsIdle a d
-  idle_turn a b c d f g island_is ins_is outs_is rest = record {
+  pub idle_turn : (a b c d : Body S D L B) → TookNoneBelow a b (length a.ins.items) → FoundNoneBelow b c (length b.outs.items) → d.ins ≡ c.ins → d.outs ≡ c.outs → c.island.net.queue ≡ [] → IsIdle a d
+  idle_turn a b c d f g ins_is outs_is rest = record {
     queue = ap (λ (i : Kept S D L B). i.net.queue) (sym f.island) ∙ (ap (λ (i : Kept S D L B). i.net.queue) (sym g.island) ∙ rest);
     ins = λ k x y ex ey. f.below k x y (slice_get_within a.ins.items k x ex) ex (ap (λ (v : _). slice_get v.items k) (sym g.ins) ∙ (ap (λ (v : _). slice_get v.items k) (sym ins_is) ∙ ey));
     outs = λ k x y ex ey. let there : slice_get b.outs.items k ≡ Some x = ap (λ (v : _). slice_get v.items k) f.outs ∙ ex in g.below k x y (slice_get_within b.outs.items k x there) there (ap (λ (v : _). slice_get v.items k) (sym outs_is) ∙ ey);

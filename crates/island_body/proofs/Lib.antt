@@ -14,3 +14,4 @@ pub mod Wakes
 pub mod Telling
 pub mod Sending
 pub mod Naming
+pub mod Resting

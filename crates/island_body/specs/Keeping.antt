@@ -3,7 +3,7 @@ use Rattle.std.specs.Prelude.{◌≡◌, ◌≢◌, ℕ, ◌+◌, ◌≤◌, Boo
 use Rattle.stream_io.specs.State.{SourceState, DrainState}
 use Rattle.fused_net.specs.Costs.{total_cost}
 use Rattle.fused_net.specs.Laws.{Settled, AllKept}
-use Rattle.nodes.specs.Nodes.{node_port_state, node_law, node_asking, node_moves, KeepsNode}
+use Rattle.nodes.specs.Nodes.{node_port_state, node_law, node_asking, node_moves, KeepsNode, NoneLate}
 use Rattle.lane_core.specs.Ends.{IsSameOut}
 use Rattle.lane_core.specs.Boundary.{IsSameEnd}
 use Rattle.interpreter.specs.Island.{Kept, IslandKeeps}
@@ -36,6 +36,10 @@ module _ {S D L B : Type 0} where
   abbrev pub is_pending : Body S D L B → Bool
   is_pending b = has_some b.island.net.queue
 
+  -- no sink in its island has put lines off
+  abbrev pub NoneLateIn : Body S D L B → Type 0
+  NoneLateIn b = NoneLate b.island.net.nodes
+
   -- A body between two moments of a turn: its island is whole, and each end of a lane stands.
   pub record BodyStands (b : Body S D L B) : Type 0 where
     pub whole : b.island.broken ≡ false
@@ -44,13 +48,15 @@ module _ {S D L B : Type 0} where
     pub table : IsTable b.island (in_wires b.ins.items) (out_wires b.outs.items) b.ways.items
 
   -- A body between two turns: its island keeps its laws, and no end of a lane has anything to do. Each event of its island, each item
-  -- that it took and each find of demand or of a cancel took a unit, and each unit was paid.
+  -- that it took and each find of demand or of a cancel took a unit, and each unit was paid. Where no event is pending no sink has put
+  -- lines off.
   pub record BodyKeeps (sources : S → SourceState) (drains : D → DrainState) (book : Book) (b : Body S D L B) : Type 0 where
     pub laws : IslandKeeps sources drains book b.island.net b.island.used
     pub stands : BodyStands b
     pub served : AllDone b.island b.ins.items b.outs.items
     pub charged : b.island.used + (all_taken b.ins.items + all_finds b.outs.items) ≤ b.spent
     pub paid : b.spent ≤ cost_of b
+    pub calm : is_pending b ≡ false → NoneLateIn b
 
   -- An island that has started, and ends of lanes that stand there: each at a stage and at a connection of its own, as at the start. No
   -- item was taken, and neither demand nor a cancel was found.

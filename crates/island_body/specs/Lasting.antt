@@ -276,6 +276,7 @@ module _ {S D L B : Type 0} where
         served = rw m.island (done_met a c a.island m k.served);
         charged = rw (m.island, m.spent, taken_is, finds_is) k.charged;
         paid = rw (m.island, m.spent, taken_is, finds_is) k.paid;
+        calm = rw m.island k.calm;
       }
 
   -- a body that only met has an event pending where it had one

@@ -14,7 +14,7 @@ ghost use Rattle.island_body.specs.declared.output.OutputBoundary as outputs;
 ghost use Rattle.island_body.specs.declared.input.IslandInput as inputs;
 ghost use Rattle.interpreter.specs.Boundary.{way_in, way_out};
 ghost use Rattle.island_body.specs.Ends.{in_wires, out_wires, all_taken, all_finds, AllServed, AllDone, IslandGoes};
-ghost use Rattle.island_body.specs.Keeping.{is_pending, BodyBegins, BodyStands, BodyKeeps, BodyGoes, BodyBreaks, IsIdle, SameLanes};
+ghost use Rattle.island_body.specs.Keeping.{is_pending, NoneLateIn, BodyBegins, BodyStands, BodyKeeps, BodyGoes, BodyBreaks, IsIdle, SameLanes};
 ghost use Rattle.island_body.specs.declared.way.Way.TheVariants.{Inner};
 ghost use Rattle.island_body.specs.Telling.{Wakes, WakesOn};
 ghost use Rattle.island_body.specs.Moving.{TookNoneAt, TookNoneBelow, FoundNoneAt, FoundNoneBelow, OnlyIn, OnlyOut, KeepsLooks, LeftNoneAt, SawAllAt, HasLooked};
@@ -94,6 +94,7 @@ impl<S: Source, D: Drain, L: Logic, B: PlugBook> Body<S, D, L, B> {
         };
         body.serve_ins();
         body.serve_outs();
+        body.put_off();
         body.peers.clear();
         body.island.laws();
         body
@@ -442,10 +443,11 @@ impl<S: Source, D: Drain, L: Logic, B: PlugBook> Body<S, D, L, B> {
         ensures used { IfOk result (λ count. self.new.island.used + used ≡ self.old.island.used + count) }
         ensures costs { OnOk result ((all_taken self.new.ins.items ≡ all_taken self.old.ins.items)
             × (all_finds self.new.outs.items ≡ all_finds self.old.outs.items) × (self.new.spent ≡ self.old.spent)) }
-        ensures none { IfOk result (λ count. count ≡ used → used < limit → (self.new ≡ self.old) × (self.old.island.net.queue ≡ [])) }
+        ensures none { IfOk result (λ count. count ≡ used → used < limit → (self.new.ins ≡ self.old.ins) × (self.new.outs ≡ self.old.outs) × (self.old.island.net.queue ≡ [])) }
         ensures looks { OnOk result (KeepsLooks self.old self.new) }
         ensures wakes { OnOk result (WakesOn self.old self.new) }
         ensures rest { IfOk result (λ count. count < limit → (pausing ≡ false) ⊎ (is_pending self.new ≡ false) → self.new.island.net.queue ≡ []) }
+        ensures calm { OnOk result (is_pending self.new ≡ false → NoneLateIn self.new) }
         ensures breaks { OnErr result (BodyBreaks S.state D.state B.lists self.old self.new) }
     {
         // Only what an end of a lane does right behind a handler counts as caused by it.
@@ -457,9 +459,8 @@ impl<S: Source, D: Drain, L: Logic, B: PlugBook> Body<S, D, L, B> {
             }
             let heard = self.step(alloc, limit - count)?;
             count += heard.used;
-            match heard.heard {
-                None => return Ok(count),
-                Some(w) => self.serve_at(w),
+            if self.is_done(heard.heard, limit - count) {
+                return Ok(count);
             }
         }
     }
@@ -475,6 +476,77 @@ impl<S: Source, D: Drain, L: Logic, B: PlugBook> Body<S, D, L, B> {
             && some > 0
             && !self.peers.woken().is_empty()
             && self.is_pending()
+    }
+
+    // What is to be done behind events: the end of a lane that heard of one does what it has to do. Where none did, a turn is done, but
+    // where units are left and a sink failed to write what it had put off.
+    fn is_done(&mut self, heard: Option<u32>, left: u32) -> bool
+        requires within { (w : ℕ) → heard ≡ Some w → w < length self.old.ways.items }
+        requires stands { BodyStands self.old }
+        requires served { AllServed heard (length self.old.ins.items) (length self.old.outs.items) self.old.island self.old.ins.items self.old.outs.items }
+        ensures stands { BodyStands self.new }
+        ensures served { AllDone self.new.island self.new.ins.items self.new.outs.items }
+        ensures goes { BodyGoes self.old self.new }
+        ensures uses { Uses self.old.island.net self.new.island.net 0 }
+        ensures costs { (all_taken self.new.ins.items ≡ all_taken self.old.ins.items) × (all_finds self.new.outs.items ≡ all_finds self.old.outs.items) }
+        ensures rest { (self.new.island.used ≡ self.old.island.used) × (self.new.spent ≡ self.old.spent) }
+        ensures looks { KeepsLooks self.old self.new }
+        ensures wakes { WakesOn self.old self.new }
+        ensures lanes { heard ≡ None → (self.new.ins ≡ self.old.ins) × (self.new.outs ≡ self.old.outs) }
+        ensures done { result ≡ true → (heard ≡ None) × (is_pending self.new ≡ false → NoneLateIn self.new) × (1 ≤ left → is_pending self.new ≡ false) }
+        ensures not_done { result ≡ false → heard ≡ None → (is_pending self.new ≡ true) × (1 ≤ left) }
+    {
+        match heard {
+            Some(w) => {
+                self.serve_at(w);
+                false
+            }
+            None => {
+                let pending = self.put_off();
+                !pending || left == 0
+            }
+        }
+    }
+
+    // Where no event is left, each sink of the island writes the lines that it has put off. The answer says whether an event is pending
+    // then: one is new where a write failed.
+    fn put_off(&mut self) -> bool
+        requires stands { BodyStands self.old }
+        requires served { AllDone self.old.island self.old.ins.items self.old.outs.items }
+        ensures stands { BodyStands self.new }
+        ensures served { AllDone self.new.island self.new.ins.items self.new.outs.items }
+        ensures goes { BodyGoes self.old self.new }
+        ensures pending { result ≡ is_pending self.new }
+        ensures calm { is_pending self.new ≡ false → NoneLateIn self.new }
+        ensures some { is_pending self.old ≡ true → self.new ≡ self.old }
+        ensures uses { Uses self.old.island.net self.new.island.net 0 }
+        ensures used { self.new.island.used ≡ self.old.island.used }
+        ensures lanes { (self.new.ins ≡ self.old.ins) × (self.new.outs ≡ self.old.outs) × (self.new.ways ≡ self.old.ways)
+            × (self.new.spent ≡ self.old.spent) × (self.new.peers ≡ self.old.peers) }
+    {
+        if self.is_pending() {
+            return true;
+        }
+        self.write_off();
+        self.is_pending()
+    }
+
+    // Each of its sinks does.
+    fn write_off(&mut self)
+        requires stands { BodyStands self.old }
+        requires served { AllDone self.old.island self.old.ins.items self.old.outs.items }
+        ensures stands { BodyStands self.new }
+        ensures served { AllDone self.new.island self.new.ins.items self.new.outs.items }
+        ensures goes { BodyGoes self.old self.new }
+        ensures calm { NoneLateIn self.new }
+        ensures uses { Uses self.old.island.net self.new.island.net 0 }
+        ensures used { self.new.island.used ≡ self.old.island.used }
+        ensures lanes { (self.new.ins ≡ self.old.ins) × (self.new.outs ≡ self.old.outs) × (self.new.ways ≡ self.old.ways)
+            × (self.new.spent ≡ self.old.spent) × (self.new.peers ≡ self.old.peers) }
+    {
+        self.island.laws();
+        self.island.put_off();
+        self.island.laws();
     }
 
     // Handles events of the island, up to one of which the stage at an end of a lane has heard.

@@ -50,11 +50,11 @@ whole_links n ws = nears_from (n + lanes_in ws) 0 ws ++ fars_from n 0 ws
 
 -- the stage at which a lane comes in
 abbrev pub in_seat : {S D L B : Type 0} → LanePlan → Seated S D L B
-in_seat l = record { node = 0; work = LaneIn l.wire }
+in_seat l = record { node = 0; room = 1; work = LaneIn l.wire }
 
 -- the stage at which a lane goes out
 abbrev pub out_seat : {S D L B : Type 0} → LanePlan → Seated S D L B
-out_seat l = record { node = 0; work = LaneOut l.wire }
+out_seat l = record { node = 0; room = 1; work = LaneOut l.wire }
 
 -- what stands at all places: the nodes, behind them where lanes come in, and behind these where they go out
 abbrev pub whole_seats : {S D L B : Type 0} → List (Seated S D L B) → List LanePlan → List (Seated S D L B)

@@ -71,12 +71,14 @@ pub fn whole_seats<S: Source, D: Drain, L: Logic, B: PlugBook>(
     'entries: for lane in lanes {
         all.push_reserved(Seated {
             node: 0,
+            room: 1,
             work: Work::LaneIn(lane.wire),
         });
     }
     'exits: for lane in lanes {
         all.push_reserved(Seated {
             node: 0,
+            room: 1,
             work: Work::LaneOut(lane.wire),
         });
     }

@@ -1,3 +1,4 @@
+pub mod LaneRooms
 mod Lying
 pub mod LaneMaking
 pub mod Numbered

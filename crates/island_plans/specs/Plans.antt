@@ -18,16 +18,17 @@ use Rattle.island_parts.specs.Whole.{AreNodes, own_links, whole_homes, whole_lin
 use Rattle.materializer.specs.Fit.{CanRun}
 use Rattle.materializer.specs.Graphs.{chains_of}
 use Rattle.materializer.specs.Board.{IsBoard, AreAtSwitches}
-use Rattle.materializer.specs.Planned.{ArePlanned, places_from, planned_seat, planned_plan}
-use Rattle.materializer.specs.Seats.{AreSeats, place_seat}
+use Rattle.materializer.specs.Planned.{ArePlanned, places_from, planned_seat, planned_plan, planned_room}
+use Rattle.materializer.specs.Seats.{AreSeats, place_seat, place_room}
 use Rattle.island_plans.specs.Ends.{AreEndHomes}
 use Rattle.island_plans.specs.Homes.{AreNumberedHomes}
+use Rattle.island_plans.specs.Rooms.{rooms_by}
 use Rattle.island_plans.specs.declared.plans.Filled.{Filled}
 use Rattle.island_plans.specs.declared.plans.Plans.{Plans}
 
 -- the plans of the islands of their blueprint, which can be run: its seats, the memory of all islands, an empty list with room for
 -- its nodes and for both ends of each lane, the lanes, the islands of its nodes and of what their ends list, and the board of its
--- kill switches, at which its seats are
+-- kill switches, at which its seats are; each seat may put as many lines together as its wire lets
 pub record IsPlans {S D L B : Type 0} (p : Plans S D L B) : Type 0 where
   pub runs : CanRun p.blueprint.value
   pub homes_are : AreNumberedHomes (length p.blueprint.value.nodes.items) p.count (blueprint_wires p.blueprint.value) p.homes.items
@@ -37,6 +38,7 @@ pub record IsPlans {S D L B : Type 0} (p : Plans S D L B) : Type 0 where
   pub split : IsSplit p.homes.items p.count (blueprint_wires p.blueprint.value) (places_from 0 p.blueprint.value.nodes.items) p.split
   pub board_is : IsBoard (map (λ (n : Node). n.kind) p.blueprint.value.nodes.items) p.board
   pub at_switches : AreAtSwitches (map (λ (n : Node). n.kind) p.blueprint.value.nodes.items) p.board (map planned_seat p.seats.items)
+  pub rooms : map planned_room p.seats.items ≡ rooms_by (length p.blueprint.value.nodes.items) (blueprint_wires p.blueprint.value)
   pub empty : p.places.items ≡ []
   pub room_for_places : vec_len p.seats + length p.lanes.items + length p.lanes.items ≤ vec_capacity p.places
 
@@ -65,6 +67,7 @@ pub record IsFilled {S D L B : Type 0} (b : Blueprint) (sources : List S) (drain
   pub ends_are : AreEndHomes f.homes.items b.nodes.items (blueprint_wires b) f.ends
   pub board_is : IsBoard (map (λ (n : Node). n.kind) b.nodes.items) f.board
   pub at_switches : AreAtSwitches (map (λ (n : Node). n.kind) b.nodes.items) f.board (map place_seat nodes)
+  pub rooms : map place_room nodes ≡ rooms_by (length b.nodes.items) (blueprint_wires b)
   pub many : length f.islands.items ≡ f.count
   pub each : (k : ℕ) (x : Parts S D L B × IslandRoom S D L B) → slice_get f.islands.items k ≡ Some x
       → IsIslandOf f.homes.items (blueprint_wires b) f.lanes.items nodes k x

@@ -1,7 +1,7 @@
 //! The plans of a blueprint's islands, the ends of their lanes, and the bodies that are made of both.
 //!
 //! - `lane_ends`, `lane_make`, `share`: Both ends of every lane of a blueprint are made, and lie by its islands.
-//! - `ends`, `homes`, `plans`: The islands of a blueprint: all that they take of memory before its files are opened, and their parts.
+//! - `ends`, `homes`, `plans`, `rooms`: The islands of a blueprint: all that they take of memory before its files are opened, and their parts.
 //! - `asked`, `body_make`, `peers`, `room`: The bodies of all islands of a blueprint are made, and taken apart.
 //!
 //! # The islands of a blueprint's parts
@@ -22,4 +22,5 @@ mod lane_make;
 pub mod peers;
 pub mod plans;
 pub mod room;
+mod rooms;
 mod share;

@@ -10,6 +10,7 @@ ghost use Rattle.materializer.specs.HandedPlugs.{GivesAsListed, HasPlugs};
 
 use crate::ends::end_homes;
 use crate::homes::{copy_of, homes_of_links};
+use crate::rooms::rooms_of;
 use blue_check::lanes::lanes_of;
 use blue_check::plan::LanePlan;
 use blue_names::links::links_of;
@@ -126,8 +127,10 @@ pub fn plans_of<S: Source, D: Drain, L: Logic, B: PlugBook>(
     let split = split_of(alloc, nodes, &wires, own, count, &lanes)?;
     let (board, switches) = Board::of(alloc, &b.nodes)?;
     let handed = hand_out::<L, B>(alloc, &b.nodes, plugs)?;
+    let many = b.nodes.len();
+    let rooms = rooms_of(alloc, many, &wires)?;
     let unseated = b.nodes;
-    let seats = seat_all(alloc, &b.chains, unseated, switches, handed, plans)?;
+    let seats = seat_all(alloc, &b.chains, unseated, rooms, switches, handed, plans)?;
     let places = Vec::with_capacity(alloc, all_places(seats.len(), lanes.len())?)?;
     Ok(Plans {
         seats,

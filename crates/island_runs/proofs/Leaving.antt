@@ -494,22 +494,22 @@ module _ {S D L B : Type 0} where
   writing_leaves : (shape : Kind) (y : Sink D) → IsFileSink shape → LeavesBy {S = S} {D = D} {L = L} {B = B} shape (node.Writing y)
   writing_leaves shape y is = let f = file_sink shape is in record { sinks = sym f.sinks; picks = sym f.picked; seats = sym f.shut; handles = record { readers = sym f.reads; writers = sym f.writes } }
 
-  work_leaves : (chains : List graph.Chain) (k m : ℕ) (n : blue.Node) (ss : List S) (ds : List D) (w : Work S D L B) (x : IslandNode S D L B) → IsWork chains k n ss ds w → BecomesOf m w x → LeavesBy n.kind x
-  work_leaves chains k m n ss ds (work.Reading r) x is b = let l = reads_lines n.kind ss r.source is.source in subst (λ (y : IslandNode S D L B). LeavesBy n.kind y) (sym b) (reading_leaves n.kind l.0 _ l.1)
-  work_leaves chains k m n ss ds (work.Making shape) x is b = let p = maker_plain n.kind is.is_maker in subst (λ (y : IslandNode S D L B). LeavesBy n.kind y) (sym b) (inner n.kind (node.Making (maker_of m shape)) refl refl refl (sym p.1) (sym (maker_unseated n.kind is.is_maker)) p.0)
-  work_leaves chains k m n ss ds (work.Linear l) x is b = let p = linear_plain n.kind is.is_linear in subst (λ (y : IslandNode S D L B). LeavesBy n.kind y) (sym b) (inner n.kind (node.Linear l) refl refl refl (sym p.1) (sym (linear_unseated n.kind is.is_linear)) p.0)
-  work_leaves chains k m n ss ds (work.State l) x is b =
+  work_leaves : (chains : List graph.Chain) (k m room : ℕ) (n : blue.Node) (ss : List S) (ds : List D) (w : Work S D L B) (x : IslandNode S D L B) → IsWork chains k n ss ds w → BecomesOf m room w x → LeavesBy n.kind x
+  work_leaves chains k m room n ss ds (work.Reading r) x is b = let l = reads_lines n.kind ss r.source is.source in subst (λ (y : IslandNode S D L B). LeavesBy n.kind y) (sym b) (reading_leaves n.kind l.0 _ l.1)
+  work_leaves chains k m room n ss ds (work.Making shape) x is b = let p = maker_plain n.kind is.is_maker in subst (λ (y : IslandNode S D L B). LeavesBy n.kind y) (sym b) (inner n.kind (node.Making (maker_of m shape)) refl refl refl (sym p.1) (sym (maker_unseated n.kind is.is_maker)) p.0)
+  work_leaves chains k m room n ss ds (work.Linear l) x is b = let p = linear_plain n.kind is.is_linear in subst (λ (y : IslandNode S D L B). LeavesBy n.kind y) (sym b) (inner n.kind (node.Linear l) refl refl refl (sym p.1) (sym (linear_unseated n.kind is.is_linear)) p.0)
+  work_leaves chains k m room n ss ds (work.State l) x is b =
       subst (λ (y : IslandNode S D L B). LeavesBy n.kind y) (sym b) (inner n.kind (node.State l) refl refl refl (state_chooses k n.kind n.decider l is.begins.as_kind) (state_seats k n.kind n.decider l is.begins.as_kind) (state_plain n.kind is.is_state))
-  work_leaves chains k m n ss ds (work.Sub l) x is b =
+  work_leaves chains k m room n ss ds (work.Sub l) x is b =
       subst (λ (y : IslandNode S D L B). LeavesBy n.kind y) (sym b) (inner n.kind (node.Sub l) refl refl refl (sub_chooses k n.kind l.logic.chain l.logic is.begins.as_kind) (sym (sub_unseated n.kind is.is_sub)) (sub_plain n.kind is.is_sub))
-  work_leaves chains k m n ss ds (work.FanIn l inputs) x is b =
+  work_leaves chains k m room n ss ds (work.FanIn l inputs) x is b =
       subst (λ (y : IslandNode S D L B). LeavesBy n.kind y) (sym b) (inner n.kind (node.FanIn l) refl refl refl (fan_in_chooses n.kind l is.begins.takes) (sym (fan_in_unseated n.kind is.is_in)) (fan_in_plain n.kind is.is_in))
-  work_leaves chains k m n ss ds (work.FanOut l outputs) x is b =
+  work_leaves chains k m room n ss ds (work.FanOut l outputs) x is b =
       subst (λ (y : IslandNode S D L B). LeavesBy n.kind y) (sym b) (inner n.kind (node.FanOut l) refl refl refl (fan_out_chooses k n.kind l is.begins.as_kind) (sym (fan_out_unseated n.kind is.is_out)) (fan_out_plain n.kind is.is_out))
-  work_leaves chains k m n ss ds (work.LaneIn u) x is b = absurd is
-  work_leaves chains k m n ss ds (work.LaneOut u) x is b = absurd is
-  work_leaves chains k m n ss ds (work.Writing shape (Some d)) x is b = subst (λ (y : IslandNode S D L B). LeavesBy n.kind y) (sym b) (writing_leaves n.kind _ is.is_sink)
-  work_leaves chains k m n ss ds (work.Writing shape None) x is b = subst (λ (y : IslandNode S D L B). LeavesBy n.kind y) (sym b) (ignoring_leaves n.kind _ is.is_ignore)
+  work_leaves chains k m room n ss ds (work.LaneIn u) x is b = absurd is
+  work_leaves chains k m room n ss ds (work.LaneOut u) x is b = absurd is
+  work_leaves chains k m room n ss ds (work.Writing shape (Some d)) x is b = subst (λ (y : IslandNode S D L B). LeavesBy n.kind y) (sym b) (writing_leaves n.kind _ is.is_sink)
+  work_leaves chains k m room n ss ds (work.Writing shape None) x is b = subst (λ (y : IslandNode S D L B). LeavesBy n.kind y) (sym b) (ignoring_leaves n.kind _ is.is_ignore)
 
   -- a node that began as what was handed in for node j leaves what the kind of that says
   pub seat_leaves : (chains : List graph.Chain) (k : ℕ) (ns : List blue.Node) (ss : List S) (ds : List D) (ps : List (Seated S D L B)) (j : ℕ) (n : blue.Node) (p : Seated S D L B) (x : IslandNode S D L B)
@@ -519,5 +519,5 @@ module _ {S D L B : Type 0} where
   seat_leaves chains k (m ∷ ns) ss ds (q ∷ ps) zero n p x a en ep b =
       let e : m ≡ n = cc in
       let f : q ≡ p = cc in
-      subst (λ (z : blue.Node). LeavesBy z.kind x) e (work_leaves chains k q.node m ss ds q.work x a.1.0 (subst (λ (z : Seated S D L B). Becomes z x) (sym f) b))
+      subst (λ (z : blue.Node). LeavesBy z.kind x) e (work_leaves chains k q.node q.room m ss ds q.work x a.1.0 (subst (λ (z : Seated S D L B). Becomes z x) (sym f) b))
   seat_leaves chains k (m ∷ ns) ss ds (q ∷ ps) (suc j) n p x a en ep b = seat_leaves chains (k + 1) ns _ _ ps j n p x a.1.1 en ep b

@@ -26,4 +26,5 @@ pub mod Preparing
 pub mod Running
 pub mod Settling
 pub mod Cancelling
+pub mod Calm
 pub mod Stopping

@@ -78,24 +78,24 @@ node_stays sources drains book chains k n (node.Leaving f) x v took gave made la
 node_stays sources drains book chains k n first now v took gave made law = absurd law
 
 -- the node that stands at a place has the seat that was handed in for it
-work_seat : {S D L B : Type 0} (k : ℕ) (w : Work S D L B) (x : IslandNode S D L B) → BecomesOf k w x → place_seat (record { node = k; work = w }) ≡ node_seat x
-work_seat k (work.Reading r) x is = sym (ap node_seat is)
-work_seat k (work.Making shape) x is = sym (ap node_seat is)
-work_seat k (work.Linear l) x is = sym (ap node_seat is)
-work_seat k (work.State l) x is = sym (ap node_seat is)
-work_seat k (work.Sub l) x is = sym (ap node_seat is)
-work_seat k (work.FanIn l n) x is = sym (ap node_seat is)
-work_seat k (work.FanOut l n) x is = sym (ap node_seat is)
-work_seat k (work.Writing shape (Some d)) x is = sym (ap node_seat is)
-work_seat k (work.Writing shape None) x is = sym (ap node_seat is)
-work_seat k (work.LaneIn u) x is = sym (ap node_seat is)
-work_seat k (work.LaneOut u) x is = sym (ap node_seat is)
+work_seat : {S D L B : Type 0} (k room : ℕ) (w : Work S D L B) (x : IslandNode S D L B) → BecomesOf k room w x → place_seat (record { node = k; room = room; work = w }) ≡ node_seat x
+work_seat k room (work.Reading r) x is = sym (ap node_seat is)
+work_seat k room (work.Making shape) x is = sym (ap node_seat is)
+work_seat k room (work.Linear l) x is = sym (ap node_seat is)
+work_seat k room (work.State l) x is = sym (ap node_seat is)
+work_seat k room (work.Sub l) x is = sym (ap node_seat is)
+work_seat k room (work.FanIn l n) x is = sym (ap node_seat is)
+work_seat k room (work.FanOut l n) x is = sym (ap node_seat is)
+work_seat k room (work.Writing shape (Some d)) x is = sym (ap node_seat is)
+work_seat k room (work.Writing shape None) x is = sym (ap node_seat is)
+work_seat k room (work.LaneIn u) x is = sym (ap node_seat is)
+work_seat k room (work.LaneOut u) x is = sym (ap node_seat is)
 
 places_seats : {S D L B : Type 0} (places : List (Seated S D L B)) (firsts : List (IslandNode S D L B)) → AllBecome places firsts → map place_seat places ≡ map node_seat firsts
 places_seats [] [] all = refl
 places_seats [] (x ∷ xs) all = absurd all
 places_seats (p ∷ ps) [] all = absurd all
-places_seats (p ∷ ps) (x ∷ xs) all = let one = work_seat p.node p.work x all.0 in let rest = places_seats ps xs all.1 in cc
+places_seats (p ∷ ps) (x ∷ xs) all = let one = work_seat p.node p.room p.work x all.0 in let rest = places_seats ps xs all.1 in cc
 
 -- ---- so all stay at their switches
 

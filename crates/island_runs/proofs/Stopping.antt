@@ -1,7 +1,8 @@
 -- What bodies that ran leave is what a run of their blueprint leaves.
 use Rattle.std.specs.Prelude.{slice_get}
 use Rattle.std.specs.List.{All}
-use Rattle.std.proofs.Common.{◌≡◌, ℕ, ◌+◌, ◌≤◌, Bool, true, false, IsTrue, List, length, map, refl, sym, ap, ◌∙◌, subst}
+use Rattle.std.proofs.Common.{◌≡◌, ℕ, ◌+◌, ◌≤◌, Bool, true, false, IsTrue, List, length, map, Some, refl, sym, ap, ◌∙◌, subst}
+use Rattle.std.proofs.lemmas.Option.{slice_get_within}
 use Rattle.blue_check.specs.Wires.{blueprint_wires}
 use Rattle.stream_model.specs.declared.blueprint.Blueprint.{Blueprint}
 use Rattle.stream_model.specs.declared.blueprint.Node as blue
@@ -12,6 +13,8 @@ use Rattle.stream_model.specs.Shape.{count_needed}
 use Rattle.port_core.specs.Cell.{WireState}
 use Rattle.nodes.specs.Nodes.{KeepsNode, node_seat}
 use Rattle.nodes.specs.declared.node.IslandNode.{IslandNode}
+use Rattle.nodes.specs.declared.node.IslandNode.TheVariants.{Writing}
+use Rattle.nodes.specs.Sink.{Sink, sink_late}
 use Rattle.fused_net.specs.Laws.{AllKept}
 use Rattle.interpreter.specs.Island.{readers_of, writers_of}
 use Rattle.stream_model.specs.Composed.{count_from}
@@ -23,7 +26,9 @@ use Rattle.run_laws.specs.Account.{Account, IsStill}
 use Rattle.run_laws.specs.Pictures.{picture_counts}
 use Rattle.run_laws.specs.Runs.{IsRun}
 use Rattle.materializer.specs.Graphs.{graph_of, chains_of}
-use Rattle.materializer.specs.Seats.{AreSeats, place_seat}
+use Rattle.materializer.specs.Seats.{AreSeats, place_seat, place_room}
+use Rattle.island_plans.specs.Rooms.{rooms_by}
+use Rattle.island_runs.proofs.Calm.{rooms_are}
 use Rattle.bodies_run.specs.Leaving.{AreLeft, of_lists}
 use Rattle.bodies_run.proofs.Alone.{run_alone, still_alone, counts_alone}
 use Rattle.bodies_run.specs.Counts.{all_sent, taken_off}
@@ -67,11 +72,11 @@ module _ {S D L B : Type 0} (sources : S → SourceState) (drains : D → DrainS
   }
 
   -- bodies that were taken apart between two events, where the seats that their nodes left were settled
-  pub leaves : (budget : ℕ) (s : Stopped S D) (e : IslandEnd S D) (near : ℕ → WireState) → (s.at_rest ≡ true → IsStill (graph_of b) acc) → CancelsCross (graph_of b) acc → IsLeftBy (blueprint_wires b) near last e → s.end ≡ record e { seats = s.end.seats }
+  pub leaves : (budget : ℕ) (s : Stopped S D) (e : IslandEnd S D) (near : ℕ → WireState) → (s.at_rest ≡ true → IsStill (graph_of b) acc) → map place_room nodes ≡ rooms_by (length b.nodes.items) (blueprint_wires b) → (s.at_rest ≡ true → (k : ℕ) (f : Sink D) → acc.nodes k ≡ Some (Writing f) → sink_late f ≡ 0) → CancelsCross (graph_of b) acc → IsLeftBy (blueprint_wires b) near last e → s.end ≡ record e { seats = s.end.seats }
       → AllSettled (map (λ (n : blue.Node). n.kind) b.nodes.items) (seat_in (map node_seat last)) → s.wires.items ≡ picture_counts acc (graph_of b) → s.used ≤ budget → (s.at_rest ≡ false → s.used ≡ budget)
       → all_sent (picture_counts acc (graph_of b)) + taken_off (blueprint_wires b) (picture_counts acc (graph_of b)) ≤ s.used → s.used + length (blueprint_wires b) ≤ count_needed (graph_of b) (picture_counts acc (graph_of b)) → (l : RunLeaves L B sources drains book b ss ds budget s) × (l.moment.places ≡ nodes)
   unfolding moment
-  leaves budget s e near still cancels l same_end settled wires within spent least most = (
+  leaves budget s e near still rooms calm cancels l same_end settled wires within spent least most = (
     record {
       account = alone;
       nodes = last;
@@ -79,6 +84,8 @@ module _ {S D L B : Type 0} (sources : S → SourceState) (drains : D → DrainS
       still = λ h. still_alone (graph_of b) acc left.firsts last (still (is_so s.at_rest h));
       settled = settled_run b last alone (λ (k : ℕ). refl) settled;
       cancels = cancels;
+      roomed = λ k u v first at wire to one. rooms_are nodes left.firsts (length b.nodes.items) (blueprint_wires b) left.become rooms k u v first at wire to one;
+      none_late = λ h k now at. calm (is_so s.at_rest h) k now (left.node_at k (slice_get_within last k (Writing now) at) ∙ at);
       sinks = ap (λ (x : IslandEnd S D). x.sinks.items) same_end ∙ l.sinks;
       picks = ap (λ (x : IslandEnd S D). map pick_of x.picks.items) same_end ∙ l.picks;
       misfit = subst (λ (x : IslandEnd S D). IsLeast (FindsMisfit (count_from 0 (length last)) last) x.misfit) (sym same_end) l.misfit;

@@ -13,6 +13,7 @@ use Rattle.dispatcher.specs.Broken.{WholeOrBroken}
 use Rattle.lane_core.specs.Bodies.{AllOf, EachOf}
 use Rattle.lane_core.specs.Crossings.{AreCrossings, AllJoined, AtRest}
 use Rattle.lane_core.specs.declared.crossing.Crossing.{Crossing}
+use Rattle.island_plans.specs.Rooms.{rooms_by}
 use Rattle.island_plans.specs.LaneEnds.{AreRising}
 use Rattle.island_parts.specs.Room.{IsRoomForEnds}
 use Rattle.island_plans.specs.Ends.{AreEndHomes}
@@ -23,7 +24,7 @@ use Rattle.island_body.specs.declared.body.Body.{Body}
 use Rattle.bodies_run.specs.Bodies.{AreBodiesOf}
 use Rattle.bodies_run.specs.Begun.{AreNumberedBodies, AreAligned}
 use Rattle.materializer.specs.Graphs.{graph_of, chains_of}
-use Rattle.materializer.specs.Seats.{AreSeats, place_seat}
+use Rattle.materializer.specs.Seats.{AreSeats, place_seat, place_room}
 use Rattle.materializer.specs.Board.{IsBoard, AreAtSwitches}
 use Rattle.island_runs.specs.declared.run.Remains.{Remains}
 use Rattle.stream_model.specs.Linear.{Book}
@@ -60,6 +61,7 @@ module _ {S D L B : Type 0} (sources : S → SourceState) (drains : D → DrainS
     pub room_to_count : length (blueprint_wires b) ≤ vec_capacity r.counts
     pub board_is : IsBoard (map (λ (n : Node). n.kind) b.nodes.items) r.board
     pub at_switches : AreAtSwitches (map (λ (n : Node). n.kind) b.nodes.items) r.board (map place_seat nodes)
+    pub rooms : map place_room nodes ≡ rooms_by (length b.nodes.items) (blueprint_wires b)
 
   -- They ran, and these are they now: so many units of a budget were used, and no body has an event where it says so; else all
   -- units were used.

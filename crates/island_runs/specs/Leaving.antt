@@ -10,7 +10,9 @@ use Rattle.port_core.specs.declared.view.InView.TheVariants.{Cancelled}
 use Rattle.port_core.specs.declared.view.OutView.TheVariants as outlet
 use Rattle.stream_io.specs.State.{SourceState, DrainState}
 use Rattle.nodes.specs.declared.node.IslandNode.{IslandNode}
+use Rattle.nodes.specs.declared.node.IslandNode.TheVariants.{Writing}
 use Rattle.nodes.specs.Nodes.{KeepsNode}
+use Rattle.nodes.specs.Sink.{Sink, sink_late, sink_room}
 use Rattle.fused_net.specs.Laws.{AllKept}
 use Rattle.interpreter.specs.declared.island.IslandEnd.{IslandEnd}
 use Rattle.interpreter.specs.declared.parts.Seated.{Seated}
@@ -23,7 +25,7 @@ use Rattle.run_laws.specs.Pictures.{picture_counts}
 use Rattle.run_laws.specs.Runs.{IsRun}
 use Rattle.run_laws.specs.Telling.{AreSettled}
 use Rattle.materializer.specs.Graphs.{graph_of, chains_of}
-use Rattle.materializer.specs.Seats.{AreSeats}
+use Rattle.materializer.specs.Seats.{AreSeats, gather_of}
 use Rattle.bodies_run.specs.Counts.{all_sent, taken_off}
 use Rattle.island_runs.specs.declared.run.Stopped.{Stopped}
 use Rattle.island_runs.specs.declared.run.Broken.{Broken}
@@ -49,7 +51,8 @@ CancelsCross g a = (u : ℕ) (v : Edge) (size : ℕ) → slice_get g.wires u ≡
     → (a.far u).wire.out ≡ outlet.Cancelled
 
 -- The run was one of so many units at most, and was taken apart. No event is left where it says so, and else all units were used. The
--- seats of its valves and trips were settled. No lane was cancelled but by the node at its input.
+-- seats of its valves and trips were settled. No lane was cancelled but by the node at its input. A sink to which one wire leads had room
+-- for as many lines as that lets it put together, and where no event is left none has put lines off.
 -- At least so many were used as elements were pushed and were taken off lanes, and one less at least for each wire than its part of the count over what was
 -- sent.
 pub record RunLeaves {S D : Type 0} (L B : Type 0) (sources : S → SourceState) (drains : D → DrainState) (book : Book) (b : Blueprint) (ss : List S)
@@ -60,6 +63,9 @@ pub record RunLeaves {S D : Type 0} (L B : Type 0) (sources : S → SourceState)
   pub still : IsTrue s.at_rest → IsStill (graph_of b) account
   pub settled : AreSettled (graph_of b) account
   pub cancels : CancelsCross (graph_of b) account
+  pub roomed : (k u : ℕ) (v : Edge) (first : Sink D) → account.firsts k ≡ Some (Writing first) → slice_get (blueprint_wires b) u ≡ Some v → v.to ≡ k
+      → ((j : ℕ) (x : Edge) → slice_get (blueprint_wires b) j ≡ Some x → x.to ≡ k → j ≡ u) → first.gather.room ≡ sink_room first.writes (gather_of v.lane)
+  pub none_late : IsTrue s.at_rest → (k : ℕ) (now : Sink D) → account.nodes k ≡ Some (Writing now) → sink_late now ≡ 0
   pub sinks : s.end.sinks.items ≡ sinks_of nodes
   pub picks : map pick_of s.end.picks.items ≡ picks_of (count_from 0 (length nodes)) nodes
   pub misfit : IsLeast (FindsMisfit (count_from 0 (length nodes)) nodes) s.end.misfit

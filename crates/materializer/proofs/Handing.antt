@@ -45,19 +45,19 @@ handed_later (Some file) (y ∷ xs) names x name h = record { place = suc h.plac
 module _ {S D L B : Type 0} where
   -- ---- sources
 
-  reader_at : (chains : List graph.Chain) (k : ℕ) (n : blue.Node) (ss : List S) (ds : List D) (w : Work S D L B) (x : IslandNode S D L B) (names : List (List ℕ)) (name : List ℕ) → IsWork chains k n ss ds w → BecomesOf k w x → n.kind ≡ kind.Lines name
+  reader_at : (chains : List graph.Chain) (k room : ℕ) (n : blue.Node) (ss : List S) (ds : List D) (w : Work S D L B) (x : IslandNode S D L B) (names : List (List ℕ)) (name : List ℕ) → IsWork chains k n ss ds w → BecomesOf k room w x → n.kind ≡ kind.Lines name
       → (first : Lines S) × ((x ≡ node.Reading first) × ((first.node ≡ k) × Handed ss (cons_option (source_file n.kind) names) first.reader.source name))
-  reader_at chains k n ss ds (work.Reading r) x names name is b e = (_, (b, (refl, handed_next (source_file n.kind) ss names r.source name (ap source_file e) is.source)))
-  reader_at chains k n ss ds (work.Making shape) x names name is b e = absurd (subst IsMaker e is.is_maker)
-  reader_at chains k n ss ds (work.Linear l) x names name is b e = absurd (subst IsLinear e is.is_linear)
-  reader_at chains k n ss ds (work.State l) x names name is b e = absurd (subst IsStateful e is.is_state)
-  reader_at chains k n ss ds (work.Sub l) x names name is b e = absurd (subst IsSub e is.is_sub)
-  reader_at chains k n ss ds (work.FanIn l inputs) x names name is b e = absurd (subst IsFanIn e is.is_in)
-  reader_at chains k n ss ds (work.FanOut l outputs) x names name is b e = absurd (subst IsOut e is.is_out)
-  reader_at chains k n ss ds (work.LaneIn u) x names name is b e = absurd is
-  reader_at chains k n ss ds (work.LaneOut u) x names name is b e = absurd is
-  reader_at chains k n ss ds (work.Writing shape (Some d)) x names name is b e = absurd (subst IsFileSink e is.is_sink)
-  reader_at chains k n ss ds (work.Writing shape None) x names name is b e = let no : kind.Lines name ≡ kind.Ignore = sym e ∙ is.is_ignore in absurd cc
+  reader_at chains k room n ss ds (work.Reading r) x names name is b e = (_, (b, (refl, handed_next (source_file n.kind) ss names r.source name (ap source_file e) is.source)))
+  reader_at chains k room n ss ds (work.Making shape) x names name is b e = absurd (subst IsMaker e is.is_maker)
+  reader_at chains k room n ss ds (work.Linear l) x names name is b e = absurd (subst IsLinear e is.is_linear)
+  reader_at chains k room n ss ds (work.State l) x names name is b e = absurd (subst IsStateful e is.is_state)
+  reader_at chains k room n ss ds (work.Sub l) x names name is b e = absurd (subst IsSub e is.is_sub)
+  reader_at chains k room n ss ds (work.FanIn l inputs) x names name is b e = absurd (subst IsFanIn e is.is_in)
+  reader_at chains k room n ss ds (work.FanOut l outputs) x names name is b e = absurd (subst IsOut e is.is_out)
+  reader_at chains k room n ss ds (work.LaneIn u) x names name is b e = absurd is
+  reader_at chains k room n ss ds (work.LaneOut u) x names name is b e = absurd is
+  reader_at chains k room n ss ds (work.Writing shape (Some d)) x names name is b e = absurd (subst IsFileSink e is.is_sink)
+  reader_at chains k room n ss ds (work.Writing shape None) x names name is b e = let no : kind.Lines name ≡ kind.Ignore = sym e ∙ is.is_ignore in absurd cc
 
   -- of the nodes from node k on
   record ReadsAt (k : ℕ) (names : List (List ℕ)) (ss : List S) (xs : List (IslandNode S D L B)) (j : ℕ) (name : List ℕ) : Type 0 where
@@ -73,8 +73,8 @@ module _ {S D L B : Type 0} where
   reads_at chains k (m ∷ ns) ss ds (p ∷ ps) [] j n name a b at e = absurd b
   reads_at chains k (m ∷ ns) ss ds (p ∷ ps) (x ∷ xs) zero n name a b at e =
       let is : m ≡ n = cc in
-      let here : BecomesOf k p.work x = subst (λ i. BecomesOf i p.work x) a.0 b.0 in
-      let r = reader_at chains k m ss ds p.work x (inputs_of_nodes ns) name a.1.0 here (ap (λ (y : blue.Node). y.kind) is ∙ e) in
+      let here : BecomesOf k p.room p.work x = subst (λ i. BecomesOf i p.room p.work x) a.0 b.0 in
+      let r = reader_at chains k p.room m ss ds p.work x (inputs_of_nodes ns) name a.1.0 here (ap (λ (y : blue.Node). y.kind) is ∙ e) in
       record { first = r.0; at = ap Some r.1.0; node = let same : r.0.node ≡ k = r.1.1.0 in omega (arith, same); handed = r.1.1.1 }
   reads_at chains k (m ∷ ns) ss ds (p ∷ ps) (x ∷ xs) (suc j) n name a b at e =
       let r = reads_at chains (k + 1) ns _ _ ps xs j n name a.1.1 b.1 at e in
@@ -88,21 +88,21 @@ module _ {S D L B : Type 0} where
 
   -- ---- sinks with a file
 
-  writer_at : (chains : List graph.Chain) (k : ℕ) (n : blue.Node) (ss : List S) (ds : List D) (w : Work S D L B) (x : IslandNode S D L B) (names : List (List ℕ)) (name : List ℕ) → IsWork chains k n ss ds w → BecomesOf k w x → output_of n.kind ≡ Some name
+  writer_at : (chains : List graph.Chain) (k room : ℕ) (n : blue.Node) (ss : List S) (ds : List D) (w : Work S D L B) (x : IslandNode S D L B) (names : List (List ℕ)) (name : List ℕ) → IsWork chains k n ss ds w → BecomesOf k room w x → output_of n.kind ≡ Some name
       → (first : Sink D) × ((x ≡ node.Writing first) × ((first.node ≡ k) × Handed ds (cons_option (output_of n.kind) names) first.drain name))
-  writer_at chains k n ss ds (work.Reading r) x names name is b e =
+  writer_at chains k room n ss ds (work.Reading r) x names name is b e =
       let l = reads_lines n.kind ss r.source is.source in
       let no : output_of (kind.Lines l.0) ≡ Some name = sym (ap output_of l.1) ∙ e in absurd cc
-  writer_at chains k n ss ds (work.Making shape) x names name is b e = absurd (maker_no_file n.kind name is.is_maker e)
-  writer_at chains k n ss ds (work.Linear l) x names name is b e = absurd (linear_no_file n.kind name is.is_linear e)
-  writer_at chains k n ss ds (work.State l) x names name is b e = absurd (state_no_file n.kind name is.is_state e)
-  writer_at chains k n ss ds (work.Sub l) x names name is b e = absurd (sub_no_file n.kind name is.is_sub e)
-  writer_at chains k n ss ds (work.FanIn l inputs) x names name is b e = absurd (fan_in_no_file n.kind name is.is_in e)
-  writer_at chains k n ss ds (work.FanOut l outputs) x names name is b e = absurd (fan_out_no_file n.kind name is.is_out e)
-  writer_at chains k n ss ds (work.LaneIn u) x names name is b e = absurd is
-  writer_at chains k n ss ds (work.LaneOut u) x names name is b e = absurd is
-  writer_at chains k n ss ds (work.Writing shape (Some d)) x names name is b e = (_, (b, (refl, handed_next (output_of n.kind) ds names d name e is.next)))
-  writer_at chains k n ss ds (work.Writing shape None) x names name is b e = let no : output_of kind.Ignore ≡ Some name = sym (ap output_of is.is_ignore) ∙ e in absurd cc
+  writer_at chains k room n ss ds (work.Making shape) x names name is b e = absurd (maker_no_file n.kind name is.is_maker e)
+  writer_at chains k room n ss ds (work.Linear l) x names name is b e = absurd (linear_no_file n.kind name is.is_linear e)
+  writer_at chains k room n ss ds (work.State l) x names name is b e = absurd (state_no_file n.kind name is.is_state e)
+  writer_at chains k room n ss ds (work.Sub l) x names name is b e = absurd (sub_no_file n.kind name is.is_sub e)
+  writer_at chains k room n ss ds (work.FanIn l inputs) x names name is b e = absurd (fan_in_no_file n.kind name is.is_in e)
+  writer_at chains k room n ss ds (work.FanOut l outputs) x names name is b e = absurd (fan_out_no_file n.kind name is.is_out e)
+  writer_at chains k room n ss ds (work.LaneIn u) x names name is b e = absurd is
+  writer_at chains k room n ss ds (work.LaneOut u) x names name is b e = absurd is
+  writer_at chains k room n ss ds (work.Writing shape (Some d)) x names name is b e = (_, (b, (refl, handed_next (output_of n.kind) ds names d name e is.next)))
+  writer_at chains k room n ss ds (work.Writing shape None) x names name is b e = let no : output_of kind.Ignore ≡ Some name = sym (ap output_of is.is_ignore) ∙ e in absurd cc
 
   record WritesAt (k : ℕ) (names : List (List ℕ)) (ds : List D) (xs : List (IslandNode S D L B)) (j : ℕ) (name : List ℕ) : Type 0 where
     pub first : Sink D
@@ -117,8 +117,8 @@ module _ {S D L B : Type 0} where
   writes_at chains k (m ∷ ns) ss ds (p ∷ ps) [] j n name a b at e = absurd b
   writes_at chains k (m ∷ ns) ss ds (p ∷ ps) (x ∷ xs) zero n name a b at e =
       let is : m ≡ n = cc in
-      let here : BecomesOf k p.work x = subst (λ i. BecomesOf i p.work x) a.0 b.0 in
-      let r = writer_at chains k m ss ds p.work x (outputs_of_nodes ns) name a.1.0 here (ap (λ (y : blue.Node). output_of y.kind) is ∙ e) in
+      let here : BecomesOf k p.room p.work x = subst (λ i. BecomesOf i p.room p.work x) a.0 b.0 in
+      let r = writer_at chains k p.room m ss ds p.work x (outputs_of_nodes ns) name a.1.0 here (ap (λ (y : blue.Node). output_of y.kind) is ∙ e) in
       record { first = r.0; at = ap Some r.1.0; node = let same : r.0.node ≡ k = r.1.1.0 in omega (arith, same); handed = r.1.1.1 }
   writes_at chains k (m ∷ ns) ss ds (p ∷ ps) (x ∷ xs) (suc j) n name a b at e =
       let r = writes_at chains (k + 1) ns _ _ ps xs j n name a.1.1 b.1 at e in
@@ -132,20 +132,20 @@ module _ {S D L B : Type 0} where
 
   -- ---- sinks that keep nothing
 
-  ignorer_at : (chains : List graph.Chain) (k : ℕ) (n : blue.Node) (ss : List S) (ds : List D) (w : Work S D L B) (x : IslandNode S D L B) → IsWork chains k n ss ds w → BecomesOf k w x → n.kind ≡ kind.Ignore → (first : Ignorer) × ((x ≡ node.Ignoring first) × (first.node ≡ k))
-  ignorer_at chains k n ss ds (work.Reading r) x is b e =
+  ignorer_at : (chains : List graph.Chain) (k room : ℕ) (n : blue.Node) (ss : List S) (ds : List D) (w : Work S D L B) (x : IslandNode S D L B) → IsWork chains k n ss ds w → BecomesOf k room w x → n.kind ≡ kind.Ignore → (first : Ignorer) × ((x ≡ node.Ignoring first) × (first.node ≡ k))
+  ignorer_at chains k room n ss ds (work.Reading r) x is b e =
       let l = reads_lines n.kind ss r.source is.source in
       let no : kind.Lines l.0 ≡ kind.Ignore = sym l.1 ∙ e in absurd cc
-  ignorer_at chains k n ss ds (work.Making shape) x is b e = absurd (subst IsMaker e is.is_maker)
-  ignorer_at chains k n ss ds (work.Linear l) x is b e = absurd (subst IsLinear e is.is_linear)
-  ignorer_at chains k n ss ds (work.State l) x is b e = absurd (subst IsStateful e is.is_state)
-  ignorer_at chains k n ss ds (work.Sub l) x is b e = absurd (subst IsSub e is.is_sub)
-  ignorer_at chains k n ss ds (work.FanIn l inputs) x is b e = absurd (subst IsFanIn e is.is_in)
-  ignorer_at chains k n ss ds (work.FanOut l outputs) x is b e = absurd (subst IsOut e is.is_out)
-  ignorer_at chains k n ss ds (work.LaneIn u) x is b e = absurd is
-  ignorer_at chains k n ss ds (work.LaneOut u) x is b e = absurd is
-  ignorer_at chains k n ss ds (work.Writing shape (Some d)) x is b e = absurd (subst IsFileSink e is.is_sink)
-  ignorer_at chains k n ss ds (work.Writing shape None) x is b e = (_, (b, refl))
+  ignorer_at chains k room n ss ds (work.Making shape) x is b e = absurd (subst IsMaker e is.is_maker)
+  ignorer_at chains k room n ss ds (work.Linear l) x is b e = absurd (subst IsLinear e is.is_linear)
+  ignorer_at chains k room n ss ds (work.State l) x is b e = absurd (subst IsStateful e is.is_state)
+  ignorer_at chains k room n ss ds (work.Sub l) x is b e = absurd (subst IsSub e is.is_sub)
+  ignorer_at chains k room n ss ds (work.FanIn l inputs) x is b e = absurd (subst IsFanIn e is.is_in)
+  ignorer_at chains k room n ss ds (work.FanOut l outputs) x is b e = absurd (subst IsOut e is.is_out)
+  ignorer_at chains k room n ss ds (work.LaneIn u) x is b e = absurd is
+  ignorer_at chains k room n ss ds (work.LaneOut u) x is b e = absurd is
+  ignorer_at chains k room n ss ds (work.Writing shape (Some d)) x is b e = absurd (subst IsFileSink e is.is_sink)
+  ignorer_at chains k room n ss ds (work.Writing shape None) x is b e = (_, (b, refl))
 
   record IgnoresAt (k : ℕ) (xs : List (IslandNode S D L B)) (j : ℕ) : Type 0 where
     pub first : Ignorer
@@ -159,8 +159,8 @@ module _ {S D L B : Type 0} where
   ignores_at chains k (m ∷ ns) ss ds (p ∷ ps) [] j n a b at e = absurd b
   ignores_at chains k (m ∷ ns) ss ds (p ∷ ps) (x ∷ xs) zero n a b at e =
       let is : m ≡ n = cc in
-      let here : BecomesOf k p.work x = subst (λ i. BecomesOf i p.work x) a.0 b.0 in
-      let r = ignorer_at chains k m ss ds p.work x a.1.0 here (ap (λ (y : blue.Node). y.kind) is ∙ e) in
+      let here : BecomesOf k p.room p.work x = subst (λ i. BecomesOf i p.room p.work x) a.0 b.0 in
+      let r = ignorer_at chains k p.room m ss ds p.work x a.1.0 here (ap (λ (y : blue.Node). y.kind) is ∙ e) in
       record { first = r.0; at = ap Some r.1.0; node = let same : r.0.node ≡ k = r.1.1 in omega (arith, same) }
   ignores_at chains k (m ∷ ns) ss ds (p ∷ ps) (x ∷ xs) (suc j) n a b at e =
       let r = ignores_at chains (k + 1) ns _ _ ps xs j n a.1.1 b.1 at e in

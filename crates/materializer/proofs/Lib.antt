@@ -13,6 +13,7 @@ pub mod Placing
 pub mod Linking
 pub mod Making
 pub mod Handing
+pub mod Rooms
 pub mod SeatLoops
 pub mod Switches
 pub mod Plugs

@@ -42,23 +42,23 @@ next_is : {S : Type 0} (k : Kind) (ss : List S) (s : S) (name : List ℕ) → k 
 next_is k ss s name e h = sym (ap (λ x. handle_of (source_file x) ss) e) ∙ h
 
 module _ {S D L B : Type 0} (sources : S → SourceState) where
-  work_first : (chains : List graph.Chain) (k : ℕ) (n : blue.Node) (ss : List S) (ds : List D) (w : Work S D L B) (x : IslandNode S D L B) → IsWork chains k n ss ds w → BecomesOf k w x → NoneGiven sources ss → FirstOf sources chains k (graph_node n) x
-  work_first chains k n ss ds (work.Reading r) x is b none =
+  work_first : (chains : List graph.Chain) (k room : ℕ) (n : blue.Node) (ss : List S) (ds : List D) (w : Work S D L B) (x : IslandNode S D L B) → IsWork chains k n ss ds w → BecomesOf k room w x → NoneGiven sources ss → FirstOf sources chains k (graph_node n) x
+  work_first chains k room n ss ds (work.Reading r) x is b none =
       let l = reads_lines n.kind ss r.source is.source in
       subst (λ y. FirstOf sources chains k (graph_node n) y) (sym b) (record { name = l.0; kind_is = l.1; node = refl; kept = is.kept; given = none 0 r.source (next_is n.kind ss r.source l.0 l.1 is.source) })
-  work_first chains k n ss ds (work.Making shape) x is b none = subst (λ y. FirstOf sources chains k (graph_node n) y) (sym b) (record { is_maker = is.is_maker; is = ap (maker_of k) is.shape_is })
-  work_first chains k n ss ds (work.Linear l) x is b none = subst (λ y. FirstOf sources chains k (graph_node n) y) (sym b) (record { is_linear = is.is_linear; begins = is.begins })
-  work_first chains k n ss ds (work.State l) x is b none = subst (λ y. FirstOf sources chains k (graph_node n) y) (sym b) (record { is_state = is.is_state; begins = is.begins })
-  work_first chains k n ss ds (work.Sub l) x is b none = subst (λ y. FirstOf sources chains k (graph_node n) y) (sym b) (record { is_sub = is.is_sub; begins = is.begins; line = is.line })
-  work_first chains k n ss ds (work.FanIn l inputs) x is b none = subst (λ y. FirstOf sources chains k (graph_node n) y) (sym b) (record { is_in = is.is_in; begins = is.begins })
-  work_first chains k n ss ds (work.FanOut l outputs) x is b none = subst (λ y. FirstOf sources chains k (graph_node n) y) (sym b) (record { is_out = is.is_out; begins = is.begins })
-  work_first chains k n ss ds (work.LaneIn u) x is b none = absurd is
-  work_first chains k n ss ds (work.LaneOut u) x is b none = absurd is
-  work_first chains k n ss ds (work.Writing shape (Some d)) x is b none = subst (λ y. FirstOf sources chains k (graph_node n) y) (sym b) (record { is_sink = is.is_sink; node = refl; writes = ap writes_of is.shape_is; count = refl; end = refl })
-  work_first chains k n ss ds (work.Writing shape None) x is b none = subst (λ y. FirstOf sources chains k (graph_node n) y) (sym b) (record { kind_is = is.is_ignore; node = refl; end = refl })
+  work_first chains k room n ss ds (work.Making shape) x is b none = subst (λ y. FirstOf sources chains k (graph_node n) y) (sym b) (record { is_maker = is.is_maker; is = ap (maker_of k) is.shape_is })
+  work_first chains k room n ss ds (work.Linear l) x is b none = subst (λ y. FirstOf sources chains k (graph_node n) y) (sym b) (record { is_linear = is.is_linear; begins = is.begins })
+  work_first chains k room n ss ds (work.State l) x is b none = subst (λ y. FirstOf sources chains k (graph_node n) y) (sym b) (record { is_state = is.is_state; begins = is.begins })
+  work_first chains k room n ss ds (work.Sub l) x is b none = subst (λ y. FirstOf sources chains k (graph_node n) y) (sym b) (record { is_sub = is.is_sub; begins = is.begins; line = is.line })
+  work_first chains k room n ss ds (work.FanIn l inputs) x is b none = subst (λ y. FirstOf sources chains k (graph_node n) y) (sym b) (record { is_in = is.is_in; begins = is.begins })
+  work_first chains k room n ss ds (work.FanOut l outputs) x is b none = subst (λ y. FirstOf sources chains k (graph_node n) y) (sym b) (record { is_out = is.is_out; begins = is.begins })
+  work_first chains k room n ss ds (work.LaneIn u) x is b none = absurd is
+  work_first chains k room n ss ds (work.LaneOut u) x is b none = absurd is
+  work_first chains k room n ss ds (work.Writing shape (Some d)) x is b none = subst (λ y. FirstOf sources chains k (graph_node n) y) (sym b) (record { is_sink = is.is_sink; node = refl; writes = ap writes_of is.shape_is; count = refl; end = refl })
+  work_first chains k room n ss ds (work.Writing shape None) x is b none = subst (λ y. FirstOf sources chains k (graph_node n) y) (sym b) (record { kind_is = is.is_ignore; node = refl; end = refl })
 
-  seat_first : (chains : List graph.Chain) (k : ℕ) (n : blue.Node) (ss : List S) (ds : List D) (p : Seated S D L B) (x : IslandNode S D L B) → p.node ≡ k → IsWork chains k n ss ds p.work → BecomesOf p.node p.work x → NoneGiven sources ss → FirstOf sources chains k (graph_node n) x
-  seat_first chains k n ss ds p x e is b none = work_first chains k n ss ds p.work x is (subst (λ m. BecomesOf m p.work x) e b) none
+  seat_first : (chains : List graph.Chain) (k : ℕ) (n : blue.Node) (ss : List S) (ds : List D) (p : Seated S D L B) (x : IslandNode S D L B) → p.node ≡ k → IsWork chains k n ss ds p.work → BecomesOf p.node p.room p.work x → NoneGiven sources ss → FirstOf sources chains k (graph_node n) x
+  seat_first chains k n ss ds p x e is b none = work_first chains k p.room n ss ds p.work x is (subst (λ m. BecomesOf m p.room p.work x) e b) none
 
   pub seats_first : (chains : List graph.Chain) (k : ℕ) (ns : List blue.Node) (ss : List S) (ds : List D) (ps : List (Seated S D L B)) (xs : List (IslandNode S D L B)) (j : ℕ) (n : blue.Node) (x : IslandNode S D L B)
       → AreSeats chains k ns ss ds ps → AllBecome ps xs → NoneGiven sources ss → slice_get ns j ≡ Some n → slice_get xs j ≡ Some x → FirstOf sources chains (k + j) (graph_node n) x

@@ -132,3 +132,7 @@ seat_of_plan (Works w) = work_seat w
 -- the seat at its switch that is to stand at a place, where it is that of a valve or a trip
 abbrev pub planned_seat : {S D L B : Type 0} → Seat S D L B → Option SeatState
 planned_seat s = seat_of_plan s.planned
+
+-- how many lines what is to stand at a place may put together
+abbrev pub planned_room : {S D L B : Type 0} → Seat S D L B → ℕ
+planned_room s = s.room

@@ -29,6 +29,7 @@ use Rattle.stage_out.specs.Moves.{out_plan}
 use Rattle.nodes.specs.Kinds.{IsMaker, IsFileSink}
 use Rattle.port_core.specs.View.{unpulled_ports}
 use Rattle.run_laws.specs.Made.{chain_name, BeginsLed}
+use Rattle.run_laws.specs.Ends.{half_of}
 use Rattle.interpreter.specs.declared.parts.Seated.{Seated}
 use Rattle.interpreter.specs.declared.parts.Work.{Work}
 use Rattle.interpreter.specs.declared.parts.Work.TheVariants as work
@@ -194,3 +195,12 @@ work_seat _ = None
 -- the seat at its switch that stands at a place, where it is that of a valve or a trip
 abbrev pub place_seat : {S D L B : Type 0} → Seated S D L B → Option SeatState
 place_seat p = work_seat p.work
+
+-- how many lines what stands at a place may put together
+abbrev pub place_room : {S D L B : Type 0} → Seated S D L B → ℕ
+place_room p = p.room
+
+-- how many lines a sink may put together: behind a lane half as many as it has places, but at least one; and one where there is no lane
+abbrev pub gather_of : Option ℕ → ℕ
+gather_of None = 1
+gather_of (Some size) = half_of size

@@ -12,9 +12,9 @@ ghost use Rattle.stream_model.specs.declared.blueprint.Node as blue;
 ghost use Rattle.materializer.specs.Files.{source_file, output_of};
 ghost use Rattle.materializer.specs.Graphs.{graph_chain};
 ghost use Rattle.materializer.specs.Board.{switch_of, IsHandedAt, AreHanded, seat_of_end};
-ghost use Rattle.materializer.specs.Seats.{IsFreeWork, AreSeats, work_seat, place_seat, place_plan, WorkMayFollow, WorkFollows};
+ghost use Rattle.materializer.specs.Seats.{IsFreeWork, AreSeats, work_seat, place_seat, place_plan, place_room, WorkMayFollow, WorkFollows};
 ghost use Rattle.materializer.specs.Choosers.{moves_of, PlanFits, PlansFit};
-ghost use Rattle.materializer.specs.Planned.{IsPlanned, IsSeat, ArePlanned, Fills, seat_of_plan, planned_seat, planned_plan, PlannedMayFollow, PlannedFollows, reads, writes, reads_in, writes_in};
+ghost use Rattle.materializer.specs.Planned.{IsPlanned, IsSeat, ArePlanned, Fills, seat_of_plan, planned_seat, planned_plan, planned_room, PlannedMayFollow, PlannedFollows, reads, writes, reads_in, writes_in};
 ghost use Rattle.materializer.specs.HandedPlugs.{GivesAsListed, IsPlugged, ArePlugged};
 ghost use Rattle.blue_names.specs.Names.{plug_of};
 ghost use Rattle.stream_model.specs.Graph as graph;
@@ -57,6 +57,7 @@ pub enum Planned<S: Source, D: Drain, L: Logic, B: PlugBook> {
 #[derive(Drop)]
 pub struct Seat<S: Source, D: Drain, L: Logic, B: PlugBook> {
     pub(crate) node: u32,
+    pub(crate) room: u32,
     pub(crate) planned: Planned<S, D, L, B>,
 }
 
@@ -317,6 +318,7 @@ fn plan<S: Source, D: Drain, L: Logic, B: PlugBook>(
     chains: &[ChainDecl],
     k: u32,
     node: Node,
+    room: u32,
     switch: Option<SwitchEnd>,
     plug: Option<Plug<L>>,
     moves: Option<Vec<u32>>,
@@ -328,6 +330,7 @@ fn plan<S: Source, D: Drain, L: Logic, B: PlugBook>(
     ensures planned { IfOk result (IsSeat (map graph_chain chains.now) k node) }
     ensures seat { IfOk result (λ s. planned_seat s ≡ seat_of_end switch) }
     ensures plan { IfOk result (λ s. planned_plan s ≡ moves_of moves) }
+    ensures room { IfOk result (λ s. s.room ≡ room) }
 {
     let Node {
         name,
@@ -338,6 +341,7 @@ fn plan<S: Source, D: Drain, L: Logic, B: PlugBook>(
     let planned = stand(alloc, chains, k, kind, decider, switch, plug)?;
     Ok(Seat {
         node: k,
+        room,
         planned: led(planned, moves),
     })
 }
@@ -349,6 +353,7 @@ pub fn seat_all<S: Source, D: Drain, L: Logic, B: PlugBook>(
     alloc: Global,
     chains: &[ChainDecl],
     nodes: Vec<Node>,
+    rooms: Vec<u32>,
     ends: Vec<Option<SwitchEnd>>,
     plugs: Vec<Option<Plug<L>>>,
     plans: Vec<Option<Vec<u32>>>,
@@ -357,20 +362,24 @@ pub fn seat_all<S: Source, D: Drain, L: Logic, B: PlugBook>(
     requires handed { AreHanded (map (λ n. n.kind) nodes.items) ends.items }
     requires plugged { ArePlugged L.gives B.lists (map (λ n. n.kind) nodes.items) plugs.items }
     requires follow { PlansFit (map (λ n. n.kind) nodes.items) (map moves_of plans.items) }
+    requires rooms { vec_len rooms ≡ vec_len nodes }
     ensures planned { IfOk result (λ seats. ArePlanned (map graph_chain chains.now) 0 nodes.items seats.items) }
     ensures seats { IfOk result (λ seats. map planned_seat seats.items ≡ map seat_of_end ends.items) }
     ensures plans { IfOk result (λ seats. map planned_plan seats.items ≡ map moves_of plans.items) }
+    ensures rooms { IfOk result (λ seats. map planned_room seats.items ≡ rooms.items) }
 {
     let mut unhanded = ends.into_iter();
     let mut unplugged = plugs.into_iter();
     let mut unmade = plans.into_iter();
+    let mut unroomed = rooms.into_iter();
     let mut seats = Vec::new(alloc);
     for node in nodes {
         let k = numbered(seats.len())?;
         let end = take_next(&mut unhanded);
         let plug = take_next(&mut unplugged);
         let moves = take_next(&mut unmade);
-        seats.push(plan(alloc, chains, k, node, end, plug, moves)?)?;
+        let room = take_next(&mut unroomed);
+        seats.push(plan(alloc, chains, k, node, room, end, plug, moves)?)?;
     }
     Ok(seats)
 }
@@ -389,16 +398,21 @@ fn fill<S: Source, D: Drain, L: Logic, B: PlugBook>(
         (into_iter_items sources.new) (into_iter_items drains.new) }
     ensures seat { place_seat result ≡ planned_seat seat }
     ensures plan { place_plan result ≡ planned_plan seat }
+    ensures room { result.room ≡ seat.room }
     ensures fewer_sources { into_iter_len sources.old ≡ into_iter_len sources.new + reads seat.planned }
     ensures fewer_drains { into_iter_len drains.old ≡ into_iter_len drains.new + writes seat.planned }
 {
-    let Seat { node, planned } = seat;
+    let Seat {
+        node,
+        room,
+        planned,
+    } = seat;
     let work = match planned {
         Planned::Reads => Work::Reading(LineReader::new(alloc, take_next(sources))),
         Planned::Writes(kind) => Work::Writing(kind, Some(take_next(drains))),
         Planned::Works(work) => work,
     };
-    Seated { node, work }
+    Seated { node, room, work }
 }
 
 /// The seats in order, with their handles, into an empty list that has room for them. In their order, each source of lines reads
@@ -420,6 +434,7 @@ pub fn fill_all<S: Source, D: Drain, L: Logic, B: PlugBook>(
     ensures each { vec_len result ≡ vec_len seats }
     ensures kept { map place_seat result.items ≡ map planned_seat seats.items }
     ensures plans { map place_plan result.items ≡ map planned_plan seats.items }
+    ensures rooms { map place_room result.items ≡ map planned_room seats.items }
 {
     let mut unread = sources.into_iter();
     let mut unwritten = drains.into_iter();

@@ -1,6 +1,6 @@
 -- A call of a node is the call of its kind, at its one port.
 use Rattle.std.specs.Prelude.{Result, OnOk, slice_index_or}
-use Rattle.std.proofs.Common.{◌≡◌, ℕ, zero, suc, List, [], ◌∷◌, refl}
+use Rattle.std.proofs.Common.{◌≡◌, ◌⊎◌, inl, inr, ℕ, zero, suc, Bool, true, false, List, [], ◌∷◌, refl, ap}
 use Rattle.elem_core.specs.declared.item.Item.{Item}
 use Rattle.elem_core.specs.declared.item.Item.TheVariants as item
 use Rattle.port_core.specs.declared.act.Act.{Act}
@@ -11,17 +11,18 @@ use Rattle.port_core.specs.declared.view.OutView.TheVariants.{Unpulled, Closed}
 use Rattle.port_core.specs.View.{View, IsOutOpen}
 use Rattle.port_core.specs.Call.{Call, Meets, MayCome, pulls, arrives, cancels}
 use Rattle.stream_model.specs.Linear.{Book}
-use Rattle.stage_core.specs.Handling.{Starts, Handles}
+use Rattle.stage_core.specs.Handling.{Starts, Handles, Pulls, PullsAs}
+use Rattle.stage_core.specs.Handing.{PutsOff, cancel_first}
 use Rattle.stream_io.specs.State.{SourceState, DrainState}
 use Rattle.nodes.specs.Entering.{Entering, EnteringFresh, EnteringPortState, EnteringLaw}
 use Rattle.nodes.specs.Leaving.{Leaving, LeavingFresh, LeavingPortState, LeavingLaw}
 use Rattle.nodes.specs.Ports.{OneIn, OneInOf, OneOut, OneOutOf}
 use Rattle.nodes.specs.Source.{Lines, lines_port_state, lines_port_state_in, LinesLaw}
-use Rattle.nodes.specs.Sink.{Sink, sink_port_state, sink_port_state_in, SinkLaw}
+use Rattle.nodes.specs.Sink.{Sink, sink_port_state, sink_port_state_in, SinkLaw, SinkAsking, SinkPutsOff}
 use Rattle.nodes.specs.declared.node.IslandNode.{IslandNode}
 use Rattle.nodes.specs.declared.node.IslandNode.TheVariants.{Reading, Making, Linear, State, Sub, FanIn, FanOut, Writing, Ignoring}
 use Rattle.nodes.specs.declared.node.IslandNode.TheVariants as node
-use Rattle.nodes.specs.Nodes.{node_fresh, node_port_state, node_law}
+use Rattle.nodes.specs.Nodes.{node_fresh, node_port_state, node_law, node_asking, node_moves, node_gone, node_passive}
 use Rattle.nodes.proofs.Acting.{on_ok_two}
 
 -- nothing comes to a port that is not there
@@ -96,6 +97,39 @@ module _ {S D : Type 0} (L B : Type 0) (sources : S → SourceState) (drains : D
   pub writing_handles : {T E : Type 0} (p : ℕ) (x : Item) (old new : Sink D) (acts : List Act) (r : Result T E) → Meets (arrives p x) (sink_port_state old) → OnOk r (Handles sink_port_state (SinkLaw drains) (arrives 0 x) old new acts)
       → OnOk r (CallOf (arrives p x) (Writing old) (Writing new) acts)
   writing_handles p x old new acts r m h = rw (port_is (sink_port_state_in old.started old.end) p x m) (on_ok_two r h h (λ a b. writing_at x old new acts a))
+
+  -- what it tells whenever it has just asked
+  pub writing_pulls : {T E : Type 0} (call : Call) (before : View → Type 0) (new : Sink D) (acts : List Act) (r : Result T E) → OnOk r (Pulls acts → SinkAsking new) → OnOk r (PullsAs call before (node_asking {S = S} {D = D} {L = L} {B = B} (Writing new)) acts)
+  writing_pulls call before new acts r h = on_ok_two r h h (λ a b v may held p. a p)
+
+  -- what it does outside of its handlers
+  pub writing_puts : (b : Bool) (old new : Sink D) → ((new ≡ old) × (b ≡ false)) ⊎ SinkPutsOff drains old (cancel_first b) new
+      → ((◌≡◌ {A = IslandNode S D L B} (Writing new) (Writing old)) × (b ≡ false)) ⊎ PutsOff {N = IslandNode S D L B} node_port_state (node_law sources drains book) node_asking node_moves node_gone node_passive (Writing old) (cancel_first b) (Writing new)
+  writing_puts b old new (inl e) = inl (ap {B = IslandNode S D L B} (λ (x : Sink D). Writing x) e.0, e.1)
+  writing_puts b old new (inr p) = inr (record {
+    allowed = λ first v took gave r law. (writing_first first old v took gave law (λ f l. p.allowed f v took gave r l));
+    port_state_holds = λ first v took gave r law. (writing_first first old v took gave law (λ f l. p.port_state_holds f v took gave r l));
+    law_holds = λ first v took gave r law. writing_law first old new v _ took gave _ _ (λ f l. p.law_holds f v took gave r l) law;
+    asks = λ first v u took gave r law a. writing_first first old v took gave law (λ f l. p.asks f v u took gave r l a);
+    grows = p.grows;
+    gone_is = refl;
+    passive_is = refl;
+    still = λ t. absurd (let n : false ≡ true = t in cc);
+  })
+    where
+      -- it was handed in as a sink
+      writing_first : {P : Type 0} (first : IslandNode S D L B) (x : Sink D) (v : View) (took gave : List (List Item)) → node_law sources drains book first (Writing x) v took gave → ((f : Sink D) → SinkLaw drains f x v took gave → P) → P
+      writing_first (Writing f) x v took gave law known = known f law
+      writing_first (Reading f) x v took gave law known = absurd law
+      writing_first (Making f) x v took gave law known = absurd law
+      writing_first (Linear f) x v took gave law known = absurd law
+      writing_first (State f) x v took gave law known = absurd law
+      writing_first (Sub f) x v took gave law known = absurd law
+      writing_first (FanIn f) x v took gave law known = absurd law
+      writing_first (FanOut f) x v took gave law known = absurd law
+      writing_first (Ignoring f) x v took gave law known = absurd law
+      writing_first (node.Entering f) x v took gave law known = absurd law
+      writing_first (node.Leaving f) x v took gave law known = absurd law
 
   -- a source of lines
   reading_law : (first : IslandNode S D L B) (old new : Lines S) (v w : View) (took gave more given : List (List Item)) → ((f : Lines S) → LinesLaw sources f old v took gave → LinesLaw sources f new w more given)

@@ -1,6 +1,6 @@
 -- A node of an island, by its kind: each predicate cites that of the kind.
 -- Choice: docs/DECISIONS.md#lemmas-by-kind
-use Rattle.std.specs.Prelude.{◌≡◌, ℕ, Bool, true, false, List, [], Option, None, Some, ⊤}
+use Rattle.std.specs.Prelude.{◌≡◌, ℕ, Bool, true, false, List, [], slice_get, Option, None, Some, ⊤}
 use Rattle.std.specs.Option.{unwrap_or}
 use Rattle.elem_core.specs.declared.item.Item.{Item}
 use Rattle.port_core.specs.View.{View}
@@ -29,7 +29,7 @@ use Rattle.stage_core.specs.declared.phase.Phase.TheVariants.{New}
 use Rattle.nodes.specs.Keeping.{KeepsEnd}
 use Rattle.nodes.specs.Source.{LinesFresh, lines_port_state, LinesLaw}
 use Rattle.nodes.specs.Maker.{MadeFresh, made_port_state, MadeLaw}
-use Rattle.nodes.specs.Sink.{SinkFresh, sink_port_state, SinkLaw}
+use Rattle.nodes.specs.Sink.{SinkFresh, sink_port_state, SinkLaw, SinkAsking, sink_late}
 use Rattle.nodes.specs.Ignoring.{IgnoreFresh, ignore_port_state, IgnoreLaw}
 
 -- what one that was not started may know of its ports
@@ -76,10 +76,11 @@ node_law sources drains book (Entering first) (Entering x) v took gave = Enterin
 node_law sources drains book (Leaving first) (Leaving x) v took gave = LeavingLaw first x v took gave
 node_law sources drains book _ _ v took gave = ⊥
 
--- what it knows of its ports whenever it has just asked: only a stage with several inputs and one with several outputs tell of it
+-- what it knows of its ports whenever it has just asked: only a stage with several inputs and one with several outputs tell of it, and a sink with a file of itself
 abbrev pub node_asking : {S D L B : Type 0} → IslandNode S D L B → View → Type 0
 node_asking (FanIn x) v = InAsking x v
 node_asking (FanOut x) v = OutAsking x v
+node_asking (Writing x) v = SinkAsking x
 node_asking x v = ⊤
 
 -- the moves that it has recorded, where it is a stage whose kind chooses
@@ -187,3 +188,12 @@ node_gone x = []
 abbrev pub node_waits : {S D L B : Type 0} → IslandNode S D L B → List Item
 node_waits (Leaving x) = x.waits
 node_waits x = []
+
+-- how many lines a node has put off while it waits: only a sink that may put several together
+abbrev pub node_late : {S D L B : Type 0} → IslandNode S D L B → ℕ
+node_late (Writing x) = sink_late x
+node_late x = 0
+
+-- none of these nodes has put lines off
+abbrev pub NoneLate : {S D L B : Type 0} → List (IslandNode S D L B) → Type 0
+NoneLate nodes = (k : ℕ) (x : _) → slice_get nodes k ≡ Some x → node_late x ≡ 0

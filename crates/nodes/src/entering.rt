@@ -65,6 +65,8 @@ impl Stage for Entering {
 
     ghost waits = { λ x. [] };
 
+    ghost late = { λ x. 0 };
+
     fn start(&mut self, _alloc: Global, _acts: &mut Acts) -> Result<(), NoMemory>
         ensures same { (self.new ≡ self.old) × (_acts.new ≡ _acts.old) }
         ensures answers { IsOk result }
@@ -132,5 +134,9 @@ impl Stage for Entering {
 
     fn is_passive(&self) -> bool {
         true
+    }
+
+    fn put_off(&mut self) -> bool {
+        false
     }
 }

@@ -130,6 +130,8 @@ impl Stage for Leaving {
 
     ghost waits = { λ x. x.waits };
 
+    ghost late = { λ x. 0 };
+
     fn start(&mut self, _alloc: Global, _acts: &mut Acts) -> Result<(), NoMemory>
         ensures same { (self.new ≡ self.old) × (_acts.new ≡ _acts.old) }
         ensures answers { IsOk result }
@@ -210,5 +212,9 @@ impl Stage for Leaving {
 
     fn is_passive(&self) -> bool {
         true
+    }
+
+    fn put_off(&mut self) -> bool {
+        false
     }
 }

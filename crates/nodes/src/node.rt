@@ -1,5 +1,5 @@
 // A node of an island, whatever its kind is.
-ghost use Rattle.std.specs.Prelude.{◌≡◌, ◌≤◌, [], OnOk, OnErr};
+ghost use Rattle.std.specs.Prelude.{◌≡◌, ◌≤◌, [], false, OnOk, OnErr};
 ghost use Rattle.std.specs.Option.{option_map};
 ghost use Rattle.elem_core.specs.Prefix.{IsPrefix};
 ghost use Rattle.elem_core.specs.declared.item.Item.TheVariants as item;
@@ -7,7 +7,7 @@ ghost use Rattle.port_core.specs.Call.{Meets, pulls, arrives};
 ghost use Rattle.port_core.specs.Picks.{misfit_in};
 ghost use Rattle.stage_core.specs.declared.stage.TheConstants.{MOST_ACTS};
 ghost use Rattle.stage_core.specs.Handling.{PullsAs, StaysPassive, Handles};
-ghost use Rattle.nodes.specs.Nodes.{IsNotLinear, node_fresh, node_port_state, node_law, node_asking, node_moves, node_picks, node_misfit, node_seat, node_end, node_passive, node_gone, node_waits, KeepsNode};
+ghost use Rattle.nodes.specs.Nodes.{IsNotLinear, node_fresh, node_port_state, node_law, node_asking, node_moves, node_picks, node_misfit, node_seat, node_end, node_passive, node_gone, node_waits, node_late, KeepsNode};
 
 use crate::entering::Entering;
 use crate::ignoring::IgnoreSink;
@@ -227,6 +227,8 @@ impl<S: Source, D: Drain, L: Logic, B: PlugBook> Stage for IslandNode<S, D, L, B
 
     ghost waits = { node_waits };
 
+    ghost late = { node_late };
+
     fn start(&mut self, alloc: Global, acts: &mut Acts) -> Result<(), NoMemory> {
         match self {
             IslandNode::Reading(source) => source.start(acts),
@@ -336,6 +338,13 @@ impl<S: Source, D: Drain, L: Logic, B: PlugBook> Stage for IslandNode<S, D, L, B
 
     fn is_passive(&self) -> bool {
         matches!(self, IslandNode::Entering(_) | IslandNode::Leaving(_))
+    }
+
+    fn put_off(&mut self) -> bool {
+        match self {
+            IslandNode::Writing(sink) => sink.put_waiting(),
+            _ => false,
+        }
     }
 
     fn may_wait(&self) -> bool {

@@ -291,7 +291,7 @@ module _ {S D L B : Type 0} (sources : S → SourceState) (drains : D → DrainS
               ∙ wrote.holds (f.start.holds (closes.told told));
           tells = tells;
           part = λ w is. part_of (sink_outlook g w k (graph_node n)) f.now.end wrote.written (tells w is);
-          writes = stands_writes f.now.end (drains f.first.drain) (drains f.now.drain) f.law.wrote f.now.count (old.wfaults file) (new.wfaults file) f.law.stands f.start.faults
+          writes = stands_writes f.now.end f.now.gather (drains f.first.drain) (drains f.now.drain) f.law.wrote f.now.count (old.wfaults file) (new.wfaults file) f.law.stands f.start.faults
               (subst (λ (s : DrainState). Grew (old.wfaults file) s.faults (new.wfaults file)) z.1.1 grew);
         }
 

@@ -113,7 +113,7 @@ module _ (book : Book) (b : Blueprint) (stands : List SinkStand) (wires : List W
     (writers : (k : ℕ) (s : SinkStand) (n : Node) (file : List ℕ) (i : ℕ) (v : Edge) (c : WireCount) → slice_get stands k ≡ Some s → slice_get b.nodes.items s.0 ≡ Some n → n.kind ≡ ToLines file
     → slice_get (blueprint_wires b) i ≡ Some v → v.to ≡ s.0 → slice_get wires i ≡ Some c → AskedBy s.2 v.lane s.1 c)
     (takers : (k : ℕ) (s : SinkStand) (n : Node) (file : List ℕ) (i : ℕ) (v : Edge) → slice_get stands k ≡ Some s → slice_get b.nodes.items s.0 ≡ Some n → output_of n.kind ≡ Some file → slice_get (blueprint_wires b) i ≡ Some v → v.to ≡ s.0
-    → SinkTook (lane_loss v.keep v.lane) (list_of (items i)) (end_of_items (items i)) n.kind s)
+    → SinkTook (lane_loss v.keep v.lane) v.lane (list_of (items i)) (end_of_items (items i)) n.kind s)
     (ignorers : (k : ℕ) (s : SinkStand) (n : Node) (i : ℕ) (v : Edge) → slice_get stands k ≡ Some s → slice_get b.nodes.items s.0 ≡ Some n → n.kind ≡ Ignore → slice_get (blueprint_wires b) i ≡ Some v → v.to ≡ s.0
     → IgnorerTook (lane_loss v.keep v.lane) (list_of (items i)) (end_of_items (items i)) s) where
   abbrev lists : ℕ → List Tree

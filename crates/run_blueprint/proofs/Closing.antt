@@ -1,5 +1,5 @@
 -- From the account of a blueprint's run at its end to what the run leaves in the folder.
-use Rattle.std.proofs.Common.{◌≡◌, ◌≢◌, ◌⊎◌, inl, inr, ℕ, suc, ◌+◌, ◌<◌, ◌≤◌, Bool, true, false, List, [], ◌∷◌, map, length, slice_get, refl, sym, ap, ◌∙◌, subst, arith}
+use Rattle.std.proofs.Common.{◌≡◌, ◌≢◌, ◌⊎◌, inl, inr, ℕ, zero, suc, ◌+◌, ◌/◌, ◌<◌, ◌≤◌, max, Bool, true, false, List, [], ◌∷◌, map, length, slice_get, refl, sym, ap, ◌∙◌, subst, arith}
 use Rattle.std.specs.Prelude.{IsTrue, Option, None, Some, unwrap_or, ◌==◌, ◌||◌}
 use Rattle.std.specs.Option.{option_to_list}
 use Rattle.std.specs.List.{Contains, filter_map, list_any}
@@ -30,7 +30,10 @@ use Rattle.stream_io.specs.State.{FolderState, SourceState, DrainState}
 use Rattle.stream_io.specs.Reading.{FirstTooLong}
 use Rattle.nodes.specs.Drawing.{ended_lines}
 use Rattle.nodes.specs.Source.{Lines}
-use Rattle.nodes.specs.Sink.{Sink, SinkStandsAs}
+use Rattle.nodes.specs.Sink.{Gathered, Sink, sink_late, sink_room, SinkStandsAs}
+use Rattle.nodes.specs.Kinds.{writes_of}
+use Rattle.nodes.specs.declared.sink.Writes.{Writes}
+use Rattle.nodes.specs.declared.sink.Writes.TheVariants.{Each}
 use Rattle.nodes.specs.Ignoring.{Ignorer}
 use Rattle.nodes.specs.Nodes.{node_picks, node_moves, node_misfit, node_plan}
 use Rattle.nodes.specs.declared.node.IslandNode.{IslandNode}
@@ -63,6 +66,8 @@ use Rattle.materializer.specs.Files.{output_of, inputs_of_nodes, outputs_of_node
 use Rattle.materializer.specs.Choosers.{NoneFollow, plan_at}
 use Rattle.materializer.specs.Seats.{place_plan}
 use Rattle.materializer.specs.Graphs.{graph_node, graph_of, graph_chain}
+use Rattle.materializer.specs.Seats.{gather_of}
+use Rattle.run_laws.proofs.Nodes.{one_input}
 use Rattle.stream_io.specs.Names.{drain_names}
 use Rattle.run_blueprint.specs.Checked.{PassesRules}
 use Rattle.run_blueprint.specs.Plugs.{KeepsPlugTypes}
@@ -117,11 +122,22 @@ counts_many a i (v ∷ vs) = ap suc (counts_many a (i + 1) vs)
 -- ---- the drain of a sink
 
 -- what the drain counted is added to the folder's count
-pub stands_writes : (e : EndState) (s t : DrainState) (wrote : List Tree) (n old new : ℕ) → SinkStandsAs e s t wrote n → s.faults ≡ 0 → Grew old t.faults new → FailedWritesOf e old new
-stands_writes Unended s t wrote n old new h none grew = subst (λ k. Grew old k new) (h.faults ∙ none) grew
-stands_writes Ended s t wrote n old new h none grew = subst (λ k. Grew old k new) (h.faults ∙ none) grew
-stands_writes (Failed c) s t wrote n old new h none grew = subst (λ k. Grew old k new) (h.faults ∙ none) grew
-stands_writes WriteFault s t wrote n old new h none grew = rose_by old t.faults new grew (rose_from_none s.faults t.faults none h.faults)
+-- room for a line at least is room for as many
+max_one : (n : ℕ) → 1 ≤ n → max n 1 ≡ n
+max_one n h = omega (arith, h)
+
+one_max : (n : ℕ) → 1 ≤ max 1 n
+one_max n = omega arith
+
+room_each : (lane : Option ℕ) → sink_room Each (gather_of lane) ≡ gather_of lane
+room_each None = refl
+room_each (Some s) = max_one (max 1 (s / 2)) (one_max (s / 2))
+
+pub stands_writes : (e : EndState) (y : Gathered) (s t : DrainState) (wrote : List Tree) (n old new : ℕ) → SinkStandsAs e y s t wrote n → s.faults ≡ 0 → Grew old t.faults new → FailedWritesOf e old new
+stands_writes Unended y s t wrote n old new h none grew = subst (λ k. Grew old k new) (h.first.wrote_all.faults ∙ none) grew
+stands_writes Ended y s t wrote n old new h none grew = subst (λ k. Grew old k new) (h.faults ∙ none) grew
+stands_writes (Failed c) y s t wrote n old new h none grew = subst (λ k. Grew old k new) (h.faults ∙ none) grew
+stands_writes WriteFault y s t wrote n old new h none grew = rose_by old t.faults new grew (rose_from_none s.faults t.faults none h.faults)
 
 calm_write : (e : EndState) (old new : ℕ) → is_write_fault e ≡ false → FailedWritesOf e old new → Grew old 0 new
 calm_write Unended old new h w = w
@@ -223,12 +239,12 @@ module _ {S D : Type 0} (L B : Type 0) (sources : S → SourceState) (drains : D
   abbrev SentLaw : Type 0
   SentLaw = (g : Graph) (a : Account (IslandNode S D L B)) → IsRun sources drains book g a
       → (k : ℕ) (n : graph.Node) (name : List ℕ) (first now : Sink D) (u : ℕ) (v : Edge) → slice_get g.nodes k ≡ Some n → n.kind ≡ kind.ToLines name → IsSinkAt a k first now → slice_get g.wires u ≡ Some v → v.to ≡ k
-      → SentTo now.end (elements (a.far u).wire.sent) now.count
+      → SentTo now.gather.room now.end (elements (a.far u).wire.sent) now.count
 
   abbrev RestLaw : Type 0
   RestLaw = (g : Graph) (a : Account (IslandNode S D L B)) → IsRun sources drains book g a
       → (k : ℕ) (n : graph.Node) (name : List ℕ) (first now : Sink D) (u : ℕ) (v : Edge) → slice_get g.nodes k ≡ Some n → n.kind ≡ kind.ToLines name → IsSinkAt a k first now → slice_get g.wires u ≡ Some v → v.to ≡ k
-      → IsStill g a → now.end ≡ Unended → elements (a.far u).wire.sent ≡ now.count
+      → IsStill g a → now.end ≡ Unended → sink_late now ≡ 0 → elements (a.far u).wire.sent ≡ now.count
 
   abbrev ReadsLaw : Type 0
   ReadsLaw = (g : Graph) (a : Account (IslandNode S D L B)) → IsRun sources drains book g a
@@ -501,6 +517,14 @@ module _ {S D L B : Type 0} (sources : S → SourceState) (drains : D → DrainS
       let same : (f.now.node, f.now.count, f.now.end) ≡ s = some_one (f.now.node, f.now.count, f.now.end) s told in
       (f, sym same ∙ ap (λ (j : ℕ). (j, f.now.count, f.now.end)) f.place)
 
+  -- how many lines a sink with a file may put together, by its one wire
+  roomed_at : (k : ℕ) (n : blue.Node) (first : Sink D) (u : ℕ) (v : Edge) → inputs_of n.kind ≡ 1 → slice_get nodes k ≡ Some n → left.firsts k ≡ Some (node.Writing first) → slice_get (blueprint_wires b) u ≡ Some v → v.to ≡ k
+      → first.gather.room ≡ sink_room first.writes (gather_of v.lane)
+  roomed_at k n first u v one here at wire to =
+      let there = mapped_at graph_node nodes k n here in
+      let found : find_wire k 0 g.wires ≡ Some u = one_input g run.joined k (graph_node n) u v there one wire to in
+      l.roomed k u v first at wire to (λ j x is leads. some_one j u (sym (one_input g run.joined k (graph_node n) j x there one is leads) ∙ found))
+
   -- how the wire of a sink stands, by how the sink does
   sink_stood : (i : ℕ) (s : SinkStand) (u : ℕ) (v : Edge) (c : WireCount) → slice_get st.end.sinks.items i ≡ Some s → slice_get (blueprint_wires b) u ≡ Some v → v.to ≡ s.0 → slice_get st.wires.items u ≡ Some c
       → ShutBy s.2 v.lane c.shut × OverBy s.2 c.shut (end_of_items (left.near u).wire.sent)
@@ -524,12 +548,12 @@ module _ {S D L B : Type 0} (sources : S → SourceState) (drains : D → DrainS
       let found = stand_of i s n file at here (ap output_of shape) in
       let f = found.0 in
       let asked : AskedBy f.now.end v.lane f.now.count (wire_count v.lane (left.near u) (left.asked u)) =
-      sink_asked sources drains book g left run u v wire s.0 (graph_node n) file f.first f.now (mapped_at graph_node nodes s.0 n here) shape to f.there l.cancels in
+      sink_asked sources drains book g left run u v wire s.0 (graph_node n) file f.first f.now (mapped_at graph_node nodes s.0 n here) shape to f.there (roomed_at s.0 n f.first u v (ap inputs_of shape) here f.there.at_first wire to) l.cancels in
       subst (λ (t : SinkStand). AskedBy t.2 v.lane t.1 c) (sym found.1) (rw (wire_at u v c wire is) asked)
 
   -- what came to a sink with a file
   took_there : (i : ℕ) (s : SinkStand) (n : blue.Node) (file : List ℕ) (u : ℕ) (v : Edge) → slice_get st.end.sinks.items i ≡ Some s → slice_get nodes s.0 ≡ Some n → output_of n.kind ≡ Some file
-      → slice_get (blueprint_wires b) u ≡ Some v → v.to ≡ s.0 → SinkTook (lane_loss v.keep v.lane) (list_of (left.near u).wire.sent) (end_of_items (left.near u).wire.sent) n.kind s
+      → slice_get (blueprint_wires b) u ≡ Some v → v.to ≡ s.0 → SinkTook (lane_loss v.keep v.lane) v.lane (list_of (left.near u).wire.sent) (end_of_items (left.near u).wire.sent) n.kind s
   took_there i s n file u v at here shape wire to =
       let found = stand_of i s n file at here shape in
       let f = found.0 in
@@ -537,8 +561,8 @@ module _ {S D L B : Type 0} (sources : S → SourceState) (drains : D → DrainS
       let same : h.node ≡ n = some_one h.node n (sym h.at ∙ here) in
       let one : inputs_of n.kind ≡ 1 = subst (λ (x : blue.Node). inputs_of x.kind ≡ 1) same (sink_one h.node.kind h.shape) in
       let is : (f.now.node, f.now.count, f.now.end) ≡ s = ap (λ (j : ℕ). (j, f.now.count, f.now.end)) f.place ∙ sym found.1 in
-      subst (λ (t : SinkStand). SinkTook (lane_loss v.keep v.lane) (list_of (left.near u).wire.sent) (end_of_items (left.near u).wire.sent) n.kind t) is
-      (sink_took sources drains book g left run u v wire s.0 (graph_node n) f.first f.now (mapped_at graph_node nodes s.0 n here) one to f.there)
+      subst (λ (t : SinkStand). SinkTook (lane_loss v.keep v.lane) v.lane (list_of (left.near u).wire.sent) (end_of_items (left.near u).wire.sent) n.kind t) is
+      (sink_took sources drains book g left run u v wire s.0 (graph_node n) f.first f.now (mapped_at graph_node nodes s.0 n here) one to f.there (roomed_at s.0 n f.first u v one here f.there.at_first wire to))
 
   -- a sink that keeps nothing, by its place among the stands
   ignorer_of : (i : ℕ) (s : SinkStand) (n : blue.Node) → slice_get st.end.sinks.items i ≡ Some s → slice_get nodes s.0 ≡ Some n → n.kind ≡ kind.Ignore
@@ -745,6 +769,11 @@ module _ {S D L B : Type 0} (sources : S → SourceState) (drains : D → DrainS
       at_graph : slice_get g.nodes k ≡ Some (graph_node n)
       at_graph = mapped_at graph_node nodes k n at
 
+      room_now : n.kind ≡ kind.ToLines file → (u : ℕ) (v : Edge) → slice_get (blueprint_wires b) u ≡ Some v → v.to ≡ k → f.now.gather.room ≡ gather_of v.lane
+      room_now shape u v wire to =
+          f.law.room_same ∙ roomed_at k n f.first u v (ap inputs_of shape) at f.there.at_first wire to
+          ∙ ap (λ (m : Writes). sink_room m (gather_of v.lane)) ((run.made k (graph_node n) (node.Writing f.first) at_graph f.there.at_first).writes ∙ ap writes_of shape) ∙ room_each v.lane
+
       wrote : SinkWrote sources drains book g left k (graph_node n) f.first f.now
       wrote = laws.wrote g left run k (graph_node n) f.first f.now at_graph f.there
 
@@ -758,11 +787,12 @@ module _ {S D L B : Type 0} (sources : S → SourceState) (drains : D → DrainS
             let ranked = laws.ranked b can.plugs can.taken can.fit in
             let list = laws.took g world ranked.0 left (run_at world has_files.book_is) (world_tells world has_files) ranked.1 k (graph_node n) file f.first f.now at_graph shape f.there in
             subst (λ (m : ℕ). SentOn v.lane f.now.end m f.now.count) (sym (wire_count_at u v at))
-            (sink_sent sources drains book g left run u v at (composed g world u) (sent_agrees u v at world has_files) k (graph_node n) at_graph (ap inputs_of shape) to f.now.end (sink_outlook g world k (graph_node n)) list f.now.count
+            (sink_sent sources drains book g left run u v at (composed g world u) (sent_agrees u v at world has_files) k (graph_node n) at_graph (ap inputs_of shape) to f.now.end (sink_outlook g world k (graph_node n)) list f.now.gather.room f.now.count
+            (room_now shape u v at to)
             (laws.sent g left run k (graph_node n) file f.first f.now u v at_graph shape f.there at to));
         rests = λ shape rest unended u v at to.
             wire_count_at u v at ∙ sink_rests sources drains book g left run u v at (composed g world u) (sent_agrees u v at world has_files) k (graph_node n) at_graph (ap inputs_of shape) to f.first f.now f.there (still rest) unended
-            ∙ laws.rest g left run k (graph_node n) file f.first f.now u v at_graph shape f.there at to (still rest) unended;
+            ∙ laws.rest g left run k (graph_node n) file f.first f.now u v at_graph shape f.there at to (still rest) unended (l.none_late rest k f.now f.there.at_last);
       }
 
     -- a sink without a file
@@ -911,7 +941,7 @@ module _ {S D L B : Type 0} (sources : S → SourceState) (drains : D → DrainS
       let told = filtered_at stand_in last from.0 (node.Writing f.now) (f.now.node, f.now.count, f.now.end) f.at refl in
       let among : slice_get st.end.sinks.items told.0 ≡ Some (f.now.node, f.now.count, f.now.end) = subst (λ (z : List SinkStand). slice_get z told.0 ≡ Some (f.now.node, f.now.count, f.now.end)) (sym (l.sinks ∙ sinks_filtered last)) told.1 in
       let grew : Grew (old.wfaults shape.0) 0 (new.wfaults shape.0) = calm_write f.now.end (old.wfaults shape.0) (new.wfaults shape.0) (none told.0 (f.now.node, f.now.count, f.now.end) among)
-      (stands_writes f.now.end (drains f.first.drain) (drains f.now.drain) f.law.wrote f.now.count (old.wfaults shape.0) (new.wfaults shape.0) f.law.stands f.start.faults (sink_writes from.0 shape.0 f)) in
+      (stands_writes f.now.end f.now.gather (drains f.first.drain) (drains f.now.drain) f.law.wrote f.now.count (old.wfaults shape.0) (new.wfaults shape.0) f.law.stands f.start.faults (sink_writes from.0 shape.0 f)) in
       subst (λ m. Grew (old.wfaults m) 0 (new.wfaults m)) named grew
 
   -- where no sink's write failed, and none to the trace's file, no count of failed writes rose
@@ -963,7 +993,7 @@ module _ {S D L B : Type 0} (sources : S → SourceState) (drains : D → DrainS
         let found = stand_of i s n file at here shape in
         let f = found.0 in
         subst (λ (t : SinkStand). FailedWritesOf t.2 (old.wfaults file) (new.wfaults file)) (sym found.1)
-        (stands_writes f.now.end (drains f.first.drain) (drains f.now.drain) f.law.wrote f.now.count (old.wfaults file) (new.wfaults file) f.law.stands f.start.faults (sink_writes s.0 file f));
+        (stands_writes f.now.end f.now.gather (drains f.first.drain) (drains f.now.drain) f.law.wrote f.now.count (old.wfaults file) (new.wfaults file) f.law.stands f.start.faults (sink_writes s.0 file f));
     faults = λ i s at fault.
         let among : slice_get (filter_map stand_in last) i ≡ Some s = subst (λ (x : List SinkStand). slice_get x i ≡ Some s) (l.sinks ∙ sinks_filtered last) at in
         let from = unfiltered_at stand_in last i s among in
@@ -980,7 +1010,7 @@ module _ {S D L B : Type 0} (sources : S → SourceState) (drains : D → DrainS
           file = shape.0;
           output = contains_at (outputs_of_nodes nodes) file.0 shape.0 file.1;
           rose = subst (λ (e : EndState). FailedWritesOf e (old.wfaults shape.0) (new.wfaults shape.0)) failed
-              (stands_writes f.now.end (drains f.first.drain) (drains f.now.drain) f.law.wrote f.now.count (old.wfaults shape.0) (new.wfaults shape.0) f.law.stands f.start.faults (sink_writes from.0 shape.0 f));
+              (stands_writes f.now.end f.now.gather (drains f.first.drain) (drains f.now.drain) f.law.wrote f.now.count (old.wfaults shape.0) (new.wfaults shape.0) f.law.stands f.start.faults (sink_writes from.0 shape.0 f));
         };
     calm = λ none calm. calm_writes none (calm_trace old new b trace _ failed (traced_so (result failed ran) traced) calm);
     other_writes = λ n never aside. other_writes sources drains b can last st.end.readers.items st.end.writers.items apart old mid _ _ opens new closes lone n never (unlisted trace n aside);

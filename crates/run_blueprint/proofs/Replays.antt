@@ -39,24 +39,24 @@ none_at (p ∷ ps) h (suc k) = none_at ps h.1 k
 -- ---- what the nodes follow
 
 module _ {S D L B : Type 0} where
-  work_follows : (k : ℕ) (w : Work S D L B) (x : IslandNode S D L B) → BecomesOf k w x → work_plan w ≡ node_plan x
-  work_follows k (work.Reading r) x h = sym (ap node_plan h)
-  work_follows k (work.Making shape) x h = sym (ap node_plan h)
-  work_follows k (work.Linear l) x h = sym (ap node_plan h)
-  work_follows k (work.State l) x h = sym (ap node_plan h)
-  work_follows k (work.Sub l) x h = sym (ap node_plan h)
-  work_follows k (work.FanIn l n) x h = sym (ap node_plan h)
-  work_follows k (work.FanOut l n) x h = sym (ap node_plan h)
-  work_follows k (work.Writing shape (Some d)) x h = sym (ap node_plan h)
-  work_follows k (work.Writing shape None) x h = sym (ap node_plan h)
-  work_follows k (work.LaneIn u) x h = sym (ap node_plan h)
-  work_follows k (work.LaneOut u) x h = sym (ap node_plan h)
+  work_follows : (k room : ℕ) (w : Work S D L B) (x : IslandNode S D L B) → BecomesOf k room w x → work_plan w ≡ node_plan x
+  work_follows k room (work.Reading r) x h = sym (ap node_plan h)
+  work_follows k room (work.Making shape) x h = sym (ap node_plan h)
+  work_follows k room (work.Linear l) x h = sym (ap node_plan h)
+  work_follows k room (work.State l) x h = sym (ap node_plan h)
+  work_follows k room (work.Sub l) x h = sym (ap node_plan h)
+  work_follows k room (work.FanIn l n) x h = sym (ap node_plan h)
+  work_follows k room (work.FanOut l n) x h = sym (ap node_plan h)
+  work_follows k room (work.Writing shape (Some d)) x h = sym (ap node_plan h)
+  work_follows k room (work.Writing shape None) x h = sym (ap node_plan h)
+  work_follows k room (work.LaneIn u) x h = sym (ap node_plan h)
+  work_follows k room (work.LaneOut u) x h = sym (ap node_plan h)
 
   pub follow_along : (places : List (Seated S D L B)) (firsts : List (IslandNode S D L B)) → AllBecome places firsts → (k : ℕ) (x : IslandNode S D L B) → slice_get firsts k ≡ Some x → plan_at (map place_plan places) k ≡ node_plan x
   follow_along [] [] h k x at = absurd (none_some at)
   follow_along [] (y ∷ ys) h k x at = absurd h
   follow_along (p ∷ ps) [] h k x at = absurd h
-  follow_along (p ∷ ps) (y ∷ ys) h zero x at = let same : y ≡ x = cc in work_follows p.node p.work y h.0 ∙ ap node_plan same
+  follow_along (p ∷ ps) (y ∷ ys) h zero x at = let same : y ≡ x = cc in work_follows p.node p.room p.work y h.0 ∙ ap node_plan same
   follow_along (p ∷ ps) (y ∷ ys) h (suc k) x at = follow_along ps ys h.1 k x at
 
 -- ---- what they made

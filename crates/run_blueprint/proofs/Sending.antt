@@ -1,6 +1,6 @@
 -- How many elements were sent on the wire of a sink, also where it is a lane: by what came to the sink and what a lane holds.
 use Rattle.std.specs.Prelude.{slice_get}
-use Rattle.std.proofs.Common.{◌≡◌, ℕ, ◌+◌, ◌≤◌, Bool, true, false, List, [], ◌∷◌, length, Option, None, Some, refl, sym, ap, ◌∙◌, subst, arith}
+use Rattle.std.proofs.Common.{◌≡◌, ℕ, ◌+◌, ◌*◌, ◌≤◌, Bool, true, false, List, [], ◌∷◌, length, Option, None, Some, refl, sym, ap, ◌∙◌, subst, arith}
 use Rattle.elem_core.specs.Prefix.{IsPrefix}
 use Rattle.elem_core.specs.Tree.{Tree}
 use Rattle.elem_core.specs.Items.{elements}
@@ -42,20 +42,28 @@ use Rattle.run_laws.proofs.Histories.{list_of_told, standing_told}
 use Rattle.run_laws.proofs.Nodes.{kept_as, one_input, read_one}
 use Rattle.run_laws.proofs.Standing.{in_rests}
 use Rattle.run_laws.specs.Runs.{IsRun}
-use Rattle.run_laws.specs.Sinks.{TookList, SentTo, IsSinkAt, IgnoreTells, IsIgnorerAt}
+use Rattle.run_laws.specs.Sinks.{TookList, WithinRounds, SentTo, IsSinkAt, IgnoreTells, IsIgnorerAt}
+use Rattle.run_laws.specs.Ends.{half_of, AskedInRounds}
+use Rattle.materializer.specs.Seats.{gather_of}
 use Rattle.run_laws.proofs.Faults.{sent_wanted}
 use Rattle.run_laws.proofs.Passing.{passing_agrees}
 use Rattle.run_blueprint.specs.Sending.{SentOn}
 
 -- ---- one wire
 
+-- so many elements were sent at its input, and at its output no more than a lane asked for, which asked in rounds
+abbrev Asks : Option ℕ → ℕ → ℕ → Type 0
+Asks None near far = near ≤ far
+Asks (Some s) near far = (asked : ℕ) × ((near ≤ asked) × AskedInRounds s asked far)
+
 -- as many elements were sent at its output as at its input, and so many more at most as it has places
 record Holds (lane : Option ℕ) (near far : ℕ) : Type 0 where
   least : far ≤ near
   most : near ≤ far + lane_size lane
+  asks : Asks lane near far
 
 wire_holds : (keep : Bool) (lane : Option ℕ) (near far : WireState) (asked : ℕ) (q : Bool) → IsSound near.wire q → WireKeeps keep lane near far asked → Holds lane (elements near.wire.sent) (elements far.wire.sent)
-wire_holds keep None near far asked q sound k = let same : elements far.wire.sent ≡ elements near.wire.sent = ap (λ (c : WireState). elements c.wire.sent) k in record { least = omega (arith, same); most = omega (arith, same) }
+wire_holds keep None near far asked q sound k = let same : elements far.wire.sent ≡ elements near.wire.sent = ap (λ (c : WireState). elements c.wire.sent) k in record { least = omega (arith, same); most = omega (arith, same); asks = omega (arith, same) }
 wire_holds keep (Some s) near far asked q sound k =
     let pushed : elements far.wire.sent ≡ length k.in_keeps.pushed_list = ap elements k.in_keeps.pushed_is ∙ elements_told k.in_keeps.pushed_list k.in_keeps.pushed_end in
     let taken : elements k.inp.taken ≡ length k.in_keeps.taken_list = ap elements k.in_keeps.taken_is ∙ elements_told k.in_keeps.taken_list k.in_keeps.taken_end in
@@ -67,15 +75,34 @@ wire_holds keep (Some s) near far asked q sound k =
     let wants : wanted near ≤ k.out.seen = k.out_keeps.wants in
     let seen : k.out.seen ≤ k.inp.asked = k.met.seen in
     let asks : k.inp.asked ≤ elements far.wire.sent + s = k.in_keeps.asks in
-    record { least = omega (arith, pushed, taken, carried_on, met, given, came); most = omega (arith, some, wants, seen, asks) }
+    record { least = omega (arith, pushed, taken, carried_on, met, given, came); most = omega (arith, some, wants, seen, asks); asks = (k.inp.asked, (omega (arith, some, wants, seen), k.in_keeps.in_rounds)) }
+
+-- by its rounds no more was asked for than the file lacks and the lane has places, and one
+few_by : (s half near asked far rounds over count : ℕ) → near ≤ asked → asked ≡ s + rounds * half → far ≡ rounds * half + over → far ≤ count + (over + 1) → near ≤ count + (s + 1)
+few_by s half near asked far rounds over count less asked_is pushed behind = omega (arith, less, asked_is, pushed, behind)
+
+asked_few : (s near far count : ℕ) → Asks (Some s) near far → WithinRounds (half_of s) far count → near ≤ count + (s + 1)
+asked_few s near far count a w =
+    let r = a.1.1 in
+    few_by s (half_of s) near a.0 far r.rounds r.over count a.1.0 r.asked_is r.pushed_is (w r.rounds r.over r.pushed_is r.few)
+
+-- a round of one
+one_more : (sent count : ℕ) → WithinRounds 1 sent count → sent ≤ count + 1
+one_more sent count w = let b : sent ≤ count + (0 + 1) = w sent 0 (omega arith) (omega arith) in omega (arith, b)
 
 -- by how many came to the sink, and that where a normal end came all did
-sent_on : (lane : Option ℕ) (e : EndState) (near far count : ℕ) → Holds lane near far → (e ≡ Ended → near ≤ far) → SentTo e far count → SentOn lane e near count
-sent_on None e near far count h all s = let least = h.least in let most = h.most in let same : far ≡ near = omega (arith, least, most) in subst (λ (m : ℕ). SentTo e m count) same s
+sent_on : (lane : Option ℕ) (e : EndState) (near far count : ℕ) → Holds lane near far → (e ≡ Ended → near ≤ far) → SentTo (gather_of lane) e far count → SentOn lane e near count
+sent_on None e near far count h all s = let least = h.least in let most = h.most in let same : far ≡ near = omega (arith, least, most) in subst (λ (m : ℕ). SentOn None e m count) same (by e s)
+  where
+    by : (d : EndState) → SentTo 1 d far count → SentOn None d far count
+    by Ended t = t
+    by (Failed c) t = t
+    by Unended t = (t.0, one_more far count t.1)
+    by WriteFault t = let a : count + 1 ≤ far = t.0 in let b : far ≤ count + 1 = one_more far count t.1 in omega (arith, a, b)
 sent_on (Some z) Ended near far count h all s = let least = h.least in let most = all refl in omega (arith, least, most, s)
 sent_on (Some z) (Failed c) near far count h all s = let least = h.least in let most = h.most in (omega (arith, least, s), omega (arith, most, s))
-sent_on (Some z) Unended near far count h all s = let least = h.least in let most = h.most in let a = s.0 in let b = s.1 in (omega (arith, least, a), omega (arith, most, b))
-sent_on (Some z) WriteFault near far count h all s = let least = h.least in let most = h.most in (omega (arith, least, s), omega (arith, most, s))
+sent_on (Some z) Unended near far count h all s = let least = h.least in let a = s.0 in (omega (arith, least, a), asked_few z near far count h.asks s.1)
+sent_on (Some z) WriteFault near far count h all s = let least = h.least in let a = s.0 in (omega (arith, least, a), asked_few z near far count h.asks s.1)
 
 -- a list of which a normal end came is all that was sent
 all_came : (s : ℕ) (sent : List Item) (m l : List Tree) (f e : End) → sent ≡ told m f → Carries s (list_of sent) (end_of_items sent) l e → e ≡ ended → elements sent ≡ length l
@@ -159,18 +186,18 @@ module _ {S D L B : Type 0} (sources : S → SourceState) (drains : D → DrainS
 
     -- a sink of lines that ended got all
     module _ (end : EndState) (so : Outlook) (list : TookList so end (took g a k n)) where
-      got_is : (a.far u).wire.got ≡ told list.list (end_seen end)
-      got_is = heads_same (a.far u).wire.got (told list.list (end_seen end)) (sym took_one ∙ list.is)
+      got_is : (a.far u).wire.got ≡ told list.list list.seen
+      got_is = heads_same (a.far u).wire.got (told list.list list.seen) (sym took_one ∙ list.is)
 
       all_there : end ≡ Ended → elements (a.near u).wire.sent ≤ elements (a.far u).wire.sent
       all_there is =
-          let all : elements (a.near u).wire.sent ≡ length list.list = all_came (lane_size (lane_loss v.keep v.lane)) (a.near u).wire.sent sent.list list.list sent.end (end_seen end) sent.is (brings list.list (end_seen end) got_is) (ap end_seen is) in
-          let came : elements (a.far u).wire.got ≡ length list.list = ap elements got_is ∙ elements_told list.list (end_seen end) in
+          let all : elements (a.near u).wire.sent ≡ length list.list = all_came (lane_size (lane_loss v.keep v.lane)) (a.near u).wire.sent sent.list list.list sent.end list.seen sent.is (brings list.list list.seen got_is) (list.ends (λ fault. let no : Ended ≡ WriteFault = sym is ∙ fault in cc) ∙ ap end_seen is) in
+          let came : elements (a.far u).wire.got ≡ length list.list = ap elements got_is ∙ elements_told list.list list.seen in
           let less : elements (a.far u).wire.got ≤ elements (a.far u).wire.sent = no_fewer (a.far u).wire far_sound.0 far_sound.1 in
           omega (arith, all, came, less)
 
-      pub sink_sent : (count : ℕ) → SentTo end (elements (a.far u).wire.sent) count → SentOn v.lane end (elements (a.near u).wire.sent) count
-      sink_sent count s = sent_on v.lane end (elements (a.near u).wire.sent) (elements (a.far u).wire.sent) count holds all_there s
+      pub sink_sent : (room count : ℕ) → room ≡ gather_of v.lane → SentTo room end (elements (a.far u).wire.sent) count → SentOn v.lane end (elements (a.near u).wire.sent) count
+      sink_sent room count is s = sent_on v.lane end (elements (a.near u).wire.sent) (elements (a.far u).wire.sent) count holds all_there (subst (λ (m : ℕ). SentTo m end (elements (a.far u).wire.sent) count) is s)
 
     -- where no event is left nothing is on the way to a sink that waits
     pub sink_rests : (first now : Sink D) → IsSinkAt a k first now → IsStill g a → now.end ≡ Unended → elements (a.near u).wire.sent ≡ elements (a.far u).wire.sent

@@ -1,6 +1,6 @@
 -- How the wires of a run stand at any moment: of those on which an end was sent, of lanes, and of the wire of a sink by how it stands.
 use Rattle.std.specs.Prelude.{slice_get, slice_index_or, if◌then◌else◌}
-use Rattle.std.proofs.Common.{◌≡◌, ◌≢◌, ℕ, zero, suc, ◌+◌, ◌<◌, ◌≤◌, Bool, true, false, not, List, [], ◌∷◌, length, length-append, Option, None, Some, refl, sym, ap, ◌∙◌, subst, arith}
+use Rattle.std.proofs.Common.{◌≡◌, ◌≢◌, ℕ, zero, suc, ◌+◌, ◌<◌, ◌≤◌, Bool, true, false, not, List, [], ◌∷◌, ◌++◌, length, length-append, Option, None, Some, refl, sym, ap, ◌∙◌, subst, arith}
 use Rattle.elem_core.specs.Tree.{Tree}
 use Rattle.elem_core.specs.Items.{elements}
 use Rattle.elem_core.specs.declared.item.Item.{Item}
@@ -39,7 +39,9 @@ use Rattle.nodes.specs.Ignoring.{Ignorer, IgnoreLaw, ignore_port_state_in}
 use Rattle.nodes.specs.Kinds.{writes_of}
 use Rattle.nodes.specs.Nodes.{node_port_state, node_law, node_asking, node_moves}
 use Rattle.nodes.specs.Ports.{OneInOf}
-use Rattle.nodes.specs.Sink.{Sink, sink_port_state_in, SinkStandsAs, WritesOf, WritesEach, SinkLaw}
+use Rattle.nodes.specs.Sink.{Gathered, Sink, sink_port_state_in, sink_room, Paced, SinkStandsAs, WritesOf, WritesEach, SinkLaw}
+use Rattle.materializer.specs.Seats.{gather_of}
+use Rattle.run_laws.proofs.OutlookCounting.{within_same, within_next}
 use Rattle.run_laws.specs.Account.{Account, knows, took, gave, WireKeeps, NodeKeeps}
 use Rattle.run_laws.specs.Items.{list_of, end_of_items, lane_size}
 use Rattle.run_laws.specs.KindLaws.{IsHistoryOf}
@@ -204,10 +206,10 @@ module _ (keep : Bool) (near far : WireState) (asked : ℕ) (p q : Bool) (sn : I
   over_there None k h = rw (sym k) (in_shut far.wire q sf (subst InClosed (sym h) tt))
   over_there (Some s) k h = lane_over keep s near far k.out k.inp k.out_keeps k.in_keeps k.met p q sn sf h
 
-  asked_by : (e : EndState) (lane : Option ℕ) (count : ℕ) → WireKeeps keep lane near far asked → IsMarked near → Sees e far.wire.inp → (e ≡ Unended → elements far.wire.got ≡ count) → AskedBy e lane count (wire_count lane near asked)
+  asked_by : (e : EndState) (lane : Option ℕ) (count : ℕ) → WireKeeps keep lane near far asked → IsMarked near → Sees e far.wire.inp → (lane ≡ None → e ≡ Unended → elements far.wire.got ≡ count) → AskedBy e lane count (wire_count lane near asked)
   asked_by Unended None count k m h wrote = λ none.
       let waits : near.wire.inp ≡ Pulled = subst (λ (c : WireState). c.wire.inp ≡ Pulled) k h in
-      let all : elements near.wire.got ≡ count = subst (λ (c : WireState). elements c.wire.got ≡ count) k (wrote refl) in
+      let all : elements near.wire.got ≡ count = subst (λ (c : WireState). elements c.wire.got ≡ count) k (wrote refl refl) in
       subst (λ (n : ℕ). elements near.wire.sent ≡ (if near.asked then n else n + 1)) all (waits_marked near p m sn waits none)
   asked_by Unended (Some s) count k m h wrote = tt
   asked_by Ended lane count k m h wrote = tt
@@ -221,24 +223,33 @@ module _ (keep : Bool) (near far : WireState) (asked : ℕ) (p q : Bool) (sn : I
       let least : z ≤ elements near.wire.sent = lane_least keep z near far k.out k.inp k.out_keeps k.in_keeps k.met (rw k.asked_is unasked) in
       omega (arith, size, least)
 
--- how many elements came to a sink that goes on and writes each
-each_wrote : (m : Writes) (n count : ℕ) (kept : Option Tree) (e : EndState) (old new : DrainState) (l : List Tree) (f : End) (wrote : List Tree) → m ≡ Each → e ≡ Unended → WritesOf m n kept e l f wrote → SinkStandsAs e old new wrote count → length l ≡ count
-each_wrote Each n count kept Unended old new l f wrote each goes w s = ap length (sym w.0) ∙ sym s.count
-each_wrote First n count kept Unended old new l f wrote each goes w s = cc
-each_wrote Last n count kept Unended old new l f wrote each goes w s = cc
-each_wrote m n count kept Ended old new l f wrote each goes w s = cc
-each_wrote m n count kept (Failed c) old new l f wrote each goes w s = cc
-each_wrote m n count kept WriteFault old new l f wrote each goes w s = cc
+-- how many elements came to a sink that goes on, writes each and puts one alone
+each_wrote : (m : Writes) (n count : ℕ) (kept : Option Tree) (e : EndState) (y : Gathered) (old new : DrainState) (l : List Tree) (f : End) (wrote : List Tree) → m ≡ Each → e ≡ Unended → y.room ≡ 1 → Paced y.room y.passed count (length wrote) → WritesOf m n kept e l f wrote → SinkStandsAs e y old new wrote count
+    → length l ≡ count
+each_wrote Each n count kept Unended y old new l f wrote each goes one paced w s =
+    let few : y.passed < y.room = paced.few in
+    let none : y.late ≡ 0 = s.due (omega (arith, few, one)) in
+    let late : y.late ≡ length s.first.off = s.first.late_is in
+    let put : count ≡ length s.first.put = s.first.wrote_all.count in
+    let parts : length wrote ≡ length (s.first.put ++ s.first.off) = ap length s.first.wrote_is in
+    let same : length wrote ≡ length l = ap length w.0 in
+    omega (arith, none, late, put, parts, same, length-append s.first.put s.first.off)
+each_wrote First n count kept Unended y old new l f wrote each goes one paced w s = cc
+each_wrote Last n count kept Unended y old new l f wrote each goes one paced w s = cc
+each_wrote m n count kept Ended y old new l f wrote each goes one paced w s = cc
+each_wrote m n count kept (Failed c) y old new l f wrote each goes one paced w s = cc
+each_wrote m n count kept WriteFault y old new l f wrote each goes one paced w s = cc
 
 -- how many lines a sink wrote
-lines_written : (e : EndState) (old new : DrainState) (wrote : List Tree) (n : ℕ) → SinkStandsAs e old new wrote n → LinesWritten e wrote n
-lines_written Unended old new wrote n s = sym s.count
-lines_written Ended old new wrote n s = sym s.count
-lines_written (Failed c) old new wrote n s = sym s.count
-lines_written WriteFault old new wrote n s =
-    let all : length wrote ≡ length s.before + 1 = ap length s.wrote_is ∙ length-append s.before (s.last ∷ []) in
-    let less : n ≡ length s.before = s.count in
-    omega (arith, all, less)
+lines_written : (e : EndState) (y : Gathered) (old new : DrainState) (wrote : List Tree) (n : ℕ) → Paced y.room y.passed n (length wrote) → SinkStandsAs e y old new wrote n → LinesWritten y.room e wrote n
+lines_written Unended y old new wrote n paced s =
+    let put : n ≡ length s.first.put = s.first.wrote_all.count in
+    let late : y.late ≡ length s.first.off = s.first.late_is in
+    let parts : length wrote ≡ length (s.first.put ++ s.first.off) = ap length s.first.wrote_is in
+    (omega (arith, put, parts, length-append s.first.put s.first.off), within_next y.room y.passed n (length wrote) paced (λ full. let none : y.late ≡ 0 = s.due full in omega (arith, none, late, put, parts, length-append s.first.put s.first.off)))
+lines_written Ended y old new wrote n paced s = sym s.count
+lines_written (Failed c) y old new wrote n paced s = sym s.count
+lines_written WriteFault y old new wrote n paced s = let lost : n < length wrote = s.lost in (omega (arith, lost), within_same y.room y.passed n (length wrote) paced)
 
 -- ---- a wire of a run
 
@@ -336,9 +347,9 @@ module _ {S D L B : Type 0} (sources : S → SourceState) (drains : D → DrainS
   brought = wire_brings v.keep v.lane (a.near u) (a.far u) (a.asked u) near_sound.0 far_sound.0 near_sound.1 far_sound.1 keeps
 
   -- to a sink with a file
-  pub sink_took : (k : ℕ) (n : graph.Node) (first now : Sink D) → slice_get g.nodes k ≡ Some n → inputs_of n.kind ≡ 1 → v.to ≡ k → IsSinkAt a k first now
-      → SinkTook (lane_loss v.keep v.lane) (list_of (a.near u).wire.sent) (end_of_items (a.near u).wire.sent) n.kind (now.node, now.count, now.end)
-  sink_took k n first now ni one to there =
+  pub sink_took : (k : ℕ) (n : graph.Node) (first now : Sink D) → slice_get g.nodes k ≡ Some n → inputs_of n.kind ≡ 1 → v.to ≡ k → IsSinkAt a k first now → first.gather.room ≡ sink_room first.writes (gather_of v.lane)
+      → SinkTook (lane_loss v.keep v.lane) v.lane (list_of (a.near u).wire.sent) (end_of_items (a.near u).wire.sent) n.kind (now.node, now.count, now.end)
+  sink_took k n first now ni one to there roomed =
       let kept = kept_as node_port_state (node_law sources drains book) node_asking node_moves g a run.keeps k n (node.Writing first) (node.Writing now) ni there.at_first there.at_last in
       let law : SinkLaw drains first now (knows g a k n) (took g a k n) (gave g a k n) = kept.law_holds in
       let its : FirstWriting k n.kind first = run.made k n (node.Writing first) ni there.at_first in
@@ -351,7 +362,8 @@ module _ {S D L B : Type 0} (sources : S → SourceState) (drains : D → DrainS
         kept = now.kept;
         wrote = law.wrote;
         writes = subst (λ (m : Writes). WritesOf m now.node now.kept now.end law.elems law.in_end law.wrote) (law.writes_same ∙ its.writes) law.writes;
-        lines = lines_written now.end (drains first.drain) (drains now.drain) law.wrote now.count law.stands;
+        lines = subst (λ (m : ℕ). LinesWritten m now.end law.wrote now.count) (law.room_same ∙ roomed ∙ ap (λ (m : Writes). sink_room m (gather_of v.lane)) its.writes)
+            (lines_written now.end now.gather (drains first.drain) (drains now.drain) law.wrote now.count law.paced law.stands);
       }
 
   -- to one that keeps nothing
@@ -365,9 +377,9 @@ module _ {S D L B : Type 0} (sources : S → SourceState) (drains : D → DrainS
       record { came = law.elems; seen = law.in_end; carried = brought law.elems law.in_end got; none = refl; ends = law.ends }
 
   -- of a sink of lines
-  module _ (k : ℕ) (n : graph.Node) (file : List ℕ) (first now : Sink D) (ni : slice_get g.nodes k ≡ Some n) (shape : n.kind ≡ kind.ToLines file) (to : v.to ≡ k) (there : IsSinkAt a k first now) (cancels : CancelsCross g a) where
-    wrote_all : now.end ≡ Unended → elements (a.far u).wire.got ≡ now.count
-    wrote_all goes =
+  module _ (k : ℕ) (n : graph.Node) (file : List ℕ) (first now : Sink D) (ni : slice_get g.nodes k ≡ Some n) (shape : n.kind ≡ kind.ToLines file) (to : v.to ≡ k) (there : IsSinkAt a k first now) (roomed : first.gather.room ≡ sink_room first.writes (gather_of v.lane)) (cancels : CancelsCross g a) where
+    wrote_all : v.lane ≡ None → now.end ≡ Unended → elements (a.far u).wire.got ≡ now.count
+    wrote_all fused goes =
         let kept = kept_as node_port_state (node_law sources drains book) node_asking node_moves g a run.keeps k n (node.Writing first) (node.Writing now) ni there.at_first there.at_last in
         let law : SinkLaw drains first now (knows g a k n) (took g a k n) (gave g a k n) = kept.law_holds in
         let its : FirstWriting k n.kind first = run.made k n (node.Writing first) ni there.at_first in
@@ -376,7 +388,8 @@ module _ {S D L B : Type 0} (sources : S → SourceState) (drains : D → DrainS
         let got : (a.far u).wire.got ≡ told law.elems law.in_end = heads_same (a.far u).wire.got (told law.elems law.in_end) (sym came ∙ law.took_is) in
         let each : now.writes ≡ Each = law.writes_same ∙ its.writes ∙ ap writes_of shape in
         ap elements got ∙ elements_told law.elems law.in_end
-        ∙ each_wrote now.writes now.node now.count now.kept now.end (drains first.drain) (drains now.drain) law.elems law.in_end law.wrote each goes law.writes law.stands
+        ∙ each_wrote now.writes now.node now.count now.kept now.end now.gather (drains first.drain) (drains now.drain) law.elems law.in_end law.wrote each goes
+        (law.room_same ∙ roomed ∙ ap (λ (m : Writes). sink_room m (gather_of v.lane)) (its.writes ∙ ap writes_of shape) ∙ ap (λ (o : Option ℕ). sink_room Each (gather_of o)) fused) law.paced law.writes law.stands
 
     pub sink_asked : AskedBy now.end v.lane now.count (wire_count v.lane (a.near u) (a.asked u))
     sink_asked =

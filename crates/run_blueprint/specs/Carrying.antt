@@ -19,14 +19,16 @@ use Rattle.stream_model.specs.declared.blueprint.Node.{Node}
 use Rattle.stream_model.specs.declared.head.PlugHead.{PlugHead}
 use Rattle.nodes.specs.Ignoring.{EndsWith}
 use Rattle.nodes.specs.Kinds.{writes_of}
-use Rattle.nodes.specs.Sink.{WritesOf}
+use Rattle.nodes.specs.Sink.{WritesOf, sink_room}
 use Rattle.run_laws.specs.Items.{lane_size}
 use Rattle.run_laws.specs.Replayed.{RestsBy, IsLawfulBy, MisfitsOver}
+use Rattle.run_laws.specs.Sinks.{WithinRounds}
 use Rattle.blue_check.specs.Fitness.{IsFit}
 use Rattle.blue_check.specs.Wires.{blueprint_wires}
 use Rattle.materializer.specs.Files.{output_of}
 use Rattle.materializer.specs.Choosers.{plan_at}
 use Rattle.materializer.specs.Graphs.{graph_of, graph_node}
+use Rattle.materializer.specs.Seats.{gather_of}
 use Rattle.run_blueprint.specs.Checked.{wire_type}
 use Rattle.run_blueprint.specs.Sent.{exact}
 use Rattle.run_blueprint.specs.Stands.{SinkStand, has_ended_at}
@@ -67,22 +69,24 @@ AskedBy Ended lane count c = ⊤
 AskedBy (Failed d) lane count c = ⊤
 AskedBy WriteFault lane count c = ⊤
 
--- so many lines of these were written, or one less where the write of the last one failed
-abbrev pub LinesWritten : EndState → List Tree → ℕ → Type 0
-LinesWritten WriteFault wrote n = length wrote ≡ n + 1
-LinesWritten _ wrote n = length wrote ≡ n
+-- So many lines of these were written, by a sink that may put so many together: while it waits no fewer than all but those that it may
+-- put off, and less than all where a write failed, but no fewer than that. Where it may put one alone these are all, or all but one.
+abbrev pub LinesWritten : ℕ → EndState → List Tree → ℕ → Type 0
+LinesWritten room WriteFault wrote n = (n + 1 ≤ length wrote) × WithinRounds room (length wrote) n
+LinesWritten room Unended wrote n = (n ≤ length wrote) × WithinRounds room (length wrote + 1) n
+LinesWritten room _ wrote n = length wrote ≡ n
 
 -- What came to a sink with a file of the list and the end that passed its wire: all of it but what is on its way, and but what a
 -- failure may have robbed of a lane, `loss` elements at most. The sink wrote of that what its kind writes, so many lines, and it stands
 -- so.
-pub record SinkTook (loss : Option ℕ) (list : List Tree) (end : End) (shape : Kind) (s : SinkStand) : Type 0 where
+pub record SinkTook (loss lane : Option ℕ) (list : List Tree) (end : End) (shape : Kind) (s : SinkStand) : Type 0 where
   pub came : List Tree
   pub seen : End
   pub carried : Carries (lane_size loss) list end came seen
   pub kept : Option Tree
   pub wrote : List Tree
   pub writes : WritesOf (writes_of shape) s.0 kept s.2 came seen wrote
-  pub lines : LinesWritten s.2 wrote s.1
+  pub lines : LinesWritten (sink_room (writes_of shape) (gather_of lane)) s.2 wrote s.1
 
 -- what came to a sink that keeps nothing, which ends as that does
 pub record IgnorerTook (loss : Option ℕ) (list : List Tree) (end : End) (s : SinkStand) : Type 0 where
@@ -125,7 +129,7 @@ pub record WiresCarry (book : Book) (b : Blueprint) (stands : List SinkStand) (w
       → slice_get b.nodes.items s.0 ≡ Some n → n.kind ≡ ToLines file
       → slice_get (blueprint_wires b) i ≡ Some v → v.to ≡ s.0 → slice_get wires i ≡ Some c → AskedBy s.2 v.lane s.1 c
   pub sink_took : (k : ℕ) (s : SinkStand) (n : Node) (file : List ℕ) (i : ℕ) (v : Edge) → slice_get stands k ≡ Some s → slice_get b.nodes.items s.0 ≡ Some n
-      → output_of n.kind ≡ Some file → slice_get (blueprint_wires b) i ≡ Some v → v.to ≡ s.0 → SinkTook (lane_loss v.keep v.lane) (lists i) (ends i) n.kind s
+      → output_of n.kind ≡ Some file → slice_get (blueprint_wires b) i ≡ Some v → v.to ≡ s.0 → SinkTook (lane_loss v.keep v.lane) v.lane (lists i) (ends i) n.kind s
   pub ignorer_took : (k : ℕ) (s : SinkStand) (n : Node) (i : ℕ) (v : Edge) → slice_get stands k ≡ Some s → slice_get b.nodes.items s.0 ≡ Some n
       → n.kind ≡ Ignore → slice_get (blueprint_wires b) i ≡ Some v → v.to ≡ s.0 → IgnorerTook (lane_loss v.keep v.lane) (lists i) (ends i) s
 

@@ -1,6 +1,6 @@
 -- The sinks of a net that was made of a blueprint, by their outlooks.
 use Rattle.std.specs.Prelude.{Option, slice_get, slice_index_or}
-use Rattle.std.proofs.Common.{◌≡◌, ℕ, ◌≤◌, false, List, [], ◌∷◌, ◌++◌, length, get_or, Some, refl, sym, ap, subst, ◌∙◌, arith, length-append}
+use Rattle.std.proofs.Common.{◌≡◌, ◌≢◌, ◌⊎◌, inl, inr, ℕ, ◌+◌, ◌<◌, ◌≤◌, false, List, [], ◌∷◌, length, get_or, Some, refl, sym, ap, subst, ◌∙◌, arith}
 use Rattle.elem_core.specs.Tree.{Tree}
 use Rattle.elem_core.specs.Items.{elements}
 use Rattle.elem_core.specs.declared.item.Item.{Item}
@@ -13,7 +13,7 @@ use Rattle.stream_model.specs.declared.kind.Kind.TheVariants as kind
 use Rattle.stream_model.specs.declared.outcome.EndState.{EndState}
 use Rattle.stream_model.specs.declared.outcome.EndState.TheVariants.{Unended, WriteFault}
 use Rattle.stream_model.specs.Sources.{whole_lines}
-use Rattle.stream_model.specs.Outlook.{Outlook, End, unended, Agrees}
+use Rattle.stream_model.specs.Outlook.{Outlook, End, unended, ended, failed, Agrees}
 use Rattle.stream_model.specs.Graph.{Graph, Edge}
 use Rattle.stream_model.specs.Graph as graph
 use Rattle.stream_model.specs.Node.{World, nothing, head_of, of_work}
@@ -35,7 +35,7 @@ use Rattle.nodes.specs.Ports.{OneInOf}
 use Rattle.nodes.specs.Kinds.{IsMaker, IsFileSink, writes_of}
 use Rattle.nodes.specs.declared.sink.Writes.{Writes}
 use Rattle.nodes.specs.declared.sink.Writes.TheVariants.{Each}
-use Rattle.nodes.specs.Sink.{Sink, sink_port_state_in, WrotePart, SinkStandsAs, end_seen, WritesOf, SinkLaw}
+use Rattle.nodes.specs.Sink.{Sink, late_in, sink_late, sink_port_state_in, WrotePart, SinkStandsAs, end_seen, WritesOf, SinkLaw}
 use Rattle.nodes.specs.Ignoring.{Ignorer, ignore_port_state_in, IgnoreLaw}
 use Rattle.nodes.proofs.SinkTexts.{has_lines}
 use Rattle.stage_in.specs.Logics.{IsFanIn}
@@ -46,8 +46,8 @@ use Rattle.run_laws.proofs.Nodes.{KeptAs, kept_as, one_input, read_one}
 use Rattle.run_laws.specs.Made.{FirstWriting, FirstIgnoring, FirstOf}
 use Rattle.run_laws.specs.Runs.{IsRun}
 use Rattle.run_laws.specs.Sinks.{TookList, SinkTells, SentTo, IsSinkAt, IgnoreTells, IsIgnorerAt}
-use Rattle.run_laws.proofs.OutlookCounting.{sent_by, rests_by, ignored_by}
-use Rattle.run_laws.proofs.Faults.{sent_wanted, none_behind}
+use Rattle.run_laws.proofs.OutlookCounting.{over_of, over_failed, over_few, sent_by, rests_by, ignored_by}
+use Rattle.run_laws.proofs.Faults.{sent_wanted, few_behind}
 use Rattle.run_laws.specs.Items.{AllMayPass}
 use Rattle.run_laws.proofs.Passing.{passing_agrees}
 use Rattle.run_laws.proofs.Sinks.{sink_each, sink_took, sink_tells}
@@ -183,7 +183,7 @@ module _ {S D L B : Type 0} (sources : S → SourceState) (drains : D → DrainS
     wire : OneWire k n u
     wire = one_wire k n u v ni (ap inputs_of is) ui to
 
-    each : (law.wrote ≡ law.elems) × (law.in_end ≡ end_seen now.end)
+    each : (law.wrote ≡ law.elems) × (now.end ≢ WriteFault → law.in_end ≡ end_seen now.end)
     each = sink_each drains first now (knows g a k n) (took g a k n) (gave g a k n) law nothing (writes_each k n name first now ni is at)
 
     row_here : OneInOf (sink_port_state_in now.started now.end) ((a.far u).wire.inp ∷ []) (knows g a k n).outs
@@ -198,32 +198,46 @@ module _ {S D L B : Type 0} (sources : S → SourceState) (drains : D → DrainS
     sound : (q : _) × IsSound (a.far u).wire q
     sound = run.keeps.far_sound u (slice_get-below g.wires u v ui)
 
-    none_more : now.end ≡ WriteFault → elements (a.far u).wire.sent ≤ elements (a.far u).wire.got
-    none_more fault =
-        let part : WrotePart (drains first.drain) (drains now.drain) law.wrote now.count = subst (λ (s : EndState). SinkStandsAs s (drains first.drain) (drains now.drain) law.wrote now.count) fault law.stands in
-        let some : length law.wrote ≡ length (part.before ++ part.last ∷ []) = ap length part.wrote_is in
+    -- few were asked for behind a write that failed, where its input went on
+    abbrev FewMore : Type 0
+    FewMore = (elements (a.far u).wire.sent ≤ elements (a.far u).wire.got) ⊎ ((now.gather.passed + 1 < now.gather.room) × (elements (a.far u).wire.sent ≤ elements (a.far u).wire.got + 1))
+
+    few_open : now.end ≡ WriteFault → law.in_end ≡ unended → FewMore
+    few_open fault open_end =
+        let part : WrotePart (drains first.drain) (drains now.drain) law.wrote now.count = subst (λ (s : EndState). SinkStandsAs s now.gather (drains first.drain) (drains now.drain) law.wrote now.count) fault law.stands in
+        let some : now.count < length law.wrote = part.lost in
         let same : length law.wrote ≡ length law.elems = ap length each.0 in
-        let open_end : law.in_end ≡ unended = each.1 ∙ ap end_seen fault in
         let open_got : (a.far u).wire.got ≡ told law.elems unended = rw open_end at got in
         let all : elements (a.far u).wire.got ≡ length law.elems = ap elements open_got ∙ elements_told law.elems unended in
         let came = no_fewer (a.far u).wire sound.0 sound.1 in
         let least : elements (a.far u).wire.sent ≤ wanted (a.far u) = sent_wanted (elements (a.far u).wire.sent) (a.far u).asked in
         let wants : slice_index_or (ins_wanted g a k n) 0 0 ≡ wanted (a.far u) = ap (λ (l : List ℕ). slice_index_or l 0 0) wire.wants in
         let one : inputs_of n.kind ≡ 1 = ap inputs_of is in
-        let asked : 1 ≤ slice_index_or (ins_wanted g a k n) 0 0 = omega (arith, some, same, length-append part.before (part.last ∷ []), all, came, least, wants) in
+        let asked : 1 ≤ slice_index_or (ins_wanted g a k n) 0 0 = omega (arith, some, same, all, came, least, wants) in
         let e = (sink_at k n first now ni at).asks 0 (omega (arith, one)) asked in
         let e' = subst (λ (l : List (List Item)). Earlier {N = IslandNode S D L B} node_port_state (node_law sources drains book) node_asking node_moves 0 (Writing first) (Writing now) l [] (ins_wanted g a k n) (outs_wanted g a k n) (outs_shut g a k n)) wire.came
         (subst (λ (l : List (List Item)). Earlier {N = IslandNode S D L B} node_port_state (node_law sources drains book) node_asking node_moves 0 (Writing first) (Writing now) (took g a k n) l (ins_wanted g a k n) (outs_wanted g a k n) (outs_shut g a k n)) law.gave_is e) in
-        let few = none_behind sources drains book first now fault (a.far u).wire.got (ins_wanted g a k n) (outs_wanted g a k n) (outs_shut g a k n) e' law.elems open_got in
-        omega (arith, few, least, wants)
+        elim (few_behind sources drains book first now fault (a.far u).wire.got (ins_wanted g a k n) (outs_wanted g a k n) (outs_shut g a k n) e' law.elems open_got) [
+          | inl few ↦ inl (omega (arith, few, least, wants))
+          | inr some ↦ let few = some.1 in inr (some.0, omega (arith, few, least, wants))
+        ]
+
+    -- and behind its end nothing comes
+    few_by : now.end ≡ WriteFault → (f : End) → law.in_end ≡ f → FewMore
+    few_by fault unended is = few_open fault is
+    few_by fault ended is = inl (over_few (a.far u).wire sound.0 sound.1 (over_of (a.far u).wire.inp (rw is at seen)))
+    few_by fault (failed c) is = inl (over_few (a.far u).wire sound.0 sound.1 (over_failed (a.far u).wire.inp c (rw is at seen)))
+
+    few_more : now.end ≡ WriteFault → FewMore
+    few_more fault = few_by fault law.in_end refl
 
     -- how many elements were sent to it
-    pub sink_sent : SentTo now.end (elements (a.far u).wire.sent) now.count
-    sink_sent = sent_by (a.far u).wire sound.0 sound.1 now.started (knows g a k n).outs law.elems law.in_end got seen (drains first.drain) (drains now.drain) law.wrote now.count each.0 now.end none_more each.1 row_here law.stands
+    pub sink_sent : SentTo now.gather.room now.end (elements (a.far u).wire.sent) now.count
+    sink_sent = sent_by (a.far u).wire sound.0 sound.1 now.started (knows g a k n).outs law.elems law.in_end got seen (drains first.drain) (drains now.drain) now.gather law.wrote now.count each.0 law.paced now.end few_more each.1 row_here law.stands
 
-    pub sink_rests : IsStill g a → now.end ≡ Unended → elements (a.far u).wire.sent ≡ now.count
-    sink_rests still goes =
-        rests_by (a.far u).wire false (still.far u (slice_get-below g.wires u v ui)) now.started (knows g a k n).outs law.elems law.in_end got seen (drains first.drain) (drains now.drain) law.wrote now.count each.0 now.end goes refl row_here law.stands
+    pub sink_rests : IsStill g a → now.end ≡ Unended → sink_late now ≡ 0 → elements (a.far u).wire.sent ≡ now.count
+    sink_rests still goes put =
+        rests_by (a.far u).wire false (still.far u (slice_get-below g.wires u v ui)) now.started (knows g a k n).outs law.elems law.in_end got seen (drains first.drain) (drains now.drain) now.gather law.wrote now.count each.0 law.paced now.end goes (sym (ap (λ (s : EndState). late_in s now.gather.late) goes) ∙ put) refl row_here law.stands
 
   -- and how many lines it wrote
   pub sink_lines : (k : ℕ) (n : graph.Node) (first now : Sink D) (written : List ℕ) → slice_get g.nodes k ≡ Some n → IsSinkAt a k first now → (drains first.drain).holds ≡ Some [] → (drains now.drain).holds ≡ Some written

@@ -21,7 +21,7 @@ use Rattle.port_core.specs.Reading.{no_wire, inp_of, out_of, got_of, sent_of}
 use Rattle.fused_net.specs.Net.{Net, read_all, end_at, ports_at, wire_at, view_of}
 use Rattle.fused_net.specs.Net as net
 use Rattle.fused_net.specs.Laws.{Wired, LastAsk, NodeAsked, NetGoesOn}
-use Rattle.fused_net.proofs.Reading.{some_same, get_there, read_at}
+use Rattle.fused_net.proofs.Reading.{get_there, read_at}
 use Rattle.stage_core.specs.Row.{OutClosed}
 use Rattle.run_laws.specs.Account.{AllBegin, WantedAt, Earlier, LastAsked, shut_of}
 use Rattle.run_laws.proofs.Coming.{all_came}
@@ -212,8 +212,7 @@ module _ {N : Type 0} (port_state : N → View → Type 0) (law : N → N → Vi
               let ins : (ports_at a.old j).ins ≡ q ∷ [] = rw (same_ports a.old a.on a.grown a.marked) here.0 in
               let outs : (ports_at a.old j).outs ≡ [] = rw (same_ports a.old a.on a.grown a.marked) (no_wires (ports_at new j).outs none) in
               let came_same : (wire_at new q).wire.got ≡ (wire_at a.old q).wire.got = here.1 (rw (same_ports a.old a.on a.grown a.marked) at same) in
-              let nodes_same : Some now ≡ Some x.0 = sym now_at ∙ (a.stays j ins outs came_same ∙ x.1) in
-              some_same now x.0 nodes_same;
+              a.stays j ins outs came_same now now_at;
         }
 
   -- ---- the last ask of all

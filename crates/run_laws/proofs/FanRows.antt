@@ -1,5 +1,5 @@
 -- A node that is a stage of another type tells of its law for a picture what that stage tells.
-use Rattle.std.proofs.Common.{◌≡◌, ℕ, List, refl}
+use Rattle.std.proofs.Common.{ℕ, List, refl}
 use Rattle.elem_core.specs.declared.item.Item.{Item}
 use Rattle.port_core.specs.View.{View}
 use Rattle.stream_io.specs.State.{SourceState, DrainState}
@@ -23,36 +23,37 @@ use Rattle.run_laws.specs.Unmoved.{never_ends}
 use Rattle.run_laws.proofs.FanStanding.{Stands, moments_of}
 use Rattle.run_laws.specs.Picture.{sink_ended}
 
+-- what each tells as it asks
+in_tells : (a : InLogic) (v : View) → InAsking a v → InAsking a v
+in_tells a v h = h
+
+out_tells : (a : OutLogic) (v : View) → OutAsking a v → OutAsking a v
+out_tells a v h = h
+
 module _ {S D L B : Type 0} (sources : S → SourceState) (drains : D → DrainState) (g : Graph) (w : World) (plans : Plans) (k : ℕ) (n : graph.Node) where
   abbrev Laws : IslandNode S D L B → IslandNode S D L B → List InPort → List OutPort → Type 0
   Laws first x is os = PictureLawsBy node_port_state (node_law sources drains w.book) node_asking node_moves sink_ended g w plans k n first x is os
 
-  in_same : (a b : InLogic) → ◌≡◌ {A = IslandNode S D L B} (FanIn a) (FanIn b) → a ≡ b
-  in_same a b e = cc
-
-  out_same : (a b : OutLogic) → ◌≡◌ {A = IslandNode S D L B} (FanOut a) (FanOut b) → a ≡ b
-  out_same a b e = cc
-
   in_stands : (first : InLogic) (old : IslandNode S D L B) (v : View) (took gave : List (List Item)) → node_port_state old v → node_law sources drains w.book (FanIn first) old v took gave
-      → Stands node_port_state (node_law sources drains w.book) node_asking node_moves in_moves InPortState InLaw InAsking FanIn in_same first old v took gave
+      → Stands node_port_state (node_law sources drains w.book) node_asking node_moves in_moves InPortState InLaw InAsking FanIn in_tells first old v took gave
   in_stands first (FanIn l) v took gave r law = record { stage = l; is = refl; port_state_holds = r; law_holds = law; asking_holds = λ a. a; moves_on = λ now on. on }
   in_stands first old v took gave r law = absurd law
 
   out_stands : (first : OutLogic) (old : IslandNode S D L B) (v : View) (took gave : List (List Item)) → node_port_state old v → node_law sources drains w.book (FanOut first) old v took gave
-      → Stands node_port_state (node_law sources drains w.book) node_asking node_moves out_moves out.port_state OutLaw OutAsking FanOut out_same first old v took gave
+      → Stands node_port_state (node_law sources drains w.book) node_asking node_moves out_moves out.port_state OutLaw OutAsking FanOut out_tells first old v took gave
   out_stands first (FanOut l) v took gave r law = record { stage = l; is = refl; port_state_holds = r; law_holds = law; asking_holds = λ a. a; moves_on = λ now on. on }
   out_stands first old v took gave r law = absurd law
 
   pub fan_in_picture : (first x : InLogic) (is : List InPort) (os : List OutPort) → PictureLawsBy InPortState InLaw InAsking in_moves never_ends g w plans k n first x is os → Laws (FanIn first) (FanIn x) is os
   fan_in_picture first x is os p = record {
-    lawful = λ s so m. p.lawful s so (λ q some. moments_of node_port_state (node_law sources drains w.book) node_asking node_moves in_moves InPortState InLaw InAsking FanIn in_same first (in_stands first) x is os q (m q some));
+    lawful = λ s so m. p.lawful s so (λ q some. moments_of node_port_state (node_law sources drains w.book) node_asking node_moves in_moves InPortState InLaw InAsking FanIn in_tells first (in_stands first) x is os q (m q some));
     rests = p.rests;
     matches = p.matches;
   }
 
   pub fan_out_picture : (first x : OutLogic) (is : List InPort) (os : List OutPort) → PictureLawsBy out.port_state OutLaw OutAsking out_moves never_ends g w plans k n first x is os → Laws (FanOut first) (FanOut x) is os
   fan_out_picture first x is os p = record {
-    lawful = λ s so m. p.lawful s so (λ q some. moments_of node_port_state (node_law sources drains w.book) node_asking node_moves out_moves out.port_state OutLaw OutAsking FanOut out_same first (out_stands first) x is os q (m q some));
+    lawful = λ s so m. p.lawful s so (λ q some. moments_of node_port_state (node_law sources drains w.book) node_asking node_moves out_moves out.port_state OutLaw OutAsking FanOut out_tells first (out_stands first) x is os q (m q some));
     rests = p.rests;
     matches = p.matches;
   }

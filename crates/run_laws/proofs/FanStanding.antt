@@ -1,5 +1,5 @@
 -- A node that is a stage of another type has the moments of its asks as that stage.
-use Rattle.std.proofs.Common.{◌≡◌, ℕ, Bool, List, map, subst, ◌∙◌}
+use Rattle.std.proofs.Common.{◌≡◌, ℕ, Bool, List, map, subst}
 use Rattle.elem_core.specs.Prefix.{IsPrefix}
 use Rattle.elem_core.specs.declared.item.Item.{Item}
 use Rattle.port_core.specs.View.{View}
@@ -8,7 +8,7 @@ use Rattle.run_laws.specs.KindLaws.{Moments}
 use Rattle.run_laws.specs.Ports.{InPort, OutPort}
 
 module _ {N L : Type 0} (port_state : N → View → Type 0) (law : N → N → View → List (List Item) → List (List Item) → Type 0) (asking : N → View → Type 0) (moves : N → List ℕ)
-    (its_moves : L → List ℕ) (its_row : L → View → Type 0) (its_law : L → L → View → List (List Item) → List (List Item) → Type 0) (its_asking : L → View → Type 0) (as_node : L → N) (same : (a b : L) → as_node a ≡ as_node b → a ≡ b) (first : L) where
+    (its_moves : L → List ℕ) (its_row : L → View → Type 0) (its_law : L → L → View → List (List Item) → List (List Item) → Type 0) (its_asking : L → View → Type 0) (as_node : L → N) (tells : (a : L) (v : View) → asking (as_node a) v → its_asking a v) (first : L) where
   -- a node that keeps the law is such a stage
   pub record Stands (old : N) (v : View) (took gave : List (List Item)) : Type 0 where
     pub stage : L
@@ -38,7 +38,7 @@ module _ {N L : Type 0} (port_state : N → View → Type 0) (law : N → N → 
           moves_on = s.moves_on now e.moves_on;
           wants = e.wants;
           shut_on = e.shut_on;
-          stays = λ one none had. same now s.stage (e.stays one none had ∙ s.is);
+          stays = λ one none had. tells now e.knew (e.stays one none had);
         }
 
     last_of : (now : L) (took gave : List (List Item)) (ins_want outs_want : List ℕ) (outs_closed : List Bool) → LastAsked port_state law asking moves (as_node first) (as_node now) took gave ins_want outs_want outs_closed

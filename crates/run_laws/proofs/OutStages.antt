@@ -29,24 +29,24 @@ use Rattle.run_laws.proofs.FanStanding.{Stands, moments_of}
 
 -- ---- a stage as that of its kind
 
-machines_same : (a b : OutMachines) → ◌≡◌ {A = OutLogic} (Machines a) (Machines b) → a ≡ b
-machines_same a b e = cc
+machines_tell : (a : OutMachines) (v : View) → OutAsking (Machines a) v → NoAsking a v
+machines_tell a v h = tt
 
-balance_same : (a b : Balancing) → ◌≡◌ {A = OutLogic} (Balances a) (Balances b) → a ≡ b
-balance_same a b e = cc
+balance_tells : (a : Balancing) (v : View) → OutAsking (Balances a) v → BalanceAsking a v
+balance_tells a v h = h
 
 machines_stand : (first : OutMachines) (old : OutLogic) (v : View) (took gave : List (List Item)) → port_state old v → OutLaw (Machines first) old v took gave
-    → Stands port_state OutLaw OutAsking out_moves no_moves machines.port_state MachinesLaw NoAsking Machines machines_same first old v took gave
+    → Stands port_state OutLaw OutAsking out_moves no_moves machines.port_state MachinesLaw NoAsking Machines machines_tell first old v took gave
 machines_stand first (Machines l) v took gave r law = record { stage = l; is = refl; port_state_holds = r; law_holds = law; asking_holds = λ a. tt; moves_on = λ now on. record { rest = []; is = refl } }
 machines_stand first (Balances l) v took gave r law = absurd law
 
 balance_stand : (first : Balancing) (old : OutLogic) (v : View) (took gave : List (List Item)) → port_state old v → OutLaw (Balances first) old v took gave
-    → Stands port_state OutLaw OutAsking out_moves made balance.port_state BalancesAs BalanceAsking Balances balance_same first old v took gave
+    → Stands port_state OutLaw OutAsking out_moves made balance.port_state BalancesAs BalanceAsking Balances balance_tells first old v took gave
 balance_stand first (Balances l) v took gave r law = record { stage = l; is = refl; port_state_holds = r; law_holds = law; asking_holds = λ a. a; moves_on = λ now on. on }
 balance_stand first (Machines l) v took gave r law = absurd law
 
 pub balance_moments : (f l : Balancing) (is : List InPort) (os : List OutPort) (q : ℕ) → Moments port_state OutLaw OutAsking out_moves (Balances f) (Balances l) is os q → Moments balance.port_state BalancesAs BalanceAsking made f l is os q
-balance_moments f l is os q m = moments_of port_state OutLaw OutAsking out_moves made balance.port_state BalancesAs BalanceAsking Balances balance_same f (balance_stand f) l is os q m
+balance_moments f l is os q m = moments_of port_state OutLaw OutAsking out_moves made balance.port_state BalancesAs BalanceAsking Balances balance_tells f (balance_stand f) l is os q m
 
 -- ---- a picture
 
@@ -56,7 +56,7 @@ module _ (g : Graph) (w : World) (k : ℕ) (n : graph.Node) where
   out_picture (Machines f) (Machines l) is os b free told r law =
       let p = machines_picture g w k n f l is os b.as_kind.0 b.as_kind.1 r law in
       record {
-        lawful = λ s so m. p.lawful s so (λ q some. moments_of port_state OutLaw OutAsking out_moves no_moves machines.port_state MachinesLaw NoAsking Machines machines_same f (machines_stand f) l is os q (m q some));
+        lawful = λ s so m. p.lawful s so (λ q some. moments_of port_state OutLaw OutAsking out_moves no_moves machines.port_state MachinesLaw NoAsking Machines machines_tell f (machines_stand f) l is os q (m q some));
         rests = p.rests;
         matches = p.matches;
       }

@@ -1,6 +1,7 @@
 -- A stage that passes each element on leaves an outlook's lists as they are.
 use Rattle.std.proofs.Common.{◌≡◌, ℕ, ◌+◌, ◌-◌, List, [], ◌∷◌, ◌++◌, length, take, refl, sym, ap, ◌∙◌, append_assoc, append-nil}
 use Rattle.elem_core.specs.Tree.{Tree}
+use Rattle.elem_core.specs.declared.why.Cause.{Cause}
 use Rattle.elem_core.specs.declared.why.Decider.{Decider}
 use Rattle.elem_core.proofs.Prefixes.{prefix_refl, prefix_take, prefix_length}
 use Rattle.stream_model.specs.Outlook.{Outlook, End, unended, ended, failed, Agrees}
@@ -26,6 +27,10 @@ module _ (book : Book) (k : ℕ) (d : Decider) where
       let p = passes [] 0 l in
       let some = passes [] 0 (take (length l - 0) l) in
       of_input (rw p.1 refl) (record { part = rw p.1 (prefix_refl l); enough = rw some.1 (prefix_length (prefix_take (length l - 0) l)) })
+
+  -- what came before its input failed is a first part of what may come
+  pub passing_part : (l : List Tree) (c : Cause) → Stands (linear book passing) (begin_work k d passing) l (failed c) l unended
+  passing_part l c = let p = passes [] 0 l in rw p.1 (prefix_refl l)
 
   pub passing_agrees : (o : Outlook) (l : List Tree) (e : End) → Agrees o l e → Agrees (output (linear book passing) (begin_work k d passing) o) l e
   passing_agrees o l e a = trace_output (linear book passing) (begin_work k d passing) o l e l e a (passing_stands l e)

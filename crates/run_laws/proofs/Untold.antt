@@ -14,7 +14,7 @@ use Rattle.stream_model.specs.Composed.{sink_outlook}
 use Rattle.stream_model.specs.Node.{World}
 use Rattle.stream_io.specs.State.{SourceState, DrainState}
 use Rattle.nodes.specs.declared.node.IslandNode.{IslandNode}
-use Rattle.nodes.specs.Sink.{Sink, WroteAll, SinkStandsAs, SinkLaw}
+use Rattle.nodes.specs.Sink.{Gathered, Sink, WroteAll, SinkStandsAs, SinkLaw}
 use Rattle.nodes.proofs.SinkTexts.{has_lines}
 use Rattle.run_laws.specs.Account.{Account, knows, took, gave}
 use Rattle.run_laws.specs.Runs.{IsRun}
@@ -30,9 +30,9 @@ abbrev holding : DrainState → List ℕ → DrainState
 holding s held = record { name = s.name; holds = Some held; faults = s.faults }
 
 -- what was written by one that held nothing at first
-record Written (e : EndState) (old new : DrainState) (wrote : List Tree) (n : ℕ) : Type 0 where
+record Written (e : EndState) (y : Gathered) (old new : DrainState) (wrote : List Tree) (n : ℕ) : Type 0 where
   pub bytes : List ℕ
-  pub stands : SinkStandsAs e (holding old []) (holding new bytes) wrote n
+  pub stands : SinkStandsAs e y (holding old []) (holding new bytes) wrote n
   pub holds : old.holds ≡ Some [] → new.holds ≡ Some bytes
 
 held_by : (o new : Option (List ℕ)) (more : List ℕ) → new ≡ option_map (λ held. held ++ more) o → o ≡ Some [] → new ≡ Some more
@@ -41,23 +41,30 @@ held_by o new more e f = e ∙ ap (λ (p : Option (List ℕ)). option_map (λ he
 all_written : (old new : DrainState) (wrote : List Tree) (n : ℕ) → WroteAll old new wrote n → WroteAll (holding old []) (holding new (text_lines wrote)) wrote n
 all_written old new wrote n w = record { holds = refl; count = w.count; faults = w.faults }
 
-written_by : (e : EndState) (old new : DrainState) (wrote : List Tree) (n : ℕ) → SinkStandsAs e old new wrote n → Written e old new wrote n
-written_by Unended old new wrote n w = record { bytes = text_lines wrote; stands = all_written old new wrote n w; holds = held_by old.holds new.holds (text_lines wrote) w.holds }
-written_by Ended old new wrote n w = record { bytes = text_lines wrote; stands = all_written old new wrote n w; holds = held_by old.holds new.holds (text_lines wrote) w.holds }
-written_by (Failed c) old new wrote n w = record { bytes = text_lines wrote; stands = all_written old new wrote n w; holds = held_by old.holds new.holds (text_lines wrote) w.holds }
-written_by WriteFault old new wrote n w = record {
-  bytes = text_lines w.before ++ w.part;
-  stands = record { before = w.before; last = w.last; wrote_is = w.wrote_is; part = w.part; is_part = w.is_part; not_all = w.not_all; holds = refl; count = w.count; faults = w.faults };
-  holds = held_by old.holds new.holds (text_lines w.before ++ w.part) w.holds;
+written_by : (e : EndState) (y : Gathered) (old new : DrainState) (wrote : List Tree) (n : ℕ) → SinkStandsAs e y old new wrote n → Written e y old new wrote n
+written_by Unended y old new wrote n w = record {
+  bytes = text_lines w.first.put;
+  stands = record {
+    first = record { put = w.first.put; off = w.first.off; wrote_is = w.first.wrote_is; wrote_all = all_written old new w.first.put n w.first.wrote_all; held_is = w.first.held_is; late_is = w.first.late_is };
+    due = w.due;
+  };
+  holds = held_by old.holds new.holds (text_lines w.first.put) w.first.wrote_all.holds;
+}
+written_by Ended y old new wrote n w = record { bytes = text_lines wrote; stands = all_written old new wrote n w; holds = held_by old.holds new.holds (text_lines wrote) w.holds }
+written_by (Failed c) y old new wrote n w = record { bytes = text_lines wrote; stands = all_written old new wrote n w; holds = held_by old.holds new.holds (text_lines wrote) w.holds }
+written_by WriteFault y old new wrote n w = record {
+  bytes = w.part;
+  stands = record { part = w.part; rest = w.rest; text = w.text; holds = refl; count = w.count; lost = w.lost; faults = w.faults };
+  holds = held_by old.holds new.holds w.part w.holds;
 }
 
 -- the sink over such drains
 abbrev over : {D : Type 0} → Sink D → DrainState → Sink DrainState
-over x s = record { node = x.node; drain = s; writes = x.writes; kept = x.kept; count = x.count; started = x.started; end = x.end }
+over x s = record { node = x.node; drain = s; writes = x.writes; kept = x.kept; gather = x.gather; count = x.count; started = x.started; end = x.end }
 
 module _ {D : Type 0} (drains : D → DrainState) (first now : Sink D) (v : View) (took gave : List (List Item)) (law : SinkLaw drains first now v took gave) where
-  its_bytes : Written now.end (drains first.drain) (drains now.drain) law.wrote now.count
-  its_bytes = written_by now.end (drains first.drain) (drains now.drain) law.wrote now.count law.stands
+  its_bytes : Written now.end now.gather (drains first.drain) (drains now.drain) law.wrote now.count
+  its_bytes = written_by now.end now.gather (drains first.drain) (drains now.drain) law.wrote now.count law.stands
 
   law_over : SinkLaw (λ (s : DrainState). s) (over first (holding (drains first.drain) [])) (over now (holding (drains now.drain) its_bytes.bytes)) v took gave
   law_over = record {
@@ -69,10 +76,12 @@ module _ {D : Type 0} (drains : D → DrainState) (first now : Sink D) (v : View
     took_as = law.took_as;
     node = law.node;
     writes_same = law.writes_same;
+    room_same = law.room_same;
     name = law.name;
     faults = law.faults;
     one_line = law.one_line;
     writes = law.writes;
+    paced = law.paced;
     stands = its_bytes.stands;
   }
 

@@ -17,7 +17,7 @@ use Rattle.nodes.specs.declared.sink.Writes.{Writes}
 use Rattle.nodes.specs.declared.sink.Writes.TheVariants.{Each, First, Last}
 use Rattle.nodes.specs.Kinds.{IsFileSink, writes_of}
 use Rattle.nodes.specs.Sink.{last_of, FailsBy, WritesEach, WritesFirst, WritesLast, WritesOf}
-use Rattle.run_laws.proofs.Passing.{passing_stands}
+use Rattle.run_laws.proofs.Passing.{passing_stands, passing_part}
 
 -- the work of a sink with a file
 abbrev pub work_by : Writes → Work
@@ -54,11 +54,17 @@ last_all [] = refl
 last_all (t ∷ l) = last_some t l
 
 module _ (book : Book) (k : ℕ) (d : Decider) where
+  -- whatever its end is, what came is a first part of what may come
+  each_part : (l : List Tree) (e : End) → Stands (linear book passing) (begin_work k d passing) l e l unended
+  each_part l unended = passing_stands book k d l unended
+  each_part l ended = rw (passing_stands book k d l ended) (prefix_refl l)
+  each_part l (failed c) = passing_part book k d l c
+
   each_stands : (s : EndState) (l : List Tree) (e : End) (w : List Tree) → WritesEach s l e w → Stands (linear book passing) (begin_work k d passing) l e w (end_by s Each)
   each_stands Ended l e w h = rw (h.0, h.1) (passing_stands book k d l ended)
   each_stands (Failed c) l e w h = rw (h.0, h.1) (passing_stands book k d l (failed c))
   each_stands Unended l e w h = rw (h.0, h.1) (passing_stands book k d l unended)
-  each_stands WriteFault l e w h = rw (h.0, h.1) (passing_stands book k d l unended)
+  each_stands WriteFault l e w h = rw h (each_part l e)
 
   -- ---- the first
 

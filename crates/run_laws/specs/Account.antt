@@ -119,8 +119,8 @@ module _ {N : Type 0} (port_state : N → View → Type 0) (law : N → N → Vi
     pub moves_on : IsPrefix (moves old) (moves now)
     pub wants : (j : ℕ) → out_at knew j ≡ Available → elements (slice_index_or given j []) + 1 ≤ slice_index_or outs_want j 0
     pub shut_on : (j : ℕ) → OutClosed (out_at knew j) → slice_index_or outs_closed j true ≡ true
-    -- one with one input and no output is as it was, where nothing came since
-    pub stays : length took ≡ 1 → length gave ≡ 0 → had ≡ took → now ≡ old
+    -- one with one input and no output tells still what it told then, where nothing came since
+    pub stays : length took ≡ 1 → length gave ≡ 0 → had ≡ took → asking now knew
 
   -- The moment at which it last asked at any of them. At that moment each input that was asked had a moment of its own.
   pub record LastAsked (first now : N) (took gave : List (List Item)) (ins_want outs_want : List ℕ) (outs_closed : List Bool) : Type 0 where

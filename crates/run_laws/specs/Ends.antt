@@ -1,6 +1,6 @@
 -- The two ends of a lane as a run tells of them, what an island keeps of each beside the connection of its boundary stage, and
 -- what is known of both once they were brought together. Of the ends themselves these are plain lists and numbers.
-use Rattle.std.specs.Prelude.{◌≡◌, ℕ, ◌+◌, ◌≤◌, Bool, List}
+use Rattle.std.specs.Prelude.{◌≡◌, ℕ, ◌+◌, ◌*◌, ◌/◌, ◌<◌, ◌≤◌, max, Bool, List}
 use Rattle.elem_core.specs.Prefix.{IsPrefix}
 use Rattle.elem_core.specs.Tree.{Tree}
 use Rattle.elem_core.specs.Items.{elements}
@@ -38,6 +38,19 @@ pub record OutKeeps (c : WireState) (e : OutEnd) : Type 0 where
   pub part : IsPrefix e.sent c.wire.got
   pub wants : wanted c ≤ e.seen
 
+-- half of the places of a lane, but at least one
+abbrev pub half_of : ℕ → ℕ
+half_of s = max 1 (s / 2)
+
+-- An input end of a lane of size s asked for so many elements, of which so many were pushed: behind the first ask for half of the
+-- places each time that so many were pushed.
+pub record AskedInRounds (s asked pushed : ℕ) : Type 0 where
+  pub rounds : ℕ
+  pub over : ℕ
+  pub pushed_is : pushed ≡ rounds * half_of s + over
+  pub few : over < half_of s
+  pub asked_is : asked ≡ s + rounds * half_of s
+
 -- What an island keeps of an input end of a lane of size s, which keeps what came before a failure or not, whose boundary stage is at the output of this connection: what was
 -- pushed there is of what was taken what such a lane carries, the rest waits in a buffer that a failure empties unless it keeps; at first
 -- it asked for so many elements as the lane has places, and for no more than these and one for each that was pushed, and behind
@@ -52,6 +65,7 @@ pub record InKeeps (keep : Bool) (s : ℕ) (c : WireState) (e : InEnd) : Type 0 
   pub pushed_as : GaveAs c.wire.out pushed_end
   pub carries : Carries (loss_of keep s) taken_list taken_end pushed_list pushed_end
   pub asks : e.asked ≤ elements c.wire.sent + s
+  pub in_rounds : AskedInRounds s e.asked (elements c.wire.sent)
   pub least : s ≤ e.asked
   pub calls : e.calls ≤ elements c.wire.sent + 1
 

@@ -1,5 +1,5 @@
 -- What a sink tells of its outlook: by how it stands, what it took, and the bytes of its file, which was empty at first.
-use Rattle.std.specs.Prelude.{◌≡◌, ℕ, ◌+◌, ◌≤◌, List, [], ◌∷◌, length, Some}
+use Rattle.std.specs.Prelude.{◌≡◌, ◌≢◌, ℕ, ◌+◌, ◌*◌, ◌<◌, ◌≤◌, List, [], ◌∷◌, length, Some}
 use Rattle.elem_core.specs.Prefix.{IsPrefix}
 use Rattle.elem_core.specs.Text.{text_lines}
 use Rattle.elem_core.specs.Tree.{Tree}
@@ -22,11 +22,13 @@ use Rattle.nodes.specs.Sink.{Sink, end_seen}
 use Rattle.nodes.specs.Ignoring.{Ignorer}
 use Rattle.run_laws.specs.Telling.{TellsFiles, ServesPlans, WorldTells}
 
--- it took a list that may pass and stand as its input does
+-- it took a list that may pass and stand as its input does; a write may fail behind the end of its input
 pub record TookList (o : Outlook) (e : EndState) (took : List (List Item)) : Type 0 where
   pub list : List Tree
-  pub is : took ≡ told list (end_seen e) ∷ []
-  pub agrees : Agrees o list (end_seen e)
+  pub seen : End
+  pub is : took ≡ told list seen ∷ []
+  pub agrees : Agrees o list seen
+  pub ends : e ≢ WriteFault → seen ≡ end_seen e
 
 -- the bytes are the text of a list that may pass and stand so
 pub record HoldsText (o : Outlook) (e : End) (bytes : List ℕ) : Type 0 where
@@ -41,13 +43,19 @@ SinkTells o (Failed c) bytes = HoldsText o (failed c) bytes
 SinkTells o Unended bytes = HoldsText o unended bytes
 SinkTells o WriteFault bytes = IsPrefix bytes (text_lines o.list)
 
--- So many elements were sent to a sink of lines that wrote `count` lines: as many where its input's end came, and one more at most
--- while it waits. Where a write failed it is one more: that element was not written whole, and none was asked for behind it.
-abbrev pub SentTo : EndState → ℕ → ℕ → Type 0
-SentTo Ended sent count = sent ≡ count
-SentTo (Failed c) sent count = sent ≡ count
-SentTo Unended sent count = (count ≤ sent) × (sent ≤ count + 1)
-SentTo WriteFault sent count = sent ≡ count + 1
+-- In rounds of so many lines a file of `count` lines lacks at most those that were sent since the last full round, and one before
+-- them. Where a round is one line that is one line.
+abbrev pub WithinRounds : ℕ → ℕ → ℕ → Type 0
+WithinRounds room sent count = (rounds over : ℕ) → sent ≡ rounds * room + over → over < room → sent ≤ count + (over + 1)
+
+-- So many elements were sent to a sink of lines that wrote `count` lines, and may put so many together: as many where its input's end
+-- came, and while it waits no more than it may put off and one more. Where a write failed it is one more at least, and no more than
+-- it may put off and one more: these were not written whole, and none was asked for behind them.
+abbrev pub SentTo : ℕ → EndState → ℕ → ℕ → Type 0
+SentTo room Ended sent count = sent ≡ count
+SentTo room (Failed c) sent count = sent ≡ count
+SentTo room Unended sent count = (count ≤ sent) × WithinRounds room sent count
+SentTo room WriteFault sent count = (count + 1 ≤ sent) × WithinRounds room sent count
 
 -- a sink with a file is node k, as it was handed in and now
 pub record IsSinkAt {S D L B : Type 0} (a : Account (IslandNode S D L B)) (k : ℕ) (first now : Sink D) : Type 0 where

@@ -18,7 +18,7 @@ ghost use Rattle.fused_net.specs.Net.{Net};
 ghost use Rattle.nodes.specs.Nodes.{node_port_state, node_law, node_asking, node_moves};
 ghost use Rattle.nodes.specs.Ignoring.{Ignorer};
 ghost use Rattle.nodes.specs.Kinds.{IsFileSink};
-ghost use Rattle.nodes.specs.Sink.{Sink};
+ghost use Rattle.nodes.specs.Sink.{Sink, sink_late};
 ghost use Rattle.nodes.specs.Source.{Lines};
 ghost use Rattle.nodes.specs.declared.node.IslandNode.{IslandNode};
 ghost use Rattle.run_laws.specs.Account.{Account, AllMade, took, IsStill};
@@ -121,8 +121,9 @@ pub fn every_sink_writes<S: Source, D: Drain, L: Logic, B: PlugBook>()
 {}
 
 /// A sink has written as many whole lines as it counts, where its file was empty at first (`lines`). As many elements were
-/// sent on the wire of a sink of lines where its input's end came, one more at most while it waits, and exactly one more
-/// where a write failed (`sent`); none more where no event is left and it has not ended (`rest`).
+/// sent on the wire of a sink of lines where its input's end came, and else no more than it may put off and one more (`sent`): where
+/// it may put one line alone, one more at most while it waits, and exactly one more where a write failed. None more were sent where
+/// no event is left, it has not ended and it has put nothing off (`rest`).
 pub fn every_sink_counts_its_lines<S: Source, D: Drain, L: Logic, B: PlugBook>()
     ensures lines { (g : Graph) (a : Account (IslandNode S D L B)) → IsRun S.state D.state B.lists g a
         → (k : ℕ) (n : graph.Node) (first now : Sink D) (written : List ℕ) → slice_get g.nodes k ≡ Some n → IsSinkAt a k first now
@@ -130,11 +131,11 @@ pub fn every_sink_counts_its_lines<S: Source, D: Drain, L: Logic, B: PlugBook>()
     ensures sent { (g : Graph) (a : Account (IslandNode S D L B)) → IsRun S.state D.state B.lists g a
         → (k : ℕ) (n : graph.Node) (name : List ℕ) (first now : Sink D) (u : ℕ) (v : Edge) → slice_get g.nodes k ≡ Some n → n.kind ≡ kind.ToLines name
         → IsSinkAt a k first now → slice_get g.wires u ≡ Some v → v.to ≡ k
-        → SentTo now.end (elements (a.far u).wire.sent) now.count }
+        → SentTo now.gather.room now.end (elements (a.far u).wire.sent) now.count }
     ensures rest { (g : Graph) (a : Account (IslandNode S D L B)) → IsRun S.state D.state B.lists g a
         → (k : ℕ) (n : graph.Node) (name : List ℕ) (first now : Sink D) (u : ℕ) (v : Edge) → slice_get g.nodes k ≡ Some n → n.kind ≡ kind.ToLines name
         → IsSinkAt a k first now → slice_get g.wires u ≡ Some v → v.to ≡ k
-        → IsStill g a → now.end ≡ Unended → elements (a.far u).wire.sent ≡ now.count }
+        → IsStill g a → now.end ≡ Unended → sink_late now ≡ 0 → elements (a.far u).wire.sent ≡ now.count }
 {}
 
 /// A node of the kind of a source of lines is one (`there`). The elements that it sent are the first lines of its file, and

@@ -1,4 +1,4 @@
-ghost use Rattle.std.specs.Prelude.{◌≡◌, ◌≤◌, ◌↔◌, ℕ, Bool, List, [], ◌∷◌, OnOk, OnErr, IfNone, IfSome, IsTrue};
+ghost use Rattle.std.specs.Prelude.{◌≡◌, ◌≤◌, ◌↔◌, ◌⊎◌, ℕ, Bool, false, List, [], ◌∷◌, OnOk, OnErr, IfNone, IfSome, IsTrue};
 ghost use Rattle.elem_core.specs.Prefix.{IsPrefix};
 ghost use Rattle.elem_core.specs.declared.item.Item.{Item};
 ghost use Rattle.elem_core.specs.declared.item.Item.TheVariants as item;
@@ -6,7 +6,7 @@ ghost use Rattle.port_core.specs.View.{View};
 ghost use Rattle.port_core.specs.Call.{Meets, starts, pulls, arrives, cancels};
 ghost use Rattle.stage_core.specs.declared.stage.TheConstants.{MOST_ACTS};
 ghost use Rattle.stage_core.specs.Handling.{PullsAs, StaysPassive, Starts, Handles};
-ghost use Rattle.stage_core.specs.Handing.{Hands};
+ghost use Rattle.stage_core.specs.Handing.{Hands, PutsOff, cancel_first};
 
 use elem_core::elem::Elem;
 use elem_core::item::Item;
@@ -42,6 +42,8 @@ pub trait Stage: Drop {
     ghost gone: { Self → List Item };
 
     ghost waits: { Self → List Item };
+
+    ghost late: { Self → ℕ };
 
     /// The run begins. Nothing is read or written yet.
     fn start(&mut self, alloc: Global, acts: &mut Acts) -> Result<(), NoMemory>
@@ -131,11 +133,11 @@ pub trait Stage: Drop {
     /// ever waits. It takes no memory.
     fn hand_out(&mut self) -> Option<Item>
         ensures none { IfNone result ((waits self.old ≡ []) × (self.new ≡ self.old)) }
-        ensures some { IfSome result (λ x. Hands port_state law moves gone waits self.old (x ∷ []) self.new) };
+        ensures some { IfSome result (λ x. Hands port_state law asking moves gone waits self.old (x ∷ []) self.new) };
 
     /// Drops all that waits there. It takes no memory.
     fn let_go(&mut self)
-        ensures { Hands port_state law moves gone waits self.old (waits self.old) self.new };
+        ensures { Hands port_state law asking moves gone waits self.old (waits self.old) self.new };
 
     /// Whether nothing waits there.
     fn is_clear(&self) -> bool
@@ -144,6 +146,12 @@ pub trait Stage: Drop {
     /// Whether it is passive.
     fn is_passive(&self) -> bool
         ensures { result ≡ passive self.now };
+
+    /// Writes, outside of its handlers, what it has put off. True comes where a write failed: then it has to cancel its first input. At
+    /// most kinds nothing is ever put off. It takes no memory.
+    fn put_off(&mut self) -> bool
+        ensures puts { ((self.new ≡ self.old) × (result ≡ false)) ⊎ PutsOff port_state law asking moves gone passive self.old (cancel_first result) self.new }
+        ensures all { late self.new ≡ 0 };
 
     /// Whether it may wait for a read where it is asked next. A hint, on which no clause rests. It takes no memory.
     fn may_wait(&self) -> bool {

@@ -30,6 +30,8 @@ impl Stage for InLogic {
 
     ghost waits = { λ l. [] };
 
+    ghost late = { λ l. 0 };
+
     fn start(&mut self, _alloc: Global, acts: &mut Acts) -> Result<(), NoMemory> {
         self.start(acts)
     }
@@ -78,6 +80,10 @@ impl Stage for InLogic {
     }
 
     fn is_passive(&self) -> bool {
+        false
+    }
+
+    fn put_off(&mut self) -> bool {
         false
     }
 }

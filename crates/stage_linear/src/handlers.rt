@@ -32,6 +32,8 @@ impl<L: Logic, B: PlugBook> Stage for LinearLogic<L, B> {
 
     ghost waits = { λ l. [] };
 
+    ghost late = { λ l. 0 };
+
     fn start(&mut self, _alloc: Global, acts: &mut Acts) -> Result<(), NoMemory> {
         self.start(acts)
     }
@@ -95,6 +97,10 @@ impl<L: Logic, B: PlugBook> Stage for LinearLogic<L, B> {
     }
 
     fn is_passive(&self) -> bool {
+        false
+    }
+
+    fn put_off(&mut self) -> bool {
         false
     }
 }

@@ -30,6 +30,8 @@ impl Stage for OutLogic {
 
     ghost waits = { λ l. [] };
 
+    ghost late = { λ l. 0 };
+
     fn start(&mut self, _alloc: Global, acts: &mut Acts) -> Result<(), NoMemory> {
         self.start(acts)
     }
@@ -77,6 +79,10 @@ impl Stage for OutLogic {
     }
 
     fn is_passive(&self) -> bool {
+        false
+    }
+
+    fn put_off(&mut self) -> bool {
         false
     }
 }

@@ -34,6 +34,8 @@ impl Stage for SubLogic<LineChain> {
 
     ghost waits = { λ l. [] };
 
+    ghost late = { λ l. 0 };
+
     fn start(&mut self, _alloc: Global, acts: &mut Acts) -> Result<(), NoMemory> {
         self.start(acts)
     }
@@ -81,6 +83,10 @@ impl Stage for SubLogic<LineChain> {
     }
 
     fn is_passive(&self) -> bool {
+        false
+    }
+
+    fn put_off(&mut self) -> bool {
         false
     }
 }

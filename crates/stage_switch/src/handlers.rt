@@ -31,6 +31,8 @@ impl Stage for Valve {
 
     ghost waits = { λ l. [] };
 
+    ghost late = { λ l. 0 };
+
     fn start(&mut self, _alloc: Global, acts: &mut Acts) -> Result<(), NoMemory> {
         self.start(acts)
     }
@@ -85,6 +87,10 @@ impl Stage for Valve {
     fn is_passive(&self) -> bool {
         false
     }
+
+    fn put_off(&mut self) -> bool {
+        false
+    }
 }
 
 impl Stage for Trip {
@@ -105,6 +111,8 @@ impl Stage for Trip {
     ghost gone = { λ l. [] };
 
     ghost waits = { λ l. [] };
+
+    ghost late = { λ l. 0 };
 
     fn start(&mut self, _alloc: Global, acts: &mut Acts) -> Result<(), NoMemory> {
         self.start(acts)
@@ -158,6 +166,10 @@ impl Stage for Trip {
     }
 
     fn is_passive(&self) -> bool {
+        false
+    }
+
+    fn put_off(&mut self) -> bool {
         false
     }
 }

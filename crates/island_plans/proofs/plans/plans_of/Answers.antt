@@ -21,6 +21,8 @@ use Rattle.materializer.specs.Planned.{ArePlanned, places_from, planned_seat}
 use Rattle.materializer.proofs.Fitting.{few_link_ports, all_sized}
 use Rattle.island_plans.specs.Ends.{AreEndHomes}
 use Rattle.island_plans.specs.Homes.{AreNumberedHomes}
+use Rattle.island_plans.specs.Rooms.{rooms_by}
+use Rattle.island_plans.proofs.LaneRooms.{rooms_many}
 use Rattle.island_plans.proofs.Standing.{in_range, places_count}
 use Rattle.island_plans.proofs.plans.plans_of.Goals as goal
 
@@ -82,6 +84,11 @@ hand_out-requires-clause-has g c = subst (λ (l : List Node). HasPlugs (map (λ 
 pub seat_all-requires-clause-plugged : goal.seat_all-requires-clause-plugged
 seat_all-requires-clause-plugged g c = subst (λ (l : List Node). ArePlugged g.L.Logic.gives g.B.PlugBook.lists (map (λ (n : Node). n.kind) l) c.in_ok-handed.handed.items) c.deref-14.ensures.value c.in_ok-handed.ensures
 
+pub seat_all-requires-clause-rooms : goal.seat_all-requires-clause-rooms
+seat_all-requires-clause-rooms g c =
+    let rooms = c.in_ok-rooms.rooms in
+    rooms.ok.0 ∙ ap length c.in_ok-rooms.ensures ∙ rooms_many c.len-many.result (wires_of_links c.deref-15.result.now) ∙ c.len-many.ensures
+
 pub returns-clause-plans : goal.returns-clause-plans
 returns-clause-plans g c =
     let b = c.args.b in
@@ -120,7 +127,10 @@ returns-clause-plans g c =
     subst (λ (l : List Node). AreAtSwitches (map (λ (n : Node). n.kind) l) board (map seat_of_end c.in_ok-board.switches.items)) c.deref-13.ensures.value c.in_ok-board.ensures.ends in
     let at_switches : AreAtSwitches (map (λ (n : Node). n.kind) ns) board (map planned_seat c.in_ok-seats.seats.items) =
     subst (λ l. AreAtSwitches (map (λ (n : Node). n.kind) ns) board l) (sym c.in_ok-seats.ensures.seats) switches in
-    let planned : ArePlanned (chains_of b) 0 ns c.in_ok-seats.seats.items = subst (λ (l : List ChainDecl). ArePlanned (map graph_chain l) 0 ns c.in_ok-seats.seats.items) c.deref-15.ensures.value c.in_ok-seats.ensures.planned in
+    let planned : ArePlanned (chains_of b) 0 ns c.in_ok-seats.seats.items = subst (λ (l : List ChainDecl). ArePlanned (map graph_chain l) 0 ns c.in_ok-seats.seats.items) c.deref-16.ensures.value c.in_ok-seats.ensures.planned in
+    let same-15 : wires_of_links c.deref-15.result.now ≡ ws = ap wires_of_links c.deref-15.ensures.value ∙ same in
+    let rooms : c.in_ok-rooms.rooms.items ≡ rooms_by (length ns) ws =
+    c.in_ok-rooms.ensures ∙ ap (λ (n : ℕ). rooms_by n (wires_of_links c.deref-15.result.now)) (c.len-many.ensures ∙ b.nodes.ok.0) ∙ ap (rooms_by (length ns)) same-15 in
     let exact : vec_capacity c.in_ok-places.places ≡ c.in_ok-all_places.field-0 = c.in_ok-places.ensures.exact in
     let places_all : c.in_ok-all_places.field-0 ≡ c.len-2.result + c.len-3.result + c.len-3.result = c.in_ok-all_places.ensures in
     record {
@@ -132,6 +142,7 @@ returns-clause-plans g c =
       split = subst (λ (x : Blueprint). IsSplit homes count (blueprint_wires x) (places_from 0 x.nodes.items) c.in_ok-split.split) is split;
       board_is = subst (λ (x : Blueprint). IsBoard (map (λ (n : Node). n.kind) x.nodes.items) board) is board_is;
       at_switches = subst (λ (x : Blueprint). AreAtSwitches (map (λ (n : Node). n.kind) x.nodes.items) board (map planned_seat c.in_ok-seats.seats.items)) is at_switches;
+      rooms = c.in_ok-seats.ensures.rooms ∙ rooms ∙ ap (λ (x : Blueprint). rooms_by (length x.nodes.items) (blueprint_wires x)) is;
       empty = search rules;
       room_for_places = omega (arith, exact, places_all, c.len-2.ensures, c.len-3.ensures, c.in_ok-lanes.lanes.ok.0);
     }

@@ -86,6 +86,7 @@ returns-clause-begun g c =
         room_to_count = is.room_to_count;
         board_is = e.filled.0.board_is;
         at_switches = e.filled.0.at_switches;
+        rooms = e.filled.0.rooms;
       },
       e.filled.1,
     )

@@ -14,6 +14,7 @@ use Rattle.island_plans.specs.Asked.{LieThere, AreAsked, AreNoted, AreWithin}
 use Rattle.bodies_run.specs.Counts.{lane_demand, told_from}
 use Rattle.bodies_run.specs.Leaving.{account_in}
 use Rattle.island_runs.specs.Whole.{whole_of}
+use Rattle.island_runs.proofs.Calm.{none_late_in}
 use Rattle.island_runs.proofs.Cancelling.{cancels_cross}
 use Rattle.island_runs.proofs.Preparing.{told_many}
 use Rattle.island_runs.proofs.Running.{came_back}
@@ -123,6 +124,7 @@ returns-clause-leaves g c = λ b ss ds begun budget r.
     leaves g.S.Source.state g.D.Drain.state g.B.PlugBook.lists b ss ds m.nodes m.seats (sym m.bodies_are.graph.each_node) account back.0 left_by is_run budget
     (record { end = record c.join_ends-end.result { seats = c.new.result }; wires = with_items c.counts_of-wires.result c.note_asked.new.counts; used = c.args.used; at_rest = c.args.at_rest; ran = c.args.ran }) c.join_ends-end.result account.near
     (λ rest. run.still b m.homes m.count m.nodes crossings begun now all m.bodies_are r.went r.keep are (r.rest rest))
+    m.rooms (λ rest k f at. none_late_in g.S.Source.state g.D.Drain.state g.B.PlugBook.lists now crossings r.keep (r.rest rest) _ _ f at)
     (cancels_cross g.S.Source.state g.D.Drain.state g.B.PlugBook.lists b m.homes m.count m.nodes crossings begun now m.bodies_are r.went r.keep r.joined all) left refl settled (whole_list ∙ counts) r.within r.more (omega (arith, spent, r.used_is)) (omega (arith, most, r.used_is))
 
 pub settle-requires : goal.settle-requires

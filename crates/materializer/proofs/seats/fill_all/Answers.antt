@@ -1,8 +1,8 @@
 -- The goals of `seats::fill_all` that the search leaves.
 use Rattle.std.proofs.Common.{◌≡◌, ◌∙◌, List, ◌++◌, length, map, vec_len, refl, ap, sym, subst, rules, arith}
 use Rattle.std.specs.Vec.Iter.{into_iter_items, into_iter_len}
-use Rattle.materializer.specs.Planned.{ArePlanned, planned_plan, planned_seat, reads_in, writes_in}
-use Rattle.materializer.specs.Seats.{place_plan, place_seat}
+use Rattle.materializer.specs.Planned.{ArePlanned, planned_plan, planned_seat, planned_room, reads_in, writes_in}
+use Rattle.materializer.specs.Seats.{place_plan, place_seat, place_room}
 use Rattle.materializer.proofs.Switches.{map_next, map_end}
 use Rattle.materializer.specs.declared.seats.Seat.{Seat}
 use Rattle.interpreter.proofs.Tables.{none_left, len_next}
@@ -27,6 +27,7 @@ loop-seat-init g c =
       λ chains nodes planned. fills_first nodes _ _ chains (into_iter_items r) _ _ _ c.into_iter-unread.ensures.rest c.into_iter-unwritten.ensures.rest c.requires.empty (subst (λ (l : List (Seat _ _ _ _)). ArePlanned chains 0 nodes l) (sym all) planned),
       ap (λ l. map place_seat l ++ map planned_seat (into_iter_items r)) c.requires.empty ∙ ap (map planned_seat) all,
       ap (λ l. map place_plan l ++ map planned_plan (into_iter_items r)) c.requires.empty ∙ ap (map planned_plan) all,
+      ap (λ l. map place_room l ++ map planned_room (into_iter_items r)) c.requires.empty ∙ ap (map planned_room) all,
     )
 
 pub fill-requires-clause-source : goal.fill-requires-clause-source
@@ -50,6 +51,7 @@ loop-seat-preserved g c =
       λ chains nodes planned. fills_next nodes _ _ chains _ _ _ _ _ _ _ _ _ _ (kept.8 chains nodes planned) next.0 (c.fill.ensures.fills chains) c.push_reserved.ensures.items,
       map_next place_seat planned_seat _ _ _ _ _ _ _ next.0 c.push_reserved.ensures.items c.fill.ensures.seat kept.9,
       map_next place_plan planned_plan _ _ _ _ _ _ _ next.0 c.push_reserved.ensures.items c.fill.ensures.plan kept.10,
+      map_next place_room planned_room _ _ _ _ _ _ _ next.0 c.push_reserved.ensures.items c.fill.ensures.room kept.11,
     )
 
 pub returns-clause-seats : goal.returns-clause-seats
@@ -69,3 +71,6 @@ returns-clause-kept g c = map_end place_seat planned_seat _ _ _ (none_left _ _ c
 
 pub returns-clause-plans : goal.returns-clause-plans
 returns-clause-plans g c = map_end place_plan planned_plan _ _ _ (none_left _ _ c.in-None.ensures.steps.0 c.loop-seat.invariant.2) c.loop-seat.invariant.10
+
+pub returns-clause-rooms : goal.returns-clause-rooms
+returns-clause-rooms g c = map_end place_room planned_room _ _ _ (none_left _ _ c.in-None.ensures.steps.0 c.loop-seat.invariant.2) c.loop-seat.invariant.11

@@ -3,8 +3,8 @@ use Rattle.std.proofs.Common.{◌≡◌, ◌+◌, ◌≤◌, List, ◌++◌, len
 use Rattle.std.specs.Vec.Iter.{into_iter_items, into_iter_len}
 use Rattle.stream_model.specs.Graph as graph
 use Rattle.stream_model.specs.declared.blueprint.Node.{Node}
-use Rattle.materializer.specs.Planned.{ArePlanned, planned_plan, planned_seat, reads_in, writes_in}
-use Rattle.materializer.specs.Seats.{place_plan, place_seat}
+use Rattle.materializer.specs.Planned.{ArePlanned, planned_plan, planned_seat, planned_room, reads_in, writes_in}
+use Rattle.materializer.specs.Seats.{place_plan, place_seat, place_room}
 use Rattle.materializer.proofs.SeatLoops.{FillsRest}
 use Rattle.materializer.proofs.seats.fill_all.Given as goal
 
@@ -22,3 +22,4 @@ invariant-loop-seat g l =
     × ((chains : List graph.Chain) (nodes : List Node) → ArePlanned chains 0 nodes l.fn.seats.items → FillsRest nodes l.fn.sources.items l.fn.drains.items chains (into_iter_items l.seat-iterator) (into_iter_items l.unread) (into_iter_items l.unwritten) l.places.items)
     × (map place_seat l.places.items ++ map planned_seat (into_iter_items l.seat-iterator) ≡ map planned_seat l.fn.seats.items)
     × (map place_plan l.places.items ++ map planned_plan (into_iter_items l.seat-iterator) ≡ map planned_plan l.fn.seats.items)
+    × (map place_room l.places.items ++ map planned_room (into_iter_items l.seat-iterator) ≡ map planned_room l.fn.seats.items)

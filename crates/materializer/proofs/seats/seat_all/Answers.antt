@@ -1,5 +1,5 @@
 -- The goals of `seats::seat_all` that the search leaves.
-use Rattle.std.proofs.Common.{◌≡◌, ◌∙◌, ◌++◌, length, map, ap, sym, subst, rules}
+use Rattle.std.proofs.Common.{◌≡◌, ◌∙◌, ◌+◌, ◌++◌, length, map, ap, sym, subst, rules, arith}
 use Rattle.std.specs.List.{list_all}
 use Rattle.std.specs.Vec.Iter.{into_iter_items, into_iter_len}
 use Rattle.interpreter.proofs.Tables.{none_left, len_next}
@@ -8,8 +8,9 @@ use Rattle.materializer.specs.HandedPlugs.{ArePlugged}
 use Rattle.materializer.specs.Board.{AreHanded, seat_of_end}
 use Rattle.materializer.specs.Graphs.{graph_chain}
 use Rattle.materializer.specs.Choosers.{moves_of, PlansFit}
-use Rattle.materializer.specs.Planned.{planned_plan, planned_seat}
+use Rattle.materializer.specs.Planned.{planned_plan, planned_seat, planned_room}
 use Rattle.materializer.proofs.Leading.{moves_left, moves_next, no_moves_left}
+use Rattle.materializer.proofs.Rooms.{room_next, count_next, rooms_left, rooms_end}
 use Rattle.materializer.proofs.Plugs.{plugs_left, plug_next}
 use Rattle.materializer.proofs.SeatLoops.{all_next, planned_start, planned_next, planned_end}
 use Rattle.materializer.proofs.Switches.{kinds_of, ends_left, end_next, no_ends, map_next, map_end}
@@ -36,6 +37,9 @@ loop-node-init g c =
       subst (λ l. PlansFit (kinds_of l) (map moves_of (into_iter_items c.into_iter-unmade.result))) (sym all) (subst (λ l. PlansFit (kinds_of c.args.nodes.items) (map moves_of l)) (sym c.into_iter-unmade.ensures.rest) c.requires.follow),
       search rules,
       ap (λ l. map planned_plan l ++ map moves_of (into_iter_items c.into_iter-unmade.result)) c.new-seats.ensures.items ∙ ap (map moves_of) c.into_iter-unmade.ensures.rest,
+      ap (λ l. map planned_room l ++ into_iter_items c.into_iter-unroomed.result) c.new-seats.ensures.items ∙ c.into_iter-unroomed.ensures.rest,
+      omega (arith, ap length c.new-seats.ensures.items, ap length all),
+      search rules,
     )
 
 pub loop-node-preserved : goal.loop-node-preserved
@@ -57,6 +61,9 @@ loop-node-preserved g c =
       (moves_next node _ _ _ _ _ next.0 c.take_next-moves.ensures.items kept.10).1,
       len_next _ _ _ _ _ c.take_next-moves.ensures.items (sym c.take_next-moves.ensures.len) kept.11,
       map_next planned_plan moves_of _ _ _ _ _ _ _ c.take_next-moves.ensures.items c.in_ok-push.ensures.items c.in_ok-plan.ensures.plan kept.12,
+      room_next planned_room _ _ _ _ _ _ _ c.take_next-room.ensures.items c.in_ok-push.ensures.items c.in_ok-plan.ensures.room kept.13,
+      count_next planned_room _ _ _ _ _ _ _ next.0 c.in_ok-push.ensures.items kept.14,
+      len_next _ _ _ _ _ c.take_next-room.ensures.items (sym c.take_next-room.ensures.len) kept.15,
     )
 
 pub take_next-end-requires : goal.take_next-end-requires
@@ -89,3 +96,13 @@ pub returns-clause-plans : goal.returns-clause-plans
 returns-clause-plans g c =
     let kept = c.loop-node.invariant in
     map_end planned_plan moves_of _ _ _ (no_moves_left _ _ (none_left _ _ c.in-None.ensures.steps.0 kept.2) kept.10) kept.12
+
+pub take_next-room-requires : goal.take_next-room-requires
+take_next-room-requires g c =
+    let kept = c.loop-node.invariant in
+    rooms_left planned_room _ _ _ _ _ _ _ _ c.in-Some.ensures.steps.0 kept.13 kept.14 kept.15 (sym c.args.rooms.ok.0 ∙ c.requires.rooms ∙ c.args.nodes.ok.0)
+
+pub returns-clause-rooms : goal.returns-clause-rooms
+returns-clause-rooms g c =
+    let kept = c.loop-node.invariant in
+    rooms_end planned_room _ _ _ _ _ (none_left _ _ c.in-None.ensures.steps.0 kept.2) kept.13 kept.14 (sym c.args.rooms.ok.0 ∙ c.requires.rooms ∙ c.args.nodes.ok.0)

@@ -1,10 +1,10 @@
 -- The loop of `seats::seat_all`.
-use Rattle.std.proofs.Common.{◌≡◌, true, List, ◌++◌, length, map}
+use Rattle.std.proofs.Common.{◌≡◌, ◌+◌, true, List, ◌++◌, length, map}
 use Rattle.std.specs.List.{list_all}
 use Rattle.std.specs.Vec.Iter.{into_iter_items, into_iter_len}
 use Rattle.blue_names.specs.Sizes.{sizes_fit}
 use Rattle.materializer.specs.Graphs.{graph_chain}
-use Rattle.materializer.specs.Planned.{ArePlanned, planned_plan, planned_seat}
+use Rattle.materializer.specs.Planned.{ArePlanned, planned_plan, planned_seat, planned_room}
 use Rattle.materializer.specs.Choosers.{moves_of, PlansFit}
 use Rattle.materializer.specs.HandedPlugs.{ArePlugged}
 use Rattle.materializer.specs.Board.{AreHanded, seat_of_end}
@@ -27,3 +27,6 @@ invariant-loop-node g l =
     × PlansFit (map (λ n. n.kind) (into_iter_items l.node-iterator)) (map moves_of (into_iter_items l.unmade))
     × (into_iter_len l.unmade ≡ length (into_iter_items l.unmade))
     × (map planned_plan l.seats.items ++ map moves_of (into_iter_items l.unmade) ≡ map moves_of l.fn.plans.items)
+    × (map planned_room l.seats.items ++ into_iter_items l.unroomed ≡ l.fn.rooms.items)
+    × (length l.seats.items + length (into_iter_items l.node-iterator) ≡ length l.fn.nodes.items)
+    × (into_iter_len l.unroomed ≡ length (into_iter_items l.unroomed))

@@ -1,8 +1,8 @@
 -- The loop of `body::Body::run`.
-use Rattle.std.proofs.Common.{◌≡◌, ◌≤◌, ◌+◌, ◌-◌}
+use Rattle.std.proofs.Common.{◌≡◌, ◌≤◌, ◌+◌, ◌-◌, ◌*◌, [], cond}
 use Rattle.fused_net.specs.Costs.{total_cost}
 use Rattle.island_body.specs.Ends.{all_taken, all_finds, AllDone}
-use Rattle.island_body.specs.Keeping.{BodyStands, BodyGoes}
+use Rattle.island_body.specs.Keeping.{BodyStands, BodyGoes, is_pending}
 use Rattle.island_body.specs.Telling.{WakesOn}
 use Rattle.island_body.specs.Moving.{KeepsLooks}
 use Rattle.island_body.proofs.body.Body.run.Given as goal
@@ -19,8 +19,8 @@ invariant-loop-alloc g l = record {
   uses : total_cost l.fn.self.island.net + l.count ≤ total_cost l.self.island.net + l.fn.used;
   used : l.self.island.used + l.fn.used ≡ l.fn.self.island.used + l.count;
   costs : (all_taken l.self.ins.items ≡ all_taken l.fn.self.ins.items) × (all_finds l.self.outs.items ≡ all_finds l.fn.self.outs.items) × (l.self.spent ≡ l.fn.self.spent);
-  same : l.count ≡ l.fn.used → l.self ≡ l.fn.self;
+  same : l.count ≡ l.fn.used → (l.self.ins ≡ l.fn.self.ins) × (l.self.outs ≡ l.fn.self.outs) × (l.self.island.net.queue ≡ [] → l.fn.self.island.net.queue ≡ []);
 }
 
 abbrev pub decreases-loop-alloc : goal.decreases-loop-alloc
-decreases-loop-alloc g l = l.limit - l.count
+decreases-loop-alloc g l = (l.limit - l.count) * 2 + cond (is_pending l.self) 0 1

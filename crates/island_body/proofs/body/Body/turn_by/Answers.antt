@@ -1,9 +1,8 @@
 -- The goals of `body::Body::turn_by` that the search leaves.
-use Rattle.std.proofs.Common.{◌≡◌, ◌∙◌, refl, ap, sym, arith}
+use Rattle.std.proofs.Common.{◌≡◌, ◌∙◌, refl, sym, arith}
 use Rattle.fused_net.proofs.Keeping.{on_err}
 use Rattle.island_body.specs.Lasting.{goes_on, goes_breaks}
 use Rattle.island_body.proofs.Acting.{idle_turn}
-use Rattle.island_body.specs.declared.body.Body.{Body}
 use Rattle.island_body.proofs.Looking.{has_looked}
 use Rattle.island_body.proofs.Telling.{wakes_same, wakes_none}
 use Rattle.island_body.proofs.body.Body.turn_by.Goals as goal
@@ -28,7 +27,7 @@ returns-clause-idle g c = λ z one.
     let found : c.visit_all-found.result ≡ 0 = omega (arith, z, a) in
     let taken : c.take_all-taken.result ≡ 0 = omega (arith, found, b) in
     let last = r.none (z ∙ sym found) (omega (arith, found, one)) in
-    let idle = idle_turn _ _ _ c.run.new.self (t.none taken one) (v.none (found ∙ sym taken) (omega (arith, taken, one))) (ap (λ (x : Body _ _ _ _). x.island) last.0) (ap (λ (x : Body _ _ _ _). x.ins) last.0) (ap (λ (x : Body _ _ _ _). x.outs) last.0) last.1 in
+    let idle = idle_turn _ _ _ c.run.new.self (t.none taken one) (v.none (found ∙ sym taken) (omega (arith, taken, one))) last.0 last.1 last.2 in
     record { queue = idle.queue; ins = idle.ins; outs = idle.outs }
 
 pub returns-clause-found : goal.returns-clause-found

@@ -79,6 +79,7 @@ returns-clause-filled g c =
         ends_are = p.ends_are;
         board_is = p.board_is;
         at_switches = subst (λ l. AreAtSwitches (map (λ (n : Node). n.kind) ns) self.board l) (sym c.fill_all-nodes.ensures.kept) p.at_switches;
+        rooms = c.fill_all-nodes.ensures.rooms ∙ p.rooms;
         many = islands.many ∙ p.split.ready.spaces_many;
         each = λ k x at. island_is homes self.count ws ns nodes self.split p.split same self.lanes.items c.deref.result.now c.whole_seats.result.items parts (laws.places nodes cut) p.lanes_are c.deref.ensures.value c.whole_seats.ensures k x (islands.each k x at);
       },

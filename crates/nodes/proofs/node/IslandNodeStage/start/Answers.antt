@@ -1,7 +1,7 @@
 use Rattle.std.proofs.Common.{ap, ◌∙◌}
 use Rattle.nodes.proofs.Enters.{starts_entering}
 use Rattle.nodes.proofs.Leaves.{starts_leaving}
-use Rattle.nodes.proofs.Dispatching.{entering_starts, leaving_starts}
+use Rattle.nodes.proofs.Dispatching.{writing_pulls, entering_starts, leaving_starts}
 use Rattle.nodes.proofs.node.IslandNodeStage.start.Goals as goal
 
 pub returns-in-Entering-clause-starts : goal.returns-in-Entering-clause-starts
@@ -13,3 +13,6 @@ pub returns-in-Leaving-clause-starts : goal.returns-in-Leaving-clause-starts
 returns-in-Leaving-clause-starts g c =
     let e = c.start-in-Leaving.ensures in
     rw c.in-Leaving.is (leaving_starts _ _ g.S.Source.state g.D.Drain.state g.B.PlugBook.lists _ _ _ _ (starts_leaving c.start-in-Leaving.result _ _ _ e.same.0 (ap (λ a. a.items) e.same.1 ∙ c.requires.empty)))
+
+pub returns-in-Writing-clause-pulls : goal.returns-in-Writing-clause-pulls
+returns-in-Writing-clause-pulls g c = rw c.in-Writing.is (writing_pulls _ _ g.S.Source.state g.D.Drain.state g.B.PlugBook.lists _ _ _ _ _ c.start-in-Writing.ensures.asks)

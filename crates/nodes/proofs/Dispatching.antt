@@ -11,14 +11,14 @@ use Rattle.port_core.specs.declared.view.OutView.TheVariants.{Unpulled, Closed}
 use Rattle.port_core.specs.View.{View, IsOutOpen}
 use Rattle.port_core.specs.Call.{Call, Meets, MayCome, pulls, arrives, cancels}
 use Rattle.stream_model.specs.Linear.{Book}
-use Rattle.stage_core.specs.Handling.{Starts, Handles, Pulls, PullsAs}
+use Rattle.stage_core.specs.Handling.{Starts, Handles}
 use Rattle.stage_core.specs.Handing.{PutsOff, cancel_first}
 use Rattle.stream_io.specs.State.{SourceState, DrainState}
 use Rattle.nodes.specs.Entering.{Entering, EnteringFresh, EnteringPortState, EnteringLaw}
 use Rattle.nodes.specs.Leaving.{Leaving, LeavingFresh, LeavingPortState, LeavingLaw}
 use Rattle.nodes.specs.Ports.{OneIn, OneInOf, OneOut, OneOutOf}
 use Rattle.nodes.specs.Source.{Lines, lines_port_state, lines_port_state_in, LinesLaw}
-use Rattle.nodes.specs.Sink.{Sink, sink_port_state, sink_port_state_in, SinkLaw, SinkAsking, SinkPutsOff}
+use Rattle.nodes.specs.Sink.{Sink, sink_port_state, sink_port_state_in, SinkLaw, SinkPutsOff}
 use Rattle.nodes.specs.declared.node.IslandNode.{IslandNode}
 use Rattle.nodes.specs.declared.node.IslandNode.TheVariants.{Reading, Making, Linear, State, Sub, FanIn, FanOut, Writing, Ignoring}
 use Rattle.nodes.specs.declared.node.IslandNode.TheVariants as node
@@ -97,10 +97,6 @@ module _ {S D : Type 0} (L B : Type 0) (sources : S → SourceState) (drains : D
   pub writing_handles : {T E : Type 0} (p : ℕ) (x : Item) (old new : Sink D) (acts : List Act) (r : Result T E) → Meets (arrives p x) (sink_port_state old) → OnOk r (Handles sink_port_state (SinkLaw drains) (arrives 0 x) old new acts)
       → OnOk r (CallOf (arrives p x) (Writing old) (Writing new) acts)
   writing_handles p x old new acts r m h = rw (port_is (sink_port_state_in old.started old.end) p x m) (on_ok_two r h h (λ a b. writing_at x old new acts a))
-
-  -- what it tells whenever it has just asked
-  pub writing_pulls : {T E : Type 0} (call : Call) (before : View → Type 0) (new : Sink D) (acts : List Act) (r : Result T E) → OnOk r (Pulls acts → SinkAsking new) → OnOk r (PullsAs call before (node_asking {S = S} {D = D} {L = L} {B = B} (Writing new)) acts)
-  writing_pulls call before new acts r h = on_ok_two r h h (λ a b v may held p. a p)
 
   -- what it does outside of its handlers
   pub writing_puts : (b : Bool) (old new : Sink D) → ((new ≡ old) × (b ≡ false)) ⊎ SinkPutsOff drains old (cancel_first b) new

@@ -1,7 +1,8 @@
 use Rattle.std.proofs.Common.{ap, ◌∙◌}
 use Rattle.elem_core.specs.declared.item.Item.TheVariants as item
 use Rattle.nodes.proofs.Leaves.{leaves_got}
-use Rattle.nodes.proofs.Dispatching.{writing_handles, writing_pulls, leaving_handles}
+use Rattle.nodes.proofs.Acting.{on_ok_two}
+use Rattle.nodes.proofs.Dispatching.{writing_handles, leaving_handles}
 use Rattle.nodes.proofs.node.IslandNode.push_rest.Goals as goal
 
 pub returns-in-Writing-clause-handles : goal.returns-in-Writing-clause-handles
@@ -14,4 +15,6 @@ returns-in-Leaving-clause-handles g c =
     rw c.in-Leaving.is (leaving_handles _ _ g.S.Source.state g.D.Drain.state g.B.PlugBook.lists _ _ _ _ _ (leaves_got c.on_push-in-Leaving.result c.args.port (item.Elem c.args.e) _ _ _ e.waits (ap (λ a. a.items) e.nothing ∙ c.requires.empty)))
 
 pub returns-in-Writing-clause-pulls : goal.returns-in-Writing-clause-pulls
-returns-in-Writing-clause-pulls g c = rw c.in-Writing.is (writing_pulls _ _ g.S.Source.state g.D.Drain.state g.B.PlugBook.lists _ _ _ _ _ c.on_push-in-Writing.ensures.asks)
+returns-in-Writing-clause-pulls g c =
+    let e = c.on_push-in-Writing.ensures.asks in
+    rw c.in-Writing.is (on_ok_two c.on_push-in-Writing.result e e (λ a b v may held p. a p))

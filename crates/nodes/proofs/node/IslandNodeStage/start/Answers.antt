@@ -1,7 +1,8 @@
 use Rattle.std.proofs.Common.{ap, ◌∙◌}
 use Rattle.nodes.proofs.Enters.{starts_entering}
 use Rattle.nodes.proofs.Leaves.{starts_leaving}
-use Rattle.nodes.proofs.Dispatching.{writing_pulls, entering_starts, leaving_starts}
+use Rattle.nodes.proofs.Acting.{on_ok_two}
+use Rattle.nodes.proofs.Dispatching.{entering_starts, leaving_starts}
 use Rattle.nodes.proofs.node.IslandNodeStage.start.Goals as goal
 
 pub returns-in-Entering-clause-starts : goal.returns-in-Entering-clause-starts
@@ -15,4 +16,6 @@ returns-in-Leaving-clause-starts g c =
     rw c.in-Leaving.is (leaving_starts _ _ g.S.Source.state g.D.Drain.state g.B.PlugBook.lists _ _ _ _ (starts_leaving c.start-in-Leaving.result _ _ _ e.same.0 (ap (λ a. a.items) e.same.1 ∙ c.requires.empty)))
 
 pub returns-in-Writing-clause-pulls : goal.returns-in-Writing-clause-pulls
-returns-in-Writing-clause-pulls g c = rw c.in-Writing.is (writing_pulls _ _ g.S.Source.state g.D.Drain.state g.B.PlugBook.lists _ _ _ _ _ c.start-in-Writing.ensures.asks)
+returns-in-Writing-clause-pulls g c =
+    let e = c.start-in-Writing.ensures.asks in
+    rw c.in-Writing.is (on_ok_two c.start-in-Writing.result e e (λ a b v may held p. a p))

@@ -1,7 +1,7 @@
 // That a buffer that drops is made and handles its events with ample memory. What a full one drops is proved, and shown by the cases of `rows`.
 ghost use Rattle.std.specs.Prelude.{◌≡◌, ◌≤◌, [], ◌∷◌, true, IfOk};
 ghost use Rattle.port_core.specs.declared.act.Act.TheVariants as act;
-ghost use Rattle.stage_core.specs.declared.stage.TheConstants.{MOST_ACTS};
+ghost use Rattle.stage_core.specs.declared.stage.TheConstants.{LEAST_ACTS};
 ghost use Rattle.port_core.specs.View.{unpulled_ports};
 ghost use Rattle.call_tests.specs.Buffers.{waiting_ports};
 
@@ -9,7 +9,7 @@ use elem_core::elem::{Elem, Form};
 use elem_core::why::{Decider, NoMemory};
 use port_core::act::Act;
 use port_core::acts::Acts;
-use stage_core::stage::{MOST_ACTS, Stage};
+use stage_core::stage::{LEAST_ACTS, Stage};
 use stage_state::logic::StateLogic;
 use std::alloc::Global;
 use std::test::Fail;
@@ -43,7 +43,7 @@ fn number_given(acts: &mut Acts) -> Option<i64> {
 fn begins<S: Stage>(alloc: Global, stage: &mut S, acts: &mut Acts) -> Result<bool, NoMemory>
     requires new { S.fresh stage.old unpulled_ports }
     requires empty { acts.old.items ≡ [] }
-    requires room { MOST_ACTS ≤ acts.old.room }
+    requires room { LEAST_ACTS ≤ acts.old.room }
     ensures waits { IfOk result (λ on. on ≡ true → S.port_state stage.new waiting_ports) }
     ensures acts { IfOk result (λ on. on ≡ true → acts.new ≡ acts.old) }
 {
@@ -60,7 +60,7 @@ fn takes<S: Stage>(
 ) -> Result<bool, NoMemory>
     requires waits { S.port_state stage.old waiting_ports }
     requires empty { acts.old.items ≡ [] }
-    requires room { MOST_ACTS ≤ acts.old.room }
+    requires room { LEAST_ACTS ≤ acts.old.room }
     ensures waits { IfOk result (λ on. on ≡ true → S.port_state stage.new waiting_ports) }
     ensures acts { IfOk result (λ on. on ≡ true → acts.new ≡ acts.old) }
 {
@@ -77,7 +77,7 @@ fn gives<S: Stage>(
 ) -> Result<bool, NoMemory>
     requires waits { S.port_state stage.old waiting_ports }
     requires empty { acts.old.items ≡ [] }
-    requires room { MOST_ACTS ≤ acts.old.room }
+    requires room { LEAST_ACTS ≤ acts.old.room }
 {
     stage.on_pull(alloc, 0, acts)?;
     match number_given(acts) {
@@ -91,7 +91,7 @@ fn a_buffer_that_drops_passes_an_element(rt: HostRuntime) -> Result<(), Fail> {
     let alloc = rt.alloc();
     let kind = Kind::Buffer(1, Policy::DropHead);
     let mut stage = StateLogic::new(alloc, 0, kind, Decider::Stop, None)?;
-    let mut acts = Acts::new(alloc, MOST_ACTS)?;
+    let mut acts = Acts::new(alloc, LEAST_ACTS)?;
     assert!(rt; begins(alloc, &mut stage, &mut acts)?);
     assert!(rt; takes(alloc, &mut stage, 7, &mut acts)?);
     assert!(rt; gives(alloc, &mut stage, 7, &mut acts)?);

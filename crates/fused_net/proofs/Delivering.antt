@@ -21,12 +21,13 @@ use Rattle.port_core.specs.Cell.{WireState, brought_in, delivered, Brings, Broug
 use Rattle.port_core.specs.Marks.{IsMarked}
 use Rattle.port_core.proofs.Marking.{deliver_marked}
 use Rattle.stage_core.specs.Histories.{brought_by}
+use Rattle.stage_core.specs.Rooms.{HasRoom}
 use Rattle.stage_core.specs.Handling.{Pulls, PullsAs, Handles}
 use Rattle.fused_net.specs.declared.net.WireEnds.{WireEnds}
 use Rattle.port_core.specs.Reading.{no_wire, inp_of, out_of, got_of, sent_of}
 use Rattle.fused_net.specs.Net.{Net, end_at, wire_at, ports_at, view_of, took, gave, target, call_of, put, told_by, delivered_on, event_told, with_node, before}
-use Rattle.fused_net.specs.Laws.{AnyLaw, Wired, Minds, IsMinded, Settled, Busy}
-use Rattle.fused_net.proofs.Reading.{read_same, read_at, some_same, get_there, get_set_same, get_set_other}
+use Rattle.fused_net.specs.Laws.{HaveRoom, AnyLaw, Wired, Minds, IsMinded, Settled, Busy}
+use Rattle.fused_net.proofs.Reading.{has_room, read_same, read_at, some_same, get_there, get_set_same, get_set_other}
 use Rattle.fused_net.proofs.Nets.{sound_put, marked_put, minds_along, others_in, others_out, here_in, here_out}
 use Rattle.fused_net.proofs.Acting.{keep_at}
 use Rattle.fused_net.proofs.Asking.{told_asked}
@@ -214,6 +215,7 @@ module _ {N : Type 0} (port_state : N → View → Type 0) (law : N → N → Vi
   pub record Called (call : Call) (v : Net N) (n : ℕ) : Type 0 where
     pub within : n < length v.nodes
     pub meets : (x : N) → slice_get v.nodes n ≡ Some x → Meets call (port_state x)
+    pub fits : (x : N) (room : ℕ) → slice_get v.nodes n ≡ Some x → HaveRoom v.ports room → HasRoom call (port_state x) room
     pub awaits : Awaits port_state law call v n
     pub tells : TellsAsking port_state law asking call v n
 
@@ -228,6 +230,7 @@ module _ {N : Type 0} (port_state : N → View → Type 0) (law : N → N → Vi
       record {
         within = hn;
         meets = λ x xi. (view_of net (target d (end_at net.ends w)), (may, (s.minded (target d (end_at net.ends w)) hn x first.0 xi first.1).port_state_holds));
+        fits = λ x room xi have. (view_of net (target d (end_at net.ends w)), (may, ((s.minded (target d (end_at net.ends w)) hn x first.0 xi first.1).port_state_holds, has_room net (target d (end_at net.ends w)) room have)));
         awaits = λ x y acts xi handles. subst (λ (a : Net N). Busy port_state law (with_node a (target d (end_at net.ends w)) y) (target d (end_at net.ends w)) acts) same (handled_busy net w d x y acts s h absent e n xi handles);
         tells = λ x y acts xi handles asks pulls.
             let held = (s.minded (target d (end_at net.ends w)) hn x first.0 xi first.1).port_state_holds in

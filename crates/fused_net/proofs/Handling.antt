@@ -11,13 +11,14 @@ use Rattle.port_core.specs.View.{View}
 use Rattle.port_core.specs.Call.{Call, pulls, arrives, Meets}
 use Rattle.port_core.specs.Wire.{Delivery, nothing, pull, cancel, arrived, delivery_of}
 use Rattle.port_core.specs.declared.act.Act.{Act}
+use Rattle.stage_core.specs.Rooms.{HasRoom}
 use Rattle.stage_core.specs.Handling.{PullsAs, StaysPassive, Handles}
 use Rattle.fused_net.specs.declared.net.WireEnds.{WireEnds}
 use Rattle.port_core.specs.Cell.{brought_in, Brings, Brought}
 use Rattle.fused_net.specs.declared.engine.Delivered.{Delivered}
 use Rattle.fused_net.specs.declared.engine.Delivered.TheVariants as brings
 use Rattle.fused_net.specs.Net.{Net, end_at, wire_at, target, call_of, IsBrought, node_for, call_for, put, acted_all, event_told, with_node, before}
-use Rattle.fused_net.specs.Laws.{AnyRow, AnyLaw, Settled, Busy, NetGoesOn, AllKept}
+use Rattle.fused_net.specs.Laws.{HaveRoom, AnyRow, AnyLaw, Settled, Busy, NetGoesOn, AllKept}
 use Rattle.fused_net.specs.Costs.{all_asks, Uses}
 use Rattle.fused_net.specs.Poking.{AtNode}
 use Rattle.fused_net.specs.Outside.{StandsStill, Untouched, touched}
@@ -53,6 +54,11 @@ module _ {N : Type 0} (port_state : N → View → Type 0) (law : N → N → Vi
   call_meets net heard v w n call ends x c =
       let k = called_at net heard v w n call ends x c in
       k.meets x (node_is heard v n x c.same k.within c.read)
+
+  pub call_fits : (net heard v : Net N) (w n : ℕ) (call : Call) (ends : WireEnds) (x : N) (room : ℕ) → Calling net heard v w n call ends x → HaveRoom net.ports room → HasRoom call (port_state x) room
+  call_fits net heard v w n call ends x room c have =
+      let k = called_at net heard v w n call ends x c in
+      k.fits x room (node_is heard v n x c.same k.within c.read) (subst (λ (a : Net N). HaveRoom a.ports room) (sym c.after) have)
 
   pub call_busy : (net heard v : Net N) (w n : ℕ) (call : Call) (ends : WireEnds) (x y : N) (acts : List Act) → Calling net heard v w n call ends x → Handles port_state law call x y acts → Busy AnyRow AnyLaw (with_node v n y) n acts
   call_busy net heard v w n call ends x y acts c handles =

@@ -1,10 +1,13 @@
 -- What is read off the wires of a node, once one wire was replaced.
-use Rattle.std.proofs.Common.{◌≡◌, ◌≢◌, ◌⊎◌, inl, inr, ℕ, zero, suc, ◌<◌, ◌==◌, true, false, Some, List, [], ◌∷◌, length, get_or, slice_get, refl, ap, ◌∙◌, arith, get_or-set_same, get_or-set_other}
+use Rattle.std.proofs.Common.{◌≡◌, ◌≢◌, ◌⊎◌, inl, inr, ℕ, zero, suc, ◌+◌, ◌*◌, ◌<◌, ◌≤◌, ◌==◌, true, false, Some, List, [], ◌∷◌, length, get_or, slice_get, refl, ap, ◌∙◌, arith, get_or-set_same, get_or-set_other}
 use Rattle.std.proofs.Math.ListN.{set}
 use Rattle.std.proofs.lemmas.Bool.Decides.{nat_tests}
 use Rattle.port_core.specs.Cell.{WireState}
 use Rattle.port_core.specs.Reading.{no_wire}
-use Rattle.fused_net.specs.Net.{read_all}
+use Rattle.port_core.specs.Reading.{inp_of, out_of}
+use Rattle.stage_core.specs.Rooms.{acts_for}
+use Rattle.fused_net.specs.Net.{Net, port_at, view_of, read_all}
+use Rattle.fused_net.specs.Laws.{HaveRoom}
 
 -- a number is equal to another, or not
 pub same_or_not : (a b : ℕ) → (a ≡ b) ⊎ (a ≢ b)
@@ -57,6 +60,14 @@ port_there P f wires (u ∷ ws) (suc i) d none p = port_there P f wires ws i d n
 pub length-read_all : {X : Type 0} (f : WireState → X) (wires : List WireState) (ws : List ℕ) → length (read_all f wires ws) ≡ length ws
 length-read_all f wires [] = refl
 length-read_all f wires (u ∷ ws) = ap suc (length-read_all f wires ws)
+
+-- what a node knows of its ports has an entry for each
+pub has_room : {N : Type 0} (net : Net N) (n room : ℕ) → HaveRoom net.ports room → acts_for (view_of net n) ≤ room
+has_room net n room h =
+    let a : 2 * (length (port_at net.ports n).ins + length (port_at net.ports n).outs) ≤ room = h n in
+    let i : length (view_of net n).ins ≡ length (port_at net.ports n).ins = length-read_all inp_of net.wires (port_at net.ports n).ins in
+    let o : length (view_of net n).outs ≡ length (port_at net.ports n).outs = length-read_all out_of net.wires (port_at net.ports n).outs in
+    omega (arith, a, i, o)
 
 -- there is one at each place within
 pub get_there : {A : Type 0} (xs : List A) (n : ℕ) → n < length xs → (x : A) × (slice_get xs n ≡ Some x)

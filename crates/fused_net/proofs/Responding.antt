@@ -9,12 +9,13 @@ use Rattle.port_core.specs.Ring.{is_queued}
 use Rattle.port_core.specs.View.{View}
 use Rattle.port_core.specs.Call.{Call, Meets, starts}
 use Rattle.port_core.specs.declared.act.Act.{Act}
+use Rattle.stage_core.specs.Rooms.{HasRoom}
 use Rattle.stage_core.specs.Handling.{PullsAs, Starts, Handles}
 use Rattle.fused_net.specs.declared.net.WireEnds.{WireEnds}
 use Rattle.fused_net.specs.Net.{Net, no_ends, end_at, view_of, acted_all, event_told, with_node, before}
-use Rattle.fused_net.specs.Laws.{AnyRow, AnyLaw, Busy, Settled, Starting, NetGoesOn}
+use Rattle.fused_net.specs.Laws.{HaveRoom, AnyRow, AnyLaw, Busy, Settled, Starting, NetGoesOn}
 use Rattle.fused_net.specs.Costs.{all_asks, Uses}
-use Rattle.fused_net.proofs.Reading.{some_same, get_there}
+use Rattle.fused_net.proofs.Reading.{has_room, some_same, get_there}
 use Rattle.fused_net.proofs.Acting.{busy_any}
 use Rattle.fused_net.proofs.Ongoing.{goes_trans, goes_acts, goes_node}
 use Rattle.fused_net.proofs.Delivering.{Awaits, TellsAsking}
@@ -63,6 +64,12 @@ module _ {N : Type 0} (port_state : N → View → Type 0) (law : N → N → Vi
         let first = get_there net.firsts n (rw s.each_first h) in
         let a = s.above n (omega arith) h x first.0 (node_is net v n x e h is) first.1 in
         (view_of net n, (a.1.1.0, a.0))
+
+    pub start_fits : (net v : Net N) (n room : ℕ) (x : N) → Starting port_state law asking moves fresh net n → v ≡ net → n < length net.nodes → x ≡ get_or v.nodes n x → HaveRoom net.ports room → HasRoom starts (fresh x) room
+    start_fits net v n room x s e h is have =
+        let first = get_there net.firsts n (rw s.each_first h) in
+        let a = s.above n (omega arith) h x first.0 (node_is net v n x e h is) first.1 in
+        (view_of net n, (a.1.1.0, (a.0, has_room net n room have)))
 
     pub start_awaited : (net v : Net N) (n : ℕ) (x y : N) (acts : List Act) → Starting port_state law asking moves fresh net n → v ≡ net → n < length net.nodes → x ≡ get_or v.nodes n x → Starts port_state law fresh x y acts → Busy AnyRow AnyLaw (with_node v n y) n acts
     start_awaited net v n x y acts s e h is st = rw e (start_busy port_state law asking moves fresh net n x y acts s h (node_is net v n x e h is) st)

@@ -7,7 +7,7 @@ use Rattle.port_core.specs.Joint.{IsSound}
 use Rattle.port_core.specs.View.{View}
 use Rattle.port_core.specs.Counts.{spent}
 use Rattle.fused_net.specs.Net.{Net, wire_at, before, Takes}
-use Rattle.fused_net.specs.Laws.{NetGoesOn, Settled, AllKept}
+use Rattle.fused_net.specs.Laws.{HaveRoom, NetGoesOn, Settled, AllKept}
 use Rattle.fused_net.specs.Costs.{sum_below, total_cost, all_asks, Uses}
 
 -- a number stands in a list, at whichever end
@@ -98,6 +98,9 @@ module _ {N : Type 0} where
 
   pub taken_goes : (old net new : Net N) (w : ℕ) → Takes old w net → NetGoesOn net new → NetGoesOn old new
   taken_goes old net new w t on = subst (λ (a : Net N). NetGoesOn a new) (sym t.is) (moved_goes net new net.queue old.queue on)
+
+  pub taken_room : (old net : Net N) (w room : ℕ) → Takes old w net → HaveRoom old.ports room → HaveRoom net.ports room
+  taken_room old net w room t h = subst (λ (a : Net N). HaveRoom a.ports room) t.is h
 
   pub taken_uses : (old net new : Net N) (w units : ℕ) → Takes old w net → Uses (before net w) new units → Uses old new units
   taken_uses old net new w units t u = subst (λ (a : Net N). Uses a new units) (sym t.is) (moved_uses net new (w ∷ net.queue) old.queue units (λ k. sym (same_wires old net w t k)) u)

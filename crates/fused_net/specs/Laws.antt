@@ -1,5 +1,5 @@
 -- What a fused graph keeps: its wiring, a joint state of each wire, and of each node its port state and its law over its histories.
-use Rattle.std.specs.Prelude.{◌≡◌, ◌≢◌, ℕ, ◌<◌, ◌≤◌, ◌⊎◌, true, Some, List, [], ◌∷◌, length, replicate, slice_get, ⊤}
+use Rattle.std.specs.Prelude.{◌≡◌, ◌≢◌, ℕ, ◌+◌, ◌*◌, ◌<◌, ◌≤◌, ◌⊎◌, true, Some, List, [], ◌∷◌, length, replicate, slice_get, ⊤}
 use Rattle.elem_core.specs.Prefix.{IsPrefix}
 use Rattle.elem_core.specs.declared.item.Item.{Item}
 use Rattle.port_core.specs.Ring.{is_queued}
@@ -27,6 +27,10 @@ pub record Wired (ends : List WireEnds) (ports : List PortLists) (nodes wires : 
   pub input_to : (n i w : ℕ) → n < nodes → slice_get (port_at ports n).ins i ≡ Some w → (w < wires) × (((end_at ends w).to ≡ n) × ((end_at ends w).input ≡ i))
   pub output_from : (n j w : ℕ) → n < nodes → slice_get (port_at ports n).outs j ≡ Some w
       → (w < wires) × (((end_at ends w).from ≡ n) × ((end_at ends w).output ≡ j))
+
+-- there is room for what a call of any of these nodes appends: two actions for each of its ports
+abbrev pub HaveRoom : List PortLists → ℕ → Type 0
+HaveRoom ports room = (n : ℕ) → 2 * (length (port_at ports n).ins + length (port_at ports n).outs) ≤ room
 
 -- nothing is asked of a node but that its actions are allowed
 abbrev pub AnyRow : {N : Type 0} → N → View → Type 0

@@ -7,13 +7,14 @@ ghost use Rattle.port_core.specs.Ring.{is_queued};
 ghost use Rattle.port_core.specs.Wire.{nothing, delivery_of};
 ghost use Rattle.port_core.specs.declared.act.Act.TheVariants as act;
 ghost use Rattle.port_core.specs.declared.conn.Event.TheVariants as events;
-ghost use Rattle.stage_core.specs.declared.stage.TheConstants.{MOST_ACTS};
+ghost use Rattle.stage_core.specs.declared.stage.TheConstants.{LEAST_ACTS};
+ghost use Rattle.stage_core.specs.Rooms.{HasRoom};
 ghost use Rattle.stage_core.specs.Handling.{PullsAs, StaysPassive, Handles};
 ghost use Rattle.stage_core.specs.Handing.{cancel_first};
 ghost use Rattle.port_core.specs.Cell.{new_cell, brought_in, Tells};
 ghost use Rattle.fused_net.specs.Net.{acted, acted_all, event_told, put, wire_at, end_at, Able, port_at, node_for, call_for, IsBrought, before, Takes};
 ghost use Rattle.fused_net.specs.declared.queue.TheConstants.{MOST_CHASES};
-ghost use Rattle.fused_net.specs.Laws.{AnyRow, AnyLaw, Wired, first_view, Settled, Busy, Starting, NetGoesOn, AllKept, BreaksOff, IsMinded};
+ghost use Rattle.fused_net.specs.Laws.{AnyRow, AnyLaw, Wired, first_view, Settled, Busy, Starting, NetGoesOn, AllKept, BreaksOff, IsMinded, HaveRoom};
 ghost use Rattle.fused_net.specs.Costs.{all_asks, Uses};
 ghost use Rattle.fused_net.specs.Poking.{AtNode, HandsAt, TellsPoked};
 ghost use Rattle.fused_net.specs.Outside.{BreaksAside, StandsStill, Untouched, touched};
@@ -116,7 +117,8 @@ fn call<S: Stage>(
 ) -> Result<(), NoMemory>
     requires meets { Meets (call_for event ends) (S.port_state node.old) }
     requires empty { acts.old.items ≡ [] }
-    requires room { MOST_ACTS ≤ acts.old.room }
+    requires room { LEAST_ACTS ≤ acts.old.room }
+    requires ports { HasRoom (call_for event ends) (S.port_state node.old) acts.old.room }
     ensures handles { OnOk result (Handles S.port_state S.law (call_for event ends) node.old node.new acts.new.items) }
     ensures pulls { OnOk result (PullsAs (call_for event ends) (S.port_state node.old) (S.asking node.new) acts.new.items) }
     ensures grows { OnOk result (IsPrefix (S.moves node.old) (S.moves node.new)) }
@@ -182,7 +184,8 @@ impl<S: Stage> Engine<S> {
         requires few { all_asks self.old ≤ MOST_COUNT }
         requires kept { AllKept S.keeps self.old.firsts self.old.nodes }
         requires empty { acts.old.items ≡ [] }
-        requires room { MOST_ACTS ≤ acts.old.room }
+        requires room { LEAST_ACTS ≤ acts.old.room }
+        requires ports { HaveRoom self.old.ports acts.old.room }
         ensures starting { OnOk result (Starting S.port_state S.law S.asking S.moves S.fresh self.new (n + 1)) }
         ensures on { OnOk result (NetGoesOn self.old self.new) }
         ensures asks { OnOk result (all_asks self.new ≤ all_asks self.old) }
@@ -202,7 +205,8 @@ impl<S: Stage> Engine<S> {
         requires starting { Starting S.port_state S.law S.asking S.moves S.fresh self.old 0 }
         requires few { all_asks self.old ≤ MOST_COUNT }
         requires empty { acts.old.items ≡ [] }
-        requires room { MOST_ACTS ≤ acts.old.room }
+        requires room { LEAST_ACTS ≤ acts.old.room }
+        requires ports { HaveRoom self.old.ports acts.old.room }
         ensures laws { OnOk result (Settled S.port_state S.law S.asking S.moves self.new) }
         ensures on { OnOk result (NetGoesOn self.old self.new) }
         ensures asks { OnOk result (all_asks self.new ≤ all_asks self.old) }
@@ -443,7 +447,8 @@ impl<S: Stage> Engine<S> {
         requires laws { Settled S.port_state S.law S.asking S.moves (before self.old w) }
         requires few { all_asks self.old + 1 ≤ MOST_COUNT }
         requires empty { acts.old.items ≡ [] }
-        requires room { MOST_ACTS ≤ acts.old.room }
+        requires room { LEAST_ACTS ≤ acts.old.room }
+        requires ports { HaveRoom self.old.ports acts.old.room }
         ensures laws { OnOk result (Settled S.port_state S.law S.asking S.moves self.new) }
         ensures on { OnOk result (NetGoesOn self.old self.new) }
         ensures uses { OnOk result (Uses (before self.old w) self.new 1) }
@@ -512,7 +517,8 @@ impl<S: Stage> Engine<S> {
         requires tells { Tells event (wire_at since.value w) (wire_at self.old w) }
         requires after { self.old ≡ put since.value w (wire_at self.old w) false }
         requires empty { acts.old.items ≡ [] }
-        requires room { MOST_ACTS ≤ acts.old.room }
+        requires room { LEAST_ACTS ≤ acts.old.room }
+        requires ports { HaveRoom since.value.ports acts.old.room }
         ensures laws { OnOk result (Settled S.port_state S.law S.asking S.moves self.new) }
         ensures on { OnOk result (NetGoesOn since.value self.new) }
         ensures uses { OnOk result (Uses (before since.value w) self.new 1) }
@@ -553,7 +559,8 @@ impl<S: Stage> Engine<S> {
         requires laws { Settled S.port_state S.law S.asking S.moves self.old }
         requires few { all_asks self.old + limit ≤ MOST_COUNT }
         requires empty { acts.old.items ≡ [] }
-        requires room { MOST_ACTS ≤ acts.old.room }
+        requires room { LEAST_ACTS ≤ acts.old.room }
+        requires ports { HaveRoom self.old.ports acts.old.room }
         ensures laws { OnOk result (Settled S.port_state S.law S.asking S.moves self.new) }
         ensures on { OnOk result (NetGoesOn self.old self.new) }
         ensures uses { IfOk result (λ used. Uses self.old self.new used) }
@@ -590,7 +597,8 @@ impl<S: Stage> Engine<S> {
         requires laws { Settled S.port_state S.law S.asking S.moves self.old }
         requires few { all_asks self.old + limit ≤ MOST_COUNT }
         requires empty { acts.old.items ≡ [] }
-        requires room { MOST_ACTS ≤ acts.old.room }
+        requires room { LEAST_ACTS ≤ acts.old.room }
+        requires ports { HaveRoom self.old.ports acts.old.room }
         ensures laws { OnOk result (Settled S.port_state S.law S.asking S.moves self.new) }
         ensures on { OnOk result (NetGoesOn self.old self.new) }
         ensures uses { IfOk result (λ a. Uses self.old self.new a.used) }

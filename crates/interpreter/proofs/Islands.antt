@@ -1,5 +1,6 @@
 -- What an island is made of is what its engine needs.
-use Rattle.std.proofs.Common.{◌≡◌, ℕ, zero, suc, ◌+◌, ◌<◌, ◌≤◌, Bool, not, Some, None, List, [], ◌∷◌, ◌++◌, length, map, take, get_or, slice_get, replicate, refl, sym, ap, ◌∙◌, subst, arith, append_assoc, min}
+use Rattle.std.proofs.Common.{◌≡◌, ℕ, zero, suc, ◌+◌, ◌*◌, ◌<◌, ◌≤◌, inl, inr, Bool, not, Some, None, List, [], ◌∷◌, ◌++◌, length, map, take, get_or, slice_get, replicate, refl, sym, ap, ◌∙◌, subst, arith, append_assoc, min}
+use Rattle.std.proofs.lemmas.Bool.{cases_lt}
 use Rattle.std.proofs.lemmas.List.{length-map}
 use Rattle.std.proofs.lemmas.Option.{slice_get_within}
 use Rattle.port_core.specs.declared.view.InView.TheVariants.{Idle}
@@ -11,9 +12,9 @@ use Rattle.nodes.specs.declared.node.IslandNode.{IslandNode}
 use Rattle.nodes.specs.declared.node.IslandNode.TheVariants as node
 use Rattle.fused_net.specs.PortLists.{PortLists}
 use Rattle.fused_net.specs.declared.net.WireEnds.{WireEnds}
-use Rattle.fused_net.specs.Net.{Net, port_at}
+use Rattle.fused_net.specs.Net.{Net, port_at, no_ports}
 use Rattle.stream_io.specs.State.{SourceState, DrainState}
-use Rattle.fused_net.specs.Laws.{first_view, Wired, Settled}
+use Rattle.fused_net.specs.Laws.{HaveRoom, first_view, Wired, Settled}
 use Rattle.fused_net.specs.Costs.{all_asks}
 use Rattle.interpreter.specs.declared.island.IslandEnd.{IslandEnd}
 use Rattle.interpreter.specs.declared.parts.Link.{Link}
@@ -32,8 +33,10 @@ use Rattle.port_core.specs.Cell.{WireState}
 use Rattle.elem_core.specs.Items.{elements}
 use Rattle.interpreter.specs.Island.{IslandKeeps, state_count, counts_of, sinks_of, readers_of, writers_of}
 use Rattle.interpreter.specs.Picks.{place_number}
-use Rattle.interpreter.specs.Room.{HasRoom}
+use Rattle.interpreter.specs.Room.{HasRoom, CallsFit}
 use Rattle.stream_model.specs.Linear.{Book}
+use Rattle.interpreter.specs.Parts.{input_count_at, output_count_at}
+use Rattle.interpreter.proofs.Tables.{ins_of_places, outs_of_places}
 
 some_same : {A : Type 0} (x y : A) → Some x ≡ Some y → x ≡ y
 some_same x y e = cc
@@ -161,3 +164,25 @@ room_as room nodes wires more_nodes more_wires h e f = rw (e, f) h
 pub numbers_same : {S D L B : Type 0} (seats : List (Seated S D L B)) → map (λ (p : Place). p.node) (map seat_place seats) ≡ map place_number seats
 numbers_same [] = refl
 numbers_same (s ∷ ss) = ap (λ (l : List ℕ). s.node ∷ l) (numbers_same ss)
+
+-- ---- room for what a call appends
+
+-- behind the last row there are no ports
+no_row : (ports : List PortLists) (n : ℕ) → length ports ≤ n → port_at ports n ≡ no_ports
+no_row [] zero h = refl
+no_row [] (suc n) h = refl
+no_row (p ∷ ports) zero h = absurd (omega (arith, h))
+no_row (p ∷ ports) (suc n) h = no_row ports n (omega (arith, h))
+
+-- room that is enough at each place is enough for each node there
+pub calls_fit : {S D L B : Type 0} (seats : List (Seated S D L B)) (ports : List PortLists) (room : ℕ) → IsSized (inputs_at seats) (outputs_at seats) (length seats) ports → CallsFit (map seat_place seats) room → HaveRoom ports room
+calls_fit seats ports room z h n = elim (cases_lt n (length seats)) [
+  | inl lt ↦
+      let a : 2 * (input_count_at (map seat_place seats) n + output_count_at (map seat_place seats) n) ≤ room = h n in
+      let i : length (port_at ports n).ins ≡ inputs_at seats n = z.ins_are n lt in
+      let o : length (port_at ports n).outs ≡ outputs_at seats n = z.outs_are n lt in
+      let p : input_count_at (map seat_place seats) n ≡ inputs_at seats n = ins_of_places seats n in
+      let q : output_count_at (map seat_place seats) n ≡ outputs_at seats n = outs_of_places seats n in
+      omega (arith, a, i, o, p, q)
+  | inr ge ↦ rw (no_row ports n (let c : length ports ≡ length seats = z.count in omega (arith, c, ge))) (omega arith)
+]

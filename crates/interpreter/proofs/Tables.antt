@@ -1,6 +1,7 @@
 -- The tables of the wires at the ports of each place.
-use Rattle.std.proofs.Common.{◌≡◌, ◌≢◌, inl, inr, ℕ, zero, suc, ◌+◌, ◌<◌, Some, List, [], ◌∷◌, ◌++◌, length, map, get_or, slice_get, refl, sym, ap, ◌∙◌, arith, get_or-set_same, get_or-set_other, append_assoc, append-nil}
+use Rattle.std.proofs.Common.{◌≡◌, ◌≢◌, inl, inr, ℕ, zero, suc, ◌+◌, ◌*◌, ◌<◌, ◌≤◌, Some, List, [], ◌∷◌, ◌++◌, length, map, get_or, slice_get, refl, sym, ap, ◌∙◌, arith, get_or-set_same, get_or-set_other, append_assoc, append-nil}
 use Rattle.std.proofs.Math.ListN.{set}
+use Rattle.std.proofs.lemmas.Bool.{cases_lt}
 use Rattle.std.proofs.lemmas.List.{length-set, length-append, length-map}
 use Rattle.std.proofs.lemmas.Option.{slice_get_within}
 use Rattle.fused_net.specs.PortLists.{PortLists}
@@ -8,6 +9,7 @@ use Rattle.fused_net.specs.declared.net.WireEnds.{WireEnds}
 use Rattle.fused_net.specs.Net.{end_at, port_at, no_ports}
 use Rattle.fused_net.specs.Laws.{Wired}
 use Rattle.fused_net.proofs.Reading.{same_or_not, get_set_same, get_set_other}
+use Rattle.interpreter.specs.Room.{CallsFit}
 use Rattle.interpreter.specs.declared.parts.Place.{Place}
 use Rattle.interpreter.specs.declared.parts.Seated.{Seated}
 use Rattle.interpreter.specs.Parts.{inputs_at, outputs_at, seat_place, input_count_at, output_count_at, ins_in, outs_in, AllUnused, Becomes, AllBecome, IsWiring, IsSized, IsFilledUpTo, written}
@@ -28,12 +30,12 @@ outputs_here (y ∷ ys) zero d h = refl
 outputs_here (y ∷ ys) (suc n) d h = outputs_here ys n d (omega arith)
 
 -- the places of works
-ins_of_places : {S D L B : Type 0} (seats : List (Seated S D L B)) (n : ℕ) → input_count_at (map seat_place seats) n ≡ inputs_at seats n
+pub ins_of_places : {S D L B : Type 0} (seats : List (Seated S D L B)) (n : ℕ) → input_count_at (map seat_place seats) n ≡ inputs_at seats n
 ins_of_places [] n = refl
 ins_of_places (y ∷ ys) zero = refl
 ins_of_places (y ∷ ys) (suc n) = ins_of_places ys n
 
-outs_of_places : {S D L B : Type 0} (seats : List (Seated S D L B)) (n : ℕ) → output_count_at (map seat_place seats) n ≡ outputs_at seats n
+pub outs_of_places : {S D L B : Type 0} (seats : List (Seated S D L B)) (n : ℕ) → output_count_at (map seat_place seats) n ≡ outputs_at seats n
 outs_of_places [] n = refl
 outs_of_places (y ∷ ys) zero = refl
 outs_of_places (y ∷ ys) (suc n) = outs_of_places ys n
@@ -221,3 +223,41 @@ module _ {S D L B : Type 0} (seats : List (Seated S D L B)) (rows : List PortLis
     ins_are = λ n h. z.ins_are n (rw rows_count h) ∙ rows_ins n h;
     outs_are = λ n h. z.outs_are n (rw rows_count h) ∙ rows_outs n h;
   }
+
+-- ---- room for what a call appends
+
+-- what is enough for this place is enough for the place of this number
+pub place_here : (places : List Place) (n : ℕ) (d : Place) (now : ℕ) → n < length places → 2 * ((get_or places n d).inputs + (get_or places n d).outputs) ≤ now
+    → 2 * (input_count_at places n + output_count_at places n) ≤ now
+place_here places n d now h c = rw (inputs_here places n d h, outputs_here places n d h) c
+
+-- a place more, for which there is room too
+pub calls_next : (places : List Place) (n room now : ℕ) → room ≤ now → 2 * (input_count_at places n + output_count_at places n) ≤ now
+    → ((k : ℕ) → k < n → 2 * (input_count_at places k + output_count_at places k) ≤ room) → (k : ℕ) → k < n + 1 → 2 * (input_count_at places k + output_count_at places k) ≤ now
+calls_next places n room now up here rows k h = elim (same_or_not k n) [
+  | inl e ↦ rw e here
+  | inr ne ↦
+      let below : k < n = omega arith in
+      let a : 2 * (input_count_at places k + output_count_at places k) ≤ room = rows k below in
+      omega (arith, a, up)
+]
+
+-- behind the last place there are no ports
+no_inputs : (places : List Place) (n : ℕ) → length places ≤ n → input_count_at places n ≡ 0
+no_inputs [] n h = refl
+no_inputs (p ∷ places) zero h = absurd (omega (arith, h))
+no_inputs (p ∷ places) (suc n) h = no_inputs places n (omega (arith, h))
+
+no_outputs : (places : List Place) (n : ℕ) → length places ≤ n → output_count_at places n ≡ 0
+no_outputs [] n h = refl
+no_outputs (p ∷ places) zero h = absurd (omega (arith, h))
+no_outputs (p ∷ places) (suc n) h = no_outputs places n (omega (arith, h))
+
+pub calls_all : (places : List Place) (n room : ℕ) → n ≡ length places → ((k : ℕ) → k < n → 2 * (input_count_at places k + output_count_at places k) ≤ room) → CallsFit places room
+calls_all places n room e rows k = elim (cases_lt k n) [
+  | inl lt ↦ rows k lt
+  | inr ge ↦
+      let i : input_count_at places k ≡ 0 = no_inputs places k (rw e at ge) in
+      let o : output_count_at places k ≡ 0 = no_outputs places k (rw e at ge) in
+      omega (arith, i, o)
+]

@@ -1,7 +1,7 @@
 -- Room for an island: what it takes of memory before its nodes hold their handles.
-use Rattle.std.specs.Prelude.{◌≡◌, ℕ, ◌+◌, ◌≤◌, List, [], map, length, replicate, None, vec_len, vec_capacity}
+use Rattle.std.specs.Prelude.{◌≡◌, ℕ, ◌+◌, ◌*◌, ◌≤◌, List, [], map, length, replicate, None, vec_len, vec_capacity}
 use Rattle.port_core.specs.Cell.{new_cell}
-use Rattle.stage_core.specs.declared.stage.TheConstants.{MOST_ACTS}
+use Rattle.stage_core.specs.declared.stage.TheConstants.{LEAST_ACTS}
 use Rattle.interpreter.specs.declared.island.IslandEnd.{IslandEnd}
 use Rattle.interpreter.specs.declared.parts.Link.{Link}
 use Rattle.interpreter.specs.declared.parts.Place.{Place}
@@ -34,6 +34,10 @@ pub record RoomFor {S D : Type 0} (room : IslandEnd S D) (nodes : ℕ) : Type 0 
   pub readers : vec_len room.readers + nodes ≤ vec_capacity room.readers
   pub writers : vec_len room.writers + nodes ≤ vec_capacity room.writers
 
+-- there is room for what any call of a node at one of these places appends: two actions for each of its ports
+abbrev pub CallsFit : List Place → ℕ → Type 0
+CallsFit places room = (n : ℕ) → 2 * (input_count_at places n + output_count_at places n) ≤ room
+
 -- the engine of these places and links, before its nodes are there
 pub record IsBlank {S D L B : Type 0} (blank : Blank S D L B) (places : List Place) (links : List Link) : Type 0 where
   pub ends : blank.ends.items ≡ map ends_of links
@@ -46,7 +50,8 @@ pub record IsBlank {S D L B : Type 0} (blank : Blank S D L B) (places : List Pla
 -- the room for an island of these places and links
 pub record IsRoom {S D L B : Type 0} (room : IslandRoom S D L B) (places : List Place) (links : List Link) : Type 0 where
   pub no_acts : room.acts.items ≡ []
-  pub room_for_acts : MOST_ACTS ≤ room.acts.room
+  pub least_room : LEAST_ACTS ≤ room.acts.room
+  pub room_for_acts : CallsFit places room.acts.room
   pub numbers : room.numbers.items ≡ map wire_number links
   pub places_are : room.places.items ≡ map (λ (p : Place). p.node) places
   pub blank : IsBlank room.blank places links

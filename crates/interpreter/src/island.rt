@@ -6,7 +6,7 @@ ghost use Rattle.fused_net.specs.Costs.{all_asks, Uses};
 ghost use Rattle.fused_net.specs.Outside.{BreaksAside, StandsStill, Untouched};
 ghost use Rattle.fused_net.specs.declared.queue.TheConstants.{MOST_CHASES};
 ghost use Rattle.nodes.specs.Nodes.{node_fresh, node_port_state, node_law, node_asking, node_moves, node_gone, node_passive, KeepsNode, NoneLate};
-ghost use Rattle.interpreter.specs.Parts.{AreParts, AllBecome, ends_of, wire_number, seat_place};
+ghost use Rattle.interpreter.specs.Parts.{AreParts, AllBecome, IsSized, ends_of, wire_number, inputs_at, outputs_at, seat_place};
 ghost use Rattle.interpreter.specs.Picks.{place_number, pick_of, with_picks, picks_of};
 ghost use Rattle.interpreter.specs.Misfits.{least, found_at, least_of};
 ghost use Rattle.port_core.specs.Picks.{misfit_in};
@@ -83,7 +83,8 @@ impl<S: Source, D: Drain, L: Logic, B: PlugBook> Drop for Island<S, D, L, B> {
 
 impl<S: Source, D: Drain, L: Logic, B: PlugBook> Model for Island<S, D, L, B> {
     ghost use Rattle.std.specs.Prelude.{◌≡◌, ◌≤◌, [], false, length};
-    ghost use Rattle.stage_core.specs.declared.stage.TheConstants.{MOST_ACTS};
+    ghost use Rattle.stage_core.specs.declared.stage.TheConstants.{LEAST_ACTS};
+    ghost use Rattle.fused_net.specs.Laws.{HaveRoom};
     ghost use Rattle.interpreter.specs.Island.{Kept, IslandKeeps};
     ghost use Rattle.interpreter.specs.Room.{HasRoom};
     ghost use Rattle.std.specs.Coded.{codes};
@@ -104,7 +105,7 @@ impl<S: Source, D: Drain, L: Logic, B: PlugBook> Model for Island<S, D, L, B> {
     } };
 
     ghost invariant = { λ i. HasRoom i.room (length i.engine.nodes) (length i.numbers.items) × (length i.places.items ≡ length i.engine.nodes)
-        × (i.broken ≡ false → IslandKeeps S.state D.state B.lists i.engine i.used × (i.acts.items ≡ []) × (MOST_ACTS ≤ i.acts.room)) };
+        × (i.broken ≡ false → IslandKeeps S.state D.state B.lists i.engine i.used × (i.acts.items ≡ []) × (LEAST_ACTS ≤ i.acts.room) × HaveRoom i.engine.ports i.acts.room) };
 }
 
 /// A sink at the end of a run: its node, the lines that it wrote, and how it stands.
@@ -558,6 +559,7 @@ fn assemble<S: Source, D: Drain, L: Logic, B: PlugBook>(
     ensures count { length result.nodes ≡ vec_len parts.nodes }
     ensures nodes { result.nodes ≡ result.firsts }
     ensures wires { result.wires ≡ replicate (length parts.links.items) new_cell }
+    ensures ports { IsSized (inputs_at parts.nodes.items) (outputs_at parts.nodes.items) (length parts.nodes.items) result.ports }
 {
     let Blank {
         ends,

@@ -1,6 +1,7 @@
 // What an island takes of memory before its nodes hold their handles.
-ghost use Rattle.std.specs.Prelude.{◌≡◌, ◌<◌, ◌^◌, IfOk, length};
-ghost use Rattle.interpreter.specs.Room.{IsBlank, IsRoom};
+ghost use Rattle.std.specs.Prelude.{◌≡◌, ◌+◌, ◌*◌, ◌<◌, ◌≤◌, ◌^◌, IfOk, IfSome, length};
+ghost use Rattle.stage_core.specs.declared.stage.TheConstants.{LEAST_ACTS};
+ghost use Rattle.interpreter.specs.Room.{CallsFit, IsBlank, IsRoom};
 
 use crate::island::IslandEnd;
 use crate::lane_ends::no_lanes;
@@ -15,8 +16,8 @@ use plug_logic::logic::Logic;
 use port_core::acts::Acts;
 use port_core::ring::EventRing;
 use port_core::wire::Wire;
-use stage_core::stage::MOST_ACTS;
-use std::alloc::Global;
+use stage_core::stage::LEAST_ACTS;
+use std::alloc::{AllocError, Global};
 use stream_io::outside::{Drain, Source};
 
 /// An engine before its nodes are there: tables with a row for each of their ports, and an empty list that has room for them.
@@ -38,6 +39,32 @@ pub struct IslandRoom<S: Source, D: Drain, L: Logic, B: PlugBook> {
     pub(crate) blank: Blank<S, D, L, B>,
     pub(crate) ways: Ways,
     pub(crate) end: IslandEnd<S, D>,
+}
+
+// This room, or what a call of a node at this place appends where that is more: two actions for each of its ports. None from 2^32 on.
+fn room_with(room: u32, place: Place) -> Option<u32>
+    ensures least { IfSome result (λ now. room ≤ now) }
+    ensures calls { IfSome result (λ now. 2 * (place.inputs + place.outputs) ≤ now) }
+{
+    let ports = place.inputs.checked_add(place.outputs)?;
+    let acts = ports.checked_mul(2)?;
+    if acts < room {
+        return Some(room);
+    }
+    Some(acts)
+}
+
+// Room for what any call of a node at one of these places appends. None from 2^32 on.
+fn room_for_calls(places: &[Place]) -> Option<u32>
+    ensures least { IfSome result (λ room. LEAST_ACTS ≤ room) }
+    ensures calls { IfSome result (λ room. CallsFit places.now room) }
+{
+    let mut room = LEAST_ACTS;
+    for n in 0..places.len() {
+        let wanted = room_with(room, places[n])?;
+        room = wanted;
+    }
+    Some(room)
 }
 
 impl<S: Source, D: Drain, L: Logic, B: PlugBook> Blank<S, D, L, B> {
@@ -70,7 +97,10 @@ impl<S: Source, D: Drain, L: Logic, B: PlugBook> IslandRoom<S, D, L, B> {
         requires { length links.now < 2 ^ 32 }
         ensures { IfOk result (λ room. IsRoom room places.now links.now) }
     {
-        let acts = Acts::new(alloc, MOST_ACTS)?;
+        let Some(calls) = room_for_calls(places) else {
+            return Err(AllocError);
+        };
+        let acts = Acts::new(alloc, calls)?;
         let numbers = all_numbers(alloc, links)?;
         let blank = Blank::of(alloc, places, links)?;
         let ways = no_lanes(alloc, links)?;

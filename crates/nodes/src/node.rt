@@ -5,7 +5,8 @@ ghost use Rattle.elem_core.specs.Prefix.{IsPrefix};
 ghost use Rattle.elem_core.specs.declared.item.Item.TheVariants as item;
 ghost use Rattle.port_core.specs.Call.{Meets, pulls, arrives};
 ghost use Rattle.port_core.specs.Picks.{misfit_in};
-ghost use Rattle.stage_core.specs.declared.stage.TheConstants.{MOST_ACTS};
+ghost use Rattle.stage_core.specs.declared.stage.TheConstants.{LEAST_ACTS};
+ghost use Rattle.stage_core.specs.Rooms.{HasRoom};
 ghost use Rattle.stage_core.specs.Handling.{PullsAs, StaysPassive, Handles};
 ghost use Rattle.nodes.specs.Nodes.{IsNotLinear, node_fresh, node_port_state, node_law, node_asking, node_moves, node_picks, node_misfit, node_seat, node_end, node_passive, node_gone, node_waits, node_late, KeepsNode};
 
@@ -122,7 +123,8 @@ impl<S: Source, D: Drain, L: Logic, B: PlugBook> IslandNode<S, D, L, B> {
         requires rest { IsNotLinear self.old }
         requires meets { Meets (pulls port) (node_port_state self.old) }
         requires empty { acts.old.items ≡ [] }
-        requires room { MOST_ACTS ≤ acts.old.room }
+        requires room { LEAST_ACTS ≤ acts.old.room }
+        requires ports { HasRoom (pulls port) (node_port_state self.old) acts.old.room }
         ensures handles { OnOk result (Handles node_port_state (node_law S.state D.state B.lists) (pulls port) self.old self.new acts.new.items) }
         ensures pulls { OnOk result (PullsAs (pulls port) (node_port_state self.old) (node_asking self.new) acts.new.items) }
         ensures grows { OnOk result (IsPrefix (node_moves self.old) (node_moves self.new)) }
@@ -158,7 +160,8 @@ impl<S: Source, D: Drain, L: Logic, B: PlugBook> IslandNode<S, D, L, B> {
         requires rest { IsNotLinear self.old }
         requires meets { Meets (arrives port (item.Elem e)) (node_port_state self.old) }
         requires empty { acts.old.items ≡ [] }
-        requires room { MOST_ACTS ≤ acts.old.room }
+        requires room { LEAST_ACTS ≤ acts.old.room }
+        requires ports { HasRoom (arrives port (item.Elem e)) (node_port_state self.old) acts.old.room }
         ensures handles { OnOk result (Handles node_port_state (node_law S.state D.state B.lists)
             (arrives port (item.Elem e)) self.old self.new acts.new.items) }
         ensures pulls { OnOk result (PullsAs (arrives port (item.Elem e)) (node_port_state self.old) (node_asking self.new) acts.new.items) }
@@ -183,7 +186,8 @@ impl<S: Source, D: Drain, L: Logic, B: PlugBook> IslandNode<S, D, L, B> {
         requires rest { IsNotLinear self.old }
         requires meets { Meets (arrives port (item.Elem e)) (node_port_state self.old) }
         requires empty { acts.old.items ≡ [] }
-        requires room { MOST_ACTS ≤ acts.old.room }
+        requires room { LEAST_ACTS ≤ acts.old.room }
+        requires ports { HasRoom (arrives port (item.Elem e)) (node_port_state self.old) acts.old.room }
         ensures handles { OnOk result (Handles node_port_state (node_law S.state D.state B.lists)
             (arrives port (item.Elem e)) self.old self.new acts.new.items) }
         ensures pulls { OnOk result (PullsAs (arrives port (item.Elem e)) (node_port_state self.old) (node_asking self.new) acts.new.items) }

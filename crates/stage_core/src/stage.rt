@@ -4,7 +4,8 @@ ghost use Rattle.elem_core.specs.declared.item.Item.{Item};
 ghost use Rattle.elem_core.specs.declared.item.Item.TheVariants as item;
 ghost use Rattle.port_core.specs.View.{View};
 ghost use Rattle.port_core.specs.Call.{Meets, starts, pulls, arrives, cancels};
-ghost use Rattle.stage_core.specs.declared.stage.TheConstants.{MOST_ACTS};
+ghost use Rattle.stage_core.specs.declared.stage.TheConstants.{LEAST_ACTS};
+ghost use Rattle.stage_core.specs.Rooms.{HasRoom};
 ghost use Rattle.stage_core.specs.Handling.{PullsAs, StaysPassive, Starts, Handles};
 ghost use Rattle.stage_core.specs.Handing.{Hands, PutsOff, cancel_first};
 
@@ -13,15 +14,15 @@ use elem_core::item::Item;
 use elem_core::why::{Cause, NoMemory};
 use port_core::acts::Acts;
 use std::alloc::Global;
-use stream_model::kind::MAX_FAN;
 
 // Choice: docs/DECISIONS.md#room-of-actions
-/// The most actions that one call appends: two for each port of a stage with `MAX_FAN` inputs or outputs, and for its other port.
-pub const MOST_ACTS: u32 = 2 * (MAX_FAN + 1);
+/// The most actions that one call of a stage with one input and one output appends: two for each of its ports. There is room for so
+/// many at each call.
+pub const LEAST_ACTS: u32 = 4;
 
 // Choice: docs/DECISIONS.md#handlers-have-two-clauses
 /// A node of a fused graph: a source, a stage or a sink. Each call is a handler; what it wants done at its ports it appends
-/// to `acts`, which is empty and has room; a passive one appends nothing, since it acts only between two events, from outside. The moves that it has recorded are a log of its choices, which only grows. After `NoMemory` a stage is
+/// to `acts`, which is empty and has room for two actions for each of its ports; a passive one appends nothing, since it acts only between two events, from outside. The moves that it has recorded are a log of its choices, which only grows. After `NoMemory` a stage is
 /// only dropped or taken apart, and `keeps` says what of it is as it was before that call. Rule: Akka Streams 2.6 reference,
 /// chapter on custom stream processing; want of memory: own.
 pub trait Stage: Drop {
@@ -49,7 +50,8 @@ pub trait Stage: Drop {
     fn start(&mut self, alloc: Global, acts: &mut Acts) -> Result<(), NoMemory>
         requires meets { Meets starts (fresh self.old) }
         requires empty { acts.old.items ≡ [] }
-        requires room { MOST_ACTS ≤ acts.old.room }
+        requires room { LEAST_ACTS ≤ acts.old.room }
+        requires ports { HasRoom starts (fresh self.old) acts.old.room }
         ensures starts { OnOk result (Starts port_state law fresh self.old self.new acts.new.items) }
         ensures pulls { OnOk result (PullsAs starts (fresh self.old) (asking self.new) acts.new.items) }
         ensures grows { OnOk result (IsPrefix (moves self.old) (moves self.new)) }
@@ -62,7 +64,8 @@ pub trait Stage: Drop {
     fn on_pull(&mut self, alloc: Global, port: u8, acts: &mut Acts) -> Result<(), NoMemory>
         requires meets { Meets (pulls port) (port_state self.old) }
         requires empty { acts.old.items ≡ [] }
-        requires room { MOST_ACTS ≤ acts.old.room }
+        requires room { LEAST_ACTS ≤ acts.old.room }
+        requires ports { HasRoom (pulls port) (port_state self.old) acts.old.room }
         ensures handles { OnOk result (Handles port_state law (pulls port) self.old self.new acts.new.items) }
         ensures pulls { OnOk result (PullsAs (pulls port) (port_state self.old) (asking self.new) acts.new.items) }
         ensures grows { OnOk result (IsPrefix (moves self.old) (moves self.new)) }
@@ -75,7 +78,8 @@ pub trait Stage: Drop {
     fn on_push(&mut self, alloc: Global, port: u8, e: Elem, acts: &mut Acts) -> Result<(), NoMemory>
         requires meets { Meets (arrives port (item.Elem e)) (port_state self.old) }
         requires empty { acts.old.items ≡ [] }
-        requires room { MOST_ACTS ≤ acts.old.room }
+        requires room { LEAST_ACTS ≤ acts.old.room }
+        requires ports { HasRoom (arrives port (item.Elem e)) (port_state self.old) acts.old.room }
         ensures handles { OnOk result (Handles port_state law (arrives port (item.Elem e)) self.old self.new acts.new.items) }
         ensures pulls { OnOk result (PullsAs (arrives port (item.Elem e)) (port_state self.old) (asking self.new) acts.new.items) }
         ensures grows { OnOk result (IsPrefix (moves self.old) (moves self.new)) }
@@ -88,7 +92,8 @@ pub trait Stage: Drop {
     fn on_finish(&mut self, alloc: Global, port: u8, acts: &mut Acts) -> Result<(), NoMemory>
         requires meets { Meets (arrives port item.Ended) (port_state self.old) }
         requires empty { acts.old.items ≡ [] }
-        requires room { MOST_ACTS ≤ acts.old.room }
+        requires room { LEAST_ACTS ≤ acts.old.room }
+        requires ports { HasRoom (arrives port item.Ended) (port_state self.old) acts.old.room }
         ensures handles { OnOk result (Handles port_state law (arrives port item.Ended) self.old self.new acts.new.items) }
         ensures pulls { OnOk result (PullsAs (arrives port item.Ended) (port_state self.old) (asking self.new) acts.new.items) }
         ensures grows { OnOk result (IsPrefix (moves self.old) (moves self.new)) }
@@ -107,7 +112,8 @@ pub trait Stage: Drop {
     ) -> Result<(), NoMemory>
         requires meets { Meets (arrives port (item.Failed cause)) (port_state self.old) }
         requires empty { acts.old.items ≡ [] }
-        requires room { MOST_ACTS ≤ acts.old.room }
+        requires room { LEAST_ACTS ≤ acts.old.room }
+        requires ports { HasRoom (arrives port (item.Failed cause)) (port_state self.old) acts.old.room }
         ensures handles { OnOk result (Handles port_state law (arrives port (item.Failed cause)) self.old self.new acts.new.items) }
         ensures pulls { OnOk result (PullsAs (arrives port (item.Failed cause)) (port_state self.old) (asking self.new) acts.new.items) }
         ensures grows { OnOk result (IsPrefix (moves self.old) (moves self.new)) }
@@ -120,7 +126,8 @@ pub trait Stage: Drop {
     fn on_cancel(&mut self, alloc: Global, port: u8, acts: &mut Acts) -> Result<(), NoMemory>
         requires meets { Meets (cancels port) (port_state self.old) }
         requires empty { acts.old.items ≡ [] }
-        requires room { MOST_ACTS ≤ acts.old.room }
+        requires room { LEAST_ACTS ≤ acts.old.room }
+        requires ports { HasRoom (cancels port) (port_state self.old) acts.old.room }
         ensures handles { OnOk result (Handles port_state law (cancels port) self.old self.new acts.new.items) }
         ensures pulls { OnOk result (PullsAs (cancels port) (port_state self.old) (asking self.new) acts.new.items) }
         ensures grows { OnOk result (IsPrefix (moves self.old) (moves self.new)) }

@@ -7,7 +7,7 @@ use Rattle.port_core.specs.declared.view.OutView.{OutView}
 use Rattle.port_core.specs.declared.view.OutView.TheVariants as outlet
 use Rattle.port_core.specs.View.{View, IsOutOpen, acted_all}
 use Rattle.port_core.specs.Call.{Call, starts, pulls, arrives, cancels, CallAllowed, Meets, seen, Obeys}
-use Rattle.stage_core.specs.declared.stage.TheConstants.{MOST_ACTS}
+use Rattle.stage_core.specs.Rooms.{acts_for, HasRoom}
 use Rattle.stage_core.specs.Handling.{PullsAs, Handles}
 use Rattle.stage_core.proofs.OnOks.{on_ok_two}
 use Rattle.stage_in.proofs.OnOks.{on_ok}
@@ -79,11 +79,11 @@ output_is (cancels (suc j)) l v h r = absurd (no_other v.outs j (one_output l v 
 -- ---- calls
 
 -- what every stage is given is room enough
-pub fits_new : (l : InLogic) (n : ℕ) → Meets starts (InFresh l) → MOST_ACTS ≤ n → room_of l ≤ n
-fits_new l n m h = let r : room_of l ≤ MOST_ACTS = called_fits l starts m.0 m.1.0 m.1.1.ports in omega (arith, r, h)
+pub fits_new : (l : InLogic) (n : ℕ) → HasRoom starts (InFresh l) n → room_of l ≤ n
+fits_new l n m = let r : room_of l ≤ acts_for m.0 = called_fits l starts m.0 m.1.0 m.1.1.0.ports in let h : acts_for m.0 ≤ n = m.1.1.1 in omega (arith, r, h)
 
-pub fits : (call : Call) (l : InLogic) (n : ℕ) → Meets call (InPortState l) → MOST_ACTS ≤ n → room_of l ≤ n
-fits call l n m h = let r : room_of l ≤ MOST_ACTS = called_fits l call m.0 m.1.0 m.1.1.ports in omega (arith, r, h)
+pub fits : (call : Call) (l : InLogic) (n : ℕ) → HasRoom call (InPortState l) n → room_of l ≤ n
+fits call l n m = let r : room_of l ≤ acts_for m.0 = called_fits l call m.0 m.1.0 m.1.1.0.ports in let h : acts_for m.0 ≤ n = m.1.1.1 in omega (arith, r, h)
 
 pub met : (call : Call) (l : InLogic) → Meets call (InPortState l) → Meets (at_output call) (port_state l)
 met call l m = subst (λ c. Meets c (port_state l)) (sym (output_is call l m.0 m.1.0 m.1.1.ports)) (m.0, (m.1.0, m.1.1.ports))

@@ -16,8 +16,7 @@ use Rattle.stream_model.specs.FanIn.{Inflow, AllAgree}
 use Rattle.stream_model.specs.View as picture
 use Rattle.elem_core.specs.Prefix.{IsPrefix}
 use Rattle.stream_model.specs.Rests.{SortedRests, ZipRests}
-use Rattle.stream_model.specs.declared.kind.TheConstants.{MAX_FAN}
-use Rattle.stage_core.specs.declared.stage.TheConstants.{MOST_ACTS}
+use Rattle.stage_core.specs.Rooms.{acts_for}
 use Rattle.stage_core.specs.Handling.{Pulls, Starts, Handles}
 use Rattle.stage_core.specs.Histories.{given_all, brought_by, AllEmpty}
 use Rattle.stage_core.specs.Law.{GaveAs}
@@ -34,7 +33,7 @@ use Rattle.stage_core.specs.declared.phase.Phase.TheVariants.{New, Open, Closed}
 use Rattle.stage_in.specs.declared.logic.InLogic.{InLogic}
 use Rattle.stage_in.specs.declared.logic.InLogic.TheVariants as logic
 use Rattle.stage_in.specs.Kinds.{taking_by, sorting}
-use Rattle.stage_core.specs.Seats.{wish}
+use Rattle.stage_core.specs.Seats.{room_for, wish}
 use Rattle.stage_in.specs.Seats.{seats, none_of}
 use Rattle.stage_in.specs.declared.inlet.Inlet.{Inlet}
 use Rattle.stage_in.specs.Pairings.{Pairing, IsVacant, inlet_flow, port_state_by}
@@ -53,7 +52,7 @@ use Rattle.stage_core.specs.PortsLaws.{InPortsLaw}
 use Rattle.stage_in.specs.Logics.{InAsking, IsNew, IsOpen, IsStarted, room_of, port_state, Turned, InFresh, InPortState, InLaw, KindRests, FreeRests, NotStuck, StopsRightly}
 use Rattle.stage_in.specs.Moves.{in_moves, in_plan}
 use Rattle.stage_core.proofs.Closings.{none_called, closed_rests}
-use Rattle.stage_in.proofs.Rests.{taking_rests, sorting_rests, zipping_rests}
+use Rattle.stage_in.proofs.Rests.{length-seats, taking_rests, sorting_rests, zipping_rests}
 use Rattle.stage_core.proofs.Histories.{begun}
 use Rattle.stage_in.proofs.Histories.{fan_node, zip_node}
 
@@ -88,15 +87,30 @@ module _ (c : Call) (n : c ≡ starts → ⊥) (whole : InLogic) (s : IsStarted 
   pub merging_open : (l : Merging) → whole ≡ logic.Merging l → l.core.phase ≡ Open
   merging_open l is = called_open (logic.Merging l) c m.0 (subst IsStarted is s) n m.1.0 (subst (λ x. port_state x m.0) is m.1.1)
 
--- two actions for each port are few
-pub called_fits : (l : InLogic) (c : Call) (v : View) → CallAllowed c v → port_state l v → room_of l ≤ MOST_ACTS
+-- a stage with two inputs that may be called has them open
+pairing_fits : (Sound : Pairing → Type 0) (p : Phase) (l : Pairing) (c : Call) (v : View) → CallAllowed c v → port_state_by Sound p l v → room_for 2 ≤ acts_for v
+pairing_fits Sound New l c v m r =
+    let ins : length v.ins ≡ 2 = ap (λ (w : View). length w.ins) r.0 in
+    let outs : length v.outs ≡ 1 = ap (λ (w : View). length w.outs) r.0 in
+    omega (arith, ins, outs)
+pairing_fits Sound Open l c v m r =
+    let ins : length v.ins ≡ 2 = ap (λ (w : View). length w.ins) r.0 in
+    let outs : length v.outs ≡ 1 = ap (λ (w : View). length w.outs) r.0 in
+    omega (arith, ins, outs)
+pairing_fits Sound Closed l c v m r = absurd (none_called c v m r)
+
+-- two actions for each port are enough
+pub called_fits : (l : InLogic) (c : Call) (v : View) → CallAllowed c v → port_state l v → room_of l ≤ acts_for v
 called_fits (logic.Taking l) c v m r = by_live l.live r
   where
-    by_live : (b : Bool) → taking.port_state_by b l v → room_of (logic.Taking l) ≤ MOST_ACTS
-    by_live true r = let few : length l.over ≤ MAX_FAN = r.1.few in omega (arith, few)
+    by_live : (b : Bool) → taking.port_state_by b l v → room_of (logic.Taking l) ≤ acts_for v
+    by_live true r =
+        let ins : length v.ins ≡ length l.over = ap (λ (w : View). length w.ins) r.0 ∙ length-seats 0 l.current l.over l.asked in
+        let outs : length v.outs ≡ 1 = ap (λ (w : View). length w.outs) r.0 in
+        omega (arith, ins, outs)
     by_live false r = absurd (none_called c v m r)
-called_fits (logic.Sorting l) c v m r = omega arith
-called_fits (logic.Zipping l) c v m r = omega arith
+called_fits (logic.Sorting l) c v m r = pairing_fits sorted.Sound l.phase l c v m r
+called_fits (logic.Zipping l) c v m r = pairing_fits zipping.Sound l.phase l c v m r
 called_fits (logic.Merging l) c v m r = merge.called_fits l c v m r
 
 -- ---- between two calls

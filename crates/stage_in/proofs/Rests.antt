@@ -79,7 +79,7 @@ open_rests (Some s) over c false ins g l h o = inr (inr ((refl, refl), all_idle 
 open_rests None over c true ins g l h o = let z : 0 + c ≡ c = omega arith in inr (inl ((refl, refl), let r = first_waits 0 c over ins l h o in rw z at r))
 open_rests (Some s) over c true ins g l h o = let z : 0 + c ≡ c = omega arith in inr (inl ((refl, refl), subst (λ (p : ℕ). WaitsAt p 0 (own_inputs (seats 0 over p true) ins)) z (one_waits 0 c over ins l h)))
 
-length-seats : (n c : ℕ) (over : List Bool) (asked : Bool) → length (seats n over c asked) ≡ length over
+pub length-seats : (n c : ℕ) (over : List Bool) (asked : Bool) → length (seats n over c asked) ≡ length over
 length-seats n c [] asked = refl
 length-seats n c (b ∷ over) asked = ap suc (length-seats (n + 1) c over asked)
 

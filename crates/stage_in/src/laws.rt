@@ -11,7 +11,7 @@ ghost use Rattle.stream_model.specs.Node.{World, node_outlook};
 ghost use Rattle.stream_model.specs.Outlook.{Outlook, Agrees};
 ghost use Rattle.stream_model.specs.FanIn.{AllAgree};
 ghost use Rattle.stream_model.specs.Fits.{moves_fit};
-ghost use Rattle.stage_core.specs.declared.stage.TheConstants.{MOST_ACTS};
+ghost use Rattle.stage_core.specs.Rooms.{acts_for};
 ghost use Rattle.stage_core.specs.Handling.{Starts, Handles};
 ghost use Rattle.stage_in.specs.declared.logic.InLogic.{InLogic};
 ghost use Rattle.stage_in.specs.Logics.{Begins, IsNew, IsOpen, IsStarted, InFresh, InLaw, InPortState, KindRests, FreeRests, NotStuck, StopsRightly, Turned, inputs_of, room_of, port_state};
@@ -48,7 +48,7 @@ pub fn a_called_stage_is_open()
 /// Where the port rules allow a call of a handler and the port state holds, the room that the call wants is within what every stage
 /// is given.
 pub fn a_call_wants_little_room()
-    ensures { (l : InLogic) (call : Call) (v : View) → CallAllowed call v → port_state l v → room_of l ≤ MOST_ACTS }
+    ensures { (l : InLogic) (call : Call) (v : View) → CallAllowed call v → port_state l v → room_of l ≤ acts_for v }
 {}
 
 /// What a handler owes to the port rules and to the law is all that is asked of a stage: its start begins the law of its

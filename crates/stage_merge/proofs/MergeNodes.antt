@@ -26,7 +26,7 @@ use Rattle.stream_model.specs.Rests.{IsShut, ManyToOne}
 use Rattle.stream_model.proofs.HubTraces.{gathered_trace, gathered_fits}
 use Rattle.stream_model.proofs.Fitting.{may_fail}
 use Rattle.elem_core.proofs.Prefixes.{prefix_length}
-use Rattle.stage_core.specs.declared.stage.TheConstants.{MOST_ACTS}
+use Rattle.stage_core.specs.Rooms.{acts_for}
 use Rattle.stage_core.specs.Handling.{Starts, Handles}
 use Rattle.stage_core.specs.Histories.{given_all, brought_by, AllEmpty}
 use Rattle.stage_core.specs.Law.{GaveAs}
@@ -45,6 +45,7 @@ use Rattle.stage_core.proofs.Histories.{in_node, ins_seen, ins_acted, begun}
 use Rattle.stage_merge.specs.Mergings.{Core, Merging, Begins, Turned, Fresh, idles, waiting, port_state_by, port_state_in, port_state, Obligation, serves, stopped, held_by, owed_by_log, held_in, held, LostAt, OwesAt, StoppedAt, CannotGo, KeepsAs, MergeFresh, MergePortState, MergesAs}
 use Rattle.stage_core.specs.Over.{EndsAt}
 use Rattle.stage_merge.specs.Rows.{MergeRestsBy, OverAt, MergeMisfits}
+use Rattle.stage_merge.proofs.Merges.{places_long}
 use Rattle.stage_merge.proofs.MergeRests.{merge_rests, new_row, none_waits, count_left}
 
 -- ---- where it is called
@@ -61,17 +62,30 @@ called_open l c v n may r = by_stuck l.log.stuck r
     by_stuck false r = by_phase l.core.phase refl r
     by_stuck true r = r.phase_is
 
-pub called_fits : (l : Merging) (c : Call) (v : View) → CallAllowed c v → port_state l v → room_for (length l.core.over) ≤ MOST_ACTS
+idles_long : (bs : List Bool) → length (idles bs) ≡ length bs
+idles_long [] = refl
+idles_long (b ∷ bs) = ap suc (idles_long bs)
+
+pub called_fits : (l : Merging) (c : Call) (v : View) → CallAllowed c v → port_state l v → room_for (length l.core.over) ≤ acts_for v
 called_fits l c v may r = by_stuck l.log.stuck r
   where
-    by_phase : (f : Phase) → port_state_by f l.log.left l.core v → room_for (length l.core.over) ≤ MOST_ACTS
-    by_phase New r = let few : length l.core.over ≤ MAX_FAN = r.1.0.whole.few in omega (arith, few)
-    by_phase Open r = let few : length l.core.over ≤ MAX_FAN = r.1.whole.few in omega (arith, few)
+    by_phase : (f : Phase) → port_state_by f l.log.left l.core v → room_for (length l.core.over) ≤ acts_for v
+    by_phase New r =
+        let ins : length v.ins ≡ length l.core.over = ap (λ (w : View). length w.ins) r.0 ∙ idles_long l.core.over in
+        let outs : length v.outs ≡ 1 = ap (λ (w : View). length w.outs) r.0 in
+        omega (arith, ins, outs)
+    by_phase Open r =
+        let ins : length v.ins ≡ length l.core.over = ap (λ (w : View). length w.ins) r.0 ∙ places_long 0 l.core.over l.core.queue in
+        let outs : length v.outs ≡ 1 = ap (λ (w : View). length w.outs) r.0 in
+        omega (arith, ins, outs)
     by_phase Closed r = absurd (none_called c v may r)
 
-    by_stuck : (b : Bool) → port_state_in b l v → room_for (length l.core.over) ≤ MOST_ACTS
+    by_stuck : (b : Bool) → port_state_in b l v → room_for (length l.core.over) ≤ acts_for v
     by_stuck false r = by_phase l.core.phase r
-    by_stuck true r = let few : length l.core.over ≤ MAX_FAN = r.few in omega (arith, few)
+    by_stuck true r =
+        let ins : length v.ins ≡ length l.core.over = r.many in
+        let outs : length v.outs ≡ 1 = r.one in
+        omega (arith, ins, outs)
 
 -- ---- between two calls
 
@@ -201,10 +215,6 @@ handled c old new acts o t = record {
 }
 
 -- ---- before anything came
-
-idles_long : (bs : List Bool) → length (idles bs) ≡ length bs
-idles_long [] = refl
-idles_long (b ∷ bs) = ap suc (idles_long bs)
 
 pub fresh_law : (l : Merging) (v : View) (took gave : List (List Item)) → CallAllowed starts v → MergeFresh l v → AllEmpty took → AllEmpty gave → length took ≡ length v.ins → length gave ≡ length v.outs
     → InPortsLaw (KeepsAs l.gathers (held l)) v took gave

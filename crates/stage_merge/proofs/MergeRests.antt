@@ -25,6 +25,7 @@ use Rattle.stage_core.specs.OwnRows.{own_inputs, FanRests}
 use Rattle.stage_merge.specs.Mergings.{Core, Merging, Begins, NamesInputs, front, goes_next, of_port, input_view, places, idles, waiting, open_count, OpenCore, Sound, Fresh, port_state_by, port_state_in, port_state, held_by, held_in, held, Keeps, serves}
 use Rattle.stage_merge.specs.Rows.{MergeRestsBy}
 use Rattle.stage_merge.proofs.Choosing.{none_of}
+use Rattle.stage_merge.proofs.Merges.{places_long}
 use Rattle.port_core.specs.Picks.{next_move}
 use Rattle.port_core.specs.declared.pick_log.Next.TheVariants.{Free, Move, UsedUp}
 use Rattle.stage_core.proofs.Closings.{closed_rests}
@@ -139,10 +140,6 @@ open_rests : (moves : List ℕ) (plan : Option (List ℕ)) (l : Core) (ins : Lis
 open_rests moves None l ins g s h m = free_rests moves l l.asked ins g refl s h m
 open_rests moves (Some []) l ins g s h m = used_rests moves l l.asked ins g s.whole m
 open_rests moves (Some (k ∷ left)) l ins g s h m = move_rests k left moves l l.asked ins g refl s m
-
-places_long : (n : ℕ) (bs : List Bool) (q : List Queued) → length (places n bs q) ≡ length bs
-places_long n [] q = refl
-places_long n (b ∷ bs) q = ap suc (places_long (n + 1) bs q)
 
 pub merge_rests : (l : Merging) (v : port.View) (ins : List Inflow) (g : List Tree) (end : End) → l.core.phase ≢ New → l.log.stuck ≡ false → port_state l v → length ins ≡ length v.ins → Keeps (held l) ins g end
     → FanRests (MergeRestsBy (next_move l.log.left) l.log.moves) v ins g

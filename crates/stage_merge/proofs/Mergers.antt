@@ -33,7 +33,7 @@ use Rattle.stage_merge.proofs.Fewer.{fewer}
 use Rattle.stage_merge.proofs.Choosing.{choice, inside, passing_chosen, staying_none, passing_may}
 use Rattle.port_core.proofs.Noting.{noted_plan}
 use Rattle.stage_merge.proofs.Plans.{named_behind, lost_one}
-use Rattle.stage_merge.proofs.Merges.{queued, waiting_same, places_same, out_merged, none_merged, used_none, used_one, ended_place, open_place, over_closed, came_now, ended_now, stored_now, released_now, idle_now, gone_now, failed_now, none_now, here_now, only_head, tail_once, stored_once, there_stored, there_by, one_less, none_open}
+use Rattle.stage_merge.proofs.Merges.{queued, waiting_same, places_same, places_long, out_merged, none_merged, used_none, used_one, ended_place, open_place, over_closed, came_now, ended_now, stored_now, released_now, idle_now, gone_now, failed_now, none_now, here_now, only_head, tail_once, stored_once, there_stored, there_by, one_less, none_open}
 
 -- ---- turns
 
@@ -306,7 +306,7 @@ module _ (s : Merging) (g : Going s) (on : s.core.asked ≡ true) (w : OpenCore 
   halts_now : goes_next (next_move s.log.left) s.core.queue ≡ None → lost (next_move s.log.left) s.core.over ≡ true → At asked_view s.log.moves (planned s.log) (waiting 0 s.core.over s.core.queue) (stuck_now s) []
   halts_now c h = record {
     allowed = tt;
-    state_then = record { phase_is = g.phase_is; few = w.few; one = refl; uncancelled = places_open 0 s.core.over s.core.queue };
+    state_then = record { phase_is = g.phase_is; few = w.few; many = places_long 0 s.core.over s.core.queue; one = refl; uncancelled = places_open 0 s.core.over s.core.queue };
     turn = stops refl refl (waiting 0 s.core.over s.core.queue) (quiet s.log.moves s.core.over s.core.queue) (lost_one s.log.left s.core.over s.core.queue c h);
     stands = tt;
     started = not_new g.phase_is;
@@ -513,7 +513,7 @@ module _ (old : Merging) (g : Going old) where
       halts_there : old.core.asked ≡ true → lost (next_move old.log.left) (over_then i) ≡ true → At (view_then i) old.log.moves (planned old.log) (waiting 0 (over_then i) old.core.queue) (stuck_now (without i old)) []
       halts_there on lack = record {
         allowed = tt;
-        state_then = record { phase_is = g.phase_is; few = rw long f.sound.whole.few; one = refl; uncancelled = places_open 0 (over_then i) old.core.queue };
+        state_then = record { phase_is = g.phase_is; few = rw long f.sound.whole.few; many = places_long 0 (over_then i) old.core.queue; one = refl; uncancelled = places_open 0 (over_then i) old.core.queue };
         turn = stops refl refl (waiting 0 (over_then i) old.core.queue) (quiet old.log.moves (over_then i) old.core.queue) (lost_one old.log.left (over_then i) old.core.queue (f.sound.none on) lack);
         stands = tt;
         started = not_new g.phase_is;
@@ -714,6 +714,12 @@ started old new acts g m does =
 stopped_state : (l : Merging) (v : View) → l.log.stuck ≡ true → port_state l v → Stopped l.core v
 stopped_state l v stuck r = subst (λ b. port_state_in b l v) stuck r
 
+ins_seen : (c : Call) (v : View) → length (seen c v).ins ≡ length v.ins
+ins_seen starts v = refl
+ins_seen (pulls j) v = refl
+ins_seen (arrives i b) v = length-set v.ins i _
+ins_seen (cancels j) v = refl
+
 outs_seen : (c : Call) (v : View) → length (seen c v).outs ≡ length v.outs
 outs_seen starts v = refl
 outs_seen (pulls j) v = length-set v.outs j _
@@ -745,7 +751,7 @@ stopped_does_nothing call l stuck open_now =
     record {
       ports = record {
         allowed = λ v may r. tt;
-        ports = λ v may r. subst (λ b. port_state_in b l (seen call v)) (sym stuck) (let s = stopped_state l v stuck r in record { phase_is = open_now; few = s.few; one = outs_seen call v ∙ s.one; uncancelled = seen_open call v s.uncancelled });
+        ports = λ v may r. subst (λ b. port_state_in b l (seen call v)) (sym stuck) (let s = stopped_state l v stuck r in record { phase_is = open_now; few = s.few; many = ins_seen call v ∙ s.many; one = outs_seen call v ∙ s.one; uncancelled = seen_open call v s.uncancelled });
       };
       gives = record { turn = rw h (refl, (refl, refl)); way = refl; inputs = refl; stands = tt; started = not_new open_now; more = []; grows = sym (append-nil l.log.moves); plan = refl; still = λ e. refl };
     }

@@ -26,6 +26,10 @@ queued i t = record { port = i; item = t }
 
 -- ---- what waits of an input
 
+pub places_long : (n : ℕ) (bs : List Bool) (q : List Queued) → length (places n bs q) ≡ length bs
+places_long n [] q = refl
+places_long n (b ∷ bs) q = ap suc (places_long (n + 1) bs q)
+
 app_by : (b : Bool) (t : Tree) (u v w : List Tree) → u ≡ v ++ w → (if b then t ∷ u else u) ≡ (if b then t ∷ v else v) ++ w
 app_by true t u v w h = ap (λ (l : List Tree). t ∷ l) h
 app_by false t u v w h = h

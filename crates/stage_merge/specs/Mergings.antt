@@ -169,6 +169,7 @@ port_state_by Closed plan l v = FanClosed v
 pub record Stopped (l : Core) (v : View) : Type 0 where
   pub phase_is : l.phase ≡ Open
   pub few : length l.over ≤ MAX_FAN
+  pub many : length v.ins ≡ length l.over
   pub one : length v.outs ≡ 1
   pub uncancelled : (i : ℕ) → slice_get v.ins i ≢ Some Cancelled
 

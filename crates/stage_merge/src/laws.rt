@@ -12,7 +12,7 @@ ghost use Rattle.stream_model.specs.Node.{World, node_outlook};
 ghost use Rattle.stream_model.specs.Outlook.{Outlook, Agrees};
 ghost use Rattle.stream_model.specs.FanIn.{AllAgree};
 ghost use Rattle.stream_model.specs.Picks.{merge_fits};
-ghost use Rattle.stage_core.specs.declared.stage.TheConstants.{MOST_ACTS};
+ghost use Rattle.stage_core.specs.Rooms.{acts_for};
 ghost use Rattle.stage_core.specs.Handling.{Starts, Handles};
 ghost use Rattle.stage_core.specs.Merges.{call_by};
 ghost use Rattle.stage_core.specs.Seats.{room_for};
@@ -37,7 +37,7 @@ pub fn a_started_merge_rests()
 /// call wants is within what every stage is given.
 pub fn a_called_merge_is_open()
     ensures opens { (l : Merging) (call : Call) (v : View) → l.core.phase ≢ New → CallAllowed call v → port_state l v → l.core.phase ≡ Open }
-    ensures room { (l : Merging) (call : Call) (v : View) → CallAllowed call v → port_state l v → room_for (length l.core.over) ≤ MOST_ACTS }
+    ensures room { (l : Merging) (call : Call) (v : View) → CallAllowed call v → port_state l v → room_for (length l.core.over) ≤ acts_for v }
 {}
 
 /// What a handler owes to the port rules and to the law is all that is asked of a stage: its start begins the law of its

@@ -33,7 +33,7 @@ use Rattle.stream_model.specs.Picks.{all_below, balance_fits, balance_outlook, B
 use Rattle.stream_model.proofs.PickTraces.{agrees_prefix}
 use Rattle.stream_model.specs.View.{SeenWire, EachWire, SomeWire}
 use Rattle.stream_model.specs.Rests.{Waits, IsShut, IsUnasked, IsAsked, WaitsIdlesOrShut, BalanceRests}
-use Rattle.stage_core.specs.declared.stage.TheConstants.{MOST_ACTS}
+use Rattle.stage_core.specs.Rooms.{acts_for}
 use Rattle.stage_core.specs.Handling.{Starts, Handles}
 use Rattle.stage_core.specs.Histories.{given_all, brought_by, AllEmpty}
 use Rattle.stage_core.specs.Held.{told}
@@ -178,14 +178,6 @@ called_live l c v may r = by_live l.core.live r
     by_live true r = refl
     by_live false r = absurd (none_called c v may r)
 
-pub called_fits : (l : Balancing) (c : Call) (v : View) → CallAllowed c v → port_state l v → room_for (length l.core.outs) ≤ MOST_ACTS
-called_fits l c v may r = by_live l.core.live l.log.stuck r
-  where
-    by_live : (b stuck : Bool) → port_state_by b stuck l v → room_for (length l.core.outs) ≤ MOST_ACTS
-    by_live true false r = let few : length l.core.outs ≤ MAX_FAN = r.1.few in omega (arith, few)
-    by_live true true r = let few : length l.core.outs ≤ MAX_FAN = r.few in omega (arith, few)
-    by_live false stuck r = absurd (none_called c v may r)
-
 -- an open one has one input, and an output for each mark
 record OpenPorts (l : Balancing) (v : View) : Type 0 where
   one : length v.ins ≡ 1
@@ -197,6 +189,13 @@ open_ports l v h r = by_stuck l.log.stuck (subst (λ b. port_state_by b l.log.st
     by_stuck : (b : Bool) → port_state_by true b l v → OpenPorts l v
     by_stuck false s = record { one = ap (λ (w : View). length w.ins) s.0; outs = ap (λ (w : View). length w.outs) s.0 ∙ length-map l.core.outs want_view }
     by_stuck true s = record { one = ap (λ (xs : List InView). length xs) s.input; outs = s.outputs }
+
+pub called_fits : (l : Balancing) (c : Call) (v : View) → CallAllowed c v → port_state l v → room_for (length l.core.outs) ≤ acts_for v
+called_fits l c v may r =
+    let p = open_ports l v (called_live l c v may r) r in
+    let ins : length v.ins ≡ 1 = p.one in
+    let outs : length v.outs ≡ length l.core.outs = p.outs in
+    omega (arith, ins, outs)
 
 -- ---- over histories in order
 

@@ -12,7 +12,7 @@ use Rattle.port_core.specs.Call.{Call, starts, CallAllowed, seen, Obeys, Meets}
 use Rattle.stream_model.specs.declared.kind.Kind.{Kind}
 use Rattle.stream_model.specs.declared.kind.Kind.TheVariants.{Broadcast, BroadcastHub, Balance, Partition, Unzip}
 use Rattle.stream_model.specs.declared.kind.TheConstants.{MAX_FAN}
-use Rattle.stage_core.specs.declared.stage.TheConstants.{MOST_ACTS}
+use Rattle.stage_core.specs.Rooms.{acts_for, HasRoom}
 use Rattle.stage_core.specs.Handling.{PullsAs, Starts, Handles}
 use Rattle.stage_core.specs.Histories.{given_all, brought_by}
 use Rattle.stage_out.specs.Balancings.{Core, Balancing, BalancesAs}
@@ -35,13 +35,13 @@ pub called_is_live : (l : OutLogic) (call : Call) (v : View) → CallAllowed cal
 called_is_live (Machines l) call v may r = rests.called_is_live l call v may r
 called_is_live (Balances l) call v may r = balances.called_live l call v may r
 
-pub called_fits : (l : OutLogic) (call : Call) (v : View) → CallAllowed call v → port_state l v → room_of l ≤ MOST_ACTS
+pub called_fits : (l : OutLogic) (call : Call) (v : View) → CallAllowed call v → port_state l v → room_of l ≤ acts_for v
 called_fits (Machines l) call v may r = rests.called_fits l call v may r
 called_fits (Balances l) call v may r = balances.called_fits l call v may r
 
 -- what every stage is given is room enough for a call of a handler
-pub fits : (call : Call) (l : OutLogic) (n : ℕ) → Meets call (port_state l) → MOST_ACTS ≤ n → room_of l ≤ n
-fits call l n m h = let r : room_of l ≤ MOST_ACTS = called_fits l call m.0 m.1.0 m.1.1 in omega (arith, r, h)
+pub fits : (call : Call) (l : OutLogic) (n : ℕ) → HasRoom call (port_state l) n → room_of l ≤ n
+fits call l n m = let r : room_of l ≤ acts_for m.0 = called_fits l call m.0 m.1.0 m.1.1.0 in let h : acts_for m.0 ≤ n = m.1.1.1 in omega (arith, r, h)
 
 -- a balance that may be called is open
 pub balance_live : (call : Call) (l : Balancing) (whole : OutLogic) → whole ≡ Balances l → Meets call (port_state whole) → l.core.live ≡ true

@@ -1,6 +1,7 @@
 -- A stage with several outputs has nothing to do over its own ports; and where it is called, its ports are not all closed.
 use Rattle.std.specs.Prelude.{slice_get, slice_index_or, Some, None, Option}
 use Rattle.std.proofs.Common.{◌≡◌, ℕ, zero, suc, ◌+◌, ◌≤◌, inl, inr, Bool, true, false, List, [], ◌∷◌, length, map, refl, sym, ap, ◌∙◌, subst, arith}
+use Rattle.std.proofs.lemmas.List.{length-map}
 use Rattle.elem_core.specs.Tree.{Tree}
 use Rattle.elem_core.specs.declared.item.Item.{Item}
 use Rattle.elem_core.specs.declared.item.Item.TheVariants as item
@@ -15,11 +16,10 @@ use Rattle.stream_model.specs.Linear.{Book, Stage}
 use Rattle.stream_model.specs.Outlook.{End}
 use Rattle.stream_model.specs.View.{SomeWire}
 use Rattle.stream_model.specs.Rests.{IsUnasked}
-use Rattle.stream_model.specs.declared.kind.TheConstants.{MAX_FAN}
 use Rattle.stage_core.specs.Held.{told, Held}
 use Rattle.stage_core.specs.Outs.{Outlet, OutsLaw}
 use Rattle.stage_core.specs.OwnPorts.{own_input}
-use Rattle.stage_core.specs.declared.stage.TheConstants.{MOST_ACTS}
+use Rattle.stage_core.specs.Rooms.{acts_for}
 use Rattle.stage_core.specs.Seats.{room_for}
 use Rattle.stage_core.specs.declared.outs.OutputState.{OutputState}
 use Rattle.stage_core.specs.declared.outs.OutputState.TheVariants.{Quiet, Asks, Gone}
@@ -194,17 +194,23 @@ called_is_live (Deals l) call v may r = by_live l.live r
     by_live true r = refl
     by_live false r = absurd (none_called call v may r)
 
--- two actions for each of its ports are few
-pub called_fits : (l : OutMachines) (call : Call) (v : port.View) → CallAllowed call v → port_state l v → room_of l ≤ MOST_ACTS
+-- two actions for each of its ports are enough
+pub called_fits : (l : OutMachines) (call : Call) (v : port.View) → CallAllowed call v → port_state l v → room_of l ≤ acts_for v
 called_fits (Copies l) call v may r = by_live l.live r
   where
-    by_live : (b : Bool) → copy.port_state_by b l v → room_for (length l.outs) ≤ MOST_ACTS
-    by_live true r = let few : length l.outs ≤ MAX_FAN = r.1.few in omega (arith, few)
+    by_live : (b : Bool) → copy.port_state_by b l v → room_for (length l.outs) ≤ acts_for v
+    by_live true r =
+        let ins : length v.ins ≡ 1 = ap (λ (w : port.View). length w.ins) r.0 in
+        let outs : length v.outs ≡ length l.outs = ap (λ (w : port.View). length w.outs) r.0 ∙ length-map l.outs want_view in
+        omega (arith, ins, outs)
     by_live false r = absurd (none_called call v may r)
 called_fits (Deals l) call v may r = by_live l.live r
   where
-    by_live : (b : Bool) → part.port_state_by b l v → room_for (length l.outs) ≤ MOST_ACTS
-    by_live true r = let few : length l.outs ≤ MAX_FAN = r.1.few in omega (arith, few)
+    by_live : (b : Bool) → part.port_state_by b l v → room_for (length l.outs) ≤ acts_for v
+    by_live true r =
+        let ins : length v.ins ≡ 1 = ap (λ (w : port.View). length w.ins) r.0 in
+        let outs : length v.outs ≡ length l.outs = ap (λ (w : port.View). length w.outs) r.0 ∙ length-map l.outs want_view in
+        omega (arith, ins, outs)
     by_live false r = absurd (none_called call v may r)
 
 -- the same of a call that may come

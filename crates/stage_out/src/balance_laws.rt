@@ -15,7 +15,7 @@ ghost use Rattle.stream_model.specs.Node.{World, head_of, node_outlook};
 ghost use Rattle.stream_model.specs.Outlook.{Outlook, End, unended, ended, failed, Agrees};
 ghost use Rattle.stream_model.specs.FanIn.{Inflow};
 ghost use Rattle.stream_model.specs.Picks.{balance_fits, sent_to, BalanceStands};
-ghost use Rattle.stage_core.specs.declared.stage.TheConstants.{MOST_ACTS};
+ghost use Rattle.stage_core.specs.Rooms.{acts_for};
 ghost use Rattle.stage_core.specs.Handling.{Starts, Handles};
 ghost use Rattle.stage_core.specs.Seats.{room_for};
 ghost use Rattle.stage_out.specs.Dealings.{Dealt, DealStands};
@@ -52,7 +52,7 @@ pub fn a_started_balance_rests()
 /// within what every stage is given.
 pub fn a_called_balance_is_open()
     ensures opens { (l : Balancing) (call : Call) (v : View) → CallAllowed call v → port_state l v → l.core.live ≡ true }
-    ensures room { (l : Balancing) (call : Call) (v : View) → CallAllowed call v → port_state l v → room_for (length l.core.outs) ≤ MOST_ACTS }
+    ensures room { (l : Balancing) (call : Call) (v : View) → CallAllowed call v → port_state l v → room_for (length l.core.outs) ≤ acts_for v }
 {}
 
 /// What a handler owes to the port rules and to the law is all that is asked of a stage: its start begins the law of its

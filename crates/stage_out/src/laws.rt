@@ -12,7 +12,7 @@ ghost use Rattle.stream_model.specs.Graph.{Graph};
 ghost use Rattle.stream_model.specs.Linear.{Book};
 ghost use Rattle.stream_model.specs.Node.{World, head_of, node_outlook};
 ghost use Rattle.stream_model.specs.Outlook.{Outlook, End, Agrees};
-ghost use Rattle.stage_core.specs.declared.stage.TheConstants.{MOST_ACTS};
+ghost use Rattle.stage_core.specs.Rooms.{acts_for};
 ghost use Rattle.stage_core.specs.Handling.{Starts, Handles, PullsAs};
 ghost use Rattle.stage_core.specs.Held.{told};
 ghost use Rattle.stage_core.specs.Outs.{OutsLaw};
@@ -39,7 +39,7 @@ pub fn a_called_stage_is_open()
 /// Where the port rules allow a call of a handler and the port state holds, the room that the call wants is within what every stage
 /// is given.
 pub fn a_call_wants_little_room()
-    ensures { (l : OutLogic) (call : Call) (v : View) → CallAllowed call v → port_state l v → room_of l ≤ MOST_ACTS }
+    ensures { (l : OutLogic) (call : Call) (v : View) → CallAllowed call v → port_state l v → room_of l ≤ acts_for v }
 {}
 
 /// Where its port state and the law of its outputs hold, a stage whose outputs are machines has closed its ports or has nothing to do,

@@ -1,7 +1,8 @@
 -- The goals of `island::assemble` that the search leaves.
-use Rattle.std.proofs.Common.{◌∙◌, ℕ, [], length, replicate, sym, ap}
+use Rattle.std.proofs.Common.{◌∙◌, ℕ, [], length, replicate, sym, ap, subst}
 use Rattle.port_core.specs.Ring.{Ring}
 use Rattle.port_core.specs.Cell.{new_cell}
+use Rattle.interpreter.specs.Parts.{inputs_at, outputs_at, IsSized}
 use Rattle.interpreter.proofs.Tables.{rows_count, rows_wiring, rows_sized}
 use Rattle.interpreter.proofs.Islands.{same_count, all_fresh, ends_many, parts_wired}
 use Rattle.interpreter.proofs.island.assemble.Goals as goal
@@ -20,6 +21,9 @@ new-requires-clause-ring g c = let ring : ℕ → Ring = λ n. record { size = n
 
 pub new-requires-clause-fresh : goal.new-requires-clause-fresh
 new-requires-clause-fresh g c = all_fresh c.args.parts.nodes.items _ _ c.requires.parts.unused c.build_all-nodes.ensures (rows_sized c.args.parts.nodes.items c.args.blank.ports.items c.requires.blank.rows _ c.join_ports.ensures.sized)
+
+pub returns-clause-ports : goal.returns-clause-ports
+returns-clause-ports g c = subst (IsSized (inputs_at c.args.parts.nodes.items) (outputs_at c.args.parts.nodes.items) (length c.args.parts.nodes.items)) (sym c.new.ensures.ports) (rows_sized c.args.parts.nodes.items c.args.blank.ports.items c.requires.blank.rows _ c.join_ports.ensures.sized)
 
 pub returns-clause-count : goal.returns-clause-count
 returns-clause-count g c = ap length c.new.ensures.nodes ∙ same_count _ _ c.build_all-nodes.ensures ∙ sym c.args.parts.nodes.ok.0

@@ -2,9 +2,9 @@
 use Rattle.std.proofs.Common.{◌∙◌, refl, rules, arith, true, false}
 use Rattle.fused_net.proofs.Going.{uses_trans, uses_none}
 use Rattle.fused_net.proofs.Keeping.{on_err, step_count}
-use Rattle.fused_net.proofs.Ongoing.{goes_same, goes_trans}
+use Rattle.fused_net.proofs.Ongoing.{goes_same, goes_trans, goes_room}
 use Rattle.fused_net.proofs.Still.{breaks_aside, still_same, still_trans, still_taken, untouched_same, untouched_trans, untouched_next, untouched_stop}
-use Rattle.fused_net.proofs.Taking.{taken_settled, taken_goes, taken_uses, taken_few, taken_read, taken_kept}
+use Rattle.fused_net.proofs.Taking.{taken_settled, taken_goes, taken_uses, taken_few, taken_room, taken_read, taken_kept}
 use Rattle.fused_net.proofs.engine.Engine.advance.Goals as goal
 
 pub loop-used-init : goal.loop-used-init
@@ -21,6 +21,9 @@ loop-used-init g c = (
 
 pub handle-requires-clause-laws : goal.handle-requires-clause-laws
 handle-requires-clause-laws g c = taken_settled g.S.Stage.port_state g.S.Stage.law g.S.Stage.asking g.S.Stage.moves _ _ c.in-Some.w c.in-Some.ensures.some.1.1 c.loop-used.invariant.0
+
+pub handle-requires-clause-ports : goal.handle-requires-clause-ports
+handle-requires-clause-ports g c = taken_room _ _ c.in-Some.w _ c.in-Some.ensures.some.1.1 (goes_room _ _ _ _ c.loop-used.invariant.1 c.loop-used.invariant.3 c.requires.ports)
 
 pub handle-requires-clause-few : goal.handle-requires-clause-few
 handle-requires-clause-few g c = taken_few _ _ c.in-Some.w 1 _ c.in-Some.ensures.some.1.1 (search (rules, arith))

@@ -1,10 +1,13 @@
 -- The goals of `engine::Engine::handle` that the search leaves.
 use Rattle.fused_net.proofs.Keeping.{on_err}
-use Rattle.fused_net.proofs.Handling.{calling_push, calling_pull, call_meets, call_busy, call_few, call_still, call_kept, answered}
+use Rattle.fused_net.proofs.Handling.{calling_push, calling_pull, call_meets, call_fits, call_busy, call_few, call_still, call_kept, answered}
 use Rattle.fused_net.proofs.engine.Engine.handle.Goals as goal
 
 pub on_push-requires-clause-meets : goal.on_push-requires-clause-meets
 on_push-requires-clause-meets g c = call_meets g.S.Stage.port_state g.S.Stage.law g.S.Stage.asking g.S.Stage.moves _ _ _ _ _ _ _ _ (calling_push g.S.Stage.port_state g.S.Stage.law g.S.Stage.asking g.S.Stage.moves c.args.self.now c.tell.new.self c.take-e.new.self _ _ c.args.w c.take-e.result _ _ c.requires.laws c.requires.within c.requires.absent c.in-Push.ensures.tells c.tell.ensures.after c.take-e.ensures.value c.take-e.ensures.after c.self.view_is c.index-ends.ensures c.self-in-Push.view_is c.index_mut.ensures.value)
+
+pub on_push-requires-clause-ports : goal.on_push-requires-clause-ports
+on_push-requires-clause-ports g c = call_fits g.S.Stage.port_state g.S.Stage.law g.S.Stage.asking g.S.Stage.moves _ _ _ _ _ _ _ _ _ (calling_push g.S.Stage.port_state g.S.Stage.law g.S.Stage.asking g.S.Stage.moves c.args.self.now c.tell.new.self c.take-e.new.self _ _ c.args.w c.take-e.result _ _ c.requires.laws c.requires.within c.requires.absent c.in-Push.ensures.tells c.tell.ensures.after c.take-e.ensures.value c.take-e.ensures.after c.self.view_is c.index-ends.ensures c.self-in-Push.view_is c.index_mut.ensures.value) c.requires.ports
 
 pub returns-in_err-on_push-in-Push-clause-kept : goal.returns-in_err-on_push-in-Push-clause-kept
 returns-in_err-on_push-in-Push-clause-kept g c = on_err _ (call_kept g.S.Stage.port_state g.S.Stage.law g.S.Stage.asking g.S.Stage.moves g.S.Stage.gone g.S.Stage.passive g.S.Stage.keeps _ _ _ _ _ _ _ _ _ (calling_push g.S.Stage.port_state g.S.Stage.law g.S.Stage.asking g.S.Stage.moves c.args.self.now c.tell.new.self c.take-e.new.self _ _ c.args.w c.take-e.result _ _ c.requires.laws c.requires.within c.requires.absent c.in-Push.ensures.tells c.tell.ensures.after c.take-e.ensures.value c.take-e.ensures.after c.self.view_is c.index-ends.ensures c.self-in-Push.view_is c.index_mut.ensures.value) c.in_err-on_push-in-Push.ensures.kept)
@@ -38,6 +41,9 @@ returns-in_ok-on_push-in-Push-clause-untouched g c = (answered g.S.Stage.port_st
 
 pub on_pull-requires-clause-meets : goal.on_pull-requires-clause-meets
 on_pull-requires-clause-meets g c = call_meets g.S.Stage.port_state g.S.Stage.law g.S.Stage.asking g.S.Stage.moves _ _ _ _ _ _ _ _ (calling_pull g.S.Stage.port_state g.S.Stage.law g.S.Stage.asking g.S.Stage.moves c.args.self.now c.tell.new.self _ _ c.args.w _ _ c.requires.laws c.requires.within c.requires.absent c.in-Pull.ensures.tells c.tell.ensures.after c.self.view_is c.index-ends.ensures c.self-in-Pull.view_is c.index_mut-in-Pull.ensures.value)
+
+pub on_pull-requires-clause-ports : goal.on_pull-requires-clause-ports
+on_pull-requires-clause-ports g c = call_fits g.S.Stage.port_state g.S.Stage.law g.S.Stage.asking g.S.Stage.moves _ _ _ _ _ _ _ _ _ (calling_pull g.S.Stage.port_state g.S.Stage.law g.S.Stage.asking g.S.Stage.moves c.args.self.now c.tell.new.self _ _ c.args.w _ _ c.requires.laws c.requires.within c.requires.absent c.in-Pull.ensures.tells c.tell.ensures.after c.self.view_is c.index-ends.ensures c.self-in-Pull.view_is c.index_mut-in-Pull.ensures.value) c.requires.ports
 
 pub returns-in_err-on_pull-in-Pull-clause-kept : goal.returns-in_err-on_pull-in-Pull-clause-kept
 returns-in_err-on_pull-in-Pull-clause-kept g c = on_err _ (call_kept g.S.Stage.port_state g.S.Stage.law g.S.Stage.asking g.S.Stage.moves g.S.Stage.gone g.S.Stage.passive g.S.Stage.keeps _ _ _ _ _ _ _ _ _ (calling_pull g.S.Stage.port_state g.S.Stage.law g.S.Stage.asking g.S.Stage.moves c.args.self.now c.tell.new.self _ _ c.args.w _ _ c.requires.laws c.requires.within c.requires.absent c.in-Pull.ensures.tells c.tell.ensures.after c.self.view_is c.index-ends.ensures c.self-in-Pull.view_is c.index_mut-in-Pull.ensures.value) c.in_err-on_pull-in-Pull.ensures.kept)

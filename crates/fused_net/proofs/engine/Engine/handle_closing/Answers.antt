@@ -3,7 +3,7 @@ use Rattle.std.proofs.Common.{arith}
 use Rattle.std.proofs.lemmas.List.{length-set}
 use Rattle.fused_net.proofs.Keeping.{on_err}
 use Rattle.fused_net.proofs.Going.{handled_nothing}
-use Rattle.fused_net.proofs.Handling.{closing_within, calling_closing, call_meets, call_busy, call_few, call_still, call_kept, answered}
+use Rattle.fused_net.proofs.Handling.{closing_within, calling_closing, call_meets, call_fits, call_busy, call_few, call_still, call_kept, answered}
 use Rattle.fused_net.proofs.Still.{still_told}
 use Rattle.fused_net.proofs.engine.Engine.handle_closing.Goals as goal
 
@@ -21,6 +21,9 @@ index_mut-requires g c = omega (arith, closing_within g.S.Stage.port_state g.S.S
 
 pub call-requires-clause-meets : goal.call-requires-clause-meets
 call-requires-clause-meets g c = call_meets g.S.Stage.port_state g.S.Stage.law g.S.Stage.asking g.S.Stage.moves _ _ _ _ _ _ _ _ (calling_closing g.S.Stage.port_state g.S.Stage.law g.S.Stage.asking g.S.Stage.moves c.in-Some.event _ _ _ _ _ c.args.w _ _ _ c.requires.laws c.requires.within c.requires.absent c.requires.after c.self.view_is c.index-ends.ensures c.in-Some.ensures.some c.deliver.ensures.after c.node_of-n.ensures c.self-2.view_is c.index_mut.ensures.value)
+
+pub call-requires-clause-ports : goal.call-requires-clause-ports
+call-requires-clause-ports g c = call_fits g.S.Stage.port_state g.S.Stage.law g.S.Stage.asking g.S.Stage.moves _ _ _ _ _ _ _ _ _ (calling_closing g.S.Stage.port_state g.S.Stage.law g.S.Stage.asking g.S.Stage.moves c.in-Some.event _ _ _ _ _ c.args.w _ _ _ c.requires.laws c.requires.within c.requires.absent c.requires.after c.self.view_is c.index-ends.ensures c.in-Some.ensures.some c.deliver.ensures.after c.node_of-n.ensures c.self-2.view_is c.index_mut.ensures.value) c.requires.ports
 
 pub returns-in_err-call-clause-kept : goal.returns-in_err-call-clause-kept
 returns-in_err-call-clause-kept g c = on_err _ (call_kept g.S.Stage.port_state g.S.Stage.law g.S.Stage.asking g.S.Stage.moves g.S.Stage.gone g.S.Stage.passive g.S.Stage.keeps _ _ _ _ _ _ _ _ _ (calling_closing g.S.Stage.port_state g.S.Stage.law g.S.Stage.asking g.S.Stage.moves c.in-Some.event _ _ _ _ _ c.args.w _ _ _ c.requires.laws c.requires.within c.requires.absent c.requires.after c.self.view_is c.index-ends.ensures c.in-Some.ensures.some c.deliver.ensures.after c.node_of-n.ensures c.self-2.view_is c.index_mut.ensures.value) c.in_err-call.ensures.kept)

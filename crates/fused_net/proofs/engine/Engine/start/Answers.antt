@@ -1,6 +1,6 @@
 -- The goals of `engine::Engine::start` that the search leaves.
 use Rattle.std.proofs.Common.{◌∙◌, refl, rules, arith}
-use Rattle.fused_net.proofs.Ongoing.{goes_same}
+use Rattle.fused_net.proofs.Ongoing.{goes_same, goes_room}
 use Rattle.fused_net.proofs.Starting.{all_started}
 use Rattle.fused_net.proofs.Keeping.{kept_starting, all_count}
 use Rattle.fused_net.proofs.Still.{still_same, still_trans}
@@ -16,6 +16,9 @@ loop-n-init g c = (
   kept_starting g.S.Stage.port_state g.S.Stage.law g.S.Stage.asking g.S.Stage.moves g.S.Stage.fresh g.S.Stage.keeps _ c.requires.starting,
   still_same g.S.Stage.passive _,
 )
+
+pub start_at-requires-clause-ports : goal.start_at-requires-clause-ports
+start_at-requires-clause-ports g c = goes_room _ _ _ _ c.loop-n.invariant.1 c.loop-n.invariant.3 c.requires.ports
 
 pub returns-clause-laws : goal.returns-clause-laws
 returns-clause-laws g c = all_started g.S.Stage.port_state g.S.Stage.law g.S.Stage.asking g.S.Stage.moves g.S.Stage.fresh _ _ c.loop-n.invariant.0 (search (rules, arith))

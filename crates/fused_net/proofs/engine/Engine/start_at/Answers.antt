@@ -1,5 +1,5 @@
 -- The goals of `engine::Engine::start_at` that the search leaves.
-use Rattle.fused_net.proofs.Responding.{start_meets, start_awaited, started}
+use Rattle.fused_net.proofs.Responding.{start_meets, start_fits, start_awaited, started}
 use Rattle.fused_net.proofs.Keeping.{kept_called_first, kept_started}
 use Rattle.fused_net.proofs.Poking.{gone_acts}
 use Rattle.fused_net.proofs.Still.{still_acts}
@@ -7,6 +7,9 @@ use Rattle.fused_net.proofs.engine.Engine.start_at.Goals as goal
 
 pub start-requires-clause-meets : goal.start-requires-clause-meets
 start-requires-clause-meets g c = start_meets g.S.Stage.port_state g.S.Stage.law g.S.Stage.asking g.S.Stage.moves g.S.Stage.fresh _ _ _ _ c.requires.starting c.self.view_is c.requires.within c.index_mut.ensures.value
+
+pub start-requires-clause-ports : goal.start-requires-clause-ports
+start-requires-clause-ports g c = start_fits g.S.Stage.port_state g.S.Stage.law g.S.Stage.asking g.S.Stage.moves g.S.Stage.fresh _ _ _ _ _ c.requires.starting c.self.view_is c.requires.within c.index_mut.ensures.value c.requires.ports
 
 pub perform_all-requires-clause-busy : goal.perform_all-requires-clause-busy
 perform_all-requires-clause-busy g c = start_awaited g.S.Stage.port_state g.S.Stage.law g.S.Stage.asking g.S.Stage.moves g.S.Stage.fresh _ _ _ _ _ _ c.requires.starting c.self.view_is c.requires.within c.index_mut.ensures.value c.in_ok-start.ensures.starts

@@ -1,9 +1,10 @@
 -- The goals of `island::Island::start` that the search leaves.
 use Rattle.std.proofs.Common.{◌≡◌, ◌∙◌, ap, length, map, sym, arith}
 use Rattle.std.proofs.lemmas.List.{length-map}
+use Rattle.fused_net.proofs.Ongoing.{goes_room}
 use Rattle.interpreter.specs.Parts.{wire_number, seat_place}
 use Rattle.interpreter.specs.Ways.{ListsLaneEnds}
-use Rattle.interpreter.proofs.Islands.{keeps_new, room_as, numbers_same}
+use Rattle.interpreter.proofs.Islands.{calls_fit, keeps_new, room_as, numbers_same}
 use Rattle.interpreter.proofs.Handing.{hands_back, holds_handles}
 use Rattle.interpreter.proofs.Bounding.{enters_new, leaves_new, begins_in_new, begins_out_new}
 use Rattle.interpreter.proofs.island.Island.start.Goals as goal
@@ -17,9 +18,13 @@ invariant_of-result g c =
       λ _. (
         keeps_new _ _ _ c.assemble-engine.result c.start.new.self c.in-Ok.ensures.laws c.in-Ok.ensures.asks c.assemble-engine.ensures.asks,
         ap (λ a. a.items) c.in-Ok.ensures.acts ∙ c.requires.room.no_acts,
-        omega (arith, ap (λ a. a.room) c.in-Ok.ensures.acts, c.requires.room.room_for_acts),
+        omega (arith, ap (λ a. a.room) c.in-Ok.ensures.acts, c.requires.room.least_room),
+        goes_room _ _ _ _ c.in-Ok.ensures.on c.in-Ok.ensures.acts (calls_fit _ _ _ c.assemble-engine.ensures.ports c.requires.room.room_for_acts),
       ),
     )
+
+pub start-requires-clause-ports : goal.start-requires-clause-ports
+start-requires-clause-ports g c = calls_fit _ _ _ c.assemble-engine.ensures.ports c.requires.room.room_for_acts
 
 pub returns-in-Ok-clause-places : goal.returns-in-Ok-clause-places
 returns-in-Ok-clause-places g c = c.requires.room.places_are ∙ numbers_same c.args.parts.nodes.items

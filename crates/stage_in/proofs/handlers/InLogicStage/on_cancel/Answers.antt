@@ -4,7 +4,7 @@ use Rattle.stage_in.proofs.Handling.{fits, asks, grows, handles}
 use Rattle.stage_in.proofs.handlers.InLogicStage.on_cancel.Goals as goal
 
 pub on_cancel-requires-clause-room : goal.on_cancel-requires-clause-room
-on_cancel-requires-clause-room c = fits (cancels c.args._port) _ _ c.requires.meets c.requires.room
+on_cancel-requires-clause-room c = fits (cancels c.args._port) _ _ c.requires.ports
 
 pub returns-clause-handles : goal.returns-clause-handles
 returns-clause-handles c = handles (cancels c.args._port) _ _ _ _ (λ e. cc) c.requires.meets c.on_cancel.ensures.ports c.on_cancel.ensures.gives

@@ -5,7 +5,7 @@ use Rattle.stage_in.proofs.Handling.{fits, asks, grows, handles}
 use Rattle.stage_in.proofs.handlers.InLogicStage.on_fail.Goals as goal
 
 pub on_fail-requires-clause-room : goal.on_fail-requires-clause-room
-on_fail-requires-clause-room c = fits (arrives c.args.port (item.Failed c.args.cause)) _ _ c.requires.meets c.requires.room
+on_fail-requires-clause-room c = fits (arrives c.args.port (item.Failed c.args.cause)) _ _ c.requires.ports
 
 pub returns-clause-handles : goal.returns-clause-handles
 returns-clause-handles c = handles (arrives c.args.port (item.Failed c.args.cause)) _ _ _ _ (λ e. cc) c.requires.meets c.on_fail.ensures.ports c.on_fail.ensures.gives

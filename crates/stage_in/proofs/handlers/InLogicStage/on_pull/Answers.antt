@@ -4,7 +4,7 @@ use Rattle.stage_in.proofs.Handling.{fits, asks, grows, handles}
 use Rattle.stage_in.proofs.handlers.InLogicStage.on_pull.Goals as goal
 
 pub on_pull-requires-clause-room : goal.on_pull-requires-clause-room
-on_pull-requires-clause-room c = fits (pulls c.args._port) _ _ c.requires.meets c.requires.room
+on_pull-requires-clause-room c = fits (pulls c.args._port) _ _ c.requires.ports
 
 pub returns-clause-handles : goal.returns-clause-handles
 returns-clause-handles c = handles (pulls c.args._port) _ _ _ _ (λ e. cc) c.requires.meets c.on_pull.ensures.ports c.on_pull.ensures.gives

@@ -5,7 +5,7 @@ use Rattle.stage_in.proofs.Handling.{fits, asks, grows, handles}
 use Rattle.stage_in.proofs.handlers.InLogicStage.on_push.Goals as goal
 
 pub on_push-requires-clause-room : goal.on_push-requires-clause-room
-on_push-requires-clause-room c = fits (arrives c.args.port (item.Elem c.args.e)) _ _ c.requires.meets c.requires.room
+on_push-requires-clause-room c = fits (arrives c.args.port (item.Elem c.args.e)) _ _ c.requires.ports
 
 pub returns-clause-handles : goal.returns-clause-handles
 returns-clause-handles c = handles (arrives c.args.port (item.Elem c.args.e)) _ _ _ _ (λ e. cc) c.requires.meets c.on_push.ensures.ports c.on_push.ensures.gives

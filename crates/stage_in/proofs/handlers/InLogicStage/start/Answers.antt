@@ -6,7 +6,7 @@ use Rattle.stage_in.proofs.Handling.{fits_new, asks, grows}
 use Rattle.stage_in.proofs.handlers.InLogicStage.start.Goals as goal
 
 pub start-requires-clause-room : goal.start-requires-clause-room
-start-requires-clause-room c = fits_new _ _ c.requires.meets c.requires.room
+start-requires-clause-room c = fits_new _ _ c.requires.ports
 
 pub returns-clause-starts : goal.returns-clause-starts
 returns-clause-starts c = let f = c.requires.meets.1.1.fresh in on_ok_two _ c.start.ensures.ports c.start.ensures.gives (λ o t. started _ _ _ f o t)

@@ -4,7 +4,7 @@ use Rattle.stage_out.proofs.OutLogics.{fits, handled, asks_ok, grows_ok}
 use Rattle.stage_out.proofs.handlers.OutLogicStage.on_cancel.Goals as goal
 
 pub on_cancel-requires-clause-room : goal.on_cancel-requires-clause-room
-on_cancel-requires-clause-room c = fits (cancels c.args.port) _ _ c.requires.meets c.requires.room
+on_cancel-requires-clause-room c = fits (cancels c.args.port) _ _ c.requires.ports
 
 pub returns-clause-handles : goal.returns-clause-handles
 returns-clause-handles c = on_ok_two _ c.on_cancel.ensures.ports c.on_cancel.ensures.gives (λ o t. handled _ _ _ _ o t)

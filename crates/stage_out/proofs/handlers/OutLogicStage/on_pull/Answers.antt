@@ -4,7 +4,7 @@ use Rattle.stage_out.proofs.OutLogics.{fits, handled, asks_ok, grows_ok}
 use Rattle.stage_out.proofs.handlers.OutLogicStage.on_pull.Goals as goal
 
 pub on_pull-requires-clause-room : goal.on_pull-requires-clause-room
-on_pull-requires-clause-room c = fits (pulls c.args.port) _ _ c.requires.meets c.requires.room
+on_pull-requires-clause-room c = fits (pulls c.args.port) _ _ c.requires.ports
 
 pub returns-clause-handles : goal.returns-clause-handles
 returns-clause-handles c = on_ok_two _ c.on_pull.ensures.ports c.on_pull.ensures.gives (λ o t. handled _ _ _ _ o t)

@@ -5,7 +5,7 @@ use Rattle.stage_out.proofs.OutLogics.{fits, handled, asks_ok, grows_ok}
 use Rattle.stage_out.proofs.handlers.OutLogicStage.on_push.Goals as goal
 
 pub on_push-requires-clause-room : goal.on_push-requires-clause-room
-on_push-requires-clause-room c = fits (arrives c.args.port (item.Elem c.args.e)) _ _ c.requires.meets c.requires.room
+on_push-requires-clause-room c = fits (arrives c.args.port (item.Elem c.args.e)) _ _ c.requires.ports
 
 pub returns-clause-handles : goal.returns-clause-handles
 returns-clause-handles c = on_ok_two _ c.on_push.ensures.ports c.on_push.ensures.gives (λ o t. handled _ _ _ _ o t)

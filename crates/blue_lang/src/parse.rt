@@ -221,7 +221,8 @@ fn declare_one(alloc: Global, progress: &mut Progress, declaration: Declaration)
     ensures room { OnOk result (has_room (context (sofar progress.old)) (plain_declaration declaration) ≡ true) }
     ensures adds { OnOk result (sofar progress.new ≡ with_declaration (sofar progress.old) (plain_declaration declaration)) }
     ensures version { progress.new.version ≡ progress.old.version }
-    ensures fault { (k : BlueKind) → result ≡ Err (Stop.Fault k) → declaration_fault (context (sofar progress.old)) (Ok (plain_declaration declaration)) ≡ Some k }
+    ensures fault { (k : BlueKind) → result ≡ Err (Stop.Fault k) → declaration_fault (context (sofar progress.old))
+        (Ok (plain_declaration declaration)) ≡ Some k }
 {
     if !has_room(progress, &declaration) {
         return Err(Stop::Fault(BlueKind::TooMany));

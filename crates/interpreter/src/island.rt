@@ -105,7 +105,8 @@ impl<S: Source, D: Drain, L: Logic, B: PlugBook> Model for Island<S, D, L, B> {
     } };
 
     ghost invariant = { λ i. HasRoom i.room (length i.engine.nodes) (length i.numbers.items) × (length i.places.items ≡ length i.engine.nodes)
-        × (i.broken ≡ false → IslandKeeps S.state D.state B.lists i.engine i.used × (i.acts.items ≡ []) × (LEAST_ACTS ≤ i.acts.room) × HaveRoom i.engine.ports i.acts.room) };
+        × (i.broken ≡ false → IslandKeeps S.state D.state B.lists i.engine i.used × (i.acts.items ≡ []) × (LEAST_ACTS ≤ i.acts.room)
+        × HaveRoom i.engine.ports i.acts.room) };
 }
 
 /// A sink at the end of a run: its node, the lines that it wrote, and how it stands.

@@ -443,7 +443,8 @@ impl<S: Source, D: Drain, L: Logic, B: PlugBook> Body<S, D, L, B> {
         ensures used { IfOk result (λ count. self.new.island.used + used ≡ self.old.island.used + count) }
         ensures costs { OnOk result ((all_taken self.new.ins.items ≡ all_taken self.old.ins.items)
             × (all_finds self.new.outs.items ≡ all_finds self.old.outs.items) × (self.new.spent ≡ self.old.spent)) }
-        ensures none { IfOk result (λ count. count ≡ used → used < limit → (self.new.ins ≡ self.old.ins) × (self.new.outs ≡ self.old.outs) × (self.old.island.net.queue ≡ [])) }
+        ensures none { IfOk result (λ count. count ≡ used → used < limit
+            → (self.new.ins ≡ self.old.ins) × (self.new.outs ≡ self.old.outs) × (self.old.island.net.queue ≡ [])) }
         ensures looks { OnOk result (KeepsLooks self.old self.new) }
         ensures wakes { OnOk result (WakesOn self.old self.new) }
         ensures rest { IfOk result (λ count. count < limit → (pausing ≡ false) ⊎ (is_pending self.new ≡ false) → self.new.island.net.queue ≡ []) }

@@ -101,7 +101,8 @@ fn begin<S: Source, D: Drain, L: Logic, B: PlugBook>(
     requires drains { vec_len drains ≡ length (outputs_of_nodes prepared.plans.blueprint.value.nodes.items) }
     requires unread { All (λ s. (S.state s).given ≡ 0) sources.items }
     ensures begun { IfOk result
-        (λ begun. (h : HaveBegun S.state D.state B.lists prepared.plans.blueprint.value sources.items drains.items begun.bodies.items begun.crossings.items begun.remains)
+        (λ begun. (h : HaveBegun S.state D.state B.lists prepared.plans.blueprint.value sources.items drains.items
+        begun.bodies.items begun.crossings.items begun.remains)
         × (map place_plan h.nodes ≡ led_plans prepared.plans)) }
     ensures unmade { IfErr result (HasHandles S.state D.state sources.items drains.items) }
 {
@@ -331,7 +332,8 @@ pub fn run<
     requires sources { vec_len sources ≡ length (inputs_of_nodes prepared.plans.blueprint.value.nodes.items) }
     requires drains { vec_len drains ≡ length (outputs_of_nodes prepared.plans.blueprint.value.nodes.items) }
     requires unread { All (λ s. (S.state s).given ≡ 0) sources.items }
-    ensures leaves { IfOk result (λ stopped. (l : RunLeaves L B S.state D.state B.lists prepared.plans.blueprint.value sources.items drains.items budget stopped)
+    ensures leaves { IfOk result (λ stopped. (l : RunLeaves L B S.state D.state B.lists prepared.plans.blueprint.value
+        sources.items drains.items budget stopped)
         × (map place_plan l.moment.places ≡ led_plans prepared.plans)) }
     ensures receipt { IfOk result (λ stopped. IsReceipt prepared.plans.blueprint.value workers stopped.used stopped.at_rest stopped.ran) }
     ensures breaks { IfErr result (λ broken. LeavesBrokenAs L B S.state D.state B.lists prepared.plans.blueprint.value sources.items drains.items broken) }

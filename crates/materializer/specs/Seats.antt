@@ -165,7 +165,8 @@ WorkMayFollow moves w = ⊥
 abbrev pub WorkFollows : {S D L B : Type 0} → List ℕ → Work S D L B → Work S D L B → Type 0
 WorkFollows moves (work.State old) (work.State new) = StateFollows moves old new × state.StateFresh new unpulled_ports
 WorkFollows moves (work.Sub old) (work.Sub new) =
-    ((node : ℕ) (kind : Kind) (chain : Line) → led_sub.LedBegins line_rest line_is_open node kind chain old → led_sub.LedBegins line_rest line_is_open node kind chain new)
+    ((node : ℕ) (kind : Kind) (chain : Line) → led_sub.LedBegins line_rest line_is_open node kind chain old
+    → led_sub.LedBegins line_rest line_is_open node kind chain new)
     × (subs.sub_plan new ≡ Some moves)
 WorkFollows moves (work.FanIn old inputs) (work.FanIn new same) =
     (same ≡ inputs) × (((node : ℕ) (kind : Kind) (d : Decider) → fan_in.Begins node kind d old → fan_in.Begins node kind d new) × (in_plan new ≡ Some moves))

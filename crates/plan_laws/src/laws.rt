@@ -21,27 +21,36 @@ ghost use Rattle.plan_laws.specs.Unread.{AlikeSources, with_files};
 /// given no end needs neither. A valve's plan needs neither: it made it, or it made none of it and gave no end and no more elements than
 /// the plan counts.
 pub fn choices_serve_their_plan()
-    ensures merge { (made rest : List ℕ) (os : List Outlook) (ins : List Inflow) (g : List Tree) (e : End) → merge_fits (made ++ rest) os ≡ true → AllSure os → AllAgree os ins → MergeStands made ins g e
+    ensures merge { (made rest : List ℕ) (os : List Outlook) (ins : List Inflow) (g : List Tree) (e : End) → merge_fits (made ++ rest) os ≡ true
+        → AllSure os → AllAgree os ins → MergeStands made ins g e
         → Agrees (merge_outlook (made ++ rest) os) g e }
-    ensures hub { (made rest : List ℕ) (os : List Outlook) (ins : List Inflow) (g : List Tree) (e : End) → merge_fits (made ++ rest) os ≡ true → AllSure os → AllAgree os ins → MergeStands made (softened ins) g e
+    ensures hub { (made rest : List ℕ) (os : List Outlook) (ins : List Inflow) (g : List Tree) (e : End) → merge_fits (made ++ rest) os ≡ true → AllSure os
+        → AllAgree os ins → MergeStands made (softened ins) g e
         → Agrees (hub_outlook (made ++ rest) os) g e }
-    ensures recover { (t : Tree) (made rest : List ℕ) (o : Outlook) (f : Inflow) (g : List Tree) (e : End) → recover_fits (made ++ rest) o ≡ true → o.fails ≡ [] → Agrees o f.list f.end → RecoverStands t made f g e
+    ensures recover { (t : Tree) (made rest : List ℕ) (o : Outlook) (f : Inflow) (g : List Tree) (e : End) → recover_fits (made ++ rest) o ≡ true
+        → o.fails ≡ [] → Agrees o f.list f.end → RecoverStands t made f g e
         → Agrees (recover_outlook t (made ++ rest) o) g e }
-    ensures balance { (n i : ℕ) (made rest : List ℕ) (o : Outlook) (f : Inflow) (g : List Tree) (e : End) → balance_fits n (made ++ rest) o ≡ true → o.fails ≡ [] → Agrees o f.list f.end → BalanceStands made i f g e
+    ensures balance { (n i : ℕ) (made rest : List ℕ) (o : Outlook) (f : Inflow) (g : List Tree) (e : End) → balance_fits n (made ++ rest) o ≡ true
+        → o.fails ≡ [] → Agrees o f.list f.end → BalanceStands made i f g e
         → Agrees (balance_outlook (made ++ rest) o i) g e }
-    ensures dealt { (i : ℕ) (made rest : List ℕ) (o : Outlook) (f : Inflow) (g : List Tree) → Agrees o f.list f.end → length made ≤ length f.list → IsPrefix g (sent_to i made f.list)
+    ensures dealt { (i : ℕ) (made rest : List ℕ) (o : Outlook) (f : Inflow) (g : List Tree) → Agrees o f.list f.end → length made ≤ length f.list
+        → IsPrefix g (sent_to i made f.list)
         → Agrees (balance_outlook (made ++ rest) o i) g unended }
     ensures valve { (node : ℕ) (o : Outlook) (f : Inflow) (g : List Tree) → Agrees o f.list f.end → (made rest : List ℕ) (e : End)
         → ((made ≡ []) × HeldTo (acted rest) g e) ⊎ (rest ≡ []) → ValveStands node (acted made) f g e → Agrees (valve_outlook node (made ++ rest) o) g e }
-    ensures buffer { (node : ℕ) (p : Policy) (n : ℕ) (made rest : List ℕ) (o : Outlook) (f : Inflow) (g : List Tree) (e : End) → buffer_fits p n (made ++ rest) o ≡ true → o.fails ≡ [] → (buffer_outlook node p n (made ++ rest) o).fails ≡ []
+    ensures buffer { (node : ℕ) (p : Policy) (n : ℕ) (made rest : List ℕ) (o : Outlook) (f : Inflow) (g : List Tree) (e : End)
+        → buffer_fits p n (made ++ rest) o ≡ true → o.fails ≡ [] → (buffer_outlook node p n (made ++ rest) o).fails ≡ []
         → Agrees o f.list f.end → BufferStands node p n made f g e → Agrees (buffer_outlook node p n (made ++ rest) o) g e }
-    ensures substreams { (yields : List Tree → End → Given Tree) (node : ℕ) (o : Opening) (made rest : List ℕ) (i : Outlook) (l : List Tree) (e : End) (g : List Tree) (f : End) → subs_fit yields node o (made ++ rest) i ≡ true
-        → (merge_subs yields node o (made ++ rest) i).fails ≡ [] → Agrees i l e → MergedStands yields node o made l e g f → Agrees (merge_subs yields node o (made ++ rest) i) g f }
+    ensures substreams { (yields : List Tree → End → Given Tree) (node : ℕ) (o : Opening) (made rest : List ℕ) (i : Outlook) (l : List Tree) (e : End)
+        (g : List Tree) (f : End) → subs_fit yields node o (made ++ rest) i ≡ true
+        → (merge_subs yields node o (made ++ rest) i).fails ≡ [] → Agrees i l e → MergedStands yields node o made l e g f
+        → Agrees (merge_subs yields node o (made ++ rest) i) g f }
 {}
 
 /// Where no read of an input file failed, what may pass each wire, and what a sink may take, is of the files' bytes alone, whatever was read
 /// of them.
 pub fn outlooks_are_of_bytes()
     ensures wires { (g : Graph) (w : World) (file : List ℕ → File) → AlikeSources g file w.file → (i : ℕ) → composed g (with_files file w) i ≡ composed g w i }
-    ensures sinks { (g : Graph) (w : World) (file : List ℕ → File) → AlikeSources g file w.file → (node : ℕ) (n : Node) → sink_outlook g (with_files file w) node n ≡ sink_outlook g w node n }
+    ensures sinks { (g : Graph) (w : World) (file : List ℕ → File) → AlikeSources g file w.file → (node : ℕ) (n : Node)
+        → sink_outlook g (with_files file w) node n ≡ sink_outlook g w node n }
 {}

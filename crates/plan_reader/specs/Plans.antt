@@ -40,7 +40,8 @@ pub record LineOf (c : Chooser) (cs : List Chooser) (mss : List (List ℕ)) (tex
 pub record Begins (choosers : List Chooser) (text : List ℕ) (plans : List (List ℕ)) (behind : List ℕ) : Type 0 where
   pub few : length plans ≤ length choosers
   pub is : text ≡ trace_text (map (λ c. c.name) (take (length plans) choosers)) plans ++ behind
-  pub good : (i : ℕ) (c : Chooser) (ms : List ℕ) → slice_get choosers i ≡ Some c → slice_get plans i ≡ Some ms → AllSmall ms × (fits_shape c.shape (take i choosers) (take i plans) ms ≡ true)
+  pub good : (i : ℕ) (c : Chooser) (ms : List ℕ) → slice_get choosers i ≡ Some c → slice_get plans i ≡ Some ms
+      → AllSmall ms × (fits_shape c.shape (take i choosers) (take i plans) ms ≡ true)
 
 -- the text says these moves: a line for each stage, and no more
 pub record SaysPlans (choosers : List Chooser) (text : List ℕ) (plans : List (List ℕ)) : Type 0 where

@@ -129,7 +129,8 @@ pub record WiresCarry (book : Book) (b : Blueprint) (stands : List SinkStand) (w
       → slice_get b.nodes.items s.0 ≡ Some n → n.kind ≡ ToLines file
       → slice_get (blueprint_wires b) i ≡ Some v → v.to ≡ s.0 → slice_get wires i ≡ Some c → AskedBy s.2 v.lane s.1 c
   pub sink_took : (k : ℕ) (s : SinkStand) (n : Node) (file : List ℕ) (i : ℕ) (v : Edge) → slice_get stands k ≡ Some s → slice_get b.nodes.items s.0 ≡ Some n
-      → output_of n.kind ≡ Some file → slice_get (blueprint_wires b) i ≡ Some v → v.to ≡ s.0 → SinkTook (lane_loss v.keep v.lane) v.lane (lists i) (ends i) n.kind s
+      → output_of n.kind ≡ Some file → slice_get (blueprint_wires b) i ≡ Some v → v.to ≡ s.0
+      → SinkTook (lane_loss v.keep v.lane) v.lane (lists i) (ends i) n.kind s
   pub ignorer_took : (k : ℕ) (s : SinkStand) (n : Node) (i : ℕ) (v : Edge) → slice_get stands k ≡ Some s → slice_get b.nodes.items s.0 ≡ Some n
       → n.kind ≡ Ignore → slice_get (blueprint_wires b) i ≡ Some v → v.to ≡ s.0 → IgnorerTook (lane_loss v.keep v.lane) (lists i) (ends i) s
 
@@ -155,7 +156,8 @@ MisfitByPassed {book} {b} {stands} {wires} {picks} c plans k n = (w : World) →
 -- The picture of a run by what passed its wires, whatever the folder tells of its files. By every world that has the plugs of the run
 -- and what its stages chose it is lawful, and where no event was left it rests, but for the stages that cannot make their next move; then a sink's input is shut exactly where the sink has
 -- ended.
-pub record PictureStands (book : Book) (b : Blueprint) (plans : List (Option (List ℕ))) (sinks : List SinkStand) (picks : List Pick) (wires : List WireCount) (at_rest : Bool) : Type 0 where
+pub record PictureStands (book : Book) (b : Blueprint) (plans : List (Option (List ℕ))) (sinks : List SinkStand) (picks : List Pick)
+    (wires : List WireCount) (at_rest : Bool) : Type 0 where
   pub carries : WiresCarry book b sinks wires picks
   pub lawful : (w : World) → w.book ≡ book → HasPicks picks w → IsLawfulBy (graph_of b) w (plan_at plans) wires (as_passed carries)
   pub rest : IsTrue at_rest → (w : World) → w.book ≡ book → HasPicks picks w → RestsBy (graph_of b) w (plan_at plans) wires (as_passed carries)

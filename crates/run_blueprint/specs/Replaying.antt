@@ -19,7 +19,8 @@ HasMade picks k moves = (i : ℕ) × (slice_get picks i ≡ Some (k, moves))
 
 -- A stage that follows moves made the first of them; a valve and a recover made all of them or none.
 abbrev pub MakesItsMoves : Blueprint → List (Option (List ℕ)) → List Pick → Type 0
-MakesItsMoves b plans picks = (k : ℕ) (n : Node) (plan moves : List ℕ) → slice_get b.nodes.items k ≡ Some n → plan_at plans k ≡ Some plan → HasMade picks k moves
+MakesItsMoves b plans picks = (k : ℕ) (n : Node) (plan moves : List ℕ) → slice_get b.nodes.items k ≡ Some n → plan_at plans k ≡ Some plan
+    → HasMade picks k moves
     → IsPrefix moves plan × (IsAtOnce n.kind → (moves ≡ []) ⊎ (moves ≡ plan))
 
 -- The world has the plugs as this book lists them, each input file as it was read, of each stage that follows moves all of those, and of each

@@ -81,7 +81,8 @@ pub record ServesAll (book : Book) (new : FolderState) (b : Blueprint) (picks : 
 -- these moves, which fit what may come in on their inputs. There is a world that has the input files as they were read, and these
 -- moves.
 -- Choice: docs/DECISIONS.md#polytrees-never-stall
-pub record LeavesFiles (book : Book) (old new : FolderState) (b : Blueprint) (plans : List (Option (List ℕ))) (trace : Option (List ℕ)) (sinks : List SinkStand) (picks : List Pick)
+pub record LeavesFiles (book : Book) (old new : FolderState) (b : Blueprint) (plans : List (Option (List ℕ))) (trace : Option (List ℕ))
+    (sinks : List SinkStand) (picks : List Pick)
     (wires : List WireCount) (at_rest : Bool) : Type 0 where
   pub drawn : Drawn
   pub chose : drawn.picks ≡ picks
@@ -132,7 +133,8 @@ pub record SomeWriteRose (old new : FolderState) (b : Blueprint) : Type 0 where
 -- stage whose kind chooses, in order of nodes, and no other; the trace's file, where one is wanted, holds the text of these moves, or
 -- a first part where a write to it failed. Whatever the folder tells, the units are within the budget and pay for what passed, the picture
 -- stands by what passed, and where no event was left every sink of a polytree has ended.
-pub record Runs (book : Book) (old new : FolderState) (b : Blueprint) (plans : List (Option (List ℕ))) (trace : Option (List ℕ)) (budget : ℕ) (ran : RunResult) : Type 0 where
+pub record Runs (book : Book) (old new : FolderState) (b : Blueprint) (plans : List (Option (List ℕ))) (trace : Option (List ℕ)) (budget : ℕ)
+    (ran : RunResult) : Type 0 where
   pub sinks_are : map (λ (s : SinkStand). s.0) ran.sinks.items ≡ sink_places 0 b.nodes.items
   pub picks_are : picked (map pick_of ran.picks.items) ≡ pick_places 0 b.nodes.items
   pub told : IsTrue new.tells → IsTrue old.tells

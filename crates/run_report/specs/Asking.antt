@@ -76,7 +76,8 @@ is_other (Some path) word = not (bytes_eq word path)
 -- workers is given.
 abbrev pub replay_of : Option (Option (List ℕ)) → Option (Option (List ℕ)) → Option (Option (List ℕ)) → List ℕ → Option (List ℕ) → Option (Option (List ℕ))
 replay_of (Some None) number crew other path = Some None
-replay_of (Some (Some word)) (Some None) (Some None) other path = if is_file_name word && not (bytes_eq word other) && is_other path word then Some (Some word) else None
+replay_of (Some (Some word)) (Some None) (Some None) other path = if is_file_name word && not (bytes_eq word other) && is_other path word then Some
+    (Some word) else None
 replay_of _ _ _ _ _ = None
 
 -- what the parts ask for, where each option is given once at most and each value is within its limits

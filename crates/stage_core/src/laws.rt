@@ -98,7 +98,8 @@ pub fn zips_keep_the_law()
 /// is what it gave, and what the further moves give of what waits with the rest. A stage that gathers owes at a failure of an input what
 /// a merge owes at its end, and then stands as a merge whose inputs that failed have ended.
 pub fn merges_keep_the_law()
-    ensures new { (gathers : Bool) (v : View) → AllIdle v.ins → GaveAs (out_at v 0) unended → MergeLaw gathers (merge.waits [] (untouched (length v.ins))) v (λ _. []) [] }
+    ensures new { (gathers : Bool) (v : View) → AllIdle v.ins → GaveAs (out_at v 0) unended
+        → MergeLaw gathers (merge.waits [] (untouched (length v.ins))) v (λ _. []) [] }
     ensures call { (gathers : Bool) (call : Call) (old new : MergeHeld) (v : View) (took : ℕ → List Item) (gave : List Item) (acts : List Act)
         → CallAllowed call v → ActsAllowed (seen call v) acts → MergeTurnAt (call_by gathers call) old (given_on 0 acts) new → MergeLaw gathers old v took gave
         → MergeLaw gathers new (acted_all (seen call v) acts) (λ i. took i ++ brought_to i call) (gave ++ given_on 0 acts) }

@@ -223,20 +223,26 @@ cancel_by (failed c) = []
 
 -- an element that waits is taken in where that may be, and may find no room; or nothing is done
 pub data TakesIn (old new : Dropping) (before acts : List Act) : Type 0 where
-  takes : (t : Tree) (items : List Tree) → old.phase ≡ Open → old.waiting ≡ Some t → may_take (next_move old.log.left) ≡ true → comes old.policy old.size old.held t ≡ Some items → length items ≤ old.size → new ≡ took items old → acts ≡ before → TakesIn old new before acts
-  overflows : (t : Tree) → old.phase ≡ Open → old.waiting ≡ Some t → may_take (next_move old.log.left) ≡ true → comes old.policy old.size old.held t ≡ None → new ≡ overflown old
+  takes : (t : Tree) (items : List Tree) → old.phase ≡ Open → old.waiting ≡ Some t → may_take (next_move old.log.left) ≡ true
+      → comes old.policy old.size old.held t ≡ Some items → length items ≤ old.size → new ≡ took items old → acts ≡ before → TakesIn old new before acts
+  overflows : (t : Tree) → old.phase ≡ Open → old.waiting ≡ Some t → may_take (next_move old.log.left) ≡ true → comes old.policy old.size old.held t ≡ None
+      → new ≡ overflown old
       → acts ≡ before ++ FailOut 0 (overflow_of old.node (old.came + 1)) ∷ cancel_by old.after → TakesIn old new before acts
   leaves : (old.phase ≡ Open → may_take (next_move old.log.left) ≡ true → old.waiting ≡ None) → new ≡ old → acts ≡ before → TakesIn old new before acts
 
 -- the first that is held is given, where that may be and it is asked; or nothing is done
 pub data Giving (old new : Dropping) (before acts : List Act) : Type 0 where
-  gives : (t : Tree) (items : List Tree) → old.phase ≡ Open → old.asked ≡ true → may_give (next_move old.log.left) ≡ true → old.held ≡ t ∷ items → new ≡ gave_one items old → acts ≡ before ++ Push 0 t ∷ [] → Giving old new before acts
-  keeps : (old.phase ≡ Open → old.asked ≡ true → may_give (next_move old.log.left) ≡ true → old.held ≡ []) → new ≡ old → acts ≡ before → Giving old new before acts
+  gives : (t : Tree) (items : List Tree) → old.phase ≡ Open → old.asked ≡ true → may_give (next_move old.log.left) ≡ true → old.held ≡ t ∷ items
+      → new ≡ gave_one items old → acts ≡ before ++ Push 0 t ∷ [] → Giving old new before acts
+  keeps : (old.phase ≡ Open → old.asked ≡ true → may_give (next_move old.log.left) ≡ true → old.held ≡ []) → new ≡ old → acts ≡ before
+      → Giving old new before acts
 
 -- what waits is taken in first, and then one is given; or one is given first, where nothing may be taken in before
 pub data Serving (old new : Dropping) (acts : List Act) : Type 0 where
-  take_first : (mid : Dropping) (between : List Act) → TakesIn old mid [] between → Giving mid new between acts → (mid.phase ≡ Open → mid.waiting ≡ None) → Serving old new acts
-  give_first : (mid : Dropping) (between : List Act) → (old.phase ≡ Open → may_take (next_move old.log.left) ≡ true → old.waiting ≡ None) → Giving old mid [] between → TakesIn mid new between acts → Serving old new acts
+  take_first : (mid : Dropping) (between : List Act) → TakesIn old mid [] between → Giving mid new between acts → (mid.phase ≡ Open → mid.waiting ≡ None)
+      → Serving old new acts
+  give_first : (mid : Dropping) (between : List Act) → (old.phase ≡ Open → may_take (next_move old.log.left) ≡ true → old.waiting ≡ None)
+      → Giving old mid [] between → TakesIn mid new between acts → Serving old new acts
 
 -- its input is to be asked: nothing waits, it goes on, and was not asked yet
 abbrev pub wants_input : Option Tree → End → Bool → Bool
@@ -260,12 +266,17 @@ stuck_now l = record l { log = record l.log { stuck = true } }
 -- the end of a call: what is over closes the output; else the input is asked, and where the next move cannot be made it stops
 pub data Settling (old new : Dropping) (before acts : List Act) : Type 0 where
   closed : (old.phase ≡ Open → ⊥) → new ≡ old → acts ≡ before → Settling old new before acts
-  fails : (c : Cause) → old.phase ≡ Open → old.waiting ≡ None → old.after ≡ failed c → new ≡ record old { phase = Closed } → acts ≡ before ++ FailOut 0 c ∷ [] → Settling old new before acts
-  completes : old.phase ≡ Open → old.waiting ≡ None → old.after ≡ ended → old.held ≡ [] → may_end (next_move old.log.left) ≡ true → new ≡ record old { phase = Closed } → acts ≡ before ++ Complete 0 ∷ [] → Settling old new before acts
-  stops : (b : Bool) → old.phase ≡ Open → b ≡ wants_input old.waiting old.after old.pulled → lost (next_move old.log.left) old.waiting old.after old.asked old.held ≡ true
+  fails : (c : Cause) → old.phase ≡ Open → old.waiting ≡ None → old.after ≡ failed c → new ≡ record old { phase = Closed }
+      → acts ≡ before ++ FailOut 0 c ∷ [] → Settling old new before acts
+  completes : old.phase ≡ Open → old.waiting ≡ None → old.after ≡ ended → old.held ≡ [] → may_end (next_move old.log.left) ≡ true
+      → new ≡ record old { phase = Closed } → acts ≡ before ++ Complete 0 ∷ [] → Settling old new before acts
+  stops : (b : Bool) → old.phase ≡ Open → b ≡ wants_input old.waiting old.after old.pulled
+      → lost (next_move old.log.left) old.waiting old.after old.asked old.held ≡ true
       → new ≡ stuck_now (pulled_on b old) → acts ≡ before ++ asks_by b → Settling old new before acts
-  rests : (b : Bool) → old.phase ≡ Open → b ≡ wants_input old.waiting old.after old.pulled → lost (next_move old.log.left) old.waiting old.after old.asked old.held ≡ false
-      → (old.waiting ≡ None → old.after ≢ unended → (old.after ≡ ended) × (old.held ≡ [] → may_end (next_move old.log.left) ≡ false)) → new ≡ pulled_on b old → acts ≡ before ++ asks_by b → Settling old new before acts
+  rests : (b : Bool) → old.phase ≡ Open → b ≡ wants_input old.waiting old.after old.pulled
+      → lost (next_move old.log.left) old.waiting old.after old.asked old.held ≡ false
+      → (old.waiting ≡ None → old.after ≢ unended → (old.after ≡ ended) × (old.held ≡ [] → may_end (next_move old.log.left) ≡ false))
+      → new ≡ pulled_on b old → acts ≡ before ++ asks_by b → Settling old new before acts
 
 -- a call's elements, and then its end
 pub record Answered (old new : Dropping) (acts : List Act) : Type 0 where
@@ -281,8 +292,10 @@ Took false old t new = (comes old.policy old.size old.held t ≡ None) × (new �
 
 -- an element was taken in or found no room, and that was noted
 pub data DropNoted (t : Tree) (old new : Dropping) (before acts : List Act) : Type 0 where
-  fit : (items : List Tree) → comes old.policy old.size old.held t ≡ Some items → length items ≤ old.size → new ≡ record old { held = items; came = old.came + 1; log = logged 0 old.log } → acts ≡ before → DropNoted t old new before acts
-  unfit : comes old.policy old.size old.held t ≡ None → new ≡ record old { phase = Closed; came = old.came + 1; log = logged 0 old.log } → acts ≡ before ++ FailOut 0 (overflow_of old.node (old.came + 1)) ∷ cancel_by old.after → DropNoted t old new before acts
+  fit : (items : List Tree) → comes old.policy old.size old.held t ≡ Some items → length items ≤ old.size
+      → new ≡ record old { held = items; came = old.came + 1; log = logged 0 old.log } → acts ≡ before → DropNoted t old new before acts
+  unfit : comes old.policy old.size old.held t ≡ None → new ≡ record old { phase = Closed; came = old.came + 1; log = logged 0 old.log }
+      → acts ≡ before ++ FailOut 0 (overflow_of old.node (old.came + 1)) ∷ cancel_by old.after → DropNoted t old new before acts
 
 -- how its output is to be closed
 abbrev pub IsOver : Dropping → Over → Type 0

@@ -44,7 +44,8 @@ pub data DropHeld : Type 0 where
   shut : List ℕ → DropHeld
 
 -- further moves take in a first part of what waits, and give this
-pub record BufferStep (p : Policy) (n came : ℕ) (moves : List ℕ) (held : List Tree) (w : Inflow) (given : List Tree) (then : ℕ) (now : List ℕ) (items : List Tree) (us : Inflow) : Type 0 where
+pub record BufferStep (p : Policy) (n came : ℕ) (moves : List ℕ) (held : List Tree) (w : Inflow) (given : List Tree) (then : ℕ) (now : List ℕ)
+    (items : List Tree) (us : Inflow) : Type 0 where
   pub more : List ℕ
   pub taken : List Tree
   pub parts : w.list ≡ taken ++ us.list
@@ -56,13 +57,17 @@ pub record BufferStep (p : Policy) (n came : ℕ) (moves : List ℕ) (held : Lis
 -- How it closes its output, with nothing left that waits: its input has ended and nothing is held; or its input failed, and what is
 -- held is dropped. Or an element finds no room where that is a failure.
 pub data DropClose (node : ℕ) (p : Policy) (n came : ℕ) (moves : List ℕ) (held : List Tree) (w : Inflow) (out : List Item) (now : List ℕ) : Type 0 where
-  completes : (given : List Tree) (then : ℕ) (us : Inflow) → BufferStep p n came moves held w given then now [] us → us.list ≡ [] → w.end ≡ ended → out ≡ told given ended → DropClose node p n came moves held w out now
-  fails : (given : List Tree) (then : ℕ) (items : List Tree) (us : Inflow) (x : Cause) → BufferStep p n came moves held w given then now items us → us.list ≡ [] → w.end ≡ failed x → out ≡ told given (failed x) → DropClose node p n came moves held w out now
-  overflows : (given : List Tree) (then : ℕ) (before : List ℕ) (items : List Tree) (us : Inflow) (t : Tree) (rest : List Tree) → BufferStep p n came moves held w given then before items us → us.list ≡ t ∷ rest → comes p n items t ≡ None → now ≡ before ++ 0 ∷ []
+  completes : (given : List Tree) (then : ℕ) (us : Inflow) → BufferStep p n came moves held w given then now [] us → us.list ≡ [] → w.end ≡ ended
+      → out ≡ told given ended → DropClose node p n came moves held w out now
+  fails : (given : List Tree) (then : ℕ) (items : List Tree) (us : Inflow) (x : Cause) → BufferStep p n came moves held w given then now items us
+      → us.list ≡ [] → w.end ≡ failed x → out ≡ told given (failed x) → DropClose node p n came moves held w out now
+  overflows : (given : List Tree) (then : ℕ) (before : List ℕ) (items : List Tree) (us : Inflow) (t : Tree) (rest : List Tree)
+      → BufferStep p n came moves held w given then before items us → us.list ≡ t ∷ rest → comes p n items t ≡ None → now ≡ before ++ 0 ∷ []
       → out ≡ told given (failed (overflow_of node (then + 1))) → DropClose node p n came moves held w out now
 
 -- it goes on
-pub record Goes (p : Policy) (n came : ℕ) (moves : List ℕ) (held : List Tree) (w : Inflow) (out : List Item) (then : ℕ) (now : List ℕ) (items : List Tree) (us : Inflow) : Type 0 where
+pub record Goes (p : Policy) (n came : ℕ) (moves : List ℕ) (held : List Tree) (w : Inflow) (out : List Item) (then : ℕ) (now : List ℕ) (items : List Tree)
+    (us : Inflow) : Type 0 where
   pub given : List Tree
   pub step : BufferStep p n came moves held w given then now items us
   pub out_is : out ≡ told given unended

@@ -650,8 +650,10 @@ impl Dropping {
     fn go_on(&mut self, acts: &mut Acts)
         requires room { length acts.old.items < acts.old.room }
         ensures acts { acts.new.items ≡ acts.old.items ++ asks_by (wants_input self.old.waiting self.old.after self.old.pulled) }
-        ensures halts { lost (next_move self.old.log.left) self.old.waiting self.old.after self.old.asked self.old.held ≡ true → self.new ≡ stuck_now (pulled_on (wants_input self.old.waiting self.old.after self.old.pulled) self.old) }
-        ensures goes { lost (next_move self.old.log.left) self.old.waiting self.old.after self.old.asked self.old.held ≡ false → self.new ≡ pulled_on (wants_input self.old.waiting self.old.after self.old.pulled) self.old }
+        ensures halts { lost (next_move self.old.log.left) self.old.waiting self.old.after self.old.asked self.old.held ≡ true
+            → self.new ≡ stuck_now (pulled_on (wants_input self.old.waiting self.old.after self.old.pulled) self.old) }
+        ensures goes { lost (next_move self.old.log.left) self.old.waiting self.old.after self.old.asked self.old.held ≡ false
+            → self.new ≡ pulled_on (wants_input self.old.waiting self.old.after self.old.pulled) self.old }
         ensures room { acts.new.room ≡ acts.old.room }
     {
         if self.wants() {

@@ -28,7 +28,8 @@ pub fn a_new_buffer_may_start()
 /// do: it waits for its input, and holds nothing where its output is asked; or its input is over and nobody asks it. Where it follows moves
 /// it waits for what the next one wants, or made them all.
 pub fn a_started_buffer_rests()
-    ensures { (first now : Dropping) (v : View) (took gave : List (List Item)) → now.log.stuck ≡ false → DropPortState now v → (law : DropsAs first now v took gave)
+    ensures { (first now : Dropping) (v : View) (took gave : List (List Item)) → now.log.stuck ≡ false → DropPortState now v
+        → (law : DropsAs first now v took gave)
         → DropRests (next_move now.log.left) first.policy first.size now.log.moves v law.by.law.ins law.by.law.out_list }
 {}
 
@@ -73,7 +74,8 @@ pub fn a_buffer_agrees_with_its_outlook()
 
 /// A misfit has its cause, over the outlook of its input: that ends, and its moves took all its elements in; or they leave nothing held.
 pub fn a_misfit_has_its_cause()
-    ensures { (is : List Outlook) (first now : Dropping) (v : View) (took gave : List (List Item)) → now.log.stuck ≡ true → (law : DropsAs first now v took gave) → AllAgree is law.by.law.ins
+    ensures { (is : List Outlook) (first now : Dropping) (v : View) (took gave : List (List Item)) → now.log.stuck ≡ true
+        → (law : DropsAs first now v took gave) → AllAgree is law.by.law.ins
         → (o : Outlook) × ((is ≡ o ∷ []) × DropMisfits first.policy first.size (next_move now.log.left) now.log.moves o) }
 {}
 

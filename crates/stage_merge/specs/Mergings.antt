@@ -275,7 +275,8 @@ pub record Does (new : Merging) (acts : List Act) (to : Merging) (list : List Ac
 
 -- it ends where every input has ended, nothing waits and no move is to be made
 pub data EndsIfDone (before : List Act) (old new : Merging) (acts : List Act) : Type 0 where
-  done : old.core.left ≡ 0 → old.core.queue ≡ [] → may_end (next_move old.log.left) ≡ true → new ≡ record old { core = record old.core { phase = Closed } } → acts ≡ before ++ Complete 0 ∷ [] → EndsIfDone before old new acts
+  done : old.core.left ≡ 0 → old.core.queue ≡ [] → may_end (next_move old.log.left) ≡ true → new ≡ record old { core = record old.core { phase = Closed } }
+      → acts ≡ before ++ Complete 0 ∷ [] → EndsIfDone before old new acts
   opens : 1 ≤ old.core.left → new ≡ old → acts ≡ before → EndsIfDone before old new acts
   more : old.core.queue ≢ [] → new ≡ old → acts ≡ before → EndsIfDone before old new acts
   awaits : may_end (next_move old.log.left) ≡ false → new ≡ old → acts ≡ before → EndsIfDone before old new acts
@@ -295,9 +296,12 @@ stuck_now l = record l { log = record l.log { stuck = true } }
 
 -- the output is asked: what is chosen goes out, or nothing does, or what is to be given next will never come
 pub data AskServed (old new : Merging) (acts : List Act) : Type 0 where
-  gives : (x : Queued) (q : List Queued) → goes_next (next_move old.log.left) old.core.queue ≡ Some (x, q) → HandedOn x.port x.item (record old { core = record old.core { queue = q; asked = false } }) new acts → AskServed old new acts
-  keeps : goes_next (next_move old.log.left) old.core.queue ≡ None → lost (next_move old.log.left) old.core.over ≡ false → new ≡ old → acts ≡ [] → AskServed old new acts
-  halts : goes_next (next_move old.log.left) old.core.queue ≡ None → lost (next_move old.log.left) old.core.over ≡ true → new ≡ stuck_now old → acts ≡ [] → AskServed old new acts
+  gives : (x : Queued) (q : List Queued) → goes_next (next_move old.log.left) old.core.queue ≡ Some (x, q)
+      → HandedOn x.port x.item (record old { core = record old.core { queue = q; asked = false } }) new acts → AskServed old new acts
+  keeps : goes_next (next_move old.log.left) old.core.queue ≡ None → lost (next_move old.log.left) old.core.over ≡ false → new ≡ old → acts ≡ []
+      → AskServed old new acts
+  halts : goes_next (next_move old.log.left) old.core.queue ≡ None → lost (next_move old.log.left) old.core.over ≡ true → new ≡ stuck_now old → acts ≡ []
+      → AskServed old new acts
 
 -- with the output asked
 abbrev pub wanted : Merging → Merging
@@ -309,7 +313,8 @@ stored i e l = record l { core = record l.core { queue = l.core.queue ++ record 
 
 -- an element came: it goes out at once where the output is asked and it is the one that is to go out next, and else it waits
 pub data Took (i : ℕ) (e : Tree) (old new : Merging) (acts : List Act) : Type 0 where
-  passed : old.core.asked ≡ true → passes_at_once (next_move old.log.left) i ≡ true → HandedOn i e (record old { core = record old.core { asked = false } }) new acts
+  passed : old.core.asked ≡ true → passes_at_once (next_move old.log.left) i ≡ true
+      → HandedOn i e (record old { core = record old.core { asked = false } }) new acts
       → Took i e old new acts
   early : old.core.asked ≡ true → passes_at_once (next_move old.log.left) i ≡ false → new ≡ stored i e old → acts ≡ [] → Took i e old new acts
   waited : old.core.asked ≡ false → new ≡ stored i e old → acts ≡ [] → Took i e old new acts
@@ -320,14 +325,17 @@ without i l = record l { core = record l.core { over = slice_set l.core.over i t
 
 -- input i has ended
 pub data Ended (i : ℕ) (old new : Merging) (acts : List Act) : Type 0 where
-  ends : (old.core.asked ≡ true → lost (next_move old.log.left) (slice_set old.core.over i true) ≡ false) → EndsIfDone [] (without i old) new acts → Ended i old new acts
-  lacks : old.core.asked ≡ true → lost (next_move old.log.left) (slice_set old.core.over i true) ≡ true → new ≡ stuck_now (without i old) → acts ≡ [] → Ended i old new acts
+  ends : (old.core.asked ≡ true → lost (next_move old.log.left) (slice_set old.core.over i true) ≡ false) → EndsIfDone [] (without i old) new acts
+      → Ended i old new acts
+  lacks : old.core.asked ≡ true → lost (next_move old.log.left) (slice_set old.core.over i true) ≡ true → new ≡ stuck_now (without i old) → acts ≡ []
+      → Ended i old new acts
 
 -- input i failed with c: one that gathers goes on without it, and else the output fails and the other inputs are cancelled
 pub data InputLost (i : ℕ) (c : Cause) (old new : Merging) (acts : List Act) : Type 0 where
   taken_off : old.gathers ≡ true → Ended i old new acts → InputLost i c old new acts
   gives_up : old.gathers ≡ false
-      → Does new acts (record old { core = record old.core { over = slice_set old.core.over i true; phase = Closed } }) (FailOut 0 c ∷ open_cancels 0 (slice_set old.core.over i true))
+      → Does new acts (record old { core = record old.core { over = slice_set old.core.over i true; phase = Closed } })
+      (FailOut 0 c ∷ open_cancels 0 (slice_set old.core.over i true))
       → InputLost i c old new acts
 
 -- ---- the order

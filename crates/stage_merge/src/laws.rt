@@ -30,7 +30,8 @@ pub fn a_new_merge_may_start()
 /// Where its port state and its law hold, a merge that was started and has found no misfit has closed all its ports, or has nothing
 /// to do: it meets the row of its kind, or where it follows moves the row of a replay.
 pub fn a_started_merge_rests()
-    ensures { (first now : Merging) (v : View) (took gave : List (List Item)) → now.log.stuck ≡ false → MergePortState now v → (law : MergesAs first now v took gave) → FanRests (MergeRestsBy (next_move now.log.left) now.log.moves) v law.by.law.ins law.by.law.out_list }
+    ensures { (first now : Merging) (v : View) (took gave : List (List Item)) → now.log.stuck ≡ false → MergePortState now v
+        → (law : MergesAs first now v took gave) → FanRests (MergeRestsBy (next_move now.log.left) now.log.moves) v law.by.law.ins law.by.law.out_list }
 {}
 
 /// Where the port rules allow a call of a handler and the port state holds, a merge that was started is open, and the room that the
@@ -60,7 +61,8 @@ pub fn a_merge_agrees_with_its_outlook()
         → first.gathers ≡ false
         → (law : MergesAs first now v took gave) → AllAgree is law.by.law.ins → Agrees
         (node_outlook g w node (Merge inputs) d is 0) law.by.law.out_list law.by.law.out_end }
-    ensures hub_agrees { (g : Graph) (w : World) (node size producers : ℕ) (d : Decider) (is : List Outlook) (first now : Merging) (v : View) (took gave : List (List Item))
+    ensures hub_agrees { (g : Graph) (w : World) (node size producers : ℕ) (d : Decider) (is : List Outlook) (first now : Merging) (v : View)
+        (took gave : List (List Item))
         → w.moves node ≡ now.log.moves
         → first.gathers ≡ true
         → (law : MergesAs first now v took gave) → AllAgree is law.by.law.ins → Agrees
@@ -70,7 +72,8 @@ pub fn a_merge_agrees_with_its_outlook()
 /// A misfit has its cause, over the outlooks of the inputs: the input of the next move ends, or where the merge gathers may fail, and all
 /// its elements were given.
 pub fn a_misfit_has_its_cause()
-    ensures { (is : List Outlook) (first now : Merging) (v : View) (took gave : List (List Item)) → now.log.stuck ≡ true → (law : MergesAs first now v took gave) → AllAgree is law.by.law.ins → MergeMisfits first.gathers (next_move now.log.left) now.log.moves is }
+    ensures { (is : List Outlook) (first now : Merging) (v : View) (took gave : List (List Item)) → now.log.stuck ≡ true
+        → (law : MergesAs first now v took gave) → AllAgree is law.by.law.ins → MergeMisfits first.gathers (next_move now.log.left) now.log.moves is }
 {}
 
 /// What it follows is what it was handed in with, of which its moves are the first.

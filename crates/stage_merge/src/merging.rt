@@ -98,7 +98,8 @@ impl Merging {
     pub fn follow(&mut self, moves: Vec<u32>)
         requires new { (inputs : ℕ) × (gathers : Bool) × Begins inputs gathers self.old × NamesInputs inputs (Some moves.items) }
         requires few { length moves.items < 2 ^ 32 }
-        ensures begins { (inputs : ℕ) → (gathers : Bool) → Begins inputs gathers self.old → NamesInputs inputs (Some moves.items) → Begins inputs gathers self.new }
+        ensures begins { (inputs : ℕ) → (gathers : Bool) → Begins inputs gathers self.old → NamesInputs inputs (Some moves.items)
+            → Begins inputs gathers self.new }
         ensures plan { self.new.log.left ≡ Some moves.items }
     {
         self.log = PickLog::follow(moves);
@@ -272,7 +273,8 @@ impl Merging {
     // Choice: docs/DECISIONS.md#stopped-merge-waits
     // What is to go out next, which waits no more. Whether moves are followed or not, this is where it is chosen.
     fn choose(&mut self) -> Option<Queued>
-        ensures some { IfSome result (λ x. (goes_next (next_move self.old.log.left) self.old.core.queue ≡ Some (x, self.new.core.queue)) × (self.new ≡ record self.old { core = record self.old.core { queue = self.new.core.queue } })) }
+        ensures some { IfSome result (λ x. (goes_next (next_move self.old.log.left) self.old.core.queue ≡ Some (x, self.new.core.queue))
+            × (self.new ≡ record self.old { core = record self.old.core { queue = self.new.core.queue } })) }
         ensures none { IfNone result ((goes_next (next_move self.old.log.left) self.old.core.queue ≡ None) × (self.new ≡ self.old)) }
     {
         match self.log.next() {
@@ -284,7 +286,8 @@ impl Merging {
 
     // The first that waits of input m, which waits no more.
     fn take_of(&mut self, m: u32) -> Option<Queued>
-        ensures some { IfSome result (λ x. (first_queued m self.old.core.queue ≡ Some (x, self.new.core.queue)) × (self.new ≡ record self.old { core = record self.old.core { queue = self.new.core.queue } })) }
+        ensures some { IfSome result (λ x. (first_queued m self.old.core.queue ≡ Some (x, self.new.core.queue))
+            × (self.new ≡ record self.old { core = record self.old.core { queue = self.new.core.queue } })) }
         ensures none { IfNone result ((first_queued m self.old.core.queue ≡ None) × (self.new ≡ self.old)) }
     {
         match first_at(&self.queue, m) {
@@ -448,7 +451,9 @@ impl Merging {
         requires there { port < length self.old.core.over }
         requires empty { acts.old.items ≡ [] }
         requires room { length self.old.core.over < acts.old.room }
-        ensures does { Does self.new acts.new.items (record self.old { core = record self.old.core { over = slice_set self.old.core.over port true; phase = Closed } }) (act.FailOut 0 cause ∷ open_cancels 0 (slice_set self.old.core.over port true)) }
+        ensures does { Does self.new acts.new.items
+            (record self.old { core = record self.old.core { over = slice_set self.old.core.over port true; phase = Closed } })
+            (act.FailOut 0 cause ∷ open_cancels 0 (slice_set self.old.core.over port true)) }
         ensures room { acts.new.room ≡ acts.old.room }
     {
         self.over[port as usize] = true;

@@ -19,7 +19,8 @@ pub data BalanceHeld : Type 0 where
 
 -- what a call pushes at each output: these further moves give it of l, and `left` is left. No output that might lack elements gets any,
 -- and one that may lack none now might lack none before.
-pub record GivesByMoves (moves : List ℕ) (was : ℕ → Bool) (l : List Tree) (out : ℕ → List Item) (ends : ℕ → End) (now : List ℕ) (lacks : ℕ → Bool) (left : List Tree) : Type 0 where
+pub record GivesByMoves (moves : List ℕ) (was : ℕ → Bool) (l : List Tree) (out : ℕ → List Item) (ends : ℕ → End) (now : List ℕ) (lacks : ℕ
+    → Bool) (left : List Tree) : Type 0 where
   pub more : List ℕ
   pub given : ℕ → List Tree
   pub now_is : now ≡ moves ++ more

@@ -247,7 +247,10 @@ given_out j l = record l { log = logged j l.log; core = record l.core { outs = s
 
 -- output j was served, and left the queue
 abbrev pub served : ℕ → Balancing → Balancing
-served j l = record l { log = logged j l.log; core = record l.core { outs = slice_set l.core.outs j Quiet; queue = queue_after (next_move l.log.left) j l.core.queue } }
+served j l = record l {
+  log = logged j l.log;
+  core = record l.core { outs = slice_set l.core.outs j Quiet; queue = queue_after (next_move l.log.left) j l.core.queue };
+}
 
 -- an element for output j was dropped
 abbrev pub passed_over : ℕ → Balancing → Balancing
@@ -287,7 +290,8 @@ pub data Settles (before : List Act) (old new : Balancing) (acts : List Act) : T
 
 -- an element is there, and nothing else waits: it goes out, is dropped, or waits
 pub data Deals (t : Tree) (old new : Balancing) (acts : List Act) : Type 0 where
-  sends : (j : ℕ) → choice_of (next_move old.log.left) old.core.outs old.core.queue ≡ Sends j → Settles (Push j t ∷ []) (served j old) new acts → Deals t old new acts
+  sends : (j : ℕ) → choice_of (next_move old.log.left) old.core.outs old.core.queue ≡ Sends j → Settles (Push j t ∷ []) (served j old) new acts
+      → Deals t old new acts
   drops : (j : ℕ) → choice_of (next_move old.log.left) old.core.outs old.core.queue ≡ Drops j → Settles [] (passed_over j old) new acts → Deals t old new acts
   stays : choice_of (next_move old.log.left) old.core.outs old.core.queue ≡ Stays → Does new acts (filled t old) [] → Deals t old new acts
 

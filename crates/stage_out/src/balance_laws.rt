@@ -27,10 +27,12 @@ ghost use Rattle.stage_out.specs.BalanceRows.{BalanceRestsOwn, BalanceMisfits};
 /// element that it lacks; and each output stands as is said, where an end is passed on only when nothing waits, and a failure when at most
 /// one element does.
 pub fn moves_give_for_every_rest()
-    ensures rest { (lacks : ℕ → Bool) (moves : List ℕ) (l w : List Tree) (g : ℕ → List Tree) → Dealt lacks moves l g w → (r : List Tree) (further : List ℕ) (j : ℕ)
+    ensures rest { (lacks : ℕ → Bool) (moves : List ℕ) (l w : List Tree) (g : ℕ → List Tree) → Dealt lacks moves l g w
+        → (r : List Tree) (further : List ℕ) (j : ℕ)
         → lacks j ≡ false → sent_to j (moves ++ further) (l ++ r) ≡ g j ++ sent_to j further (w ++ r) }
     ensures turn { (was lacks : ℕ → Bool) (moves more : List ℕ) → ((j : ℕ) → lacks j ≡ false → was j ≡ false) → (l w r u : List Tree) (g k : ℕ → List Tree)
-        → ((j : ℕ) → was j ≡ true → k j ≡ []) → Dealt was moves l g w → Dealt lacks more (w ++ r) k u → Dealt lacks (moves ++ more) (l ++ r) (λ j. g j ++ k j) u }
+        → ((j : ℕ) → was j ≡ true → k j ≡ []) → Dealt was moves l g w → Dealt lacks more (w ++ r) k u
+        → Dealt lacks (moves ++ more) (l ++ r) (λ j. g j ++ k j) u }
     ensures stands { (lacks : ℕ → Bool) (moves : List ℕ) (f : Inflow) (w : List Tree) (g : ℕ → List Tree) (j : ℕ) (e : End) → Dealt lacks moves f.list g w
         → (e ≢ unended → lacks j ≡ false) → (e ≡ ended → (f.end ≡ ended) × (w ≡ [])) → ((c : Cause) → e ≡ failed c → (f.end ≡ failed c) × (length w ≤ 1))
         → DealStands (lacks j) moves j f (g j) e }
@@ -44,7 +46,8 @@ pub fn a_new_balance_may_start()
 /// Where its port state and its law hold, a balance that has found no misfit has closed all its ports, or has nothing to do: it meets the
 /// row of its kind, or where it follows moves the row of a replay.
 pub fn a_started_balance_rests()
-    ensures { (first now : Balancing) (v : View) (took gave : List (List Item)) → now.log.stuck ≡ false → port_state now v → (law : BalancesAs first now v took gave)
+    ensures { (first now : Balancing) (v : View) (took gave : List (List Item)) → now.log.stuck ≡ false → port_state now v
+        → (law : BalancesAs first now v took gave)
         → BalanceRestsOwn (next_move now.log.left) v law.law.flow.list law.law.lists }
 {}
 
@@ -89,8 +92,10 @@ pub fn moves_begin_the_plan()
 /// One that was handed in free is free still: it follows nothing, and never stops. It gave each output all its elements; and what an output of
 /// any balance gave stands as is said of it.
 pub fn a_free_balance_stays_free()
-    ensures free { (first now : Balancing) (v : View) (took gave : List (List Item)) → first.log.left ≡ None → BalancesAs first now v took gave → IsFreeLog now.log }
-    ensures whole { (first now : Balancing) (v : View) (took gave : List (List Item)) → (law : BalancesAs first now v took gave) → first.log.left ≡ None → (j : ℕ)
+    ensures free { (first now : Balancing) (v : View) (took gave : List (List Item)) → first.log.left ≡ None → BalancesAs first now v took gave
+        → IsFreeLog now.log }
+    ensures whole { (first now : Balancing) (v : View) (took gave : List (List Item)) → (law : BalancesAs first now v took gave) → first.log.left ≡ None
+        → (j : ℕ)
         → BalanceStands now.log.moves j law.law.flow (law.law.lists j) (law.law.ends j) }
     ensures stands { (first now : Balancing) (v : View) (took gave : List (List Item)) → (law : BalancesAs first now v took gave) → (j : ℕ)
         → DealStands (lacks now.log.left now.core.outs j) now.log.moves j law.law.flow (law.law.lists j) (law.law.ends j) }

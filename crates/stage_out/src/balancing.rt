@@ -295,7 +295,8 @@ impl Balancing {
         requires named { NamesOutputs (length self.old.core.outs) self.old.log.left }
         requires few { length self.old.core.outs ≤ MAX_FAN }
         ensures choice { result ≡ choice_of (next_move self.old.log.left) self.old.core.outs self.old.core.queue }
-        ensures queue { self.new ≡ record self.old { core = record self.old.core { queue = queue_then result (next_move self.old.log.left) self.old.core.queue } } }
+        ensures queue { self.new
+            ≡ record self.old { core = record self.old.core { queue = queue_then result (next_move self.old.log.left) self.old.core.queue } } }
     {
         match self.log.next() {
             Next::Free => self.first(),
@@ -421,7 +422,8 @@ impl Balancing {
     fn end(&mut self, acts: &mut Acts)
         requires few { length self.old.core.outs ≤ MAX_FAN }
         requires room { length acts.old.items + length self.old.core.outs ≤ acts.old.room }
-        ensures completes { may_end (next_move self.old.log.left) ≡ true → Does self.new acts.new.items (closed self.old) (acts.old.items ++ at_open (λ k. act.Complete k) 0 self.old.core.outs) }
+        ensures completes { may_end (next_move self.old.log.left) ≡ true
+            → Does self.new acts.new.items (closed self.old) (acts.old.items ++ at_open (λ k. act.Complete k) 0 self.old.core.outs) }
         ensures halts { may_end (next_move self.old.log.left) ≡ false → Does self.new acts.new.items (stuck_now self.old) acts.old.items }
         ensures room { acts.new.room ≡ acts.old.room }
     {

@@ -127,14 +127,16 @@ BeginsAs _ node d _ = ⊥
 -- a new one may follow these moves: of a buffer that drops each is 0 or 1; a recover has at most one; a valve has none, or an order and a
 -- count
 abbrev pub StateMayFollow : List ℕ → StateLogic → Type 0
-StateMayFollow moves (Dropping l) = (node : ℕ) × (n : ℕ) × (p : Policy) × (p ≢ Backpressure) × (0 < n) × dropping.Begins node n p l × dropping.NamesMoves (Some moves)
+StateMayFollow moves (Dropping l) = (node : ℕ) × (n : ℕ) × (p : Policy) × (p ≢ Backpressure) × (0 < n) × dropping.Begins node n p l
+    × dropping.NamesMoves (Some moves)
 StateMayFollow moves (Recovering l) = ((own : Tree) × (l ≡ recover.begun own)) × (length moves ≤ 1)
 StateMayFollow moves (Obeying l) = (l ≡ new_valve_of l.node l.switch l.seat) × IsUnused l.switch l.seat × (length moves ≤ 2) × (moves ≡ moves_by (acted moves))
 StateMayFollow moves l = ⊥
 
 -- it is the same, but follows these moves
 abbrev pub StateFollows : List ℕ → StateLogic → StateLogic → Type 0
-StateFollows moves (Dropping l) (Dropping m) = ((node : ℕ) → (n : ℕ) → (p : Policy) → dropping.Begins node n p l → dropping.Begins node n p m) × (m.log.left ≡ Some moves)
+StateFollows moves (Dropping l) (Dropping m) = ((node : ℕ) → (n : ℕ) → (p : Policy) → dropping.Begins node n p l → dropping.Begins node n p m)
+    × (m.log.left ≡ Some moves)
 StateFollows moves (Recovering l) (Recovering m) = m ≡ recover.follows moves l
 StateFollows moves (Obeying l) (Obeying m) = m ≡ follows_order moves l
 StateFollows moves old new = ⊥

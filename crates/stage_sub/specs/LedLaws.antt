@@ -49,7 +49,8 @@ module _ (yields : List Tree → End → Given Tree) (o : Opening) (start : Run 
   -- THE CAUSE of a misfit, over what came: behind all elements all outputs of substream n were given while another's were not; or the input
   -- has ended, and all outputs of substream n were given
   pub data CannotGive (n : ℕ) (moves : List ℕ) (f : Inflow) : Type 0 where
-    held_back : length (of_number n (run machine start f.list).gave) ≤ count_of n moves → length moves < length (run machine start f.list).gave → CannotGive n moves f
+    held_back : length (of_number n (run machine start f.list).gave) ≤ count_of n moves → length moves < length (run machine start f.list).gave
+        → CannotGive n moves f
     no_more : f.end ≡ ended → length (of_number n (led_ready f)) ≤ count_of n moves → CannotGive n moves f
 
   -- the same of the next move
@@ -126,7 +127,8 @@ module _ {C : Type 0} (rest : C → ListFunction) (is_open : C → Bool) where
     pub node : now.logic.node ≡ first.logic.node
     pub how : now.logic.how ≡ first.logic.how
     pub chain : now.logic.chain ≡ first.logic.chain
-    pub tells : (f : ListFunction) → Same (whole first.logic.chain) f → (yields : List Tree → End → Given Tree) → Means yields f → (start : Run Subs Tagged) → Owes rest is_open f yields first.logic (owing (untag start))
+    pub tells : (f : ListFunction) → Same (whole first.logic.chain) f → (yields : List Tree → End → Given Tree) → Means yields f → (start : Run Subs Tagged)
+        → Owes rest is_open f yields first.logic (owing (untag start))
         → InPortsLaw (LedKeeps yields (opening_of first.logic.how) start rest is_open f now) v took gave
 
   -- The law of its output, by the stage as it was at first and as it is now: what it follows stays, a log stays a log, and one that follows none

@@ -157,16 +157,21 @@ module _ {C : Type 0} (rest : C → ListFunction) (is_open : C → Bool) (f : Li
   -- A step of one that follows moves, by the state of its machine: it goes on, and may have found that it cannot make its next move; or it
   -- ends behind all; or it fails, at an element, at the end of its input or with it; or its output was cancelled.
   pub data LedStep (call : Call) (old : Led C) (gave : Option Tagged) (closing : End) (new : Led C) (st : State Subs) : Type 0 where
-    goes : closing ≡ unended → new.logic.phase ≡ Open → TakenFrom gave (old.logic.pending ++ arising m call st) new.logic.pending → new.logic.over ≡ over_after call old.logic.over
+    goes : closing ≡ unended → new.logic.phase ≡ Open → TakenFrom gave (old.logic.pending ++ arising m call st) new.logic.pending
+        → new.logic.over ≡ over_after call old.logic.over
         → StateIs rest is_open f yields new.logic.over new.logic (then_state m call st) → EndsWell m call st → MayGoOn call old.logic.pending
         → (new.stuck ≡ true → LostAt (next_move new.left) new.logic.pending new.logic.over) → LedStep call old gave closing new st
-    ends : closing ≡ ended → new.logic.phase ≡ Closed → new.stuck ≡ false → TakenFrom gave (old.logic.pending ++ arising m call st) [] → over_after call old.logic.over ≡ true → EndsWell m call st → MayGoOn call old.logic.pending
+    ends : closing ≡ ended → new.logic.phase ≡ Closed → new.stuck ≡ false → TakenFrom gave (old.logic.pending ++ arising m call st) []
+        → over_after call old.logic.over ≡ true → EndsWell m call st → MayGoOn call old.logic.pending
         → LedStep call old gave closing new st
-    breaks : (t : Tree) (c : Cause) → call ≡ arrives 0 (item.Elem t) → old.logic.pending ≡ [] → then_state m call st ≡ broken c → arising m call st ≡ [] → gave ≡ None → closing ≡ failed c → new.logic.phase ≡ Closed → new.stuck ≡ false
+    breaks : (t : Tree) (c : Cause) → call ≡ arrives 0 (item.Elem t) → old.logic.pending ≡ [] → then_state m call st ≡ broken c → arising m call st ≡ []
+        → gave ≡ None → closing ≡ failed c → new.logic.phase ≡ Closed → new.stuck ≡ false
         → LedStep call old gave closing new st
-    refuses_end : (s : Subs) (c : Cause) → call ≡ arrives 0 item.Ended → st ≡ going s → m.finish s ≡ refuses c → gave ≡ None → closing ≡ failed c → new.logic.phase ≡ Closed → new.stuck ≡ false
+    refuses_end : (s : Subs) (c : Cause) → call ≡ arrives 0 item.Ended → st ≡ going s → m.finish s ≡ refuses c → gave ≡ None → closing ≡ failed c
+        → new.logic.phase ≡ Closed → new.stuck ≡ false
         → LedStep call old gave closing new st
-    fails : (s : Subs) (c : Cause) → call ≡ arrives 0 (item.Failed c) → st ≡ going s → gave ≡ None → closing ≡ failed c → new.logic.phase ≡ Closed → new.stuck ≡ false → LedStep call old gave closing new st
+    fails : (s : Subs) (c : Cause) → call ≡ arrives 0 (item.Failed c) → st ≡ going s → gave ≡ None → closing ≡ failed c → new.logic.phase ≡ Closed
+        → new.stuck ≡ false → LedStep call old gave closing new st
     leaves : call ≡ cancels 0 → gave ≡ None → closing ≡ unended → new.logic.phase ≡ Closed → new.stuck ≡ false → LedStep call old gave closing new st
 
 -- What a call owes of one that follows moves, whatever its chains come to in the model: a step, where it has not stopped; and nothing is done
@@ -175,7 +180,8 @@ pub record Followed {C : Type 0} (whole rest : C → ListFunction) (is_open : C 
   pub gave : Option Tagged
   pub closing : End
   pub out : given_on 0 acts ≡ told (untagged (option_to_list gave)) closing
-  pub step : old.stuck ≡ false → (f : ListFunction) → Same (whole old.logic.chain) f → (yields : List Tree → End → Given Tree) → Means yields f → (st : State Subs) → StateIs rest is_open f yields old.logic.over old.logic st
+  pub step : old.stuck ≡ false → (f : ListFunction) → Same (whole old.logic.chain) f → (yields : List Tree → End → Given Tree) → Means yields f
+      → (st : State Subs) → StateIs rest is_open f yields old.logic.over old.logic st
       → LedStep rest is_open f yields (substreams yields (opening_of old.logic.how)) call old gave closing new st
   pub moves : new.logic.moves ≡ noted old.logic.moves (port_in gave)
   pub follows : new.left ≢ None
@@ -206,7 +212,8 @@ LedTurned whole rest is_open call old acts new = turned_by old.left whole rest i
 
 -- the first of its substream went out, which is noted
 abbrev pub gave_of : {C : Type 0} → ℕ → List Tagged → Led C → Led C
-gave_of n os l = record { logic = record l.logic { pending = os; asked = false; moves = noted l.logic.moves (Some n) }; left = behind_next l.left; stuck = l.stuck }
+gave_of n os l =
+    record { logic = record l.logic { pending = os; asked = false; moves = noted l.logic.moves (Some n) }; left = behind_next l.left; stuck = l.stuck }
 
 -- with its output asked
 abbrev pub asked_now : {C : Type 0} → Led C → Led C
@@ -230,8 +237,10 @@ stuck_now l = record l { stuck = true }
 
 -- where it is asked, the first output of the substream of the next move goes out; or none of it is held
 pub data LedServing {C : Type 0} (old : Led C) (gave : Option Tagged) (new : Led C) (acts : List Act) : Type 0 where
-  gives : (n : ℕ) (x : Tagged) (os : List Tagged) → old.logic.asked ≡ true → next_move old.left ≡ Move n → first_of_sub n old.logic.pending ≡ Some (x, os) → gave ≡ Some x → new ≡ gave_of n os old → acts ≡ Push 0 x.item ∷ [] → LedServing old gave new acts
-  keeps : (old.logic.asked ≡ true → (n : ℕ) → next_move old.left ≡ Move n → first_of_sub n old.logic.pending ≡ None) → gave ≡ None → new ≡ old → acts ≡ [] → LedServing old gave new acts
+  gives : (n : ℕ) (x : Tagged) (os : List Tagged) → old.logic.asked ≡ true → next_move old.left ≡ Move n → first_of_sub n old.logic.pending ≡ Some (x, os)
+      → gave ≡ Some x → new ≡ gave_of n os old → acts ≡ Push 0 x.item ∷ [] → LedServing old gave new acts
+  keeps : (old.logic.asked ≡ true → (n : ℕ) → next_move old.left ≡ Move n → first_of_sub n old.logic.pending ≡ None) → gave ≡ None → new ≡ old → acts ≡ []
+      → LedServing old gave new acts
 
 -- the same, whichever it gave
 pub record LedServed {C : Type 0} (old new : Led C) (acts : List Act) : Type 0 where
@@ -240,10 +249,13 @@ pub record LedServed {C : Type 0} (old new : Led C) (acts : List Act) : Type 0 w
 
 -- the end of a call: it ends, stops, asks its input, or rests
 pub data LedSettling {C : Type 0} (before : List Act) (old new : Led C) (acts : List Act) : Type 0 where
-  completes : old.logic.over ≡ true → old.logic.pending ≡ [] → may_end (next_move old.left) ≡ true → new ≡ closed_now old → acts ≡ before ++ Complete 0 ∷ [] → LedSettling before old new acts
-  stops : old.logic.asked ≡ true → may_end (next_move old.left) ≡ false → (old.logic.over ≡ true) ⊎ (old.logic.pending ≢ []) → new ≡ stuck_now old → acts ≡ before → LedSettling before old new acts
+  completes : old.logic.over ≡ true → old.logic.pending ≡ [] → may_end (next_move old.left) ≡ true → new ≡ closed_now old → acts ≡ before ++ Complete 0 ∷ []
+      → LedSettling before old new acts
+  stops : old.logic.asked ≡ true → may_end (next_move old.left) ≡ false → (old.logic.over ≡ true) ⊎ (old.logic.pending ≢ []) → new ≡ stuck_now old
+      → acts ≡ before → LedSettling before old new acts
   asks : old.logic.asked ≡ true → old.logic.over ≡ false → old.logic.pending ≡ [] → new ≡ old → acts ≡ before ++ Pull 0 ∷ [] → LedSettling before old new acts
-  rests : (old.logic.asked ≡ true → (old.logic.pending ≢ []) × (may_end (next_move old.left) ≡ true)) → (old.logic.over ≡ true → old.logic.pending ≡ [] → may_end (next_move old.left) ≡ false) → new ≡ old → acts ≡ before → LedSettling before old new acts
+  rests : (old.logic.asked ≡ true → (old.logic.pending ≢ []) × (may_end (next_move old.left) ≡ true))
+      → (old.logic.over ≡ true → old.logic.pending ≡ [] → may_end (next_move old.left) ≡ false) → new ≡ old → acts ≡ before → LedSettling before old new acts
 
 -- both, one behind the other
 pub record LedGoesOn {C : Type 0} (old new : Led C) (acts : List Act) : Type 0 where
@@ -264,7 +276,8 @@ EndedUp (Some b) old new acts = (new ≡ closed_now old) × (acts ≡ FailOut 0 
 
 -- whether the first output of substream n that is held went out
 abbrev pub GivesOf : {C : Type 0} → ℕ → Bool → Logic C → Logic C → List Act → List Act → Type 0
-GivesOf n true old new before acts = (x : Tagged) × ((os : List Tagged) × ((first_of_sub n old.pending ≡ Some (x, os)) × ((new ≡ record old { pending = os; asked = false }) × (acts ≡ before ++ Push 0 x.item ∷ []))))
+GivesOf n true old new before acts = (x : Tagged) × ((os : List Tagged)
+    × ((first_of_sub n old.pending ≡ Some (x, os)) × ((new ≡ record old { pending = os; asked = false }) × (acts ≡ before ++ Push 0 x.item ∷ []))))
 GivesOf n false old new before acts = (first_of_sub n old.pending ≡ None) × ((new ≡ old) × (acts ≡ before))
 
 -- ---- its log

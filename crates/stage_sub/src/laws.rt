@@ -82,7 +82,8 @@ pub fn led_substreams_stand<C: Chain>()
 /// A misfit has its cause, over what came: behind all elements all outputs of the substream of the next move were given while another's were
 /// not; or the input has ended, and all outputs of that substream were given.
 pub fn a_misfit_has_its_cause<C: Chain>()
-    ensures { (f : ListFunction) (yields : List Tree → End → Given Tree) (start : Run Subs Tagged) (first now : Led C) (ms : List ℕ) (w : Inflow) (g : List Tree) (e : End)
+    ensures { (f : ListFunction) (yields : List Tree → End → Given Tree) (start : Run Subs Tagged) (first now : Led C) (ms : List ℕ) (w : Inflow)
+        (g : List Tree) (e : End)
         → now.logic.moves ≡ Some ms → now.stuck ≡ true → LedKeeps yields (opening_of first.logic.how) start C.rest C.is_open f now (w ∷ []) g e
         → MisfitBy yields (opening_of first.logic.how) start (next_move now.left) ms w }
 {}

@@ -104,7 +104,8 @@ impl<C: Chain> SubLogic<C> {
     pub fn follow(&mut self, moves: Vec<u32>)
         requires merge { self.old.logic.moves ≡ Some [] }
         requires few { vec_len moves < 2 ^ 32 }
-        ensures begins { (node : ℕ) (kind : Kind) (chain : C) → LedBegins C.rest C.is_open node kind chain self.old → LedBegins C.rest C.is_open node kind chain self.new }
+        ensures begins { (node : ℕ) (kind : Kind) (chain : C) → LedBegins C.rest C.is_open node kind chain self.old
+            → LedBegins C.rest C.is_open node kind chain self.new }
         ensures plan { sub_plan self.new ≡ Some moves.items }
     {
         self.log = Some(PickLog::follow(moves));

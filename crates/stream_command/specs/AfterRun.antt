@@ -66,7 +66,8 @@ status_found None stands rest = status_by stands rest
 -- the status, by how the sinks stand, whether a write to the trace's file failed, which stage could not make its next move, and whether no
 -- event was left: a failed write comes first, then that stage, then a sink that goes on, then one that failed
 abbrev pub status_after : List SinkStand → Bool → Option (ℕ × ℕ) → Bool → Status
-status_after stands trace_failed misfit rest = if list_any (λ s. is_write_fault s.2) stands || trace_failed then status.WriteFault else status_found misfit stands rest
+status_after stands trace_failed misfit rest = if list_any (λ s. is_write_fault s.2) stands || trace_failed then status.WriteFault
+    else status_found misfit stands rest
 
 -- the run stalled
 abbrev pub is_stalled : Status → Bool

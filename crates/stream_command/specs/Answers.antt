@@ -42,7 +42,8 @@ pub record EndsGenerating (n : ℕ) (a : Answer) (old new : FolderState) : Type 
 
 -- The files were generated, and then the blueprint was run. Between the two each generated file holds its text and every other file is
 -- as before, and no count rose; this is told wherever the folder still tells its files after the run, since it tells them then in between.
-pub record GeneratesAndRuns (p : Plugged) (n : ℕ) (file : List ℕ) (trace replay : Option (List ℕ)) (turns : ℕ) (a : Answer) (old new : FolderState) : Type 0 where
+pub record GeneratesAndRuns (p : Plugged) (n : ℕ) (file : List ℕ) (trace replay : Option (List ℕ)) (turns : ℕ) (a : Answer)
+    (old new : FolderState) : Type 0 where
   pub between : FolderState
   pub generates : Generates old between n
   pub runs : RunsFile p file trace replay turns a between new

@@ -191,7 +191,8 @@ SomeWriteFailed old new b trace a = ((some_fault a.sinks ≡ true) × Traces old
 -- no moves never stalls, and units that suffice for all that may pass are not used up.
 abbrev pub EndedRun : Plugged → Status → Answer → Blueprint → List (Option (List ℕ)) → Option (List ℕ) → ℕ → FolderState → FolderState → Type 0
 EndedRun p status.Done a b plans trace turns old new = RanTo p old new b plans trace turns a × Traces old new b trace a.picks false × (all_ended a.sinks ≡ true)
-EndedRun p status.StreamFailed a b plans trace turns old new = RanTo p old new b plans trace turns a × Traces old new b trace a.picks false × (some_fault a.sinks ≡ false)
+EndedRun p status.StreamFailed a b plans trace turns old new = RanTo p old new b plans trace turns a × Traces old new b trace a.picks false
+    × (some_fault a.sinks ≡ false)
     × (some_unended a.sinks ≡ false) × (some_failed a.sinks ≡ true)
 EndedRun p status.Stalled a b plans trace turns old new = RanTo p old new b plans trace turns a × Traces old new b trace a.picks false
     × (NoneFollow plans → IsPolytree (wiring (blueprint_wires b)) → ⊥) × (some_fault a.sinks ≡ false) × (some_unended a.sinks ≡ true)
@@ -199,7 +200,8 @@ EndedRun p status.OutOfTurns a b plans trace turns old new = (ran : RanTo p old 
     × FallsShort p b turns a ran.leaves.drawn × (some_fault a.sinks ≡ false) × (some_unended a.sinks ≡ true)
 EndedRun p (status.Misfit stage place) a b plans trace turns old new = (ran : RanTo p old new b plans trace turns a) × Traces old new b trace a.picks false
     × (some_fault a.sinks ≡ false) × IsMisfit b plans a.picks (MisfitByFiles p.book b plans ran.leaves.drawn) stage place
-EndedRun p status.WriteFault a b plans trace turns old new = RanTo p old new b plans trace turns a × SomeWriteFailed old new b trace a × SomeCountRose old new b trace
+EndedRun p status.WriteFault a b plans trace turns old new = RanTo p old new b plans trace turns a × SomeWriteFailed old new b trace a
+    × SomeCountRose old new b trace
 EndedRun p (status.Missing n) a b plans trace turns old new = LacksInput old new b n a ⊎ LacksOutput old new b trace n a
 EndedRun p status.NoMemory a b plans trace turns old new = Blank a × GaveUp p old new b trace
 EndedRun p _ a b plans trace turns old new = ⊥
@@ -258,15 +260,19 @@ RunCauses p status.ReadFault a b plans trace turns old new = ⊥
 RunCauses p (status.Refused f) a b plans trace turns old new = ⊥
 RunCauses p (status.BadTrace line) a b plans trace turns old new = ⊥
 RunCauses p (status.Unfit f) a b plans trace turns old new = ⊥
-RunCauses p (status.Missing n) a b plans trace turns old new = MissesFile old new b trace n × QuietBut n old.refusals new.refusals × Quiet old.rfaults new.rfaults
+RunCauses p (status.Missing n) a b plans trace turns old new = MissesFile old new b trace n × QuietBut n old.refusals new.refusals
+    × Quiet old.rfaults new.rfaults
     × Quiet old.wfaults new.wfaults
-RunCauses p status.NoMemory a b plans trace turns old new = Quiet old.refusals new.refusals × QuietButAll (inputs_of_nodes b.nodes.items) old.rfaults new.rfaults
+RunCauses p status.NoMemory a b plans trace turns old new = Quiet old.refusals new.refusals
+    × QuietButAll (inputs_of_nodes b.nodes.items) old.rfaults new.rfaults
     × QuietButAll (outputs_of_nodes b.nodes.items) old.wfaults new.wfaults
-RunCauses p status.WriteFault a b plans trace turns old new = Quiet old.refusals new.refusals × QuietButAll (inputs_of_nodes b.nodes.items) old.rfaults new.rfaults
+RunCauses p status.WriteFault a b plans trace turns old new = Quiet old.refusals new.refusals
+    × QuietButAll (inputs_of_nodes b.nodes.items) old.rfaults new.rfaults
     × SomeCountRose old new b trace × QuietButAll (written_files b trace) old.wfaults new.wfaults × SinksWrote p old new b plans turns a
 RunCauses p status.Stalled a b plans trace turns old new = Quiet old.refusals new.refusals × QuietButAll (inputs_of_nodes b.nodes.items) old.rfaults new.rfaults
     × Quiet old.wfaults new.wfaults × SinksWrote p old new b plans turns a × (NoneFollow plans → IsPolytree (wiring (blueprint_wires b)) → ⊥)
-RunCauses p status.OutOfTurns a b plans trace turns old new = Quiet old.refusals new.refusals × QuietButAll (inputs_of_nodes b.nodes.items) old.rfaults new.rfaults
+RunCauses p status.OutOfTurns a b plans trace turns old new = Quiet old.refusals new.refusals
+    × QuietButAll (inputs_of_nodes b.nodes.items) old.rfaults new.rfaults
     × Quiet old.wfaults new.wfaults × SinksWrote p old new b plans turns a × UsedUp b turns a
 RunCauses p (status.Misfit stage place) a b plans trace turns old new = Quiet old.refusals new.refusals
     × QuietButAll (inputs_of_nodes b.nodes.items) old.rfaults new.rfaults

@@ -37,7 +37,8 @@ NotFlat _ a t old new = ⊥
 
 -- it breaks a rule on modules, or its blueprint is unfit or was run
 abbrev pub EndedSaid : Plugged → Status → Answer → PlainText → List (List ℕ) → Option (List ℕ) → Option (List ℕ) → ℕ → FolderState → FolderState → Type 0
-EndedSaid p s a t taken trace replay turns old new = NotFlat s a t old new ⊎ ((b : Blueprint) × (IsFlat t (plain b) × EndedParsed p s a b taken trace replay turns old new))
+EndedSaid p s a t taken trace replay turns old new = NotFlat s a t old new
+    ⊎ ((b : Blueprint) × (IsFlat t (plain b) × EndedParsed p s a b taken trace replay turns old new))
 
 -- a text that says nothing, or memory was wanting
 abbrev pub NotSaid : Status → Answer → List ℕ → FolderState → FolderState → Type 0
@@ -79,7 +80,8 @@ CausesReplay _ replay old new = ⊥
 
 -- The blueprint was run by these moves, which are those of the file of moves; of that and of its inputs alone more was read, and these counts
 -- rose.
-pub record CausesMoved (p : Plugged) (s : Status) (a : Answer) (b : Blueprint) (trace replay : Option (List ℕ)) (turns : ℕ) (old new : FolderState) : Type 0 where
+pub record CausesMoved (p : Plugged) (s : Status) (a : Answer) (b : Blueprint) (trace replay : Option (List ℕ)) (turns : ℕ)
+    (old new : FolderState) : Type 0 where
   pub plans : List (Option (List ℕ))
   pub follows : IsTrue old.tells → FollowsFile old replay b.nodes.items plans
   pub free : replay ≡ None → NoneFollow plans
@@ -102,7 +104,8 @@ CausesParsed p s a b taken trace replay turns old new = CausesQuiet s old new �
 
 -- which counts rose, of what a text says
 abbrev pub CausesSaid : Plugged → Status → Answer → PlainText → List (List ℕ) → Option (List ℕ) → Option (List ℕ) → ℕ → FolderState → FolderState → Type 0
-CausesSaid p s a t taken trace replay turns old new = CausesQuiet s old new ⊎ ((b : Blueprint) × (IsFlat t (plain b) × CausesFit p s a b taken trace replay turns old new))
+CausesSaid p s a t taken trace replay turns old new = CausesQuiet s old new
+    ⊎ ((b : Blueprint) × (IsFlat t (plain b) × CausesFit p s a b taken trace replay turns old new))
 
 -- which counts rose, of a text
 abbrev pub CausesText : Plugged → Status → Answer → List ℕ → List (List ℕ) → Option (List ℕ) → Option (List ℕ) → ℕ → FolderState → FolderState → Type 0

@@ -248,10 +248,12 @@ fn run_fit<R: Threads + Wait + Sync, F: Folder, L: Logic + Send, B: PlugBook + S
     requires follow { PlansFit (map (λ n. n.kind) b.nodes.items) (map moves_of plans.items) }
     requires workers { (0 < workers) × (workers ≤ 64) }
     requires turns { turns ≤ MOST_COUNT }
-    ensures told { IsTrue (F.state folder.old).tells → EndedRun (plugged_by B.lists plugs.items) result.status (of_outcome result) b (map moves_of plans.items) trace turns
+    ensures told { IsTrue (F.state folder.old).tells → EndedRun (plugged_by B.lists plugs.items) result.status (of_outcome result) b
+        (map moves_of plans.items) trace turns
         (F.state folder.old) (F.state folder.new) }
     ensures tells { IsTrue (F.state folder.new).tells → IsTrue (F.state folder.old).tells }
-    ensures causes { RunCauses (plugged_by B.lists plugs.items) result.status (of_outcome result) b (map moves_of plans.items) trace turns (F.state folder.old) (F.state folder.new) }
+    ensures causes { RunCauses (plugged_by B.lists plugs.items) result.status (of_outcome result) b (map moves_of plans.items) trace turns
+        (F.state folder.old) (F.state folder.new) }
     ensures sinks { SinksOf result.status (of_outcome result) trace }
     ensures detail { result.detail.items ≡ detail_of result.status }
     ensures reads { QuietButAll (inputs_of_nodes b.nodes.items) (F.state folder.old).read (F.state folder.new).read }
@@ -308,11 +310,13 @@ fn run_checked<R: Threads + Wait + Sync, F: Folder, L: Logic + Send, B: PlugBook
     ensures told { IsTrue (F.state folder.old).tells → EndedChecked (plugged_by B.lists plugs.items) result.status (of_outcome result)
         (checked_blueprint checked) trace replay turns (F.state folder.old) (F.state folder.new) }
     ensures tells { IsTrue (F.state folder.new).tells → IsTrue (F.state folder.old).tells }
-    ensures causes { CausesChecked (plugged_by B.lists plugs.items) result.status (of_outcome result) (checked_blueprint checked) trace replay turns (F.state folder.old)
+    ensures causes { CausesChecked (plugged_by B.lists plugs.items) result.status (of_outcome result) (checked_blueprint checked) trace replay turns
+        (F.state folder.old)
         (F.state folder.new) }
     ensures sinks { SinksOf result.status (of_outcome result) trace }
     ensures detail { result.detail.items ≡ detail_of result.status }
-    ensures reads { QuietButAll (option_to_list replay ++ inputs_of_nodes (checked_blueprint checked).nodes.items) (F.state folder.old).read (F.state folder.new).read }
+    ensures reads { QuietButAll (option_to_list replay ++ inputs_of_nodes (checked_blueprint checked).nodes.items) (F.state folder.old).read
+        (F.state folder.new).read }
     ensures reads_moves { ReadsMost replay (F.state folder.old).read (F.state folder.new).read }
     ensures ran { Receipts result.status workers result.used result.ran }
     ensures islands { (taken : List (List ℕ)) → IsFit (checked_blueprint checked) (map (λ p. p.head) plugs.items) taken
@@ -346,7 +350,8 @@ fn run_parsed<R: Threads + Wait + Sync, F: Folder, L: Logic + Send, B: PlugBook 
     requires few { length b.nodes.items ≤ 1024 }
     requires workers { (0 < workers) × (workers ≤ 64) }
     requires turns { turns ≤ MOST_COUNT }
-    ensures told { IsTrue (F.state folder.old).tells → EndedParsed (plugged_by B.lists plugs.items) result.status (of_outcome result) b taken.now trace replay turns
+    ensures told { IsTrue (F.state folder.old).tells → EndedParsed (plugged_by B.lists plugs.items) result.status
+        (of_outcome result) b taken.now trace replay turns
         (F.state folder.old) (F.state folder.new) }
     ensures tells { IsTrue (F.state folder.new).tells → IsTrue (F.state folder.old).tells }
     ensures causes { CausesParsed (plugged_by B.lists plugs.items) result.status (of_outcome result) b taken.now trace replay turns (F.state folder.old)
@@ -400,7 +405,8 @@ fn run_said<R: Threads + Wait + Sync, F: Folder, L: Logic + Send, B: PlugBook + 
     ensures told { IsTrue (F.state folder.old).tells → EndedSaid (plugged_by B.lists plugs.items) result.status
         (of_outcome result) (plain_text text) taken.now trace replay turns (F.state folder.old) (F.state folder.new) }
     ensures tells { IsTrue (F.state folder.new).tells → IsTrue (F.state folder.old).tells }
-    ensures causes { CausesSaid (plugged_by B.lists plugs.items) result.status (of_outcome result) (plain_text text) taken.now trace replay turns (F.state folder.old)
+    ensures causes { CausesSaid (plugged_by B.lists plugs.items) result.status (of_outcome result) (plain_text text) taken.now trace replay turns
+        (F.state folder.old)
         (F.state folder.new) }
     ensures sinks { SinksOf result.status (of_outcome result) trace }
     ensures detail { result.detail.items ≡ detail_of result.status }
@@ -534,14 +540,17 @@ pub fn run_file<R: Threads + Wait + Sync, F: Folder, L: Logic + Send, B: PlugBoo
     requires workers { (0 < workers) × (workers ≤ 64) }
     requires turns { turns ≤ MOST_COUNT }
     ensures told { IsTrue (F.state folder.old).tells → Told (plugged_by B.lists plugs.items) (of_outcome result)
-        (record { file = file.now; trace = option_copied trace.entry; replay = option_copied replay.entry; turns = turns }) (F.state folder.old) (F.state folder.new) }
-    ensures causes { Causes (plugged_by B.lists plugs.items) result.status (of_outcome result) file.now (option_copied trace.entry) (option_copied replay.entry) turns (F.state folder.old)
+        (record { file = file.now; trace = option_copied trace.entry; replay = option_copied replay.entry; turns = turns }) (F.state folder.old)
+        (F.state folder.new) }
+    ensures causes { Causes (plugged_by B.lists plugs.items) result.status (of_outcome result) file.now (option_copied trace.entry)
+        (option_copied replay.entry) turns (F.state folder.old)
         (F.state folder.new) }
     ensures sinks { SinksOf result.status (of_outcome result) (option_copied trace.entry) }
     ensures no_usage { result.status ≡ Status.Usage → ⊥ }
     ensures tells { IsTrue (F.state folder.new).tells → IsTrue (F.state folder.old).tells }
     ensures detail { result.detail.items ≡ detail_of result.status }
-    ensures reads { option_copied replay.entry ≢ Some file.now → GrewAtMost ((F.state folder.old).read file.now) text_limit ((F.state folder.new).read file.now) }
+    ensures reads { option_copied replay.entry ≢ Some file.now → GrewAtMost ((F.state folder.old).read file.now) text_limit
+        ((F.state folder.new).read file.now) }
     ensures reads_moves { (t : List ℕ) → option_copied replay.entry ≡ Some t → t ≢ file.now
         → GrewAtMost ((F.state folder.old).read t) plan_limit ((F.state folder.new).read t) }
     ensures ran { Receipts result.status workers result.used result.ran }

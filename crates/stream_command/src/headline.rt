@@ -39,7 +39,8 @@ pub fn each_end_tells_its_file()
 /// Two calls that ran what one text says over input files of the same bytes, by the same moves, where no read of a file failed: each
 /// sink that ended in both wrote the same bytes. So does a replay that made all moves of a run's own trace.
 pub fn the_same_moves_write_the_same()
-    ensures { (p : Plugged) (a x : Answer) (c e : AskedRun) (old new before after : FolderState) → (first : EndedFiles p a c old new) → (second : EndedFiles p x e before after)
+    ensures { (p : Plugged) (a x : Answer) (c e : AskedRun) (old new before after : FolderState) → (first : EndedFiles p a c old new)
+        → (second : EndedFiles p x e before after)
         → RunsAlike p a x c e old new before after first → (k : ℕ) (n : Node) (file : List ℕ) → AnswersSink a first.blueprint k n file Ended
         → AnswersSink x second.blueprint k n file Ended → new.file file ≡ after.file file }
 {}

@@ -49,7 +49,8 @@ pub fn run_streams<R: Threads + Wait + Sync, F: Folder, C: Drain, B: PlugBook + 
     ensures answers { AnswersCommand (plugged_by B.lists plugs.items) (asked_of words.now) (answer_of result) (F.state folder.old) (F.state folder.new) }
 
     // A valid blueprint and no fault give a run, or memory was wanting.
-    ensures complete { (c : Asked) → asked_of words.now ≡ Some c → IsValidFor (plugged_by B.lists plugs.items) c.generated c.file c.trace c.replay (F.state folder.old)
+    ensures complete { (c : Asked) → asked_of words.now ≡ Some c → IsValidFor (plugged_by B.lists plugs.items) c.generated c.file c.trace c.replay
+        (F.state folder.old)
         (F.state folder.new) → RoseNowhere (F.state folder.old) (F.state folder.new) → RanWithoutFault result.status }
 
     // After a run, and only there, there is a receipt, of the command's workers and as many islands as the file's blueprint has.
@@ -90,7 +91,8 @@ fn run_words<R: Threads + Wait + Sync, F: Folder, C: Drain, L: Logic + Send, B: 
     ensures answers { AnswersCommand (plugged_by B.lists plugs.items) (asked_of words.now) (answer_of result) (F.state folder.old) (F.state folder.new) }
 
     // A valid blueprint and no fault give a run, or memory was wanting.
-    ensures complete { (c : Asked) → asked_of words.now ≡ Some c → IsValidFor (plugged_by B.lists plugs.items) c.generated c.file c.trace c.replay (F.state folder.old)
+    ensures complete { (c : Asked) → asked_of words.now ≡ Some c → IsValidFor (plugged_by B.lists plugs.items) c.generated c.file c.trace c.replay
+        (F.state folder.old)
         (F.state folder.new) → RoseNowhere (F.state folder.old) (F.state folder.new) → RanWithoutFault result.status }
 
     // After a run, and only there, there is a receipt, of the command's workers and as many islands as the file's blueprint has.
@@ -162,7 +164,8 @@ fn run_command_file<
     requires listed { All (GivesAsListed L.gives B.lists) plugs.items }
     requires workers { (0 < command.now.workers) × (command.now.workers ≤ 64) }
     requires turns { command.now.turns ≤ MOST_COUNT }
-    ensures runs { RunsFile (plugged_by B.lists plugs.items) command.now.file command.now.trace command.now.replay command.now.turns (answer_of result) (F.state folder.old)
+    ensures runs { RunsFile (plugged_by B.lists plugs.items) command.now.file command.now.trace command.now.replay command.now.turns (answer_of result)
+        (F.state folder.old)
         (F.state folder.new) }
     ensures ran { Receipts result.status command.now.workers result.used result.ran }
     ensures islands { IsTrue (F.state folder.old).tells → RanFile (plugged_by B.lists plugs.items)

@@ -76,7 +76,8 @@ pub fn run_shipped<R: Threads + Wait + Sync, F: Folder, C: Drain>(
     ensures answers { AnswersCommand shipped_plugs (asked_of words.now) (answer_of result) (F.state folder.old) (F.state folder.new) }
 
     // A valid blueprint and no fault give a run, or memory was wanting.
-    ensures complete { (c : Asked) → asked_of words.now ≡ Some c → IsValidFor shipped_plugs c.generated c.file c.trace c.replay (F.state folder.old) (F.state folder.new)
+    ensures complete { (c : Asked) → asked_of words.now ≡ Some c → IsValidFor shipped_plugs c.generated c.file c.trace c.replay (F.state folder.old)
+        (F.state folder.new)
         → RoseNowhere (F.state folder.old) (F.state folder.new) → WasRun result.status }
 
     // After a run, and only there, there is a receipt, of the command's workers and as many islands as the file's blueprint has.

@@ -36,9 +36,11 @@ pub fn run_surely<R: Threads + Wait + Sync, C: Drain, L: Logic + Send, B: PlugBo
     requires workers { (0 < workers) × (workers ≤ 64) }
     requires turns { turns ≤ MOST_COUNT }
     ensures told { IsTrue (⟦<SureFolder as Folder>⟧.state folder.old).tells → Told (plugged_by B.lists plugs.items) (answer_of result)
-        (record { file = file.now; trace = option_copied trace.entry; replay = option_copied replay.entry; turns = turns }) (⟦<SureFolder as Folder>⟧.state folder.old)
+        (record { file = file.now; trace = option_copied trace.entry; replay = option_copied replay.entry; turns = turns })
+        (⟦<SureFolder as Folder>⟧.state folder.old)
         (⟦<SureFolder as Folder>⟧.state folder.new) }
-    ensures runs { IsTrue (⟦<SureFolder as Folder>⟧.state folder.old).tells → IsValid (plugged_by B.lists plugs.items) file.now (option_copied trace.entry) (option_copied replay.entry)
+    ensures runs { IsTrue (⟦<SureFolder as Folder>⟧.state folder.old).tells
+        → IsValid (plugged_by B.lists plugs.items) file.now (option_copied trace.entry) (option_copied replay.entry)
         (⟦<SureFolder as Folder>⟧.state folder.old) → RanWithoutFault result.status }
 {
     run_file::<R, SureFolder, C, L, B>(

@@ -62,14 +62,17 @@ pub fn run_file<R: Threads + Wait + Sync, F: Folder, C: Drain, L: Logic + Send, 
     // What is answered and left where the folder told its files before. What files hold then is said where it still tells them.
     ensures tells { IsTrue (F.state folder.new).tells → IsTrue (F.state folder.old).tells }
     ensures told { IsTrue (F.state folder.old).tells → Told (plugged_by B.lists plugs.items) (answer_of result)
-        (record { file = file.now; trace = option_copied trace.entry; replay = option_copied replay.entry; turns = turns }) (F.state folder.old) (F.state folder.new) }
+        (record { file = file.now; trace = option_copied trace.entry; replay = option_copied replay.entry; turns = turns }) (F.state folder.old)
+        (F.state folder.new) }
 
     // A valid text and inputs and no fault give a run, or memory was wanting.
-    ensures complete { IsTrue (F.state folder.old).tells → IsValid (plugged_by B.lists plugs.items) file.now (option_copied trace.entry) (option_copied replay.entry) (F.state folder.old)
+    ensures complete { IsTrue (F.state folder.old).tells → IsValid (plugged_by B.lists plugs.items) file.now (option_copied trace.entry)
+        (option_copied replay.entry) (F.state folder.old)
         → RoseNowhere (F.state folder.old) (F.state folder.new) → RanWithoutFault result.status }
 
     // Which counts rose, and what the units and the picture of the run are, whether it tells them or not.
-    ensures causes { Causes (plugged_by B.lists plugs.items) result.status (answer_of result) file.now (option_copied trace.entry) (option_copied replay.entry) turns (F.state folder.old)
+    ensures causes { Causes (plugged_by B.lists plugs.items) result.status (answer_of result) file.now (option_copied trace.entry)
+        (option_copied replay.entry) turns (F.state folder.old)
         (F.state folder.new) }
     ensures sinks { SinksOf result.status (answer_of result) (option_copied trace.entry) }
 
@@ -82,7 +85,8 @@ pub fn run_file<R: Threads + Wait + Sync, F: Folder, C: Drain, L: Logic + Send, 
     ensures no_usage { result.status ≡ Status.Usage → ⊥ }
 
     // Reading the blueprint's file stops after so many bytes, and so does reading the file of moves.
-    ensures reads { option_copied replay.entry ≢ Some file.now → GrewAtMost ((F.state folder.old).read file.now) text_limit ((F.state folder.new).read file.now) }
+    ensures reads { option_copied replay.entry ≢ Some file.now → GrewAtMost ((F.state folder.old).read file.now) text_limit
+        ((F.state folder.new).read file.now) }
     ensures reads_moves { (t : List ℕ) → option_copied replay.entry ≡ Some t → t ≢ file.now
         → GrewAtMost ((F.state folder.old).read t) plan_limit ((F.state folder.new).read t) }
 

@@ -146,7 +146,8 @@ module _ (g : Graph) (w : World) where
   RoleLawful node (a_flow (trips order name n)) d is os = stage_lawful (one_way_by g w node (a_flow (trips order name n)) d) is os
   RoleLawful node (a_flow (plugs_in name)) d is os = stage_lawful (one_way_by g w node (a_flow (plugs_in name)) d) is os
   RoleLawful node (a_flow (buffers n p)) d is os = buffer_lawful node n p is os
-  RoleLawful node (a_flow (recovers t)) d is os = stage_lawful (one_way_by g w node (a_flow (recovers t)) d) is os × OneToOne (RecoverLawful (w.moves node)) is os
+  RoleLawful node (a_flow (recovers t)) d is os = stage_lawful (one_way_by g w node (a_flow (recovers t)) d) is os
+      × OneToOne (RecoverLawful (w.moves node)) is os
   RoleLawful node (a_flow (obeys name)) d is os = stage_lawful (one_way_by g w node (a_flow (obeys name)) d) is os × OneToOne (ValveLawful (w.moves node)) is os
   RoleLawful node (a_flow (groups_by n f chain)) d is os = stage_lawful (one_way_by g w node (a_flow (groups_by n f chain)) d) is os
       × OneToOne (SubsLawful joining.Merge (w.moves node)) is os

@@ -1,6 +1,6 @@
 -- What the stages keep between elements, in the words of the model.
 use Rattle.std.specs.Prelude.{◌≡◌, ℕ, ◌+◌, true, List, [], ◌∷◌, Option, Some, None, Result, Ok, Err}
-use Rattle.elem_core.specs.Tree.{Tree, seq, row}
+use Rattle.elem_core.specs.Tree.{Tree, num, seq, row}
 use Rattle.elem_core.specs.Values.{fold_zero, fold_step, reduce_step}
 use Rattle.elem_core.specs.declared.function.FoldOp.{FoldOp}
 use Rattle.elem_core.specs.declared.function.ReduceOp.{ReduceOp}
@@ -14,6 +14,8 @@ use Rattle.step_work.specs.declared.keeping.StateWork.{StateWork}
 use Rattle.step_work.specs.declared.keeping.StateWork.TheVariants.{Group, Fold, Reduce, Scan}
 use Rattle.step_work.specs.declared.kind.StateKind.{StateKind}
 use Rattle.step_work.specs.declared.kind.StateKind.TheVariants as kind
+use Rattle.step_work.specs.declared.keeping.KeptAtOnce.{KeptAtOnce}
+use Rattle.step_work.specs.declared.keeping.KeptAtOnce.TheVariants as at_once
 use Rattle.step_work.specs.declared.keeping.StateReaction.{StateReaction}
 use Rattle.step_work.specs.declared.keeping.StateReaction.TheVariants.{Gives, Asks, Fails}
 
@@ -53,6 +55,11 @@ Reacted d old t new (Fails why) =
       gave = [];
       state = broken (record { stage = node; nth = taken + 1; why = why });
     }) × GoesOn old new
+
+-- what comes of an element at once, as an outcome
+abbrev pub kept_outcome : KeptAtOnce → StateReaction
+kept_outcome (at_once.Gives z) = Gives (num z)
+kept_outcome at_once.Asks = Asks
 
 -- what the end of the input brings: nothing, a value, or a failure that blames no element
 abbrev pub FinishesBy : Work → Result (Option Tree) Why → Type 0

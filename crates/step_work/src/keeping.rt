@@ -1,6 +1,9 @@
-ghost use Rattle.std.specs.Prelude.{◌≡◌, IfOk, [], Some, None};
+ghost use Rattle.std.specs.Prelude.{◌≡◌, IfOk, IfSome, IfNone, [], Ok, Some, None};
+ghost use Rattle.elem_core.specs.Tree.{num};
+ghost use Rattle.elem_core.specs.Values.{fold_step, reduce_step};
+ghost use Rattle.elem_core.specs.declared.why.Decider.{Decider};
 ghost use Rattle.stream_model.specs.Linear.{grouping, folding, scanning, reducing};
-ghost use Rattle.step_work.specs.Keeping.{work_in, last_group, Reacted, Finishes, NextBy, NextReducedBy};
+ghost use Rattle.step_work.specs.Keeping.{work_in, kept_outcome, last_group, Reacted, Finishes, NextBy, NextReducedBy};
 
 use elem_core::elem::{Elem, Form};
 use elem_core::function::{FnEnd, FoldOp, ReduceOp};
@@ -43,9 +46,67 @@ pub enum StateReaction {
     Fails(Why),
 }
 
+// What comes of an element at once: it takes no memory, and holds no element.
+#[derive(Clone, Copy)]
+enum KeptAtOnce {
+    /// This number is given.
+    Gives(i64),
+    /// Nothing is given: the stage asks again.
+    Asks,
+}
+
+impl KeptAtOnce {
+    // The same, as what came of an element.
+    #[inline(always)]
+    fn reaction(self) -> StateReaction
+        ensures { result ≡ kept_outcome self }
+    {
+        match self {
+            KeptAtOnce::Gives(z) => StateReaction::Gives(Elem::of(Form::Num(z))),
+            KeptAtOnce::Asks => StateReaction::Asks,
+        }
+    }
+}
+
 impl StateWork {
+    // One more element, where the next value is a number: what comes of it is known at once, whatever the decider. `None` leaves
+    // the work as it is.
+    // Choice: docs/DECISIONS.md#short-way
+    #[inline(always)]
+    fn at_once(&mut self, e: &Elem) -> Option<KeptAtOnce>
+        ensures said { IfSome result (λ s. (d : Decider) → Reacted d (work_in self.old) e.now (work_in self.new) (kept_outcome s)) }
+        ensures unsaid { IfNone result (self.new ≡ self.old) }
+    {
+        match self {
+            StateWork::Fold(op, acc) => fold_at_once(op, acc, e),
+            StateWork::Scan(op, acc) => scan_at_once(op, acc, e),
+            StateWork::Reduce(op, acc) => reduce_at_once(op, acc, e),
+            StateWork::Group(_, _) => None,
+        }
+    }
+
     /// One more element, for a stage with this decider.
+    #[inline(always)]
     pub fn react(
+        &mut self,
+        alloc: Global,
+        decider: Decider,
+        e: Elem,
+    ) -> Result<StateReaction, NoMemory>
+        ensures { IfOk result (Reacted decider (work_in self.old) e (work_in self.new)) }
+    {
+        match self.at_once(&e) {
+            Some(said) => {
+                e.discard();
+                Ok(said.reaction())
+            }
+            None => self.react_by_step(alloc, decider, e),
+        }
+    }
+
+    // The same where it is not known at once, out of line, since most elements are numbers.
+    #[inline(never)]
+    fn react_by_step(
         &mut self,
         alloc: Global,
         decider: Decider,
@@ -79,6 +140,83 @@ impl StateWork {
 // An element without memory, where one was moved out.
 fn placeholder() -> Elem {
     Elem::of(Form::Num(0))
+}
+
+#[inline(always)]
+fn fold_at_once(op: &FoldOp, acc: &mut Elem, e: &Elem) -> Option<KeptAtOnce>
+    ensures said { IfSome result (λ s. (d : Decider) → Reacted d (folding op.now acc.old) e.now (folding op.now acc.new) (kept_outcome s)) }
+    ensures unsaid { IfNone result (acc.new ≡ acc.old) }
+{
+    let z = folded(op, acc, e)?;
+    set(acc, z);
+    Some(KeptAtOnce::Asks)
+}
+
+#[inline(always)]
+fn scan_at_once(op: &FoldOp, acc: &mut Elem, e: &Elem) -> Option<KeptAtOnce>
+    ensures said { IfSome result (λ s. (d : Decider) → Reacted d (scanning op.now acc.old) e.now (scanning op.now acc.new) (kept_outcome s)) }
+    ensures unsaid { IfNone result (acc.new ≡ acc.old) }
+{
+    let z = folded(op, acc, e)?;
+    set(acc, z);
+    Some(KeptAtOnce::Gives(z))
+}
+
+#[inline(always)]
+fn reduce_at_once(op: &ReduceOp, acc: &mut Option<Elem>, e: &Elem) -> Option<KeptAtOnce>
+    ensures said { IfSome result (λ s. (d : Decider) → Reacted d (reducing op.now acc.old) e.now (reducing op.now acc.new) (kept_outcome s)) }
+    ensures unsaid { IfNone result (acc.new ≡ acc.old) }
+{
+    let Some(value) = acc else {
+        return None;
+    };
+    let z = reduced(op, value, e)?;
+    set(value, z);
+    Some(KeptAtOnce::Asks)
+}
+
+// The next value of a fold, where it is a number.
+#[inline(always)]
+fn folded(op: &FoldOp, acc: &Elem, e: &Elem) -> Option<i64>
+    ensures { IfSome result (λ z. fold_step op.now acc.now e.now ≡ Ok (num z)) }
+{
+    let Form::Num(a) = acc.form() else {
+        return None;
+    };
+    if let FoldOp::Count = op {
+        return a.checked_add(1);
+    }
+    let Form::Num(x) = e.form() else {
+        return None;
+    };
+    match op {
+        FoldOp::Sum => a.checked_add(*x),
+        FoldOp::SumNonneg if *x >= 0 => a.checked_add(*x),
+        _ => None,
+    }
+}
+
+// The next value of a reduction, where it is a number.
+#[inline(always)]
+fn reduced(op: &ReduceOp, acc: &Elem, e: &Elem) -> Option<i64>
+    ensures { IfSome result (λ z. reduce_step op.now acc.now e.now ≡ Ok (num z)) }
+{
+    let (Form::Num(a), Form::Num(x)) = (acc.form(), e.form()) else {
+        return None;
+    };
+    match op {
+        ReduceOp::Sum => a.checked_add(*x),
+        ReduceOp::Max => Some(if *x > *a { *x } else { *a }),
+        ReduceOp::Min => Some(if *x < *a { *x } else { *a }),
+    }
+}
+
+// A value becomes this number.
+#[inline(always)]
+fn set(value: &mut Elem, z: i64)
+    ensures { value.new ≡ num z }
+{
+    mem::replace(value, Elem::of(Form::Num(z))).discard();
 }
 
 fn group(

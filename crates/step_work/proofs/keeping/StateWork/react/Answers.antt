@@ -1,13 +1,7 @@
 use Rattle.step_work.proofs.keeping.StateWork.react.Goals as goal
 
-pub returns-in-Group : goal.returns-in-Group
-returns-in-Group c = rw c.in-Group.is c.group.ensures
+pub returns-in-Some : goal.returns-in-Some
+returns-in-Some c = rw c.reaction.ensures (c.in-Some.ensures.said c.args.decider)
 
-pub returns-in-Fold : goal.returns-in-Fold
-returns-in-Fold c = rw c.in-Fold.is c.fold.ensures
-
-pub returns-in-Reduce : goal.returns-in-Reduce
-returns-in-Reduce c = rw c.in-Reduce.is c.reduce.ensures
-
-pub returns-in-Scan : goal.returns-in-Scan
-returns-in-Scan c = rw c.in-Scan.is c.scan.ensures
+pub returns-in-None : goal.returns-in-None
+returns-in-None c = rw c.in-None.ensures.unsaid at c.react_by_step.ensures

@@ -1,22 +1,26 @@
 -- A node that acts outside of its handlers, or from which something is handed out: the graph's laws stand.
-use Rattle.std.proofs.Common.{◌≡◌, inl, inr, ℕ, zero, suc, ◌<◌, None, Some, List, [], ◌∷◌, length, map, get_or, slice_get, set, refl, sym, ap, ◌∙◌, subst, arith}
+use Rattle.std.proofs.Common.{◌≡◌, inl, inr, ℕ, zero, suc, ◌+◌, ◌^◌, ◌<◌, ◌≤◌, true, false, None, Some, List, [], ◌∷◌, length, map, get_or, slice_get, set, refl, sym, ap, ◌∙◌, subst, arith}
 use Rattle.std.specs.Prelude.{Option, IfNone, IfSome}
 use Rattle.std.proofs.lemmas.List.{length-set}
 use Rattle.elem_core.specs.Tree.{Tree}
+use Rattle.elem_core.specs.Items.{elements}
+use Rattle.elem_core.specs.declared.count.TheConstants.{MOST_COUNT}
 use Rattle.elem_core.specs.declared.item.Item.{Item}
+use Rattle.port_core.specs.Cell.{moved_by, queues_by}
+use Rattle.port_core.specs.Ring.{is_queued}
 use Rattle.port_core.specs.View.{View}
 use Rattle.port_core.specs.Asking.{PullsStand}
 use Rattle.port_core.specs.declared.act.Act.{Act}
 use Rattle.port_core.specs.declared.act.Act.TheVariants.{Pull, Push, Complete, FailOut, Cancel}
 use Rattle.stage_core.specs.Handling.{Pulls}
 use Rattle.stage_core.specs.Handing.{Hands}
-use Rattle.fused_net.specs.Net.{Net, view_of, took, gave, acted, acted_all, with_node}
+use Rattle.fused_net.specs.Net.{Net, end_at, wire_at, ports_at, view_of, took, gave, put, wire_for, acted, acted_all, with_node, Able}
 use Rattle.fused_net.specs.Laws.{AnyRow, AnyLaw, IsAsking, MovesGrow, Minds, IsMinded, Settled, Busy, AllAsked, AllMoments, NetGoesOn}
-use Rattle.fused_net.specs.Costs.{Uses}
+use Rattle.fused_net.specs.Costs.{all_asks, Uses}
 use Rattle.fused_net.specs.Poking.{AtNode, HandsAt, TellsPoked}
 use Rattle.fused_net.proofs.Reading.{same_or_not, some_same, get_set_same, get_set_other}
 use Rattle.fused_net.proofs.Ongoing.{goes_node, goes_acts, nodes-acts}
-use Rattle.fused_net.proofs.Acting.{busy_any, acts_settled}
+use Rattle.fused_net.proofs.Acting.{busy_any, acts_settled, next_able}
 use Rattle.fused_net.proofs.Asking.{moves_node, asking_kept, after_acts, swap_asked}
 use Rattle.fused_net.proofs.Moments.{allowed_of, acts_moments, node_moments}
 use Rattle.fused_net.proofs.Going.{acts_uses}
@@ -49,6 +53,21 @@ stands_one (Complete j) = tt
 stands_one (FailOut j c) = tt
 stands_one (Cancel i) = tt
 
+-- the wire of a port
+wire_of : (ws : List ℕ) (i w : ℕ) → slice_get ws i ≡ Some w → get_or ws i 0 ≡ w
+wire_of [] i w e = absurd cc
+wire_of (x ∷ ws) zero w e = cc
+wire_of (x ∷ ws) (suc i) w e = wire_of ws i w e
+
+-- what an action needs of its wire
+free_at : {N : Type 0} (net : Net N) (n w : ℕ) (a : Act) → wire_for a (ports_at net n) ≡ w → Able net n a
+    → (queues_by a (wire_at net w).wire.conn ≡ true → is_queued net.queue w ≡ false) × (elements (wire_at net w).wire.sent + 1 < 2 ^ 64)
+free_at net n w a e able = (rw e at able.free, rw e at able.count)
+
+-- what an action does at its wire
+acted_at : {N : Type 0} (net : Net N) (n w : ℕ) (a : Act) → wire_for a (ports_at net n) ≡ w → acted net n a ≡ put net w (moved_by a (wire_at net w)) (queues_by a (wire_at net w).wire.conn)
+acted_at net n w a e = rw e refl
+
 -- to push asks nothing
 pub push_asks_nothing : {N : Type 0} (asking : N → View → Type 0) (net : Net N) (n j : ℕ) (e : Tree) → TellsPoked asking net n (Push j e)
 push_asks_nothing asking net n j e p = absurd p
@@ -76,6 +95,41 @@ module _ {N : Type 0} (port_state : N → View → Type 0) (law : N → N → Vi
         on = goes_acts (a ∷ []) net n;
         uses = acts_uses (a ∷ []) net n any;
       })
+
+  -- a node acts at the wire of its port
+  module _ (net : Net N) (s : Settled port_state law asking moves net) (w : ℕ) (h : w < length net.wires) where
+    from_wire : get_or (ports_at net (end_at net.ends w).from).outs (end_at net.ends w).output 0 ≡ w
+    from_wire = wire_of (ports_at net (end_at net.ends w).from).outs (end_at net.ends w).output w (s.wired.from_output w h)
+
+    to_wire : get_or (ports_at net (end_at net.ends w).to).ins (end_at net.ends w).input 0 ≡ w
+    to_wire = wire_of (ports_at net (end_at net.ends w).to).ins (end_at net.ends w).input w (s.wired.to_input w h)
+
+    pub push_free : (e : Tree) → IsMinded port_state law net (end_at net.ends w).from (Push (end_at net.ends w).output e ∷ []) → all_asks net ≤ MOST_COUNT
+        → (queues_by (Push 0 e) (wire_at net w).wire.conn ≡ true → is_queued net.queue w ≡ false) × (elements (wire_at net w).wire.sent + 1 < 2 ^ 64)
+    push_free e m few = free_at net _ w (Push (end_at net.ends w).output e) from_wire
+        (next_able port_state law _ _ (Push (end_at net.ends w).output e) (Push (end_at net.ends w).output e ∷ []) [] refl (poked_busy net _ _ s (s.wired.from_within w h) m) few)
+
+    pub pull_free : IsMinded port_state law net (end_at net.ends w).to (Pull (end_at net.ends w).input ∷ []) → all_asks net ≤ MOST_COUNT
+        → (queues_by (Pull 0) (wire_at net w).wire.conn ≡ true → is_queued net.queue w ≡ false) × (elements (wire_at net w).wire.sent + 1 < 2 ^ 64)
+    pull_free m few = free_at net _ w (Pull (end_at net.ends w).input) to_wire
+        (next_able port_state law _ _ (Pull (end_at net.ends w).input) (Pull (end_at net.ends w).input ∷ []) [] refl (poked_busy net _ _ s (s.wired.to_within w h) m) few)
+
+    pub pushed_there : (new : Net N) (e : Tree) → new ≡ put net w (moved_by (Push 0 e) (wire_at net w)) (queues_by (Push 0 e) (wire_at net w).wire.conn)
+        → new ≡ acted net (end_at net.ends w).from (Push (end_at net.ends w).output e)
+    pushed_there new e is = is ∙ sym (acted_at net _ w (Push (end_at net.ends w).output e) from_wire)
+
+    pub pulled_there : (new : Net N) → new ≡ put net w (moved_by (Pull 0) (wire_at net w)) (queues_by (Pull 0) (wire_at net w).wire.conn)
+        → new ≡ acted net (end_at net.ends w).to (Pull (end_at net.ends w).input)
+    pulled_there new is = is ∙ sym (acted_at net _ w (Pull (end_at net.ends w).input) to_wire)
+
+    pub push_poked : (new : Net N) (e : Tree) → new ≡ put net w (moved_by (Push 0 e) (wire_at net w)) (queues_by (Push 0 e) (wire_at net w).wire.conn)
+        → IsMinded port_state law net (end_at net.ends w).from (Push (end_at net.ends w).output e ∷ []) → Poked net new (end_at net.ends w).from (Push (end_at net.ends w).output e)
+    push_poked new e is m = poked net new _ _ (pushed_there new e is) s (s.wired.from_within w h) m (push_asks_nothing asking net _ _ e)
+
+    pub pull_poked : (new : Net N) → new ≡ put net w (moved_by (Pull 0) (wire_at net w)) (queues_by (Pull 0) (wire_at net w).wire.conn)
+        → IsMinded port_state law net (end_at net.ends w).to (Pull (end_at net.ends w).input ∷ []) → TellsPoked asking net (end_at net.ends w).to (Pull (end_at net.ends w).input)
+        → Poked net new (end_at net.ends w).to (Pull (end_at net.ends w).input)
+    pull_poked new is m tells = poked net new _ _ (pulled_there new is) s (s.wired.to_within w h) m tells
 
   module _ (gone waits : N → List Item) where
     -- the moves of the nodes only grow

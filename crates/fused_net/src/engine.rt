@@ -1,5 +1,5 @@
 // Nodes joined by wires: one action, one event, and `execute`.
-ghost use Rattle.std.specs.Prelude.{◌≡◌, ℕ, true, ◌+◌, ◌<◌, ◌≤◌, [], ◌∷◌, false, None, Some, OnOk, OnErr, IfOk, IfNone, IfSome, IsSome, IsTrue, ◌↔◌, ◌≢◌, length, map, replicate, slice_get};
+ghost use Rattle.std.specs.Prelude.{◌≡◌, ℕ, true, ◌+◌, ◌^◌, ◌<◌, ◌≤◌, [], ◌∷◌, false, None, Some, OnOk, OnErr, IfOk, IfNone, IfSome, IsSome, IsTrue, ◌↔◌, ◌≢◌, length, map, replicate, slice_get};
 ghost use Rattle.elem_core.specs.Prefix.{IsPrefix};
 ghost use Rattle.elem_core.specs.declared.count.TheConstants.{MOST_COUNT};
 ghost use Rattle.port_core.specs.Call.{Meets};
@@ -11,7 +11,9 @@ ghost use Rattle.stage_core.specs.declared.stage.TheConstants.{LEAST_ACTS};
 ghost use Rattle.stage_core.specs.Rooms.{HasRoom};
 ghost use Rattle.stage_core.specs.Handling.{PullsAs, StaysPassive, Handles};
 ghost use Rattle.stage_core.specs.Handing.{cancel_first};
-ghost use Rattle.port_core.specs.Cell.{new_cell, brought_in, Tells};
+ghost use Rattle.port_core.specs.Cell.{new_cell, moved_by, brought_in, Tells};
+ghost use Rattle.port_core.specs.Decoding.{can_push, can_pull};
+ghost use Rattle.elem_core.specs.Items.{elements};
 ghost use Rattle.fused_net.specs.Net.{acted, acted_all, event_told, put, wire_at, end_at, Able, port_at, node_for, call_for, IsBrought, before, Takes};
 ghost use Rattle.fused_net.specs.declared.queue.TheConstants.{MOST_CHASES};
 ghost use Rattle.fused_net.specs.Laws.{AnyRow, AnyLaw, Wired, first_view, Settled, Busy, Starting, NetGoesOn, AllKept, BreaksOff, IsMinded, HaveRoom};
@@ -245,6 +247,16 @@ impl<S: Stage> Engine<S> {
         ensures { self.new ≡ acted self.old n (act.Pull i) }
     {
         let w = self.ports[n].input(i);
+        self.pull_at(w);
+    }
+
+    // The node at the input of wire w pulls there.
+    #[inline(always)]
+    fn pull_at(&mut self, w: u32)
+        requires within { w < length self.old.wires }
+        requires free { can_pull (wire_at self.old w).wire.conn ≡ true → is_queued self.old.queue w ≡ false }
+        ensures { self.new ≡ put self.old w (moved_by (act.Pull 0) (wire_at self.old w)) (can_pull (wire_at self.old w).wire.conn) }
+    {
         if self.wires[w as usize].pull() {
             self.queue.pull(w);
         }
@@ -257,6 +269,17 @@ impl<S: Stage> Engine<S> {
         ensures { self.new ≡ acted self.old n (act.Push j e) }
     {
         let w = self.ports[n].output(j);
+        self.push_at(w, e);
+    }
+
+    // The node at the output of wire w pushes an element there.
+    #[inline(always)]
+    fn push_at(&mut self, w: u32, e: Elem)
+        requires within { w < length self.old.wires }
+        requires free { can_push (wire_at self.old w).wire.conn ≡ true → is_queued self.old.queue w ≡ false }
+        requires count { elements (wire_at self.old w).wire.sent + 1 < 2 ^ 64 }
+        ensures { self.new ≡ put self.old w (moved_by (act.Push 0 e) (wire_at self.old w)) (can_push (wire_at self.old w).wire.conn) }
+    {
         if self.wires[w as usize].push(e) {
             self.queue.push(w);
         }
@@ -697,35 +720,35 @@ impl<S: Stage> Engine<S> {
         self.act(n as usize, act);
     }
 
-    /// Node n pushes an element outside of its handlers, as `poke` says.
+    /// The node at the output of wire w pushes an element there outside of its handlers, as `poke` says.
     #[inline(always)]
-    pub fn poke_push(&mut self, n: u32, j: u8, e: Elem)
+    pub fn poke_push(&mut self, w: u32, e: Elem)
         requires laws { Settled S.port_state S.law S.asking S.moves self.old }
-        requires within { n < length self.old.nodes }
-        requires may { IsMinded S.port_state S.law self.old n (act.Push j e ∷ []) }
+        requires within { w < length self.old.wires }
+        requires may { IsMinded S.port_state S.law self.old (end_at self.old.ends w).from (act.Push (end_at self.old.ends w).output e ∷ []) }
         requires few { all_asks self.old ≤ MOST_COUNT }
-        ensures after { self.new ≡ acted self.old n (act.Push j e) }
+        ensures after { self.new ≡ acted self.old (end_at self.old.ends w).from (act.Push (end_at self.old.ends w).output e) }
         ensures laws { Settled S.port_state S.law S.asking S.moves self.new }
         ensures on { NetGoesOn self.old self.new }
         ensures uses { Uses self.old self.new 0 }
     {
-        self.push(n as usize, j, e);
+        self.push_at(w, e);
     }
 
-    /// Node n pulls outside of its handlers, as `poke` says.
+    /// The node at the input of wire w pulls there outside of its handlers, as `poke` says.
     #[inline(always)]
-    pub fn poke_pull(&mut self, n: u32, i: u8)
+    pub fn poke_pull(&mut self, w: u32)
         requires laws { Settled S.port_state S.law S.asking S.moves self.old }
-        requires within { n < length self.old.nodes }
-        requires may { IsMinded S.port_state S.law self.old n (act.Pull i ∷ []) }
-        requires tells { TellsPoked S.asking self.old n (act.Pull i) }
+        requires within { w < length self.old.wires }
+        requires may { IsMinded S.port_state S.law self.old (end_at self.old.ends w).to (act.Pull (end_at self.old.ends w).input ∷ []) }
+        requires tells { TellsPoked S.asking self.old (end_at self.old.ends w).to (act.Pull (end_at self.old.ends w).input) }
         requires few { all_asks self.old ≤ MOST_COUNT }
-        ensures after { self.new ≡ acted self.old n (act.Pull i) }
+        ensures after { self.new ≡ acted self.old (end_at self.old.ends w).to (act.Pull (end_at self.old.ends w).input) }
         ensures laws { Settled S.port_state S.law S.asking S.moves self.new }
         ensures on { NetGoesOn self.old self.new }
         ensures uses { Uses self.old self.new 0 }
     {
-        self.pull(n as usize, i);
+        self.pull_at(w);
     }
 
     // Node n cancels its first input, where it failed, and else does nothing.

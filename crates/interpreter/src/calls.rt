@@ -57,8 +57,7 @@ pub fn push_in<S: Source, D: Drain, L: Logic, B: PlugBook>(
     ensures on { NetGoesOn engine.old engine.new }
     ensures uses { Uses engine.old engine.new 0 }
 {
-    let ends = engine.ends(place);
-    engine.poke_push(ends.from, ends.output, e);
+    engine.poke_push(place, e);
 }
 
 /// Completes what comes in there, or fails it; no change where its output is closed. It takes no memory and costs no unit.
@@ -134,8 +133,7 @@ pub fn pull_out<S: Source, D: Drain, L: Logic, B: PlugBook>(
     ensures on { NetGoesOn engine.old engine.new }
     ensures uses { Uses engine.old engine.new 0 }
 {
-    let ends = engine.ends(place);
-    engine.poke_pull(ends.to, ends.input);
+    engine.poke_pull(place);
 }
 
 /// Hands out what came where a lane goes out, each element and the end once and in order. It takes no memory and costs no unit.

@@ -80,6 +80,17 @@ stands_next (Cancel i) acts h = h
 pub turned : (old new : List Act) (a : Act) → old ≡ new ++ a ∷ [] → reverse old ≡ a ∷ reverse new
 turned old new a e = ap reverse e ∙ reverse-append new (a ∷ [])
 
+-- also where one stands behind all of them
+pub turned_before : (old new : List Act) (a last : Act) → old ≡ new ++ a ∷ [] → reverse old ++ last ∷ [] ≡ a ∷ (reverse new ++ last ∷ [])
+turned_before old new a last e = ap (λ (l : List Act). l ++ last ∷ []) (turned old new a e)
+
+pub turned_none : (acts : List Act) (last : Act) → acts ≡ [] → reverse acts ++ last ∷ [] ≡ last ∷ []
+turned_none acts last e = ap (λ (l : List Act). reverse l ++ last ∷ []) e
+
+-- two actions, of which the last was taken out first
+pub two_of : (acts rest : List Act) (first last : Act) → acts ≡ rest ++ last ∷ [] → rest ≡ first ∷ [] → acts ≡ first ∷ last ∷ []
+two_of acts rest first last e f = e ∙ ap (λ (l : List Act). l ++ last ∷ []) f
+
 pub turned_back : (old new : List Act) → new ≡ reverse old → reverse new ≡ old
 turned_back old new e = ap reverse e ∙ reverse-reverse old
 

@@ -1,5 +1,5 @@
 // Nodes joined by wires: one action, one event, and `execute`.
-ghost use Rattle.std.specs.Prelude.{◌≡◌, ℕ, true, ◌+◌, ◌^◌, ◌<◌, ◌≤◌, [], ◌∷◌, false, None, Some, OnOk, OnErr, IfOk, IfNone, IfSome, IsSome, IsTrue, ◌↔◌, ◌≢◌, length, map, replicate, slice_get};
+ghost use Rattle.std.specs.Prelude.{◌≡◌, ℕ, true, ◌+◌, ◌^◌, ◌<◌, ◌≤◌, [], ◌∷◌, ◌++◌, false, None, Some, OnOk, OnErr, IfOk, IfNone, IfSome, IsSome, IsTrue, ◌↔◌, ◌≢◌, length, map, replicate, slice_get};
 ghost use Rattle.elem_core.specs.Prefix.{IsPrefix};
 ghost use Rattle.elem_core.specs.declared.count.TheConstants.{MOST_COUNT};
 ghost use Rattle.port_core.specs.Call.{Meets};
@@ -427,11 +427,32 @@ impl<S: Stage> Engine<S> {
         ensures after { self.new ≡ acted_all self.old n acts.old.items }
         ensures acts { acts.new ≡ record acts.old { items = [] } }
     {
+        let Some(last) = acts.take_last() else {
+            return;
+        };
+        match acts.only() {
+            Some(first) => {
+                self.act(n, first);
+                self.act(n, last);
+            }
+            None => self.perform_many(n, acts, last),
+        }
+        self.settle();
+    }
+
+    // The same where they are not two, and the last was taken out of the list.
+    #[inline(never)]
+    fn perform_many(&mut self, n: usize, acts: &mut Acts, last: Act)
+        requires busy { Busy AnyRow AnyLaw self.old n (acts.old.items ++ last ∷ []) }
+        requires few { all_asks self.old ≤ MOST_COUNT }
+        ensures after { self.new ≡ acted_all self.old n (acts.old.items ++ last ∷ []) }
+        ensures acts { acts.new ≡ record acts.old { items = [] } }
+    {
         acts.reverse();
         while let Some(act) = acts.take_last() {
             self.act(n, act);
         }
-        self.settle();
+        self.act(n, last);
     }
 
     // Tells an end of the event of a wire that was taken out of the queue.

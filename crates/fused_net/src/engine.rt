@@ -336,7 +336,7 @@ impl<S: Stage> Engine<S> {
     }
 
     // The same where it does not push: then it mostly pulls, or is passive, as at the end of a lane, and wants nothing done.
-    #[inline(never)]
+    #[inline(always)]
     fn perform_pull(&mut self, n: usize, acts: &mut Acts) -> bool
         requires within { n < length self.old.nodes }
         requires busy { Busy AnyRow AnyLaw self.old n acts.old.items }
@@ -356,7 +356,7 @@ impl<S: Stage> Engine<S> {
         self.perform(n, acts)
     }
 
-    // The same once it was pulled: then it mostly pulls.
+    // The same once it was pulled: then it mostly pulls, or is passive.
     #[inline(always)]
     fn perform_after_pull(&mut self, n: usize, acts: &mut Acts) -> bool
         requires within { n < length self.old.nodes }
@@ -371,10 +371,13 @@ impl<S: Stage> Engine<S> {
             self.pull(n, i);
             return false;
         }
+        if self.nodes[n].is_passive() {
+            return true;
+        }
         self.perform_push(n, acts)
     }
 
-    // The same where it does not pull: then it mostly pushes, or is passive and wants nothing done.
+    // The same where it does not pull and is not passive: then it mostly pushes.
     #[inline(never)]
     fn perform_push(&mut self, n: usize, acts: &mut Acts) -> bool
         requires within { n < length self.old.nodes }
@@ -388,9 +391,6 @@ impl<S: Stage> Engine<S> {
         if let Some((j, e)) = acts.only_push() {
             self.push(n, j, e);
             return false;
-        }
-        if self.nodes[n].is_passive() {
-            return true;
         }
         self.perform(n, acts)
     }

@@ -1,4 +1,5 @@
 pub mod Acting
+pub mod Alone
 pub mod Tables
 pub mod Islands
 pub mod Picking

@@ -1,5 +1,5 @@
 -- The parts of an island: what stands at each of its places, and the links between their ports.
-use Rattle.std.specs.Prelude.{◌≡◌, ℕ, zero, suc, ◌<◌, ◌^◌, false, None, Some, List, [], ◌∷◌, map, length, slice_get, slice_set, ⊤}
+use Rattle.std.specs.Prelude.{◌≡◌, ℕ, zero, suc, ◌<◌, ◌≤◌, ◌^◌, false, None, Some, List, [], ◌∷◌, map, length, slice_get, slice_set, ⊤}
 use Rattle.port_core.specs.declared.view.InView.TheVariants.{Idle}
 use Rattle.port_core.specs.declared.view.OutView.TheVariants.{Unpulled}
 use Rattle.stream_model.specs.declared.kind.Kind.TheVariants.{Ignore}
@@ -150,6 +150,19 @@ abbrev pub AllBecome : {S D L B : Type 0} → List (Seated S D L B) → List (Is
 AllBecome [] [] = ⊤
 AllBecome (s ∷ ss) (x ∷ xs) = Becomes s x × AllBecome ss xs
 AllBecome _ _ = ⊥
+
+-- none of these works has room to put lines together
+abbrev pub NonePutsTogether : {S D L B : Type 0} → List (Seated S D L B) → Type 0
+NonePutsTogether seats = (k : ℕ) (s : _) → slice_get seats k ≡ Some s → s.room ≤ 1
+
+-- a node that writes lines has room for one alone
+abbrev pub PutsOne : {S D L B : Type 0} → IslandNode S D L B → Type 0
+PutsOne (node.Writing x) = x.gather.room ≡ 1
+PutsOne x = ⊤
+
+-- each of these nodes does
+abbrev pub AllPutOne : {S D L B : Type 0} → List (IslandNode S D L B) → Type 0
+AllPutOne nodes = (k : ℕ) (x : _) → slice_get nodes k ≡ Some x → PutsOne x
 
 -- the tables of the wires at the ports of each place have a row for each port
 pub record IsSized (ins outs : ℕ → ℕ) (places : ℕ) (ports : List PortLists) : Type 0 where

@@ -6,7 +6,7 @@ ghost use Rattle.fused_net.specs.Costs.{all_asks, Uses};
 ghost use Rattle.fused_net.specs.Outside.{BreaksAside, StandsStill, Untouched};
 ghost use Rattle.fused_net.specs.declared.queue.TheConstants.{MOST_CHASES};
 ghost use Rattle.nodes.specs.Nodes.{node_fresh, node_port_state, node_law, node_asking, node_moves, node_gone, node_passive, KeepsNode, NoneLate};
-ghost use Rattle.interpreter.specs.Parts.{AreParts, AllBecome, IsSized, ends_of, wire_number, inputs_at, outputs_at, seat_place};
+ghost use Rattle.interpreter.specs.Parts.{AreParts, AllBecome, NonePutsTogether, IsSized, ends_of, wire_number, inputs_at, outputs_at, seat_place};
 ghost use Rattle.interpreter.specs.Picks.{place_number, pick_of, with_picks, picks_of};
 ghost use Rattle.interpreter.specs.Misfits.{least, found_at, least_of};
 ghost use Rattle.port_core.specs.Picks.{misfit_in};
@@ -28,7 +28,7 @@ ghost use Rattle.port_core.specs.declared.act.Act.TheVariants as act;
 
 use crate::calls;
 use crate::lane_ends::list_lanes;
-use crate::parts::{Parts, build_all, join_ports};
+use crate::parts::{Parts, Seated, build_all, join_ports};
 use crate::room::{Blank, IslandRoom};
 use crate::wanted::Wanted;
 use crate::ways::Ways;
@@ -59,6 +59,8 @@ pub struct Island<S: Source, D: Drain, L: Logic, B: PlugBook> {
     places: Vec<u32>,
     // The connections at which lanes come in and go out.
     ways: Ways,
+    // Whether a sink in it may put lines off.
+    gathers: bool,
     used: u32,
     broken: bool,
     // The lists of its end, which are empty and have room for all of it: it is taken apart without memory.
@@ -74,6 +76,7 @@ impl<S: Source, D: Drain, L: Logic, B: PlugBook> Drop for Island<S, D, L, B> {
             numbers: _,
             places: _,
             ways: _,
+            gathers: _,
             used: _,
             broken: _,
             room: _,
@@ -87,6 +90,7 @@ impl<S: Source, D: Drain, L: Logic, B: PlugBook> Model for Island<S, D, L, B> {
     ghost use Rattle.fused_net.specs.Laws.{HaveRoom};
     ghost use Rattle.interpreter.specs.Island.{Kept, IslandKeeps};
     ghost use Rattle.interpreter.specs.Room.{HasRoom};
+    ghost use Rattle.interpreter.specs.Parts.{AllPutOne};
     ghost use Rattle.std.specs.Coded.{codes};
     ghost use Rattle.elem_core.specs.TreeCode.{tree_coded};
 
@@ -106,7 +110,7 @@ impl<S: Source, D: Drain, L: Logic, B: PlugBook> Model for Island<S, D, L, B> {
 
     ghost invariant = { λ i. HasRoom i.room (length i.engine.nodes) (length i.numbers.items) × (length i.places.items ≡ length i.engine.nodes)
         × (i.broken ≡ false → IslandKeeps S.state D.state B.lists i.engine i.used × (i.acts.items ≡ []) × (LEAST_ACTS ≤ i.acts.room)
-        × HaveRoom i.engine.ports i.acts.room) };
+        × HaveRoom i.engine.ports i.acts.room × (i.gathers ≡ false → AllPutOne i.engine.firsts)) };
 }
 
 /// A sink at the end of a run: its node, the lines that it wrote, and how it stands.
@@ -175,6 +179,7 @@ impl<S: Source, D: Drain, L: Logic, B: PlugBook> Island<S, D, L, B> {
             end,
         } = room;
         let ways = list_lanes(ways, &parts.nodes, &parts.links);
+        let gathers = may_gather(&parts.nodes);
         let mut engine = assemble(alloc, parts, blank);
         match engine.start(alloc, &mut acts) {
             Ok(()) => Ok(Island {
@@ -183,6 +188,7 @@ impl<S: Source, D: Drain, L: Logic, B: PlugBook> Island<S, D, L, B> {
                 numbers,
                 places,
                 ways,
+                gathers,
                 used: 0,
                 broken: false,
                 room: end,
@@ -246,6 +252,7 @@ impl<S: Source, D: Drain, L: Logic, B: PlugBook> Island<S, D, L, B> {
         Ok(advance)
     }
 
+    // Choice: docs/DECISIONS.md#island-knows-whether-it-gathers
     /// Each of its sinks writes the lines that it has put off. Where that fails the sink cancels its input, and only then an event is new.
     /// It takes no memory and costs no unit.
     pub fn put_off(&mut self)
@@ -262,6 +269,9 @@ impl<S: Source, D: Drain, L: Logic, B: PlugBook> Island<S, D, L, B> {
         ensures uses { Uses self.old.net self.new.net 0 }
         ensures all { NoneLate self.new.net.nodes }
     {
+        if !self.gathers {
+            return;
+        }
         self.engine.put_off();
     }
 
@@ -516,6 +526,7 @@ impl<S: Source, D: Drain, L: Logic, B: PlugBook> Island<S, D, L, B> {
             numbers,
             places,
             ways: _,
+            gathers: _,
             used: _,
             broken: _,
             room,
@@ -543,6 +554,18 @@ pub fn hand_back<S: Source, D: Drain, L: Logic, B: PlugBook>(
     } = room;
     let engine = assemble(alloc, parts, blank);
     leave(engine, &numbers, &places, end)
+}
+
+// Whether one of these may put lines together.
+fn may_gather<S: Source, D: Drain, L: Logic, B: PlugBook>(nodes: &[Seated<S, D, L, B>]) -> bool
+    ensures { result ≡ false → NonePutsTogether nodes.now }
+{
+    for n in 0..nodes.len() {
+        if nodes[n].room > 1 {
+            return true;
+        }
+    }
+    false
 }
 
 // The engine of these parts, of which no node was started. It takes no memory.

@@ -5,6 +5,7 @@ use Rattle.fused_net.proofs.Ongoing.{goes_room}
 use Rattle.interpreter.specs.Parts.{wire_number, seat_place}
 use Rattle.interpreter.specs.Ways.{ListsLaneEnds}
 use Rattle.interpreter.proofs.Islands.{calls_fit, keeps_new, room_as, numbers_same}
+use Rattle.interpreter.proofs.Alone.{all_one}
 use Rattle.interpreter.proofs.Handing.{hands_back, holds_handles}
 use Rattle.interpreter.proofs.Bounding.{enters_new, leaves_new, begins_in_new, begins_out_new}
 use Rattle.interpreter.proofs.island.Island.start.Goals as goal
@@ -20,6 +21,7 @@ invariant_of-result g c =
         ap (λ a. a.items) c.in-Ok.ensures.acts ∙ c.requires.room.no_acts,
         omega (arith, ap (λ a. a.room) c.in-Ok.ensures.acts, c.requires.room.least_room),
         goes_room _ _ _ _ c.in-Ok.ensures.on c.in-Ok.ensures.acts (calls_fit _ _ _ c.assemble-engine.ensures.ports c.requires.room.room_for_acts),
+        λ off. all_one c.args.parts.nodes.items _ (rw c.in-Ok.ensures.on.firsts c.assemble-engine.ensures.firsts) (rw c.deref-3.ensures.value at (c.may_gather-gathers.ensures off)),
       ),
     )
 

@@ -118,6 +118,17 @@ pub fn can_pull_out<S: Source, D: Drain, L: Logic, B: PlugBook>(
     engine.wire(place).can_pull() && engine.is_clear(ends.to)
 }
 
+/// Whether the connection lets the stage at the input end ask, where a lane goes out. It takes no memory.
+pub fn lets_pull_out<S: Source, D: Drain, L: Logic, B: PlugBook>(
+    engine: &Engine<IslandNode<S, D, L, B>>,
+    place: u32,
+) -> bool
+    requires within { place < length engine.now.wires }
+    ensures { result ≡ can_pull (wire_at engine.now place).wire.conn }
+{
+    engine.wire(place).can_pull()
+}
+
 /// Asks there. It takes no memory and costs no unit.
 pub fn pull_out<S: Source, D: Drain, L: Logic, B: PlugBook>(
     engine: &mut Engine<IslandNode<S, D, L, B>>,

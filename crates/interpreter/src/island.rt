@@ -377,6 +377,15 @@ impl<S: Source, D: Drain, L: Logic, B: PlugBook> Island<S, D, L, B> {
         calls::can_pull_out(&self.engine, place)
     }
 
+    /// Whether its connection lets it, also where something waits to be handed out. It takes no memory.
+    pub fn lets_pull_by_place(&self, wire: u32, place: u32) -> bool
+        requires leaves { Leaves self.now wire }
+        requires place { place ≡ way_out self.now wire }
+        ensures { result ≡ can_pull (cell_out self.now wire).wire.conn }
+    {
+        calls::lets_pull_out(&self.engine, place)
+    }
+
     /// Whether nothing waits to be handed out there. It takes no memory.
     pub fn is_clear_by_place(&self, wire: u32, place: u32) -> bool
         requires whole { self.now.broken ≡ false }

@@ -153,6 +153,36 @@ impl OutputBoundary {
         true
     }
 
+    // The same where nothing waits at the stage there, so that this is not looked at.
+    #[inline(always)]
+    fn ask_empty<S: Source, D: Drain, L: Logic, B: PlugBook>(
+        &self,
+        island: &mut Island<S, D, L, B>,
+        place: u32,
+    ) -> bool
+        requires whole { island.old.broken ≡ false }
+        requires leaves { Leaves island.old self.now.wire }
+        requires place { place ≡ way_out island.old self.now.wire }
+        requires keeps { Sends self.now.lane island.old self.now.wire }
+        requires none { waiting island.old self.now.wire ≡ [] }
+        ensures keeps { Sends self.now.lane island.new self.now.wire }
+        ensures rest { result ≡ false → (island.new ≡ island.old) × MayNotAsk self.now.lane island.old self.now.wire }
+        ensures asked { result ≡ true → (cell_out island.new self.now.wire).wire.inp ≡ Pulled }
+        ensures waiting { waiting island.new self.now.wire ≡ waiting island.old self.now.wire }
+        ensures got { (cell_out island.new self.now.wire).wire.got ≡ (cell_out island.old self.now.wire).wire.got }
+        ensures left { (cell_out island.new self.now.wire).wire.inp ≡ Cancelled → (cell_out island.old self.now.wire).wire.inp ≡ Cancelled }
+        ensures uses { Uses island.old.net island.new.net 0 }
+        ensures beside { Beside (way_out island.old self.now.wire) (out_node island.old self.now.wire) island.old island.new }
+    {
+        island.came_by_place(self.wire, place);
+        island.laws();
+        if self.lane.left() == 0 || !island.lets_pull_by_place(self.wire, place) {
+            return false;
+        }
+        island.pull_by_place(self.wire, place);
+        true
+    }
+
     /// Sends all that waits at the stage there, and asks it where demand is left and it may be asked. Then nothing is left to do before
     /// something comes to the stage, or to this end of the lane. True comes exactly where something was sent, so that the other end
     /// has to be woken. `place` is the place of the lane's connection. It takes no memory.
@@ -183,7 +213,7 @@ impl OutputBoundary {
         }
         island.came_by_place(self.wire, place);
         island.laws();
-        self.ask(island, place);
+        self.ask_empty(island, place);
         sent
     }
 

@@ -14,8 +14,8 @@ came_by_place-requires-clause-place g c =
     let before : c.args.place ≡ way_out c.loop-sent.island c.loop-sent.self.wire = place_out_beside _ _ c.args.place c.args.island.now c.loop-sent.island c.args.self.now.wire c.loop-sent.self.wire c.loop-sent.invariant.7 c.loop-sent.invariant.1 c.requires.place in
     search rules
 
-pub ask-requires-clause-place : goal.ask-requires-clause-place
-ask-requires-clause-place g c =
+pub ask_empty-requires-clause-place : goal.ask_empty-requires-clause-place
+ask_empty-requires-clause-place g c =
     let before : c.args.place ≡ way_out c.loop-sent.island c.loop-sent.self.wire = place_out_beside _ _ c.args.place c.args.island.now c.loop-sent.island c.args.self.now.wire c.loop-sent.self.wire c.loop-sent.invariant.7 c.loop-sent.invariant.1 c.requires.place in
     search rules
 
@@ -29,4 +29,4 @@ returns-clause-serves g c =
     let cell : cell_out c.send_one.new.island c.send_one.new.self.wire ≡ cell_out c.args.island.now c.args.self.now.wire = search rules in
     let keeps = c.laws.ensures whole in
     serves_asked c.send_one.new.self.lane c.send_one.new.island c.send_one.new.self.wire c.came_by_place.ensures (keeps.laws.wired.to_within (way_out c.send_one.new.island c.send_one.new.self.wire) leaves.place) c.send_one.ensures.keeps
-    (λ e. let l = c.requires.serves.left (rw cell at e) in cc) c.ask.new.island c.ask.ensures.keeps c.ask.ensures.got c.ask.ensures.left
+    (λ e. let l = c.requires.serves.left (rw cell at e) in cc) c.ask_empty.new.island c.ask_empty.ensures.keeps c.ask_empty.ensures.got c.ask_empty.ensures.left

@@ -6,8 +6,8 @@ use Rattle.stream_model.specs.declared.blueprint.Blueprint.{Blueprint}
 use Rattle.stream_model.specs.declared.blueprint.ChainDecl.{ChainDecl}
 use Rattle.stream_model.specs.declared.blueprint.Node.{Node}
 use Rattle.stream_model.specs.declared.blueprint.WireDecl.{WireDecl}
-use Rattle.stream_model.specs.declared.head.PlugHead.{PlugHead}
-use Rattle.blue_names.specs.Names.{taken_twice, unknown_name, unknown_plug, plug_twice}
+use Rattle.stream_model.specs.Known.{HeadLists}
+use Rattle.blue_names.specs.Names.{taken_twice, unknown_name, unknown_guest, guest_twice}
 use Rattle.blue_names.specs.Paths.{IsFirstClosed, HasNoClosedWalk}
 use Rattle.blue_names.specs.Ports.{OpenPort, port_missing, port_twice, port_open}
 use Rattle.blue_names.specs.Rounds.{type_clash, too_deep}
@@ -41,36 +41,36 @@ names_fault switches chains nodes wires taken =
     option_or (option_map TwoNames (taken_twice switches chains nodes taken)) (option_map NoSuchName (unknown_name switches chains nodes wires))
 
 -- the fault of the rules on ports, where one is broken
-abbrev pub ports_fault : List Node → List Edge → Option CheckFault
-ports_fault nodes ws =
-    option_or (option_map NoSuchPort (port_missing nodes ws))
-    (option_or (option_map PortTwice (port_twice ws)) (option_map (open_fault nodes) (port_open nodes ws)))
+abbrev pub ports_fault : HeadLists → List Node → List Edge → Option CheckFault
+ports_fault heads nodes ws =
+    option_or (option_map NoSuchPort (port_missing heads nodes ws))
+    (option_or (option_map PortTwice (port_twice heads nodes ws)) (option_map (open_fault nodes) (port_open heads nodes ws)))
 
--- the fault of the rule on plugs, where it is broken
-abbrev pub plugs_fault : List PlugHead → List ChainDecl → List Node → Option CheckFault
-plugs_fault plugs chains nodes = option_or (option_map NoSuchPlug (unknown_plug plugs chains nodes)) (option_map PlugTwice (plug_twice plugs nodes))
+-- the fault of the rules on plugs and custom stages, where one is broken
+abbrev pub guests_fault : HeadLists → List ChainDecl → List Node → Option CheckFault
+guests_fault heads chains nodes = option_or (option_map NoSuchPlug (unknown_guest heads chains nodes)) (option_map PlugTwice (guest_twice heads nodes))
 
 -- the fault of the rules on sizes and on the wires of hubs, where one is broken
-abbrev pub sizes_fault : List ChainDecl → List Node → List WireDecl → Option CheckFault
-sizes_fault chains nodes wires = option_or (option_map BadSize (size_wrong chains nodes wires)) (option_map HubWire (hub_wrong nodes wires))
+abbrev pub sizes_fault : HeadLists → List ChainDecl → List Node → List WireDecl → Option CheckFault
+sizes_fault heads chains nodes wires = option_or (option_map BadSize (size_wrong heads chains nodes wires)) (option_map HubWire (hub_wrong nodes wires))
 
 -- the fault of the rules on types, where one is broken
-abbrev pub types_fault : List PlugHead → List ChainDecl → List Node → List Edge → Option CheckFault
-types_fault plugs chains nodes ws =
-    option_or (option_map clash_fault (type_clash plugs chains nodes ws)) (option_map (λ i. TooDeep (name_at nodes i)) (too_deep plugs chains nodes ws))
+abbrev pub types_fault : HeadLists → List ChainDecl → List Node → List Edge → Option CheckFault
+types_fault heads chains nodes ws =
+    option_or (option_map clash_fault (type_clash heads chains nodes ws)) (option_map (λ i. TooDeep (name_at nodes i)) (too_deep heads chains nodes ws))
 
 -- the first rule that is broken, of all but that on closed walks
-abbrev pub early_of : List (List ℕ) → List ChainDecl → List Node → List WireDecl → List PlugHead → List (List ℕ) → Option CheckFault
-early_of switches chains nodes wires plugs taken =
+abbrev pub early_of : List (List ℕ) → List ChainDecl → List Node → List WireDecl → HeadLists → List (List ℕ) → Option CheckFault
+early_of switches chains nodes wires heads taken =
     option_or (names_fault switches chains nodes wires taken)
-    (option_or (ports_fault nodes (wires_of nodes wires))
-    (option_or (plugs_fault plugs chains nodes)
-    (option_or (sizes_fault chains nodes wires)
-    (types_fault plugs chains nodes (wires_of nodes wires)))))
+    (option_or (ports_fault heads nodes (wires_of nodes wires))
+    (option_or (guests_fault heads chains nodes)
+    (option_or (sizes_fault heads chains nodes wires)
+    (types_fault heads chains nodes (wires_of nodes wires)))))
 
 -- the fault of the first rule that is broken, of all but that on closed walks
-abbrev pub early_fault : Blueprint → List PlugHead → List (List ℕ) → Option CheckFault
-early_fault b plugs taken = early_of b.switches.items b.chains.items b.nodes.items b.wires.items plugs taken
+abbrev pub early_fault : Blueprint → HeadLists → List (List ℕ) → Option CheckFault
+early_fault b heads taken = early_of b.switches.items b.chains.items b.nodes.items b.wires.items heads taken
 
 -- the fault is that the first wire on a closed walk lies on one
 abbrev pub IsClosedFault : List Edge → CheckFault → Type 0
@@ -78,10 +78,10 @@ IsClosedFault ws (ClosedWalk i) = IsFirstClosed ws i
 IsClosedFault ws _ = ⊥
 
 -- the fault is that of the first rule that is broken, at its least place: closed walks come last
-abbrev pub IsFirstFault : Blueprint → List PlugHead → List (List ℕ) → CheckFault → Type 0
-IsFirstFault b plugs taken f = (early_fault b plugs taken ≡ Some f) ⊎ ((early_fault b plugs taken ≡ None) × IsClosedFault (blueprint_wires b) f)
+abbrev pub IsFirstFault : Blueprint → HeadLists → List (List ℕ) → CheckFault → Type 0
+IsFirstFault b heads taken f = (early_fault b heads taken ≡ Some f) ⊎ ((early_fault b heads taken ≡ None) × IsClosedFault (blueprint_wires b) f)
 
 -- no rule is broken
-pub record IsFit (b : Blueprint) (plugs : List PlugHead) (taken : List (List ℕ)) : Type 0 where
-  pub early : early_fault b plugs taken ≡ None
+pub record IsFit (b : Blueprint) (heads : HeadLists) (taken : List (List ℕ)) : Type 0 where
+  pub early : early_fault b heads taken ≡ None
   pub open_walks : HasNoClosedWalk (blueprint_wires b)

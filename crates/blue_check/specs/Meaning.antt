@@ -2,7 +2,7 @@
 use Rattle.std.specs.Prelude.{◌≡◌, ℕ, List, Option, Some, ◌⊎◌}
 use Rattle.std.specs.Option.{option_map}
 use Rattle.stream_model.specs.declared.blueprint.Blueprint.{Blueprint}
-use Rattle.stream_model.specs.declared.head.PlugHead.{PlugHead}
+use Rattle.stream_model.specs.Known.{HeadLists}
 use Rattle.blue_modules.specs.Plain.{plain}
 use Rattle.blue_modules.specs.Text.{PlainText}
 use Rattle.blue_modules.specs.declared.fault.ModuleFault.{ModuleFault}
@@ -32,5 +32,5 @@ pub record Denotes (Says : PlainText → Type 0) (b : Blueprint) : Type 0 where
   pub flat : IsFlat text (plain b)
 
 -- the first of all rules that a text breaks: one on modules, or else one on its blueprint
-abbrev pub BreaksRule : PlainText → List PlugHead → List (List ℕ) → CheckFault → Type 0
-BreaksRule t plugs taken f = (modules_fault t ≡ Some f) ⊎ ((b : Blueprint) × (IsFlat t (plain b) × IsFirstFault b plugs taken f))
+abbrev pub BreaksRule : PlainText → HeadLists → List (List ℕ) → CheckFault → Type 0
+BreaksRule t heads taken f = (modules_fault t ≡ Some f) ⊎ ((b : Blueprint) × (IsFlat t (plain b) × IsFirstFault b heads taken f))

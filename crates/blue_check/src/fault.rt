@@ -25,9 +25,9 @@ pub enum CheckFault {
     ClosedWalk(u32),
     /// A type would nest too deep at a node.
     TooDeep(Line),
-    /// A plug is named and not handed in.
+    /// A plug or a custom stage is named and not handed in.
     NoSuchPlug(Line),
-    /// Two plugs have one name, or two nodes name one plug.
+    /// Two plugs or two custom stages have one name, or two nodes name one of them.
     PlugTwice(Line),
     /// A size is out of its limits.
     BadSize(Spot),

@@ -6,14 +6,14 @@ ghost use Rattle.blue_names.specs.RuleLinks.{wires_of};
 ghost use Rattle.blue_names.specs.Links.{AreInRange, wires_of_links};
 ghost use Rattle.blue_names.specs.Outs.{IsOuts};
 ghost use Rattle.blue_names.specs.Wiring.{FindsWires};
-ghost use Rattle.blue_check.specs.Fitness.{ports_fault, plugs_fault, sizes_fault, types_fault, early_of, early_fault};
+ghost use Rattle.blue_check.specs.Fitness.{ports_fault, guests_fault, sizes_fault, types_fault, early_of, early_fault};
 ghost use Rattle.blue_check.specs.Wires.{blueprint_wires};
 ghost use Rattle.blue_check.specs.Judging.{IsJudged};
 
 use crate::closed::first_closed;
 use crate::fault::CheckFault;
 use crate::forest::is_polytree;
-use crate::rules::{names_fault, plugs_fault, ports_fault, sizes_fault, types_fault};
+use crate::rules::{guests_fault, names_fault, ports_fault, sizes_fault, types_fault};
 use blue_names::links::{NumberedWire, links_or_unknown};
 use blue_names::outs::outs_of;
 use blue_names::ports::{PortTable, targets_of};
@@ -22,7 +22,7 @@ use elem_core::line::Line;
 use elem_core::why::NoMemory;
 use std::alloc::Global;
 use stream_model::blueprint::{Blueprint, ChainDecl, Node, WireDecl};
-use stream_model::head::PlugHead;
+use stream_model::known::Heads;
 
 /// What is found of a blueprint.
 #[derive(Drop)]
@@ -53,7 +53,7 @@ fn by_walks(
 /// By types, and then by closed walks.
 fn by_types(
     alloc: Global,
-    plugs: &[PlugHead],
+    heads: &Heads<'_>,
     chains: &[ChainDecl],
     nodes: &[Node],
     links: &[NumberedWire],
@@ -61,10 +61,10 @@ fn by_types(
 ) -> Result<Judged, NoMemory>
     requires targets { FindsWires targets.now (wires_of_links links.now) }
     requires in_range { AreInRange (length nodes.now) links.now }
-    ensures { IfOk result (IsJudged (types_fault plugs.now chains.now nodes.now (wires_of_links links.now)) (wires_of_links links.now)) }
+    ensures { IfOk result (IsJudged (types_fault heads.now chains.now nodes.now (wires_of_links links.now)) (wires_of_links links.now)) }
 {
     let outs = outs_of(alloc, nodes.len(), links)?;
-    match types_fault(alloc, plugs, chains, nodes, links, targets, &outs)? {
+    match types_fault(alloc, heads, chains, nodes, links, targets, &outs)? {
         Some(fault) => Ok(Judged::Unfit(fault)),
         None => by_walks(alloc, nodes.len(), links, &outs),
     }
@@ -73,7 +73,7 @@ fn by_types(
 /// By sizes, and then by types and closed walks.
 fn by_sizes(
     alloc: Global,
-    plugs: &[PlugHead],
+    heads: &Heads<'_>,
     chains: &[ChainDecl],
     nodes: &[Node],
     wires: &[WireDecl],
@@ -82,19 +82,19 @@ fn by_sizes(
 ) -> Result<Judged, NoMemory>
     requires targets { FindsWires targets.now (wires_of_links links.now) }
     requires in_range { AreInRange (length nodes.now) links.now }
-    ensures { IfOk result (IsJudged (option_or (sizes_fault chains.now nodes.now wires.now)
-        (types_fault plugs.now chains.now nodes.now (wires_of_links links.now))) (wires_of_links links.now)) }
+    ensures { IfOk result (IsJudged (option_or (sizes_fault heads.now chains.now nodes.now wires.now)
+        (types_fault heads.now chains.now nodes.now (wires_of_links links.now))) (wires_of_links links.now)) }
 {
-    match sizes_fault(alloc, chains, nodes, wires)? {
+    match sizes_fault(alloc, heads, chains, nodes, wires)? {
         Some(fault) => Ok(Judged::Unfit(fault)),
-        None => by_types(alloc, plugs, chains, nodes, links, targets),
+        None => by_types(alloc, heads, chains, nodes, links, targets),
     }
 }
 
-/// By plugs, and then by sizes and what comes behind them.
-fn by_plugs(
+/// By plugs and custom stages, and then by sizes and what comes behind them.
+fn by_guests(
     alloc: Global,
-    plugs: &[PlugHead],
+    heads: &Heads<'_>,
     chains: &[ChainDecl],
     nodes: &[Node],
     wires: &[WireDecl],
@@ -103,52 +103,52 @@ fn by_plugs(
 ) -> Result<Judged, NoMemory>
     requires targets { FindsWires targets.now (wires_of_links links.now) }
     requires in_range { AreInRange (length nodes.now) links.now }
-    ensures { IfOk result (IsJudged (option_or (plugs_fault plugs.now chains.now nodes.now)
-        (option_or (sizes_fault chains.now nodes.now wires.now) (types_fault plugs.now chains.now nodes.now (wires_of_links links.now))))
+    ensures { IfOk result (IsJudged (option_or (guests_fault heads.now chains.now nodes.now)
+        (option_or (sizes_fault heads.now chains.now nodes.now wires.now) (types_fault heads.now chains.now nodes.now (wires_of_links links.now))))
         (wires_of_links links.now)) }
 {
-    match plugs_fault(alloc, plugs, chains, nodes)? {
+    match guests_fault(alloc, heads, chains, nodes)? {
         Some(fault) => Ok(Judged::Unfit(fault)),
-        None => by_sizes(alloc, plugs, chains, nodes, wires, links, targets),
+        None => by_sizes(alloc, heads, chains, nodes, wires, links, targets),
     }
 }
 
-/// By ports, and then by plugs and what comes behind them.
+/// By ports, and then by plugs, custom stages and what comes behind them.
 fn by_ports(
     alloc: Global,
-    plugs: &[PlugHead],
+    heads: &Heads<'_>,
     chains: &[ChainDecl],
     nodes: &[Node],
     wires: &[WireDecl],
     links: &[NumberedWire],
 ) -> Result<Judged, NoMemory>
-    ensures { IfOk result (IsJudged (option_or (ports_fault nodes.now (wires_of_links links.now)) (option_or (plugs_fault plugs.now chains.now nodes.now)
-        (option_or (sizes_fault chains.now nodes.now wires.now) (types_fault plugs.now chains.now nodes.now (wires_of_links links.now)))))
+    ensures { IfOk result (IsJudged (option_or (ports_fault heads.now nodes.now (wires_of_links links.now)) (option_or (guests_fault heads.now chains.now nodes.now)
+        (option_or (sizes_fault heads.now chains.now nodes.now wires.now) (types_fault heads.now chains.now nodes.now (wires_of_links links.now)))))
         (wires_of_links links.now)) }
 {
     let targets = targets_of(alloc, links)?;
-    match ports_fault(alloc, nodes, links, &targets)? {
+    match ports_fault(alloc, heads, nodes, links, &targets)? {
         Some(fault) => Ok(Judged::Unfit(fault)),
-        None => by_plugs(alloc, plugs, chains, nodes, wires, links, &targets),
+        None => by_guests(alloc, heads, chains, nodes, wires, links, &targets),
     }
 }
 
 /// By the names of nodes that wires use, and then by ports and what comes behind them.
 fn by_wires(
     alloc: Global,
-    plugs: &[PlugHead],
+    heads: &Heads<'_>,
     chains: &[ChainDecl],
     nodes: &[Node],
     wires: &[WireDecl],
 ) -> Result<Judged, NoMemory>
     ensures { IfOk result (IsJudged (option_or (option_map CheckFault.NoSuchName (unknown_node nodes.now wires.now))
-        (option_or (ports_fault nodes.now (wires_of nodes.now wires.now)) (option_or (plugs_fault plugs.now chains.now nodes.now)
-        (option_or (sizes_fault chains.now nodes.now wires.now) (types_fault plugs.now chains.now nodes.now (wires_of nodes.now wires.now))))))
+        (option_or (ports_fault heads.now nodes.now (wires_of nodes.now wires.now)) (option_or (guests_fault heads.now chains.now nodes.now)
+        (option_or (sizes_fault heads.now chains.now nodes.now wires.now) (types_fault heads.now chains.now nodes.now (wires_of nodes.now wires.now))))))
         (wires_of nodes.now wires.now)) }
 {
     let found = links_or_unknown(alloc, nodes, wires)?;
     match found {
-        Ok(links) => by_ports(alloc, plugs, chains, nodes, wires, &links),
+        Ok(links) => by_ports(alloc, heads, chains, nodes, wires, &links),
         Err(name) => Ok(Judged::Unfit(CheckFault::NoSuchName(name.copy(alloc)?))),
     }
 }
@@ -160,14 +160,14 @@ fn by_parts(
     chains: &[ChainDecl],
     nodes: &[Node],
     wires: &[WireDecl],
-    plugs: &[PlugHead],
+    heads: &Heads<'_>,
     taken: &[Line],
 ) -> Result<Judged, NoMemory>
-    ensures { IfOk result (IsJudged (early_of switches.now chains.now nodes.now wires.now plugs.now taken.now) (wires_of nodes.now wires.now)) }
+    ensures { IfOk result (IsJudged (early_of switches.now chains.now nodes.now wires.now heads.now taken.now) (wires_of nodes.now wires.now)) }
 {
     match names_fault(alloc, switches, chains, nodes, taken)? {
         Some(fault) => Ok(Judged::Unfit(fault)),
-        None => by_wires(alloc, plugs, chains, nodes, wires),
+        None => by_wires(alloc, heads, chains, nodes, wires),
     }
 }
 
@@ -175,10 +175,10 @@ fn by_parts(
 pub fn judge(
     alloc: Global,
     b: &Blueprint,
-    plugs: &[PlugHead],
+    heads: &Heads<'_>,
     taken: &[Line],
 ) -> Result<Judged, NoMemory>
-    ensures { IfOk result (IsJudged (early_fault b.now plugs.now taken.now) (blueprint_wires b.now)) }
+    ensures { IfOk result (IsJudged (early_fault b.now heads.now taken.now) (blueprint_wires b.now)) }
 {
     by_parts(
         alloc,
@@ -186,7 +186,7 @@ pub fn judge(
         &b.chains,
         &b.nodes,
         &b.wires,
-        plugs,
+        heads,
         taken,
     )
 }

@@ -8,13 +8,13 @@ ghost use Rattle.blue_names.specs.Outs.{IsOuts};
 ghost use Rattle.blue_names.specs.Wiring.{FindsWires, port_of};
 ghost use Rattle.blue_types.specs.Library.{IsKnown};
 ghost use Rattle.blue_types.specs.Net.{HasFirstWires, type_at};
-ghost use Rattle.blue_check.specs.Fitness.{name_at, open_fault, clash_fault, ports_fault, plugs_fault, sizes_fault, types_fault};
+ghost use Rattle.blue_check.specs.Fitness.{name_at, open_fault, clash_fault, ports_fault, guests_fault, sizes_fault, types_fault};
 
 use crate::fault::CheckFault;
-use blue_names::claims::{plug_twice, taken_twice};
+use blue_names::claims::{guest_twice, taken_twice};
 use blue_names::hubs::hub_wrong;
 use blue_names::links::NumberedWire;
-use blue_names::names::{unknown_mention, unknown_plug};
+use blue_names::names::{unknown_guest, unknown_mention};
 use blue_names::ports::{
     OpenPort, PortTable, port_missing, port_open, port_twice, sources_of, targets_of,
 };
@@ -31,7 +31,7 @@ use elem_core::line::Line;
 use elem_core::why::NoMemory;
 use std::alloc::Global;
 use stream_model::blueprint::{ChainDecl, Node, WireDecl};
-use stream_model::head::PlugHead;
+use stream_model::known::Heads;
 
 /// The first fault of a name or a file, but for the names of nodes that wires use.
 pub fn names_fault(
@@ -73,40 +73,41 @@ fn open_fault(alloc: Global, nodes: &[Node], port: OpenPort) -> Result<CheckFaul
 /// The first fault of a port.
 pub fn ports_fault(
     alloc: Global,
+    heads: &Heads<'_>,
     nodes: &[Node],
     links: &[NumberedWire],
     targets: &PortTable,
 ) -> Result<Option<CheckFault>, NoMemory>
     requires { FindsWires targets.now (wires_of_links links.now) }
-    ensures fault { IfOk result (λ f. f ≡ ports_fault nodes.now (wires_of_links links.now)) }
+    ensures fault { IfOk result (λ f. f ≡ ports_fault heads.now nodes.now (wires_of_links links.now)) }
     ensures in_range { IfOk result (λ f. f ≡ None → AreInRange (length nodes.now) links.now) }
 {
-    if let Some(i) = port_missing(nodes, links) {
+    if let Some(i) = port_missing(heads, nodes, links) {
         return Ok(Some(CheckFault::NoSuchPort(numbered(i)?)));
     }
     let sources = sources_of(alloc, links)?;
-    if let Some(i) = port_twice(targets, &sources, links) {
+    if let Some(i) = port_twice(heads, nodes, targets, &sources, links) {
         return Ok(Some(CheckFault::PortTwice(numbered(i)?)));
     }
-    match port_open(targets, &sources, nodes) {
+    match port_open(heads, targets, &sources, nodes) {
         Some(port) => Ok(Some(open_fault(alloc, nodes, port)?)),
         None => Ok(None),
     }
 }
 
-/// The first fault of a plug.
-pub fn plugs_fault(
+/// The first fault of a plug or of a custom stage.
+pub fn guests_fault(
     alloc: Global,
-    plugs: &[PlugHead],
+    heads: &Heads<'_>,
     chains: &[ChainDecl],
     nodes: &[Node],
 ) -> Result<Option<CheckFault>, NoMemory>
-    ensures { IfOk result (λ f. f ≡ plugs_fault plugs.now chains.now nodes.now) }
+    ensures { IfOk result (λ f. f ≡ guests_fault heads.now chains.now nodes.now) }
 {
-    if let Some(name) = unknown_plug(alloc, plugs, chains, nodes)? {
+    if let Some(name) = unknown_guest(alloc, heads, chains, nodes)? {
         return Ok(Some(CheckFault::NoSuchPlug(name.copy(alloc)?)));
     }
-    match plug_twice(alloc, plugs, nodes)? {
+    match guest_twice(alloc, heads, nodes)? {
         Some(name) => Ok(Some(CheckFault::PlugTwice(name.copy(alloc)?))),
         None => Ok(None),
     }
@@ -115,16 +116,17 @@ pub fn plugs_fault(
 /// The first fault of a size, and then of a wire of a hub.
 pub fn sizes_fault(
     alloc: Global,
+    heads: &Heads<'_>,
     chains: &[ChainDecl],
     nodes: &[Node],
     wires: &[WireDecl],
 ) -> Result<Option<CheckFault>, NoMemory>
-    ensures { IfOk result (λ f. f ≡ sizes_fault chains.now nodes.now wires.now) }
+    ensures { IfOk result (λ f. f ≡ sizes_fault heads.now chains.now nodes.now wires.now) }
 {
     if let Some(i) = chain_wrong(chains) {
         return Ok(Some(CheckFault::BadSize(Spot::Chain(numbered(i)?))));
     }
-    if let Some(i) = node_wrong(nodes) {
+    if let Some(i) = node_wrong(heads, nodes) {
         return Ok(Some(CheckFault::BadSize(Spot::Node(numbered(i)?))));
     }
     if let Some(i) = wire_wrong(wires) {
@@ -145,9 +147,9 @@ fn settled_fault(
 ) -> Result<Option<CheckFault>, NoMemory>
     requires known { IsKnown library.now }
     requires wired { HasFirstWires net.now }
-    requires settled { (i : ℕ) → type_at types.now i ≡ settled library.now.plugs.now library.now.chains.now net.now.nodes.now
+    requires settled { (i : ℕ) → type_at types.now i ≡ settled library.now.heads.now library.now.chains.now net.now.nodes.now
         (wires_of_links net.now.links.now) i }
-    ensures { IfOk result (λ f. f ≡ types_fault library.now.plugs.now library.now.chains.now net.now.nodes.now (wires_of_links net.now.links.now)) }
+    ensures { IfOk result (λ f. f ≡ types_fault library.now.heads.now library.now.chains.now net.now.nodes.now (wires_of_links net.now.links.now)) }
 {
     match type_clash(alloc, library, net, types)? {
         Some(clash) => Ok(Some(clash_fault(clash)?)),
@@ -179,7 +181,7 @@ fn net_fault(
     requires known { IsKnown library.now }
     requires wired { HasFirstWires net.now }
     requires outs { IsOuts outs.now (wires_of_links net.now.links.now) }
-    ensures { IfOk result (λ f. f ≡ types_fault library.now.plugs.now library.now.chains.now net.now.nodes.now (wires_of_links net.now.links.now)) }
+    ensures { IfOk result (λ f. f ≡ types_fault library.now.heads.now library.now.chains.now net.now.nodes.now (wires_of_links net.now.links.now)) }
 {
     let types = settle_types(alloc, library, net, outs)?;
     settled_fault(alloc, library, net, &types)
@@ -188,7 +190,7 @@ fn net_fault(
 /// The first fault of a type.
 pub fn types_fault(
     alloc: Global,
-    plugs: &[PlugHead],
+    heads: &Heads<'_>,
     chains: &[ChainDecl],
     nodes: &[Node],
     links: &[NumberedWire],
@@ -197,9 +199,9 @@ pub fn types_fault(
 ) -> Result<Option<CheckFault>, NoMemory>
     requires targets { FindsWires targets.now (wires_of_links links.now) }
     requires outs { IsOuts outs.now (wires_of_links links.now) }
-    ensures { IfOk result (λ f. f ≡ types_fault plugs.now chains.now nodes.now (wires_of_links links.now)) }
+    ensures { IfOk result (λ f. f ≡ types_fault heads.now chains.now nodes.now (wires_of_links links.now)) }
 {
-    let library = Library::new(alloc, plugs, chains)?;
+    let library = Library::new(alloc, heads, chains)?;
     let net = Net {
         nodes,
         links,

@@ -178,7 +178,8 @@ stage_kind w ws =
     (if bytes_eq w (codes "recover") then recover_of ws else
     (if bytes_eq w (codes "valve") then made k.Valve (name ws) else
     (if bytes_eq w (codes "trip") then trip_of (name ws) else
-    (if bytes_eq w (codes "plug") then made k.Plug (name ws) else substream_kind w ws))))
+    (if bytes_eq w (codes "plug") then made k.Plug (name ws) else
+    (if bytes_eq w (codes "custom") then made k.Custom (name ws) else substream_kind w ws)))))
 
 -- the first words of the kinds that version 1 does not have: those of hubs
 abbrev pub is_later : Version → List ℕ → Bool

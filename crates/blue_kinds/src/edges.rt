@@ -1,4 +1,4 @@
-// The kinds of the other stages: buffers, recoveries, switches and plugs.
+// The kinds of the other stages: buffers, recoveries, switches, plugs and custom stages.
 ghost use Rattle.std.specs.Prelude.{◌≡◌};
 ghost use Rattle.blue_words.specs.Reading.{Reads};
 ghost use Rattle.blue_words.specs.Reading.{made, then_read, name, size};
@@ -62,6 +62,9 @@ fn read_stage_kind(
     }
     if is_word(word, b"plug") {
         return Ok(words.name(alloc)?.map(Kind::Plug));
+    }
+    if is_word(word, b"custom") {
+        return Ok(words.name(alloc)?.map(Kind::Custom));
     }
     read_substreams(alloc, word, words)
 }

@@ -297,4 +297,5 @@ stage_tabled w ws =
     (row stage_kind kind_words name (λ w. w ∷ []) w (codes "valve") ws k.Valve _ (λ _. refl) (λ _. refl) (name_respelled ws)
     (if_tabled stage_kind kind_words w (codes "trip") ws (trip_of (name ws)) _ (λ e. trip_tabled w ws e)
     (row stage_kind kind_words name (λ w. w ∷ []) w (codes "plug") ws k.Plug _ (λ _. refl) (λ _. refl) (name_respelled ws)
-    (substream_tabled w ws)))))
+    (row stage_kind kind_words name (λ w. w ∷ []) w (codes "custom") ws k.Custom _ (λ _. refl) (λ _. refl) (name_respelled ws)
+    (substream_tabled w ws))))))

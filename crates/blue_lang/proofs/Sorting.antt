@@ -123,4 +123,5 @@ stage_sorts w ws =
     (sorts_if (codes "stage") (bytes_eq w (codes "valve")) (made k.Valve (name ws)) _ (sorts_made (codes "stage") k.Valve (name ws) (λ _. refl))
     (sorts_if (codes "stage") (bytes_eq w (codes "trip")) (trip_of (name ws)) _ (trip_sorts ws)
     (sorts_if (codes "stage") (bytes_eq w (codes "plug")) (made k.Plug (name ws)) _ (sorts_made (codes "stage") k.Plug (name ws) (λ _. refl))
-    (substream_sorts w ws)))))
+    (sorts_if (codes "stage") (bytes_eq w (codes "custom")) (made k.Custom (name ws)) _ (sorts_made (codes "stage") k.Custom (name ws) (λ _. refl))
+    (substream_sorts w ws))))))

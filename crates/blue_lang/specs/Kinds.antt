@@ -61,6 +61,7 @@ edge_words (k.Valve s) = codes "valve" ∷ s ∷ []
 edge_words (k.TripShutdown s n) = codes "trip" ∷ s ∷ codes "shutdown" ∷ decimal n ∷ []
 edge_words (k.TripAbort s n) = codes "trip" ∷ s ∷ codes "abort" ∷ decimal n ∷ []
 edge_words (k.Plug n) = codes "plug" ∷ n ∷ []
+edge_words (k.Custom n) = codes "custom" ∷ n ∷ []
 edge_words (k.GroupBy n f c) = codes "group_by" ∷ decimal n ∷ (map_words f ++ each_words c (codes "merge"))
 edge_words (k.SplitWhen p c j) = codes "split_when" ∷ (pred_words p ++ each_words c (joining_word j))
 edge_words (k.SplitAfter p c j) = codes "split_after" ∷ (pred_words p ++ each_words c (joining_word j))

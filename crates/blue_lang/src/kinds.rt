@@ -97,6 +97,7 @@ fn write_edge(out: &mut Vec<u8>, kind: &Kind) -> Result<(), NoMemory>
         Kind::TripShutdown(switch, n) => write_shutdown(out, switch.bytes(), *n),
         Kind::TripAbort(switch, n) => write_abort(out, switch.bytes(), *n),
         Kind::Plug(name) => write_two(out, b"plug", name.bytes()),
+        Kind::Custom(name) => write_two(out, b"custom", name.bytes()),
         Kind::GroupBy(n, f, chain) => {
             write_word_count(out, b"group_by", u64::from(*n))?;
             write_map(out, f)?;

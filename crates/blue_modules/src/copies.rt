@@ -36,6 +36,7 @@ pub fn copy_kind(alloc: Global, kind: &Kind) -> Result<Kind, NoMemory>
         Kind::TripShutdown(switch, n) => Ok(Kind::TripShutdown(switch.copy(alloc)?, *n)),
         Kind::TripAbort(switch, n) => Ok(Kind::TripAbort(switch.copy(alloc)?, *n)),
         Kind::Plug(plug) => Ok(Kind::Plug(plug.copy(alloc)?)),
+        Kind::Custom(custom) => Ok(Kind::Custom(custom.copy(alloc)?)),
         Kind::GroupBy(n, f, chain) => {
             Ok(Kind::GroupBy(*n, copy_map(alloc, f)?, chain.copy(alloc)?))
         }

@@ -10,7 +10,7 @@ use Rattle.std.proofs.lemmas.List.Folds.{list_any-append}
 use denote.Ref.{Bor}
 use Rattle.elem_core.specs.Values.{same_text}
 use Rattle.blue_names.specs.First.{when}
-use Rattle.blue_names.specs.Names.{Claim, called, opens, same_claim, first_again, text_of}
+use Rattle.blue_names.specs.Names.{Claim, called, opens, hires, same_claim, first_again, text_of}
 use Rattle.blue_names.specs.Claims.{Knows}
 use Rattle.blue_names.specs.Table.{number_in}
 
@@ -26,48 +26,59 @@ is_none-not : {X : Type 0} (o : Option X) → is_none o ≡ not (is_some o)
 is_none-not None = refl
 is_none-not (Some x) = refl
 
-pub free-named : {S : Type 0} (names files : HashMap (Bor (List ℕ)) ℕ S) (before : List Claim) (name : List ℕ) → Knows names files before
-    → is_none (number_in names name) ≡ not (list_any (same_claim (called name)) before)
-free-named names files before name k = is_none-not (number_in names name) ∙ ap not (k.named name)
+module _ {S : Type 0} (names files customs : HashMap (Bor (List ℕ)) ℕ S) (before : List Claim) (name : List ℕ) (k : Knows names files customs before) where
+  pub free-named : is_none (number_in names name) ≡ not (list_any (same_claim (called name)) before)
+  free-named = is_none-not (number_in names name) ∙ ap not (k.named name)
 
-pub free-opened : {S : Type 0} (names files : HashMap (Bor (List ℕ)) ℕ S) (before : List Claim) (name : List ℕ) → Knows names files before
-    → is_none (number_in files name) ≡ not (list_any (same_claim (opens name)) before)
-free-opened names files before name k = is_none-not (number_in files name) ∙ ap not (k.opened name)
+  pub free-opened : is_none (number_in files name) ≡ not (list_any (same_claim (opens name)) before)
+  free-opened = is_none-not (number_in files name) ∙ ap not (k.opened name)
 
--- the tables with one more name, and with one more file
-pub Knows-called : {S : Type 0} (names new files : HashMap (Bor (List ℕ)) ℕ S) (before : List Claim) (name : List ℕ) (n : ℕ) → Knows names files before
-    → ((q : List ℕ) → number_in new q ≡ option_or (number_in names q) (when (same_text q name) n)) → Knows new files (called name ∷ before)
-Knows-called names new files before name n k e = record {
-  named = λ q. ap is_some (e q) ∙ is_some-when (same_text q name) n (number_in names q) ∙ ap (λ b. same_text q name || b) (k.named q);
-  opened = λ q. k.opened q;
-}
+  pub free-hired : is_none (number_in customs name) ≡ not (list_any (same_claim (hires name)) before)
+  free-hired = is_none-not (number_in customs name) ∙ ap not (k.hired name)
 
-pub Knows-opens : {S : Type 0} (names files new : HashMap (Bor (List ℕ)) ℕ S) (before : List Claim) (name : List ℕ) (n : ℕ) → Knows names files before
-    → ((q : List ℕ) → number_in new q ≡ option_or (number_in files q) (when (same_text q name) n)) → Knows names new (opens name ∷ before)
-Knows-opens names files new before name n k e = record {
-  named = λ q. k.named q;
-  opened = λ q. ap is_some (e q) ∙ is_some-when (same_text q name) n (number_in files q) ∙ ap (λ b. same_text q name || b) (k.opened q);
-}
+-- the tables with one more name, with one more file, and with one more custom stage
+module _ {S : Type 0} (names files customs new : HashMap (Bor (List ℕ)) ℕ S) (before : List Claim) (name : List ℕ) (n : ℕ) (k : Knows names files customs before) where
+  pub Knows-called : ((q : List ℕ) → number_in new q ≡ option_or (number_in names q) (when (same_text q name) n)) → Knows new files customs (called name ∷ before)
+  Knows-called e = record {
+    named = λ q. ap is_some (e q) ∙ is_some-when (same_text q name) n (number_in names q) ∙ ap (λ b. same_text q name || b) (k.named q);
+    opened = λ q. k.opened q;
+    hired = λ q. k.hired q;
+  }
+
+  pub Knows-opens : ((q : List ℕ) → number_in new q ≡ option_or (number_in files q) (when (same_text q name) n)) → Knows names new customs (opens name ∷ before)
+  Knows-opens e = record {
+    named = λ q. k.named q;
+    opened = λ q. ap is_some (e q) ∙ is_some-when (same_text q name) n (number_in files q) ∙ ap (λ b. same_text q name || b) (k.opened q);
+    hired = λ q. k.hired q;
+  }
+
+  pub Knows-hires : ((q : List ℕ) → number_in new q ≡ option_or (number_in customs q) (when (same_text q name) n)) → Knows names files new (hires name ∷ before)
+  Knows-hires e = record {
+    named = λ q. k.named q;
+    opened = λ q. k.opened q;
+    hired = λ q. ap is_some (e q) ∙ is_some-when (same_text q name) n (number_in customs q) ∙ ap (λ b. same_text q name || b) (k.hired q);
+  }
 
 -- the order of claims does not matter to the tables
 any_last : {X : Type 0} (p : X → Bool) (xs : List X) (x : X) → list_any p (x ∷ xs) ≡ list_any p (xs ++ x ∷ [])
 any_last p [] x = refl
 any_last p (y ∷ ys) x = grind (arith, any_last p ys x)
 
-pub Knows-last : {S : Type 0} (names files : HashMap (Bor (List ℕ)) ℕ S) (before : List Claim) (c : Claim) → Knows names files (c ∷ before) → Knows names files (before ++ c ∷ [])
-Knows-last names files before c k = record {
+pub Knows-last : {S : Type 0} (names files customs : HashMap (Bor (List ℕ)) ℕ S) (before : List Claim) (c : Claim) → Knows names files customs (c ∷ before) → Knows names files customs (before ++ c ∷ [])
+Knows-last names files customs before c k = record {
   named = λ q. k.named q ∙ any_last (same_claim (called q)) before c;
   opened = λ q. k.opened q ∙ any_last (same_claim (opens q)) before c;
+  hired = λ q. k.hired q ∙ any_last (same_claim (hires q)) before c;
 }
 
 -- a search for the first claim that was made before: those behind are sought among those before
-pub record Going {S : Type 0} (names files : HashMap (Bor (List ℕ)) ℕ S) (whole : Option (List ℕ)) (rest : List Claim) : Type 0 where
+pub record Going {S : Type 0} (names files customs : HashMap (Bor (List ℕ)) ℕ S) (whole : Option (List ℕ)) (rest : List Claim) : Type 0 where
   pub before : List Claim
-  pub knows : Knows names files before
+  pub knows : Knows names files customs before
   pub same : whole ≡ first_again before rest
 
-module _ {C S : Type 0} (g : C → Claim) (names files : HashMap (Bor (List ℕ)) ℕ S) (xs : List C) (i : ℕ) (x : C) (whole : Option (List ℕ)) (lt : i < length xs) (is : x ≡ get_or xs i x)
-    (going : Going names files whole (map g (drop i xs))) where
+module _ {C S : Type 0} (g : C → Claim) (names files customs : HashMap (Bor (List ℕ)) ℕ S) (xs : List C) (i : ℕ) (x : C) (whole : Option (List ℕ)) (lt : i < length xs) (is : x ≡ get_or xs i x)
+    (going : Going names files customs whole (map g (drop i xs))) where
   -- the next claim and those behind it
   split : map g (drop i xs) ≡ g x ∷ map g (drop (i + 1) xs)
   split = at_drop_more (map g) xs i x lt ∙ ap (λ y. g y ∷ map g (drop (i + 1) xs)) (sym is)
@@ -76,9 +87,9 @@ module _ {C S : Type 0} (g : C → Claim) (names files : HashMap (Bor (List ℕ)
   whole_is = going.same ∙ ap (first_again going.before) split
 
   -- a claim that was free is among those before from then on
-  pub Going-next : (next_names next_files : HashMap (Bor (List ℕ)) ℕ S) → true ≡ not (list_any (same_claim (g x)) going.before) → Knows next_names next_files (g x ∷ going.before)
-      → Going next_names next_files whole (map g (drop (i + 1) xs))
-  Going-next next_names next_files free knows = record {
+  pub Going-next : (next_names next_files next_customs : HashMap (Bor (List ℕ)) ℕ S) → true ≡ not (list_any (same_claim (g x)) going.before) → Knows next_names next_files next_customs (g x ∷ going.before)
+      → Going next_names next_files next_customs whole (map g (drop (i + 1) xs))
+  Going-next next_names next_files next_customs free knows = record {
     before = g x ∷ going.before;
     knows = knows;
     same = whole_is ∙ cond-false (list_any (same_claim (g x)) going.before) (Some (text_of (g x))) (first_again (g x ∷ going.before) (map g (drop (i + 1) xs))) (not-true (list_any (same_claim (g x)) going.before) (sym free));

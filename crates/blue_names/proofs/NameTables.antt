@@ -13,8 +13,10 @@ use denote.Ref.{Bor}
 use Rattle.elem_core.specs.Values.{same_text}
 use Rattle.blue_names.specs.First.{when}
 use Rattle.blue_names.specs.RuleLinks.{number_from}
+use Rattle.stream_model.specs.Known.{CustomShape, head_shape}
 use Rattle.stream_model.specs.declared.blueprint.Node.{Node}
 use Rattle.stream_model.specs.declared.blueprint.WireDecl.{WireDecl}
+use Rattle.stream_model.specs.declared.head.CustomHead.{CustomHead}
 use Rattle.blue_names.specs.Names.{missing, unknown_end}
 use Rattle.blue_names.specs.Table.{number_in, Numbers}
 
@@ -113,3 +115,8 @@ module _ {S : Type 0} (m : HashMap (Bor (List ℕ)) ℕ S) (nodes : List Node) (
 
   pub to_lacked : (a : ℕ) → Some a ≡ number_in m w.from → None ≡ number_in m w.to → unknown_end (map (λ x. x.name) nodes) w ≡ Some w.to
   to_lacked a e f = ap (λ o. option_or o (missing w.to (map (λ x. x.name) nodes))) (known w.from a e) ∙ lacked w.to f
+
+-- the names of heads are those of what they say
+pub shapes_named : (heads : List CustomHead) → map (λ (h : CustomHead). h.name) heads ≡ map (λ (s : CustomShape). s.name) (map head_shape heads)
+shapes_named [] = refl
+shapes_named (h ∷ hs) = ap (λ l. h.name ∷ l) (shapes_named hs)

@@ -1,4 +1,5 @@
 pub mod First
+pub mod CustomPorts
 pub mod Names
 pub mod Hubs
 pub mod RuleLinks

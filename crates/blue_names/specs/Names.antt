@@ -1,32 +1,36 @@
--- The rules on names: no name or file is taken twice, each name that is used is declared, and each plug is one of those handed
--- in and is used once.
+-- The rules on names: no name or file is taken twice, each name that is used is declared, and each plug and each custom stage is one of
+-- those handed in and is used once.
 use Rattle.std.specs.Prelude.{ℕ, Bool, false, not, ◌||◌, ◌&&◌, if◌then◌else◌, List, [], ◌∷◌, ◌++◌, map, Option, Some, None}
 use Rattle.std.specs.List.{list_any}
 use Rattle.std.specs.Option.{option_or}
 use Rattle.elem_core.specs.Values.{same_text}
 use Rattle.stream_model.specs.declared.kind.Kind.{Kind}
-use Rattle.stream_model.specs.Linear.{Mention, no_name, a_file, a_switch, a_trip, a_plug, a_chain, mention_of}
+use Rattle.stream_model.specs.Linear.{Mention, no_name, a_file, a_switch, a_trip, a_plug, a_custom, a_chain, mention_of}
 use Rattle.stream_model.specs.declared.blueprint.Node.{Node}
 use Rattle.stream_model.specs.declared.blueprint.ChainDecl.{ChainDecl}
 use Rattle.stream_model.specs.declared.blueprint.Step.{Step}
 use Rattle.stream_model.specs.declared.blueprint.WireDecl.{WireDecl}
-use Rattle.stream_model.specs.declared.head.PlugHead.{PlugHead}
+use Rattle.stream_model.specs.Known.{HeadLists}
+use Rattle.blue_names.specs.CustomPorts.{custom_of}
 use Rattle.blue_names.specs.First.{first_from, when}
 
--- what a declaration takes for itself: a name, or a file
+-- what a declaration takes for itself: a name, a file, or a custom stage
 pub data Claim : Type 0 where
   called : List ℕ → Claim
   opens : List ℕ → Claim
+  hires : List ℕ → Claim
 
 -- the text of what a declaration takes
 abbrev pub text_of : Claim → List ℕ
 text_of (called name) = name
 text_of (opens file) = file
+text_of (hires name) = name
 
--- two claims to one name, or to one file
+-- two claims to one name, to one file, or to one custom stage
 abbrev pub same_claim : Claim → Claim → Bool
 same_claim (called a) (called b) = same_text a b
 same_claim (opens a) (opens b) = same_text a b
+same_claim (hires a) (hires b) = same_text a b
 same_claim _ _ = false
 
 -- the text of the first claim that is among those before it, to which those of `before` count
@@ -41,6 +45,7 @@ file_in (a_file file) = Some file
 file_in (a_switch name) = None
 file_in (a_trip order name n) = None
 file_in (a_plug name) = None
+file_in (a_custom name) = None
 file_in (a_chain name) = None
 
 -- the file that a source or a sink opens
@@ -80,6 +85,7 @@ unknown_in switches chains (a_file file) = None
 unknown_in switches chains (a_switch name) = missing name switches
 unknown_in switches chains (a_trip order name n) = missing name switches
 unknown_in switches chains (a_plug name) = None
+unknown_in switches chains (a_custom name) = None
 unknown_in switches chains (a_chain name) = missing name chains
 
 -- a switch or a chain that a node names and that is not declared
@@ -109,6 +115,7 @@ plug_in (a_file file) = None
 plug_in (a_switch name) = None
 plug_in (a_trip order name n) = None
 plug_in (a_plug name) = Some name
+plug_in (a_custom name) = None
 plug_in (a_chain name) = None
 
 -- the plug that a node names
@@ -120,32 +127,42 @@ abbrev pub unknown_plug_at : List (List ℕ) → Option (List ℕ) → Option (L
 unknown_plug_at plugs (Some name) = missing name plugs
 unknown_plug_at plugs None = None
 
--- the first plug that one of these steps names and that is none of these
-abbrev pub unknown_in_steps : List (List ℕ) → List Step → Option (List ℕ)
-unknown_in_steps plugs steps = first_from (λ _ s. unknown_plug_at plugs (plug_of s.kind)) 0 steps
+-- the plug or the custom stage that a node names, where it is none of these plugs or of these custom stages
+abbrev pub unknown_guest_at : List (List ℕ) → List (List ℕ) → Kind → Option (List ℕ)
+unknown_guest_at plugs customs k = option_or (unknown_plug_at plugs (plug_of k)) (unknown_plug_at customs (custom_of k))
 
--- the first plug that a step of a chain names and that is none of these
-abbrev pub unknown_in_chains : List (List ℕ) → List ChainDecl → Option (List ℕ)
-unknown_in_chains plugs chains = first_from (λ _ c. unknown_in_steps plugs c.steps.items) 0 chains
+-- the first of them that one of these steps names
+abbrev pub unknown_in_steps : List (List ℕ) → List (List ℕ) → List Step → Option (List ℕ)
+unknown_in_steps plugs customs steps = first_from (λ _ s. unknown_guest_at plugs customs s.kind) 0 steps
 
--- the first plug that a node names and that is none of these
-abbrev pub unknown_in_nodes : List (List ℕ) → List Node → Option (List ℕ)
-unknown_in_nodes plugs nodes = first_from (λ _ n. unknown_plug_at plugs (plug_of n.kind)) 0 nodes
+-- the first of them that a step of a chain names
+abbrev pub unknown_in_chains : List (List ℕ) → List (List ℕ) → List ChainDecl → Option (List ℕ)
+unknown_in_chains plugs customs chains = first_from (λ _ c. unknown_in_steps plugs customs c.steps.items) 0 chains
 
--- the first plug that is named and not handed in: chains come before nodes
-abbrev pub unknown_plug : List PlugHead → List ChainDecl → List Node → Option (List ℕ)
-unknown_plug plugs chains nodes = option_or (unknown_in_chains (map (λ p. p.name) plugs) chains) (unknown_in_nodes (map (λ p. p.name) plugs) nodes)
+-- the first of them that a node names
+abbrev pub unknown_in_nodes : List (List ℕ) → List (List ℕ) → List Node → Option (List ℕ)
+unknown_in_nodes plugs customs nodes = first_from (λ _ n. unknown_guest_at plugs customs n.kind) 0 nodes
 
--- these claims with that of a name in front, where there is one
-abbrev pub calling : Option (List ℕ) → List Claim → List Claim
-calling (Some name) cs = called name ∷ cs
-calling None cs = cs
+-- the first plug or custom stage that is named and not handed in: chains come before nodes
+abbrev pub unknown_guest : HeadLists → List ChainDecl → List Node → Option (List ℕ)
+unknown_guest heads chains nodes =
+    let plugs = map (λ p. p.name) heads.plugs in
+    let customs = map (λ c. c.name) heads.customs in
+    option_or (unknown_in_chains plugs customs chains) (unknown_in_nodes plugs customs nodes)
 
--- the plugs that nodes name, in order
-abbrev pub plugs_of_nodes : List Node → List Claim
-plugs_of_nodes [] = []
-plugs_of_nodes (n ∷ ns) = calling (plug_of n.kind) (plugs_of_nodes ns)
+-- these claims with those of a plug's and of a custom stage's name in front, where there is one
+abbrev pub claiming : Option (List ℕ) → Option (List ℕ) → List Claim → List Claim
+claiming (Some name) custom cs = called name ∷ cs
+claiming None (Some name) cs = hires name ∷ cs
+claiming None None cs = cs
 
--- a name that two plugs have, or else a plug that two nodes name
-abbrev pub plug_twice : List PlugHead → List Node → Option (List ℕ)
-plug_twice plugs nodes = option_or (first_again [] (map (λ p. called p.name) plugs)) (first_again [] (plugs_of_nodes nodes))
+-- the plugs and the custom stages that nodes name, in order
+abbrev pub guests_of_nodes : List Node → List Claim
+guests_of_nodes [] = []
+guests_of_nodes (n ∷ ns) = claiming (plug_of n.kind) (custom_of n.kind) (guests_of_nodes ns)
+
+-- a name that two plugs have, or else one that two custom stages have, or else a plug or a custom stage that two nodes name
+abbrev pub guest_twice : HeadLists → List Node → Option (List ℕ)
+guest_twice heads nodes =
+    option_or (first_again [] (map (λ p. called p.name) heads.plugs))
+    (option_or (first_again [] (map (λ c. hires c.name) heads.customs)) (first_again [] (guests_of_nodes nodes)))

@@ -4,7 +4,7 @@ use Rattle.std.specs.Int.{is_power_of_two}
 use Rattle.std.specs.List.{list_all}
 use Rattle.std.specs.Option.{option_or, option_map}
 use Rattle.stream_model.specs.declared.kind.Kind.{Kind}
-use Rattle.stream_model.specs.declared.kind.Kind.TheVariants.{Lines, Range, Empty, Failed, Map, Filter, FilterNot, TakeWhile, DropWhile, Take, Drop, Limit, Grouped, MapConcat, Fold, Scan, Reduce, Buffer, RecoverNum, RecoverText, Valve, TripShutdown, TripAbort, Plug, GroupBy, SplitWhen, SplitAfter, Merge, MergeHub, Concat, Interleave, MergeSorted, Zip, Broadcast, BroadcastHub, Balance, Partition, Unzip, ToLines, Head, Last, Ignore}
+use Rattle.stream_model.specs.declared.kind.Kind.TheVariants.{Lines, Range, Empty, Failed, Map, Filter, FilterNot, TakeWhile, DropWhile, Take, Drop, Limit, Grouped, MapConcat, Fold, Scan, Reduce, Buffer, RecoverNum, RecoverText, Valve, TripShutdown, TripAbort, Plug, Custom, GroupBy, SplitWhen, SplitAfter, Merge, MergeHub, Concat, Interleave, MergeSorted, Zip, Broadcast, BroadcastHub, Balance, Partition, Unzip, ToLines, Head, Last, Ignore}
 use Rattle.stream_model.specs.declared.kind.TheConstants.{MAX_FAN}
 use Rattle.stream_model.specs.declared.limit.TheConstants.{MAX_HELD, MAX_COUNT, MAX_KEYS, MAX_LANE}
 use Rattle.stream_model.specs.declared.blueprint.Node.{Node}
@@ -12,6 +12,8 @@ use Rattle.stream_model.specs.declared.blueprint.ChainDecl.{ChainDecl}
 use Rattle.stream_model.specs.declared.blueprint.WireDecl.{WireDecl}
 use Rattle.blue_names.specs.declared.spot.Spot.{Spot}
 use Rattle.blue_names.specs.declared.spot.Spot.TheVariants as at
+use Rattle.stream_model.specs.Known.{HeadLists}
+use Rattle.blue_names.specs.CustomPorts.{custom_head, head_fits}
 use Rattle.blue_names.specs.First.{first_from, when}
 
 -- a size is within its limits
@@ -44,6 +46,7 @@ sizes_fit (Valve name) = true
 sizes_fit (TripShutdown name n) = is_within 1 MAX_COUNT n
 sizes_fit (TripAbort name n) = is_within 1 MAX_COUNT n
 sizes_fit (Plug name) = true
+sizes_fit (Custom name) = true
 sizes_fit (GroupBy n f name) = is_within 1 MAX_KEYS n
 sizes_fit (SplitWhen p name j) = true
 sizes_fit (SplitAfter p name j) = true
@@ -72,15 +75,19 @@ lane_fits (Some n) = is_within 1 MAX_LANE n && is_power_of_two n
 abbrev pub chain_wrong : List ChainDecl → Option ℕ
 chain_wrong chains = first_from (λ i c. when (not (list_all (λ s. sizes_fit s.kind) c.steps.items)) i) 0 chains
 
+-- the sizes of a node of this kind: its own, and of a custom stage those of its head
+abbrev pub node_fits : HeadLists → Kind → Bool
+node_fits heads k = sizes_fit k && head_fits (custom_head heads k)
+
 -- the first node with a size that is out of its limits
-abbrev pub node_wrong : List Node → Option ℕ
-node_wrong nodes = first_from (λ i n. when (not (sizes_fit n.kind)) i) 0 nodes
+abbrev pub node_wrong : HeadLists → List Node → Option ℕ
+node_wrong heads nodes = first_from (λ i n. when (not (node_fits heads n.kind)) i) 0 nodes
 
 -- the first wire with a size that is out of its limits
 abbrev pub wire_wrong : List WireDecl → Option ℕ
 wire_wrong wires = first_from (λ i w. when (not (lane_fits w.lane)) i) 0 wires
 
 -- the first place of all: chains, nodes, and then wires
-abbrev pub size_wrong : List ChainDecl → List Node → List WireDecl → Option Spot
-size_wrong chains nodes wires =
-    option_or (option_map at.Chain (chain_wrong chains)) (option_or (option_map at.Node (node_wrong nodes)) (option_map at.Wire (wire_wrong wires)))
+abbrev pub size_wrong : HeadLists → List ChainDecl → List Node → List WireDecl → Option Spot
+size_wrong heads chains nodes wires =
+    option_or (option_map at.Chain (chain_wrong chains)) (option_or (option_map at.Node (node_wrong heads nodes)) (option_map at.Wire (wire_wrong wires)))

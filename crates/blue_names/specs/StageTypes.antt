@@ -6,11 +6,13 @@ use Rattle.elem_core.specs.Values.{same_text}
 use Rattle.stream_model.specs.declared.kind.Base.{Base}
 use Rattle.stream_model.specs.declared.kind.Base.TheVariants as base
 use Rattle.stream_model.specs.declared.kind.Kind.{Kind}
-use Rattle.stream_model.specs.declared.kind.Kind.TheVariants.{Lines, Range, Empty, Failed, Map, Filter, FilterNot, TakeWhile, DropWhile, Take, Drop, Limit, Grouped, MapConcat, Fold, Scan, Reduce, Buffer, RecoverNum, RecoverText, Valve, TripShutdown, TripAbort, Plug, GroupBy, SplitWhen, SplitAfter, Merge, MergeHub, Concat, Interleave, MergeSorted, Zip, Broadcast, BroadcastHub, Balance, Partition, Unzip, ToLines, Head, Last, Ignore}
-use Rattle.stream_model.specs.Linear.{Role, a_source, a_flow, a_fan_in, a_fan_out, reads_lines, gives_range, gives_nothing, gives_failure, works, trips, plugs_in, buffers, recovers, obeys, groups_by, splits_when, splits_after, broadcasts, balances, partitions, unzips, sinks, role_of}
+use Rattle.stream_model.specs.declared.kind.Kind.TheVariants.{Lines, Range, Empty, Failed, Map, Filter, FilterNot, TakeWhile, DropWhile, Take, Drop, Limit, Grouped, MapConcat, Fold, Scan, Reduce, Buffer, RecoverNum, RecoverText, Valve, TripShutdown, TripAbort, Plug, Custom, GroupBy, SplitWhen, SplitAfter, Merge, MergeHub, Concat, Interleave, MergeSorted, Zip, Broadcast, BroadcastHub, Balance, Partition, Unzip, ToLines, Head, Last, Ignore}
+use Rattle.stream_model.specs.Linear.{Role, a_source, a_flow, a_fan_in, a_fan_out, reads_lines, gives_range, gives_nothing, gives_failure, works, trips, plugs_in, buffers, recovers, obeys, groups_by, splits_when, splits_after, broadcasts, balances, partitions, unzips, customs, sinks, role_of}
 use Rattle.stream_model.specs.declared.blueprint.Step.{Step}
 use Rattle.stream_model.specs.declared.blueprint.ChainDecl.{ChainDecl}
 use Rattle.stream_model.specs.declared.head.PlugHead.{PlugHead}
+use Rattle.stream_model.specs.Known.{HeadLists}
+use Rattle.blue_names.specs.CustomPorts.{named, custom_named, custom_head, input_type, outputs_type}
 use Rattle.blue_names.specs.declared.typed.TheConstants.{MAX_NESTING}
 use Rattle.blue_names.specs.declared.typed.Typed.{Typed}
 use Rattle.blue_names.specs.declared.typed.Typed.TheVariants.{Gives, Clashes, TooDeep}
@@ -26,11 +28,6 @@ limited t = if nat_le (nesting t) MAX_NESTING then Gives t else TooDeep
 abbrev pub clash_or : Option Want → Sort → Typed → Typed
 clash_or None t r = r
 clash_or (Some w) t r = if suits w t then r else Clashes t w
-
--- the first of these that has that name
-abbrev pub named : {X : Type 0} → (X → List ℕ) → List ℕ → List X → Option X
-named text name [] = None
-named text name (x ∷ xs) = if same_text name (text x) then Some x else named text name xs
 
 -- the plug of that name
 abbrev pub plug_named : List ℕ → List PlugHead → Option PlugHead
@@ -74,6 +71,7 @@ source_type_by (a_source (gives_failure b)) = Some (base_type b)
 source_type_by (a_flow flow) = None
 source_type_by (a_fan_in fan) = None
 source_type_by (a_fan_out fan) = None
+source_type_by (customs name) = None
 source_type_by (sinks file keeps) = None
 
 -- the type of a source; none of any other kind
@@ -81,7 +79,7 @@ abbrev pub source_type : Kind → Option Sort
 source_type k = source_type_by (role_of k)
 
 -- how a stage by its own function treats types: what it wants, what it gives whatever it takes, and what it gives for a type
--- that it takes
+-- that it takes; what a custom stage wants is said of its ports
 pub record Typing : Type 0 where
   pub want : Option Want
   pub fixed : Option Sort
@@ -91,7 +89,7 @@ pub record Typing : Type 0 where
 abbrev wanting : Option Want → Typing
 wanting w = record { want = w; fixed = None; gives = λ t. t }
 
-module _ (plugs : List PlugHead) where
+module _ (heads : HeadLists) where
   -- each kind by its own function; a kind that has none takes every type and gives it
   abbrev pub typing_of : Kind → Typing
   typing_of (Lines file) = wanting None
@@ -117,7 +115,8 @@ module _ (plugs : List PlugHead) where
   typing_of (Valve name) = wanting None
   typing_of (TripShutdown name n) = wanting None
   typing_of (TripAbort name n) = wanting None
-  typing_of (Plug name) = let p = plug_named name plugs in record { want = plug_want p; fixed = plug_fixed p; gives = plug_gives p }
+  typing_of (Plug name) = let p = plug_named name heads.plugs in record { want = plug_want p; fixed = plug_fixed p; gives = plug_gives p }
+  typing_of (Custom name) = record { want = None; fixed = outputs_type (custom_named heads name); gives = λ t. t }
   typing_of (GroupBy n f name) = wanting None
   typing_of (SplitWhen p name j) = wanting None
   typing_of (SplitAfter p name j) = wanting None
@@ -190,8 +189,13 @@ module _ (plugs : List PlugHead) where
     typed_by (a_fan_out (balances n)) t alone = alone
     typed_by (a_fan_out (partitions n g)) t alone = clash_or (map_want g) t (parted (map_gives g t) t)
     typed_by (a_fan_out unzips) t alone = alone
+    typed_by (customs name) t alone = alone
     typed_by (sinks file keeps) t alone = alone
 
     -- what comes of a type at a node with one input; at a sink and at a fan the type as it is
     abbrev pub stage_typed : Kind → Sort → Typed
     stage_typed k t = typed_by (role_of k) t (step_typed k t)
+
+    -- what comes of a type at this input of a node: a custom stage wants that of its head there
+    abbrev pub port_typed : ℕ → Kind → Sort → Typed
+    port_typed p k t = clash_or (option_map Is (input_type (custom_head heads k) p)) t (stage_typed k t)

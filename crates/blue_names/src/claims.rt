@@ -1,18 +1,22 @@
-// What is taken twice: names, files and plugs.
+// What is taken twice: names, files, plugs and custom stages.
 ghost use Rattle.std.specs.Prelude.{◌≡◌, ℕ, List, [], ◌∷◌, ◌++◌, IfOk, OnOk, map, not};
 ghost use Rattle.std.specs.List.{list_any};
 ghost use Rattle.std.specs.Option.{option_map, option_or};
-ghost use Rattle.blue_names.specs.Names.{Claim as Taking, same_claim, first_again, text_of, claims_of_nodes, plugs_of_nodes, taken_twice, plug_twice, called, opens, opening, calling, file_of, plug_of};
+ghost use Rattle.blue_names.specs.Names.{Claim as Taking, same_claim, first_again, text_of, claims_of_nodes, guests_of_nodes, taken_twice, guest_twice, called, opens, hires, opening, claiming, file_of, plug_of};
 ghost use Rattle.blue_names.specs.Claims.{claim_of, Knows};
+ghost use Rattle.blue_names.specs.CustomPorts.{custom_of};
+ghost use Rattle.stream_model.specs.Known.{head_shape};
 
+use crate::custom_ports::custom_of;
 use crate::table::{NameTable, note_name};
 use elem_core::line::Line;
 use elem_core::why::NoMemory;
 use std::alloc::Global;
 use std::collections::HashMap;
 use stream_model::blueprint::{ChainDecl, Node};
-use stream_model::head::PlugHead;
+use stream_model::head::{CustomHead, PlugHead};
 use stream_model::kind::Kind;
+use stream_model::known::Heads;
 
 /// What a declaration takes for itself.
 #[derive(Clone, Copy)]
@@ -21,25 +25,30 @@ pub enum NameClaim<'a> {
     Called(&'a Line),
     /// A file.
     Opens(&'a Line),
+    /// A custom stage that is handed in.
+    Hires(&'a Line),
 }
 
-/// The names and files that are taken so far.
+/// The names, files and custom stages that are taken so far.
 #[derive(Drop)]
 pub struct Taken<'a> {
     /// The names.
     pub names: NameTable<'a>,
     /// The files.
     pub files: NameTable<'a>,
+    /// The custom stages.
+    pub customs: NameTable<'a>,
 }
 
 impl<'a> NameClaim<'a> {
-    /// The name or the file.
+    /// Its text.
     pub fn line(self) -> &'a Line
         ensures { result.now ≡ text_of (claim_of self.entry) }
     {
         match self {
             NameClaim::Called(line) => line,
             NameClaim::Opens(line) => line,
+            NameClaim::Hires(line) => line,
         }
     }
 }
@@ -49,31 +58,33 @@ impl<'a> Taken<'a> {
 
     /// Nothing is taken.
     pub fn new(alloc: Global) -> Self
-        ensures { Knows result.names result.files [] }
+        ensures { Knows result.names result.files result.customs [] }
     {
         Taken {
             names: HashMap::new(alloc),
             files: HashMap::new(alloc),
+            customs: HashMap::new(alloc),
         }
     }
 
     /// Takes what is claimed, and says whether it was free.
     pub fn take(&mut self, claim: NameClaim<'a>) -> Result<bool, NoMemory>
-        ensures free { (before : List Taking) → Knows self.old.names self.old.files before
+        ensures free { (before : List Taking) → Knows self.old.names self.old.files self.old.customs before
             → IfOk result (λ free. free ≡ not (list_any (same_claim (claim_of claim.entry)) before)) }
-        ensures taken { (before : List Taking) → Knows self.old.names self.old.files before
-            → OnOk result (Knows self.new.names self.new.files (claim_of claim.entry ∷ before)) }
+        ensures taken { (before : List Taking) → Knows self.old.names self.old.files self.old.customs before
+            → OnOk result (Knows self.new.names self.new.files self.new.customs (claim_of claim.entry ∷ before)) }
     {
         match claim {
             NameClaim::Called(name) => note_name(&mut self.names, name, 0),
             NameClaim::Opens(file) => note_name(&mut self.files, file, 0),
+            NameClaim::Hires(name) => note_name(&mut self.customs, name, 0),
         }
     }
 }
 
 /// The files that are taken by others.
 fn taken_files<'a>(alloc: Global, files: &'a [Line]) -> Result<Taken<'a>, NoMemory>
-    ensures { IfOk result (λ taken. Knows taken.names taken.files (map opens files.now)) }
+    ensures { IfOk result (λ taken. Knows taken.names taken.files taken.customs (map opens files.now)) }
 {
     let mut taken = Taken::new(alloc);
     for file in files {
@@ -149,6 +160,19 @@ fn add_plugs<'a>(claims: &mut Vec<NameClaim<'a>>, plugs: &'a [PlugHead]) -> Resu
     Ok(())
 }
 
+/// Adds the names of the custom stages.
+fn add_customs<'a>(
+    claims: &mut Vec<NameClaim<'a>>,
+    customs: &'a [CustomHead],
+) -> Result<(), NoMemory>
+    ensures { OnOk result (map claim_of claims.new.items ≡ map claim_of claims.old.items ++ map (λ c. hires c.name) (map head_shape customs.now)) }
+{
+    for custom in customs {
+        claims.push(NameClaim::Hires(&custom.name))?;
+    }
+    Ok(())
+}
+
 /// Adds a file, where there is one.
 fn add_file<'a>(claims: &mut Vec<NameClaim<'a>>, file: Option<&'a Line>) -> Result<(), NoMemory>
     ensures { (rest : List Taking) → OnOk result (map claim_of claims.new.items ++ rest ≡ map claim_of claims.old.items
@@ -160,13 +184,19 @@ fn add_file<'a>(claims: &mut Vec<NameClaim<'a>>, file: Option<&'a Line>) -> Resu
     Ok(())
 }
 
-/// Adds a name, where there is one.
-fn add_name<'a>(claims: &mut Vec<NameClaim<'a>>, name: Option<&'a Line>) -> Result<(), NoMemory>
+/// Adds a plug that is named, or else a custom stage.
+fn add_guest<'a>(
+    claims: &mut Vec<NameClaim<'a>>,
+    plug: Option<&'a Line>,
+    custom: Option<&'a Line>,
+) -> Result<(), NoMemory>
     ensures { (rest : List Taking) → OnOk result (map claim_of claims.new.items ++ rest ≡ map claim_of claims.old.items
-        ++ calling (option_map (λ l. l.now) name.entry) rest) }
+        ++ claiming (option_map (λ l. l.now) plug.entry) (option_map (λ l. l.now) custom.entry) rest) }
 {
-    if let Some(name) = name {
+    if let Some(name) = plug {
         claims.push(NameClaim::Called(name))?;
+    } else if let Some(name) = custom {
+        claims.push(NameClaim::Hires(name))?;
     }
     Ok(())
 }
@@ -182,12 +212,12 @@ fn add_nodes<'a>(claims: &mut Vec<NameClaim<'a>>, nodes: &'a [Node]) -> Result<(
     Ok(())
 }
 
-/// Adds the plugs that the nodes name.
+/// Adds the plugs and the custom stages that the nodes name.
 fn add_uses<'a>(claims: &mut Vec<NameClaim<'a>>, nodes: &'a [Node]) -> Result<(), NoMemory>
-    ensures { OnOk result (map claim_of claims.new.items ≡ map claim_of claims.old.items ++ plugs_of_nodes nodes.now) }
+    ensures { OnOk result (map claim_of claims.new.items ≡ map claim_of claims.old.items ++ guests_of_nodes nodes.now) }
 {
     for node in nodes {
-        add_name(claims, plug_of(&node.kind))?;
+        add_guest(claims, plug_of(&node.kind), custom_of(&node.kind))?;
     }
     Ok(())
 }
@@ -218,24 +248,37 @@ fn named_twice<'a>(alloc: Global, plugs: &'a [PlugHead]) -> Result<Option<&'a Li
     first_again(alloc, &[], &claims)
 }
 
-/// The first plug that two nodes name.
+/// The first name that two custom stages have.
+fn hired_twice<'a>(alloc: Global, customs: &'a [CustomHead]) -> Result<Option<&'a Line>, NoMemory>
+    ensures { IfOk result (λ again. option_map (λ l. l.now) again ≡ first_again [] (map (λ c. hires c.name) (map head_shape customs.now))) }
+{
+    let mut claims = Vec::new(alloc);
+    add_customs(&mut claims, customs)?;
+    first_again(alloc, &[], &claims)
+}
+
+/// The first plug or custom stage that two nodes name.
 fn used_twice<'a>(alloc: Global, nodes: &'a [Node]) -> Result<Option<&'a Line>, NoMemory>
-    ensures { IfOk result (λ again. option_map (λ l. l.now) again ≡ first_again [] (plugs_of_nodes nodes.now)) }
+    ensures { IfOk result (λ again. option_map (λ l. l.now) again ≡ first_again [] (guests_of_nodes nodes.now)) }
 {
     let mut claims = Vec::new(alloc);
     add_uses(&mut claims, nodes)?;
     first_again(alloc, &[], &claims)
 }
 
-/// The first name that two plugs have, or else the first plug that two nodes name.
-pub fn plug_twice<'a>(
+/// The first name that two plugs have, or else one that two custom stages have, or else the first plug or custom stage that two nodes
+/// name.
+pub fn guest_twice<'a>(
     alloc: Global,
-    plugs: &'a [PlugHead],
+    heads: &Heads<'a>,
     nodes: &'a [Node],
 ) -> Result<Option<&'a Line>, NoMemory>
-    ensures { IfOk result (λ again. option_map (λ l. l.now) again ≡ plug_twice plugs.now nodes.now) }
+    ensures { IfOk result (λ again. option_map (λ l. l.now) again ≡ guest_twice heads.now nodes.now) }
 {
-    match named_twice(alloc, plugs)? {
+    if let Some(name) = named_twice(alloc, heads.plugs())? {
+        return Ok(Some(name));
+    }
+    match hired_twice(alloc, heads.customs())? {
         Some(name) => Ok(Some(name)),
         None => used_twice(alloc, nodes),
     }

@@ -2,17 +2,18 @@
 ghost use Rattle.std.specs.Prelude.{◌≡◌, ℕ, List, IfOk, map};
 ghost use Rattle.std.specs.Option.{option_map};
 ghost use Rattle.blue_names.specs.First.{first_from};
-ghost use Rattle.blue_names.specs.Names.{missing, unknown_at, unknown_mention, unknown_plug, unknown_plug_at, unknown_in_steps, unknown_in_chains, plug_of};
+ghost use Rattle.blue_names.specs.Names.{missing, unknown_at, unknown_mention, unknown_plug_at, unknown_guest_at, unknown_in_steps, unknown_in_chains, unknown_in_nodes, unknown_guest};
 ghost use Rattle.blue_names.specs.Table.{Numbers};
 
 use crate::claims::plug_of;
+use crate::custom_ports::custom_of;
 use crate::table::{NameTable, find, table_of};
 use elem_core::line::Line;
 use elem_core::why::NoMemory;
 use std::alloc::Global;
 use stream_model::blueprint::{ChainDecl, Node, Step};
-use stream_model::head::PlugHead;
 use stream_model::kind::Kind;
+use stream_model::known::Heads;
 
 /// The name, where a table has none of it.
 fn missing<'a>(table: &NameTable<'_>, name: &'a Line) -> Option<&'a Line>
@@ -85,12 +86,30 @@ fn unknown_plug_at<'a>(plugs: &NameTable<'_>, plug: Option<&'a Line>) -> Option<
     }
 }
 
-/// The first plug that a step names and that is not handed in.
-fn unknown_plug_in_steps<'a>(plugs: &NameTable<'_>, steps: &'a [Step]) -> Option<&'a Line>
-    ensures { (ps : List (List ℕ)) → Numbers plugs.now ps → option_map (λ l. l.now) result ≡ unknown_in_steps ps steps.now }
+/// The plug or the custom stage that a node names, where it is not handed in.
+fn unknown_guest_at<'a>(
+    plugs: &NameTable<'_>,
+    customs: &NameTable<'_>,
+    kind: &'a Kind,
+) -> Option<&'a Line>
+    ensures { (ps cs : List (List ℕ)) → Numbers plugs.now ps → Numbers customs.now cs → option_map (λ l. l.now) result ≡ unknown_guest_at ps cs kind.now }
+{
+    match unknown_plug_at(plugs, plug_of(kind)) {
+        Some(name) => Some(name),
+        None => unknown_plug_at(customs, custom_of(kind)),
+    }
+}
+
+/// The first of them that a step names.
+fn unknown_guest_in_steps<'a>(
+    plugs: &NameTable<'_>,
+    customs: &NameTable<'_>,
+    steps: &'a [Step],
+) -> Option<&'a Line>
+    ensures { (ps cs : List (List ℕ)) → Numbers plugs.now ps → Numbers customs.now cs → option_map (λ l. l.now) result ≡ unknown_in_steps ps cs steps.now }
 {
     for step in steps {
-        if let Some(name) = unknown_plug_at(plugs, plug_of(&step.kind)) {
+        if let Some(name) = unknown_guest_at(plugs, customs, &step.kind) {
             return Some(name);
         }
     }
@@ -98,11 +117,15 @@ fn unknown_plug_in_steps<'a>(plugs: &NameTable<'_>, steps: &'a [Step]) -> Option
 }
 
 /// The first of them among the steps of the chains.
-fn unknown_plug_in_chains<'a>(plugs: &NameTable<'_>, chains: &'a [ChainDecl]) -> Option<&'a Line>
-    ensures { (ps : List (List ℕ)) → Numbers plugs.now ps → option_map (λ l. l.now) result ≡ unknown_in_chains ps chains.now }
+fn unknown_guest_in_chains<'a>(
+    plugs: &NameTable<'_>,
+    customs: &NameTable<'_>,
+    chains: &'a [ChainDecl],
+) -> Option<&'a Line>
+    ensures { (ps cs : List (List ℕ)) → Numbers plugs.now ps → Numbers customs.now cs → option_map (λ l. l.now) result ≡ unknown_in_chains ps cs chains.now }
 {
     for chain in chains {
-        if let Some(name) = unknown_plug_in_steps(plugs, &chain.steps) {
+        if let Some(name) = unknown_guest_in_steps(plugs, customs, &chain.steps) {
             return Some(name);
         }
     }
@@ -110,12 +133,15 @@ fn unknown_plug_in_chains<'a>(plugs: &NameTable<'_>, chains: &'a [ChainDecl]) ->
 }
 
 /// The first of them among the nodes.
-fn unknown_plug_in<'a>(plugs: &NameTable<'_>, nodes: &'a [Node]) -> Option<&'a Line>
-    ensures { (ps : List (List ℕ)) → Numbers plugs.now ps
-        → option_map (λ l. l.now) result ≡ first_from (λ _ n. unknown_plug_at ps (plug_of n.kind)) 0 nodes.now }
+fn unknown_guest_in<'a>(
+    plugs: &NameTable<'_>,
+    customs: &NameTable<'_>,
+    nodes: &'a [Node],
+) -> Option<&'a Line>
+    ensures { (ps cs : List (List ℕ)) → Numbers plugs.now ps → Numbers customs.now cs → option_map (λ l. l.now) result ≡ unknown_in_nodes ps cs nodes.now }
 {
     for node in nodes {
-        if let Some(name) = unknown_plug_at(plugs, plug_of(&node.kind)) {
+        if let Some(name) = unknown_guest_at(plugs, customs, &node.kind) {
             return Some(name);
         }
     }
@@ -123,18 +149,19 @@ fn unknown_plug_in<'a>(plugs: &NameTable<'_>, nodes: &'a [Node]) -> Option<&'a L
 }
 
 // Choice: docs/DECISIONS.md#plugs-of-steps
-/// The first plug that a step of a chain or a node names and that is not handed in: chains come before nodes.
-pub fn unknown_plug<'a>(
+/// The first plug or custom stage that a step of a chain or a node names and that is not handed in: chains come before nodes.
+pub fn unknown_guest<'a>(
     alloc: Global,
-    plugs: &[PlugHead],
+    heads: &Heads<'_>,
     chains: &'a [ChainDecl],
     nodes: &'a [Node],
 ) -> Result<Option<&'a Line>, NoMemory>
-    ensures { IfOk result (λ name. option_map (λ l. l.now) name ≡ unknown_plug plugs.now chains.now nodes.now) }
+    ensures { IfOk result (λ name. option_map (λ l. l.now) name ≡ unknown_guest heads.now chains.now nodes.now) }
 {
-    let table = table_of(alloc, plugs)?;
-    match unknown_plug_in_chains(&table, chains) {
+    let plugs = table_of(alloc, heads.plugs())?;
+    let customs = table_of(alloc, heads.customs())?;
+    match unknown_guest_in_chains(&plugs, &customs, chains) {
         Some(name) => Ok(Some(name)),
-        None => Ok(unknown_plug_in(&table, nodes)),
+        None => Ok(unknown_guest_in(&plugs, &customs, nodes)),
     }
 }

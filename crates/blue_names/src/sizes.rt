@@ -3,12 +3,14 @@ ghost use Rattle.std.specs.Prelude.{◌≡◌, ℕ, ◌≤◌, ◌^◌, ◌<◌,
 ghost use Rattle.std.specs.List.{list_all};
 ghost use Rattle.std.specs.Option.{option_map, option_or};
 ghost use Rattle.blue_names.specs.First.{first_from, when};
-ghost use Rattle.blue_names.specs.Sizes.{is_within, sizes_fit, lane_fits, chain_wrong, node_wrong, wire_wrong};
+ghost use Rattle.blue_names.specs.Sizes.{is_within, sizes_fit, node_fits, lane_fits, chain_wrong, node_wrong, wire_wrong};
 ghost use Rattle.blue_names.specs.declared.spot.Spot.TheVariants as at;
 
+use crate::custom_ports::{custom_head, head_fits};
 use elem_core::why::NoMemory;
 use stream_model::blueprint::{ChainDecl, Node, Step, WireDecl};
 use stream_model::kind::{Kind, MAX_FAN};
+use stream_model::known::Heads;
 use stream_model::limit::{MAX_COUNT, MAX_HELD, MAX_KEYS, MAX_LANE};
 
 /// Whether a size is within its limits.
@@ -75,12 +77,19 @@ pub fn chain_wrong(chains: &[ChainDecl]) -> Option<usize>
     None
 }
 
+/// Whether the sizes of a node of this kind are, and those of its head where it is a custom stage.
+fn node_fits(heads: &Heads<'_>, kind: &Kind) -> bool
+    ensures { result ≡ node_fits heads.now kind.now }
+{
+    sizes_fit(kind) && head_fits(custom_head(heads, kind))
+}
+
 /// The first node with such a size.
-pub fn node_wrong(nodes: &[Node]) -> Option<usize>
-    ensures { result ≡ node_wrong nodes.now }
+pub fn node_wrong(heads: &Heads<'_>, nodes: &[Node]) -> Option<usize>
+    ensures { result ≡ node_wrong heads.now nodes.now }
 {
     for (i, node) in nodes.iter().enumerate() {
-        if !sizes_fit(&node.kind) {
+        if !node_fits(heads, &node.kind) {
             return Some(i);
         }
     }

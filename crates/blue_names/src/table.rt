@@ -10,7 +10,7 @@ use elem_core::why::NoMemory;
 use std::alloc::Global;
 use std::collections::HashMap;
 use stream_model::blueprint::{ChainDecl, Node};
-use stream_model::head::PlugHead;
+use stream_model::head::{CustomHead, PlugHead};
 
 /// The number of each name.
 pub type NameTable<'a> = HashMap<&'a [u8], usize>;
@@ -52,6 +52,14 @@ impl Named for Node {
 
 impl Named for PlugHead {
     ghost text = { λ p. p.name };
+
+    fn name(&self) -> &Line {
+        &self.name
+    }
+}
+
+impl Named for CustomHead {
+    ghost text = { λ c. c.name };
 
     fn name(&self) -> &Line {
         &self.name

@@ -3,7 +3,7 @@ use Rattle.std.proofs.Common.{◌≡◌, ℕ, zero, suc, ◌+◌, Bool, true, fa
 use Rattle.std.specs.Prelude.{slice_get, MatchOption}
 use Rattle.elem_core.specs.Values.{same_text}
 use Rattle.blue_names.specs.RuleLinks.{number_from}
-use Rattle.blue_names.specs.StageTypes.{named}
+use Rattle.blue_names.specs.CustomPorts.{named}
 
 -- the value at a place that is counted from n
 record At {X : Type 0} (xs : List X) (o : Option X) (n i : ℕ) : Type 0 where

@@ -5,10 +5,11 @@ use Rattle.std.specs.Option.{option_or, option_map, option_and_then}
 use Rattle.std.proofs.lemmas.Bool.{cases_Bool, or_cases, eqb-true, and_parts, both_ways}
 use Rattle.elem_core.specs.Sort.{Sort}
 use Rattle.stream_model.specs.Graph.{Edge, find_by, find_wire}
-use Rattle.stream_model.specs.Composed.{count_from, inputs_of}
+use Rattle.stream_model.specs.Composed.{count_from}
 use Rattle.stream_model.specs.declared.blueprint.Node.{Node}
 use Rattle.stream_model.specs.declared.blueprint.ChainDecl.{ChainDecl}
-use Rattle.stream_model.specs.declared.head.PlugHead.{PlugHead}
+use Rattle.stream_model.specs.Known.{HeadLists}
+use Rattle.blue_names.specs.CustomPorts.{kind_inputs}
 use Rattle.blue_names.specs.Rounds.{attempt, attempt_at, arrivals, fixes, port_type, type_on, wire_into}
 use Rattle.blue_types.specs.declared.news.Fixed.{Fixed}
 use Rattle.blue_names.specs.Members.{is_in}
@@ -55,24 +56,24 @@ into_by ws node p w (Some i) e h =
 wire_into-is : (nodes : List Node) (ws : List Edge) (node p : ℕ) (w : Edge) → wire_into nodes ws node p ≡ Some w → IsInto ws node w
 wire_into-is nodes ws node p w h = into_by ws node p w (find_wire node p ws) refl h
 
-module _ (nodes : List Node) (ws : List Edge) (t u : ℕ → Option Sort) (i : ℕ) (same : (j : ℕ) (w : Edge) → slice_get ws j ≡ Some w → w.to ≡ i → t w.from ≡ u w.from) where
-  type_on-by : (p : ℕ) (o : Option Edge) → wire_into nodes ws i p ≡ o → type_on nodes ws t o ≡ type_on nodes ws u o
+module _ (heads : HeadLists) (nodes : List Node) (ws : List Edge) (t u : ℕ → Option Sort) (i : ℕ) (same : (j : ℕ) (w : Edge) → slice_get ws j ≡ Some w → w.to ≡ i → t w.from ≡ u w.from) where
+  type_on-by : (p : ℕ) (o : Option Edge) → wire_into nodes ws i p ≡ o → type_on heads nodes ws t o ≡ type_on heads nodes ws u o
   type_on-by p None e = refl
   type_on-by p (Some w) e =
       let f = wire_into-is nodes ws i p w e in
-      ap (option_map (port_type (slice_get nodes w.from) w.output)) (same f.number w f.at f.to)
+      ap (option_map (port_type heads (slice_get nodes w.from) w.output)) (same f.number w f.at f.to)
 
   -- types that agree on the nodes before a node arrive alike
-  arrivals-same : (ps : List ℕ) → arrivals nodes ws t i ps ≡ arrivals nodes ws u i ps
+  arrivals-same : (ps : List ℕ) → arrivals heads nodes ws t i ps ≡ arrivals heads nodes ws u i ps
   arrivals-same [] = refl
   arrivals-same (p ∷ ps) =
-      let e : type_on nodes ws t (wire_into nodes ws i p) ≡ type_on nodes ws u (wire_into nodes ws i p) = type_on-by p (wire_into nodes ws i p) refl in
-      let r : arrivals nodes ws t i ps ≡ arrivals nodes ws u i ps = arrivals-same ps in
+      let e : type_on heads nodes ws t (wire_into nodes ws i p) ≡ type_on heads nodes ws u (wire_into nodes ws i p) = type_on-by p (wire_into nodes ws i p) refl in
+      let r : arrivals heads nodes ws t i ps ≡ arrivals heads nodes ws u i ps = arrivals-same ps in
       cc
 
-  pub attempt_at-same : (plugs : List PlugHead) (chains : List ChainDecl) (o : Option Node) → attempt_at plugs chains nodes ws t i o ≡ attempt_at plugs chains nodes ws u i o
-  attempt_at-same plugs chains None = refl
-  attempt_at-same plugs chains (Some n) = ap (attempt plugs chains n.kind) (arrivals-same (count_from 0 (inputs_of n.kind)))
+  pub attempt_at-same : (chains : List ChainDecl) (o : Option Node) → attempt_at heads chains nodes ws t i o ≡ attempt_at heads chains nodes ws u i o
+  attempt_at-same chains None = refl
+  attempt_at-same chains (Some n) = ap (attempt heads chains n.kind) (arrivals-same (count_from 0 (kind_inputs heads n.kind)))
 
 none_before : {X : Type 0} (a b : Option X) → option_or a b ≡ None → (a ≡ None) × (b ≡ None)
 none_before None b h = (refl, h)

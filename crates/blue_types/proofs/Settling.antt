@@ -26,7 +26,7 @@ type_at-sources (n ∷ ns) (suc i) = type_at-sources ns i
 module _ (l : Library) (n : Net) where
   -- so many rounds over a net
   abbrev pub rounds_of : ℕ → ℕ → Option Sort
-  rounds_of k = rounds l.plugs.now l.chains.now n.nodes.now (wires_of_links n.links.now) k
+  rounds_of k = rounds l.heads.now l.chains.now n.nodes.now (wires_of_links n.links.now) k
 
   -- these types are those after k rounds, and only nodes in the list have anything to fix
   pub record Settles (types : List (Option Sort)) (front : List ℕ) (k : ℕ) : Type 0 where
@@ -51,7 +51,7 @@ module _ (l : Library) (n : Net) where
       past_end (x ∷ xs) (suc i) h = past_end xs i (omega arith)
 
       past : (i : ℕ) → length n.nodes.now ≤ i → would l n (type_at types) i ≡ None
-      past i le = ap (λ o. fixes (attempt_at l.plugs.now l.chains.now n.nodes.now (wires_of_links n.links.now) (type_at types) i o)) (past_end n.nodes.now i le)
+      past i le = ap (λ o. fixes (attempt_at l.heads.now l.chains.now n.nodes.now (wires_of_links n.links.now) (type_at types) i o)) (past_end n.nodes.now i le)
 
   pub Settles-next : (types new : List (Option Sort)) (front later : List ℕ) (k : ℕ) → Settles types front k → length new ≡ length types
       → ((i : ℕ) → type_at new i ≡ option_or (type_at types i) (would l n (type_at types) i)) → RestsOn (type_at new) (would l n (type_at new)) later → Settles new later (k + 1)

@@ -8,4 +8,4 @@ use Rattle.blue_types.specs.declared.net.Net.{Net}
 
 -- the type that a node would fix, where these types are fixed
 abbrev pub would : Library → Net → (ℕ → Option Sort) → ℕ → Option Sort
-would l n types i = fixes (attempt_at l.plugs.now l.chains.now n.nodes.now (wires_of_links n.links.now) types i (slice_get n.nodes.now i))
+would l n types i = fixes (attempt_at l.heads.now l.chains.now n.nodes.now (wires_of_links n.links.now) types i (slice_get n.nodes.now i))

@@ -12,7 +12,7 @@ ghost use Rattle.blue_types.specs.Net.{HasFirstWires, type_at};
 use crate::attempts::attempt;
 use crate::library::Library;
 use crate::net::{Net, node_at, type_of, type_on};
-use crate::stages::stage_typed;
+use crate::stages::port_typed;
 use blue_names::links::NumberedWire;
 use blue_names::typed::{Clash, Typed};
 use blue_names::want::Want;
@@ -75,17 +75,18 @@ fn clash_at(
     library: &Library<'_>,
     kind: &Kind,
     wire: usize,
+    port: u32,
     t: ElemType,
     taken: Option<&ElemType>,
 ) -> Result<Option<Clash>, NoMemory>
     requires { IsKnown library.now }
     ensures { (n : Declared) (o : Option Sort) → n.kind ≡ kind.now → option_map (λ s. s.now) taken.entry ≡ o
-        → IfOk result (λ c. c ≡ clash_with library.now.plugs.now library.now.chains.now wire (Some n) o (Some t)) }
+        → IfOk result (λ c. c ≡ clash_with library.now.heads.now library.now.chains.now wire port (Some n) o (Some t)) }
 {
     if is_joining(kind) {
         unlike(alloc, wire, t, taken)
     } else {
-        let typed = stage_typed(alloc, library, kind, &t)?;
+        let typed = port_typed(alloc, library, port, kind, &t)?;
         Ok(clash_of(wire, typed))
     }
 }
@@ -100,14 +101,22 @@ fn clash_on(
     link: NumberedWire,
 ) -> Result<Option<Clash>, NoMemory>
     requires { IsKnown library.now }
-    ensures { IfOk result (λ c. c ≡ clash_on library.now.plugs.now library.now.chains.now net.now.nodes.now (wires_of_links net.now.links.now)
+    ensures { IfOk result (λ c. c ≡ clash_on library.now.heads.now library.now.chains.now net.now.nodes.now (wires_of_links net.now.links.now)
         (type_at types.now) wire (wire_of_link link)) }
 {
     match node_at(net.nodes, link.to) {
         None => Ok(None),
-        Some(node) => match type_on(alloc, net, types, link)? {
+        Some(node) => match type_on(alloc, library, net, types, link)? {
             None => Ok(None),
-            Some(t) => clash_at(alloc, library, &node.kind, wire, t, type_of(types, link.to)),
+            Some(t) => clash_at(
+                alloc,
+                library,
+                &node.kind,
+                wire,
+                link.input,
+                t,
+                type_of(types, link.to),
+            ),
         },
     }
 }
@@ -120,7 +129,7 @@ fn first_clash(
     types: &[Option<ElemType>],
 ) -> Result<Option<Clash>, NoMemory>
     requires { IsKnown library.now }
-    ensures { IfOk result (λ c. c ≡ first_from (clash_on library.now.plugs.now library.now.chains.now net.now.nodes.now (wires_of_links net.now.links.now)
+    ensures { IfOk result (λ c. c ≡ first_from (clash_on library.now.heads.now library.now.chains.now net.now.nodes.now (wires_of_links net.now.links.now)
         (type_at types.now)) 0 (wires_of_links net.now.links.now)) }
 {
     for (i, link) in net.links.iter().enumerate() {
@@ -150,7 +159,7 @@ fn first_deep(
 ) -> Result<Option<usize>, NoMemory>
     requires known { IsKnown library.now }
     requires wired { HasFirstWires net.now }
-    ensures { IfOk result (λ o. o ≡ first_from (λ i n. when (is_deep (attempt_at library.now.plugs.now library.now.chains.now net.now.nodes.now
+    ensures { IfOk result (λ o. o ≡ first_from (λ i n. when (is_deep (attempt_at library.now.heads.now library.now.chains.now net.now.nodes.now
         (wires_of_links net.now.links.now) (type_at types.now) i (Some n))) i) 0 net.now.nodes.now) }
 {
     for (i, node) in net.nodes.iter().enumerate() {
@@ -170,9 +179,9 @@ pub fn type_clash(
     types: &[Option<ElemType>],
 ) -> Result<Option<Clash>, NoMemory>
     requires known { IsKnown library.now }
-    requires settled { (i : ℕ) → type_at types.now i ≡ settled library.now.plugs.now library.now.chains.now net.now.nodes.now
+    requires settled { (i : ℕ) → type_at types.now i ≡ settled library.now.heads.now library.now.chains.now net.now.nodes.now
         (wires_of_links net.now.links.now) i }
-    ensures { IfOk result (λ c. c ≡ type_clash library.now.plugs.now library.now.chains.now net.now.nodes.now (wires_of_links net.now.links.now)) }
+    ensures { IfOk result (λ c. c ≡ type_clash library.now.heads.now library.now.chains.now net.now.nodes.now (wires_of_links net.now.links.now)) }
 {
     first_clash(alloc, library, net, types)
 }
@@ -186,9 +195,9 @@ pub fn too_deep(
 ) -> Result<Option<usize>, NoMemory>
     requires known { IsKnown library.now }
     requires wired { HasFirstWires net.now }
-    requires settled { (i : ℕ) → type_at types.now i ≡ settled library.now.plugs.now library.now.chains.now net.now.nodes.now
+    requires settled { (i : ℕ) → type_at types.now i ≡ settled library.now.heads.now library.now.chains.now net.now.nodes.now
         (wires_of_links net.now.links.now) i }
-    ensures { IfOk result (λ o. o ≡ too_deep library.now.plugs.now library.now.chains.now net.now.nodes.now (wires_of_links net.now.links.now)) }
+    ensures { IfOk result (λ o. o ≡ too_deep library.now.heads.now library.now.chains.now net.now.nodes.now (wires_of_links net.now.links.now)) }
 {
     first_deep(alloc, library, net, types)
 }

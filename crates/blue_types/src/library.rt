@@ -1,4 +1,4 @@
-// The plugs and the chains that nodes name.
+// What is handed in and the chains that nodes name.
 ghost use Rattle.std.specs.Prelude.{◌≡◌, IfOk, map, slice_get};
 ghost use Rattle.std.specs.Option.{option_map};
 ghost use Rattle.blue_names.specs.StageTypes.{plug_named, chain_named};
@@ -10,12 +10,13 @@ use elem_core::why::NoMemory;
 use std::alloc::Global;
 use stream_model::blueprint::{ChainDecl, Step};
 use stream_model::head::PlugHead;
+use stream_model::known::Heads;
 
-/// The plugs and the chains, with their places by name.
+/// What is handed in and the chains, with the places of plugs and chains by name.
 #[derive(Drop)]
 pub struct Library<'a> {
-    /// The plugs that are handed in.
-    pub plugs: &'a [PlugHead],
+    /// What is handed in.
+    pub heads: &'a Heads<'a>,
     /// The places of the plugs.
     pub plug_places: NameTable<'a>,
     /// The chains of the blueprint.
@@ -27,20 +28,20 @@ pub struct Library<'a> {
 impl<'a> Library<'a> {
     ghost use Rattle.blue_types.specs.Library.{IsKnown};
 
-    /// The library of these plugs and chains.
+    /// The library of these heads and chains.
     pub fn new(
         alloc: Global,
-        plugs: &'a [PlugHead],
+        heads: &'a Heads<'a>,
         chains: &'a [ChainDecl],
     ) -> Result<Self, NoMemory>
         ensures known { IfOk result IsKnown }
-        ensures plugs { IfOk result (λ l. l.plugs.now ≡ plugs.now) }
+        ensures heads { IfOk result (λ l. l.heads.now ≡ heads.now) }
         ensures chains { IfOk result (λ l. l.chains.now ≡ chains.now) }
     {
-        let plug_places = table_of(alloc, plugs)?;
+        let plug_places = table_of(alloc, heads.plugs())?;
         let chain_places = table_of(alloc, chains)?;
         Ok(Library {
-            plugs,
+            heads,
             plug_places,
             chains,
             chain_places,
@@ -65,10 +66,10 @@ fn chain_at(chains: &[ChainDecl], i: usize) -> Option<&ChainDecl>
 /// The plug of that name.
 pub fn plug_named<'a>(library: &Library<'a>, name: &Line) -> Option<&'a PlugHead>
     requires { IsKnown library.now }
-    ensures { option_map (λ p. p.now) result ≡ plug_named name.now library.now.plugs.now }
+    ensures { option_map (λ p. p.now) result ≡ plug_named name.now library.now.heads.now.plugs }
 {
     match find(&library.plug_places, name) {
-        Some(i) => plug_at(library.plugs, i),
+        Some(i) => plug_at(library.heads.plugs(), i),
         None => None,
     }
 }

@@ -2,13 +2,17 @@
 ghost use Rattle.std.specs.Prelude.{◌≡◌, ◌<◌, ℕ, List, Option, IfOk, MatchBool, map, slice_get, length, Some, None, unwrap_or};
 ghost use Rattle.std.specs.Option.{option_map, option_copied};
 ghost use Rattle.blue_names.specs.Rounds.{wire_into, port_type, half_type, type_on};
+ghost use Rattle.blue_names.specs.CustomPorts.{custom_named, output_type};
 ghost use Rattle.blue_names.specs.Links.{wire_of_link, wires_of_links};
 ghost use Rattle.blue_types.specs.Net.{HasFirstWires, type_at};
 
+use crate::library::Library;
 use crate::sorts::{left_type, right_type};
+use blue_names::custom_ports::custom_named;
 use blue_names::links::{NumberedWire, link_at};
 use blue_names::ports::{PortTable, wire_at};
 use elem_core::elem_type::ElemType;
+use elem_core::line::Line;
 use elem_core::why::NoMemory;
 use std::alloc::Global;
 use stream_model::blueprint::Node;
@@ -53,9 +57,25 @@ fn wire_into(net: &Net<'_>, node: usize, port: u32) -> Option<NumberedWire>
     }
 }
 
+/// The type of an output of the custom stage of that name.
+fn output_type<'a>(library: &Library<'a>, name: &Line, port: u32) -> Option<&'a ElemType>
+    ensures { option_map (λ t. t.now) result ≡ output_type (custom_named library.now.heads.now name.now) port }
+{
+    match custom_named(library.heads.customs(), name) {
+        Some(head) => head.outputs.get(port as usize),
+        None => None,
+    }
+}
+
 /// What an output of a kind carries, where the type of its node is this.
-fn half_type(alloc: Global, kind: &Kind, port: u32, t: &ElemType) -> Result<ElemType, NoMemory>
-    ensures { IfOk result (λ u. u ≡ half_type kind.now port t.now) }
+fn half_type(
+    alloc: Global,
+    library: &Library<'_>,
+    kind: &Kind,
+    port: u32,
+    t: &ElemType,
+) -> Result<ElemType, NoMemory>
+    ensures { IfOk result (λ u. u ≡ half_type library.now.heads.now kind.now port t.now) }
 {
     match kind {
         Kind::Unzip => {
@@ -65,6 +85,10 @@ fn half_type(alloc: Global, kind: &Kind, port: u32, t: &ElemType) -> Result<Elem
                 right_type(alloc, t)
             }
         }
+        Kind::Custom(name) => match output_type(library, name, port) {
+            Some(output) => output.copy(alloc),
+            None => t.copy(alloc),
+        },
         _ => t.copy(alloc),
     }
 }
@@ -72,15 +96,16 @@ fn half_type(alloc: Global, kind: &Kind, port: u32, t: &ElemType) -> Result<Elem
 /// The same of a node.
 fn port_type(
     alloc: Global,
+    library: &Library<'_>,
     nodes: &[Node],
     node: usize,
     port: u32,
     t: &ElemType,
 ) -> Result<ElemType, NoMemory>
-    ensures { IfOk result (λ u. u ≡ port_type (slice_get nodes.now node) port t.now) }
+    ensures { IfOk result (λ u. u ≡ port_type library.now.heads.now (slice_get nodes.now node) port t.now) }
 {
     match nodes.get(node) {
-        Some(node) => half_type(alloc, &node.kind, port, t),
+        Some(node) => half_type(alloc, library, &node.kind, port, t),
         None => t.copy(alloc),
     }
 }
@@ -88,14 +113,15 @@ fn port_type(
 /// The type on a wire, where the type of its node is fixed.
 pub fn type_on(
     alloc: Global,
+    library: &Library<'_>,
     net: &Net<'_>,
     types: &[Option<ElemType>],
     link: NumberedWire,
 ) -> Result<Option<ElemType>, NoMemory>
-    ensures { IfOk result (λ o. o ≡ type_on net.now.nodes.now (wires_of_links net.now.links.now) (type_at types.now) (Some (wire_of_link link))) }
+    ensures { IfOk result (λ o. o ≡ type_on library.now.heads.now net.now.nodes.now (wires_of_links net.now.links.now) (type_at types.now) (Some (wire_of_link link))) }
 {
     match type_of(types, link.from) {
-        Some(t) => Ok(Some(port_type(alloc, net.nodes, link.from, link.output, t)?)),
+        Some(t) => Ok(Some(port_type(alloc, library, net.nodes, link.from, link.output, t)?)),
         None => Ok(None),
     }
 }
@@ -103,17 +129,18 @@ pub fn type_on(
 /// The type that arrives at an input of a node, where it is fixed.
 pub fn arrival(
     alloc: Global,
+    library: &Library<'_>,
     net: &Net<'_>,
     types: &[Option<ElemType>],
     node: usize,
     port: u32,
 ) -> Result<Option<ElemType>, NoMemory>
     requires { HasFirstWires net.now }
-    ensures { IfOk result (λ o. o ≡ type_on net.now.nodes.now (wires_of_links net.now.links.now) (type_at types.now)
+    ensures { IfOk result (λ o. o ≡ type_on library.now.heads.now net.now.nodes.now (wires_of_links net.now.links.now) (type_at types.now)
         (wire_into net.now.nodes.now (wires_of_links net.now.links.now) node port)) }
 {
     match wire_into(net, node, port) {
-        Some(link) => type_on(alloc, net, types, link),
+        Some(link) => type_on(alloc, library, net, types, link),
         None => Ok(None),
     }
 }

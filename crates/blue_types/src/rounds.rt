@@ -52,7 +52,7 @@ pub fn settle_types(
     requires wired { HasFirstWires net.now }
     requires outs { IsOuts outs.now (wires_of_links net.now.links.now) }
     ensures { IfOk result (λ types. (i : ℕ) → type_at types.items i
-        ≡ settled library.now.plugs.now library.now.chains.now net.now.nodes.now (wires_of_links net.now.links.now) i) }
+        ≡ settled library.now.heads.now library.now.chains.now net.now.nodes.now (wires_of_links net.now.links.now) i) }
 {
     let mut types = before(alloc, net.nodes)?;
     let mut front = all_below(alloc, net.nodes.len())?;

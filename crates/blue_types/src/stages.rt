@@ -1,7 +1,12 @@
 // What comes of a type at a stage.
-ghost use Rattle.std.specs.Prelude.{◌≡◌, IfOk, unwrap_or, Some, []};
+ghost use Rattle.std.specs.Prelude.{◌≡◌, IfOk, unwrap_or, Some, [], not, nat_le, slice_get};
+ghost use Rattle.std.specs.Option.{option_map, option_or};
+ghost use Rattle.elem_core.specs.Sort.{nesting};
+ghost use Rattle.blue_names.specs.CustomPorts.{custom_named, custom_head, input_type, outputs_type};
+ghost use Rattle.blue_names.specs.First.{first_from, when};
+ghost use Rattle.blue_names.specs.declared.typed.TheConstants.{MAX_NESTING};
 ghost use Rattle.blue_names.specs.FnTypes.{map_want, map_gives, pred_want};
-ghost use Rattle.blue_names.specs.StageTypes.{limited, clash_or, base_type, source_type, stage_want, stage_gives, fixed_type, step_typed, chain_typed, keyed, parted, stage_typed, plug_want, plug_gives, plug_fixed, plug_named, chain_named};
+ghost use Rattle.blue_names.specs.StageTypes.{limited, clash_or, base_type, source_type, stage_want, stage_gives, fixed_type, step_typed, chain_typed, keyed, parted, stage_typed, port_typed, plug_want, plug_gives, plug_fixed, plug_named, chain_named};
 ghost use Rattle.blue_names.specs.declared.typed.Typed.{Typed as Coming};
 ghost use Rattle.blue_types.specs.Library.{IsKnown};
 
@@ -11,6 +16,7 @@ use crate::functions::{
 };
 use crate::library::{Library, chain_named, plug_named};
 use crate::sorts::{num_type, seq_of, suits, text_type};
+use blue_names::custom_ports::{custom_head, custom_named};
 use blue_names::typed::{MAX_NESTING, Typed};
 use blue_names::want::Want;
 use elem_core::elem_type::ElemType;
@@ -73,7 +79,7 @@ pub fn source_type(kind: &Kind) -> Option<ElemType>
 /// What a plug wants.
 fn plug_want(alloc: Global, library: &Library<'_>, name: &Line) -> Result<Option<Want>, NoMemory>
     requires { IsKnown library.now }
-    ensures { IfOk result (λ w. w ≡ plug_want (plug_named name.now library.now.plugs.now)) }
+    ensures { IfOk result (λ w. w ≡ plug_want (plug_named name.now library.now.heads.now.plugs)) }
 {
     match plug_named(library, name) {
         Some(plug) => Ok(Some(Want::Is(plug.input.copy(alloc)?))),
@@ -89,7 +95,7 @@ fn plug_gives(
     t: &ElemType,
 ) -> Result<ElemType, NoMemory>
     requires { IsKnown library.now }
-    ensures { IfOk result (λ u. u ≡ plug_gives (plug_named name.now library.now.plugs.now) t.now) }
+    ensures { IfOk result (λ u. u ≡ plug_gives (plug_named name.now library.now.heads.now.plugs) t.now) }
 {
     match plug_named(library, name) {
         Some(plug) => plug.output.copy(alloc),
@@ -104,7 +110,7 @@ fn plug_fixed(
     name: &Line,
 ) -> Result<Option<ElemType>, NoMemory>
     requires { IsKnown library.now }
-    ensures { IfOk result (λ o. o ≡ plug_fixed (plug_named name.now library.now.plugs.now)) }
+    ensures { IfOk result (λ o. o ≡ plug_fixed (plug_named name.now library.now.heads.now.plugs)) }
 {
     match plug_named(library, name) {
         Some(plug) => Ok(Some(plug.output.copy(alloc)?)),
@@ -112,10 +118,39 @@ fn plug_fixed(
     }
 }
 
+/// What stands for the types of the outputs of the custom stage of that name.
+fn outputs_type(
+    alloc: Global,
+    library: &Library<'_>,
+    name: &Line,
+) -> Result<Option<ElemType>, NoMemory>
+    ensures { IfOk result (λ o. o ≡ outputs_type (custom_named library.now.heads.now name.now)) }
+{
+    match custom_named(library.heads.customs(), name) {
+        Some(head) => one_of_types(alloc, &head.outputs),
+        None => Ok(None),
+    }
+}
+
+/// Of these types the first that nests too deep, and else the first.
+fn one_of_types(alloc: Global, types: &[ElemType]) -> Result<Option<ElemType>, NoMemory>
+    ensures { IfOk result (λ o. o ≡ option_or (first_from (λ _ t. when (not (nat_le (nesting t) MAX_NESTING)) t) 0 types.now) (slice_get types.now 0)) }
+{
+    for t in types {
+        if !t.nests_at_most(MAX_NESTING) {
+            return Ok(Some(t.copy(alloc)?));
+        }
+    }
+    match types.first() {
+        Some(t) => Ok(Some(t.copy(alloc)?)),
+        None => Ok(None),
+    }
+}
+
 /// What the function of a stage wants; none where it takes every type.
 fn stage_want(alloc: Global, library: &Library<'_>, kind: &Kind) -> Result<Option<Want>, NoMemory>
     requires { IsKnown library.now }
-    ensures { IfOk result (λ w. w ≡ stage_want library.now.plugs.now kind.now) }
+    ensures { IfOk result (λ w. w ≡ stage_want library.now.heads.now kind.now) }
 {
     match kind {
         Kind::Map(function) => map_want(alloc, function),
@@ -143,7 +178,7 @@ fn stage_gives(
     t: &ElemType,
 ) -> Result<ElemType, NoMemory>
     requires { IsKnown library.now }
-    ensures { IfOk result (λ u. u ≡ stage_gives library.now.plugs.now kind.now t.now) }
+    ensures { IfOk result (λ u. u ≡ stage_gives library.now.heads.now kind.now t.now) }
 {
     match kind {
         Kind::Map(function) => map_gives(alloc, function, t),
@@ -166,7 +201,7 @@ pub fn fixed_type(
     kind: &Kind,
 ) -> Result<Option<ElemType>, NoMemory>
     requires { IsKnown library.now }
-    ensures { IfOk result (λ o. o ≡ fixed_type library.now.plugs.now kind.now) }
+    ensures { IfOk result (λ o. o ≡ fixed_type library.now.heads.now kind.now) }
 {
     match kind {
         Kind::Map(function) => Ok(map_fixed(function)),
@@ -177,6 +212,7 @@ pub fn fixed_type(
         Kind::RecoverNum(_) => Ok(Some(num_type())),
         Kind::RecoverText(_) => Ok(Some(text_type())),
         Kind::Plug(name) => plug_fixed(alloc, library, name),
+        Kind::Custom(name) => outputs_type(alloc, library, name),
         _ => Ok(None),
     }
 }
@@ -190,7 +226,7 @@ fn step_typed(
     t: &ElemType,
 ) -> Result<Typed, NoMemory>
     requires { IsKnown library.now }
-    ensures { IfOk result (λ r. r ≡ step_typed library.now.plugs.now kind.now t.now) }
+    ensures { IfOk result (λ r. r ≡ step_typed library.now.heads.now kind.now t.now) }
 {
     match clash(alloc, stage_want(alloc, library, kind)?, t)? {
         Some(clash) => Ok(clash),
@@ -206,7 +242,7 @@ fn chain_typed(
     t: &ElemType,
 ) -> Result<Typed, NoMemory>
     requires { IsKnown library.now }
-    ensures { IfOk result (λ r. r ≡ chain_typed library.now.plugs.now steps.now t.now) }
+    ensures { IfOk result (λ r. r ≡ chain_typed library.now.heads.now steps.now t.now) }
 {
     let mut coming = t.copy(alloc)?;
     for step in steps {
@@ -221,7 +257,7 @@ fn chain_typed(
 
 /// What comes of a chain's type, beside a key of that type.
 fn keyed(key: &ElemType, typed: Typed) -> Typed
-    ensures { result ≡ keyed [] key.now typed }
+    ensures { result ≡ keyed (record { plugs = []; customs = [] }) key.now typed }
 {
     match typed {
         Typed::Gives(t) => {
@@ -237,7 +273,7 @@ fn keyed(key: &ElemType, typed: Typed) -> Typed
 
 /// What comes of a type where the part has that type.
 fn parted(alloc: Global, part: ElemType, t: &ElemType) -> Result<Typed, NoMemory>
-    ensures { IfOk result (λ r. r ≡ parted [] part t.now) }
+    ensures { IfOk result (λ r. r ≡ parted (record { plugs = []; customs = [] }) part t.now) }
 {
     if num_type() == part {
         Ok(Typed::Gives(t.copy(alloc)?))
@@ -254,7 +290,7 @@ pub fn stage_typed(
     t: &ElemType,
 ) -> Result<Typed, NoMemory>
     requires { IsKnown library.now }
-    ensures { IfOk result (λ r. r ≡ stage_typed library.now.plugs.now library.now.chains.now kind.now t.now) }
+    ensures { IfOk result (λ r. r ≡ stage_typed library.now.heads.now library.now.chains.now kind.now t.now) }
 {
     match kind {
         Kind::GroupBy(_, function, name) => match clash(alloc, map_want(alloc, function)?, t)? {
@@ -296,10 +332,45 @@ fn split_typed(
     t: &ElemType,
 ) -> Result<Typed, NoMemory>
     requires { IsKnown library.now }
-    ensures { IfOk result (λ r. r ≡ clash_or (Some want) t.now (chain_typed library.now.plugs.now (chain_named name.now library.now.chains.now) t.now)) }
+    ensures { IfOk result (λ r. r ≡ clash_or (Some want) t.now (chain_typed library.now.heads.now (chain_named name.now library.now.chains.now) t.now)) }
 {
     match clash(alloc, Some(want), t)? {
         Some(clash) => Ok(clash),
         None => chain_typed(alloc, library, chain_named(library, name), t),
+    }
+}
+
+/// The type that an input of a custom stage wants; none at any other kind.
+fn wanted_at(
+    alloc: Global,
+    library: &Library<'_>,
+    port: u32,
+    kind: &Kind,
+) -> Result<Option<Want>, NoMemory>
+    ensures { IfOk result (λ w. w ≡ option_map Want.Is (input_type (custom_head library.now.heads.now kind.now) port)) }
+{
+    match custom_head(library.heads, kind) {
+        Some(head) => match head.inputs.get(port as usize) {
+            Some(t) => Ok(Some(Want::Is(t.copy(alloc)?))),
+            None => Ok(None),
+        },
+        None => Ok(None),
+    }
+}
+
+/// What comes of a type at this input of a node.
+pub fn port_typed(
+    alloc: Global,
+    library: &Library<'_>,
+    port: u32,
+    kind: &Kind,
+    t: &ElemType,
+) -> Result<Typed, NoMemory>
+    requires { IsKnown library.now }
+    ensures { IfOk result (λ r. r ≡ port_typed library.now.heads.now library.now.chains.now port kind.now t.now) }
+{
+    match clash(alloc, wanted_at(alloc, library, port, kind)?, t)? {
+        Some(clash) => Ok(clash),
+        None => stage_typed(alloc, library, kind, t),
     }
 }

@@ -4,7 +4,7 @@ use Rattle.std.proofs.Common.{◌≡◌, ℕ, List}
 use Rattle.blue_check.specs.Fitness.{IsFit}
 use Rattle.blue_check.specs.Wires.{blueprint_wires}
 use Rattle.stream_model.specs.declared.blueprint.Blueprint.{Blueprint}
-use Rattle.stream_model.specs.declared.head.PlugHead.{PlugHead}
+use Rattle.stream_model.specs.Known.{HeadLists}
 use Rattle.stream_io.specs.State.{SourceState, DrainState}
 use Rattle.fused_net.specs.Laws.{AllKept}
 use Rattle.nodes.specs.Nodes.{KeepsNode}
@@ -12,7 +12,7 @@ use Rattle.nodes.specs.declared.node.IslandNode.{IslandNode}
 use Rattle.interpreter.specs.declared.parts.Seated.{Seated}
 use Rattle.run_laws.specs.Runs.{IsRun}
 use Rattle.run_laws.proofs.Islands.{all_run}
-use Rattle.materializer.specs.Graphs.{graph_of, chains_of}
+use Rattle.materializer.specs.Graphs.{graph_of, around_of}
 use Rattle.materializer.specs.Seats.{AreSeats}
 use Rattle.materializer.proofs.Fitting.{fit_joined}
 use Rattle.bodies_run.specs.Islands.{seats_by_islands, AreBroughtBack}
@@ -52,10 +52,10 @@ module _ {S D L B : Type 0} (sources : S → SourceState) (drains : D → DrainS
           let w = last_began sources drains book begun now broke then l (graph_of b) homes count (blueprint_wires b) nodes crossings m all in
           are_left homes count (blueprint_wires b) nodes m.seated (net_of then) (last_nets sources drains book begun now broke then l (graph_of b) homes count (blueprint_wires b) nodes crossings m) all _ m.graph.each_node w.0 w.1.0 w.1.1 last ends r
 
-      pub broken_run : AskedAre now crossings all → AllJoined BodiesJoined now crossings → (plugs : List PlugHead) (taken : List (List ℕ)) (ss : List S) (ds : List D) → IsFit b plugs taken → AreSeats (chains_of b) 0 b.nodes.items ss ds nodes → All (λ s. (sources s).given ≡ 0) ss
+      pub broken_run : AskedAre now crossings all → AllJoined BodiesJoined now crossings → (heads : HeadLists) (taken : List (List ℕ)) (ss : List S) (ds : List D) → IsFit b heads taken → AreSeats (around_of b) 0 b.nodes.items ss ds nodes → All (λ s. (sources s).given ≡ 0) ss
           → IsRun sources drains book (graph_of b) (account_in homes (blueprint_wires b) then all)
-      broken_run asked joined plugs taken ss ds fit seats given =
+      broken_run asked joined heads taken ss ds fit seats given =
           let w = last_began sources drains book begun now broke then l (graph_of b) homes count (blueprint_wires b) nodes crossings m all in
           all_run sources drains book (graph_of b) (net_of then) (seats_by_islands homes (blueprint_wires b)) all (last_cover sources drains book begun now broke then l (graph_of b) homes count (blueprint_wires b) nodes crossings m)
-          (last_settled sources drains book begun now broke then l) (fit_joined b plugs taken fit) (last_lanes sources drains book begun now broke then l (graph_of b) homes count (blueprint_wires b) nodes crossings m all asked joined)
+          (last_settled sources drains book begun now broke then l) (fit_joined b heads taken fit) (last_lanes sources drains book begun now broke then l (graph_of b) homes count (blueprint_wires b) nodes crossings m all asked joined)
           (are_made sources b ss ds nodes w.0 (account_in homes (blueprint_wires b) then all) seats w.1.0 given w.1.1)

@@ -14,7 +14,7 @@ use Rattle.interpreter.specs.declared.parts.Seated.{Seated}
 use Rattle.run_laws.specs.Account.{Account, AllMade}
 use Rattle.run_laws.specs.Seats.{joined_account}
 use Rattle.run_laws.specs.Made.{FirstOf}
-use Rattle.materializer.specs.Graphs.{graph_of, chains_of}
+use Rattle.materializer.specs.Graphs.{graph_of, chains_of, around_of}
 use Rattle.materializer.specs.Seats.{AreSeats}
 use Rattle.materializer.proofs.Making.{are_firsts}
 use Rattle.bodies_run.specs.Islands.{seats_by_islands, AreSeated, AreNets, AreBroughtBack}
@@ -29,7 +29,7 @@ become_many (p ∷ ps) [] h = absurd h
 become_many (p ∷ ps) (x ∷ xs) h = ap suc (become_many ps xs h.1)
 
 -- nodes that began as what stands at a blueprint's places are those of its graph
-pub are_made : {S D L B : Type 0} (sources : S → SourceState) (b : Blueprint) (ss : List S) (ds : List D) (places : List (Seated S D L B)) (firsts : List (IslandNode S D L B)) (a : Account (IslandNode S D L B)) → AreSeats (chains_of b) 0 b.nodes.items ss ds places → AllBecome places firsts → All (λ s. (sources s).given ≡ 0) ss
+pub are_made : {S D L B : Type 0} (sources : S → SourceState) (b : Blueprint) (ss : List S) (ds : List D) (places : List (Seated S D L B)) (firsts : List (IslandNode S D L B)) (a : Account (IslandNode S D L B)) → AreSeats (around_of b) 0 b.nodes.items ss ds places → AllBecome places firsts → All (λ s. (sources s).given ≡ 0) ss
     → ((k : ℕ) → k < length (graph_of b).nodes → a.firsts k ≡ slice_get firsts k) → AllMade (FirstOf sources (chains_of b)) (graph_of b) a
 are_made sources b ss ds places firsts a seats become given at k n first there is =
     (are_firsts sources b ss ds places firsts seats become given).each k n first there (sym (at k (slice_get-below (graph_of b).nodes k n there)) ∙ is)

@@ -5,14 +5,14 @@ use Rattle.std.proofs.Common.{◌≡◌, ℕ, List, Some}
 use Rattle.blue_check.specs.Fitness.{IsFit}
 use Rattle.blue_check.specs.Wires.{blueprint_wires}
 use Rattle.stream_model.specs.declared.blueprint.Blueprint.{Blueprint}
-use Rattle.stream_model.specs.declared.head.PlugHead.{PlugHead}
+use Rattle.stream_model.specs.Known.{HeadLists}
 use Rattle.stream_io.specs.State.{SourceState, DrainState}
 use Rattle.nodes.specs.declared.node.IslandNode.{IslandNode}
 use Rattle.interpreter.specs.declared.parts.Seated.{Seated}
 use Rattle.run_laws.specs.Account.{IsStill}
 use Rattle.run_laws.specs.Runs.{IsRun}
 use Rattle.run_laws.proofs.Islands.{all_run, all_rest}
-use Rattle.materializer.specs.Graphs.{graph_of, chains_of}
+use Rattle.materializer.specs.Graphs.{graph_of, around_of}
 use Rattle.materializer.specs.Seats.{AreSeats}
 use Rattle.materializer.proofs.Fitting.{fit_joined}
 use Rattle.bodies_run.specs.Islands.{seats_by_islands, AreBroughtBack}
@@ -57,10 +57,10 @@ module _ {S D L B : Type 0} (sources : S → SourceState) (drains : D → DrainS
         all_rest sources drains book (graph_of b) (net_of now) (seats_by_islands homes (blueprint_wires b)) all (nets_cover sources drains book (graph_of b) homes count (blueprint_wires b) nodes crossings begun m now goes.count goes_on) settled (no_queues now rest.rings)
         (lanes_rest sources drains book (graph_of b) homes count (blueprint_wires b) nodes m.seated m.graph.wires_are now stands crossings lanes all asked keep rest)
 
-    pub bodies_run : AskedAre now crossings all → AllJoined BodiesJoined now crossings → (plugs : List PlugHead) (taken : List (List ℕ)) (ss : List S) (ds : List D) → IsFit b plugs taken → AreSeats (chains_of b) 0 b.nodes.items ss ds nodes → All (λ s. (sources s).given ≡ 0) ss
+    pub bodies_run : AskedAre now crossings all → AllJoined BodiesJoined now crossings → (heads : HeadLists) (taken : List (List ℕ)) (ss : List S) (ds : List D) → IsFit b heads taken → AreSeats (around_of b) 0 b.nodes.items ss ds nodes → All (λ s. (sources s).given ≡ 0) ss
         → IsRun sources drains book (graph_of b) (account_in homes (blueprint_wires b) now all)
-    bodies_run asked joined plugs taken ss ds fit seats given =
+    bodies_run asked joined heads taken ss ds fit seats given =
         let w = nets_began sources drains book (graph_of b) homes count (blueprint_wires b) nodes crossings begun m now goes.count goes_on all in
-        all_run sources drains book (graph_of b) (net_of now) (seats_by_islands homes (blueprint_wires b)) all (nets_cover sources drains book (graph_of b) homes count (blueprint_wires b) nodes crossings begun m now goes.count goes_on) settled (fit_joined b plugs taken fit)
+        all_run sources drains book (graph_of b) (net_of now) (seats_by_islands homes (blueprint_wires b)) all (nets_cover sources drains book (graph_of b) homes count (blueprint_wires b) nodes crossings begun m now goes.count goes_on) settled (fit_joined b heads taken fit)
         (lanes_keep sources drains book (graph_of b) homes count (blueprint_wires b) nodes m.seated m.graph.wires_are now stands crossings lanes all asked joined)
         (are_made sources b ss ds nodes w.0 (account_in homes (blueprint_wires b) now all) seats w.1.0 given w.1.1)

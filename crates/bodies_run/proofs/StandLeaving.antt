@@ -85,6 +85,7 @@ module _ {S D L B : Type 0} (sources : S → SourceState) (drains : D → DrainS
   took_by (node.Sub x) (node.Leaving f) h v t g i l y at inp law = absurd law
   took_by (node.FanIn x) (node.Leaving f) h v t g i l y at inp law = absurd law
   took_by (node.FanOut x) (node.Leaving f) h v t g i l y at inp law = absurd law
+  took_by (node.Custom x) (node.Leaving f) h v t g i l y at inp law = absurd law
   took_by (node.Writing x) (node.Leaving f) h v t g i l y at inp law = absurd law
   took_by (node.Ignoring x) (node.Leaving f) h v t g i l y at inp law = absurd law
   took_by (node.Entering x) (node.Leaving f) h v t g i l y at inp law = absurd law
@@ -95,6 +96,7 @@ module _ {S D L B : Type 0} (sources : S → SourceState) (drains : D → DrainS
   took_by x (node.Sub f) h v t g i l y at inp law = absurd h
   took_by x (node.FanIn f) h v t g i l y at inp law = absurd h
   took_by x (node.FanOut f) h v t g i l y at inp law = absurd h
+  took_by x (node.Custom f) h v t g i l y at inp law = absurd h
   took_by x (node.Writing f) h v t g i l y at inp law = absurd h
   took_by x (node.Ignoring f) h v t g i l y at inp law = absurd h
   took_by x (node.Entering f) h v t g i l y at inp law = absurd h

@@ -60,8 +60,8 @@ pub record AreSeated {S D L B : Type 0} (homes : List ℕ) (count : ℕ) (ws : L
 pub record IsGraphOf {S D L B : Type 0} (g : Graph) (ws : List Edge) (nodes : List (Seated S D L B)) : Type 0 where
   pub wires_are : g.wires ≡ ws
   pub each_node : length g.nodes ≡ length nodes
-  pub ins_are : (k : ℕ) (n : graph.Node) → slice_get g.nodes k ≡ Some n → inputs_at nodes k ≡ inputs_of n.kind
-  pub outs_are : (k : ℕ) (n : graph.Node) → slice_get g.nodes k ≡ Some n → outputs_at nodes k ≡ outputs_of n.kind
+  pub ins_are : (k : ℕ) (n : graph.Node) → slice_get g.nodes k ≡ Some n → inputs_at nodes k ≡ inputs_of n
+  pub outs_are : (k : ℕ) (n : graph.Node) → slice_get g.nodes k ≡ Some n → outputs_at nodes k ≡ outputs_of n
 
 module _ {S D L B : Type 0} (homes : List ℕ) (ws : List Edge) (nodes : List (Seated S D L B)) where
   -- what stands at the places of island k

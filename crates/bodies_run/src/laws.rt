@@ -28,10 +28,10 @@ ghost use Rattle.bodies_run.specs.Bodies.{net_of, AreLanes, AskedAre, AreBodiesO
 ghost use Rattle.blue_check.specs.Fitness.{IsFit};
 ghost use Rattle.blue_check.specs.Wires.{blueprint_wires};
 ghost use Rattle.stream_model.specs.declared.blueprint.Blueprint.{Blueprint};
-ghost use Rattle.stream_model.specs.declared.head.PlugHead.{PlugHead};
+ghost use Rattle.stream_model.specs.Known.{HeadLists};
 ghost use Rattle.run_laws.specs.Account.{Account, IsStill};
 ghost use Rattle.run_laws.specs.Runs.{IsRun};
-ghost use Rattle.materializer.specs.Graphs.{graph_of, chains_of};
+ghost use Rattle.materializer.specs.Graphs.{graph_of, around_of};
 ghost use Rattle.materializer.specs.Seats.{AreSeats};
 ghost use Rattle.bodies_run.specs.Leaving.{account_in, AreLeft, of_lists};
 
@@ -164,8 +164,8 @@ pub fn broken_bodies_cover<S: Source, D: Drain, L: Logic, B: PlugBook>()
 /// below the count of the blueprint's wires over what they were sent, by one for each wire (`most`).
 pub fn bodies_leave_a_run<S: Source, D: Drain, L: Logic, B: PlugBook>()
     ensures run { (b : Blueprint) (homes : List ℕ) (count : ℕ) (nodes : List (Seated S D L B)) (crossings : List Crossing) (begun now : List (Body S D L B))
-        (all : ℕ → ℕ) (plugs : List PlugHead) (taken : List (List ℕ)) (ss : List S) (ds : List D) → IsFit b plugs taken
-        → AreSeats (chains_of b) 0 b.nodes.items ss ds nodes → All (λ s. (S.state s).given ≡ 0) ss
+        (all : ℕ → ℕ) (heads : HeadLists) (taken : List (List ℕ)) (ss : List S) (ds : List D) → IsFit b heads taken
+        → AreSeats (around_of b) 0 b.nodes.items ss ds nodes → All (λ s. (S.state s).given ≡ 0) ss
         → AreBodiesOf S.state D.state B.lists (graph_of b) homes count (blueprint_wires b) nodes crossings begun → EachOf BodyGoes begun now
         → AllOf (BodyKeeps S.state D.state B.lists) now → AskedAre now crossings all → AllJoined BodiesJoined now crossings
         → IsRun S.state D.state B.lists (graph_of b) (account_in homes (blueprint_wires b) now all) }
@@ -195,8 +195,8 @@ pub fn bodies_leave_a_run<S: Source, D: Drain, L: Logic, B: PlugBook>()
 /// they were then (`nodes`), and since then each has kept what outlives want of memory (`kept`).
 pub fn broken_bodies_leave_a_run<S: Source, D: Drain, L: Logic, B: PlugBook>()
     ensures run { (b : Blueprint) (homes : List ℕ) (count : ℕ) (nodes : List (Seated S D L B)) (crossings : List Crossing)
-        (begun now then : List (Body S D L B)) (all : ℕ → ℕ) (plugs : List PlugHead) (taken : List (List ℕ)) (ss : List S) (ds : List D) → IsFit b plugs taken
-        → AreSeats (chains_of b) 0 b.nodes.items ss ds nodes → All (λ s. (S.state s).given ≡ 0) ss
+        (begun now then : List (Body S D L B)) (all : ℕ → ℕ) (heads : HeadLists) (taken : List (List ℕ)) (ss : List S) (ds : List D) → IsFit b heads taken
+        → AreSeats (around_of b) 0 b.nodes.items ss ds nodes → All (λ s. (S.state s).given ≡ 0) ss
         → AreBodiesOf S.state D.state B.lists (graph_of b) homes count (blueprint_wires b) nodes crossings begun
         → WholeOrBroken (BodyKeeps S.state D.state B.lists) BodyGoes (BodyBreaks S.state D.state B.lists) begun now
         → AreLastOf S.state D.state B.lists begun now then

@@ -50,7 +50,7 @@ fn chain(alloc: Global, source: Kind, stages: u8) -> Result<Blueprint, NoMemory>
 fn longest_chase(alloc: Global, source: Kind, stages: u8) -> Result<Option<u32>, NoMemory>
     requires { stages ≤ 99 }
 {
-    let Ok(checked) = check(alloc, chain(alloc, source, stages)?, &[], &[]) else {
+    let Ok(checked) = check(alloc, chain(alloc, source, stages)?, &[], &[], &[]) else {
         return Ok(None);
     };
     let b = checked.into_blueprint();
@@ -60,7 +60,13 @@ fn longest_chase(alloc: Global, source: Kind, stages: u8) -> Result<Option<u32>,
         return Ok(None);
     }
     let free = no_plans(alloc, b.nodes.len())?;
-    let plans = plans_of::<MemSource, MemDrain, Dedup, Shipped>(alloc, b, Vec::new(alloc), free)?;
+    let plans = plans_of::<MemSource, MemDrain, Dedup, Shipped>(
+        alloc,
+        b,
+        Vec::new(alloc),
+        Vec::new(alloc),
+        free,
+    )?;
     let filled = plans.fill(alloc, Vec::new(alloc), Vec::new(alloc));
     let mut islands = filled.islands;
     let Some((parts, room)) = islands.pop() else {

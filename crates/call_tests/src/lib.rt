@@ -10,9 +10,15 @@ mod chains;
 #[cfg(test)]
 mod chases;
 #[cfg(test)]
+mod custom_rows;
+#[cfg(test)]
 mod flag_words;
 #[cfg(test)]
+mod hostile;
+#[cfg(test)]
 mod lanes;
+#[cfg(test)]
+mod lifted;
 #[cfg(test)]
 mod lines;
 #[cfg(test)]

@@ -29,7 +29,7 @@ fn blueprint(alloc: Global) -> Result<Blueprint, NoMemory> {
 #[test]
 fn a_plan_is_given(rt: HostRuntime) -> Result<(), Fail> {
     let alloc = rt.alloc();
-    match check(alloc, blueprint(alloc)?, &[], &[]) {
+    match check(alloc, blueprint(alloc)?, &[], &[], &[]) {
         Ok(checked) => {
             let plan = islands(alloc, &checked)?;
             assert_eq!(rt; plan.islands.len(), 3);

@@ -5,10 +5,14 @@ ghost use Rattle.elem_core.specs.Line.{has_no_lf};
 ghost use Rattle.plug_logic.specs.Gives.{listed};
 ghost use Rattle.plug_samples.specs.Samples.{sample_book};
 ghost use Rattle.stage_linear.specs.Plugs.{Is};
+ghost use Rattle.materializer.specs.HandedCustoms.{TellsNone};
+ghost use Rattle.stream_model.specs.Linear.{none_told};
 
 use crate::lines::line_of;
 use elem_core::elem_type::{ElemType, TypeForm};
 use elem_core::line::Line;
+use graph_stage::custom::Custom;
+use graph_stage::handlers::Handlers;
 use plug_logic::logic::Logic;
 use plug_logic::plug::Plug;
 use plug_samples::book::Samples;
@@ -19,7 +23,7 @@ use stream_command::run::run_streams;
 use stream_io::mem_drain::MemDrain;
 use stream_io::mem_folder::MemFolder;
 use stream_io::named_file::{NamedFile, bytes_of};
-use stream_model::head::PlugHead;
+use stream_model::head::{CustomHead, PlugHead};
 
 /// One more plug of texts, or of numbers, whose logic gives what the book of samples lists of this name.
 pub fn add(
@@ -56,6 +60,45 @@ pub fn add(
     Ok(())
 }
 
+/// One more custom stage, with so many inputs and outputs, all of texts or all of numbers.
+pub fn hire(
+    alloc: Global,
+    customs: &mut Vec<Custom>,
+    name: &str,
+    ports: (usize, usize),
+    numbers: bool,
+    stage: Box<dyn Handlers + Send>,
+) -> Result<(), AllocError>
+    requires short { length name.now ≤ 65536 }
+    requires no_lf { IsTrue (has_no_lf name.now) }
+    requires kept { All (TellsNone (none_told sample_book)) customs.old.items }
+    ensures { OnOk result (All (TellsNone (none_told sample_book)) customs.new.items) }
+{
+    let mut bytes = Vec::new(alloc);
+    bytes.extend_from_slice(name.as_bytes())?;
+    let head = CustomHead {
+        name: Line::of(bytes),
+        inputs: types(alloc, ports.0, numbers)?,
+        outputs: types(alloc, ports.1, numbers)?,
+    };
+    customs.push(Custom { head, stage })?;
+    Ok(())
+}
+
+/// So many types of numbers, or of texts.
+fn types(alloc: Global, many: usize, numbers: bool) -> Result<Vec<ElemType>, AllocError> {
+    let mut types = Vec::new(alloc);
+    for _i in 0..many {
+        let form = if numbers {
+            TypeForm::Num
+        } else {
+            TypeForm::Text
+        };
+        types.push(ElemType::of(form))?;
+    }
+    Ok(types)
+}
+
 /// What a call came to: what its console has, and its files.
 #[derive(Drop)]
 pub struct Came {
@@ -79,7 +122,7 @@ impl Came {
     }
 }
 
-/// Runs the blueprint of this text, by so many workers, over a folder whose `in.txt` holds this input.
+/// Runs the blueprint of this text, by so many workers, over a folder whose `in.txt` holds this input, without a custom stage.
 pub fn call<R: Threads + Wait + Sync>(
     rt: &R,
     alloc: Global,
@@ -89,6 +132,22 @@ pub fn call<R: Threads + Wait + Sync>(
     plugs: Vec<Plug>,
 ) -> Result<Came, AllocError>
     requires { All (λ p. Is (gives p.logic) [] (listed sample_book p.head.name)) plugs.items }
+{
+    call_with(rt, alloc, text, input, workers, plugs, Vec::new(alloc))
+}
+
+/// Runs the blueprint of this text, by so many workers, over a folder whose `in.txt` holds this input.
+pub fn call_with<R: Threads + Wait + Sync>(
+    rt: &R,
+    alloc: Global,
+    text: &str,
+    input: &str,
+    workers: &str,
+    plugs: Vec<Plug>,
+    customs: Vec<Custom>,
+) -> Result<Came, AllocError>
+    requires plugs { All (λ p. Is (gives p.logic) [] (listed sample_book p.head.name)) plugs.items }
+    requires customs { All (TellsNone (none_told sample_book)) customs.items }
 {
     let mut files = Vec::new(alloc);
     for (name, held) in [("log.blue", text), ("in.txt", input)] {
@@ -110,6 +169,7 @@ pub fn call<R: Threads + Wait + Sync>(
         &mut folder,
         &mut console,
         plugs,
+        customs,
     );
     let mut left = Vec::new(alloc);
     for file in folder.files() {

@@ -35,6 +35,7 @@ fn sure_calls_run(rt: HostRuntime) -> Result<(), Fail> {
         &mut folder,
         &mut console,
         Vec::new(alloc),
+        Vec::new(alloc),
     );
     assert_eq!(rt; end.code, 0);
     assert!(rt; matches!(&end.status, Status::Done));

@@ -92,6 +92,7 @@ module _ {S D L B : Type 0} (sources : S → SourceState) (drains : D → DrainS
   entering_does (node.Sub x) (node.Entering f) h d m = absurd m.law_holds
   entering_does (node.FanIn x) (node.Entering f) h d m = absurd m.law_holds
   entering_does (node.FanOut x) (node.Entering f) h d m = absurd m.law_holds
+  entering_does (node.Custom x) (node.Entering f) h d m = absurd m.law_holds
   entering_does (node.Writing x) (node.Entering f) h d m = absurd m.law_holds
   entering_does (node.Ignoring x) (node.Entering f) h d m = absurd m.law_holds
   entering_does (node.Leaving x) (node.Entering f) h d m = absurd m.law_holds
@@ -102,6 +103,7 @@ module _ {S D L B : Type 0} (sources : S → SourceState) (drains : D → DrainS
   entering_does x (node.Sub f) h d m = absurd h
   entering_does x (node.FanIn f) h d m = absurd h
   entering_does x (node.FanOut f) h d m = absurd h
+  entering_does x (node.Custom f) h d m = absurd h
   entering_does x (node.Writing f) h d m = absurd h
   entering_does x (node.Ignoring f) h d m = absurd h
   entering_does x (node.Leaving f) h d m = absurd h
@@ -116,6 +118,7 @@ module _ {S D L B : Type 0} (sources : S → SourceState) (drains : D → DrainS
   leaving_does (node.Sub x) (node.Leaving f) h d m = absurd m.law_holds
   leaving_does (node.FanIn x) (node.Leaving f) h d m = absurd m.law_holds
   leaving_does (node.FanOut x) (node.Leaving f) h d m = absurd m.law_holds
+  leaving_does (node.Custom x) (node.Leaving f) h d m = absurd m.law_holds
   leaving_does (node.Writing x) (node.Leaving f) h d m = absurd m.law_holds
   leaving_does (node.Ignoring x) (node.Leaving f) h d m = absurd m.law_holds
   leaving_does (node.Entering x) (node.Leaving f) h d m = absurd m.law_holds
@@ -126,6 +129,7 @@ module _ {S D L B : Type 0} (sources : S → SourceState) (drains : D → DrainS
   leaving_does x (node.Sub f) h d m = absurd h
   leaving_does x (node.FanIn f) h d m = absurd h
   leaving_does x (node.FanOut f) h d m = absurd h
+  leaving_does x (node.Custom f) h d m = absurd h
   leaving_does x (node.Writing f) h d m = absurd h
   leaving_does x (node.Ignoring f) h d m = absurd h
   leaving_does x (node.Entering f) h d m = absurd h
@@ -235,6 +239,7 @@ module _ {S D L B : Type 0} (sources : S → SourceState) (drains : D → DrainS
   exit_got (node.Sub x) (node.Leaving f) k v t g i l at m = absurd m.law_holds
   exit_got (node.FanIn x) (node.Leaving f) k v t g i l at m = absurd m.law_holds
   exit_got (node.FanOut x) (node.Leaving f) k v t g i l at m = absurd m.law_holds
+  exit_got (node.Custom x) (node.Leaving f) k v t g i l at m = absurd m.law_holds
   exit_got (node.Writing x) (node.Leaving f) k v t g i l at m = absurd m.law_holds
   exit_got (node.Ignoring x) (node.Leaving f) k v t g i l at m = absurd m.law_holds
   exit_got (node.Entering x) (node.Leaving f) k v t g i l at m = absurd m.law_holds
@@ -245,6 +250,7 @@ module _ {S D L B : Type 0} (sources : S → SourceState) (drains : D → DrainS
   exit_got x (node.Sub f) k v t g i l at m = absurd k
   exit_got x (node.FanIn f) k v t g i l at m = absurd k
   exit_got x (node.FanOut f) k v t g i l at m = absurd k
+  exit_got x (node.Custom f) k v t g i l at m = absurd k
   exit_got x (node.Writing f) k v t g i l at m = absurd k
   exit_got x (node.Ignoring f) k v t g i l at m = absurd k
   exit_got x (node.Entering f) k v t g i l at m = absurd k
@@ -258,6 +264,7 @@ module _ {S D L B : Type 0} (sources : S → SourceState) (drains : D → DrainS
   exit_told (node.Sub x) (node.Leaving f) k v t g i l at m = absurd m.law_holds
   exit_told (node.FanIn x) (node.Leaving f) k v t g i l at m = absurd m.law_holds
   exit_told (node.FanOut x) (node.Leaving f) k v t g i l at m = absurd m.law_holds
+  exit_told (node.Custom x) (node.Leaving f) k v t g i l at m = absurd m.law_holds
   exit_told (node.Writing x) (node.Leaving f) k v t g i l at m = absurd m.law_holds
   exit_told (node.Ignoring x) (node.Leaving f) k v t g i l at m = absurd m.law_holds
   exit_told (node.Entering x) (node.Leaving f) k v t g i l at m = absurd m.law_holds
@@ -268,6 +275,7 @@ module _ {S D L B : Type 0} (sources : S → SourceState) (drains : D → DrainS
   exit_told x (node.Sub f) k v t g i l at m = absurd k
   exit_told x (node.FanIn f) k v t g i l at m = absurd k
   exit_told x (node.FanOut f) k v t g i l at m = absurd k
+  exit_told x (node.Custom f) k v t g i l at m = absurd k
   exit_told x (node.Writing f) k v t g i l at m = absurd k
   exit_told x (node.Ignoring f) k v t g i l at m = absurd k
   exit_told x (node.Entering f) k v t g i l at m = absurd k
@@ -347,6 +355,7 @@ asking_free sources drains book (node.State x) (node.Leaving f) v w t g h law = 
 asking_free sources drains book (node.Sub x) (node.Leaving f) v w t g h law = absurd law
 asking_free sources drains book (node.FanIn x) (node.Leaving f) v w t g h law = absurd law
 asking_free sources drains book (node.FanOut x) (node.Leaving f) v w t g h law = absurd law
+asking_free sources drains book (node.Custom x) (node.Leaving f) v w t g h law = absurd law
 asking_free sources drains book (node.Writing x) (node.Leaving f) v w t g h law = absurd law
 asking_free sources drains book (node.Ignoring x) (node.Leaving f) v w t g h law = absurd law
 asking_free sources drains book (node.Entering x) (node.Leaving f) v w t g h law = absurd law
@@ -357,6 +366,7 @@ asking_free sources drains book x (node.State f) v w t g h law = absurd h
 asking_free sources drains book x (node.Sub f) v w t g h law = absurd h
 asking_free sources drains book x (node.FanIn f) v w t g h law = absurd h
 asking_free sources drains book x (node.FanOut f) v w t g h law = absurd h
+asking_free sources drains book x (node.Custom f) v w t g h law = absurd h
 asking_free sources drains book x (node.Writing f) v w t g h law = absurd h
 asking_free sources drains book x (node.Ignoring f) v w t g h law = absurd h
 asking_free sources drains book x (node.Entering f) v w t g h law = absurd h

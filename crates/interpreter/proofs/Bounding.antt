@@ -37,7 +37,8 @@ module _ {S D L B : Type 0} where
   entering_becomes k room (work.Sub r) x b e = absurd cc
   entering_becomes k room (work.FanIn r n) x b e = absurd cc
   entering_becomes k room (work.FanOut r n) x b e = absurd cc
-  entering_becomes k room (work.Writing r d) x b e = absurd cc
+  entering_becomes k room (work.Custom r inputs outputs) x b e = absurd cc
+  entering_becomes k (work.Writing r d) x b e = absurd cc
 
   leaving_becomes : (k room : ℕ) (w : Work S D L B) (x : IslandNode S D L B) → BecomesOf k room w x → is_lane_out w ≡ true → IsLeaving x
   leaving_becomes k room (work.LaneOut u) x b e = subst IsLeaving (sym b) tt
@@ -49,7 +50,8 @@ module _ {S D L B : Type 0} where
   leaving_becomes k room (work.Sub r) x b e = absurd cc
   leaving_becomes k room (work.FanIn r n) x b e = absurd cc
   leaving_becomes k room (work.FanOut r n) x b e = absurd cc
-  leaving_becomes k room (work.Writing r d) x b e = absurd cc
+  leaving_becomes k room (work.Custom r inputs outputs) x b e = absurd cc
+  leaving_becomes k (work.Writing r d) x b e = absurd cc
 
   some_is : (x y : IslandNode S D L B) → Some x ≡ Some y → x ≡ y
   some_is x y e = cc
@@ -126,6 +128,7 @@ module _ {S D L B : Type 0} where
   entering_passive (node.Sub x) e = absurd e
   entering_passive (node.FanIn x) e = absurd e
   entering_passive (node.FanOut x) e = absurd e
+  entering_passive (node.Custom x) e = absurd e
   entering_passive (node.Writing x) e = absurd e
   entering_passive (node.Ignoring x) e = absurd e
 
@@ -139,6 +142,7 @@ module _ {S D L B : Type 0} where
   leaving_passive (node.Sub x) e = absurd e
   leaving_passive (node.FanIn x) e = absurd e
   leaving_passive (node.FanOut x) e = absurd e
+  leaving_passive (node.Custom x) e = absurd e
   leaving_passive (node.Writing x) e = absurd e
   leaving_passive (node.Ignoring x) e = absurd e
 
@@ -152,7 +156,8 @@ module _ {S D L B : Type 0} where
   leaving_gone k room (work.Sub r) x b e = absurd cc
   leaving_gone k room (work.FanIn r n) x b e = absurd cc
   leaving_gone k room (work.FanOut r n) x b e = absurd cc
-  leaving_gone k room (work.Writing r d) x b e = absurd cc
+  leaving_gone k room (work.Custom r inputs outputs) x b e = absurd cc
+  leaving_gone k (work.Writing r d) x b e = absurd cc
 
   none_gone_at : (places : List (Seated S D L B)) (nodes : List (IslandNode S D L B)) (n : ℕ) (x : IslandNode S D L B) → AllBecome places nodes → slice_get nodes n ≡ Some x → goes_out places n ≡ true → node_gone x ≡ []
   none_gone_at [] [] n x b e c = absurd cc

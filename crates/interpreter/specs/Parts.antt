@@ -13,6 +13,8 @@ use Rattle.line_chain.specs.Line.{line_rest, line_is_open}
 use Rattle.stage_sub.specs.LedLaws.{LedNew}
 use Rattle.stage_in.specs.Logics.{InFresh}
 use Rattle.stage_out.specs.OutLogics.{OutFresh}
+use Rattle.graph_stage.specs.Laws.{CustomFresh}
+use Rattle.graph_stage.specs.Making.{unpulled_view}
 use Rattle.port_core.specs.View.{unpulled_ins, unpulled_outs}
 use Rattle.nodes.specs.declared.node.IslandNode.{IslandNode}
 use Rattle.nodes.specs.declared.node.IslandNode.TheVariants as node
@@ -23,7 +25,7 @@ use Rattle.interpreter.specs.declared.parts.Link.{Link}
 use Rattle.interpreter.specs.declared.parts.Place.{Place}
 use Rattle.interpreter.specs.declared.parts.Seated.{Seated}
 use Rattle.interpreter.specs.declared.parts.Work.{Work}
-use Rattle.interpreter.specs.declared.parts.Work.TheVariants.{Reading, Making, Linear, State, Sub, FanIn, FanOut, Writing, LaneIn, LaneOut}
+use Rattle.interpreter.specs.declared.parts.Work.TheVariants.{Reading, Making, Linear, State, Sub, FanIn, FanOut, Custom, Writing, LaneIn, LaneOut}
 use Rattle.interpreter.specs.Ways.{IsOnce}
 
 -- the ports at the ends of a link
@@ -43,6 +45,7 @@ work_inputs (State l) = 1
 work_inputs (Sub l) = 1
 work_inputs (FanIn l n) = n
 work_inputs (FanOut l n) = 1
+work_inputs (Custom x i o) = i
 work_inputs (Writing k d) = 1
 work_inputs (LaneIn u) = 0
 work_inputs (LaneOut u) = 1
@@ -56,6 +59,7 @@ work_outputs (State l) = 1
 work_outputs (Sub l) = 1
 work_outputs (FanIn l n) = 1
 work_outputs (FanOut l n) = n
+work_outputs (Custom x i o) = o
 work_outputs (Writing k d) = 0
 work_outputs (LaneIn u) = 1
 work_outputs (LaneOut u) = 0
@@ -97,6 +101,7 @@ IsUnused (State l) = StateFresh l (record { ins = Idle ∷ []; outs = Unpulled �
 IsUnused (Sub l) = LedNew line_rest line_is_open l (record { ins = Idle ∷ []; outs = Unpulled ∷ [] })
 IsUnused (FanIn l n) = InFresh l (unpulled_ins n)
 IsUnused (FanOut l n) = OutFresh l (unpulled_outs n)
+IsUnused (Custom x i o) = CustomFresh x (unpulled_view i o)
 IsUnused (Writing k (Some d)) = IsFileSink k
 IsUnused (Writing k None) = k ≡ Ignore
 IsUnused (LaneIn u) = ⊤
@@ -136,6 +141,7 @@ BecomesOf k room (State l) x = x ≡ node.State l
 BecomesOf k room (Sub l) x = x ≡ node.Sub l
 BecomesOf k room (FanIn l n) x = x ≡ node.FanIn l
 BecomesOf k room (FanOut l n) x = x ≡ node.FanOut l
+BecomesOf k room (Custom s i o) x = x ≡ node.Custom s
 BecomesOf k room (Writing kind (Some d)) x = x ≡ node.Writing (new_sink k (writes_of kind) room d)
 BecomesOf k room (Writing kind None) x = x ≡ node.Ignoring (record { node = k; started = false; end = Unended })
 BecomesOf k room (LaneIn u) x = x ≡ node.Entering (record { wire = u })

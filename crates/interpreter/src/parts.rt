@@ -8,6 +8,8 @@ ghost use Rattle.interpreter.specs.declared.parts.Place.{Place};
 
 use elem_core::why::NoMemory;
 use fused_net::net::{Ports, WireEnds};
+use graph_stage::handlers::Handlers;
+use graph_stage::stage::CustomStage;
 use line_chain::line::LineChain;
 use nodes::entering::Entering;
 use nodes::ignoring::IgnoreSink;
@@ -62,6 +64,8 @@ pub enum Work<S: Source, D: Drain, L: Logic, B: PlugBook> {
     FanIn(InLogic, u32),
     /// A stage with so many outputs.
     FanOut(OutLogic, u32),
+    /// A stage that the caller hands in, with so many inputs and so many outputs.
+    Custom(CustomStage<Box<dyn Handlers + Send>>, u32, u32),
     /// A sink of this kind, with the drain of its file, if it has one.
     Writing(Kind, Option<D>),
     /// The stage at which the lane that is this wire comes in; the number of its node is not used.
@@ -81,6 +85,7 @@ impl<S: Source, D: Drain, L: Logic, B: PlugBook> Drop for Work<S, D, L, B> {
             Work::Sub(_) => {}
             Work::FanIn(_, _) => {}
             Work::FanOut(_, _) => {}
+            Work::Custom(_, _, _) => {}
             Work::Writing(_, _) => {}
             Work::LaneIn(_) | Work::LaneOut(_) => {}
         }
@@ -142,6 +147,7 @@ impl<S: Source, D: Drain, L: Logic, B: PlugBook> Work<S, D, L, B> {
             Work::Sub(logic) => IslandNode::Sub(logic),
             Work::FanIn(logic, _) => IslandNode::FanIn(logic),
             Work::FanOut(logic, _) => IslandNode::FanOut(logic),
+            Work::Custom(stage, _, _) => IslandNode::Custom(stage),
             Work::LaneIn(wire) => IslandNode::Entering(Entering::new(wire)),
             Work::LaneOut(wire) => IslandNode::Leaving(Leaving::new(wire)),
             Work::Writing(kind, drain) => {

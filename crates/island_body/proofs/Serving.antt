@@ -245,6 +245,7 @@ leaving_passive sources drains book (node.State x) (node.Leaving f) v t g h law 
 leaving_passive sources drains book (node.Sub x) (node.Leaving f) v t g h law = absurd law
 leaving_passive sources drains book (node.FanIn x) (node.Leaving f) v t g h law = absurd law
 leaving_passive sources drains book (node.FanOut x) (node.Leaving f) v t g h law = absurd law
+leaving_passive sources drains book (node.Custom x) (node.Leaving f) v t g h law = absurd law
 leaving_passive sources drains book (node.Writing x) (node.Leaving f) v t g h law = absurd law
 leaving_passive sources drains book (node.Ignoring x) (node.Leaving f) v t g h law = absurd law
 leaving_passive sources drains book (node.Entering x) (node.Leaving f) v t g h law = refl
@@ -255,6 +256,7 @@ leaving_passive sources drains book x (node.State f) v t g h law = absurd h
 leaving_passive sources drains book x (node.Sub f) v t g h law = absurd h
 leaving_passive sources drains book x (node.FanIn f) v t g h law = absurd h
 leaving_passive sources drains book x (node.FanOut f) v t g h law = absurd h
+leaving_passive sources drains book x (node.Custom f) v t g h law = absurd h
 leaving_passive sources drains book x (node.Writing f) v t g h law = absurd h
 leaving_passive sources drains book x (node.Ignoring f) v t g h law = absurd h
 leaving_passive sources drains book x (node.Entering f) v t g h law = absurd h

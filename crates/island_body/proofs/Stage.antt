@@ -63,6 +63,7 @@ module _ {S D L B : Type 0} (sources : S → SourceState) (drains : D → DrainS
   gave_by (node.Sub x) (node.Entering f) h v t g i l y at out law = absurd law
   gave_by (node.FanIn x) (node.Entering f) h v t g i l y at out law = absurd law
   gave_by (node.FanOut x) (node.Entering f) h v t g i l y at out law = absurd law
+  gave_by (node.Custom x) (node.Entering f) h v t g i l y at out law = absurd law
   gave_by (node.Writing x) (node.Entering f) h v t g i l y at out law = absurd law
   gave_by (node.Ignoring x) (node.Entering f) h v t g i l y at out law = absurd law
   gave_by (node.Leaving x) (node.Entering f) h v t g i l y at out law = absurd law
@@ -73,6 +74,7 @@ module _ {S D L B : Type 0} (sources : S → SourceState) (drains : D → DrainS
   gave_by x (node.Sub f) h v t g i l y at out law = absurd h
   gave_by x (node.FanIn f) h v t g i l y at out law = absurd h
   gave_by x (node.FanOut f) h v t g i l y at out law = absurd h
+  gave_by x (node.Custom f) h v t g i l y at out law = absurd h
   gave_by x (node.Writing f) h v t g i l y at out law = absurd h
   gave_by x (node.Ignoring f) h v t g i l y at out law = absurd h
   gave_by x (node.Leaving f) h v t g i l y at out law = absurd h
@@ -87,6 +89,7 @@ module _ {S D L B : Type 0} (sources : S → SourceState) (drains : D → DrainS
   entering_passive (node.Sub x) (node.Entering f) h v t g law = absurd law
   entering_passive (node.FanIn x) (node.Entering f) h v t g law = absurd law
   entering_passive (node.FanOut x) (node.Entering f) h v t g law = absurd law
+  entering_passive (node.Custom x) (node.Entering f) h v t g law = absurd law
   entering_passive (node.Writing x) (node.Entering f) h v t g law = absurd law
   entering_passive (node.Ignoring x) (node.Entering f) h v t g law = absurd law
   entering_passive x (node.Reading f) h v t g law = absurd h
@@ -96,6 +99,7 @@ module _ {S D L B : Type 0} (sources : S → SourceState) (drains : D → DrainS
   entering_passive x (node.Sub f) h v t g law = absurd h
   entering_passive x (node.FanIn f) h v t g law = absurd h
   entering_passive x (node.FanOut f) h v t g law = absurd h
+  entering_passive x (node.Custom f) h v t g law = absurd h
   entering_passive x (node.Writing f) h v t g law = absurd h
   entering_passive x (node.Ignoring f) h v t g law = absurd h
   entering_passive x (node.Leaving f) h v t g law = absurd h

@@ -37,6 +37,7 @@ module _ {S D L B : Type 0} where
   no_sink (node.Sub x) e = refl
   no_sink (node.FanIn x) e = refl
   no_sink (node.FanOut x) e = refl
+  no_sink (node.Custom x) e = refl
   no_sink (node.Writing x) e = cc
   no_sink (node.Ignoring x) e = cc
   no_sink (node.Entering x) e = refl
@@ -50,6 +51,7 @@ module _ {S D L B : Type 0} where
   no_reader (node.Sub x) e = refl
   no_reader (node.FanIn x) e = refl
   no_reader (node.FanOut x) e = refl
+  no_reader (node.Custom x) e = refl
   no_reader (node.Writing x) e = refl
   no_reader (node.Ignoring x) e = refl
   no_reader (node.Entering x) e = refl
@@ -63,6 +65,7 @@ module _ {S D L B : Type 0} where
   no_writer (node.Sub x) e = refl
   no_writer (node.FanIn x) e = refl
   no_writer (node.FanOut x) e = refl
+  no_writer (node.Custom x) e = refl
   no_writer (node.Writing x) e = cc
   no_writer (node.Ignoring x) e = refl
   no_writer (node.Entering x) e = refl
@@ -76,6 +79,7 @@ module _ {S D L B : Type 0} where
   no_picks (node.Sub x) e = cc
   no_picks (node.FanIn x) e = cc
   no_picks (node.FanOut x) e = cc
+  no_picks (node.Custom x) e = cc
   no_picks (node.Writing x) e = refl
   no_picks (node.Ignoring x) e = refl
   no_picks (node.Entering x) e = refl
@@ -89,6 +93,7 @@ module _ {S D L B : Type 0} where
   no_seat (node.Sub x) e = refl
   no_seat (node.FanIn x) e = refl
   no_seat (node.FanOut x) e = refl
+  no_seat (node.Custom x) e = refl
   no_seat (node.Writing x) e = refl
   no_seat (node.Ignoring x) e = refl
   no_seat (node.Entering x) e = refl

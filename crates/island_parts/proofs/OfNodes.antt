@@ -22,6 +22,7 @@ module _ {S D L B : Type 0} where
   sinks_are (node.Sub x ∷ xs) = sinks_are xs
   sinks_are (node.FanIn x ∷ xs) = sinks_are xs
   sinks_are (node.FanOut x ∷ xs) = sinks_are xs
+  sinks_are (node.Custom x ∷ xs) = sinks_are xs
   sinks_are (node.Writing x ∷ xs) = ap (λ t. (x.node, x.count, x.end) ∷ t) (sinks_are xs)
   sinks_are (node.Ignoring x ∷ xs) = ap (λ t. (x.node, 0, x.end) ∷ t) (sinks_are xs)
   sinks_are (node.Entering x ∷ xs) = sinks_are xs
@@ -36,6 +37,7 @@ module _ {S D L B : Type 0} where
   readers_are (node.Sub x ∷ xs) = readers_are xs
   readers_are (node.FanIn x ∷ xs) = readers_are xs
   readers_are (node.FanOut x ∷ xs) = readers_are xs
+  readers_are (node.Custom x ∷ xs) = readers_are xs
   readers_are (node.Writing x ∷ xs) = readers_are xs
   readers_are (node.Ignoring x ∷ xs) = readers_are xs
   readers_are (node.Entering x ∷ xs) = readers_are xs
@@ -50,6 +52,7 @@ module _ {S D L B : Type 0} where
   writers_are (node.Sub x ∷ xs) = writers_are xs
   writers_are (node.FanIn x ∷ xs) = writers_are xs
   writers_are (node.FanOut x ∷ xs) = writers_are xs
+  writers_are (node.Custom x ∷ xs) = writers_are xs
   writers_are (node.Writing x ∷ xs) = ap (λ t. x.drain ∷ t) (writers_are xs)
   writers_are (node.Ignoring x ∷ xs) = writers_are xs
   writers_are (node.Entering x ∷ xs) = writers_are xs

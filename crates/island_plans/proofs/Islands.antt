@@ -3,6 +3,7 @@ use Rattle.std.proofs.Common.{◌≡◌, ℕ, ◌+◌, ◌<◌, ◌^◌, ◌++�
 use Rattle.std.proofs.lemmas.List.{length-map}
 use Rattle.stream_model.specs.Graph.{Edge}
 use Rattle.stream_model.specs.declared.blueprint.Node.{Node}
+use Rattle.stream_model.specs.declared.blueprint.WireDecl.{WireDecl}
 use Rattle.interpreter.specs.Parts.{AreParts, seat_place}
 use Rattle.interpreter.specs.Room.{IsRoom}
 use Rattle.interpreter.specs.declared.parts.Link.{Link}
@@ -33,11 +34,11 @@ whole_count {S = S} {D = D} {L = L} {B = B} homes lanes nodes e =
     let from : length (map (λ (l : LanePlan). l.from) lanes) ≡ length lanes = length-map lanes (λ (l : LanePlan). l.from) in
     omega (arith, seats, ends, ins, outs, all, both, to, from, e)
 
-module _ {S D L B : Type 0} (homes : List ℕ) (count : ℕ) (ws : List Edge) (ns : List Node) (nodes : List (Seated S D L B)) (s : Split S D L B) (split : IsSplit homes count ws (places_from 0 ns) s) (same : map seat_place nodes ≡ places_from 0 ns) where
+module _ {S D L B : Type 0} (homes : List ℕ) (count : ℕ) (ws : List Edge) (ds : List WireDecl) (ns : List Node) (nodes : List (Seated S D L B)) (s : Split S D L B) (split : IsSplit homes count ws (places_from ds 0 ns) s) (same : map seat_place nodes ≡ places_from ds 0 ns) where
   abbrev cut : List LanePlan
   cut = lanes_from homes 0 ws
 
-  many : length (places_from 0 ns) ≡ length nodes
+  many : length (places_from ds 0 ns) ≡ length nodes
   many = sym (ap length same) ∙ length-map nodes seat_place
 
   -- by the laws of islands
@@ -46,17 +47,17 @@ module _ {S D L B : Type 0} (homes : List ℕ) (count : ℕ) (ws : List Edge) (n
   island_cut parts places k x i =
       let sp = split.spaces_are k i.space i.space_at in
       let here : x.0.nodes.items ≡ of_home (whole_homes homes cut) k (whole_seats nodes cut) = i.nodes_are ∙ ap (λ hs. of_home hs k (whole_seats nodes cut)) split.homes_are in
-      let told : x.0.links.items ≡ own_links s.homes.items (whole_links (length (places_from 0 ns)) ws) k = i.links_are ∙ sp.links_are in
+      let told : x.0.links.items ≡ own_links s.homes.items (whole_links (length (places_from ds 0 ns)) ws) k = i.links_are ∙ sp.links_are in
       let links : x.0.links.items ≡ own_links (whole_homes homes cut) (whole_links (length nodes) ws) k =
-      told ∙ ap (λ hs. own_links hs (whole_links (length (places_from 0 ns)) ws) k) split.homes_are ∙ ap (λ n. own_links (whole_homes homes cut) (whole_links n ws) k) many in
-      let at : map seat_place x.0.nodes.items ≡ of_home s.homes.items k (whole_places (places_from 0 ns) cut) =
+      told ∙ ap (λ hs. own_links hs (whole_links (length (places_from ds 0 ns)) ws) k) split.homes_are ∙ ap (λ n. own_links (whole_homes homes cut) (whole_links n ws) k) many in
+      let at : map seat_place x.0.nodes.items ≡ of_home s.homes.items k (whole_places (places_from ds 0 ns) cut) =
       ap (λ (l : List (Seated S D L B)). map seat_place l) i.nodes_are ∙ sym (share_map seat_place s.homes.items (whole_seats nodes cut) k) ∙ ap (λ l. of_home s.homes.items k l) places ∙ ap (λ l. of_home s.homes.items k (whole_places l cut)) same in
       record {
         nodes_are = here;
         links_are = links;
         parts = subst (λ (l : List Link). AreParts x.0.nodes.items l) (sym links) (subst (λ (l : List (Seated S D L B)). AreParts l (own_links (whole_homes homes cut) (whole_links (length nodes) ws) k)) (sym here) (parts k));
         room = subst (λ (r : IslandRoom S D L B). IsRoom r (map seat_place x.0.nodes.items) x.0.links.items) (sym i.room_is)
-            (subst (λ (l : List Place). IsRoom i.space.room l x.0.links.items) (sym at) (subst (λ (l : List Link). IsRoom i.space.room (of_home s.homes.items k (whole_places (places_from 0 ns) cut)) l) (sym told) sp.room_is));
+            (subst (λ (l : List Place). IsRoom i.space.room l x.0.links.items) (sym at) (subst (λ (l : List Link). IsRoom i.space.room (of_home s.homes.items k (whole_places (places_from ds 0 ns) cut)) l) (sym told) sp.room_is));
       }
 
   pub few_whole : length (whole_links (length nodes) ws) < 2 ^ 32

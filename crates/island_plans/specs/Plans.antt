@@ -16,7 +16,7 @@ use Rattle.scatter.specs.Shares.{of_home}
 use Rattle.island_parts.specs.Split.{IsSplit}
 use Rattle.island_parts.specs.Whole.{AreNodes, own_links, whole_homes, whole_links, whole_seats}
 use Rattle.materializer.specs.Fit.{CanRun}
-use Rattle.materializer.specs.Graphs.{chains_of}
+use Rattle.materializer.specs.Graphs.{around_of}
 use Rattle.materializer.specs.Board.{IsBoard, AreAtSwitches}
 use Rattle.materializer.specs.Planned.{ArePlanned, places_from, planned_seat, planned_plan, planned_room}
 use Rattle.materializer.specs.Seats.{AreSeats, place_seat, place_room}
@@ -34,8 +34,8 @@ pub record IsPlans {S D L B : Type 0} (p : Plans S D L B) : Type 0 where
   pub homes_are : AreNumberedHomes (length p.blueprint.value.nodes.items) p.count (blueprint_wires p.blueprint.value) p.homes.items
   pub lanes_are : p.lanes.items ≡ lanes_from p.homes.items 0 (blueprint_wires p.blueprint.value)
   pub ends_are : AreEndHomes p.homes.items p.blueprint.value.nodes.items (blueprint_wires p.blueprint.value) p.ends
-  pub seats : ArePlanned (chains_of p.blueprint.value) 0 p.blueprint.value.nodes.items p.seats.items
-  pub split : IsSplit p.homes.items p.count (blueprint_wires p.blueprint.value) (places_from 0 p.blueprint.value.nodes.items) p.split
+  pub seats : ArePlanned (around_of p.blueprint.value) 0 p.blueprint.value.nodes.items p.seats.items
+  pub split : IsSplit p.homes.items p.count (blueprint_wires p.blueprint.value) (places_from p.blueprint.value.wires.items 0 p.blueprint.value.nodes.items) p.split
   pub board_is : IsBoard (map (λ (n : Node). n.kind) p.blueprint.value.nodes.items) p.board
   pub at_switches : AreAtSwitches (map (λ (n : Node). n.kind) p.blueprint.value.nodes.items) p.board (map planned_seat p.seats.items)
   pub rooms : map planned_room p.seats.items ≡ rooms_by (length p.blueprint.value.nodes.items) (blueprint_wires p.blueprint.value)
@@ -58,7 +58,7 @@ pub record IsIslandOf {S D L B : Type 0} (homes : List ℕ) (ws : List Edge) (la
 -- its kill switches
 pub record IsFilled {S D L B : Type 0} (b : Blueprint) (sources : List S) (drains : List D) (f : Filled S D L B) : Type 0 where
   pub nodes : List (Seated S D L B)
-  pub seats : AreSeats (chains_of b) 0 b.nodes.items sources drains nodes
+  pub seats : AreSeats (around_of b) 0 b.nodes.items sources drains nodes
   pub joined : AreNodes (blueprint_wires b) nodes
   pub sources_are : sources_in nodes ≡ sources
   pub drains_are : drains_in nodes ≡ drains

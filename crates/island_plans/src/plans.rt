@@ -6,7 +6,8 @@ ghost use Rattle.materializer.specs.Fit.{CanRun};
 ghost use Rattle.materializer.specs.Files.{inputs_of_nodes, outputs_of_nodes};
 ghost use Rattle.materializer.specs.Seats.{place_plan};
 ghost use Rattle.island_plans.specs.Plans.{IsPlans, IsFilled, led_plans};
-ghost use Rattle.materializer.specs.HandedPlugs.{GivesAsListed, HasPlugs};
+ghost use Rattle.materializer.specs.HandedCustoms.{handed_heads, HasGuests};
+ghost use Rattle.materializer.specs.HandedPlugs.{GivesAsListed};
 
 use crate::ends::end_homes;
 use crate::homes::{copy_of, homes_of_links};
@@ -15,6 +16,7 @@ use blue_check::lanes::lanes_of;
 use blue_check::plan::LanePlan;
 use blue_names::links::links_of;
 use elem_core::why::NoMemory;
+use graph_stage::custom::Custom;
 use interpreter::parts::{Parts, Seated};
 use interpreter::room::IslandRoom;
 use island_parts::laws::islands_have_parts;
@@ -105,10 +107,11 @@ pub fn plans_of<S: Source, D: Drain, L: Logic, B: PlugBook>(
     alloc: Global,
     b: Blueprint,
     plugs: Vec<Plug<L>>,
+    customs: Vec<Custom>,
     plans: Vec<Option<Vec<u32>>>,
 ) -> Result<Plans<S, D, L, B>, NoMemory>
     requires runs { CanRun b }
-    requires has { HasPlugs (map (λ p. p.head) plugs.items) b.nodes.items }
+    requires has { HasGuests (handed_heads plugs.items customs.items) b.wires.items b.nodes.items }
     requires listed { All (GivesAsListed L.gives B.lists) plugs.items }
     requires follow { PlansFit (map (λ n. n.kind) b.nodes.items) (map moves_of plans.items) }
     ensures blueprint { IfOk result (λ plans. plans.blueprint.value ≡ b) }
@@ -122,11 +125,11 @@ pub fn plans_of<S: Source, D: Drain, L: Logic, B: PlugBook>(
     let homes = found.homes;
     let lanes = lanes_of(alloc, &wires, &homes)?;
     let ends = end_homes(alloc, &b.nodes, &wires, &homes)?;
-    let nodes = places_of(alloc, &b.nodes)?;
+    let nodes = places_of(alloc, &b.nodes, &b.wires)?;
     let own = copy_of(alloc, &homes)?;
     let split = split_of(alloc, nodes, &wires, own, count, &lanes)?;
     let (board, switches) = Board::of(alloc, &b.nodes)?;
-    let handed = hand_out::<L, B>(alloc, &b.nodes, plugs)?;
+    let handed = hand_out::<L, B>(alloc, &b.nodes, plugs, customs)?;
     let many = b.nodes.len();
     let rooms = rooms_of(alloc, many, &wires)?;
     let unseated = b.nodes;

@@ -8,7 +8,7 @@ use Rattle.stream_model.specs.declared.blueprint.Node.{Node}
 use Rattle.interpreter.specs.declared.island.IslandEnd.{IslandEnd}
 use Rattle.interpreter.specs.Handles.{sources_in, drains_in}
 use Rattle.scatter.specs.Shares.{of_home}
-use Rattle.materializer.specs.Graphs.{chains_of}
+use Rattle.materializer.specs.Graphs.{around_of}
 use Rattle.materializer.proofs.Placing.{seats_count}
 use Rattle.island_parts.specs.Starts.{AllGiveBack}
 use Rattle.island_parts.specs.Ends.{homes_left, AreHandlesOf}
@@ -33,7 +33,7 @@ module _ {S D L B : Type 0} (sources : S → SourceState) (drains : D → DrainS
   written = f.ends.writers.items
 
   each : length fl.nodes ≡ length homes
-  each = seats_count (chains_of b) 0 ns ss ds fl.nodes fl.seats ∙ sym fl.homes_are.are.each
+  each = seats_count (around_of b) 0 ns ss ds fl.nodes fl.seats ∙ sym fl.homes_are.are.each
 
   below : All (λ h. h < length ends) homes
   below = subst (λ n. All (λ h. h < n) homes) (sym (gb.many ∙ fl.many)) fl.homes_are.below
@@ -41,10 +41,10 @@ module _ {S D L B : Type 0} (sources : S → SourceState) (drains : D → DrainS
   -- the homes of the handles
 
   read_are : read ≡ homes_left source_at homes fl.nodes
-  read_are = fl.ends_are.readers_are ∙ source_homes (chains_of b) 0 ns ss ds fl.nodes homes fl.seats
+  read_are = fl.ends_are.readers_are ∙ source_homes (around_of b) 0 ns ss ds fl.nodes homes fl.seats
 
   written_are : written ≡ homes_left drain_at homes fl.nodes
-  written_are = fl.ends_are.writers_are ∙ drain_homes (chains_of b) 0 ns ss ds fl.nodes homes fl.seats
+  written_are = fl.ends_are.writers_are ∙ drain_homes (around_of b) 0 ns ss ds fl.nodes homes fl.seats
 
   read_below : All (λ h. h < length ends) read
   read_below = subst (λ hs. All (λ h. h < length ends) hs) (sym read_are) (all_left source_at (λ h. h < length ends) homes fl.nodes below)

@@ -14,6 +14,7 @@ use Rattle.interpreter.specs.declared.island.IslandEnd.{IslandEnd}
 use Rattle.interpreter.specs.declared.parts.Seated.{Seated}
 use Rattle.stream_model.specs.declared.blueprint.Node as blue
 use Rattle.materializer.proofs.Placing.{seats_count}
+use Rattle.materializer.specs.Graphs.{Around}
 use Rattle.materializer.specs.Seats.{AreSeats}
 use Rattle.lane_core.specs.declared.crossing.Crossing.{Crossing}
 use Rattle.blue_check.specs.Plan.{lanes_from}
@@ -68,16 +69,16 @@ module _ {S D L B : Type 0} (sources : S → SourceState) (drains : D → DrainS
       let a = settled_stays sources drains book then (last_settled sources drains book begun now broke then l) k p first y.0 ef y.1 in
       handles_both first y.0 x a.handles (kept_stays sources drains y.0 x (kept_at (KeepsNode sources drains) (net_of then k).nodes (nodes_now k) (last_kept sources drains book begun now broke then l k) p y.0 x y.1 ex))
 
-  module _ (ns : List blue.Node) (ss : List S) (ds : List D) (seats : AreSeats g.chains 0 ns ss ds nodes) (e : EndHomes) (ends_are : AreEndHomes homes ns ws e) (ends : List (IslandEnd S D)) (are : AreEndsOfBodies now ends) where
+  module _ (ns : List blue.Node) (ss : List S) (ds : List D) (around : Around) (seats : AreSeats around 0 ns ss ds nodes) (e : EndHomes) (ends_are : AreEndHomes homes ns ws e) (ends : List (IslandEnd S D)) (are : AreEndsOfBodies now ends) where
     by_kind : (k : ℕ) (n : blue.Node) (x : IslandNode S D L B) → slice_get ns k ≡ Some n → slice_get broken k ≡ Some x → HandlesBy n.kind x
     by_kind k n x en ex =
         let lt : k < length ns = slice_get_within ns k n en in
-        let s = there nodes k (subst (λ (j : ℕ). k < j) (sym (seats_count g.chains 0 ns ss ds nodes seats)) lt) in
+        let s = there nodes k (subst (λ (j : ℕ). k < j) (sym (seats_count around 0 ns ss ds nodes seats)) lt) in
         let b = node_began homes count ws nodes (net_of then) m.seated nets HandlesAs nodes_now stays broken later r k s.0 x s.1 ex in
-        handles_on n.kind b.first x (seat_leaves g.chains 0 ns ss ds nodes k n s.0 b.first seats en s.1 b.becomes).handles b.keeps
+        handles_on n.kind b.first x (seat_leaves around 0 ns ss ds nodes k n s.0 b.first seats en s.1 b.becomes).handles b.keeps
 
     as_many : length broken ≡ length ns
-    as_many = r.each_node ∙ (m.seated.each ∙ seats_count g.chains 0 ns ss ds nodes seats)
+    as_many = r.each_node ∙ (m.seated.each ∙ seats_count around 0 ns ss ds nodes seats)
 
     many : length ends ≡ count
     many = are.many ∙ (broke.count ∙ m.begun_are.many)

@@ -13,19 +13,20 @@ use Rattle.stream_model.specs.Graph as graph
 use Rattle.stream_model.specs.Composed.{inputs_of}
 use Rattle.stream_model.specs.View.{outputs_of}
 use Rattle.stream_model.specs.Joined.{IsJoined}
-use Rattle.stream_model.specs.declared.head.PlugHead.{PlugHead}
+use Rattle.stream_model.specs.Known.{HeadLists}
 use Rattle.stream_model.specs.declared.blueprint.Blueprint.{Blueprint}
 use Rattle.stream_model.specs.declared.blueprint.Node.{Node}
 use Rattle.stream_model.specs.declared.blueprint.WireDecl.{WireDecl}
 use Rattle.stream_model.specs.declared.kind.Kind.{Kind}
 use Rattle.stream_model.specs.declared.kind.Kind.TheVariants.{MergeHub, BroadcastHub}
 use Rattle.stream_model.specs.declared.kind.TheConstants.{MAX_FAN}
+use Rattle.blue_names.specs.CustomPorts.{custom_head, head_fits}
 use Rattle.blue_names.specs.First.{when}
 use Rattle.blue_names.specs.Hubs.{size_into, size_out_of, size_into_node, size_out_of_node, lane_by}
 use Rattle.blue_names.specs.RuleLinks.{node_number, size_of_hub, wire_of, hub_wrong}
-use Rattle.blue_names.specs.Sizes.{is_within, sizes_fit, lane_fits, chain_wrong, node_wrong, wire_wrong, size_wrong}
+use Rattle.blue_names.specs.Sizes.{is_within, sizes_fit, node_fits, lane_fits, chain_wrong, node_wrong, wire_wrong, size_wrong}
 use Rattle.blue_names.specs.declared.spot.Spot.TheVariants as at
-use Rattle.blue_check.specs.Fitness.{names_fault, ports_fault, plugs_fault, sizes_fault, types_fault, IsFit}
+use Rattle.blue_check.specs.Fitness.{names_fault, ports_fault, guests_fault, sizes_fault, types_fault, IsFit}
 use Rattle.blue_check.specs.Wires.{blueprint_wires}
 use Rattle.blue_check.specs.declared.fault.CheckFault.TheVariants as fault
 use Rattle.interpreter.specs.declared.parts.Parts.{Parts}
@@ -34,7 +35,7 @@ use Rattle.blue_check.specs.Plan.{lane_sized, lanes_from}
 use Rattle.blue_check.specs.declared.plan.LanePlan.{LanePlan}
 use Rattle.island_parts.specs.Whole.{whole_links, whole_homes, whole_seats, own_links}
 use Rattle.scatter.specs.Shares.{of_home}
-use Rattle.materializer.specs.Graphs.{graph_of, graph_node, chains_of}
+use Rattle.materializer.specs.Graphs.{graph_of, graph_node, around_of}
 use Rattle.materializer.proofs.Fitting.{fit_joined}
 use Rattle.materializer.proofs.Joining.{both_none, none_here, not_when, mapped_from}
 use Rattle.materializer.proofs.Placing.{seats_count, seats_ports}
@@ -126,26 +127,26 @@ either_some : (a b : Option ℕ) (s : ℕ) → option_or a b ≡ Some s → (a �
 either_some None b s e = inr e
 either_some (Some x) b s e = inl e
 
-module _ (b : Blueprint) (plugs : List PlugHead) (taken : List (List ℕ)) (fit : IsFit b plugs taken) where
-  no_wrong_size : size_wrong b.chains.items b.nodes.items b.wires.items ≡ None
+module _ (b : Blueprint) (heads : HeadLists) (taken : List (List ℕ)) (fit : IsFit b heads taken) where
+  no_wrong_size : size_wrong heads b.chains.items b.nodes.items b.wires.items ≡ None
   no_wrong_size =
       let nodes = b.nodes.items in
       let ws = blueprint_wires b in
       let chains = b.chains.items in
       let names = names_fault b.switches.items chains nodes b.wires.items taken in
-      let ports = ports_fault nodes ws in
-      let faults = plugs_fault plugs chains nodes in
-      let sizes = sizes_fault chains nodes b.wires.items in
-      let types = types_fault plugs chains nodes ws in
+      let ports = ports_fault heads nodes ws in
+      let faults = guests_fault heads chains nodes in
+      let sizes = sizes_fault heads chains nodes b.wires.items in
+      let types = types_fault heads chains nodes ws in
       let a = both_none names (option_or ports (option_or faults (option_or sizes types))) fit.early in
       let c = both_none ports (option_or faults (option_or sizes types)) a.1 in
       let d = both_none faults (option_or sizes types) c.1 in
-      let e = both_none (option_map fault.BadSize (size_wrong chains nodes b.wires.items)) (option_map fault.HubWire (hub_wrong nodes b.wires.items)) (both_none sizes types d.1).0 in
-      map_none fault.BadSize (size_wrong chains nodes b.wires.items) e.0
+      let e = both_none (option_map fault.BadSize (size_wrong heads chains nodes b.wires.items)) (option_map fault.HubWire (hub_wrong nodes b.wires.items)) (both_none sizes types d.1).0 in
+      map_none fault.BadSize (size_wrong heads chains nodes b.wires.items) e.0
 
-  no_wrong_place : (option_map at.Node (node_wrong b.nodes.items) ≡ None) × (option_map at.Wire (wire_wrong b.wires.items) ≡ None)
+  no_wrong_place : (option_map at.Node (node_wrong heads b.nodes.items) ≡ None) × (option_map at.Wire (wire_wrong b.wires.items) ≡ None)
   no_wrong_place =
-      let nodes = option_map at.Node (node_wrong b.nodes.items) in
+      let nodes = option_map at.Node (node_wrong heads b.nodes.items) in
       let wires = option_map at.Wire (wire_wrong b.wires.items) in
       both_none nodes wires (both_none (option_map at.Chain (chain_wrong b.chains.items)) (option_or nodes wires) no_wrong_size).1
 
@@ -154,8 +155,8 @@ module _ (b : Blueprint) (plugs : List PlugHead) (taken : List (List ℕ)) (fit 
 
   node_sized : (k : ℕ) (n : Node) → slice_get b.nodes.items k ≡ Some n → sizes_fit n.kind ≡ true
   node_sized k n there =
-      let none : node_wrong b.nodes.items ≡ None = map_none at.Node (node_wrong b.nodes.items) no_wrong_place.0 in
-      not_true (sizes_fit n.kind) (not_when (not (sizes_fit n.kind)) k (none_here (λ i (x : Node). when (not (sizes_fit x.kind)) i) b.nodes.items k n none there))
+      let none : node_wrong heads b.nodes.items ≡ None = map_none at.Node (node_wrong heads b.nodes.items) no_wrong_place.0 in
+      (and_parts (sizes_fit n.kind) (head_fits (custom_head heads n.kind)) (not_true (node_fits heads n.kind) (not_when (not (node_fits heads n.kind)) k (none_here (λ i (x : Node). when (not (node_fits heads x.kind)) i) b.nodes.items k n none there)))).0
 
   hub_within : (w : WireDecl) (s : ℕ) → size_of_hub b.nodes.items w ≡ Some s → (1 ≤ s) × (s ≤ 1024)
   hub_within w s e = by (either_some (size_out_of_node (slice_get b.nodes.items from)) (size_into_node (slice_get b.nodes.items to)) s e)
@@ -190,11 +191,11 @@ wire_there (w ∷ ws) (suc n) lt = wire_there ws n (omega (arith, lt))
 
 module _ {S D L B : Type 0} where
   pub few : (p : Plans S D L B) → IsPlans p → HasFewLinks p.blueprint.value
-  few p is = subst (λ (n : ℕ). length (whole_links n (blueprint_wires p.blueprint.value)) < 2 ^ 32) (places_count 0 p.blueprint.value.nodes.items) is.split.few
+  few p is = subst (λ (n : ℕ). length (whole_links n (blueprint_wires p.blueprint.value)) < 2 ^ 32) (places_count p.blueprint.value.wires.items 0 p.blueprint.value.nodes.items) is.split.few
 
   module _ (b : Blueprint) (ss : List S) (ds : List D) (f : Filled S D L B) (is : IsFilled b ss ds f) where
     node_count : length is.nodes ≡ length b.nodes.items
-    node_count = seats_count (chains_of b) 0 b.nodes.items ss ds is.nodes is.seats
+    node_count = seats_count (around_of b) 0 b.nodes.items ss ds is.nodes is.seats
 
     pub seated : HasFewLinks b → AreSeated f.homes.items f.count (blueprint_wires b) is.nodes
     seated links = record {
@@ -208,13 +209,13 @@ module _ {S D L B : Type 0} where
     pub graph_is : IsGraphOf (graph_of b) (blueprint_wires b) is.nodes
     graph_is = record {
       wires_are = refl;
-      each_node = length-map b.nodes.items graph_node ∙ sym node_count;
+      each_node = length-map b.nodes.items (graph_node b.wires.items) ∙ sym node_count;
       ins_are = λ k n here.
-          let m = mapped_from graph_node b.nodes.items k n here in
-          (seats_ports (chains_of b) 0 b.nodes.items ss ds is.nodes k m.0 is.seats m.1.0).0 ∙ ap (λ (x : graph.Node). inputs_of x.kind) m.1.1;
+          let m = mapped_from (graph_node b.wires.items) b.nodes.items k n here in
+          (seats_ports (around_of b) 0 b.nodes.items ss ds is.nodes k m.0 is.seats m.1.0).0 ∙ ap (λ (x : graph.Node). inputs_of x) m.1.1;
       outs_are = λ k n here.
-          let m = mapped_from graph_node b.nodes.items k n here in
-          (seats_ports (chains_of b) 0 b.nodes.items ss ds is.nodes k m.0 is.seats m.1.0).1 ∙ ap (λ (x : graph.Node). outputs_of x.kind) m.1.1;
+          let m = mapped_from (graph_node b.wires.items) b.nodes.items k n here in
+          (seats_ports (around_of b) 0 b.nodes.items ss ds is.nodes k m.0 is.seats m.1.0).1 ∙ ap (λ (x : graph.Node). outputs_of x) m.1.1;
     }
 
     pub parts_are : (k : ℕ) (x : Parts S D L B × IslandRoom S D L B) → slice_get f.islands.items k ≡ Some x → ArePartsOf f.homes.items (blueprint_wires b) is.nodes k x.0
@@ -235,12 +236,12 @@ module _ {S D L B : Type 0} where
       let b = p.blueprint.value in
       let homes = p.homes.items in
       let ws = blueprint_wires b in
-      let joined : IsJoined (graph_of b) = fit_joined b is.runs.plugs is.runs.taken is.runs.fit in
+      let joined : IsJoined (graph_of b) = fit_joined b is.runs.heads is.runs.taken is.runs.fit in
       All-from_get_or (λ h. h < p.count) p.ends.wires.items 0 (λ i lt.
       let size : length p.ends.wires.items ≡ length ws = ap length is.ends_are.wires_are ∙ length-map ws (wire_home homes) in
       let w = wire_there ws i (omega (arith, size, lt)) in
       let source = joined.source i w.0 w.1 in
-      let first = mapped_from graph_node b.nodes.items w.0.from source.0 source.1 in
+      let first = mapped_from (graph_node b.wires.items) b.nodes.items w.0.from source.0 source.1 in
       let out = slice_get_within b.nodes.items w.0.from first.0 first.1.0 in
       let many = is.homes_are.are.each in
       let below : slice_index homes w.0.from < p.count = All-get_or (λ h. h < p.count) homes w.0.from 0 (omega (arith, out, many)) is.homes_are.below in
@@ -252,12 +253,12 @@ module _ {S D L B : Type 0} where
       let b = p.blueprint.value in
       let homes = p.homes.items in
       let w = plan_of homes (blueprint_wires b) n l (subst (λ (ls : List LanePlan). slice_get ls n ≡ Some l) is.lanes_are here) in
-      let size = lane_size b is.runs.plugs is.runs.taken is.runs.fit l.wire w.wire l.size w.is w.lane in
-      let joined : IsJoined (graph_of b) = fit_joined b is.runs.plugs is.runs.taken is.runs.fit in
+      let size = lane_size b is.runs.heads is.runs.taken is.runs.fit l.wire w.wire l.size w.is w.lane in
+      let joined : IsJoined (graph_of b) = fit_joined b is.runs.heads is.runs.taken is.runs.fit in
       let source = joined.source l.wire w.wire w.is in
       let target = joined.target l.wire w.wire w.is in
-      let first = mapped_from graph_node b.nodes.items w.wire.from source.0 source.1 in
-      let last = mapped_from graph_node b.nodes.items w.wire.to target.0 target.1 in
+      let first = mapped_from (graph_node b.wires.items) b.nodes.items w.wire.from source.0 source.1 in
+      let last = mapped_from (graph_node b.wires.items) b.nodes.items w.wire.to target.0 target.1 in
       let many = is.homes_are.are.each in
       let out = slice_get_within b.nodes.items w.wire.from first.0 first.1.0 in
       let inp = slice_get_within b.nodes.items w.wire.to last.0 last.1.0 in

@@ -1,7 +1,6 @@
 -- The handles at the places of a blueprint's islands.
 use Rattle.std.specs.Prelude.{slice_get, is_some, if◌then◌else◌}
 use Rattle.std.proofs.Common.{◌≡◌, ℕ, zero, suc, ◌+◌, Bool, true, false, List, [], ◌∷◌, ◌++◌, length, map, Option, Some, None, refl, ap, sym, ◌∙◌}
-use Rattle.stream_model.specs.Graph as graph
 use Rattle.stream_model.specs.declared.kind.Kind.{Kind}
 use Rattle.stream_model.specs.declared.kind.Kind.TheVariants as kind
 use Rattle.nodes.specs.Kinds.{IsFileSink, IsMaker}
@@ -18,6 +17,7 @@ use Rattle.stream_model.specs.declared.blueprint.Node.{Node}
 use Rattle.blue_check.specs.declared.plan.LanePlan.{LanePlan}
 use Rattle.scatter.specs.Shares.{of_home}
 use Rattle.island_parts.specs.Whole.{in_seat, out_seat, whole_homes, whole_seats}
+use Rattle.materializer.specs.Graphs.{Around}
 use Rattle.materializer.specs.Files.{source_file, output_of}
 use Rattle.materializer.specs.Seats.{handle_of, IsWork, AreSeats}
 use Rattle.materializer.proofs.Placing.{reads_lines, maker_no_file, linear_no_file, state_no_file, sub_no_file, fan_in_no_file, fan_out_no_file}
@@ -81,6 +81,7 @@ module _ {S D L B : Type 0} where
   source_of (work.Sub l) = None
   source_of (work.FanIn l inputs) = None
   source_of (work.FanOut l outputs) = None
+  source_of (work.Custom l inputs outputs) = None
   source_of (work.Writing shape d) = None
   source_of (work.LaneIn u) = None
   source_of (work.LaneOut u) = None
@@ -93,6 +94,7 @@ module _ {S D L B : Type 0} where
   drain_of (work.Sub l) = None
   drain_of (work.FanIn l inputs) = None
   drain_of (work.FanOut l outputs) = None
+  drain_of (work.Custom l inputs outputs) = None
   drain_of (work.Writing shape d) = d
   drain_of (work.LaneIn u) = None
   drain_of (work.LaneOut u) = None
@@ -111,6 +113,7 @@ module _ {S D L B : Type 0} where
   source_first (work.Sub l) rest = refl
   source_first (work.FanIn l inputs) rest = refl
   source_first (work.FanOut l outputs) rest = refl
+  source_first (work.Custom l inputs outputs) rest = refl
   source_first (work.Writing shape d) rest = refl
   source_first (work.LaneIn u) rest = refl
   source_first (work.LaneOut u) rest = refl
@@ -123,6 +126,7 @@ module _ {S D L B : Type 0} where
   drain_first (work.Sub l) rest = refl
   drain_first (work.FanIn l inputs) rest = refl
   drain_first (work.FanOut l outputs) rest = refl
+  drain_first (work.Custom l inputs outputs) rest = refl
   drain_first (work.Writing shape (Some d)) rest = refl
   drain_first (work.Writing shape None) rest = refl
   drain_first (work.LaneIn u) rest = refl
@@ -161,44 +165,46 @@ module _ {S D L B : Type 0} where
   -- ---- the homes of handles
 
   -- a node has a source where it is a source of lines, and a drain where it is a sink with a file
-  reads_if : (chains : List graph.Chain) (k : ℕ) (n : Node) (ss : List S) (ds : List D) (w : Work S D L B) → IsWork chains k n ss ds w → leaves_in Readers n ≡ leaves_something (source_of w)
-  reads_if chains k n ss ds (work.Reading r) is = handle_some (source_file n.kind) ss r.source is.source
-  reads_if chains k n ss ds (work.Making shape) is = no_input IsMaker (λ _ i. i) n.kind is.is_maker
-  reads_if chains k n ss ds (work.Linear l) is = no_input IsLinear (λ _ i. i) n.kind is.is_linear
-  reads_if chains k n ss ds (work.State l) is = no_input IsStateful (λ _ i. i) n.kind is.is_state
-  reads_if chains k n ss ds (work.Sub l) is = no_input IsSub (λ _ i. i) n.kind is.is_sub
-  reads_if chains k n ss ds (work.FanIn l inputs) is = no_input IsFanIn (λ _ i. i) n.kind is.is_in
-  reads_if chains k n ss ds (work.FanOut l outputs) is = no_input IsOut (λ _ i. i) n.kind is.is_out
-  reads_if chains k n ss ds (work.LaneIn u) is = absurd is
-  reads_if chains k n ss ds (work.LaneOut u) is = absurd is
-  reads_if chains k n ss ds (work.Writing shape (Some d)) is = no_input IsFileSink (λ _ i. i) n.kind is.is_sink
-  reads_if chains k n ss ds (work.Writing shape None) is = ap (λ q. is_some (source_file q)) is.is_ignore
+  reads_if : (around : Around) (k : ℕ) (n : Node) (ss : List S) (ds : List D) (w : Work S D L B) → IsWork around k n ss ds w → leaves_in Readers n ≡ leaves_something (source_of w)
+  reads_if around k n ss ds (work.Reading r) is = handle_some (source_file n.kind) ss r.source is.source
+  reads_if around k n ss ds (work.Making shape) is = no_input IsMaker (λ _ i. i) n.kind is.is_maker
+  reads_if around k n ss ds (work.Linear l) is = no_input IsLinear (λ _ i. i) n.kind is.is_linear
+  reads_if around k n ss ds (work.State l) is = no_input IsStateful (λ _ i. i) n.kind is.is_state
+  reads_if around k n ss ds (work.Sub l) is = no_input IsSub (λ _ i. i) n.kind is.is_sub
+  reads_if around k n ss ds (work.FanIn l inputs) is = no_input IsFanIn (λ _ i. i) n.kind is.is_in
+  reads_if around k n ss ds (work.FanOut l outputs) is = no_input IsOut (λ _ i. i) n.kind is.is_out
+  reads_if around k n ss ds (work.Custom x inputs outputs) is = ap (λ q. is_some (source_file q)) is.0.is_custom.1
+  reads_if around k n ss ds (work.LaneIn u) is = absurd is
+  reads_if around k n ss ds (work.LaneOut u) is = absurd is
+  reads_if around k n ss ds (work.Writing shape (Some d)) is = no_input IsFileSink (λ _ i. i) n.kind is.is_sink
+  reads_if around k n ss ds (work.Writing shape None) is = ap (λ q. is_some (source_file q)) is.is_ignore
 
-  writes_if : (chains : List graph.Chain) (k : ℕ) (n : Node) (ss : List S) (ds : List D) (w : Work S D L B) → IsWork chains k n ss ds w → leaves_in Writers n ≡ leaves_something (drain_of w)
-  writes_if chains k n ss ds (work.Reading r) is = let l = reads_lines n.kind ss r.source is.source in ap (λ q. is_some (output_of q)) l.1
-  writes_if chains k n ss ds (work.Making shape) is = none_of _ (λ name e. maker_no_file n.kind name is.is_maker e)
-  writes_if chains k n ss ds (work.Linear l) is = none_of _ (λ name e. linear_no_file n.kind name is.is_linear e)
-  writes_if chains k n ss ds (work.State l) is = none_of _ (λ name e. state_no_file n.kind name is.is_state e)
-  writes_if chains k n ss ds (work.Sub l) is = none_of _ (λ name e. sub_no_file n.kind name is.is_sub e)
-  writes_if chains k n ss ds (work.FanIn l inputs) is = none_of _ (λ name e. fan_in_no_file n.kind name is.is_in e)
-  writes_if chains k n ss ds (work.FanOut l outputs) is = none_of _ (λ name e. fan_out_no_file n.kind name is.is_out e)
-  writes_if chains k n ss ds (work.LaneIn u) is = absurd is
-  writes_if chains k n ss ds (work.LaneOut u) is = absurd is
-  writes_if chains k n ss ds (work.Writing shape (Some d)) is = handle_some (output_of n.kind) ds d is.next
-  writes_if chains k n ss ds (work.Writing shape None) is = ap (λ q. is_some (output_of q)) is.is_ignore
+  writes_if : (around : Around) (k : ℕ) (n : Node) (ss : List S) (ds : List D) (w : Work S D L B) → IsWork around k n ss ds w → leaves_in Writers n ≡ leaves_something (drain_of w)
+  writes_if around k n ss ds (work.Reading r) is = let l = reads_lines n.kind ss r.source is.source in ap (λ q. is_some (output_of q)) l.1
+  writes_if around k n ss ds (work.Making shape) is = none_of _ (λ name e. maker_no_file n.kind name is.is_maker e)
+  writes_if around k n ss ds (work.Linear l) is = none_of _ (λ name e. linear_no_file n.kind name is.is_linear e)
+  writes_if around k n ss ds (work.State l) is = none_of _ (λ name e. state_no_file n.kind name is.is_state e)
+  writes_if around k n ss ds (work.Sub l) is = none_of _ (λ name e. sub_no_file n.kind name is.is_sub e)
+  writes_if around k n ss ds (work.FanIn l inputs) is = none_of _ (λ name e. fan_in_no_file n.kind name is.is_in e)
+  writes_if around k n ss ds (work.FanOut l outputs) is = none_of _ (λ name e. fan_out_no_file n.kind name is.is_out e)
+  writes_if around k n ss ds (work.Custom x inputs outputs) is = ap (λ q. is_some (output_of q)) is.0.is_custom.1
+  writes_if around k n ss ds (work.LaneIn u) is = absurd is
+  writes_if around k n ss ds (work.LaneOut u) is = absurd is
+  writes_if around k n ss ds (work.Writing shape (Some d)) is = handle_some (output_of n.kind) ds d is.next
+  writes_if around k n ss ds (work.Writing shape None) is = ap (λ q. is_some (output_of q)) is.is_ignore
 
   -- so what is told of the nodes of a blueprint holds of their places
   -- the homes of the nodes that leave an item in a list are those of their places
-  homes_of : {Y : Type 0} (list : EndList) (f : Seated S D L B → Option Y) (chains : List graph.Chain) → ((k : ℕ) (n : Node) (ss : List S) (ds : List D) (p : Seated S D L B) → IsWork chains k n ss ds p.work → leaves_in list n ≡ leaves_something (f p)) → (k : ℕ) (ns : List Node) (ss : List S) (ds : List D) (ps : List (Seated S D L B)) (homes : List ℕ) → AreSeats chains k ns ss ds ps
+  homes_of : {Y : Type 0} (list : EndList) (f : Seated S D L B → Option Y) (around : Around) → ((k : ℕ) (n : Node) (ss : List S) (ds : List D) (p : Seated S D L B) → IsWork around k n ss ds p.work → leaves_in list n ≡ leaves_something (f p)) → (k : ℕ) (ns : List Node) (ss : List S) (ds : List D) (ps : List (Seated S D L B)) (homes : List ℕ) → AreSeats around k ns ss ds ps
       → homes_in list ns homes ≡ homes_left f homes ps
-  homes_of list f chains each k [] ss ds [] homes a = sym (none_left f homes)
-  homes_of list f chains each k [] ss ds (p ∷ ps) homes a = absurd a
-  homes_of list f chains each k (n ∷ ns) ss ds [] homes a = absurd a
-  homes_of list f chains each k (n ∷ ns) ss ds (p ∷ ps) [] a = refl
-  homes_of list f chains each k (n ∷ ns) ss ds (p ∷ ps) (h ∷ homes) a = sym (one_home (f p) (leaves_in list n) h (homes_left f homes ps) (homes_in list ns homes) (each k n ss ds p a.1.0) (sym (homes_of list f chains each (k + 1) ns _ _ ps homes a.1.1)))
+  homes_of list f around each k [] ss ds [] homes a = sym (none_left f homes)
+  homes_of list f around each k [] ss ds (p ∷ ps) homes a = absurd a
+  homes_of list f around each k (n ∷ ns) ss ds [] homes a = absurd a
+  homes_of list f around each k (n ∷ ns) ss ds (p ∷ ps) [] a = refl
+  homes_of list f around each k (n ∷ ns) ss ds (p ∷ ps) (h ∷ homes) a = sym (one_home (f p) (leaves_in list n) h (homes_left f homes ps) (homes_in list ns homes) (each k n ss ds p a.1.0) (sym (homes_of list f around each (k + 1) ns _ _ ps homes a.1.1)))
 
-  pub source_homes : (chains : List graph.Chain) (k : ℕ) (ns : List Node) (ss : List S) (ds : List D) (ps : List (Seated S D L B)) (homes : List ℕ) → AreSeats chains k ns ss ds ps → homes_in Readers ns homes ≡ homes_left source_at homes ps
-  source_homes chains = homes_of Readers source_at chains (λ k n ss ds p. reads_if chains k n ss ds p.work)
+  pub source_homes : (around : Around) (k : ℕ) (ns : List Node) (ss : List S) (ds : List D) (ps : List (Seated S D L B)) (homes : List ℕ) → AreSeats around k ns ss ds ps → homes_in Readers ns homes ≡ homes_left source_at homes ps
+  source_homes around = homes_of Readers source_at around (λ k n ss ds p. reads_if around k n ss ds p.work)
 
-  pub drain_homes : (chains : List graph.Chain) (k : ℕ) (ns : List Node) (ss : List S) (ds : List D) (ps : List (Seated S D L B)) (homes : List ℕ) → AreSeats chains k ns ss ds ps → homes_in Writers ns homes ≡ homes_left drain_at homes ps
-  drain_homes chains = homes_of Writers drain_at chains (λ k n ss ds p. writes_if chains k n ss ds p.work)
+  pub drain_homes : (around : Around) (k : ℕ) (ns : List Node) (ss : List S) (ds : List D) (ps : List (Seated S D L B)) (homes : List ℕ) → AreSeats around k ns ss ds ps → homes_in Writers ns homes ≡ homes_left drain_at homes ps
+  drain_homes around = homes_of Writers drain_at around (λ k n ss ds p. writes_if around k n ss ds p.work)

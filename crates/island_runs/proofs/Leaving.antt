@@ -1,7 +1,6 @@
 -- What a node leaves is known by its kind, whatever it has done since.
 use Rattle.std.specs.Prelude.{is_some, slice_get}
-use Rattle.std.proofs.Common.{◌≡◌, ◌≢◌, ◌⊎◌, inl, inr, ℕ, zero, suc, ◌+◌, ◌≤◌, ◌==◌, Bool, true, false, List, [], ◌∷◌, Option, Some, None, refl, ap, sym, ◌∙◌, subst, arith}
-use Rattle.std.proofs.lemmas.Bool.Decides.{nat_tests}
+use Rattle.std.proofs.Common.{◌≡◌, ◌≢◌, ◌⊎◌, inl, inr, ℕ, zero, suc, ◌+◌, Bool, true, false, List, [], ◌∷◌, Option, Some, None, refl, ap, sym, ◌∙◌, subst}
 use Rattle.stream_model.specs.Graph as graph
 use Rattle.elem_core.specs.declared.item.Item.{Item}
 use Rattle.elem_core.specs.declared.why.Decider.{Decider}
@@ -13,7 +12,7 @@ use Rattle.stream_model.specs.declared.kind.Joining.{Joining}
 use Rattle.stream_model.specs.declared.kind.Joining.TheVariants as joining
 use Rattle.stream_model.specs.declared.kind.Policy.{Policy}
 use Rattle.stream_model.specs.declared.kind.Policy.TheVariants.{Backpressure, DropHead, DropTail, DropBuffer, DropNew, Fail}
-use Rattle.stream_model.specs.View.{outputs_of}
+use Rattle.stream_model.specs.OneWay.{is_sink}
 use Rattle.stage_linear.specs.States.{IsLinear}
 use Rattle.stage_dropping.specs.Droppings.{Dropping}
 use Rattle.stage_dropping.specs.Recoverings.{Recover}
@@ -39,6 +38,7 @@ use Rattle.stage_out.specs.Machines.{IsMachines}
 use Rattle.stage_out.specs.OutLogics.{BeginsBalance, IsOut, OutLaw}
 use Rattle.stage_out.specs.OutLogics as fan_out
 use Rattle.stage_out.specs.Moves.{out_picks}
+use Rattle.graph_stage.specs.State.{CustomState}
 use Rattle.nodes.specs.Ignoring.{Ignorer}
 use Rattle.nodes.specs.Kinds.{IsMaker, maker_of, IsFileSink}
 use Rattle.nodes.specs.Keeping.{KeepsDrain, KeepsEnd}
@@ -58,6 +58,7 @@ use Rattle.run_laws.proofs.States.{led_machine}
 use Rattle.stream_model.specs.declared.blueprint.Node as blue
 use Rattle.blue_names.specs.Picks.{picks, is_merged}
 use Rattle.materializer.specs.Board.{switch_of}
+use Rattle.materializer.specs.Graphs.{Around}
 use Rattle.materializer.specs.Files.{source_file, output_of}
 use Rattle.materializer.specs.Seats.{IsWork, AreSeats}
 use Rattle.materializer.proofs.Placing.{reads_lines}
@@ -84,7 +85,7 @@ pub record HandlesBy {S D L B : Type 0} (shape : Kind) (x : IslandNode S D L B) 
 
 -- and all that its kind says
 pub record LeavesBy {S D L B : Type 0} (shape : Kind) (x : IslandNode S D L B) : Type 0 where
-  pub sinks : leaves_something (sink_of x) ≡ (outputs_of shape == 0)
+  pub sinks : leaves_something (sink_of x) ≡ is_sink shape
   pub picks : leaves_something (node_picks x) ≡ picks shape
   pub seats : leaves_something (node_seat x) ≡ is_some (switch_of shape)
   pub handles : HandlesBy shape x
@@ -156,6 +157,7 @@ module _ {S D L B : Type 0} (sources : S → SourceState) (drains : D → DrainS
   law_stays (node.Sub f) (node.Sub x) v took gave law = record { sinks = refl; picks = sub_stays f.logic.moves x.logic.moves law.chooses; seats = refl; handles = record { readers = refl; writers = refl }; ends = refl }
   law_stays (node.FanIn f) (node.FanIn x) v took gave law = record { sinks = refl; picks = in_stays f x law.same; seats = refl; handles = record { readers = refl; writers = refl }; ends = refl }
   law_stays (node.FanOut f) (node.FanOut x) v took gave law = record { sinks = refl; picks = out_stays f x v took gave law; seats = refl; handles = record { readers = refl; writers = refl }; ends = refl }
+  law_stays (node.Custom f) (node.Custom x) v took gave law = record { sinks = refl; picks = refl; seats = refl; handles = record { readers = refl; writers = refl }; ends = refl }
   law_stays (node.Writing f) (node.Writing x) v took gave law = record { sinks = refl; picks = refl; seats = refl; handles = record { readers = refl; writers = refl }; ends = refl }
   law_stays (node.Ignoring f) (node.Ignoring x) v took gave law = record { sinks = refl; picks = refl; seats = refl; handles = record { readers = refl; writers = refl }; ends = refl }
   law_stays (node.Entering f) (node.Entering x) v took gave law = record { sinks = refl; picks = refl; seats = refl; handles = record { readers = refl; writers = refl }; ends = refl }
@@ -184,6 +186,7 @@ module _ {S D L B : Type 0} where
   reader_end (node.Sub x) = refl
   reader_end (node.FanIn x) = refl
   reader_end (node.FanOut x) = refl
+  reader_end (node.Custom x) = refl
   reader_end (node.Writing x) = refl
   reader_end (node.Ignoring x) = refl
   reader_end (node.Entering x) = refl
@@ -197,6 +200,7 @@ module _ {S D L B : Type 0} where
   writer_end (node.Sub x) = refl
   writer_end (node.FanIn x) = refl
   writer_end (node.FanOut x) = refl
+  writer_end (node.Custom x) = refl
   writer_end (node.Writing x) = refl
   writer_end (node.Ignoring x) = refl
   writer_end (node.Entering x) = refl
@@ -232,9 +236,9 @@ module _ {S D L B : Type 0} (sources : S → SourceState) (drains : D → DrainS
 
 -- ---- kinds
 
--- a kind with some output and without a file
+-- a kind that is no sink and has no file
 record IsPlain (shape : Kind) : Type 0 where
-  sinks : (outputs_of shape == 0) ≡ false
+  sinks : is_sink shape ≡ false
   reads : is_some (source_file shape) ≡ false
   writes : is_some (output_of shape) ≡ false
 
@@ -285,23 +289,17 @@ fan_in_plain (kind.Merge n) h = record { sinks = refl; reads = refl; writes = re
 fan_in_plain (kind.MergeHub m n) h = record { sinks = refl; reads = refl; writes = refl }
 fan_in_plain _ h = absurd h
 
-some_outputs : (n : ℕ) → 2 ≤ n → (n == 0) ≡ false
-some_outputs n h = grind (arith, nat_tests, h)
-
-some_consumers : (n : ℕ) → 1 ≤ n → (n == 0) ≡ false
-some_consumers n h = grind (arith, nat_tests, h)
-
 fan_out_plain : (shape : Kind) → IsOut shape → IsPlain shape
-fan_out_plain (kind.Broadcast n) h = record { sinks = some_outputs n h.0; reads = refl; writes = refl }
-fan_out_plain (kind.BroadcastHub m n) h = record { sinks = some_consumers n h.0; reads = refl; writes = refl }
-fan_out_plain (kind.Partition n f) h = record { sinks = some_outputs n h.0; reads = refl; writes = refl }
+fan_out_plain (kind.Broadcast n) h = record { sinks = refl; reads = refl; writes = refl }
+fan_out_plain (kind.BroadcastHub m n) h = record { sinks = refl; reads = refl; writes = refl }
+fan_out_plain (kind.Partition n f) h = record { sinks = refl; reads = refl; writes = refl }
 fan_out_plain kind.Unzip h = record { sinks = refl; reads = refl; writes = refl }
-fan_out_plain (kind.Balance n) h = record { sinks = some_outputs n h.0; reads = refl; writes = refl }
+fan_out_plain (kind.Balance n) h = record { sinks = refl; reads = refl; writes = refl }
 fan_out_plain _ h = absurd h
 
 -- a sink with a file
 record IsFiled (shape : Kind) : Type 0 where
-  sinks : (outputs_of shape == 0) ≡ true
+  sinks : is_sink shape ≡ true
   picked : picks shape ≡ false
   shut : is_some (switch_of shape) ≡ false
   reads : is_some (source_file shape) ≡ false
@@ -477,7 +475,15 @@ module _ {S D L B : Type 0} where
 
   reading_leaves : (shape : Kind) (name : List ℕ) (y : Lines S) → shape ≡ kind.Lines name → LeavesBy {S = S} {D = D} {L = L} {B = B} shape (node.Reading y)
   reading_leaves shape name y e = record {
-    sinks = sym (ap (λ (t : Kind). outputs_of t == 0) e);
+    sinks = sym (ap is_sink e);
+    picks = sym (ap picks e);
+    seats = sym (ap (λ (t : Kind). is_some (switch_of t)) e);
+    handles = record { readers = sym (ap (λ (t : Kind). is_some (source_file t)) e); writers = sym (ap (λ (t : Kind). is_some (output_of t)) e) };
+  }
+
+  custom_leaves : (shape : Kind) (name : List ℕ) (y : CustomState) → shape ≡ kind.Custom name → LeavesBy {S = S} {D = D} {L = L} {B = B} shape (node.Custom y)
+  custom_leaves shape name y e = record {
+    sinks = sym (ap is_sink e);
     picks = sym (ap picks e);
     seats = sym (ap (λ (t : Kind). is_some (switch_of t)) e);
     handles = record { readers = sym (ap (λ (t : Kind). is_some (source_file t)) e); writers = sym (ap (λ (t : Kind). is_some (output_of t)) e) };
@@ -485,7 +491,7 @@ module _ {S D L B : Type 0} where
 
   ignoring_leaves : (shape : Kind) (y : Ignorer) → shape ≡ kind.Ignore → LeavesBy {S = S} {D = D} {L = L} {B = B} shape (node.Ignoring y)
   ignoring_leaves shape y e = record {
-    sinks = sym (ap (λ (t : Kind). outputs_of t == 0) e);
+    sinks = sym (ap is_sink e);
     picks = sym (ap picks e);
     seats = sym (ap (λ (t : Kind). is_some (switch_of t)) e);
     handles = record { readers = sym (ap (λ (t : Kind). is_some (source_file t)) e); writers = sym (ap (λ (t : Kind). is_some (output_of t)) e) };
@@ -494,30 +500,31 @@ module _ {S D L B : Type 0} where
   writing_leaves : (shape : Kind) (y : Sink D) → IsFileSink shape → LeavesBy {S = S} {D = D} {L = L} {B = B} shape (node.Writing y)
   writing_leaves shape y is = let f = file_sink shape is in record { sinks = sym f.sinks; picks = sym f.picked; seats = sym f.shut; handles = record { readers = sym f.reads; writers = sym f.writes } }
 
-  work_leaves : (chains : List graph.Chain) (k m room : ℕ) (n : blue.Node) (ss : List S) (ds : List D) (w : Work S D L B) (x : IslandNode S D L B) → IsWork chains k n ss ds w → BecomesOf m room w x → LeavesBy n.kind x
-  work_leaves chains k m room n ss ds (work.Reading r) x is b = let l = reads_lines n.kind ss r.source is.source in subst (λ (y : IslandNode S D L B). LeavesBy n.kind y) (sym b) (reading_leaves n.kind l.0 _ l.1)
-  work_leaves chains k m room n ss ds (work.Making shape) x is b = let p = maker_plain n.kind is.is_maker in subst (λ (y : IslandNode S D L B). LeavesBy n.kind y) (sym b) (inner n.kind (node.Making (maker_of m shape)) refl refl refl (sym p.1) (sym (maker_unseated n.kind is.is_maker)) p.0)
-  work_leaves chains k m room n ss ds (work.Linear l) x is b = let p = linear_plain n.kind is.is_linear in subst (λ (y : IslandNode S D L B). LeavesBy n.kind y) (sym b) (inner n.kind (node.Linear l) refl refl refl (sym p.1) (sym (linear_unseated n.kind is.is_linear)) p.0)
-  work_leaves chains k m room n ss ds (work.State l) x is b =
+  work_leaves : (around : Around) (k m room : ℕ) (n : blue.Node) (ss : List S) (ds : List D) (w : Work S D L B) (x : IslandNode S D L B) → IsWork around k n ss ds w → BecomesOf m room w x → LeavesBy n.kind x
+  work_leaves around k m room n ss ds (work.Reading r) x is b = let l = reads_lines n.kind ss r.source is.source in subst (λ (y : IslandNode S D L B). LeavesBy n.kind y) (sym b) (reading_leaves n.kind l.0 _ l.1)
+  work_leaves around k m room n ss ds (work.Making shape) x is b = let p = maker_plain n.kind is.is_maker in subst (λ (y : IslandNode S D L B). LeavesBy n.kind y) (sym b) (inner n.kind (node.Making (maker_of m shape)) refl refl refl (sym p.1) (sym (maker_unseated n.kind is.is_maker)) p.0)
+  work_leaves around k m room n ss ds (work.Linear l) x is b = let p = linear_plain n.kind is.is_linear in subst (λ (y : IslandNode S D L B). LeavesBy n.kind y) (sym b) (inner n.kind (node.Linear l) refl refl refl (sym p.1) (sym (linear_unseated n.kind is.is_linear)) p.0)
+  work_leaves around k m room n ss ds (work.State l) x is b =
       subst (λ (y : IslandNode S D L B). LeavesBy n.kind y) (sym b) (inner n.kind (node.State l) refl refl refl (state_chooses k n.kind n.decider l is.begins.as_kind) (state_seats k n.kind n.decider l is.begins.as_kind) (state_plain n.kind is.is_state))
-  work_leaves chains k m room n ss ds (work.Sub l) x is b =
+  work_leaves around k m room n ss ds (work.Sub l) x is b =
       subst (λ (y : IslandNode S D L B). LeavesBy n.kind y) (sym b) (inner n.kind (node.Sub l) refl refl refl (sub_chooses k n.kind l.logic.chain l.logic is.begins.as_kind) (sym (sub_unseated n.kind is.is_sub)) (sub_plain n.kind is.is_sub))
-  work_leaves chains k m room n ss ds (work.FanIn l inputs) x is b =
+  work_leaves around k m room n ss ds (work.FanIn l inputs) x is b =
       subst (λ (y : IslandNode S D L B). LeavesBy n.kind y) (sym b) (inner n.kind (node.FanIn l) refl refl refl (fan_in_chooses n.kind l is.begins.takes) (sym (fan_in_unseated n.kind is.is_in)) (fan_in_plain n.kind is.is_in))
-  work_leaves chains k m room n ss ds (work.FanOut l outputs) x is b =
+  work_leaves around k m room n ss ds (work.FanOut l outputs) x is b =
       subst (λ (y : IslandNode S D L B). LeavesBy n.kind y) (sym b) (inner n.kind (node.FanOut l) refl refl refl (fan_out_chooses k n.kind l is.begins.as_kind) (sym (fan_out_unseated n.kind is.is_out)) (fan_out_plain n.kind is.is_out))
-  work_leaves chains k m room n ss ds (work.LaneIn u) x is b = absurd is
-  work_leaves chains k m room n ss ds (work.LaneOut u) x is b = absurd is
-  work_leaves chains k m room n ss ds (work.Writing shape (Some d)) x is b = subst (λ (y : IslandNode S D L B). LeavesBy n.kind y) (sym b) (writing_leaves n.kind _ is.is_sink)
-  work_leaves chains k m room n ss ds (work.Writing shape None) x is b = subst (λ (y : IslandNode S D L B). LeavesBy n.kind y) (sym b) (ignoring_leaves n.kind _ is.is_ignore)
+  work_leaves around k m room n ss ds (work.Custom l inputs outputs) x is b = subst (λ (y : IslandNode S D L B). LeavesBy n.kind y) (sym b) (custom_leaves n.kind is.0.is_custom.0 l is.0.is_custom.1)
+  work_leaves around k m room n ss ds (work.LaneIn u) x is b = absurd is
+  work_leaves around k m room n ss ds (work.LaneOut u) x is b = absurd is
+  work_leaves around k m room n ss ds (work.Writing shape (Some d)) x is b = subst (λ (y : IslandNode S D L B). LeavesBy n.kind y) (sym b) (writing_leaves n.kind _ is.is_sink)
+  work_leaves around k m room n ss ds (work.Writing shape None) x is b = subst (λ (y : IslandNode S D L B). LeavesBy n.kind y) (sym b) (ignoring_leaves n.kind _ is.is_ignore)
 
   -- a node that began as what was handed in for node j leaves what the kind of that says
-  pub seat_leaves : (chains : List graph.Chain) (k : ℕ) (ns : List blue.Node) (ss : List S) (ds : List D) (ps : List (Seated S D L B)) (j : ℕ) (n : blue.Node) (p : Seated S D L B) (x : IslandNode S D L B)
-      → AreSeats chains k ns ss ds ps → slice_get ns j ≡ Some n → slice_get ps j ≡ Some p → Becomes p x → LeavesBy n.kind x
-  seat_leaves chains k [] ss ds ps j n p x a en ep b = absurd cc
-  seat_leaves chains k (m ∷ ns) ss ds [] j n p x a en ep b = absurd a
-  seat_leaves chains k (m ∷ ns) ss ds (q ∷ ps) zero n p x a en ep b =
+  pub seat_leaves : (around : Around) (k : ℕ) (ns : List blue.Node) (ss : List S) (ds : List D) (ps : List (Seated S D L B)) (j : ℕ) (n : blue.Node) (p : Seated S D L B) (x : IslandNode S D L B)
+      → AreSeats around k ns ss ds ps → slice_get ns j ≡ Some n → slice_get ps j ≡ Some p → Becomes p x → LeavesBy n.kind x
+  seat_leaves around k [] ss ds ps j n p x a en ep b = absurd cc
+  seat_leaves around k (m ∷ ns) ss ds [] j n p x a en ep b = absurd a
+  seat_leaves around k (m ∷ ns) ss ds (q ∷ ps) zero n p x a en ep b =
       let e : m ≡ n = cc in
       let f : q ≡ p = cc in
-      subst (λ (z : blue.Node). LeavesBy z.kind x) e (work_leaves chains k q.node q.room m ss ds q.work x a.1.0 (subst (λ (z : Seated S D L B). Becomes z x) (sym f) b))
-  seat_leaves chains k (m ∷ ns) ss ds (q ∷ ps) (suc j) n p x a en ep b = seat_leaves chains (k + 1) ns _ _ ps j n p x a.1.1 en ep b
+      subst (λ (z : blue.Node). LeavesBy z.kind x) e (work_leaves around k q.node q.room m ss ds q.work x a.1.0 (subst (λ (z : Seated S D L B). Becomes z x) (sym f) b))
+  seat_leaves around k (m ∷ ns) ss ds (q ∷ ps) (suc j) n p x a en ep b = seat_leaves around (k + 1) ns _ _ ps j n p x a.1.1 en ep b

@@ -1,11 +1,11 @@
 -- The numbers of a blueprint's nodes, and lists read off others.
 use Rattle.std.specs.Prelude.{slice_get, All}
 use Rattle.std.proofs.Common.{◌≡◌, ℕ, zero, suc, ◌+◌, List, [], ◌∷◌, ◌++◌, length, map, Some, refl, ap, ◌∙◌, subst, arith}
-use Rattle.stream_model.specs.Graph as graph
 use Rattle.stream_model.specs.Composed.{count_from}
 use Rattle.interpreter.specs.Picks.{place_number}
 use Rattle.interpreter.specs.declared.parts.Seated.{Seated}
 use Rattle.stream_model.specs.declared.blueprint.Node as blue
+use Rattle.materializer.specs.Graphs.{Around}
 use Rattle.materializer.specs.Seats.{AreSeats}
 
 pub map_both : {X Y : Type 0} (f : X → Y) (xs ys : List X) → map f (xs ++ ys) ≡ map f xs ++ map f ys
@@ -37,8 +37,8 @@ each_both P (x ∷ xs) ys a b zero y e = a 0 y e
 each_both P (x ∷ xs) ys a b (suc k) y e = each_both P xs ys (λ j z f. a (suc j) z f) b k y e
 
 -- the nodes of a blueprint have their own numbers
-pub seat_numbers : {S D L B : Type 0} (chains : List graph.Chain) (k : ℕ) (ns : List blue.Node) (ss : List S) (ds : List D) (ps : List (Seated S D L B)) → AreSeats chains k ns ss ds ps → map place_number ps ≡ count_from k (length ps)
-seat_numbers chains k [] ss ds [] a = refl
-seat_numbers chains k [] ss ds (p ∷ ps) a = absurd a
-seat_numbers chains k (n ∷ ns) ss ds [] a = absurd a
-seat_numbers chains k (n ∷ ns) ss ds (p ∷ ps) a = ap (λ (j : ℕ). j ∷ map place_number ps) a.0 ∙ ap (λ l. k ∷ l) (seat_numbers chains (k + 1) ns _ _ ps a.1.1)
+pub seat_numbers : {S D L B : Type 0} (around : Around) (k : ℕ) (ns : List blue.Node) (ss : List S) (ds : List D) (ps : List (Seated S D L B)) → AreSeats around k ns ss ds ps → map place_number ps ≡ count_from k (length ps)
+seat_numbers around k [] ss ds [] a = refl
+seat_numbers around k [] ss ds (p ∷ ps) a = absurd a
+seat_numbers around k (n ∷ ns) ss ds [] a = absurd a
+seat_numbers around k (n ∷ ns) ss ds (p ∷ ps) a = ap (λ (j : ℕ). j ∷ map place_number ps) a.0 ∙ ap (λ l. k ∷ l) (seat_numbers around (k + 1) ns _ _ ps a.1.1)

@@ -71,6 +71,7 @@ node_stays sources drains book chains k n (node.State f) (node.State x) v took g
 node_stays sources drains book chains k n (node.Sub f) (node.Sub x) v took gave made law = tt
 node_stays sources drains book chains k n (node.FanIn f) (node.FanIn x) v took gave made law = tt
 node_stays sources drains book chains k n (node.FanOut f) (node.FanOut x) v took gave made law = tt
+node_stays sources drains book chains k n (node.Custom f) (node.Custom x) v took gave made law = tt
 node_stays sources drains book chains k n (node.Writing f) (node.Writing x) v took gave made law = tt
 node_stays sources drains book chains k n (node.Ignoring f) (node.Ignoring x) v took gave made law = tt
 node_stays sources drains book chains k n (node.Entering f) x v took gave made law = absurd made
@@ -134,9 +135,9 @@ module _ {S D L B : Type 0} (sources : S → SourceState) (drains : D → DrainS
       let n = mapped_from (λ (n : blue.Node). n.kind) b.nodes.items k shape kind_here in
       let x = mapped_from node_seat last k s seat_here in
       let f = beside last firsts k x.0 (sym as_many) x.1.0 in
-      let there : slice_get (graph_of b).nodes k ≡ Some (graph_node n.0) = mapped_there graph_node b.nodes.items k n.0 n.1.0 in
-      let keeps = run.keeps.each_node k (graph_node n.0) there in
-      let stays = node_stays sources drains book (graph_of b).chains k (graph_node n.0) keeps.first keeps.now _ _ _ (run.made k (graph_node n.0) keeps.first there keeps.first_at) keeps.law_holds in
+      let there : slice_get (graph_of b).nodes k ≡ Some (graph_node b.wires.items n.0) = mapped_there (graph_node b.wires.items) b.nodes.items k n.0 n.1.0 in
+      let keeps = run.keeps.each_node k (graph_node b.wires.items n.0) there in
+      let stays = node_stays sources drains book (graph_of b).chains k (graph_node b.wires.items n.0) keeps.first keeps.now _ _ _ (run.made k (graph_node b.wires.items n.0) keeps.first there keeps.first_at) keeps.law_holds in
       let first_is : keeps.first ≡ f.0 = let e : Some keeps.first ≡ Some f.0 = sym keeps.first_at ∙ first_at k ∙ f.1 in cc in
       let now_is : keeps.now ≡ x.0 = let e : Some keeps.now ≡ Some x.0 = sym keeps.now_at ∙ node_at k ∙ x.1.0 in cc in
       let began : IsSeatAt (switch_of shape) (switch_at board k) (node_seat keeps.first) =
@@ -185,7 +186,7 @@ same_settled kinds others f h same each all = λ k shape name here at_name.
       ),
     )
 
-kinds_same : (ns : List blue.Node) → map (λ (n : blue.Node). n.kind) ns ≡ map (λ (n : graph.Node). n.kind) (map graph_node ns)
+kinds_same : (ns : List blue.Node) → map (λ (n : blue.Node). n.kind) ns ≡ map (λ (n : graph.Node). n.kind) (map (graph_node b.wires.items) ns)
 kinds_same [] = refl
 kinds_same (n ∷ ns) = ap (λ (ks : List Kind). n.kind ∷ ks) (kinds_same ns)
 

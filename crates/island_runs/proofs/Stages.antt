@@ -16,7 +16,7 @@ use Rattle.interpreter.specs.Ways.{is_lane_in, is_lane_out, comes_in, goes_out}
 use Rattle.interpreter.specs.declared.parts.Link.{Link}
 use Rattle.interpreter.specs.declared.parts.Seated.{Seated}
 use Rattle.interpreter.specs.declared.parts.Work.{Work}
-use Rattle.interpreter.specs.declared.parts.Work.TheVariants.{Reading, Making, Linear, State, Sub, FanIn, FanOut, Writing, LaneIn, LaneOut}
+use Rattle.interpreter.specs.declared.parts.Work.TheVariants.{Reading, Making, Linear, State, Sub, FanIn, FanOut, Custom, Writing, LaneIn, LaneOut}
 use Rattle.island_parts.proofs.Wiring.{end_get}
 use Rattle.bodies_run.proofs.Becoming.{become_count}
 use Rattle.bodies_run.proofs.Ports.{ins_count, outs_count}
@@ -46,6 +46,7 @@ module _ {S D L B : Type 0} where
   out_work (Sub l) e = absurd cc
   out_work (FanIn l n) e = absurd cc
   out_work (FanOut l n) e = absurd cc
+  out_work (Custom l inputs outputs) e = absurd cc
   out_work (Writing k d) e = absurd cc
   out_work (LaneIn u) e = absurd cc
   out_work (LaneOut u) e = (refl, refl)
@@ -58,6 +59,7 @@ module _ {S D L B : Type 0} where
   in_work (Sub l) e = absurd cc
   in_work (FanIn l n) e = absurd cc
   in_work (FanOut l n) e = absurd cc
+  in_work (Custom l inputs outputs) e = absurd cc
   in_work (Writing k d) e = absurd cc
   in_work (LaneIn u) e = refl
   in_work (LaneOut u) e = absurd cc
@@ -70,6 +72,7 @@ module _ {S D L B : Type 0} where
   not_both (Sub l) e f = cc
   not_both (FanIn l n) e f = cc
   not_both (FanOut l n) e f = cc
+  not_both (Custom l inputs outputs) e f = cc
   not_both (Writing k d) e f = cc
   not_both (LaneIn u) e f = cc
   not_both (LaneOut u) e f = cc

@@ -25,7 +25,7 @@ use Rattle.interpreter.specs.declared.parts.Seated.{Seated}
 use Rattle.run_laws.specs.Account.{Account, IsStill}
 use Rattle.run_laws.specs.Pictures.{picture_counts}
 use Rattle.run_laws.specs.Runs.{IsRun}
-use Rattle.materializer.specs.Graphs.{graph_of, chains_of}
+use Rattle.materializer.specs.Graphs.{graph_of, around_of}
 use Rattle.materializer.specs.Seats.{AreSeats, place_seat, place_room}
 use Rattle.island_plans.specs.Rooms.{rooms_by}
 use Rattle.island_runs.proofs.Calm.{rooms_are}
@@ -49,7 +49,7 @@ is_so t h = cc
 pub left_seats : {S D L B : Type 0} (ws : List Edge) (near : ℕ → WireState) (last : List (IslandNode S D L B)) (e : IslandEnd S D) → IsLeftBy ws near last e → e.seats.items ≡ numbered_from 0 (map node_seat last)
 left_seats ws near last e l = l.seats ∙ seats_numbered 0 last
 
-module _ {S D L B : Type 0} (sources : S → SourceState) (drains : D → DrainState) (book : Book) (b : Blueprint) (ss : List S) (ds : List D) (nodes : List (Seated S D L B)) (seats : AreSeats (chains_of b) 0 b.nodes.items ss ds nodes) (many : length nodes ≡ length (graph_of b).nodes)
+module _ {S D L B : Type 0} (sources : S → SourceState) (drains : D → DrainState) (book : Book) (b : Blueprint) (ss : List S) (ds : List D) (nodes : List (Seated S D L B)) (seats : AreSeats (around_of b) 0 b.nodes.items ss ds nodes) (many : length nodes ≡ length (graph_of b).nodes)
     (acc : Account (IslandNode S D L B)) (last : List (IslandNode S D L B)) (left : AreLeft nodes acc last) (run : IsRun sources drains book (graph_of b) acc) where
   -- the account of the nodes alone
   abbrev alone : Account (IslandNode S D L B)

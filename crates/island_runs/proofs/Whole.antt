@@ -22,6 +22,7 @@ use Rattle.interpreter.specs.declared.island.IslandEnd.{IslandEnd}
 use Rattle.interpreter.specs.declared.parts.Seated.{Seated}
 use Rattle.stream_model.specs.declared.blueprint.Node as blue
 use Rattle.materializer.proofs.Placing.{seats_count}
+use Rattle.materializer.specs.Graphs.{Around}
 use Rattle.materializer.specs.Seats.{AreSeats}
 use Rattle.lane_core.specs.Bodies.{AllOf, EachOf}
 use Rattle.lane_core.specs.declared.crossing.Crossing.{Crossing}
@@ -154,16 +155,16 @@ module _ {S D L B : Type 0} (sources : S → SourceState) (drains : D → DrainS
 
   -- ---- the homes of what is left, and all of it in one
 
-  module _ (ns : List blue.Node) (ss : List S) (ds : List D) (seats : AreSeats g.chains 0 ns ss ds nodes) where
+  module _ (ns : List blue.Node) (ss : List S) (ds : List D) (around : Around) (seats : AreSeats around 0 ns ss ds nodes) where
     by_kind : (k : ℕ) (n : blue.Node) (x : IslandNode S D L B) → slice_get ns k ≡ Some n → slice_get last k ≡ Some x → LeavesBy n.kind x
     by_kind k n x en ex =
         let lt : k < length ns = slice_get_within ns k n en in
-        let s = there nodes k (subst (λ (i : ℕ). k < i) (sym (seats_count g.chains 0 ns ss ds nodes seats)) lt) in
+        let s = there nodes k (subst (λ (i : ℕ). k < i) (sym (seats_count around 0 ns ss ds nodes seats)) lt) in
         let b = node_began homes count ws nodes (net_of now) m.seated nets LeavesAs nodes_now stays last more r k s.0 x s.1 ex in
-        leaves_on n.kind b.first x (seat_leaves g.chains 0 ns ss ds nodes k n s.0 b.first seats en s.1 b.becomes) b.keeps
+        leaves_on n.kind b.first x (seat_leaves around 0 ns ss ds nodes k n s.0 b.first seats en s.1 b.becomes) b.keeps
 
     as_many : length last ≡ length ns
-    as_many = r.each_node ∙ (m.seated.each ∙ seats_count g.chains 0 ns ss ds nodes seats)
+    as_many = r.each_node ∙ (m.seated.each ∙ seats_count around 0 ns ss ds nodes seats)
 
     pub are_homes : (e : EndHomes) → AreEndHomes homes ns ws e → AreHomesOf w e
     are_homes e are = record {
@@ -179,12 +180,12 @@ module _ {S D L B : Type 0} (sources : S → SourceState) (drains : D → DrainS
     is_left x is = record {
       sinks = is.sinks ∙ sinks_behind last more lane_ends;
       picks = is.picks ∙ (ap (λ (l : List ℕ). picks_of l (last ++ more)) (map_both place_number nodes (ends_at (lanes_from homes 0 ws))) ∙ (picks_behind (map place_number nodes) (map place_number (ends_at {S = S} {D = D} {L = L} {B = B} (lanes_from homes 0 ws))) last more (length-map nodes place_number ∙ sym same) lane_ends
-          ∙ ap (λ (l : List ℕ). picks_of l last) (seat_numbers g.chains 0 ns ss ds nodes seats ∙ ap (count_from 0) (sym same))));
+          ∙ ap (λ (l : List ℕ). picks_of l last) (seat_numbers around 0 ns ss ds nodes seats ∙ ap (count_from 0) (sym same))));
       misfit = subst (λ (l : List ℕ). IsLeast (FindsMisfit l last) x.misfit) (seat_numbers g.chains 0 ns ss ds nodes seats ∙ ap (count_from 0) (sym same))
           (least_first last more (λ k y at. bare_misfit y (lane_ends k y at)) (map place_number nodes) (map place_number (ends_at {S = S} {D = D} {L = L} {B = B} (lanes_from homes 0 ws))) x.misfit (length-map nodes place_number ∙ sym same)
           (subst (λ (l : List ℕ). IsLeast (FindsMisfit l (last ++ more)) x.misfit) (map_both place_number nodes (ends_at (lanes_from homes 0 ws))) is.misfit));
       seats = is.seats ∙ (ap (λ (l : List ℕ). seats_of l (last ++ more)) (map_both place_number nodes (ends_at (lanes_from homes 0 ws))) ∙ (seats_behind (map place_number nodes) (map place_number (ends_at {S = S} {D = D} {L = L} {B = B} (lanes_from homes 0 ws))) last more (length-map nodes place_number ∙ sym same) lane_ends
-          ∙ ap (λ (l : List ℕ). seats_of l last) (seat_numbers g.chains 0 ns ss ds nodes seats ∙ ap (count_from 0) (sym same))));
+          ∙ ap (λ (l : List ℕ). seats_of l last) (seat_numbers around 0 ns ss ds nodes seats ∙ ap (count_from 0) (sym same))));
       wires = is.wires;
       readers = is.readers ∙ readers_behind last more lane_ends;
       writers = is.writers ∙ writers_behind last more lane_ends;

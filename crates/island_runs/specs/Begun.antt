@@ -6,7 +6,7 @@ use Rattle.stream_model.specs.declared.blueprint.Blueprint.{Blueprint}
 use Rattle.stream_model.specs.declared.blueprint.Node.{Node}
 use Rattle.blue_check.specs.Fitness.{IsFit}
 use Rattle.blue_check.specs.Wires.{blueprint_wires}
-use Rattle.stream_model.specs.declared.head.PlugHead.{PlugHead}
+use Rattle.stream_model.specs.Known.{HeadLists}
 use Rattle.interpreter.specs.declared.parts.Seated.{Seated}
 use Rattle.blue_check.specs.Plan.{lanes_from}
 use Rattle.dispatcher.specs.Broken.{WholeOrBroken}
@@ -23,7 +23,7 @@ use Rattle.island_body.specs.Meeting.{BodiesMayMeet, BodiesJoined}
 use Rattle.island_body.specs.declared.body.Body.{Body}
 use Rattle.bodies_run.specs.Bodies.{AreBodiesOf}
 use Rattle.bodies_run.specs.Begun.{AreNumberedBodies, AreAligned}
-use Rattle.materializer.specs.Graphs.{graph_of, chains_of}
+use Rattle.materializer.specs.Graphs.{graph_of, around_of}
 use Rattle.materializer.specs.Seats.{AreSeats, place_seat, place_room}
 use Rattle.materializer.specs.Board.{IsBoard, AreAtSwitches}
 use Rattle.island_runs.specs.declared.run.Remains.{Remains}
@@ -34,15 +34,15 @@ module _ {S D L B : Type 0} (sources : S → SourceState) (drains : D → DrainS
   -- and these drains: they were made, and used no unit. These are the crossings of its lanes, and `r` has room for all that they leave,
   -- and the switches at which their seats are.
   pub record HaveBegun (bodies : List (Body S D L B)) (crossings : List Crossing) (r : Remains S D) : Type 0 where
-    pub plugs : List PlugHead
+    pub heads : HeadLists
     pub taken : List (List ℕ)
-    pub fit : IsFit b plugs taken
+    pub fit : IsFit b heads taken
     pub unread : All (λ s. (sources s).given ≡ 0) ss
     pub homes : List ℕ
     pub count : ℕ
     pub islands : AreNumberedHomes (length b.nodes.items) count (blueprint_wires b) homes
     pub nodes : List (Seated S D L B)
-    pub seats : AreSeats (chains_of b) 0 b.nodes.items ss ds nodes
+    pub seats : AreSeats (around_of b) 0 b.nodes.items ss ds nodes
     pub bodies_are : AreBodiesOf sources drains book (graph_of b) homes count (blueprint_wires b) nodes crossings bodies
     pub numbered : AreNumberedBodies homes (blueprint_wires b) nodes bodies
     pub unspent : AllOf (λ (x : Body S D L B). x.spent ≡ 0) bodies

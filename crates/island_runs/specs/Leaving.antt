@@ -24,7 +24,7 @@ use Rattle.run_laws.specs.Account.{Account, IsStill}
 use Rattle.run_laws.specs.Pictures.{picture_counts}
 use Rattle.run_laws.specs.Runs.{IsRun}
 use Rattle.run_laws.specs.Telling.{AreSettled}
-use Rattle.materializer.specs.Graphs.{graph_of, chains_of}
+use Rattle.materializer.specs.Graphs.{graph_of, around_of}
 use Rattle.materializer.specs.Seats.{AreSeats, gather_of}
 use Rattle.bodies_run.specs.Counts.{all_sent, taken_off}
 use Rattle.island_runs.specs.declared.run.Stopped.{Stopped}
@@ -37,7 +37,7 @@ use Rattle.stream_model.specs.Linear.{Book}
 pub record Moment {S D L B : Type 0} (sources : S → SourceState) (drains : D → DrainState) (book : Book) (b : Blueprint) (ss : List S) (ds : List D)
     (account : Account (IslandNode S D L B)) (nodes : List (IslandNode S D L B)) : Type 0 where
   pub places : List (Seated S D L B)
-  pub seats : AreSeats (chains_of b) 0 b.nodes.items ss ds places
+  pub seats : AreSeats (around_of b) 0 b.nodes.items ss ds places
   pub firsts : List (IslandNode S D L B)
   pub become : AllBecome places firsts
   pub first_at : (k : ℕ) → account.firsts k ≡ slice_get firsts k

@@ -19,7 +19,7 @@ ghost use Rattle.island_body.specs.Meeting.{BodiesJoined};
 ghost use Rattle.island_body.specs.declared.body.Body.{Body};
 ghost use Rattle.bodies_run.specs.Bodies.{net_of, AreBodiesOf, AreLastOf, AskedAre};
 ghost use Rattle.bodies_run.specs.Leaving.{account_in};
-ghost use Rattle.materializer.specs.Graphs.{graph_of, chains_of};
+ghost use Rattle.materializer.specs.Graphs.{graph_of, around_of};
 ghost use Rattle.materializer.specs.Seats.{AreSeats};
 ghost use Rattle.island_plans.specs.Making.{AreEndsOfBodies};
 ghost use Rattle.bodies_run.specs.Begun.{AreNumberedBodies, AreAligned};
@@ -50,14 +50,14 @@ pub fn bodies_leave_what_their_nodes_do<S: Source, D: Drain, L: Logic, B: PlugBo
         → AreBroughtBack homes count (blueprint_wires b) (λ k. (net_of now k).nodes) last more → AreEndsOfBodies now ends
         → AreEndsOf (whole_of homes (blueprint_wires b) nodes (account_in homes (blueprint_wires b) now all).near last more) ends }
     ensures homes { (b : Blueprint) (homes : List ℕ) (count : ℕ) (nodes : List (Seated S D L B)) (crossings : List Crossing) (begun now : List (Body S D L B))
-        (all : ℕ → ℕ) (last more : List (IslandNode S D L B)) (ss : List S) (ds : List D) (e : EndHomes) → AreSeats (chains_of b) 0 b.nodes.items ss ds nodes
+        (all : ℕ → ℕ) (last more : List (IslandNode S D L B)) (ss : List S) (ds : List D) (e : EndHomes) → AreSeats (around_of b) 0 b.nodes.items ss ds nodes
         → AreBodiesOf S.state D.state B.lists (graph_of b) homes count (blueprint_wires b) nodes crossings begun → EachOf BodyGoes begun now
         → AllOf (BodyKeeps S.state D.state B.lists) now → AreBroughtBack homes count (blueprint_wires b) (λ k. (net_of now k).nodes) last more
         → AreEndHomes homes b.nodes.items (blueprint_wires b) e
         → AreHomesOf (whole_of homes (blueprint_wires b) nodes (account_in homes (blueprint_wires b) now all).near last more) e }
     ensures left { (b : Blueprint) (homes : List ℕ) (count : ℕ) (nodes : List (Seated S D L B)) (crossings : List Crossing) (begun now : List (Body S D L B))
         (all : ℕ → ℕ) (last more : List (IslandNode S D L B)) (ss : List S) (ds : List D) (x : IslandEnd S D)
-        → AreSeats (chains_of b) 0 b.nodes.items ss ds nodes
+        → AreSeats (around_of b) 0 b.nodes.items ss ds nodes
         → AreBodiesOf S.state D.state B.lists (graph_of b) homes count (blueprint_wires b) nodes crossings begun → EachOf BodyGoes begun now
         → AllOf (BodyKeeps S.state D.state B.lists) now → AreBroughtBack homes count (blueprint_wires b) (λ k. (net_of now k).nodes) last more
         → IsWholeEnd (whole_of homes (blueprint_wires b) nodes (account_in homes (blueprint_wires b) now all).near last more) x
@@ -69,7 +69,7 @@ pub fn bodies_leave_what_their_nodes_do<S: Source, D: Drain, L: Logic, B: PlugBo
 pub fn broken_bodies_leave_their_handles<S: Source, D: Drain, L: Logic, B: PlugBook>()
     ensures { (b : Blueprint) (homes : List ℕ) (count : ℕ) (nodes : List (Seated S D L B)) (crossings : List Crossing) (begun now then : List (Body S D L B))
         (last more broken later : List (IslandNode S D L B)) (ss : List S) (ds : List D) (e : EndHomes) (ends : List (IslandEnd S D))
-        → AreSeats (chains_of b) 0 b.nodes.items ss ds nodes
+        → AreSeats (around_of b) 0 b.nodes.items ss ds nodes
         → AreBodiesOf S.state D.state B.lists (graph_of b) homes count (blueprint_wires b) nodes crossings begun
         → WholeOrBroken (BodyKeeps S.state D.state B.lists) BodyGoes (BodyBreaks S.state D.state B.lists) begun now
         → AreLastOf S.state D.state B.lists begun now then

@@ -5,10 +5,12 @@ ghost use Rattle.materializer.specs.Choosers.{PlansFit, moves_of};
 ghost use Rattle.materializer.specs.Fit.{CanRun};
 ghost use Rattle.island_plans.specs.Plans.{led_plans};
 ghost use Rattle.island_runs.specs.Prepared.{IsPrepared};
-ghost use Rattle.materializer.specs.HandedPlugs.{GivesAsListed, HasPlugs};
+ghost use Rattle.materializer.specs.HandedCustoms.{handed_heads, HasGuests};
+ghost use Rattle.materializer.specs.HandedPlugs.{GivesAsListed};
 
 use crate::begin_laws::filled_islands_are_seated;
 use elem_core::why::NoMemory;
+use graph_stage::custom::Custom;
 use interpreter::island::{Island, IslandEnd};
 use island_parts::room::EndRoom;
 use island_plans::lane_ends::{AllEnds, ends_of};
@@ -41,16 +43,18 @@ pub struct Prepared<S: Source, D: Drain, L: Logic, B: PlugBook> {
     pub(crate) counts: Vec<WireCount>,
 }
 
-/// Takes all memory that the run of a blueprint's islands wants before its files are opened, and hands each node that names a plug its
-/// own of `plugs`, and each that chooses its moves of `plans`, where there are some. A number that is out of 32 bits is want of memory.
+/// Takes all memory that the run of a blueprint's islands wants before its files are opened, and hands each node that names a plug or a custom
+/// stage its own of `plugs` and `customs`, and each that chooses its moves of `plans`, where there are some. A number that is out of 32 bits is
+/// want of memory.
 pub fn prepare<S: Source, D: Drain, L: Logic, B: PlugBook>(
     alloc: Global,
     b: Blueprint,
     plugs: Vec<Plug<L>>,
+    customs: Vec<Custom>,
     plans: Vec<Option<Vec<u32>>>,
 ) -> Result<Prepared<S, D, L, B>, NoMemory>
     requires runs { CanRun b }
-    requires has { HasPlugs (map (λ p. p.head) plugs.items) b.nodes.items }
+    requires has { HasGuests (handed_heads plugs.items customs.items) b.wires.items b.nodes.items }
     requires listed { All (GivesAsListed L.gives B.lists) plugs.items }
     requires follow { PlansFit (map (λ n. n.kind) b.nodes.items) (map moves_of plans.items) }
     ensures blueprint { IfOk result (λ p. p.plans.blueprint.value ≡ b) }
@@ -58,7 +62,7 @@ pub fn prepare<S: Source, D: Drain, L: Logic, B: PlugBook>(
     ensures led { IfOk result (λ p. led_plans p.plans ≡ map moves_of plans.items) }
 {
     filled_islands_are_seated::<S, D, L, B>();
-    let plans = plans_of(alloc, b, plugs, plans)?;
+    let plans = plans_of(alloc, b, plugs, customs, plans)?;
     let count = plans.count;
     let ends = ends_of(alloc, &plans.lanes, count)?;
     let bodies = BodyRoom::of(alloc, &plans.ends.wires, &plans.lanes, count)?;

@@ -11,7 +11,7 @@ use Rattle.plan_reader.specs.declared.plans.Chooser.{Chooser}
 use Rattle.plan_reader.specs.declared.plans.Shape.{Shape}
 use Rattle.materializer.specs.Choosers.{chooser_shape, with_chooser, choosers_in, first_moves, moves_behind, moves_of, plans_in}
 use Rattle.materializer.proofs.Choosing.{Chooses, StaysFree, chooses_or, if_true, if_false, mapped_length}
-use Rattle.materializer.proofs.HandingPlugs.{here}
+use Rattle.materializer.proofs.HandingGuests.{here}
 
 map_behind : {A B : Type 0} (f : A → B) (xs : List A) (x : A) → map f (xs ++ x ∷ []) ≡ map f xs ++ f x ∷ []
 map_behind f [] x = refl

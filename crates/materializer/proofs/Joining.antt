@@ -1,6 +1,6 @@
 -- A graph of whose ports none is missing, used twice or open is joined.
 use Rattle.std.proofs.Common.{◌≡◌, ℕ, zero, suc, ◌+◌, ◌<◌, Bool, true, false, not, is_none, ◌==◌, ◌&&◌, ◌||◌, List, [], ◌∷◌, map, Option, Some, None, refl, ap, sym, ◌∙◌, subst, ⊎_elim, arith}
-use Rattle.std.specs.Prelude.{slice_get}
+use Rattle.std.specs.Prelude.{slice_get, nat_le}
 use Rattle.std.specs.Option.{option_or, option_map}
 use Rattle.std.proofs.lemmas.Bool.{or_parts, eqb-true, eq-eqb, cases_Bool}
 use Rattle.std.proofs.lemmas.Bool.Decides.{nat_tests}
@@ -10,8 +10,11 @@ use Rattle.stream_model.specs.Graph as graph
 use Rattle.stream_model.specs.Composed.{inputs_of, count_from}
 use Rattle.stream_model.specs.View.{outputs_of}
 use Rattle.stream_model.specs.declared.blueprint.Node.{Node}
+use Rattle.stream_model.specs.declared.blueprint.WireDecl.{WireDecl}
+use Rattle.stream_model.specs.Known.{HeadLists}
+use Rattle.blue_names.specs.CustomPorts.{kind_inputs, kind_outputs, is_headless}
 use Rattle.blue_names.specs.First.{first_from, when}
-use Rattle.blue_names.specs.Ports.{port_missing, port_twice, port_open, is_port_number, lacks_output, lacks_input, open_input, open_output}
+use Rattle.blue_names.specs.Ports.{port_missing, port_twice, port_open, is_port_number, lacks_output, lacks_input, lacks_guest, open_input, open_output}
 use Rattle.materializer.specs.Graphs.{graph_node}
 use Rattle.stream_model.specs.Joined.{IsJoined}
 
@@ -38,7 +41,7 @@ pub not_when : {F : Type 0} (b : Bool) (x : F) → when b x ≡ None → b ≡ f
 not_when true x h = cc
 not_when false x h = refl
 
-not_false : (b : Bool) → not b ≡ false → b ≡ true
+pub not_false : (b : Bool) → not b ≡ false → b ≡ true
 not_false true h = refl
 not_false false h = absurd cc
 
@@ -50,7 +53,7 @@ mapped_from f [] i y h = absurd cc
 mapped_from f (x ∷ xs) zero y h = (x, (refl, cc))
 mapped_from f (x ∷ xs) (suc i) y h = mapped_from f xs i y h
 
-number_at : (k n p : ℕ) → p < n → slice_get (count_from k n) p ≡ Some (k + p)
+pub number_at : (k n p : ℕ) → p < n → slice_get (count_from k n) p ≡ Some (k + p)
 number_at k zero p h = absurd (omega arith)
 number_at k (suc n) zero h = let e : k ≡ k + 0 = omega arith in ap Some e
 number_at k (suc n) (suc p) h = let e : k + 1 + p ≡ k + suc p = omega arith in number_at (k + 1) n p (omega (arith, h)) ∙ ap Some e
@@ -77,70 +80,99 @@ is_it i k o e h = let t : (k == i) ≡ true = sym (ap (is_port_number i) e) ∙ 
 
 -- ---- ports that are there
 
-input_there : (o : Option Node) (p : ℕ) → lacks_input o p ≡ false → (n : Node) × ((o ≡ Some n) × (p < inputs_of n.kind))
-input_there None p h = absurd cc
-input_there (Some n) p h = (n, (refl, grind (arith, nat_tests, h)))
+below : (n p : ℕ) → nat_le n p ≡ false → p < n
+below n p h = grind (arith, nat_tests, h)
 
-output_there : (o : Option Node) (p : ℕ) → lacks_output o p ≡ false → (n : Node) × ((o ≡ Some n) × (p < outputs_of n.kind))
-output_there None p h = absurd cc
-output_there (Some n) p h = (n, (refl, grind (arith, nat_tests, h)))
+pub alone : (l q : Bool) → l ≡ false → (not l && q) ≡ false → q ≡ false
+alone true q e h = absurd cc
+alone false q e h = h
 
 is_found : (o : Option ℕ) → is_none o ≡ false → (i : ℕ) × (o ≡ Some i)
 is_found None h = absurd cc
 is_found (Some i) h = (i, refl)
 
-module _ (nodes : List Node) (ws : List Edge) (cs : List Chain) (missing : port_missing nodes ws ≡ None) (twice : port_twice ws ≡ None) (open_ : port_open nodes ws ≡ None) where
-  abbrev whole : Graph
-  whole = record { nodes = map graph_node nodes; wires = ws; chains = cs }
+-- where each custom stage that is named is handed in
+module _ (heads : HeadLists) (nodes : List Node) (ws : List Edge) (known : (k : ℕ) (n : Node) → slice_get nodes k ≡ Some n → is_headless heads n.kind ≡ false) where
+  guest_there : (k : ℕ) (o : Option Node) → slice_get nodes k ≡ o → lacks_guest heads o ≡ false
+  guest_there k None e = refl
+  guest_there k (Some n) e = known k n e
 
-  there : (i : ℕ) (v : Edge) → slice_get ws i ≡ Some v → (lacks_output (slice_get nodes v.from) v.output ≡ false) × (lacks_input (slice_get nodes v.to) v.input ≡ false)
-  there i v at =
-      let e = none_here (λ k w. when (lacks_output (slice_get nodes w.from) w.output || lacks_input (slice_get nodes w.to) w.input) k) ws i v missing at in
-      or_parts _ _ (not_when _ i e)
+  input_there : (k : ℕ) (o : Option Node) (p : ℕ) → slice_get nodes k ≡ o → lacks_input heads o p ≡ false → (n : Node) × ((o ≡ Some n) × (p < kind_inputs heads n.kind))
+  input_there k None p e h = absurd cc
+  input_there k (Some n) p e h = (n, (refl, below (kind_inputs heads n.kind) p (alone (is_headless heads n.kind) (nat_le (kind_inputs heads n.kind) p) (known k n e) h)))
 
-  once : (i : ℕ) (v : Edge) → slice_get ws i ≡ Some v → (not (is_port_number i (find_source v.from v.output ws)) ≡ false) × (not (is_port_number i (find_wire v.to v.input ws)) ≡ false)
-  once i v at =
-      let e = none_here (λ k w. when (not (is_port_number k (find_source w.from w.output ws)) || not (is_port_number k (find_wire w.to w.input ws))) k) ws i v twice at in
-      or_parts _ _ (not_when _ i e)
+  output_there : (k : ℕ) (o : Option Node) (p : ℕ) → slice_get nodes k ≡ o → lacks_output heads o p ≡ false → (n : Node) × ((o ≡ Some n) × (p < kind_outputs heads n.kind))
+  output_there k None p e h = absurd cc
+  output_there k (Some n) p e h = (n, (refl, below (kind_outputs heads n.kind) p (alone (is_headless heads n.kind) (nat_le (kind_outputs heads n.kind) p) (known k n e) h)))
 
-  closed : (k : ℕ) (n : Node) → slice_get nodes k ≡ Some n → (open_input k n ws ≡ None) × (open_output k n ws ≡ None)
-  closed k n at = both_none _ _ (none_here (λ i m. option_or (open_input i m ws) (open_output i m ws)) nodes k n open_ at)
+  module _ (missing : port_missing heads nodes ws ≡ None) (open_ : port_open heads nodes ws ≡ None) where
+    there : (i : ℕ) (v : Edge) → slice_get ws i ≡ Some v → (lacks_output heads (slice_get nodes v.from) v.output ≡ false) × (lacks_input heads (slice_get nodes v.to) v.input ≡ false)
+    there i v at =
+        let e = none_here (λ k w. when (lacks_output heads (slice_get nodes w.from) w.output || lacks_input heads (slice_get nodes w.to) w.input) k) ws i v missing at in
+        or_parts _ _ (not_when _ i e)
 
-  node_there : (k : ℕ) (n : Node) → slice_get nodes k ≡ Some n → slice_get (map graph_node nodes) k ≡ Some (graph_node n)
-  node_there k n at = slice_get-map graph_node nodes k ∙ ap (option_map graph_node) at
+    -- the node to which a wire leads, and that from which it comes, by the ports of their heads
+    pub target_port : (i : ℕ) (v : Edge) → slice_get ws i ≡ Some v → (n : Node) × ((slice_get nodes v.to ≡ Some n) × (v.input < kind_inputs heads n.kind))
+    target_port i v at = input_there v.to (slice_get nodes v.to) v.input refl (there i v at).1
 
-  target_there : (i : ℕ) (v : Edge) → slice_get ws i ≡ Some v → (n : graph.Node) × (slice_get (map graph_node nodes) v.to ≡ Some n) × (v.input < inputs_of n.kind) × (find_wire v.to v.input ws ≡ Some i)
-  target_there i v at =
-      let n = input_there (slice_get nodes v.to) v.input (there i v at).1 in
-      let f = found (λ w. w.to) (λ w. w.input) 0 ws i v at in
-      (graph_node n.0, node_there v.to n.0 n.1.0, n.1.1, is_it i f.0 (find_wire v.to v.input ws) f.1 (not_false _ (once i v at).1))
+    pub source_port : (i : ℕ) (v : Edge) → slice_get ws i ≡ Some v → (n : Node) × ((slice_get nodes v.from ≡ Some n) × (v.output < kind_outputs heads n.kind))
+    source_port i v at = output_there v.from (slice_get nodes v.from) v.output refl (there i v at).0
 
-  source_there : (i : ℕ) (v : Edge) → slice_get ws i ≡ Some v → (n : graph.Node) × (slice_get (map graph_node nodes) v.from ≡ Some n) × (v.output < outputs_of n.kind) × (find_source v.from v.output ws ≡ Some i)
-  source_there i v at =
-      let n = output_there (slice_get nodes v.from) v.output (there i v at).0 in
-      let f = found (λ w. w.from) (λ w. w.output) 0 ws i v at in
-      (graph_node n.0, node_there v.from n.0 n.1.0, n.1.1, is_it i f.0 (find_source v.from v.output ws) f.1 (not_false _ (once i v at).0))
+    closed : (k : ℕ) (n : Node) → slice_get nodes k ≡ Some n → (open_input heads k n ws ≡ None) × (open_output heads k n ws ≡ None)
+    closed k n at = both_none _ _ (none_here (λ i m. option_or (open_input heads i m ws) (open_output heads i m ws)) nodes k n open_ at)
 
-  input_wire : (k : ℕ) (n : Node) (p : ℕ) → slice_get nodes k ≡ Some n → p < inputs_of n.kind → (i : ℕ) × (find_wire k p ws ≡ Some i)
-  input_wire k n p at lt =
-      let e = none_at (λ _ q. when (is_none (find_wire k q ws)) (record { node = k; output = false; port = q })) 0 (count_from 0 (inputs_of n.kind)) p (0 + p) (closed k n at).0 (number_at 0 (inputs_of n.kind) p lt) in
-      let z : 0 + p ≡ p = omega arith in
-      is_found _ (subst (λ q. is_none (find_wire k q ws) ≡ false) z (not_when _ _ e))
+    pub input_wire : (k : ℕ) (n : Node) (p : ℕ) → slice_get nodes k ≡ Some n → p < kind_inputs heads n.kind → (i : ℕ) × (find_wire k p ws ≡ Some i)
+    input_wire k n p at lt =
+        let e = none_at (λ _ q. when (is_none (find_wire k q ws)) (record { node = k; output = false; port = q })) 0 (count_from 0 (kind_inputs heads n.kind)) p (0 + p) (closed k n at).0 (number_at 0 (kind_inputs heads n.kind) p lt) in
+        let z : 0 + p ≡ p = omega arith in
+        is_found _ (subst (λ q. is_none (find_wire k q ws) ≡ false) z (not_when _ _ e))
 
-  output_wire : (k : ℕ) (n : Node) (p : ℕ) → slice_get nodes k ≡ Some n → p < outputs_of n.kind → (i : ℕ) × (find_source k p ws ≡ Some i)
-  output_wire k n p at lt =
-      let e = none_at (λ _ q. when (is_none (find_source k q ws)) (record { node = k; output = true; port = q })) 0 (count_from 0 (outputs_of n.kind)) p (0 + p) (closed k n at).1 (number_at 0 (outputs_of n.kind) p lt) in
-      let z : 0 + p ≡ p = omega arith in
-      is_found _ (subst (λ q. is_none (find_source k q ws) ≡ false) z (not_when _ _ e))
+    pub output_wire : (k : ℕ) (n : Node) (p : ℕ) → slice_get nodes k ≡ Some n → p < kind_outputs heads n.kind → (i : ℕ) × (find_source k p ws ≡ Some i)
+    output_wire k n p at lt =
+        let e = none_at (λ _ q. when (is_none (find_source k q ws)) (record { node = k; output = true; port = q })) 0 (count_from 0 (kind_outputs heads n.kind)) p (0 + p) (closed k n at).1 (number_at 0 (kind_outputs heads n.kind) p lt) in
+        let z : 0 + p ≡ p = omega arith in
+        is_found _ (subst (λ q. is_none (find_source k q ws) ≡ false) z (not_when _ _ e))
 
-  pub joined : IsJoined whole
-  joined = record {
-    target = target_there;
-    source = source_there;
-    each_input = λ k m p at lt.
-        let n = mapped_from graph_node nodes k m at in
-        input_wire k n.0 p n.1.0 (subst (λ (x : graph.Node). p < inputs_of x.kind) (sym n.1.1) lt);
-    each_output = λ k m p at lt.
-        let n = mapped_from graph_node nodes k m at in
-        output_wire k n.0 p n.1.0 (subst (λ (x : graph.Node). p < outputs_of x.kind) (sym n.1.1) lt);
-  }
+    -- where the ports of each node are those that the wires use too
+    module _ (ds : List WireDecl) (cs : List Chain) (twice : port_twice heads nodes ws ≡ None)
+        (ins : (k : ℕ) (n : Node) → slice_get nodes k ≡ Some n → kind_inputs heads n.kind ≡ inputs_of (graph_node ds n))
+        (outs : (k : ℕ) (n : Node) → slice_get nodes k ≡ Some n → kind_outputs heads n.kind ≡ outputs_of (graph_node ds n)) where
+      abbrev whole : Graph
+      whole = record { nodes = map (graph_node ds) nodes; wires = ws; chains = cs }
+
+      once : (i : ℕ) (v : Edge) → slice_get ws i ≡ Some v → (not (is_port_number i (find_source v.from v.output ws)) ≡ false) × (not (is_port_number i (find_wire v.to v.input ws)) ≡ false)
+      once i v at =
+          let e = none_here
+          (λ k w. when ((not (lacks_guest heads (slice_get nodes w.from)) && not (is_port_number k (find_source w.from w.output ws))) || (not (lacks_guest heads (slice_get nodes w.to)) && not (is_port_number k (find_wire w.to w.input ws)))) k)
+          ws i v twice at in
+          let both = or_parts _ _ (not_when _ i e) in (
+            alone (lacks_guest heads (slice_get nodes v.from)) (not (is_port_number i (find_source v.from v.output ws))) (guest_there v.from (slice_get nodes v.from) refl) both.0,
+            alone (lacks_guest heads (slice_get nodes v.to)) (not (is_port_number i (find_wire v.to v.input ws))) (guest_there v.to (slice_get nodes v.to) refl) both.1,
+          )
+
+      node_there : (k : ℕ) (n : Node) → slice_get nodes k ≡ Some n → slice_get (map (graph_node ds) nodes) k ≡ Some (graph_node ds n)
+      node_there k n at = slice_get-map (graph_node ds) nodes k ∙ ap (option_map (graph_node ds)) at
+
+      target_there : (i : ℕ) (v : Edge) → slice_get ws i ≡ Some v → (n : graph.Node) × (slice_get (map (graph_node ds) nodes) v.to ≡ Some n) × (v.input < inputs_of n) × (find_wire v.to v.input ws ≡ Some i)
+      target_there i v at =
+          let n = target_port i v at in
+          let f = found (λ w. w.to) (λ w. w.input) 0 ws i v at in
+          (graph_node ds n.0, node_there v.to n.0 n.1.0, subst (λ m. v.input < m) (ins v.to n.0 n.1.0) n.1.1, is_it i f.0 (find_wire v.to v.input ws) f.1 (not_false _ (once i v at).1))
+
+      source_there : (i : ℕ) (v : Edge) → slice_get ws i ≡ Some v → (n : graph.Node) × (slice_get (map (graph_node ds) nodes) v.from ≡ Some n) × (v.output < outputs_of n) × (find_source v.from v.output ws ≡ Some i)
+      source_there i v at =
+          let n = source_port i v at in
+          let f = found (λ w. w.from) (λ w. w.output) 0 ws i v at in
+          (graph_node ds n.0, node_there v.from n.0 n.1.0, subst (λ m. v.output < m) (outs v.from n.0 n.1.0) n.1.1, is_it i f.0 (find_source v.from v.output ws) f.1 (not_false _ (once i v at).0))
+
+      pub joined : IsJoined whole
+      joined = record {
+        target = target_there;
+        source = source_there;
+        each_input = λ k m p at lt.
+            let n = mapped_from (graph_node ds) nodes k m at in
+            input_wire k n.0 p n.1.0 (subst (λ c. p < c) (sym (ins k n.0 n.1.0)) (subst (λ (x : graph.Node). p < inputs_of x) (sym n.1.1) lt));
+        each_output = λ k m p at lt.
+            let n = mapped_from (graph_node ds) nodes k m at in
+            output_wire k n.0 p n.1.0 (subst (λ c. p < c) (sym (outs k n.0 n.1.0)) (subst (λ (x : graph.Node). p < outputs_of x) (sym n.1.1) lt));
+      }

@@ -38,13 +38,13 @@ use Rattle.line_chain.specs.Line.{Line, IsLine, line_rest, line_is_open}
 use Rattle.nodes.specs.Kinds.{IsMaker, IsFileSink}
 use Rattle.run_laws.specs.Made.{LedAs, chain_name}
 use Rattle.stream_model.specs.Graph.{steps_of}
-use Rattle.stream_model.specs.Graph as graph
 use Rattle.stream_model.specs.declared.blueprint.Node.{Node}
 use Rattle.interpreter.specs.declared.parts.Work.{Work}
 use Rattle.interpreter.specs.declared.parts.Work.TheVariants as work
 use Rattle.materializer.specs.Choosers.{KindMayFollow, moves_of, PlanFits, PlansFit}
-use Rattle.materializer.specs.Planned.{IsPlanned, IsLedPlan, plan_of_planned, seat_of_plan, PlannedMayFollow, PlannedFollows}
-use Rattle.materializer.specs.Seats.{IsFreeWork, IsLedWork, work_plan, work_seat, WorkMayFollow, WorkFollows}
+use Rattle.materializer.specs.Graphs.{Around}
+use Rattle.materializer.specs.Planned.{IsPlanned, IsFreePlan, IsLedPlan, plan_of_planned, seat_of_plan, PlannedMayFollow, PlannedFollows}
+use Rattle.materializer.specs.Seats.{IsFreeWork, IsLedWork, HasUsedPorts, work_plan, work_seat, WorkMayFollow, WorkFollows}
 use Rattle.materializer.specs.declared.seats.Planned.{Planned}
 use Rattle.materializer.specs.declared.seats.Planned.TheVariants.{Reads, Writes, Works}
 use Rattle.materializer.proofs.SubPlaces.{sub_chain}
@@ -223,57 +223,65 @@ state_bare kd node d (Machine l) b = refl
 state_bare kd node d (Tripping l) b = refl
 state_bare kd node d l b = absurd b
 
-module _ {S D L B : Type 0} (chains : List graph.Chain) (k : ℕ) (n : Node) where
+module _ {S D L B : Type 0} (around : Around) (k : ℕ) (n : Node) where
   -- no moves
-  bare_work : (w : Work S D L B) → IsFreeWork chains k n.kind n.decider w → work_plan w ≡ None
+  bare_work : (w : Work S D L B) → IsFreeWork around.chains k n.kind n.decider w → work_plan w ≡ None
   bare_work (work.State l) is = state_bare n.kind k n.decider l is.begins.as_kind
   bare_work (work.FanIn l inputs) is = is.free
   bare_work (work.FanOut l outputs) is = is.free
   bare_work (work.Making shape) is = refl
   bare_work (work.Linear l) is = refl
   bare_work (work.Sub l) is = ap (plan_of (made_moves l)) is.free
+  bare_work (work.Custom x inputs outputs) is = refl
   bare_work (work.Writing shape None) is = refl
   bare_work w is = absurd is
 
-  pub bare_plan : (p : Planned S D L B) → IsPlanned chains k n p → plan_of_planned p ≡ None
+  pub bare_plan : (p : Planned S D L B) → IsFreePlan around.chains k n p → plan_of_planned p ≡ None
   bare_plan Reads is = refl
   bare_plan (Writes shape) is = refl
-  bare_plan (Works w) is = bare_work w is.work
+  bare_plan (Works w) is = bare_work w is
 
-  led_work : (w : Work S D L B) → IsFreeWork chains k n.kind n.decider w → IsLedWork chains k n.kind n.decider w
+  -- what is planned is so whatever wires there are
+  pub free_plan : (p : Planned S D L B) → IsPlanned around k n p → IsFreePlan around.chains k n p
+  free_plan Reads is = is
+  free_plan (Writes shape) is = is
+  free_plan (Works w) is = is.work
+
+  led_work : (w : Work S D L B) → IsFreeWork around.chains k n.kind n.decider w → IsLedWork around.chains k n.kind n.decider w
   led_work (work.State l) is = record { is_state = is.is_state; begins = record { as_kind = led_as n.kind k n.decider l is.begins.as_kind; fresh = is.begins.fresh } }
   led_work (work.Sub l) is = record { is_sub = is.is_sub; begins = is.begins; line = is.line }
   led_work (work.FanIn l inputs) is = record { is_in = is.is_in; begins = is.begins; inputs_are = is.inputs_are }
   led_work (work.FanOut l outputs) is = record { is_out = is.is_out; begins = is.begins; outputs_are = is.outputs_are }
   led_work w is = is
 
-  led_plan : (p : Planned S D L B) → IsPlanned chains k n p → IsLedPlan chains k n p
+  led_plan : (p : Planned S D L B) → IsPlanned around k n p → IsLedPlan around k n p
   led_plan Reads is = is
   led_plan (Writes shape) is = is
-  led_plan (Works w) is = record { work = led_work w is.work; no_input = is.no_input; no_output = is.no_output }
+  led_plan (Works w) is = record { work = led_work w is.work; ports = is.ports; no_input = is.no_input; no_output = is.no_output }
 
   -- some moves
-  work_may : (w : Work S D L B) (moves : List ℕ) → IsFreeWork chains k n.kind n.decider w → KindMayFollow n.kind moves → WorkMayFollow moves w
+  work_may : (w : Work S D L B) (moves : List ℕ) → IsFreeWork around.chains k n.kind n.decider w → KindMayFollow n.kind moves → WorkMayFollow moves w
   work_may (work.State l) moves is may = state_may n.kind k n.decider l moves is.is_state is.begins.as_kind may
   work_may (work.Sub l) moves is may = sub_may n.kind k l.logic.chain l.logic moves is.begins.as_kind may
   work_may (work.FanIn l inputs) moves is may = in_may n.kind k n.decider l moves is.is_in is.begins may
   work_may (work.FanOut l outputs) moves is may = out_may n.kind k l moves is.is_out is.begins may
   work_may (work.Making shape) moves is may = absurd (maker_free n.kind moves is.is_maker may)
   work_may (work.Linear l) moves is may = absurd (linear_free n.kind moves is.is_linear may)
+  work_may (work.Custom x inputs outputs) moves is may = absurd (subst (λ (t : Kind). KindMayFollow t moves) is.is_custom.1 may)
   work_may (work.Writing shape None) moves is may = absurd (subst (λ (t : Kind). KindMayFollow t moves) is.is_ignore may)
   work_may w moves is may = absurd is
 
-  pub planned_may : (p : Planned S D L B) (moves : List ℕ) → IsPlanned chains k n p → KindMayFollow n.kind moves → PlannedMayFollow moves p
+  pub planned_may : (p : Planned S D L B) (moves : List ℕ) → IsFreePlan around.chains k n p → KindMayFollow n.kind moves → PlannedMayFollow moves p
   planned_may Reads moves is may = absurd (subst (λ (t : Kind). KindMayFollow t moves) is.kind_is may)
   planned_may (Writes shape) moves is may = absurd (file_sink_free n.kind moves is.is_sink may)
-  planned_may (Works w) moves is may = work_may w moves is.work may
+  planned_may (Works w) moves is may = work_may w moves is may
 
   -- what it is handed it may follow
-  pub led_may : (p : Planned S D L B) (moves : Option (Vec ℕ Global)) → IsPlanned chains k n p → PlanFits n.kind (moves_of moves) → IfSome moves (λ m. PlannedMayFollow m.items p × (vec_len m < 2 ^ 32))
+  pub led_may : (p : Planned S D L B) (moves : Option (Vec ℕ Global)) → IsFreePlan around.chains k n p → PlanFits n.kind (moves_of moves) → IfSome moves (λ m. PlannedMayFollow m.items p × (vec_len m < 2 ^ 32))
   led_may p None is fits = tt
   led_may p (Some m) is fits = (planned_may p m.items is fits.1, subst (λ (many : ℕ). many < 2 ^ 32) (sym m.ok.0) fits.0)
 
-  followed_work : (old new : Work S D L B) (moves : List ℕ) → IsFreeWork chains k n.kind n.decider old → WorkFollows moves old new → IsLedWork chains k n.kind n.decider new
+  followed_work : (old new : Work S D L B) (moves : List ℕ) → IsFreeWork around.chains k n.kind n.decider old → WorkFollows moves old new → IsLedWork around.chains k n.kind n.decider new
   followed_work (work.State l) (work.State m) moves is f = record { is_state = is.is_state; begins = record { as_kind = (state_leads n.kind k n.decider l m moves is.begins.as_kind f.0).as_kind; fresh = f.1 } }
   followed_work (work.Sub l) (work.Sub m) moves is f =
       let b = f.0 k n.kind l.logic.chain is.begins in
@@ -281,27 +289,35 @@ module _ {S D L B : Type 0} (chains : List graph.Chain) (k : ℕ) (n : Node) whe
       record {
         is_sub = is.is_sub;
         begins = subst (λ (c : Line). LedBegins line_rest line_is_open k n.kind c m) same b;
-        line = subst (IsLine k (steps_of (chain_name n.kind) chains)) same is.line;
+        line = subst (IsLine k (steps_of (chain_name n.kind) around.chains)) same is.line;
       }
   followed_work (work.FanIn l inputs) (work.FanIn m same) moves is f = record { is_in = is.is_in; begins = f.1.0 k n.kind n.decider is.begins; inputs_are = f.0 ∙ is.inputs_are }
   followed_work (work.FanOut l outputs) (work.FanOut m same) moves is f = record { is_out = is.is_out; begins = f.1.0 k n.kind is.begins; outputs_are = f.0 ∙ is.outputs_are }
   followed_work old new moves is f = absurd f
 
-  pub followed_plan : (old new : Planned S D L B) (moves : Option (List ℕ)) → IsPlanned chains k n old → PlannedFollows moves old new → IsLedPlan chains k n new
-  followed_plan old new None is f = subst (IsLedPlan chains k n) (sym f) (led_plan old is)
-  followed_plan (Works old) (Works new) (Some moves) is f = record { work = followed_work old new moves is.work f; no_input = is.no_input; no_output = is.no_output }
+  -- the ports of one that follows moves are those of its kind
+  followed_ports : (old new : Work S D L B) (moves : List ℕ) → WorkFollows moves old new → HasUsedPorts around.wires n new
+  followed_ports (work.State l) (work.State m) moves f = tt
+  followed_ports (work.Sub l) (work.Sub m) moves f = tt
+  followed_ports (work.FanIn l inputs) (work.FanIn m same) moves f = tt
+  followed_ports (work.FanOut l outputs) (work.FanOut m same) moves f = tt
+  followed_ports old new moves f = absurd f
+
+  pub followed_plan : (old new : Planned S D L B) (moves : Option (List ℕ)) → IsPlanned around k n old → PlannedFollows moves old new → IsLedPlan around k n new
+  followed_plan old new None is f = subst (IsLedPlan around k n) (sym f) (led_plan old is)
+  followed_plan (Works old) (Works new) (Some moves) is f = record { work = followed_work old new moves is.work f; ports = followed_ports old new moves f; no_input = is.no_input; no_output = is.no_output }
   followed_plan old new (Some moves) is f = absurd f
 
-  follows_work : (old new : Work S D L B) (moves : List ℕ) → IsFreeWork chains k n.kind n.decider old → WorkFollows moves old new → work_plan new ≡ Some moves
+  follows_work : (old new : Work S D L B) (moves : List ℕ) → IsFreeWork around.chains k n.kind n.decider old → WorkFollows moves old new → work_plan new ≡ Some moves
   follows_work (work.State l) (work.State m) moves is f = (state_leads n.kind k n.decider l m moves is.begins.as_kind f.0).plan
   follows_work (work.Sub l) (work.Sub m) moves is f = f.1
   follows_work (work.FanIn l inputs) (work.FanIn m same) moves is f = f.1.1
   follows_work (work.FanOut l outputs) (work.FanOut m same) moves is f = f.1.1
   follows_work old new moves is f = absurd f
 
-  pub follows_plan : (old new : Planned S D L B) (moves : Option (List ℕ)) → IsPlanned chains k n old → PlannedFollows moves old new → plan_of_planned new ≡ moves
+  pub follows_plan : (old new : Planned S D L B) (moves : Option (List ℕ)) → IsFreePlan around.chains k n old → PlannedFollows moves old new → plan_of_planned new ≡ moves
   follows_plan old new None is f = ap plan_of_planned f ∙ bare_plan old is
-  follows_plan (Works old) (Works new) (Some moves) is f = follows_work old new moves is.work f
+  follows_plan (Works old) (Works new) (Some moves) is f = follows_work old new moves is f
   follows_plan old new (Some moves) is f = absurd f
 
 -- its seat at its switch stays

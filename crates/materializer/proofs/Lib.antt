@@ -1,6 +1,6 @@
 pub mod Finding
 pub mod Naming
-pub mod HandingPlugs
+pub mod HandingGuests
 pub mod Places
 pub mod Sitting
 pub mod Dealt
@@ -8,6 +8,8 @@ pub mod Settled
 pub mod Put
 pub mod Ranking
 pub mod Joining
+pub mod Facts
+pub mod Used
 pub mod Fitting
 pub mod Placing
 pub mod Linking
@@ -16,7 +18,7 @@ pub mod Handing
 pub mod Rooms
 pub mod SeatLoops
 pub mod Switches
-pub mod Plugs
+pub mod Guests
 pub mod Filling
 pub mod Choosing
 pub mod ChooserLoops

@@ -5,7 +5,7 @@ use Rattle.std.proofs.lemmas.Bool.{and_parts, eqb-true, cases_Bool, cond-true, c
 use Rattle.std.proofs.lemmas.List.{length-map}
 use Rattle.std.specs.Option.{option_map}
 use Rattle.std.proofs.lemmas.Option.{slice_get_within, slice_get-map}
-use Rattle.stream_model.specs.Graph.{Graph, Edge, Chain, find_by, find_wire, find_source}
+use Rattle.stream_model.specs.Graph.{Graph, Edge, find_by, find_wire, find_source}
 use Rattle.stream_model.specs.Graph as graph
 use Rattle.stream_model.specs.Composed.{inputs_of}
 use Rattle.stream_model.specs.View.{outputs_of}
@@ -14,7 +14,7 @@ use Rattle.fused_net.specs.Net.{end_at}
 use Rattle.interpreter.specs.declared.parts.Seated.{Seated}
 use Rattle.interpreter.specs.Parts.{inputs_at, outputs_at, IsWiring}
 use Rattle.stream_model.specs.declared.blueprint.Node.{Node}
-use Rattle.materializer.specs.Graphs.{graph_node}
+use Rattle.materializer.specs.Graphs.{Around, graph_node}
 use Rattle.stream_model.specs.Joined.{IsJoined}
 use Rattle.materializer.specs.Seats.{AreSeats}
 use Rattle.materializer.proofs.Joining.{mapped_from}
@@ -56,45 +56,45 @@ at_port place port a b n (w ∷ ws) k h =
     record { at = suc r.at; wire = r.wire; is = r.is; number = let e : k ≡ n + 1 + r.at = r.number in omega (arith, e); place_is = r.place_is; port_is = r.port_is })
     (cases_Bool ((place w == a) && (port w == b)))
 
-module _ {S D L B : Type 0} (nodes : List Node) (ws : List Edge) (cs : List Chain) (ss : List S) (ds : List D) (places : List (Seated S D L B))
-    (j : IsJoined (record { nodes = map graph_node nodes; wires = ws; chains = cs })) (a : AreSeats cs 0 nodes ss ds places) where
+module _ {S D L B : Type 0} (nodes : List Node) (ws : List Edge) (around : Around) (ss : List S) (ds : List D) (places : List (Seated S D L B))
+    (j : IsJoined (record { nodes = map (graph_node around.wires) nodes; wires = ws; chains = around.chains })) (a : AreSeats around 0 nodes ss ds places) where
   abbrev ends : List WireEnds
   ends = map wire_ends ws
 
   wire_of : (i : ℕ) → i < length ends → (v : Edge) × (slice_get ws i ≡ Some v)
   wire_of i h = let e : length ends ≡ length ws = length-map ws wire_ends in some_at ws i (omega (arith, h, e))
 
-  is_place : (k : ℕ) (n : graph.Node) → slice_get (map graph_node nodes) k ≡ Some n → k < length places
+  is_place : (k : ℕ) (n : graph.Node) → slice_get (map (graph_node around.wires) nodes) k ≡ Some n → k < length places
   is_place k n at =
-      let lt : k < length (map graph_node nodes) = slice_get_within (map graph_node nodes) k n at in
-      let e : length (map graph_node nodes) ≡ length nodes = length-map nodes graph_node in
-      let c : length places ≡ length nodes = seats_count cs 0 nodes ss ds places a in
+      let lt : k < length (map (graph_node around.wires) nodes) = slice_get_within (map (graph_node around.wires) nodes) k n at in
+      let e : length (map (graph_node around.wires) nodes) ≡ length nodes = length-map nodes (graph_node around.wires) in
+      let c : length places ≡ length nodes = seats_count around 0 nodes ss ds places a in
       omega (arith, lt, e, c)
 
   node_at : (k : ℕ) → k < length places → (n : Node) × (slice_get nodes k ≡ Some n)
-  node_at k h = let c : length places ≡ length nodes = seats_count cs 0 nodes ss ds places a in some_at nodes k (omega (arith, h, c))
+  node_at k h = let c : length places ≡ length nodes = seats_count around 0 nodes ss ds places a in some_at nodes k (omega (arith, h, c))
 
-  outputs_are : (k : ℕ) (n : graph.Node) → slice_get (map graph_node nodes) k ≡ Some n → outputs_at places k ≡ outputs_of n.kind
+  outputs_are : (k : ℕ) (n : graph.Node) → slice_get (map (graph_node around.wires) nodes) k ≡ Some n → outputs_at places k ≡ outputs_of n
   outputs_are k n at =
-      let m = mapped_from graph_node nodes k n at in
-      (seats_ports cs 0 nodes ss ds places k m.0 a m.1.0).1 ∙ ap (λ (x : graph.Node). outputs_of x.kind) m.1.1
+      let m = mapped_from (graph_node around.wires) nodes k n at in
+      (seats_ports around 0 nodes ss ds places k m.0 a m.1.0).1 ∙ ap (λ (x : graph.Node). outputs_of x) m.1.1
 
-  inputs_are : (k : ℕ) (n : graph.Node) → slice_get (map graph_node nodes) k ≡ Some n → inputs_at places k ≡ inputs_of n.kind
+  inputs_are : (k : ℕ) (n : graph.Node) → slice_get (map (graph_node around.wires) nodes) k ≡ Some n → inputs_at places k ≡ inputs_of n
   inputs_are k n at =
-      let m = mapped_from graph_node nodes k n at in
-      (seats_ports cs 0 nodes ss ds places k m.0 a m.1.0).0 ∙ ap (λ (x : graph.Node). inputs_of x.kind) m.1.1
+      let m = mapped_from (graph_node around.wires) nodes k n at in
+      (seats_ports around 0 nodes ss ds places k m.0 a m.1.0).0 ∙ ap (λ (x : graph.Node). inputs_of x) m.1.1
 
   from_ok : (i : ℕ) (v : Edge) → slice_get ws i ≡ Some v → (v.from < length places) × (v.output < outputs_at places v.from)
   from_ok i v at =
       let s = j.source i v at in
-      let o : outputs_at places v.from ≡ outputs_of s.0.kind = outputs_are v.from s.0 s.1 in
-      (is_place v.from s.0 s.1, let lt : v.output < outputs_of s.0.kind = s.2 in omega (arith, o, lt))
+      let o : outputs_at places v.from ≡ outputs_of s.0 = outputs_are v.from s.0 s.1 in
+      (is_place v.from s.0 s.1, let lt : v.output < outputs_of s.0 = s.2 in omega (arith, o, lt))
 
   to_ok : (i : ℕ) (v : Edge) → slice_get ws i ≡ Some v → (v.to < length places) × (v.input < inputs_at places v.to)
   to_ok i v at =
       let s = j.target i v at in
-      let o : inputs_at places v.to ≡ inputs_of s.0.kind = inputs_are v.to s.0 s.1 in
-      (is_place v.to s.0 s.1, let lt : v.input < inputs_of s.0.kind = s.2 in omega (arith, o, lt))
+      let o : inputs_at places v.to ≡ inputs_of s.0 = inputs_are v.to s.0 s.1 in
+      (is_place v.to s.0 s.1, let lt : v.input < inputs_of s.0 = s.2 in omega (arith, o, lt))
 
   -- a fact of a wire's ends
   by_wire : (P : WireEnds → Type 0) (i : ℕ) (v : Edge) → slice_get ws i ≡ Some v → P (wire_ends v) → P (end_at ends i)
@@ -132,8 +132,8 @@ module _ {S D L B : Type 0} (nodes : List Node) (ws : List Edge) (cs : List Chai
       let input : v.input ≡ u.input = meet _ _ _ _ (input_is i v vi) (input_is k u uk) o in
       same_found i k (find_wire v.to v.input ws) (find_wire u.to u.input ws) (j.target i v vi).3 (j.target k u uk).3 (ap (λ x. find_wire x v.input ws) to ∙ ap (λ x. find_wire u.to x ws) input)
 
-  node_there : (k : ℕ) (n : Node) → slice_get nodes k ≡ Some n → slice_get (map graph_node nodes) k ≡ Some (graph_node n)
-  node_there k n at = slice_get-map graph_node nodes k ∙ ap (option_map graph_node) at
+  node_there : (k : ℕ) (n : Node) → slice_get nodes k ≡ Some n → slice_get (map (graph_node around.wires) nodes) k ≡ Some (graph_node around.wires n)
+  node_there k n at = slice_get-map (graph_node around.wires) nodes k ∙ ap (option_map (graph_node around.wires)) at
 
   in_ends : (i : ℕ) (v : Edge) → slice_get ws i ≡ Some v → i < length ends
   in_ends i v at =
@@ -144,15 +144,15 @@ module _ {S D L B : Type 0} (nodes : List Node) (ws : List Edge) (cs : List Chai
   -- each port has a wire
   a_source : (k p : ℕ) (n : Node) → slice_get nodes k ≡ Some n → p < outputs_at places k → (i : ℕ) × ((i < length ends) × (((end_at ends i).from ≡ k) × ((end_at ends i).output ≡ p)))
   a_source k p n at lt =
-      let o : outputs_at places k ≡ outputs_of n.kind = (seats_ports cs 0 nodes ss ds places k n a at).1 in
-      let w = j.each_output k (graph_node n) p (node_there k n at) (omega (arith, lt, o)) in
+      let o : outputs_at places k ≡ outputs_of (graph_node around.wires n) = (seats_ports around 0 nodes ss ds places k n a at).1 in
+      let w = j.each_output k (graph_node around.wires n) p (node_there k n at) (omega (arith, lt, o)) in
       let q = at_port (λ x. x.from) (λ x. x.output) k p 0 ws w.0 w.1 in
       (q.at, (in_ends q.at q.wire q.is, (from_is q.at q.wire q.is ∙ q.place_is, output_is q.at q.wire q.is ∙ q.port_is)))
 
   a_target : (k p : ℕ) (n : Node) → slice_get nodes k ≡ Some n → p < inputs_at places k → (i : ℕ) × ((i < length ends) × (((end_at ends i).to ≡ k) × ((end_at ends i).input ≡ p)))
   a_target k p n at lt =
-      let o : inputs_at places k ≡ inputs_of n.kind = (seats_ports cs 0 nodes ss ds places k n a at).0 in
-      let w = j.each_input k (graph_node n) p (node_there k n at) (omega (arith, lt, o)) in
+      let o : inputs_at places k ≡ inputs_of (graph_node around.wires n) = (seats_ports around 0 nodes ss ds places k n a at).0 in
+      let w = j.each_input k (graph_node around.wires n) p (node_there k n at) (omega (arith, lt, o)) in
       let q = at_port (λ x. x.to) (λ x. x.input) k p 0 ws w.0 w.1 in
       (q.at, (in_ends q.at q.wire q.is, (to_is q.at q.wire q.is ∙ q.place_is, input_is q.at q.wire q.is ∙ q.port_is)))
 

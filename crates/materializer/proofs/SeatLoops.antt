@@ -2,9 +2,9 @@
 use Rattle.std.proofs.Common.{◌≡◌, ℕ, ◌+◌, ◌≤◌, Bool, true, List, [], ◌∷◌, ◌++◌, length, Option, Some, None, refl, sym, ap, ◌∙◌, subst, arith, append_assoc, append-nil, length-append}
 use Rattle.std.specs.List.{list_all}
 use Rattle.std.proofs.lemmas.Bool.{and_parts}
-use Rattle.stream_model.specs.Graph as graph
 use Rattle.interpreter.specs.declared.parts.Seated.{Seated}
 use Rattle.stream_model.specs.declared.blueprint.Node.{Node}
+use Rattle.materializer.specs.Graphs.{Around}
 use Rattle.materializer.specs.Files.{source_file, output_of}
 use Rattle.materializer.specs.Seats.{handles_left, IsWork, AreSeats}
 use Rattle.materializer.specs.Planned.{IsSeat, ArePlanned, Fills, reads, writes, reads_in, writes_in}
@@ -22,79 +22,79 @@ none_left_out (Some file) xs e = cc
 -- ---- seats, whose handles are not there yet
 
 module _ {S D L B : Type 0} (all : List Node) where
-  pub planned_start : (chains : List graph.Chain) (ns : List Node) (seats xs : List (Seat S D L B)) → ns ≡ all → seats ≡ [] → ArePlanned chains (length seats) ns xs → ArePlanned chains 0 all (seats ++ xs)
-  planned_start chains ns seats xs e none h =
-      let at_none : ArePlanned chains 0 ns xs = subst (λ (p : List (Seat S D L B)). ArePlanned chains (length p) ns xs) none h in
-      subst (λ (p : List (Seat S D L B)). ArePlanned chains 0 all (p ++ xs)) (sym none) (subst (λ n. ArePlanned chains 0 n xs) e at_none)
+  pub planned_start : (around : Around) (ns : List Node) (seats xs : List (Seat S D L B)) → ns ≡ all → seats ≡ [] → ArePlanned around (length seats) ns xs → ArePlanned around 0 all (seats ++ xs)
+  planned_start around ns seats xs e none h =
+      let at_none : ArePlanned around 0 ns xs = subst (λ (p : List (Seat S D L B)). ArePlanned around (length p) ns xs) none h in
+      subst (λ (p : List (Seat S D L B)). ArePlanned around 0 all (p ++ xs)) (sym none) (subst (λ n. ArePlanned around 0 n xs) e at_none)
 
   -- one seat more
-  pub planned_next : (chains : List graph.Chain) (n : Node) (old rest : List Node) (k : ℕ) (s : Seat S D L B) (was now : List (Seat S D L B)) → old ≡ n ∷ rest → k ≡ length was → IsSeat chains k n s → now ≡ was ++ s ∷ []
-      → ((xs : List (Seat S D L B)) → ArePlanned chains (length was) old xs → ArePlanned chains 0 all (was ++ xs)) → (xs : List (Seat S D L B)) → ArePlanned chains (length now) rest xs → ArePlanned chains 0 all (now ++ xs)
-  planned_next chains n old rest k s was now e at is more so xs h =
+  pub planned_next : (around : Around) (n : Node) (old rest : List Node) (k : ℕ) (s : Seat S D L B) (was now : List (Seat S D L B)) → old ≡ n ∷ rest → k ≡ length was → IsSeat around k n s → now ≡ was ++ s ∷ []
+      → ((xs : List (Seat S D L B)) → ArePlanned around (length was) old xs → ArePlanned around 0 all (was ++ xs)) → (xs : List (Seat S D L B)) → ArePlanned around (length now) rest xs → ArePlanned around 0 all (now ++ xs)
+  planned_next around n old rest k s was now e at is more so xs h =
       let size : length now ≡ length was + 1 = ap length more ∙ length-append was (s ∷ []) in
-      let later : ArePlanned chains (length was + 1) rest xs = subst (λ i. ArePlanned chains i rest xs) size h in
-      let here : IsSeat chains (length was) n s = subst (λ i. IsSeat chains i n s) at is in
-      let whole : ArePlanned chains (length was) old (s ∷ xs) = subst (λ r. ArePlanned chains (length was) r (s ∷ xs)) (sym e) (here, later) in
-      subst (λ l. ArePlanned chains 0 all l) (sym (ap (λ l. l ++ xs) more ∙ append_assoc was (s ∷ []) xs)) (so (s ∷ xs) whole)
+      let later : ArePlanned around (length was + 1) rest xs = subst (λ i. ArePlanned around i rest xs) size h in
+      let here : IsSeat around (length was) n s = subst (λ i. IsSeat around i n s) at is in
+      let whole : ArePlanned around (length was) old (s ∷ xs) = subst (λ r. ArePlanned around (length was) r (s ∷ xs)) (sym e) (here, later) in
+      subst (λ l. ArePlanned around 0 all l) (sym (ap (λ l. l ++ xs) more ∙ append_assoc was (s ∷ []) xs)) (so (s ∷ xs) whole)
 
   -- all of them
-  pub planned_end : (chains : List graph.Chain) (rest : List Node) (seats : List (Seat S D L B)) → rest ≡ [] → ((xs : List (Seat S D L B)) → ArePlanned chains (length seats) rest xs → ArePlanned chains 0 all (seats ++ xs)) → ArePlanned chains 0 all seats
-  planned_end chains rest seats e so =
-      subst (λ l. ArePlanned chains 0 all l) (append-nil seats) (so [] (subst (λ r. ArePlanned {S = S} {D = D} {L = L} {B = B} chains (length seats) r []) (sym e) tt))
+  pub planned_end : (around : Around) (rest : List Node) (seats : List (Seat S D L B)) → rest ≡ [] → ((xs : List (Seat S D L B)) → ArePlanned around (length seats) rest xs → ArePlanned around 0 all (seats ++ xs)) → ArePlanned around 0 all seats
+  planned_end around rest seats e so =
+      subst (λ l. ArePlanned around 0 all l) (append-nil seats) (so [] (subst (λ r. ArePlanned {S = S} {D = D} {L = L} {B = B} around (length seats) r []) (sym e) tt))
 
 -- where no seat is left there is no node left
-none_planned : {S D L B : Type 0} (chains : List graph.Chain) (k : ℕ) (rest : List Node) (none : List (Seat S D L B)) → none ≡ [] → ArePlanned chains k rest none → rest ≡ []
-none_planned chains k [] none e h = refl
-none_planned chains k (n ∷ ns) none e h = absurd (subst (λ l. ArePlanned chains k (n ∷ ns) l) e h)
+none_planned : {S D L B : Type 0} (around : Around) (k : ℕ) (rest : List Node) (none : List (Seat S D L B)) → none ≡ [] → ArePlanned around k rest none → rest ≡ []
+none_planned around k [] none e h = refl
+none_planned around k (n ∷ ns) none e h = absurd (subst (λ l. ArePlanned around k (n ∷ ns) l) e h)
 
 module _ {S D L B : Type 0} (all : List Node) (sources : List S) (drains : List D) where
   -- one place more
-  pub seats_next : (chains : List graph.Chain) (n : Node) (old rest : List Node) (ss later_ss : List S) (ds later_ds : List D) (k : ℕ) (p : Seated S D L B) (was now : List (Seated S D L B))
-      → old ≡ n ∷ rest → k ≡ length was → p.node ≡ k → IsWork chains k n ss ds p.work → later_ss ≡ handles_left (source_file n.kind) ss → later_ds ≡ handles_left (output_of n.kind) ds → now ≡ was ++ p ∷ []
-      → ((xs : List (Seated S D L B)) → AreSeats chains (length was) old ss ds xs → AreSeats chains 0 all sources drains (was ++ xs))
-      → (xs : List (Seated S D L B)) → AreSeats chains (length now) rest later_ss later_ds xs → AreSeats chains 0 all sources drains (now ++ xs)
-  seats_next chains n old rest ss later_ss ds later_ds k p was now e at node is s d more so xs h =
+  pub seats_next : (around : Around) (n : Node) (old rest : List Node) (ss later_ss : List S) (ds later_ds : List D) (k : ℕ) (p : Seated S D L B) (was now : List (Seated S D L B))
+      → old ≡ n ∷ rest → k ≡ length was → p.node ≡ k → IsWork around k n ss ds p.work → later_ss ≡ handles_left (source_file n.kind) ss → later_ds ≡ handles_left (output_of n.kind) ds → now ≡ was ++ p ∷ []
+      → ((xs : List (Seated S D L B)) → AreSeats around (length was) old ss ds xs → AreSeats around 0 all sources drains (was ++ xs))
+      → (xs : List (Seated S D L B)) → AreSeats around (length now) rest later_ss later_ds xs → AreSeats around 0 all sources drains (now ++ xs)
+  seats_next around n old rest ss later_ss ds later_ds k p was now e at node is s d more so xs h =
       let size : length now ≡ length was + 1 = ap length more ∙ length-append was (p ∷ []) in
-      let a : AreSeats chains (length was + 1) rest later_ss later_ds xs = subst (λ i. AreSeats chains i rest later_ss later_ds xs) size h in
-      let b : AreSeats chains (length was + 1) rest (handles_left (source_file n.kind) ss) later_ds xs = subst (λ x. AreSeats chains (length was + 1) rest x later_ds xs) s a in
-      let c : AreSeats chains (length was + 1) rest (handles_left (source_file n.kind) ss) (handles_left (output_of n.kind) ds) xs = subst (λ x. AreSeats chains (length was + 1) rest (handles_left (source_file n.kind) ss) x xs) d b in
-      let work : IsWork chains (length was) n ss ds p.work = subst (λ i. IsWork chains i n ss ds p.work) at is in
-      let whole : AreSeats chains (length was) old ss ds (p ∷ xs) = subst (λ r. AreSeats chains (length was) r ss ds (p ∷ xs)) (sym e) (node ∙ at, (work, c)) in
-      subst (λ l. AreSeats chains 0 all sources drains l) (sym (ap (λ l. l ++ xs) more ∙ append_assoc was (p ∷ []) xs)) (so (p ∷ xs) whole)
+      let a : AreSeats around (length was + 1) rest later_ss later_ds xs = subst (λ i. AreSeats around i rest later_ss later_ds xs) size h in
+      let b : AreSeats around (length was + 1) rest (handles_left (source_file n.kind) ss) later_ds xs = subst (λ x. AreSeats around (length was + 1) rest x later_ds xs) s a in
+      let c : AreSeats around (length was + 1) rest (handles_left (source_file n.kind) ss) (handles_left (output_of n.kind) ds) xs = subst (λ x. AreSeats around (length was + 1) rest (handles_left (source_file n.kind) ss) x xs) d b in
+      let work : IsWork around (length was) n ss ds p.work = subst (λ i. IsWork around i n ss ds p.work) at is in
+      let whole : AreSeats around (length was) old ss ds (p ∷ xs) = subst (λ r. AreSeats around (length was) r ss ds (p ∷ xs)) (sym e) (node ∙ at, (work, c)) in
+      subst (λ l. AreSeats around 0 all sources drains l) (sym (ap (λ l. l ++ xs) more ∙ append_assoc was (p ∷ []) xs)) (so (p ∷ xs) whole)
 
   -- all of them
-  pub seats_end : (chains : List graph.Chain) (rest : List Node) (ss : List S) (ds : List D) (places : List (Seated S D L B)) → rest ≡ [] → ((xs : List (Seated S D L B)) → AreSeats chains (length places) rest ss ds xs → AreSeats chains 0 all sources drains (places ++ xs)) → AreSeats chains 0 all sources drains places
-  seats_end chains rest ss ds places e so =
-      subst (λ l. AreSeats chains 0 all sources drains l) (append-nil places) (so [] (subst (λ r. AreSeats {S = S} {D = D} {L = L} {B = B} chains (length places) r ss ds []) (sym e) tt))
+  pub seats_end : (around : Around) (rest : List Node) (ss : List S) (ds : List D) (places : List (Seated S D L B)) → rest ≡ [] → ((xs : List (Seated S D L B)) → AreSeats around (length places) rest ss ds xs → AreSeats around 0 all sources drains (places ++ xs)) → AreSeats around 0 all sources drains places
+  seats_end around rest ss ds places e so =
+      subst (λ l. AreSeats around 0 all sources drains l) (append-nil places) (so [] (subst (λ r. AreSeats {S = S} {D = D} {L = L} {B = B} around (length places) r ss ds []) (sym e) tt))
 
   -- the seats that are left are those of the nodes that are left, and behind the places that there are they complete all
-  pub record FillsRest (chains : List graph.Chain) (seats : List (Seat S D L B)) (ss : List S) (ds : List D) (places : List (Seated S D L B)) : Type 0 where
+  pub record FillsRest (around : Around) (seats : List (Seat S D L B)) (ss : List S) (ds : List D) (places : List (Seated S D L B)) : Type 0 where
     pub rest : List Node
-    pub planned : ArePlanned chains (length places) rest seats
-    pub so : (xs : List (Seated S D L B)) → AreSeats chains (length places) rest ss ds xs → AreSeats chains 0 all sources drains (places ++ xs)
+    pub planned : ArePlanned around (length places) rest seats
+    pub so : (xs : List (Seated S D L B)) → AreSeats around (length places) rest ss ds xs → AreSeats around 0 all sources drains (places ++ xs)
 
-  pub fills_first : (chains : List graph.Chain) (seats : List (Seat S D L B)) (ss : List S) (ds : List D) (places : List (Seated S D L B)) → ss ≡ sources → ds ≡ drains → places ≡ [] → ArePlanned chains 0 all seats → FillsRest chains seats ss ds places
-  fills_first chains seats ss ds places s d none h =
+  pub fills_first : (around : Around) (seats : List (Seat S D L B)) (ss : List S) (ds : List D) (places : List (Seated S D L B)) → ss ≡ sources → ds ≡ drains → places ≡ [] → ArePlanned around 0 all seats → FillsRest around seats ss ds places
+  fills_first around seats ss ds places s d none h =
       rw (s, d, none) (record { rest = all; planned = h; so = λ xs a. a })
 
-  fills_with : (chains : List graph.Chain) (rest : List Node) (s : Seat S D L B) (later : List (Seat S D L B)) (ss later_ss : List S) (ds later_ds : List D) (p : Seated S D L B) (was now : List (Seated S D L B)) → ArePlanned chains (length was) rest (s ∷ later) → Fills chains s ss ds p later_ss later_ds → now ≡ was ++ p ∷ []
-      → ((xs : List (Seated S D L B)) → AreSeats chains (length was) rest ss ds xs → AreSeats chains 0 all sources drains (was ++ xs)) → FillsRest chains later later_ss later_ds now
-  fills_with chains [] s later ss later_ss ds later_ds p was now h fills more so = absurd h
-  fills_with chains (n ∷ ns) s later ss later_ss ds later_ds p was now h fills more so =
+  fills_with : (around : Around) (rest : List Node) (s : Seat S D L B) (later : List (Seat S D L B)) (ss later_ss : List S) (ds later_ds : List D) (p : Seated S D L B) (was now : List (Seated S D L B)) → ArePlanned around (length was) rest (s ∷ later) → Fills around s ss ds p later_ss later_ds → now ≡ was ++ p ∷ []
+      → ((xs : List (Seated S D L B)) → AreSeats around (length was) rest ss ds xs → AreSeats around 0 all sources drains (was ++ xs)) → FillsRest around later later_ss later_ds now
+  fills_with around [] s later ss later_ss ds later_ds p was now h fills more so = absurd h
+  fills_with around (n ∷ ns) s later ss later_ss ds later_ds p was now h fills more so =
       let f = fills (length was) n h.0 in
       let size : length was + 1 ≡ length now = sym (ap length more ∙ length-append was (p ∷ [])) in
       record {
         rest = ns;
-        planned = subst (λ i. ArePlanned chains i ns later) size h.1;
-        so = seats_next chains n (n ∷ ns) ns ss later_ss ds later_ds (length was) p was now refl refl f.node f.work f.sources_left f.drains_left more so;
+        planned = subst (λ i. ArePlanned around i ns later) size h.1;
+        so = seats_next around n (n ∷ ns) ns ss later_ss ds later_ds (length was) p was now refl refl f.node f.work f.sources_left f.drains_left more so;
       }
 
-  pub fills_next : (chains : List graph.Chain) (old later : List (Seat S D L B)) (s : Seat S D L B) (ss later_ss : List S) (ds later_ds : List D) (p : Seated S D L B) (was now : List (Seated S D L B)) → FillsRest chains old ss ds was → old ≡ s ∷ later → Fills chains s ss ds p later_ss later_ds → now ≡ was ++ p ∷ [] → FillsRest chains later later_ss later_ds now
-  fills_next chains old later s ss later_ss ds later_ds p was now f e fills more =
-      fills_with chains f.rest s later ss later_ss ds later_ds p was now (subst (λ l. ArePlanned chains (length was) f.rest l) e f.planned) fills more f.so
+  pub fills_next : (around : Around) (old later : List (Seat S D L B)) (s : Seat S D L B) (ss later_ss : List S) (ds later_ds : List D) (p : Seated S D L B) (was now : List (Seated S D L B)) → FillsRest around old ss ds was → old ≡ s ∷ later → Fills around s ss ds p later_ss later_ds → now ≡ was ++ p ∷ [] → FillsRest around later later_ss later_ds now
+  fills_next around old later s ss later_ss ds later_ds p was now f e fills more =
+      fills_with around f.rest s later ss later_ss ds later_ds p was now (subst (λ l. ArePlanned around (length was) f.rest l) e f.planned) fills more f.so
 
-  pub fills_last : (chains : List graph.Chain) (seats : List (Seat S D L B)) (ss : List S) (ds : List D) (places : List (Seated S D L B)) → FillsRest chains seats ss ds places → seats ≡ [] → AreSeats chains 0 all sources drains places
-  fills_last chains seats ss ds places f e = seats_end chains f.rest ss ds places (none_planned chains (length places) f.rest seats e f.planned) f.so
+  pub fills_last : (around : Around) (seats : List (Seat S D L B)) (ss : List S) (ds : List D) (places : List (Seated S D L B)) → FillsRest around seats ss ds places → seats ≡ [] → AreSeats around 0 all sources drains places
+  fills_last around seats ss ds places f e = seats_end around f.rest ss ds places (none_planned around (length places) f.rest seats e f.planned) f.so
 
 -- how many handles are wanted
 pub reads_next : {S D L B : Type 0} (old later : List (Seat S D L B)) (s : Seat S D L B) (a b : ℕ) → old ≡ s ∷ later → a ≡ reads_in old → a ≡ b + reads s.planned → b ≡ reads_in later

@@ -14,9 +14,13 @@ use Rattle.stage_state.specs.Logics.{IsHandedEnd, IsStateful}
 use Rattle.materializer.specs.Board.{switch_of, IsHandedAt, AreHanded}
 use Rattle.elem_core.specs.declared.why.Decider.{Decider}
 use Rattle.interpreter.specs.declared.parts.Work.{Work}
+use Rattle.interpreter.specs.declared.parts.Work.TheVariants as work
 use Rattle.materializer.specs.Files.{source_file, output_of}
 use Rattle.materializer.specs.Planned.{IsPlanned}
-use Rattle.materializer.specs.Seats.{IsFreeWork}
+use Rattle.materializer.specs.Graphs.{Around}
+use Rattle.blue_names.specs.CustomPorts.{custom_of}
+use Rattle.stream_model.specs.declared.blueprint.WireDecl.{WireDecl}
+use Rattle.materializer.specs.Seats.{HasUsedPorts, IsFreeWork}
 use Rattle.materializer.specs.declared.seats.Planned.TheVariants.{Works}
 
 -- a valve or a trip, and no other kind, is handed what it has of its switch
@@ -59,9 +63,15 @@ at_switch_writes_none (TripAbort name n) e h = refl
 at_switch_writes_none kind e h = absurd (none_some (sym h))
 
 -- what is to stand at the place of a node that is handed something
-pub plans_at_switch : {S D L B : Type 0} (chains : List graph.Chain) (k : ℕ) (kind : Kind) (d : Decider) (e : SwitchEnd) (w : Work S D L B) → IsHandedAt (switch_of kind) (Some e) → IsFreeWork chains k kind d w → (node : Node) → node.kind ≡ kind → node.decider ≡ d → IsPlanned chains k node (Works w)
-plans_at_switch chains k kind d e w h free node is same = record {
-  work = subst (λ x. IsFreeWork chains k x node.decider w) (sym is) (subst (λ x. IsFreeWork chains k kind x w) (sym same) free);
+-- only a custom stage has ports that its wires have to use
+pub no_custom_ports : {S D L B : Type 0} (wires : List WireDecl) (node : Node) (chains : List graph.Chain) (k : ℕ) (kind : Kind) (d : Decider) (w : Work S D L B) → custom_of kind ≡ None → IsFreeWork chains k kind d w → HasUsedPorts wires node w
+no_custom_ports wires node chains k kind d (work.Custom x inputs outputs) own free = absurd (none_some (sym own ∙ ap custom_of free.is_custom.1))
+no_custom_ports wires node chains k kind d w own free = tt
+
+pub plans_at_switch : {S D L B : Type 0} (around : Around) (k : ℕ) (kind : Kind) (d : Decider) (e : SwitchEnd) (w : Work S D L B) → IsHandedAt (switch_of kind) (Some e) → custom_of kind ≡ None → IsFreeWork around.chains k kind d w → (node : Node) → node.kind ≡ kind → node.decider ≡ d → IsPlanned around k node (Works w)
+plans_at_switch around k kind d e w h own free node is same = record {
+  work = subst (λ x. IsFreeWork around.chains k x node.decider w) (sym is) (subst (λ x. IsFreeWork around.chains k kind x w) (sym same) free);
+  ports = no_custom_ports around.wires node around.chains k kind d w own free;
   no_input = ap source_file is ∙ at_switch_reads_none kind e h;
   no_output = ap output_of is ∙ at_switch_writes_none kind e h;
 }

@@ -1,8 +1,8 @@
 -- The files that the nodes of a blueprint read and write, and its sinks, each in the order of nodes.
-use Rattle.std.specs.Prelude.{ℕ, ◌==◌, Bool, List, map, filter, filter_map, Option, Some, None}
+use Rattle.std.specs.Prelude.{ℕ, Bool, List, map, filter, filter_map, Option, Some, None}
 use Rattle.stream_model.specs.declared.kind.Kind.{Kind}
-use Rattle.stream_model.specs.Linear.{Role, a_source, a_flow, a_fan_in, a_fan_out, reads_lines, gives_range, gives_nothing, gives_failure, sinks, role_of}
-use Rattle.stream_model.specs.View.{outputs_of}
+use Rattle.stream_model.specs.Linear.{Role, a_source, a_flow, a_fan_in, a_fan_out, reads_lines, gives_range, gives_nothing, gives_failure, customs, sinks, role_of}
+use Rattle.stream_model.specs.OneWay as oneway
 use Rattle.stream_model.specs.declared.blueprint.Node.{Node}
 
 -- the file that a source reads
@@ -14,6 +14,7 @@ read_by (a_source (gives_failure b)) = None
 read_by (a_flow flow) = None
 read_by (a_fan_in fan) = None
 read_by (a_fan_out fan) = None
+read_by (customs name) = None
 read_by (sinks file keeps) = None
 
 -- the file that a source reads
@@ -26,6 +27,7 @@ written_by (a_source source) = None
 written_by (a_flow flow) = None
 written_by (a_fan_in fan) = None
 written_by (a_fan_out fan) = None
+written_by (customs name) = None
 written_by (sinks file keeps) = file
 
 -- the file that a sink writes
@@ -40,9 +42,9 @@ inputs_of_nodes nodes = filter_map (λ n. source_file n.kind) nodes
 abbrev pub outputs_of_nodes : List Node → List (List ℕ)
 outputs_of_nodes nodes = filter_map (λ n. output_of n.kind) nodes
 
--- a node without an output
+-- a sink
 abbrev pub is_sink : Node → Bool
-is_sink n = outputs_of n.kind == 0
+is_sink n = oneway.is_sink n.kind
 
 -- the names of the sinks
 abbrev pub sinks_of_nodes : List Node → List (List ℕ)

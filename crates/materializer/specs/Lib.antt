@@ -1,5 +1,7 @@
+pub mod Ports
 pub mod HandedPlugs
 pub mod Handing
+pub mod HandedCustoms
 pub mod Board
 pub mod Dealing
 pub mod Graphs

@@ -2,11 +2,11 @@
 use Rattle.std.specs.Prelude.{◌≡◌, ℕ, ◌+◌, List, [], ◌∷◌, slice_get, Option, Some, None, ⊤}
 use Rattle.elem_core.specs.declared.why.Decider.{Decider}
 use Rattle.stream_model.specs.declared.kind.Kind.{Kind}
-use Rattle.stream_model.specs.declared.kind.Kind.TheVariants.{Ignore}
+use Rattle.stream_model.specs.declared.kind.Kind.TheVariants.{Ignore, Custom}
 use Rattle.stream_model.specs.Graph as graph
 use Rattle.stream_model.specs.Graph.{steps_of}
-use Rattle.stream_model.specs.Composed.{inputs_of}
-use Rattle.stream_model.specs.View.{outputs_of}
+use Rattle.stream_model.specs.Composed.{inputs_by}
+use Rattle.stream_model.specs.View.{outputs_by}
 use Rattle.stream_io.specs.Reading.{ReaderState}
 use Rattle.stage_switch.specs.Public.{SeatState}
 use Rattle.stage_linear.specs.States.{Logic, IsLinear, Begins}
@@ -26,6 +26,9 @@ use Rattle.stage_out.specs.declared.logic.OutLogic.{OutLogic}
 use Rattle.stage_out.specs.OutLogics.{IsOut}
 use Rattle.stage_out.specs.OutLogics as fan_out
 use Rattle.stage_out.specs.Moves.{out_plan}
+use Rattle.graph_stage.specs.Laws.{CustomFresh}
+use Rattle.graph_stage.specs.Making.{unpulled_view}
+use Rattle.graph_stage.specs.State.{CustomState}
 use Rattle.nodes.specs.Kinds.{IsMaker, IsFileSink}
 use Rattle.port_core.specs.View.{unpulled_ports}
 use Rattle.run_laws.specs.Made.{chain_name, BeginsLed}
@@ -34,6 +37,9 @@ use Rattle.interpreter.specs.declared.parts.Seated.{Seated}
 use Rattle.interpreter.specs.declared.parts.Work.{Work}
 use Rattle.interpreter.specs.declared.parts.Work.TheVariants as work
 use Rattle.stream_model.specs.declared.blueprint.Node.{Node}
+use Rattle.stream_model.specs.declared.blueprint.WireDecl.{WireDecl}
+use Rattle.materializer.specs.Graphs.{Around}
+use Rattle.materializer.specs.Ports.{used_ports}
 use Rattle.materializer.specs.Files.{source_file, output_of}
 
 -- the handle that a node takes where it has a file: the next one
@@ -74,14 +80,14 @@ pub record StagesIn (k : ℕ) (kind : Kind) (d : Decider) (l : InLogic) (inputs 
   pub is_in : IsFanIn kind
   pub begins : fan_in.Begins k kind d l
   pub free : in_plan l ≡ None
-  pub inputs_are : inputs ≡ inputs_of kind
+  pub inputs_are : inputs ≡ inputs_by (0, 0) kind
 
 -- a stage with several outputs is at its start, follows no moves, and has so many
 pub record StagesOut (k : ℕ) (kind : Kind) (l : OutLogic) (outputs : ℕ) : Type 0 where
   pub is_out : IsOut kind
   pub begins : fan_out.Begins k kind l
   pub free : out_plan l ≡ None
-  pub outputs_are : outputs ≡ outputs_of kind
+  pub outputs_are : outputs ≡ outputs_by (0, 0) kind
 
 -- a stage with state is at its start, or follows moves
 pub record LeadsState (k : ℕ) (kind : Kind) (d : Decider) (l : StateLogic) : Type 0 where
@@ -98,13 +104,19 @@ pub record LeadsSub (chains : List graph.Chain) (k : ℕ) (kind : Kind) (l : sub
 pub record LeadsIn (k : ℕ) (kind : Kind) (d : Decider) (l : InLogic) (inputs : ℕ) : Type 0 where
   pub is_in : IsFanIn kind
   pub begins : fan_in.Begins k kind d l
-  pub inputs_are : inputs ≡ inputs_of kind
+  pub inputs_are : inputs ≡ inputs_by (0, 0) kind
 
 -- a stage with several outputs is at its start, or follows moves, and has so many
 pub record LeadsOut (k : ℕ) (kind : Kind) (l : OutLogic) (outputs : ℕ) : Type 0 where
   pub is_out : IsOut kind
   pub begins : fan_out.Begins k kind l
-  pub outputs_are : outputs ≡ outputs_of kind
+  pub outputs_are : outputs ≡ outputs_by (0, 0) kind
+
+-- a custom stage was not started, is that of node k, and has so many ports
+pub record StagesCustom (k : ℕ) (kind : Kind) (x : CustomState) (inputs outputs : ℕ) : Type 0 where
+  pub is_custom : (name : List ℕ) × (kind ≡ Custom name)
+  pub node_is : x.node ≡ k
+  pub fresh : CustomFresh x (unpulled_view inputs outputs)
 
 -- a source without a file is of its kind
 pub record MakesAs (kind shape : Kind) : Type 0 where
@@ -130,8 +142,14 @@ IsFreeWork chains k kind d (work.State l) = StagesState k kind d l
 IsFreeWork chains k kind d (work.Sub l) = StagesSub chains k kind l
 IsFreeWork chains k kind d (work.FanIn l inputs) = StagesIn k kind d l inputs
 IsFreeWork chains k kind d (work.FanOut l outputs) = StagesOut k kind l outputs
+IsFreeWork chains k kind d (work.Custom x inputs outputs) = StagesCustom k kind x inputs outputs
 IsFreeWork chains k kind d (work.Writing shape None) = WritesNone kind shape
 IsFreeWork chains k kind d _ = ⊥
+
+-- a custom stage has the ports that the wires use at its node
+abbrev pub HasUsedPorts : {S D L B : Type 0} → List WireDecl → Node → Work S D L B → Type 0
+HasUsedPorts wires n (work.Custom x inputs outputs) = used_ports wires n.name ≡ (inputs, outputs)
+HasUsedPorts wires n _ = ⊤
 
 -- the same, or one that follows moves
 abbrev pub IsLedWork : {S D L B : Type 0} → List graph.Chain → ℕ → Kind → Decider → Work S D L B → Type 0
@@ -174,19 +192,20 @@ WorkFollows moves (work.FanOut old outputs) (work.FanOut new same) =
     (same ≡ outputs) × (((node : ℕ) (kind : Kind) → fan_out.Begins node kind old → fan_out.Begins node kind new) × (out_plan new ≡ Some moves))
 WorkFollows moves old new = ⊥
 
--- the work of node k, where these sources and drains are left, in a blueprint with these chains
-abbrev pub IsWork : {S D L B : Type 0} → List graph.Chain → ℕ → Node → List S → List D → Work S D L B → Type 0
-IsWork chains k n sources drains (work.Reading r) = ReadsNext n sources r
-IsWork chains k n sources drains (work.Writing shape (Some d)) = WritesNext n drains shape d
-IsWork chains k n sources drains w = IsLedWork chains k n.kind n.decider w
+-- the work of node k, where these sources and drains are left, in a blueprint with these chains and wires
+abbrev pub IsWork : {S D L B : Type 0} → Around → ℕ → Node → List S → List D → Work S D L B → Type 0
+IsWork around k n sources drains (work.Reading r) = ReadsNext n sources r
+IsWork around k n sources drains (work.Writing shape (Some d)) = WritesNext n drains shape d
+IsWork around k n sources drains (work.Custom x inputs outputs) = StagesCustom k n.kind x inputs outputs × (used_ports around.wires n.name ≡ (inputs, outputs))
+IsWork around k n sources drains w = IsLedWork around.chains k n.kind n.decider w
 
--- these nodes of a blueprint with these chains, of which the first is node k, each at its place; in their order they take the sources and the drains
-abbrev pub AreSeats : {S D L B : Type 0} → List graph.Chain → ℕ → List Node → List S → List D → List (Seated S D L B) → Type 0
-AreSeats chains k [] sources drains [] = ⊤
-AreSeats chains k (n ∷ ns) sources drains (p ∷ ps) =
-    (p.node ≡ k) × (IsWork chains k n sources drains p.work × AreSeats chains (k + 1) ns (handles_left (source_file n.kind) sources)
+-- these nodes of a blueprint with these chains and wires, of which the first is node k, each at its place; in their order they take the sources and the drains
+abbrev pub AreSeats : {S D L B : Type 0} → Around → ℕ → List Node → List S → List D → List (Seated S D L B) → Type 0
+AreSeats around k [] sources drains [] = ⊤
+AreSeats around k (n ∷ ns) sources drains (p ∷ ps) =
+    (p.node ≡ k) × (IsWork around k n sources drains p.work × AreSeats around (k + 1) ns (handles_left (source_file n.kind) sources)
     (handles_left (output_of n.kind) drains) ps)
-AreSeats chains k _ sources drains _ = ⊥
+AreSeats around k _ sources drains _ = ⊥
 
 -- the seat at its switch that a work has, where it is that of a valve or a trip
 abbrev pub work_seat : {S D L B : Type 0} → Work S D L B → Option SeatState

@@ -6,13 +6,13 @@ ghost use Rattle.stream_model.specs.declared.blueprint.Node as blue;
 ghost use Rattle.interpreter.specs.Parts.{AllBecome};
 ghost use Rattle.interpreter.specs.declared.parts.Seated.{Seated};
 ghost use Rattle.nodes.specs.declared.node.IslandNode.{IslandNode};
-ghost use Rattle.stream_model.specs.declared.head.PlugHead.{PlugHead};
+ghost use Rattle.stream_model.specs.Known.{HeadLists};
 ghost use Rattle.stream_model.specs.Composed.{IsRanked};
 ghost use Rattle.stream_model.specs.Graph as graph;
 ghost use Rattle.stream_model.specs.declared.kind.Kind.TheVariants as kind;
 ghost use Rattle.materializer.specs.Files.{output_of, inputs_of_nodes, outputs_of_nodes};
 ghost use Rattle.materializer.specs.Firsts.{AreFirsts};
-ghost use Rattle.materializer.specs.Graphs.{chains_of, graph_of};
+ghost use Rattle.materializer.specs.Graphs.{Around, chains_of, around_of, graph_of};
 ghost use Rattle.materializer.specs.Handed.{ReadsSourceFile, WritesFile, WritesNoFile};
 ghost use Rattle.stream_model.specs.Joined.{IsJoined};
 ghost use Rattle.materializer.specs.Seats.{AreSeats};
@@ -25,15 +25,15 @@ use stream_io::outside::{Drain, Source};
 /// The wires of a blueprint that breaks no rule have ranks that rise along every walk (`ranked`), and each of its ports is at
 /// one wire (`joined`).
 pub fn fit_blueprints_are_whole()
-    ensures ranked { (b : Blueprint) (plugs : List PlugHead) (taken : List (List ℕ)) → IsFit b plugs taken → (rank : ℕ → ℕ) × IsRanked (graph_of b) rank }
-    ensures joined { (b : Blueprint) (plugs : List PlugHead) (taken : List (List ℕ)) → IsFit b plugs taken → IsJoined (graph_of b) }
+    ensures ranked { (b : Blueprint) (heads : HeadLists) (taken : List (List ℕ)) → IsFit b heads taken → (rank : ℕ → ℕ) × IsRanked (graph_of b) rank }
+    ensures joined { (b : Blueprint) (heads : HeadLists) (taken : List (List ℕ)) → IsFit b heads taken → IsJoined (graph_of b) }
 {}
 
 /// Where no source has handed out a byte, the nodes at the places of a blueprint, as they are handed in, are those of its graph,
 /// each in its order, whether wires or lanes join them.
 pub fn parts_are_made_of_their_blueprint<S: Source, D: Drain, L: Logic, B: PlugBook>()
     ensures { (b : Blueprint) (sources : List S) (drains : List D) (places : List (Seated S D L B)) (firsts : List (IslandNode S D L B))
-        → AreSeats (chains_of b) 0 b.nodes.items sources drains places
+        → AreSeats (around_of b) 0 b.nodes.items sources drains places
         → AllBecome places firsts → All (λ s. (S.state s).given ≡ 0) sources → AreFirsts S.state (chains_of b) (graph_of b).nodes firsts }
 {}
 
@@ -41,19 +41,19 @@ pub fn parts_are_made_of_their_blueprint<S: Source, D: Drain, L: Logic, B: PlugB
 /// that was handed in for its file (`drains`), as every other sink with a file does (`files`). A sink that keeps nothing holds
 /// none (`ignores`).
 pub fn parts_hold_their_files<S: Source, D: Drain, L: Logic, B: PlugBook>()
-    ensures sources { (chains : List graph.Chain) (nodes : List blue.Node) (sources : List S) (drains : List D) (places : List (Seated S D L B))
-        (firsts : List (IslandNode S D L B)) → AreSeats chains 0 nodes sources drains places → AllBecome places firsts
+    ensures sources { (around : Around) (nodes : List blue.Node) (sources : List S) (drains : List D) (places : List (Seated S D L B))
+        (firsts : List (IslandNode S D L B)) → AreSeats around 0 nodes sources drains places → AllBecome places firsts
         → (k : ℕ) (n : blue.Node) (name : List ℕ) → slice_get nodes k ≡ Some n → n.kind ≡ kind.Lines name
         → ReadsSourceFile (inputs_of_nodes nodes) sources firsts k name }
-    ensures drains { (chains : List graph.Chain) (nodes : List blue.Node) (sources : List S) (drains : List D) (places : List (Seated S D L B))
-        (firsts : List (IslandNode S D L B)) → AreSeats chains 0 nodes sources drains places → AllBecome places firsts
+    ensures drains { (around : Around) (nodes : List blue.Node) (sources : List S) (drains : List D) (places : List (Seated S D L B))
+        (firsts : List (IslandNode S D L B)) → AreSeats around 0 nodes sources drains places → AllBecome places firsts
         → (k : ℕ) (n : blue.Node) (name : List ℕ) → slice_get nodes k ≡ Some n → n.kind ≡ kind.ToLines name
         → WritesFile (outputs_of_nodes nodes) drains firsts k name }
-    ensures files { (chains : List graph.Chain) (nodes : List blue.Node) (sources : List S) (drains : List D) (places : List (Seated S D L B))
-        (firsts : List (IslandNode S D L B)) → AreSeats chains 0 nodes sources drains places → AllBecome places firsts
+    ensures files { (around : Around) (nodes : List blue.Node) (sources : List S) (drains : List D) (places : List (Seated S D L B))
+        (firsts : List (IslandNode S D L B)) → AreSeats around 0 nodes sources drains places → AllBecome places firsts
         → (k : ℕ) (n : blue.Node) (name : List ℕ) → slice_get nodes k ≡ Some n → output_of n.kind ≡ Some name
         → WritesFile (outputs_of_nodes nodes) drains firsts k name }
-    ensures ignores { (chains : List graph.Chain) (nodes : List blue.Node) (sources : List S) (drains : List D) (places : List (Seated S D L B))
-        (firsts : List (IslandNode S D L B)) → AreSeats chains 0 nodes sources drains places → AllBecome places firsts
+    ensures ignores { (around : Around) (nodes : List blue.Node) (sources : List S) (drains : List D) (places : List (Seated S D L B))
+        (firsts : List (IslandNode S D L B)) → AreSeats around 0 nodes sources drains places → AllBecome places firsts
         → (k : ℕ) (n : blue.Node) → slice_get nodes k ≡ Some n → n.kind ≡ kind.Ignore → WritesNoFile firsts k }
 {}

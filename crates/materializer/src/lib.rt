@@ -1,6 +1,6 @@
 //! The nodes of an island from those of a blueprint, with the plugs and the switches that are handed to them.
 //!
-//! - `heads`, `plug_board`: Hands each node of a blueprint that names a plug the plug of that name.
+//! - `custom_board`, `guest`, `heads`, `plug_board`: Hands each node of a blueprint that names a plug or a custom stage the one of that name.
 //! - `switch_board`, `switch_names`: The kill switches of a blueprint, and the seats of its valves and trips at them.
 //! - `chains`, `laws`, `names`, `parts`, `seats`: What stands at the places of a blueprint's nodes, and what ties it to the model.
 //!
@@ -24,6 +24,8 @@
 
 mod chains;
 pub mod choosers;
+mod custom_board;
+pub mod guest;
 pub mod heads;
 pub mod laws;
 pub mod names;

@@ -6,7 +6,6 @@ ghost use Rattle.materializer.specs.Choices.{pick_names};
 ghost use Rattle.materializer.specs.Files.{source_file, output_of, inputs_of_nodes, outputs_of_nodes, is_sink, sinks_of_nodes};
 
 use blue_check::picks::picks;
-use blue_names::ports::output_ports;
 use elem_core::line::Line;
 use elem_core::why::NoMemory;
 use std::alloc::Global;
@@ -33,11 +32,14 @@ pub fn output_of(kind: &Kind) -> Option<&Line>
     }
 }
 
-/// Whether a node has no output.
+/// Whether a node is a sink.
 pub fn is_sink(node: &Node) -> bool
     ensures { result ≡ is_sink node.now }
 {
-    output_ports(&node.kind) == 0
+    match node.kind {
+        Kind::ToLines(_) | Kind::Head(_) | Kind::Last(_) | Kind::Ignore => true,
+        _ => false,
+    }
 }
 
 /// The files that these nodes read.

@@ -1,13 +1,19 @@
-// Which node is handed which plug.
-ghost use Rattle.std.specs.Prelude.{◌≡◌, [], true, None, map, IfOk};
+// Which node is handed which plug or custom stage.
+ghost use Rattle.std.specs.Prelude.{◌≡◌, [], List, true, None, map, IfOk};
 ghost use Rattle.std.specs.List.{All};
 ghost use Rattle.blue_names.specs.Names.{is_named, plug_of, unknown_plug_at};
-ghost use Rattle.materializer.specs.HandedPlugs.{GivesAsListed, HasPlugs, ArePlugged};
+ghost use Rattle.blue_names.specs.CustomPorts.{custom_of};
+ghost use Rattle.materializer.specs.HandedCustoms.{custom_names, handed_heads, HasGuests, IsHandedGuest, AreGuests, HaveUsedPorts};
+ghost use Rattle.materializer.specs.HandedPlugs.{GivesAsListed};
+ghost use Rattle.stream_model.specs.declared.blueprint.WireDecl.{WireDecl};
 ghost use Rattle.materializer.specs.Handing.{names_of, plug_place, IsTaken, IsHandedPlug};
 
+use crate::custom_board::hand_custom;
+use crate::guest::Guest;
 use blue_names::claims::plug_of;
 use elem_core::line::Line;
 use elem_core::why::NoMemory;
+use graph_stage::custom::Custom;
 use plug_logic::book::PlugBook;
 use plug_logic::logic::Logic;
 use plug_logic::plug::Plug;
@@ -49,21 +55,40 @@ fn hand<L: Logic>(kind: &Kind, plugs: &mut Vec<Plug<L>>) -> Option<Plug<L>>
     }
 }
 
+/// What a node of this kind is handed of what the caller made.
+fn hand_guest<L: Logic>(
+    kind: &Kind,
+    plugs: &mut Vec<Plug<L>>,
+    customs: &mut Vec<Custom>,
+) -> Option<Guest<L>>
+    requires plugs { unknown_plug_at (names_of plugs.old.items) (plug_of kind.now) ≡ None }
+    requires customs { unknown_plug_at (custom_names customs.old.items) (custom_of kind.now) ≡ None }
+    ensures { IsHandedGuest kind.now plugs.old.items customs.old.items result plugs.new.items customs.new.items }
+{
+    match hand(kind, plugs) {
+        Some(plug) => Some(Guest::Plug(plug)),
+        None => hand_custom(kind, customs).map(Guest::Custom),
+    }
+}
+
 // Choice: docs/DECISIONS.md#plugs-are-handed-out
-/// Hands each node that names a plug that plug, in the order of nodes; a plug that no node names is dropped.
+/// Hands each node that names a plug or a custom stage that one, in the order of nodes; what no node names is dropped.
 pub fn hand_out<L: Logic, B: PlugBook>(
     alloc: Global,
     nodes: &[Node],
     plugs: Vec<Plug<L>>,
-) -> Result<Vec<Option<Plug<L>>>, NoMemory>
-    requires has { HasPlugs (map (λ p. p.head) plugs.items) nodes.now }
+    customs: Vec<Custom>,
+) -> Result<Vec<Option<Guest<L>>>, NoMemory>
+    requires has { (wires : List WireDecl) × HasGuests (handed_heads plugs.items customs.items) wires nodes.now }
     requires keep { All (GivesAsListed L.gives B.lists) plugs.items }
-    ensures { IfOk result (λ handed. ArePlugged L.gives B.lists (map (λ n. n.kind) nodes.now) handed.items) }
+    ensures guests { IfOk result (λ handed. AreGuests L.gives B.lists (map (λ n. n.kind) nodes.now) handed.items) }
+    ensures ports { IfOk result (λ handed. (wires : List WireDecl) → HasGuests (handed_heads plugs.items customs.items) wires nodes.now → HaveUsedPorts wires nodes.now handed.items) }
 {
     let mut left = plugs;
+    let mut unhired = customs;
     let mut handed = Vec::new(alloc);
     for node in nodes {
-        handed.push(hand(&node.kind, &mut left))?;
+        handed.push(hand_guest(&node.kind, &mut left, &mut unhired))?;
     }
     Ok(handed)
 }

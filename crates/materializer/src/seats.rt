@@ -1,5 +1,5 @@
 // What stands at the place of each node.
-ghost use Rattle.std.specs.Prelude.{◌≡◌, ◌+◌, ◌<◌, ◌≤◌, ◌^◌, List, [], ◌∷◌, true, None, IfOk, IfSome, map, vec_len, vec_capacity};
+ghost use Rattle.std.specs.Prelude.{◌≡◌, length, ◌+◌, ◌<◌, ◌≤◌, ◌^◌, List, [], ◌∷◌, true, Some, None, IfOk, IfSome, map, vec_len, vec_capacity};
 ghost use Rattle.std.specs.List.{list_all};
 ghost use Rattle.std.specs.Vec.Iter.{into_iter_items, into_iter_len};
 ghost use Rattle.blue_names.specs.Sizes.{sizes_fit};
@@ -9,21 +9,29 @@ ghost use Rattle.stage_sub.specs.Handling.{IsSub};
 ghost use Rattle.stage_in.specs.Logics.{IsFanIn};
 ghost use Rattle.stage_out.specs.OutLogics.{IsOut};
 ghost use Rattle.stream_model.specs.declared.blueprint.Node as blue;
+ghost use Rattle.stream_model.specs.declared.blueprint.WireDecl.{WireDecl};
+ghost use Rattle.materializer.specs.Ports.{used_ports};
 ghost use Rattle.materializer.specs.Files.{source_file, output_of};
-ghost use Rattle.materializer.specs.Graphs.{graph_chain};
+ghost use Rattle.materializer.specs.Graphs.{Around, graph_chain};
 ghost use Rattle.materializer.specs.Board.{switch_of, IsHandedAt, AreHanded, seat_of_end};
 ghost use Rattle.materializer.specs.Seats.{IsFreeWork, AreSeats, work_seat, place_seat, place_plan, place_room, WorkMayFollow, WorkFollows};
 ghost use Rattle.materializer.specs.Choosers.{moves_of, PlanFits, PlansFit};
-ghost use Rattle.materializer.specs.Planned.{IsPlanned, IsSeat, ArePlanned, Fills, seat_of_plan, planned_seat, planned_plan, planned_room, PlannedMayFollow, PlannedFollows, reads, writes, reads_in, writes_in};
-ghost use Rattle.materializer.specs.HandedPlugs.{GivesAsListed, IsPlugged, ArePlugged};
+ghost use Rattle.materializer.specs.Planned.{IsPlanned, IsFreePlan, IsSeat, ArePlanned, Fills, seat_of_plan, planned_seat, planned_plan, planned_room, PlannedMayFollow, PlannedFollows, reads, writes, reads_in, writes_in};
+ghost use Rattle.materializer.specs.HandedPlugs.{GivesAsListed};
+ghost use Rattle.materializer.specs.HandedCustoms.{IsGuest, AreGuests, HasPorts, HaveUsedPorts};
+ghost use Rattle.blue_names.specs.CustomPorts.{custom_of, head_fits};
 ghost use Rattle.blue_names.specs.Names.{plug_of};
+ghost use Rattle.stream_model.specs.Known.{head_shape};
 ghost use Rattle.stream_model.specs.Graph as graph;
 ghost use Rattle.stream_model.specs.declared.kind.Kind.TheVariants as kind;
 
 use crate::chains::steps_of_kind;
+use crate::guest::Guest;
 use blue_names::ports::{input_ports, output_ports};
 use elem_core::count::numbered;
 use elem_core::why::{Decider, NoMemory};
+use graph_stage::custom::Custom;
+use graph_stage::stage::CustomStage;
 use interpreter::parts::{Seated, Work};
 use line_chain::line::LineChain;
 use plug_logic::book::PlugBook;
@@ -130,7 +138,7 @@ fn fan_in_work<S: Source, D: Drain, L: Logic, B: PlugBook>(
     ensures work { IfOk result (λ w. (chains : List graph.Chain) → IsFreeWork chains k kind decider w) }
     ensures seat { IfOk result (λ w. work_seat w ≡ None) }
 {
-    let inputs = input_ports(&kind);
+    let inputs = input_ports((0, 0), &kind);
     Ok(Work::FanIn(InLogic::new(alloc, k, kind, decider)?, inputs))
 }
 
@@ -145,11 +153,11 @@ fn fan_out_work<S: Source, D: Drain, L: Logic, B: PlugBook>(
     ensures work { IfOk result (λ w. (chains : List graph.Chain) → IsFreeWork chains k kind decider w) }
     ensures seat { IfOk result (λ w. work_seat w ≡ None) }
 {
-    let outputs = output_ports(&kind);
+    let outputs = output_ports((0, 0), &kind);
     Ok(Work::FanOut(OutLogic::new(alloc, k, kind, decider)?, outputs))
 }
 
-/// What node k does, where it has no file, is at no switch and names no plug.
+/// What node k does, where it has no file, is at no switch and names no plug and no custom stage.
 fn free_work<S: Source, D: Drain, L: Logic, B: PlugBook>(
     alloc: Global,
     chains: &[ChainDecl],
@@ -162,6 +170,7 @@ fn free_work<S: Source, D: Drain, L: Logic, B: PlugBook>(
     requires no_output { output_of kind ≡ None }
     requires no_switch { switch_of kind ≡ None }
     requires no_plug { plug_of kind ≡ None }
+    requires no_custom { custom_of kind ≡ None }
     ensures work { IfOk result (IsFreeWork (map graph_chain chains.now) k kind decider) }
     ensures seat { IfOk result (λ w. work_seat w ≡ None) }
     ensures no_input { source_file kind ≡ None }
@@ -195,7 +204,7 @@ fn free_work<S: Source, D: Drain, L: Logic, B: PlugBook>(
     })
 }
 
-/// What stands at the place of node k, which is at no switch and names no plug, and whose handle is not there yet.
+/// What stands at the place of node k, which is at no switch and names no plug and no custom stage, and whose handle is not there yet.
 fn free_seat<S: Source, D: Drain, L: Logic, B: PlugBook>(
     alloc: Global,
     chains: &[ChainDecl],
@@ -206,7 +215,9 @@ fn free_seat<S: Source, D: Drain, L: Logic, B: PlugBook>(
     requires sized { sizes_fit kind ≡ true }
     requires no_switch { switch_of kind ≡ None }
     requires no_plug { plug_of kind ≡ None }
-    ensures planned { IfOk result (λ p. (node : blue.Node) → node.kind ≡ kind → node.decider ≡ decider → IsPlanned (map graph_chain chains.now) k node p) }
+    requires no_custom { custom_of kind ≡ None }
+    ensures planned { IfOk result (λ p. (wires : List WireDecl) (node : blue.Node) → node.kind ≡ kind → node.decider ≡ decider
+        → IsPlanned (record { chains = map graph_chain chains.now; wires = wires }) k node p) }
     ensures seat { IfOk result (λ p. seat_of_plan p ≡ None) }
 {
     Ok(match kind {
@@ -216,7 +227,7 @@ fn free_seat<S: Source, D: Drain, L: Logic, B: PlugBook>(
     })
 }
 
-/// What is to stand at the place of node k, which names no plug. A valve and a trip have this of their switch.
+/// What is to stand at the place of node k, which names no plug and no custom stage. A valve and a trip have this of their switch.
 #[tactic(auto, using(crate::proofs::Switches::at_no_switch, crate::proofs::Switches::at_switch_keeps))]
 fn unplugged<S: Source, D: Drain, L: Logic, B: PlugBook>(
     alloc: Global,
@@ -229,7 +240,9 @@ fn unplugged<S: Source, D: Drain, L: Logic, B: PlugBook>(
     requires sized { sizes_fit kind ≡ true }
     requires handed { IsHandedAt (switch_of kind) switch }
     requires no_plug { plug_of kind ≡ None }
-    ensures planned { IfOk result (λ p. (node : blue.Node) → node.kind ≡ kind → node.decider ≡ decider → IsPlanned (map graph_chain chains.now) k node p) }
+    requires no_custom { custom_of kind ≡ None }
+    ensures planned { IfOk result (λ p. (wires : List WireDecl) (node : blue.Node) → node.kind ≡ kind → node.decider ≡ decider
+        → IsPlanned (record { chains = map graph_chain chains.now; wires = wires }) k node p) }
     ensures seat { IfOk result (λ p. seat_of_plan p ≡ seat_of_end switch) }
 {
     match switch {
@@ -248,15 +261,59 @@ fn plugged<S: Source, D: Drain, L: Logic, B: PlugBook>(
     decider: Decider,
 ) -> Planned<S, D, L, B>
     requires { GivesAsListed L.gives B.lists plug }
-    ensures planned { (chains : List graph.Chain) (node : blue.Node) → node.kind ≡ kind.Plug plug.head.name → node.decider ≡ decider
-        → IsPlanned chains k node result }
+    ensures planned { (around : Around) (node : blue.Node) → node.kind ≡ kind.Plug plug.head.name → node.decider ≡ decider
+        → IsPlanned around k node result }
     ensures seat { seat_of_plan result ≡ None }
 {
     Planned::Works(Work::Linear(LinearLogic::of_plug(k, plug, decider)))
 }
 
+/// What is to stand at the place of node k, which names this custom stage.
+fn hired<S: Source, D: Drain, L: Logic, B: PlugBook>(
+    alloc: Global,
+    k: u32,
+    custom: Custom,
+) -> Result<Planned<S, D, L, B>, NoMemory>
+    requires { head_fits (Some (head_shape custom.head)) ≡ true }
+    ensures planned { IfOk result (λ p. (around : Around) (node : blue.Node) → node.kind ≡ kind.Custom custom.head.name
+        → used_ports around.wires node.name ≡ (length custom.head.inputs.items, length custom.head.outputs.items) → IsPlanned around k node p) }
+    ensures free { IfOk result (λ p. (chains : List graph.Chain) (node : blue.Node) → node.kind ≡ kind.Custom custom.head.name
+        → IsFreePlan chains k node p) }
+    ensures seat { IfOk result (λ p. seat_of_plan p ≡ None) }
+{
+    let inputs = custom.head.inputs.len() as u32;
+    let outputs = custom.head.outputs.len() as u32;
+    let stage = CustomStage::new(alloc, k, custom)?;
+    Ok(Planned::Works(Work::Custom(stage, inputs, outputs)))
+}
+
+/// What is to stand at the place of node k of this kind, which names a stage that the caller made: this one.
+fn invited<S: Source, D: Drain, L: Logic, B: PlugBook>(
+    alloc: Global,
+    k: u32,
+    kind: Kind,
+    decider: Decider,
+    guest: Guest<L>,
+) -> Result<Planned<S, D, L, B>, NoMemory>
+    requires { IsGuest L.gives B.lists (plug_of kind) (custom_of kind) (Some guest) }
+    ensures planned { IfOk result (λ p. (around : Around) (node : blue.Node) → node.kind ≡ kind → node.decider ≡ decider
+        → HasPorts (used_ports around.wires node.name) (Some guest) → IsPlanned around k node p) }
+    ensures free { IfOk result (λ p. (chains : List graph.Chain) (node : blue.Node) → node.kind ≡ kind → node.decider ≡ decider
+        → IsFreePlan chains k node p) }
+    ensures seat { IfOk result (λ p. seat_of_plan p ≡ None) }
+{
+    let _ = kind;
+    match guest {
+        Guest::Plug(plug) => Ok(plugged(k, plug, decider)),
+        Guest::Custom(custom) => {
+            let planned = hired(alloc, k, custom)?;
+            Ok(planned)
+        }
+    }
+}
+
 /// What is to stand at the place of node k. A valve and a trip have this of their switch, and a stage that the caller made is this
-/// plug.
+/// guest.
 fn stand<S: Source, D: Drain, L: Logic, B: PlugBook>(
     alloc: Global,
     chains: &[ChainDecl],
@@ -264,17 +321,26 @@ fn stand<S: Source, D: Drain, L: Logic, B: PlugBook>(
     kind: Kind,
     decider: Decider,
     switch: Option<SwitchEnd>,
-    plug: Option<Plug<L>>,
+    guest: Option<Guest<L>>,
 ) -> Result<Planned<S, D, L, B>, NoMemory>
     requires sized { sizes_fit kind ≡ true }
     requires handed { IsHandedAt (switch_of kind) switch }
-    requires plugged { IsPlugged L.gives B.lists (plug_of kind) plug }
-    ensures planned { IfOk result (λ p. (node : blue.Node) → node.kind ≡ kind → node.decider ≡ decider → IsPlanned (map graph_chain chains.now) k node p) }
+    requires guest { IsGuest L.gives B.lists (plug_of kind) (custom_of kind) guest }
+    ensures planned { IfOk result (λ p. (wires : List WireDecl) (node : blue.Node) → node.kind ≡ kind → node.decider ≡ decider
+        → HasPorts (used_ports wires node.name) guest → IsPlanned (record { chains = map graph_chain chains.now; wires = wires }) k node p) }
+    ensures free { IfOk result (λ p. (node : blue.Node) → node.kind ≡ kind → node.decider ≡ decider
+        → IsFreePlan (map graph_chain chains.now) k node p) }
     ensures seat { IfOk result (λ p. seat_of_plan p ≡ seat_of_end switch) }
 {
-    match plug {
-        Some(plug) => Ok(plugged(k, plug, decider)),
-        None => unplugged(alloc, chains, k, kind, decider, switch),
+    match guest {
+        Some(guest) => {
+            let planned = invited(alloc, k, kind, decider, guest)?;
+            Ok(planned)
+        }
+        None => {
+            let planned = unplugged(alloc, chains, k, kind, decider, switch)?;
+            Ok(planned)
+        }
     }
 }
 
@@ -312,7 +378,7 @@ fn led<S: Source, D: Drain, L: Logic, B: PlugBook>(
 }
 
 /// What stands at the place of node k, whose handle is not there yet. A valve and a trip have this of their switch, a stage that
-/// the caller made is this plug, and one that chooses follows these moves, where there are some.
+/// the caller made is this guest, and one that chooses follows these moves, where there are some.
 fn plan<S: Source, D: Drain, L: Logic, B: PlugBook>(
     alloc: Global,
     chains: &[ChainDecl],
@@ -320,14 +386,14 @@ fn plan<S: Source, D: Drain, L: Logic, B: PlugBook>(
     node: Node,
     room: u32,
     switch: Option<SwitchEnd>,
-    plug: Option<Plug<L>>,
+    guest: Option<Guest<L>>,
     moves: Option<Vec<u32>>,
 ) -> Result<Seat<S, D, L, B>, NoMemory>
     requires sized { sizes_fit node.kind ≡ true }
     requires handed { IsHandedAt (switch_of node.kind) switch }
-    requires plugged { IsPlugged L.gives B.lists (plug_of node.kind) plug }
+    requires guest { IsGuest L.gives B.lists (plug_of node.kind) (custom_of node.kind) guest }
     requires follows { PlanFits node.kind (moves_of moves) }
-    ensures planned { IfOk result (IsSeat (map graph_chain chains.now) k node) }
+    ensures planned { IfOk result (λ s. (wires : List WireDecl) → HasPorts (used_ports wires node.name) guest → IsSeat (record { chains = map graph_chain chains.now; wires = wires }) k node s) }
     ensures seat { IfOk result (λ s. planned_seat s ≡ seat_of_end switch) }
     ensures plan { IfOk result (λ s. planned_plan s ≡ moves_of moves) }
     ensures room { IfOk result (λ s. s.room ≡ room) }
@@ -338,7 +404,7 @@ fn plan<S: Source, D: Drain, L: Logic, B: PlugBook>(
         decider,
     } = node;
     let _ = name;
-    let planned = stand(alloc, chains, k, kind, decider, switch, plug)?;
+    let planned = stand(alloc, chains, k, kind, decider, switch, guest)?;
     Ok(Seat {
         node: k,
         room,
@@ -347,39 +413,41 @@ fn plan<S: Source, D: Drain, L: Logic, B: PlugBook>(
 }
 
 /// The nodes in order, each at its place, whose handles are not there yet. Each is handed what it has of its switch: a valve and a
-/// trip a seat that gave nothing and knows nothing; and a node that names a plug is handed that. A stage that chooses follows its
-/// moves of `plans`, where there are some. The substreams of a stage go through the chain of these that it names.
+/// trip a seat that gave nothing and knows nothing; and a node that names a plug or a custom stage is handed that. A stage that chooses follows its
+/// moves of `plans`, where there are some. The substreams of a
+/// stage go through the chain of these that it names.
 pub fn seat_all<S: Source, D: Drain, L: Logic, B: PlugBook>(
     alloc: Global,
     chains: &[ChainDecl],
     nodes: Vec<Node>,
     rooms: Vec<u32>,
     ends: Vec<Option<SwitchEnd>>,
-    plugs: Vec<Option<Plug<L>>>,
+    guests: Vec<Option<Guest<L>>>,
     plans: Vec<Option<Vec<u32>>>,
 ) -> Result<Vec<Seat<S, D, L, B>>, NoMemory>
     requires sized { list_all (λ n. sizes_fit n.kind) nodes.items ≡ true }
     requires handed { AreHanded (map (λ n. n.kind) nodes.items) ends.items }
-    requires plugged { ArePlugged L.gives B.lists (map (λ n. n.kind) nodes.items) plugs.items }
+    requires guests { AreGuests L.gives B.lists (map (λ n. n.kind) nodes.items) guests.items }
     requires follow { PlansFit (map (λ n. n.kind) nodes.items) (map moves_of plans.items) }
     requires rooms { vec_len rooms ≡ vec_len nodes }
-    ensures planned { IfOk result (λ seats. ArePlanned (map graph_chain chains.now) 0 nodes.items seats.items) }
+    ensures planned { IfOk result (λ seats. (wires : List WireDecl) → HaveUsedPorts wires nodes.items guests.items
+        → ArePlanned (record { chains = map graph_chain chains.now; wires = wires }) 0 nodes.items seats.items) }
     ensures seats { IfOk result (λ seats. map planned_seat seats.items ≡ map seat_of_end ends.items) }
     ensures plans { IfOk result (λ seats. map planned_plan seats.items ≡ map moves_of plans.items) }
     ensures rooms { IfOk result (λ seats. map planned_room seats.items ≡ rooms.items) }
 {
     let mut unhanded = ends.into_iter();
-    let mut unplugged = plugs.into_iter();
+    let mut unhanded_guests = guests.into_iter();
     let mut unmade = plans.into_iter();
     let mut unroomed = rooms.into_iter();
     let mut seats = Vec::new(alloc);
     for node in nodes {
         let k = numbered(seats.len())?;
         let end = take_next(&mut unhanded);
-        let plug = take_next(&mut unplugged);
+        let guest = take_next(&mut unhanded_guests);
         let moves = take_next(&mut unmade);
         let room = take_next(&mut unroomed);
-        seats.push(plan(alloc, chains, k, node, room, end, plug, moves)?)?;
+        seats.push(plan(alloc, chains, k, node, room, end, guest, moves)?)?;
     }
     Ok(seats)
 }
@@ -394,7 +462,7 @@ fn fill<S: Source, D: Drain, L: Logic, B: PlugBook>(
 ) -> Seated<S, D, L, B>
     requires source { reads seat.planned ≤ into_iter_len sources.old }
     requires drain { writes seat.planned ≤ into_iter_len drains.old }
-    ensures fills { (chains : List graph.Chain) → Fills chains seat (into_iter_items sources.old) (into_iter_items drains.old) result
+    ensures fills { (around : Around) → Fills around seat (into_iter_items sources.old) (into_iter_items drains.old) result
         (into_iter_items sources.new) (into_iter_items drains.new) }
     ensures seat { place_seat result ≡ planned_seat seat }
     ensures plan { place_plan result ≡ planned_plan seat }
@@ -428,8 +496,8 @@ pub fn fill_all<S: Source, D: Drain, L: Logic, B: PlugBook>(
     requires room { vec_len seats ≤ vec_capacity places }
     requires sources { vec_len sources ≡ reads_in seats.items }
     requires drains { vec_len drains ≡ writes_in seats.items }
-    ensures seats { (chains : List graph.Chain) (nodes : List blue.Node) → ArePlanned chains 0 nodes seats.items
-        → AreSeats chains 0 nodes sources.items drains.items result.items }
+    ensures seats { (around : Around) (nodes : List blue.Node) → ArePlanned around 0 nodes seats.items
+        → AreSeats around 0 nodes sources.items drains.items result.items }
     ensures room { vec_capacity result ≡ vec_capacity places }
     ensures each { vec_len result ≡ vec_len seats }
     ensures kept { map place_seat result.items ≡ map planned_seat seats.items }

@@ -20,7 +20,7 @@ use Rattle.nodes.specs.Ports.{OneIn, OneInOf, OneOut, OneOutOf}
 use Rattle.nodes.specs.Source.{Lines, lines_port_state, lines_port_state_in, LinesLaw}
 use Rattle.nodes.specs.Sink.{Sink, sink_port_state, sink_port_state_in, SinkLaw, SinkPutsOff}
 use Rattle.nodes.specs.declared.node.IslandNode.{IslandNode}
-use Rattle.nodes.specs.declared.node.IslandNode.TheVariants.{Reading, Making, Linear, State, Sub, FanIn, FanOut, Writing, Ignoring}
+use Rattle.nodes.specs.declared.node.IslandNode.TheVariants.{Reading, Making, Linear, State, Sub, FanIn, FanOut, Custom, Writing, Ignoring}
 use Rattle.nodes.specs.declared.node.IslandNode.TheVariants as node
 use Rattle.nodes.specs.Nodes.{node_fresh, node_port_state, node_law, node_asking, node_moves, node_gone, node_passive}
 use Rattle.nodes.proofs.Acting.{on_ok_two}
@@ -83,6 +83,7 @@ module _ {S D : Type 0} (L B : Type 0) (sources : S → SourceState) (drains : D
   writing_law (Sub f) old new v w took gave more given keeps law = absurd law
   writing_law (FanIn f) old new v w took gave more given keeps law = absurd law
   writing_law (FanOut f) old new v w took gave more given keeps law = absurd law
+  writing_law (Custom f) old new v w took gave more given keeps law = absurd law
   writing_law (Ignoring f) old new v w took gave more given keeps law = absurd law
   writing_law (node.Entering f) old new v w took gave more given keeps law = absurd law
   writing_law (node.Leaving f) old new v w took gave more given keeps law = absurd law
@@ -138,6 +139,7 @@ module _ {S D : Type 0} (L B : Type 0) (sources : S → SourceState) (drains : D
   reading_law (Sub f) old new v w took gave more given keeps law = absurd law
   reading_law (FanIn f) old new v w took gave more given keeps law = absurd law
   reading_law (FanOut f) old new v w took gave more given keeps law = absurd law
+  reading_law (Custom f) old new v w took gave more given keeps law = absurd law
   reading_law (Ignoring f) old new v w took gave more given keeps law = absurd law
   reading_law (node.Entering f) old new v w took gave more given keeps law = absurd law
   reading_law (node.Leaving f) old new v w took gave more given keeps law = absurd law
@@ -168,6 +170,7 @@ module _ {S D : Type 0} (L B : Type 0) (sources : S → SourceState) (drains : D
   leaving_law (node.Sub f) old new v w took gave more given keeps law = absurd law
   leaving_law (node.FanIn f) old new v w took gave more given keeps law = absurd law
   leaving_law (node.FanOut f) old new v w took gave more given keeps law = absurd law
+  leaving_law (node.Custom f) old new v w took gave more given keeps law = absurd law
   leaving_law (node.Writing f) old new v w took gave more given keeps law = absurd law
   leaving_law (node.Ignoring f) old new v w took gave more given keeps law = absurd law
   leaving_law (node.Entering f) old new v w took gave more given keeps law = absurd law

@@ -18,9 +18,10 @@ use Rattle.stage_in.specs.Logics.{InAsking, InFresh, InPortState, InLaw}
 use Rattle.stage_in.specs.Moves.{in_picks, in_misfit, in_plan}
 use Rattle.stage_out.specs.OutLogics.{OutFresh, OutAsking, OutLaw}
 use Rattle.stage_out.specs.OutLogics as out
+use Rattle.graph_stage.specs.Laws.{CustomFresh, CustomPortState, CustomLaw}
 use Rattle.stage_out.specs.Moves.{out_picks, out_misfit, out_plan}
 use Rattle.nodes.specs.declared.node.IslandNode.{IslandNode}
-use Rattle.nodes.specs.declared.node.IslandNode.TheVariants.{Reading, Making, Linear, State, Sub, FanIn, FanOut, Writing, Ignoring, Entering, Leaving}
+use Rattle.nodes.specs.declared.node.IslandNode.TheVariants.{Reading, Making, Linear, State, Sub, FanIn, FanOut, Custom, Writing, Ignoring, Entering, Leaving}
 use Rattle.nodes.specs.declared.node.NodeEnd.{NodeEnd}
 use Rattle.nodes.specs.declared.node.NodeEnd.TheVariants.{Read, Staged, Wrote}
 use Rattle.nodes.specs.Entering.{EnteringFresh, EnteringPortState, EnteringLaw}
@@ -41,6 +42,7 @@ node_fresh (State x) v = StateFresh x v
 node_fresh (Sub x) v = LedNew line_rest line_is_open x v
 node_fresh (FanIn x) v = InFresh x v
 node_fresh (FanOut x) v = OutFresh x v
+node_fresh (Custom x) v = CustomFresh x v
 node_fresh (Writing x) v = SinkFresh x v
 node_fresh (Ignoring x) v = IgnoreFresh x v
 node_fresh (Entering x) v = EnteringFresh x v
@@ -55,6 +57,7 @@ node_port_state (State x) v = StatePortState x v
 node_port_state (Sub x) v = LedPortState line_rest line_is_open x v
 node_port_state (FanIn x) v = InPortState x v
 node_port_state (FanOut x) v = out.port_state x v
+node_port_state (Custom x) v = CustomPortState x v
 node_port_state (Writing x) v = sink_port_state x v
 node_port_state (Ignoring x) v = ignore_port_state x v
 node_port_state (Entering x) v = EnteringPortState x v
@@ -70,6 +73,7 @@ node_law sources drains book (State first) (State x) v took gave = StateLaw firs
 node_law sources drains book (Sub first) (Sub x) v took gave = SubsLaw line_rest line_is_open line_whole first x v took gave
 node_law sources drains book (FanIn first) (FanIn x) v took gave = InLaw first x v took gave
 node_law sources drains book (FanOut first) (FanOut x) v took gave = OutLaw first x v took gave
+node_law sources drains book (Custom first) (Custom x) v took gave = CustomLaw first x v took gave
 node_law sources drains book (Writing first) (Writing x) v took gave = SinkLaw drains first x v took gave
 node_law sources drains book (Ignoring first) (Ignoring x) v took gave = IgnoreLaw first x v took gave
 node_law sources drains book (Entering first) (Entering x) v took gave = EnteringLaw first x v took gave
@@ -92,6 +96,7 @@ node_picks (State x) = state_picks x
 node_picks (Sub x) = sub_picks x.logic
 node_picks (FanIn x) = in_picks x
 node_picks (FanOut x) = out_picks x
+node_picks (Custom x) = None
 node_picks (Writing x) = None
 node_picks (Ignoring x) = None
 node_picks (Entering x) = None
@@ -138,6 +143,7 @@ node_seat (State x) = state_seat x
 node_seat (Sub x) = None
 node_seat (FanIn x) = None
 node_seat (FanOut x) = None
+node_seat (Custom x) = None
 node_seat (Writing x) = None
 node_seat (Ignoring x) = None
 node_seat (Entering x) = None
@@ -157,6 +163,7 @@ node_end (State x) = Staged
 node_end (Sub x) = Staged
 node_end (FanIn x) = Staged
 node_end (FanOut x) = Staged
+node_end (Custom x) = Staged
 node_end (Writing x) = Wrote (record { node = x.node; count = x.count; end = x.end; drain = Some x.drain })
 node_end (Ignoring x) = Wrote (record { node = x.node; count = 0; end = x.end; drain = None })
 node_end (Entering x) = Staged

@@ -19,6 +19,8 @@ use crate::source::LinesSource;
 use elem_core::elem::Elem;
 use elem_core::item::Item;
 use elem_core::why::{Cause, NoMemory};
+use graph_stage::handlers::Handlers;
+use graph_stage::stage::CustomStage;
 use line_chain::line::LineChain;
 use plug_logic::book::PlugBook;
 use plug_logic::logic::Logic;
@@ -51,6 +53,8 @@ pub enum IslandNode<S: Source, D: Drain, L: Logic, B: PlugBook> {
     FanIn(InLogic),
     /// A stage with several outputs.
     FanOut(OutLogic),
+    /// A stage that the caller hands in and that calls its ports itself.
+    Custom(CustomStage<Box<dyn Handlers + Send>>),
     /// A sink that writes elements into a file.
     Writing(FileSink<D>),
     /// A sink that keeps nothing.
@@ -72,6 +76,7 @@ impl<S: Source, D: Drain, L: Logic, B: PlugBook> Drop for IslandNode<S, D, L, B>
             IslandNode::Sub(_) => {}
             IslandNode::FanIn(_) => {}
             IslandNode::FanOut(_) => {}
+            IslandNode::Custom(_) => {}
             IslandNode::Writing(_) => {}
             IslandNode::Ignoring(_) => {}
             IslandNode::Entering(_) | IslandNode::Leaving(_) => {}
@@ -103,6 +108,7 @@ impl<S: Source, D: Drain, L: Logic, B: PlugBook> IslandNode<S, D, L, B> {
             IslandNode::Reading(source) => (NodeEnd::Read(source.into_source()), None, None),
             IslandNode::Making(_)
             | IslandNode::Linear(_)
+            | IslandNode::Custom(_)
             | IslandNode::Entering(_)
             | IslandNode::Leaving(_) => { (NodeEnd::Staged, None, None) }
             IslandNode::State(logic) => {
@@ -140,6 +146,7 @@ impl<S: Source, D: Drain, L: Logic, B: PlugBook> IslandNode<S, D, L, B> {
             IslandNode::Sub(logic) => Stage::on_pull(logic, alloc, port, acts),
             IslandNode::FanIn(logic) => Stage::on_pull(logic, alloc, port, acts),
             IslandNode::FanOut(logic) => Stage::on_pull(logic, alloc, port, acts),
+            IslandNode::Custom(stage) => Stage::on_pull(stage, alloc, port, acts),
             IslandNode::Entering(stage) => Stage::on_pull(stage, alloc, port, acts),
             IslandNode::Leaving(stage) => Stage::on_pull(stage, alloc, port, acts),
             IslandNode::Linear(_) | IslandNode::Writing(_) | IslandNode::Ignoring(_) => {
@@ -204,6 +211,7 @@ impl<S: Source, D: Drain, L: Logic, B: PlugBook> IslandNode<S, D, L, B> {
             IslandNode::Sub(logic) => Stage::on_push(logic, alloc, port, e, acts),
             IslandNode::FanIn(logic) => Stage::on_push(logic, alloc, port, e, acts),
             IslandNode::FanOut(logic) => Stage::on_push(logic, alloc, port, e, acts),
+            IslandNode::Custom(stage) => Stage::on_push(stage, alloc, port, e, acts),
             IslandNode::Writing(sink) => sink.on_push(e, acts),
             IslandNode::Ignoring(sink) => sink.on_push(e, acts),
             IslandNode::Entering(stage) => Stage::on_push(stage, alloc, port, e, acts),
@@ -242,6 +250,7 @@ impl<S: Source, D: Drain, L: Logic, B: PlugBook> Stage for IslandNode<S, D, L, B
             IslandNode::Sub(logic) => Stage::start(logic, alloc, acts),
             IslandNode::FanIn(logic) => Stage::start(logic, alloc, acts),
             IslandNode::FanOut(logic) => Stage::start(logic, alloc, acts),
+            IslandNode::Custom(stage) => Stage::start(stage, alloc, acts),
             IslandNode::Writing(sink) => sink.start(acts),
             IslandNode::Ignoring(sink) => sink.start(acts),
             IslandNode::Entering(stage) => Stage::start(stage, alloc, acts),
@@ -277,6 +286,7 @@ impl<S: Source, D: Drain, L: Logic, B: PlugBook> Stage for IslandNode<S, D, L, B
             IslandNode::Sub(logic) => Stage::on_finish(logic, alloc, port, acts),
             IslandNode::FanIn(logic) => Stage::on_finish(logic, alloc, port, acts),
             IslandNode::FanOut(logic) => Stage::on_finish(logic, alloc, port, acts),
+            IslandNode::Custom(stage) => Stage::on_finish(stage, alloc, port, acts),
             IslandNode::Writing(sink) => sink.on_finish(acts),
             IslandNode::Ignoring(sink) => sink.on_finish(acts),
             IslandNode::Entering(stage) => Stage::on_finish(stage, alloc, port, acts),
@@ -298,6 +308,7 @@ impl<S: Source, D: Drain, L: Logic, B: PlugBook> Stage for IslandNode<S, D, L, B
             IslandNode::Sub(logic) => Stage::on_fail(logic, alloc, port, cause, acts),
             IslandNode::FanIn(logic) => Stage::on_fail(logic, alloc, port, cause, acts),
             IslandNode::FanOut(logic) => Stage::on_fail(logic, alloc, port, cause, acts),
+            IslandNode::Custom(stage) => Stage::on_fail(stage, alloc, port, cause, acts),
             IslandNode::Writing(sink) => sink.on_fail(cause, acts),
             IslandNode::Ignoring(sink) => sink.on_fail(cause, acts),
             IslandNode::Entering(stage) => Stage::on_fail(stage, alloc, port, cause, acts),
@@ -314,6 +325,7 @@ impl<S: Source, D: Drain, L: Logic, B: PlugBook> Stage for IslandNode<S, D, L, B
             IslandNode::Sub(logic) => Stage::on_cancel(logic, alloc, port, acts),
             IslandNode::FanIn(logic) => Stage::on_cancel(logic, alloc, port, acts),
             IslandNode::FanOut(logic) => Stage::on_cancel(logic, alloc, port, acts),
+            IslandNode::Custom(stage) => Stage::on_cancel(stage, alloc, port, acts),
             IslandNode::Entering(stage) => Stage::on_cancel(stage, alloc, port, acts),
             IslandNode::Leaving(stage) => Stage::on_cancel(stage, alloc, port, acts),
             IslandNode::Writing(_) | IslandNode::Ignoring(_) => unreachable!(),

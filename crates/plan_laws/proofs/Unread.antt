@@ -1,13 +1,13 @@
 -- Where no read of a file failed, the outlooks are of the files' bytes alone, and not of how many of them were read.
-use Rattle.std.proofs.Common.{◌≡◌, ℕ, zero, suc, Bool, false, List, [], ◌∷◌, length, Option, Some, None, refl, sym, ap, ◌∙◌}
+use Rattle.std.proofs.Common.{◌≡◌, ℕ, zero, suc, Bool, true, false, List, [], ◌∷◌, length, Option, Some, None, refl, sym, ap, ◌∙◌}
 use Rattle.std.specs.Prelude.{slice_get}
 use Rattle.elem_core.specs.declared.why.Decider.{Decider}
 use Rattle.stream_model.specs.declared.kind.Kind.{Kind}
-use Rattle.stream_model.specs.declared.kind.Kind.TheVariants.{Lines}
+use Rattle.stream_model.specs.declared.kind.Kind.TheVariants.{Lines, Custom}
 use Rattle.stream_model.specs.Outlook.{Outlook}
 use Rattle.stream_model.specs.Graph.{Graph, Node, Edge, find_wire}
 use Rattle.stream_model.specs.Linear.{work_of}
-use Rattle.stream_model.specs.Node.{World, nothing, node_outlook, of_work}
+use Rattle.stream_model.specs.Node.{World, nothing, node_outlook, of_work, custom_by}
 use Rattle.stream_model.specs.Composed.{inputs_of, count_from, received, wire_loss, incoming, ports_of, given_on, sent_on, rounds, composed, sink_outlook}
 use Rattle.stream_model.specs.Sources.{File, lines_outlook}
 use Rattle.plan_laws.specs.Unread.{AlikeFiles, AlikeSources, with_files}
@@ -22,9 +22,15 @@ module _ (g : Graph) (w : World) (file : List ℕ → File) (alike : AlikeSource
   abbrev other : World
   other = with_files file w
 
+  -- what a custom stage gives that tells a list, or tells none
+  custom_same : (node : ℕ) (name : List ℕ) (d : Decider) (is : List Outlook) (p : ℕ) (tells : Bool) → custom_by g other node name d is p tells ≡ custom_by g w node name d is p tells
+  custom_same node name d is p true = refl
+  custom_same node name d is p false = refl
+
   -- what a node gives
   kind_same : (node : ℕ) (k : Kind) (d : Decider) (is : List Outlook) (p : ℕ) → ((name : List ℕ) → k ≡ Lines name → AlikeFiles (file name) (w.file name)) → node_outlook g other node k d is p ≡ node_outlook g w node k d is p
   kind_same node (Lines name) d is p h = lines_same node (file name) (w.file name) (h name refl)
+  kind_same node (Custom name) d is p h = custom_same node name d is p (w.customs.tells name)
   kind_same node k d is p h = refl
 
   incoming_same : (sent now : ℕ → Outlook) → ((i : ℕ) → sent i ≡ now i) → (o : Option ℕ) → incoming g other sent o ≡ incoming g w now o
@@ -40,8 +46,8 @@ module _ (g : Graph) (w : World) (file : List ℕ → File) (alike : AlikeSource
   given_same : (sent now : ℕ → Outlook) → ((i : ℕ) → sent i ≡ now i) → (node p : ℕ) (o : Option Node) → slice_get g.nodes node ≡ o → given_on g other sent node o p ≡ given_on g w now node o p
   given_same sent now same node p None at = refl
   given_same sent now same node p (Some n) at =
-      kind_same node n.kind n.decider (ports_of g other sent node (count_from 0 (inputs_of n.kind))) p (λ name is. alike node n name at is)
-      ∙ ap (λ (os : List Outlook). node_outlook g w node n.kind n.decider os p) (ports_same sent now same node (count_from 0 (inputs_of n.kind)))
+      kind_same node n.kind n.decider (ports_of g other sent node (count_from 0 (inputs_of n))) p (λ name is. alike node n name at is)
+      ∙ ap (λ (os : List Outlook). node_outlook g w node n.kind n.decider os p) (ports_same sent now same node (count_from 0 (inputs_of n)))
 
   sent_same : (sent now : ℕ → Outlook) → ((i : ℕ) → sent i ≡ now i) → (o : Option Edge) → sent_on g other sent o ≡ sent_on g w now o
   sent_same sent now same None = refl

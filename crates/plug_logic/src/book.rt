@@ -1,10 +1,12 @@
 // What plugs give, by their names.
-ghost use Rattle.stream_model.specs.Linear.{Book};
+ghost use Rattle.stream_model.specs.Linear.{Book, CustomBook, none_told};
 ghost use Rattle.plug_logic.specs.Shipped.{shipped_book};
 
-/// What the plugs of a program give, by their names. It has no calls.
+/// What the plugs of a program give, by their names, and which of its custom stages tell a list, and what they give. It has no calls.
 pub trait PlugBook {
     ghost lists: { Book };
+
+    ghost customs: { CustomBook };
 }
 
 /// The book of the plugs that the program ships: `dedup` and `pairsum`. A plug of any other name gives nothing.
@@ -12,4 +14,6 @@ pub struct Shipped;
 
 impl PlugBook for Shipped {
     ghost lists = { shipped_book };
+
+    ghost customs = { none_told shipped_book };
 }

@@ -66,6 +66,13 @@ impl Acts {
         self.items.push_reserved(act);
     }
 
+    /// How many actions are held.
+    pub fn len(&self) -> usize
+        ensures { result ≡ length self.now.items }
+    {
+        self.items.len()
+    }
+
     /// Takes out the action where exactly one is held, in constant time; else the list stays. It takes no memory.
     pub fn only(&mut self) -> Option<Act>
         ensures one { IfSome result (λ a. (self.old.items ≡ a ∷ []) × (self.new ≡ record self.old { items = [] })) }

@@ -18,6 +18,7 @@ use stream_command::shipped_run::run_shipped;
 use stream_io::named_file::{NamedFile, bytes_of};
 use stream_model::blueprint::Blueprint;
 use stream_model::head::PlugHead;
+use stream_model::heads::shipped_customs;
 
 /// The code that stands for want of memory.
 const NO_MEMORY: u32 = 9;
@@ -191,7 +192,8 @@ fn unfit(alloc: Global, end: CheckEnd) -> Result<Came, Fault> {
 
 fn judged(alloc: Global, blueprint: Blueprint, plugs: u32) -> Result<Came, Fault> {
     let heads = dedups(alloc, plugs)?;
-    match check(alloc, blueprint, &heads, &[]) {
+    let customs = shipped_customs(alloc)?;
+    match check(alloc, blueprint, &heads, &customs, &[]) {
         Ok(checked) => {
             let mut text = Vec::new(alloc);
             let tree: &[u8] = if checked.is_polytree() {

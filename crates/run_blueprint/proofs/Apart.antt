@@ -10,7 +10,7 @@ use Rattle.stream_model.specs.declared.kind.Kind.TheVariants.{Lines, ToLines, He
 use Rattle.std.specs.Cmp.Lexicographic.{bytes_decides}
 use Rattle.elem_core.specs.Values.{same_text}
 use Rattle.stream_model.specs.declared.blueprint.ChainDecl.{ChainDecl}
-use Rattle.stream_model.specs.declared.head.PlugHead.{PlugHead}
+use Rattle.stream_model.specs.Known.{HeadLists}
 use Rattle.blue_names.specs.Names.{Claim, called, opens, same_claim, text_of, first_again, file_of, opening, claims_of_nodes, claims, taken_twice}
 use Rattle.blue_check.specs.declared.fault.CheckFault.TheVariants.{TwoNames}
 use Rattle.blue_check.specs.Fitness.{IsFit}
@@ -151,7 +151,7 @@ taken_at (t ∷ ts) (suc i) f e at = taken_at ts i f (or_second (same_text f t) 
 taken_any : (taken : List (List ℕ)) (f : List ℕ) → list_any (same_claim (opens f)) (map opens taken) ≡ false → Contains taken f → ⊥
 taken_any taken f e c = let found = contained_at taken f c in taken_at taken found.0 f e found.1
 
-module _ (b : Blueprint) (plugs : List PlugHead) (taken : List (List ℕ)) (fit : IsFit b plugs taken) where
+module _ (b : Blueprint) (heads : HeadLists) (taken : List (List ℕ)) (fit : IsFit b heads taken) where
   abbrev nodes : List Node
   nodes = b.nodes.items
 

@@ -33,7 +33,7 @@ use Rattle.run_laws.specs.Sinks.{SinkTells, SinkWrote}
 use Rattle.stream_model.specs.declared.blueprint.Blueprint.{Blueprint}
 use Rattle.stream_model.specs.declared.blueprint.Node as blue
 use Rattle.blue_check.specs.Fitness.{IsFit}
-use Rattle.stream_model.specs.declared.head.PlugHead.{PlugHead}
+use Rattle.stream_model.specs.Known.{HeadLists}
 use Rattle.materializer.specs.Fit.{CanRun}
 use Rattle.materializer.specs.Files.{output_of, inputs_of_nodes, outputs_of_nodes}
 use Rattle.materializer.specs.Graphs.{graph_node, graph_of}
@@ -91,6 +91,7 @@ reader_ends (node.State x) = refl
 reader_ends (node.Sub x) = refl
 reader_ends (node.FanIn x) = refl
 reader_ends (node.FanOut x) = refl
+reader_ends (node.Custom x) = refl
 reader_ends (node.Writing x) = refl
 reader_ends (node.Ignoring x) = refl
 reader_ends (node.Entering x) = refl
@@ -104,6 +105,7 @@ writer_ends (node.State x) = refl
 writer_ends (node.Sub x) = refl
 writer_ends (node.FanIn x) = refl
 writer_ends (node.FanOut x) = refl
+writer_ends (node.Custom x) = refl
 writer_ends (node.Writing x) = refl
 writer_ends (node.Ignoring x) = refl
 writer_ends (node.Entering x) = refl
@@ -192,7 +194,7 @@ module _ {S D L B : Type 0} (sources : S → SourceState) (drains : D → DrainS
 -- ---- what the run leaves
 
 module _ {S D L B : Type 0} (sources : S → SourceState) (drains : D → DrainState) (book : Book) (handles : HandleLaws L B sources drains book) (wrote_law : WroteLaw L B sources drains book)
-    (ranked_law : (b : Blueprint) (plugs : List PlugHead) (taken : List (List ℕ)) → IsFit b plugs taken → (rank : ℕ → ℕ) × IsRanked (graph_of b) rank)
+    (ranked_law : (b : Blueprint) (heads : HeadLists) (taken : List (List ℕ)) → IsFit b heads taken → (rank : ℕ → ℕ) × IsRanked (graph_of b) rank)
     (b : Blueprint) (can : CanRun b) (ss : List S) (ds : List D) (e : IslandEnd S D) (l : LeavesBroken L B sources drains book b ss ds e)
     (old mid : FolderState) (trace : Option (List ℕ)) (separate : IsApart b trace) (opens : Opens old mid (inputs_of_nodes b.nodes.items) (outputs_of_nodes b.nodes.items) (option_to_list trace) (map sources ss) (map drains ds)) (new : FolderState)
     (closes : Shuts mid new (option_to_list trace) (map sources e.readers.items) (map drains e.writers.items)) where
@@ -278,9 +280,9 @@ module _ {S D L B : Type 0} (sources : S → SourceState) (drains : D → DrainS
         let z = writing_kept sources drains f.now y.0 y.1.1 in
         let here : slice_get final k ≡ Some (node.Writing z.0) = y.1.0 ∙ ap Some z.1.0 in
         let named : (drains z.0.drain).name ≡ file = ap (λ (s : DrainState). s.name) z.1.1 ∙ f.law.name ∙ f.first_named in
-        let wrote : SinkWrote sources drains book g left k (graph_node n) f.first f.now = wrote_law g left run k (graph_node n) f.first f.now (mapped_at graph_node nodes k n at) f.there in
-        let ranked = ranked_law b can.plugs can.taken can.fit in
-        let tells : (w : World) → IsWorldOf book nodes drawn w → SinkTells (sink_outlook g w k (graph_node n)) f.now.end wrote.written = λ w is. wrote.tells w ranked.0 is.book_is (drew.tells w is) ranked.1 in
+        let wrote : SinkWrote sources drains book g left k (graph_node b.wires.items n) f.first f.now = wrote_law g left run k (graph_node b.wires.items n) f.first f.now (mapped_at (graph_node b.wires.items) nodes k n at) f.there in
+        let ranked = ranked_law b can.heads can.taken can.fit in
+        let tells : (w : World) → IsWorldOf book nodes drawn w → SinkTells (sink_outlook g w k (graph_node b.wires.items n)) f.now.end wrote.written = λ w is. wrote.tells w ranked.0 is.book_is (drew.tells w is) ranked.1 in
         let grew = writes_grew sources drains b can final e.readers.items e.writers.items apart old mid _ _ opens new closes lone k file z.0 here named in
         record {
           held = wrote.written;
@@ -290,7 +292,7 @@ module _ {S D L B : Type 0} (sources : S → SourceState) (drains : D → DrainS
               ∙ ap (λ (s : DrainState). s.holds) z.1.1
               ∙ wrote.holds (f.start.holds (closes.told told));
           tells = tells;
-          part = λ w is. part_of (sink_outlook g w k (graph_node n)) f.now.end wrote.written (tells w is);
+          part = λ w is. part_of (sink_outlook g w k (graph_node b.wires.items n)) f.now.end wrote.written (tells w is);
           writes = stands_writes f.now.end f.now.gather (drains f.first.drain) (drains f.now.drain) f.law.wrote f.now.count (old.wfaults file) (new.wfaults file) f.law.stands f.start.faults
               (subst (λ (s : DrainState). Grew (old.wfaults file) s.faults (new.wfaults file)) z.1.1 grew);
         }

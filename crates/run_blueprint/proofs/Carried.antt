@@ -7,26 +7,26 @@ use Rattle.elem_core.specs.Prefix.{IsPrefix}
 use Rattle.elem_core.proofs.Prefixes.{prefix_refl}
 use Rattle.elem_core.specs.declared.item.Item.{Item}
 use Rattle.stream_model.specs.declared.kind.Kind.{Kind}
-use Rattle.stream_model.specs.declared.kind.Kind.TheVariants.{Lines, ToLines, Head, Ignore}
+use Rattle.stream_model.specs.declared.kind.Kind.TheVariants.{Lines, ToLines, Head, Ignore, Custom}
 use Rattle.stream_model.specs.declared.outcome.EndState.TheVariants.{Ended}
 use Rattle.stream_model.specs.declared.outcome.WireCount.{WireCount}
 use Rattle.stream_model.specs.Composed.{next, IsRanked}
 use Rattle.stream_model.specs.Graph.{Graph, Edge}
 use Rattle.stream_model.specs.Graph as graph
 use Rattle.stream_model.specs.Lane.{lane_loss}
-use Rattle.stream_model.specs.Linear.{Book}
-use Rattle.stream_model.specs.Node.{World}
+use Rattle.stream_model.specs.Linear.{Book, none_told}
+use Rattle.stream_model.specs.Node.{World, nothing}
 use Rattle.stream_model.specs.Outlook.{Outlook, End, unended, Agrees}
 use Rattle.stream_model.proofs.Compositions.{slice_get-below}
 use Rattle.stage_core.specs.Held.{told}
 use Rattle.stream_model.specs.Shape.{sent_at}
-use Rattle.run_laws.specs.Items.{list_of, end_of_items, AgreesWith, WithinOutlook}
+use Rattle.run_laws.specs.Items.{list_of, end_of_items, AgreesWith, WithinOutlook, IsToldList}
 use Rattle.run_laws.specs.Reads.{GivesTexts}
 use Rattle.run_laws.proofs.Coming.{elements_told}
 use Rattle.run_laws.proofs.Histories.{list_of_told, standing_told}
 use Rattle.stream_model.specs.declared.blueprint.Blueprint.{Blueprint}
 use Rattle.stream_model.specs.declared.blueprint.Node.{Node}
-use Rattle.stream_model.specs.declared.head.PlugHead.{PlugHead}
+use Rattle.stream_model.specs.Known.{HeadLists}
 use Rattle.blue_check.specs.Fitness.{IsFit}
 use Rattle.blue_check.specs.Wires.{blueprint_wires}
 use Rattle.materializer.specs.Files.{output_of}
@@ -42,27 +42,26 @@ use Rattle.run_blueprint.specs.Stands.{SinkStand}
 use Rattle.run_blueprint.specs.Choosing.{HasPicks}
 use Rattle.run_blueprint.proofs.Places.{mapped_at, place_of}
 
--- a world with these plugs and without files, in which these moves were made
+-- a world with these heads and without files, in which these moves were made
 abbrev pub unread : Book → (ℕ → List ℕ) → World
-unread book moves = record { book = book; file = λ name. record { bytes = []; read = 0; faulted = false }; moves = moves }
-
--- the items are a list, and how it stands
-pub record IsTold (items : List Item) : Type 0 where
-  pub list : List Tree
-  pub end : End
-  pub is : items ≡ told list end
+unread book moves = record { book = book; customs = none_told book; file = λ name. record { bytes = []; read = 0; faulted = false }; moves = moves; given = λ k p. nothing }
 
 -- as all that may pass
-pub agrees_exactly : (items : List Item) → IsTold items → AgreesWith (exact (list_of items) (end_of_items items)) items
+pub agrees_exactly : (items : List Item) → IsToldList items → AgreesWith (exact (list_of items) (end_of_items items)) items
 agrees_exactly items t = record { list = t.list; end = t.end; is = t.is; agrees = rw (t.is, list_of_told t.list t.end, standing_told t.list t.end) (exact_agrees t.list t.end) }
 
-pub passes_exactly : (items : List Item) → IsTold items → WithinOutlook (exact (list_of items) (end_of_items items)) items
+pub passes_exactly : (items : List Item) → IsToldList items → WithinOutlook (exact (list_of items) (end_of_items items)) items
 passes_exactly items t = record { list = t.list; end = t.end; is = t.is; part = subst (IsPrefix t.list) (sym (ap list_of t.is ∙ list_of_told t.list t.end)) (prefix_refl t.list) }
 
 -- a source of lines, or none
 is_lines : (k : Kind) → ((name : List ℕ) × (k ≡ Lines name)) ⊎ ((name : List ℕ) → k ≢ Lines name)
 is_lines (Lines name) = inl (name, refl)
 is_lines _ = inr (λ name e. cc)
+
+-- a custom stage, or none
+is_custom : (k : Kind) → ((name : List ℕ) × (k ≡ Custom name)) ⊎ ((name : List ℕ) → k ≢ Custom name)
+is_custom (Custom name) = inl (name, refl)
+is_custom _ = inr (λ name e. cc)
 
 -- a list that was told agrees as it stands
 pub agrees_told : (o : Outlook) (items : List Item) → AgreesWith o items → Agrees o (list_of items) (end_of_items items)
@@ -72,24 +71,26 @@ agrees_told o items a = rw (a.is, list_of_told a.list a.end, standing_told a.lis
 
 module _ (g : Graph) (rank : ℕ → ℕ) (ranked : IsRanked g rank) (w : World) (items : ℕ → List Item) (from : (i : ℕ) (v : Edge) → slice_get g.wires i ≡ Some v → (n : graph.Node) × (slice_get g.nodes v.from ≡ Some n))
     (texts : (u : ℕ) (v : Edge) (n : graph.Node) (name : List ℕ) → slice_get g.wires u ≡ Some v → slice_get g.nodes v.from ≡ Some n → n.kind ≡ Lines name → GivesTexts (items u))
-    (gives : (sent : ℕ → Outlook) (j : ℕ) (v : Edge) (n : graph.Node) → slice_get g.wires j ≡ Some v → slice_get g.nodes v.from ≡ Some n → ((name : List ℕ) → n.kind ≢ Lines name)
+    (customs : (u : ℕ) (v : Edge) (n : graph.Node) (name : List ℕ) → slice_get g.wires u ≡ Some v → slice_get g.nodes v.from ≡ Some n → n.kind ≡ Custom name → IsToldList (items u))
+    (gives : (sent : ℕ → Outlook) (j : ℕ) (v : Edge) (n : graph.Node) → slice_get g.wires j ≡ Some v → slice_get g.nodes v.from ≡ Some n → ((name : List ℕ) → n.kind ≢ Lines name) → ((name : List ℕ) → n.kind ≢ Custom name)
     → ((u : ℕ) (x : Edge) → slice_get g.wires u ≡ Some x → x.to ≡ v.from → AgreesWith (sent u) (items u)) → AgreesWith (next g w sent j) (items j)) where
-  told_on : (j : ℕ) (v : Edge) (n : graph.Node) → slice_get g.wires j ≡ Some v → slice_get g.nodes v.from ≡ Some n → ((i : ℕ) → i < length g.wires → rank i < rank j → IsTold (items i))
-      → ((name : List ℕ) × (n.kind ≡ Lines name)) ⊎ ((name : List ℕ) → n.kind ≢ Lines name) → IsTold (items j)
-  told_on j v n at is below (inl r) = let s = texts j v n r.0 at is r.1 in record { list = map text s.texts; end = s.end; is = s.is }
-  told_on j v n at is below (inr other) =
-      let a = gives (λ u. exact (list_of (items u)) (end_of_items (items u))) j v n at is other
+  told_on : (j : ℕ) (v : Edge) (n : graph.Node) → slice_get g.wires j ≡ Some v → slice_get g.nodes v.from ≡ Some n → ((i : ℕ) → i < length g.wires → rank i < rank j → IsToldList (items i))
+      → ((name : List ℕ) × (n.kind ≡ Lines name)) ⊎ ((name : List ℕ) → n.kind ≢ Lines name) → ((name : List ℕ) × (n.kind ≡ Custom name)) ⊎ ((name : List ℕ) → n.kind ≢ Custom name) → IsToldList (items j)
+  told_on j v n at is below (inl r) c = let s = texts j v n r.0 at is r.1 in record { list = map text s.texts; end = s.end; is = s.is }
+  told_on j v n at is below (inr other) (inl c) = customs j v n c.0 at is c.1
+  told_on j v n at is below (inr other) (inr hired) =
+      let a = gives (λ u. exact (list_of (items u)) (end_of_items (items u))) j v n at is other hired
       (λ u x ux to. agrees_exactly (items u) (below u (slice_get-below g.wires u x ux) (ranked.rises u j x v ux at to))) in
       record { list = a.list; end = a.end; is = a.is }
 
-  told_by : (j : ℕ) → j < length g.wires → ((i : ℕ) → i < length g.wires → rank i < rank j → IsTold (items i)) → IsTold (items j)
+  told_by : (j : ℕ) → j < length g.wires → ((i : ℕ) → i < length g.wires → rank i < rank j → IsToldList (items i)) → IsToldList (items j)
   told_by j l below =
       let v = place_of g.wires j l in
       let n = from j v.0 v.1 in
-      told_on j v.0 n.0 v.1 n.1 below (is_lines n.0.kind)
+      told_on j v.0 n.0 v.1 n.1 below (is_lines n.0.kind) (is_custom n.0.kind)
 
-  pub told_sent : (i : ℕ) (v : Edge) → slice_get g.wires i ≡ Some v → IsTold (items i)
-  told_sent i v at = all_by_rank rank (length g.wires) (λ u. IsTold (items u)) told_by i (slice_get-below g.wires i v at)
+  pub told_sent : (i : ℕ) (v : Edge) → slice_get g.wires i ≡ Some v → IsToldList (items i)
+  told_sent i v at = all_by_rank rank (length g.wires) (λ u. IsToldList (items u)) told_by i (slice_get-below g.wires i v at)
 
 -- how a wire stands on which these items were sent
 pub record Stood (v : Edge) (c : WireCount) (items : List Item) : Type 0 where
@@ -99,9 +100,9 @@ pub record Stood (v : Edge) (c : WireCount) (items : List Item) : Type 0 where
 -- ---- what passed
 
 module _ (book : Book) (b : Blueprint) (stands : List SinkStand) (wires : List WireCount) (picks : List Pick) (moves : ℕ → List ℕ) (items : ℕ → List Item) (counts : (u : ℕ) (v : Edge) → slice_get (blueprint_wires b) u ≡ Some v → sent_at wires u ≡ elements (items u))
-    (told_there : (i : ℕ) (v : Edge) → slice_get (blueprint_wires b) i ≡ Some v → IsTold (items i))
-    (sends : (plugs : List PlugHead) (taken : List (List ℕ)) → IsFit b plugs taken → KeepsPlugTypes plugs book → (i : ℕ) (v : Edge) → slice_get (blueprint_wires b) i ≡ Some v → SendsItsType plugs b.chains.items b.nodes.items (graph_of b) (unread book moves) i v (items i))
-    (gives : (w : World) → w.book ≡ book → HasPicks picks w → (sent : ℕ → Outlook) (j : ℕ) (v : Edge) (n : graph.Node) → slice_get (blueprint_wires b) j ≡ Some v → slice_get (graph_of b).nodes v.from ≡ Some n → ((name : List ℕ) → n.kind ≢ Lines name)
+    (told_there : (i : ℕ) (v : Edge) → slice_get (blueprint_wires b) i ≡ Some v → IsToldList (items i))
+    (sends : (heads : HeadLists) (taken : List (List ℕ)) → IsFit b heads taken → KeepsPlugTypes heads book → (i : ℕ) (v : Edge) → slice_get (blueprint_wires b) i ≡ Some v → SendsItsType heads b.chains.items b.nodes.items (graph_of b) (unread book moves) i v (items i))
+    (gives : (w : World) → w.book ≡ book → HasPicks picks w → (sent : ℕ → Outlook) (j : ℕ) (v : Edge) (n : graph.Node) → slice_get (blueprint_wires b) j ≡ Some v → slice_get (graph_of b).nodes v.from ≡ Some n → ((name : List ℕ) → n.kind ≢ Lines name) → ((name : List ℕ) → n.kind ≢ Custom name)
     → ((u : ℕ) (x : Edge) → slice_get (blueprint_wires b) u ≡ Some x → x.to ≡ v.from → AgreesWith (sent u) (items u)) → AgreesWith (next (graph_of b) w sent j) (items j))
     (stood : (i : ℕ) (v : Edge) (c : WireCount) → slice_get (blueprint_wires b) i ≡ Some v → slice_get wires i ≡ Some c → Stood v c (items i))
     (lefts : (i : ℕ) (v : Edge) (c : WireCount) → slice_get (blueprint_wires b) i ≡ Some v → slice_get wires i ≡ Some c → c.shut ≡ true → end_of_items (items i) ≡ unended
@@ -133,12 +134,12 @@ module _ (book : Book) (b : Blueprint) (stands : List SinkStand) (wires : List W
     lists = lists;
     ends = ends;
     counted = counted;
-    typed = λ plugs taken fit keeps i v at.
-        let s = sends plugs taken fit keeps i v at in
+    typed = λ heads taken fit keeps i v at.
+        let s = sends heads taken fit keeps i v at in
         let list : lists i ≡ s.list = ap list_of s.is ∙ list_of_told s.list s.end in
         (s.carries.type, (s.carries.settles, subst (λ l. AllTyped s.carries.type l) (sym list) s.typed));
-    given = λ w same has j v n at is other.
-        let a = gives w same has (λ u. exact (lists u) (ends u)) j v (graph_node n) at (mapped_at graph_node b.nodes.items v.from n is) other (λ u x ux to. agrees_exactly (items u) (told_there u x ux)) in
+    given = λ w same has j v n at is other hired.
+        let a = gives w same has (λ u. exact (lists u) (ends u)) j v (graph_node b.wires.items n) at (mapped_at (graph_node b.wires.items) b.nodes.items v.from n is) other hired (λ u x ux to. agrees_exactly (items u) (told_there u x ux)) in
         agrees_told (next (graph_of b) w (λ u. exact (lists u) (ends u)) j) (items j) a;
     shut_is = λ i v c at is. (stood i v c at is).over;
     left_shut = lefts;

@@ -47,6 +47,7 @@ use Rattle.interpreter.specs.Picks.{Pick, with_picks, picks_of}
 use Rattle.run_laws.specs.Made.{FirstOf, LedAs}
 use Rattle.run_laws.proofs.States.{led_machine}
 use Rattle.stream_model.specs.declared.blueprint.Node as blue
+use Rattle.stream_model.specs.declared.blueprint.WireDecl.{WireDecl}
 use Rattle.blue_names.specs.Picks.{picks, is_merged}
 use Rattle.materializer.specs.Graphs.{graph_node}
 use Rattle.run_blueprint.specs.Choosing.{pick_places, picked, HasPicks}
@@ -177,20 +178,21 @@ sink_free (kind.Last name) h = refl
 sink_free _ h = absurd h
 
 -- a node has chosen exactly where its kind chooses
-pub node_chooses : {S D L B : Type 0} (sources : S → SourceState) (drains : D → DrainState) (book : Book) (chains : List graph.Chain) (k : ℕ) (n : blue.Node) (first now : IslandNode S D L B) (v : View) (took gave : List (List Item))
-    → FirstOf sources chains k (graph_node n) first → node_law sources drains book first now v took gave → ChoosesAs (picks n.kind) (node_picks now)
-node_chooses sources drains book chains k n (node.Reading f) (node.Reading x) v took gave made law = no_choice (picks n.kind) None (ap picks made.kind_is) refl
-node_chooses sources drains book chains k n (node.Making f) (node.Making x) v took gave made law = no_choice (picks n.kind) None (maker_free n.kind made.is_maker) refl
-node_chooses sources drains book chains k n (node.Linear f) (node.Linear x) v took gave made law = no_choice (picks n.kind) None (linear_free n.kind made.is_linear) refl
-node_chooses sources drains book chains k n (node.State f) (node.State x) v took gave made law = state_chooses k n.kind n.decider f x v took gave made.begins.as_kind law
-node_chooses sources drains book chains k n (node.Sub f) (node.Sub x) v took gave made law = sub_chooses k n.kind f.logic.chain f.logic x.logic made.begins.as_kind law.chooses
-node_chooses sources drains book chains k n (node.FanIn f) (node.FanIn x) v took gave made law = fan_in_chooses n.kind f x made.begins.takes law.same
-node_chooses sources drains book chains k n (node.FanOut f) (node.FanOut x) v took gave made law = fan_out_chooses k n.kind f x v took gave made.begins.as_kind law
-node_chooses sources drains book chains k n (node.Writing f) (node.Writing x) v took gave made law = no_choice (picks n.kind) None (sink_free n.kind made.is_sink) refl
-node_chooses sources drains book chains k n (node.Ignoring f) (node.Ignoring x) v took gave made law = no_choice (picks n.kind) None (ap picks made.kind_is) refl
-node_chooses sources drains book chains k n (node.Entering f) x v took gave made law = absurd made
-node_chooses sources drains book chains k n (node.Leaving f) x v took gave made law = absurd made
-node_chooses sources drains book chains k n f x v took gave made law = absurd law
+pub node_chooses : {S D L B : Type 0} (sources : S → SourceState) (drains : D → DrainState) (book : Book) (wires : List WireDecl) (chains : List graph.Chain) (k : ℕ) (n : blue.Node) (first now : IslandNode S D L B) (v : View) (took gave : List (List Item))
+    → FirstOf sources chains k (graph_node wires n) first → node_law sources drains book first now v took gave → ChoosesAs (picks n.kind) (node_picks now)
+node_chooses sources drains book wires chains k n (node.Reading f) (node.Reading x) v took gave made law = no_choice (picks n.kind) None (ap picks made.kind_is) refl
+node_chooses sources drains book wires chains k n (node.Making f) (node.Making x) v took gave made law = no_choice (picks n.kind) None (maker_free n.kind made.is_maker) refl
+node_chooses sources drains book wires chains k n (node.Linear f) (node.Linear x) v took gave made law = no_choice (picks n.kind) None (linear_free n.kind made.is_linear) refl
+node_chooses sources drains book wires chains k n (node.State f) (node.State x) v took gave made law = state_chooses k n.kind n.decider f x v took gave made.begins.as_kind law
+node_chooses sources drains book wires chains k n (node.Sub f) (node.Sub x) v took gave made law = sub_chooses k n.kind f.logic.chain f.logic x.logic made.begins.as_kind law.chooses
+node_chooses sources drains book wires chains k n (node.FanIn f) (node.FanIn x) v took gave made law = fan_in_chooses n.kind f x made.begins.takes law.same
+node_chooses sources drains book wires chains k n (node.FanOut f) (node.FanOut x) v took gave made law = fan_out_chooses k n.kind f x v took gave made.begins.as_kind law
+node_chooses sources drains book wires chains k n (node.Custom f) (node.Custom x) v took gave made law = no_choice (picks n.kind) None (ap picks made.kind_is) refl
+node_chooses sources drains book wires chains k n (node.Writing f) (node.Writing x) v took gave made law = no_choice (picks n.kind) None (sink_free n.kind made.is_sink) refl
+node_chooses sources drains book wires chains k n (node.Ignoring f) (node.Ignoring x) v took gave made law = no_choice (picks n.kind) None (ap picks made.kind_is) refl
+node_chooses sources drains book wires chains k n (node.Entering f) x v took gave made law = absurd made
+node_chooses sources drains book wires chains k n (node.Leaving f) x v took gave made law = absurd made
+node_chooses sources drains book wires chains k n f x v took gave made law = absurd law
 
 -- ---- the lists of moves stand in the order of their nodes
 

@@ -1,6 +1,6 @@
 -- From the account of a blueprint's run at its end to what the run leaves in the folder.
 use Rattle.std.proofs.Common.{◌≡◌, ◌≢◌, ◌⊎◌, inl, inr, ℕ, zero, suc, ◌+◌, ◌/◌, ◌<◌, ◌≤◌, max, Bool, true, false, List, [], ◌∷◌, map, length, slice_get, refl, sym, ap, ◌∙◌, subst, arith}
-use Rattle.std.specs.Prelude.{IsTrue, Option, None, Some, unwrap_or, ◌==◌, ◌||◌}
+use Rattle.std.specs.Prelude.{IsTrue, Option, None, Some, unwrap_or, ◌||◌}
 use Rattle.std.specs.Option.{option_to_list}
 use Rattle.std.specs.List.{Contains, filter_map, list_any}
 use Rattle.std.proofs.lemmas.List.{length-map}
@@ -17,13 +17,14 @@ use Rattle.stream_model.specs.Graph.{Graph, Edge, find_wire}
 use Rattle.stream_model.specs.Graph as graph
 use Rattle.stream_model.specs.Node.{World}
 use Rattle.stream_model.specs.Outlook.{Outlook, unended}
-use Rattle.stream_model.specs.Composed.{next, composed, count_from, sink_outlook, IsRanked, inputs_of}
+use Rattle.stream_model.specs.Composed.{next, composed, count_from, sink_outlook, IsRanked, inputs_by, inputs_of}
 use Rattle.stream_model.proofs.Compositions.{found_first}
 use Rattle.stream_model.specs.Lane.{lane_loss}
 use Rattle.stream_model.specs.OneWay as oneway
 use Rattle.stream_model.specs.Rests.{Rests, SinksMatch}
+use Rattle.stream_model.specs.Listed.{AllTell}
 use Rattle.stream_model.specs.Shape.{IsPolytree, IsWired, sent_at, need, count_needed}
-use Rattle.stream_model.specs.View.{EachWire, ins, outputs_of}
+use Rattle.stream_model.specs.View.{EachWire, ins}
 use Rattle.run_laws.specs.Picture.{has_ended, sink_ended, ended_there}
 use Rattle.stream_io.specs.Counts.{Grew}
 use Rattle.stream_io.specs.State.{FolderState, SourceState, DrainState}
@@ -41,7 +42,7 @@ use Rattle.nodes.specs.declared.node.IslandNode.TheVariants as node
 use Rattle.interpreter.specs.Picks.{Pick, pick_of}
 use Rattle.interpreter.specs.Misfits.{Found, FindsMisfit, IsLeast}
 use Rattle.run_laws.specs.Account.{Account, IsStill, took}
-use Rattle.run_laws.specs.Items.{list_of, end_of_items, AgreesWith}
+use Rattle.run_laws.specs.Items.{list_of, end_of_items, AgreesWith, IsToldList}
 use Rattle.run_laws.specs.Pictures as pictures
 use Rattle.run_laws.specs.Ports.{wire_count}
 use Rattle.run_laws.proofs.Coming.{elements_told}
@@ -49,7 +50,7 @@ use Rattle.run_laws.proofs.Pictures.{counts_at}
 use Rattle.run_laws.specs.Runs.{IsRun}
 use Rattle.run_laws.specs.Replayed.{Plans, IsAtOnce, FitsBy, IsLawfulBy, RestsBy, MisfitsOver}
 use Rattle.run_laws.specs.Serving.{IsSureAt, ServesPlan}
-use Rattle.run_laws.specs.Telling.{FollowsPlans, ServesPlans, TellsFiles, TellsPicks, WorldTells, AreSettled, moves_at}
+use Rattle.run_laws.specs.Telling.{FollowsPlans, ServesPlans, TellsFiles, TellsPicks, TellsNoList, TellsCustoms, WorldTells, AreSettled, moves_at}
 use Rattle.run_laws.proofs.Unled.{misfit_has_more, rests_freely}
 use Rattle.run_laws.proofs.Choosing.{chosen_told}
 use Rattle.run_laws.specs.Sinks.{TookList, SinkTells, SinkWrote, SentTo, IsSinkAt, IgnoreTells, IsIgnorerAt}
@@ -60,7 +61,7 @@ use Rattle.stream_model.specs.declared.blueprint.Node as blue
 use Rattle.blue_check.specs.Fitness.{IsFit}
 use Rattle.blue_check.specs.Wires.{blueprint_wires}
 use Rattle.blue_check.specs.Forest.{wiring}
-use Rattle.stream_model.specs.declared.head.PlugHead.{PlugHead}
+use Rattle.stream_model.specs.Known.{HeadLists}
 use Rattle.materializer.specs.Fit.{CanRun}
 use Rattle.materializer.specs.Files.{output_of, inputs_of_nodes, outputs_of_nodes, is_sink}
 use Rattle.materializer.specs.Choosers.{NoneFollow, plan_at}
@@ -70,18 +71,18 @@ use Rattle.materializer.specs.Seats.{gather_of}
 use Rattle.run_laws.proofs.Nodes.{one_input}
 use Rattle.stream_io.specs.Names.{drain_names}
 use Rattle.run_blueprint.specs.Checked.{PassesRules}
-use Rattle.run_blueprint.specs.Plugs.{KeepsPlugTypes}
+use Rattle.run_blueprint.specs.Plugs.{KeepsPlugTypes, GivenTyped}
 use Rattle.run_blueprint.specs.Sent.{SendsItsType}
 use Rattle.run_blueprint.specs.Carrying.{WiresCarry, AgreesWithFiles, PictureStands, MisfitByPassed, ShutBy, OverBy, AskedBy, SinkTook, IgnorerTook, as_passed}
 use Rattle.run_blueprint.specs.Choosing.{picked}
-use Rattle.run_blueprint.proofs.Carried.{IsTold, unread, agrees_told, agrees_exactly, passes_exactly, told_sent, carries}
-use Rattle.run_blueprint.specs.Drawing.{Drawn, IsSource, WasRead, IsWorldOf, DrawsFirst}
+use Rattle.run_blueprint.proofs.Carried.{unread, agrees_told, agrees_exactly, passes_exactly, told_sent, carries}
+use Rattle.run_blueprint.specs.Drawing.{Drawn, TellNone, IsSource, WasRead, IsWorldOf, DrawsFirst}
 use Rattle.island_runs.specs.Leaving.{Moment, RunLeaves, HasAsMany}
 use Rattle.run_blueprint.specs.Opening.{Opens}
 use Rattle.run_blueprint.specs.Tracing.{IsApart, Traces}
 use Rattle.run_blueprint.specs.Sending.{SentOn}
 use Rattle.run_blueprint.specs.Replaying.{HasMade, MakesItsMoves, IsReplayOf, ServesItsMoves, IsMisfit}
-use Rattle.run_blueprint.specs.Running.{SinkLeaves, IgnoreLeaves, ServesAll, LeavesFiles, MisfitByFiles, FailedWritesOf, Runs}
+use Rattle.run_blueprint.specs.Running.{HasNoCustom, SinkLeaves, IgnoreLeaves, ServesAll, LeavesFiles, MisfitByFiles, FailedWritesOf, Runs}
 use Rattle.run_blueprint.specs.Stands.{SinkStand, has_ended_at, is_write_fault, is_unended}
 use Rattle.bodies_run.specs.Counts.{all_sent, taken_off}
 use Rattle.run_blueprint.specs.Units.{Pays}
@@ -91,7 +92,7 @@ use Rattle.run_blueprint.proofs.Replays.{none_at, follow_along, count_at, chose_
 use Rattle.run_blueprint.specs.declared.run.RunResult.{RunResult}
 use Rattle.run_blueprint.proofs.Counts.{rose_by, rose_from_none, is_positive, positive, contains_or_not}
 use Rattle.run_blueprint.proofs.Units.{need_more, passed_within}
-use Rattle.run_blueprint.proofs.Worlds.{world_of, tree_by_wires}
+use Rattle.run_blueprint.proofs.Worlds.{world_of, tree_by_wires, all_tell}
 use Rattle.run_blueprint.proofs.Places.{contains_at, contained_at, mapped_at, unmapped_at, filtered_at, unfiltered_at, place_of, place_one, place_within}
 use Rattle.run_blueprint.proofs.Profiles.{some_one, stand_in, writer_there, sinks_filtered, StandsAt, Profile, ended_along}
 use Rattle.run_blueprint.proofs.Handles.{IsSinkInto, HandleLaws, fault_kind, writer_kind, SourceFacts, SinkFacts, source_facts, sink_facts, profiles, as_many, stands_are}
@@ -174,18 +175,12 @@ ended_stand (node.State x) s f = absurd cc
 ended_stand (node.Sub x) s f = absurd cc
 ended_stand (node.FanIn x) s f = absurd cc
 ended_stand (node.FanOut x) s f = absurd cc
+ended_stand (node.Custom x) s f = absurd cc
 ended_stand (node.Entering x) s f = absurd cc
 ended_stand (node.Leaving x) s f = absurd cc
 
 ended_as : {S D L B : Type 0} (o : Option (IslandNode S D L B)) (x : IslandNode S D L B) (s : SinkStand) → o ≡ Some x → stand_in x ≡ Some s → ended_there o ≡ has_ended s.2
 ended_as o x s e f = ap ended_there e ∙ ended_stand x s f
-
-sink_shape : (k : Kind) → oneway.is_sink k ≡ true → (outputs_of k == 0) ≡ true
-sink_shape (kind.ToLines f) e = refl
-sink_shape (kind.Head f) e = refl
-sink_shape (kind.Last f) e = refl
-sink_shape kind.Ignore e = refl
-sink_shape _ e = absurd cc
 
 stand_there : (k : ℕ) (b : Bool) (o : Option SinkStand) → StandsAt k b o → b ≡ true → (s : SinkStand) × ((o ≡ Some s) × (s.0 ≡ k))
 stand_there k true o h e = h
@@ -196,20 +191,20 @@ no_stand k true o s h e = let same : s ≡ h.0 = some_one s h.0 (sym e ∙ h.1.0
 no_stand k false o s h e = absurd cc
 
 -- a sink has an input
-sink_input : (k : Kind) → oneway.is_sink k ≡ true → 0 < inputs_of k
-sink_input (kind.ToLines f) e = omega arith
-sink_input (kind.Head f) e = omega arith
-sink_input (kind.Last f) e = omega arith
-sink_input kind.Ignore e = omega arith
-sink_input _ e = absurd cc
+sink_input : (head : ℕ × ℕ) (k : Kind) → oneway.is_sink k ≡ true → 0 < inputs_by head k
+sink_input head (kind.ToLines f) e = omega arith
+sink_input head (kind.Head f) e = omega arith
+sink_input head (kind.Last f) e = omega arith
+sink_input head kind.Ignore e = omega arith
+sink_input head _ e = absurd cc
 
 -- just one
-sink_one : (k : Kind) → oneway.is_sink k ≡ true → inputs_of k ≡ 1
-sink_one (kind.ToLines f) e = refl
-sink_one (kind.Head f) e = refl
-sink_one (kind.Last f) e = refl
-sink_one kind.Ignore e = refl
-sink_one _ e = absurd cc
+sink_one : (head : ℕ × ℕ) (k : Kind) → oneway.is_sink k ≡ true → inputs_by head k ≡ 1
+sink_one head (kind.ToLines f) e = refl
+sink_one head (kind.Head f) e = refl
+sink_one head (kind.Last f) e = refl
+sink_one head kind.Ignore e = refl
+sink_one head _ e = absurd cc
 
 ended_goes : (e : EndState) → has_ended e ≡ true → is_unended e ≡ false
 ended_goes Ended h = refl
@@ -260,11 +255,11 @@ module _ {S D : Type 0} (L B : Type 0) (sources : S → SourceState) (drains : D
       → WorldTells sources g w a → FollowsPlans plans a → IsRanked g rank → RestsBy g w plans (pictures.picture_counts a g) (composed g w)
 
   abbrev LawfulByLaw : Type 0
-  LawfulByLaw = (g : Graph) (w : World) (plans : Plans) (a : Account (IslandNode S D L B)) (outlook : ℕ → Outlook) → IsRun sources drains w.book g a → AreSettled g a → TellsPicks w a → FollowsPlans plans a
+  LawfulByLaw = (g : Graph) (w : World) (plans : Plans) (a : Account (IslandNode S D L B)) (outlook : ℕ → Outlook) → IsRun sources drains w.book g a → AreSettled g a → TellsPicks w a → TellsNoList g w → FollowsPlans plans a
       → pictures.AllPass a g outlook → IsLawfulBy g w plans (pictures.picture_counts a g) outlook
 
   abbrev RestsByLaw : Type 0
-  RestsByLaw = (g : Graph) (w : World) (plans : Plans) (a : Account (IslandNode S D L B)) (outlook : ℕ → Outlook) → IsRun sources drains w.book g a → IsStill g a → TellsPicks w a → FollowsPlans plans a
+  RestsByLaw = (g : Graph) (w : World) (plans : Plans) (a : Account (IslandNode S D L B)) (outlook : ℕ → Outlook) → IsRun sources drains w.book g a → IsStill g a → TellsPicks w a → TellsNoList g w → FollowsPlans plans a
       → pictures.AllAgreeWith a g outlook → RestsBy g w plans (pictures.picture_counts a g) outlook
 
   abbrev MovesLaw : Type 0
@@ -292,7 +287,7 @@ module _ {S D : Type 0} (L B : Type 0) (sources : S → SourceState) (drains : D
       → WorldTells sources g w a → IsRanked g rank → (i : ℕ) → i < length g.wires → AgreesWith (composed g w i) (a.near i).wire.sent
 
   abbrev TreesLaw : Type 0
-  TreesLaw = (g : Graph) (w : World) (counts : List WireCount) (outlook : ℕ → Outlook) → IsWired g counts → Rests g w counts outlook → IsPolytree g → (ended : ℕ → Bool) → SinksMatch g w counts outlook ended
+  TreesLaw = (g : Graph) (w : World) (counts : List WireCount) (outlook : ℕ → Outlook) → IsWired g counts → Rests g w counts outlook → AllTell g w.customs → IsPolytree g → (ended : ℕ → Bool) → SinksMatch g w counts outlook ended
       → (i : ℕ) (v : Edge) (n : graph.Node) → slice_get g.wires i ≡ Some v → slice_get g.nodes v.to ≡ Some n → oneway.is_sink n.kind ≡ true → ended v.to ≡ true
 
   abbrev IgnorerThere : Type 0
@@ -300,29 +295,34 @@ module _ {S D : Type 0} (L B : Type 0) (sources : S → SourceState) (drains : D
       → (k : ℕ) (n : graph.Node) → slice_get g.nodes k ≡ Some n → n.kind ≡ kind.Ignore → (first : Ignorer) × ((now : Ignorer) × IsIgnorerAt a k first now)
 
   abbrev FitsLaw : Type 0
-  FitsLaw = (b : Blueprint) (plugs : List PlugHead) (taken : List (List ℕ)) (g : Graph) → IsFit b plugs taken → g.nodes ≡ map graph_node b.nodes.items → g.wires ≡ blueprint_wires b → g.chains ≡ map graph_chain b.chains.items
-      → PassesRules plugs b.chains.items b.nodes.items g
+  FitsLaw = (b : Blueprint) (heads : HeadLists) (taken : List (List ℕ)) (g : Graph) → IsFit b heads taken → g.nodes ≡ map (graph_node b.wires.items) b.nodes.items → g.wires ≡ blueprint_wires b → g.chains ≡ map graph_chain b.chains.items
+      → PassesRules heads b.chains.items b.nodes.items g
 
   abbrev TypesLaw : Type 0
-  TypesLaw = (plugs : List PlugHead) (chains : List ChainDecl) (nodes : List blue.Node) (g : Graph) (w : World) (rank : ℕ → ℕ) (a : Account (IslandNode S D L B)) → IsRun sources drains w.book g a → TellsPicks w a
-      → PassesRules plugs chains nodes g → KeepsPlugTypes plugs w.book → IsRanked g rank
-      → (i : ℕ) (v : Edge) → slice_get g.wires i ≡ Some v → SendsItsType plugs chains nodes g w i v (a.near i).wire.sent
+  TypesLaw = (heads : HeadLists) (chains : List ChainDecl) (nodes : List blue.Node) (g : Graph) (w : World) (rank : ℕ → ℕ) (a : Account (IslandNode S D L B)) → IsRun sources drains w.book g a → TellsPicks w a → TellsCustoms g w a
+      → PassesRules heads chains nodes g → KeepsPlugTypes heads w.book → GivenTyped heads nodes w → IsRanked g rank
+      → (i : ℕ) (v : Edge) → slice_get g.wires i ≡ Some v → SendsItsType heads chains nodes g w i v (a.near i).wire.sent
 
   abbrev GivesLaw : Type 0
   GivesLaw = (g : Graph) (w : World) (a : Account (IslandNode S D L B)) → IsRun sources drains w.book g a → TellsPicks w a
-      → (sent : ℕ → Outlook) (j : ℕ) (v : Edge) (n : graph.Node) → slice_get g.wires j ≡ Some v → slice_get g.nodes v.from ≡ Some n → ((name : List ℕ) → n.kind ≢ kind.Lines name)
+      → (sent : ℕ → Outlook) (j : ℕ) (v : Edge) (n : graph.Node) → slice_get g.wires j ≡ Some v → slice_get g.nodes v.from ≡ Some n → ((name : List ℕ) → n.kind ≢ kind.Lines name) → ((name : List ℕ) → n.kind ≢ kind.Custom name)
       → ((u : ℕ) (x : Edge) → slice_get g.wires u ≡ Some x → x.to ≡ v.from → AgreesWith (sent u) (a.near u).wire.sent) → AgreesWith (next g w sent j) (a.near j).wire.sent
 
   abbrev TextsLaw : Type 0
   TextsLaw = (g : Graph) (a : Account (IslandNode S D L B)) → IsRun sources drains book g a
       → (u : ℕ) (v : Edge) (n : graph.Node) (name : List ℕ) → slice_get g.wires u ≡ Some v → slice_get g.nodes v.from ≡ Some n → n.kind ≡ kind.Lines name → GivesTexts (a.near u).wire.sent
 
+  abbrev CustomsLaw : Type 0
+  CustomsLaw = (g : Graph) (a : Account (IslandNode S D L B)) → IsRun sources drains book g a
+      → (u : ℕ) (v : Edge) (n : graph.Node) (name : List ℕ) → slice_get g.wires u ≡ Some v → slice_get g.nodes v.from ≡ Some n → n.kind ≡ kind.Custom name → IsToldList (a.near u).wire.sent
+
   pub record RunLaws : Type 0 where
     pub fits : FitsLaw
     pub types : TypesLaw
     pub texts : TextsLaw
+    pub customs : CustomsLaw
     pub gives : GivesLaw
-    pub ranked : (b : Blueprint) (plugs : List PlugHead) (taken : List (List ℕ)) → IsFit b plugs taken → (rank : ℕ → ℕ) × IsRanked (graph_of b) rank
+    pub ranked : (b : Blueprint) (heads : HeadLists) (taken : List (List ℕ)) → IsFit b heads taken → (rank : ℕ → ℕ) × IsRanked (graph_of b) rank
     pub agree : AgreeLaw
     pub trees : TreesLaw
     pub wrote : WroteLaw
@@ -405,7 +405,7 @@ module _ {S D L B : Type 0} (sources : S → SourceState) (drains : D → DrainS
   run : IsRun sources drains book g left
   run = l.moment.run
 
-  -- so it is by the plugs of every world that has these
+  -- so it is by the heads of every world that has these
   run_at : (w : World) → w.book ≡ book → IsRun sources drains w.book g left
   run_at w is = subst (λ (x : Book). IsRun sources drains x g left) (sym is) run
 
@@ -461,7 +461,7 @@ module _ {S D L B : Type 0} (sources : S → SourceState) (drains : D → DrainS
       let here : slice_get nodes s.0 ≡ Some m.0 = subst (λ j. slice_get nodes j ≡ Some m.0) (sym place) m.1 in
       let found : slice_get last s.0 ≡ Some from.1.0 = subst (λ j. slice_get last j ≡ Some from.1.0) (sym place) from.1.1.0 in
       let shape : oneway.is_sink m.0.kind ≡ true = (profile from.0 m.0 from.1.0 m.1 from.1.1.0).sink s from.1.1.1 in
-      let input = run.joined.each_input s.0 (graph_node m.0) 0 (mapped_at graph_node nodes s.0 m.0 here) (sink_input m.0.kind shape) in
+      let input = run.joined.each_input s.0 (graph_node b.wires.items m.0) 0 (mapped_at (graph_node b.wires.items) nodes s.0 m.0 here) (sink_input (graph_node b.wires.items m.0).head m.0.kind shape) in
       let wire = found_first (λ w. w.to) (λ w. w.input) s.0 0 (blueprint_wires b) input.0 input.1 in
       record {
         node = m.0;
@@ -497,10 +497,10 @@ module _ {S D L B : Type 0} (sources : S → SourceState) (drains : D → DrainS
   told_moves = chosen_told book (unread book moved).file left
 
   -- what was sent on each wire is a list, and how it stands
-  sent_list : (i : ℕ) (v : Edge) → slice_get (blueprint_wires b) i ≡ Some v → IsTold (left.near i).wire.sent
+  sent_list : (i : ℕ) (v : Edge) → slice_get (blueprint_wires b) i ≡ Some v → IsToldList (left.near i).wire.sent
   sent_list i v at =
-      let ranks = laws.ranked b can.plugs can.taken can.fit in
-      told_sent g ranks.0 ranks.1 (unread book moved) (λ u. (left.near u).wire.sent) (λ k x here. let n = run.joined.source k x here in (n.0, n.1)) (laws.texts g left run) (laws.gives g (unread book moved) left run told_moves) i v at
+      let ranks = laws.ranked b can.heads can.taken can.fit in
+      told_sent g ranks.0 ranks.1 (unread book moved) (λ u. (left.near u).wire.sent) (λ k x here. let n = run.joined.source k x here in (n.0, n.1)) (laws.texts g left run) (laws.customs g left run) (laws.gives g (unread book moved) left run told_moves) i v at
 
   -- the stand of a sink of lines, by its place among the stands
   stand_of : (i : ℕ) (s : SinkStand) (n : blue.Node) (file : List ℕ) → slice_get st.end.sinks.items i ≡ Some s → slice_get nodes s.0 ≡ Some n → output_of n.kind ≡ Some file → (f : ASink s.0 file) × (s ≡ (s.0, f.now.count, f.now.end))
@@ -530,8 +530,8 @@ module _ {S D L B : Type 0} (sources : S → SourceState) (drains : D → DrainS
       → ShutBy s.2 v.lane c.shut × OverBy s.2 c.shut (end_of_items (left.near u).wire.sent)
   sink_stood i s u v c at wire to is =
       let h = sink_here i s at in
-      let one : inputs_of h.node.kind ≡ 1 = sink_one h.node.kind h.shape in
-      rw (wire_at u v c wire is) (sink_shut sources drains book g left run u v wire s.0 (graph_node h.node) h.now (mapped_at graph_node nodes s.0 h.node h.at) one to h.now_at l.cancels s h.stands)
+      let one : inputs_of (graph_node b.wires.items h.node) ≡ 1 = sink_one (graph_node b.wires.items h.node).head h.node.kind h.shape in
+      rw (wire_at u v c wire is) (sink_shut sources drains book g left run u v wire s.0 (graph_node b.wires.items h.node) h.now (mapped_at (graph_node b.wires.items) nodes s.0 h.node h.at) one to h.now_at l.cancels s h.stands)
 
   -- that of one that ended, and takes more than one element
   ended_stood : (i : ℕ) (s : SinkStand) (n : blue.Node) (u : ℕ) (v : Edge) (c : WireCount) → slice_get st.end.sinks.items i ≡ Some s → slice_get nodes s.0 ≡ Some n → ((file : List ℕ) → n.kind ≢ kind.Head file)
@@ -539,8 +539,8 @@ module _ {S D L B : Type 0} (sources : S → SourceState) (drains : D → DrainS
   ended_stood i s n u v c at here other wire to is over =
       let h = sink_here i s at in
       let same : h.node ≡ n = some_one h.node n (sym h.at ∙ here) in
-      let one : inputs_of n.kind ≡ 1 = subst (λ (x : blue.Node). inputs_of x.kind ≡ 1) same (sink_one h.node.kind h.shape) in
-      rw (wire_at u v c wire is) (lane_shut sources drains book g left run u v wire s.0 (graph_node n) h.now (mapped_at graph_node nodes s.0 n here) one to h.now_at l.cancels s h.stands over other)
+      let one : inputs_of (graph_node b.wires.items n) ≡ 1 = subst (λ (x : blue.Node). inputs_of (graph_node b.wires.items x) ≡ 1) same (sink_one (graph_node b.wires.items h.node).head h.node.kind h.shape) in
+      rw (wire_at u v c wire is) (lane_shut sources drains book g left run u v wire s.0 (graph_node b.wires.items n) h.now (mapped_at (graph_node b.wires.items) nodes s.0 n here) one to h.now_at l.cancels s h.stands over other)
 
   writer_stood : (i : ℕ) (s : SinkStand) (n : blue.Node) (file : List ℕ) (u : ℕ) (v : Edge) (c : WireCount) → slice_get st.end.sinks.items i ≡ Some s → slice_get nodes s.0 ≡ Some n → n.kind ≡ kind.ToLines file
       → slice_get (blueprint_wires b) u ≡ Some v → v.to ≡ s.0 → slice_get st.wires.items u ≡ Some c → AskedBy s.2 v.lane s.1 c
@@ -548,7 +548,7 @@ module _ {S D L B : Type 0} (sources : S → SourceState) (drains : D → DrainS
       let found = stand_of i s n file at here (ap output_of shape) in
       let f = found.0 in
       let asked : AskedBy f.now.end v.lane f.now.count (wire_count v.lane (left.near u) (left.asked u)) =
-      sink_asked sources drains book g left run u v wire s.0 (graph_node n) file f.first f.now (mapped_at graph_node nodes s.0 n here) shape to f.there (roomed_at s.0 n f.first u v (ap inputs_of shape) here f.there.at_first wire to) l.cancels in
+      sink_asked sources drains book g left run u v wire s.0 (graph_node b.wires.items n) file f.first f.now (mapped_at (graph_node b.wires.items) nodes s.0 n here) shape to f.there (roomed_at s.0 n f.first u v (ap inputs_of shape) here f.there.at_first wire to) l.cancels in
       subst (λ (t : SinkStand). AskedBy t.2 v.lane t.1 c) (sym found.1) (rw (wire_at u v c wire is) asked)
 
   -- what came to a sink with a file
@@ -559,17 +559,17 @@ module _ {S D L B : Type 0} (sources : S → SourceState) (drains : D → DrainS
       let f = found.0 in
       let h = sink_here i s at in
       let same : h.node ≡ n = some_one h.node n (sym h.at ∙ here) in
-      let one : inputs_of n.kind ≡ 1 = subst (λ (x : blue.Node). inputs_of x.kind ≡ 1) same (sink_one h.node.kind h.shape) in
+      let one : inputs_of (graph_node b.wires.items n) ≡ 1 = subst (λ (x : blue.Node). inputs_of (graph_node b.wires.items x) ≡ 1) same (sink_one (graph_node b.wires.items h.node).head h.node.kind h.shape) in
       let is : (f.now.node, f.now.count, f.now.end) ≡ s = ap (λ (j : ℕ). (j, f.now.count, f.now.end)) f.place ∙ sym found.1 in
       subst (λ (t : SinkStand). SinkTook (lane_loss v.keep v.lane) v.lane (list_of (left.near u).wire.sent) (end_of_items (left.near u).wire.sent) n.kind t) is
-      (sink_took sources drains book g left run u v wire s.0 (graph_node n) f.first f.now (mapped_at graph_node nodes s.0 n here) one to f.there (roomed_at s.0 n f.first u v one here f.there.at_first wire to))
+      (sink_took sources drains book g left run u v wire s.0 (graph_node b.wires.items n) f.first f.now (mapped_at (graph_node b.wires.items) nodes s.0 n here) one to f.there (roomed_at s.0 n f.first u v one here f.there.at_first wire to))
 
   -- a sink that keeps nothing, by its place among the stands
   ignorer_of : (i : ℕ) (s : SinkStand) (n : blue.Node) → slice_get st.end.sinks.items i ≡ Some s → slice_get nodes s.0 ≡ Some n → n.kind ≡ kind.Ignore
       → (first : Ignorer) × ((now : Ignorer) × (IsIgnorerAt left s.0 first now × ((now.node, 0, now.end) ≡ s)))
   ignorer_of i s n at here shape =
       let h = sink_here i s at in
-      let there = laws.ignorer g left run s.0 (graph_node n) (mapped_at graph_node nodes s.0 n here) shape in
+      let there = laws.ignorer g left run s.0 (graph_node b.wires.items n) (mapped_at (graph_node b.wires.items) nodes s.0 n here) shape in
       let now = there.1.0 in
       let is : h.now ≡ node.Ignoring now = some_one h.now (node.Ignoring now) (sym h.now_at ∙ there.1.1.at_last) in
       let told : stand_in {S = S} {D = D} {L = L} {B = B} (node.Ignoring now) ≡ Some s = ap stand_in (sym is) ∙ h.stands in
@@ -581,7 +581,7 @@ module _ {S D L B : Type 0} (sources : S → SourceState) (drains : D → DrainS
   ignored_there i s n u v at here shape wire to =
       let x = ignorer_of i s n at here shape in
       subst (λ (t : SinkStand). IgnorerTook (lane_loss v.keep v.lane) (list_of (left.near u).wire.sent) (end_of_items (left.near u).wire.sent) t) x.1.1.1
-      (ignorer_took sources drains book g left run u v wire s.0 (graph_node n) x.0 x.1.0 (mapped_at graph_node nodes s.0 n here) (ap inputs_of shape) to x.1.1.0)
+      (ignorer_took sources drains book g left run u v wire s.0 (graph_node b.wires.items n) x.0 x.1.0 (mapped_at (graph_node b.wires.items) nodes s.0 n here) (ap (inputs_by (graph_node b.wires.items n).head) shape) to x.1.1.0)
 
   -- one that was cancelled, and those behind it
   left_stood : (u : ℕ) (v : Edge) (c : WireCount) → slice_get (blueprint_wires b) u ≡ Some v → slice_get st.wires.items u ≡ Some c → c.shut ≡ true → end_of_items (left.near u).wire.sent ≡ unended
@@ -590,14 +590,14 @@ module _ {S D L B : Type 0} (sources : S → SourceState) (drains : D → DrainS
       let closed : (wire_count v.lane (left.near u) (left.asked u)).shut ≡ true = subst (λ (w : WireCount). w.shut ≡ true) (wire_at u v c at is) shut in
       rw (wire_at j x d behind there) (left_shut sources drains book g left run u v at l.cancels closed none j x behind from)
 
-  -- it is of its type where the plugs keep to theirs
+  -- it is of its type where the heads keep to theirs
   abbrev carried : WiresCarry book b st.end.sinks.items st.wires.items drawn.picks
   carried =
       carries book b st.end.sinks.items st.wires.items drawn.picks moved (λ u. (left.near u).wire.sent) wire_count_at sent_list
-      (λ plugs taken fit keeps i v at.
-      let by = laws.ranked b plugs taken fit in
-      laws.types plugs b.chains.items nodes g (unread book moved) by.0 left run told_moves (laws.fits b plugs taken g fit refl refl refl) keeps by.1 i v at)
-      (λ w is has sent j v n at from other came. laws.gives g w left (run_at w is) (picks_told sources drains book handles b can ss ds left last between old mid opens w has) sent j v n at from other came)
+      (λ heads taken fit keeps i v at.
+      let by = laws.ranked b heads taken fit in
+      laws.types heads b.chains.items nodes g (unread book moved) by.0 left run told_moves (laws.fits b heads taken g fit refl refl refl) keeps by.1 i v at)
+      (λ w is has sent j v n at from other hired came. laws.gives g w left (run_at w is) (picks_told sources drains book handles b can ss ds left last between old mid opens w has) sent j v n at from other hired came)
       (λ u v c at is. rw (wire_at u v c at is) (record { over = ended_shut sources drains book g left run u v at; asks = lane_asked sources drains book g left run u v at }))
       left_stood sink_stood ended_stood writer_stood took_there ignored_there
 
@@ -626,41 +626,47 @@ module _ {S D L B : Type 0} (sources : S → SourceState) (drains : D → DrainS
   -- a sink's input is shut exactly where the sink has ended
   matched : IsTrue st.at_rest → (w : World) (outlook : ℕ → Outlook) → SinksMatch g w st.wires.items outlook (has_ended_at st.end.sinks.items)
   matched rest w outlook k n at is =
-      let m = unmapped_at graph_node nodes k n at in
+      let m = unmapped_at (graph_node b.wires.items) nodes k n at in
       let shape : oneway.is_sink m.0.kind ≡ true = ap (λ (x : graph.Node). oneway.is_sink x.kind) (sym m.1.1) ∙ is in
       let below : k < length last = subst (λ j. k < j) (as_many sources drains book handles b ss ds left last between old mid opens) (place_within nodes k m.0 m.1.0) in
       let x = place_of last k below in
-      let stand = stand_there k (is_sink m.0) (stand_in x.0) (profile k m.0 x.0 m.1.0 x.1).stand (sink_shape m.0.kind shape) in
+      let stand = stand_there k (is_sink m.0) (stand_in x.0) (profile k m.0 x.0 m.1.0 x.1).stand shape in
       let by_place : has_ended_at (filter_map stand_in last) k ≡ has_ended stand.0.2 =
       ended_along 0 nodes last (as_many sources drains book handles b ss ds left last between old mid opens) (λ i y z p q. subst (λ j. StandsAt j (is_sink y) (stand_in z)) (omega arith) (profile i y z p q).stand) k k x.0 stand.0 (omega arith) x.1 stand.1.0 in
       let ended : ended_there (left.nodes k) ≡ has_ended_at st.end.sinks.items k =
       ended_as (left.nodes k) x.0 stand.0 (between.node_at k ∙ x.1) stand.1.0 ∙ sym by_place ∙ ap (λ (y : List SinkStand). has_ended_at y k) (sym (l.sinks ∙ sinks_filtered last)) in
-      subst (λ (c : List WireCount). EachWire (λ i. i.shut ≡ has_ended_at st.end.sinks.items k) (ins g c outlook k n.kind)) (sym wires_are)
-      (subst (λ (e : Bool). EachWire (λ i. i.shut ≡ e) (ins g picture outlook k n.kind)) ended
+      subst (λ (c : List WireCount). EachWire (λ i. i.shut ≡ has_ended_at st.end.sinks.items k) (ins g c outlook k n)) (sym wires_are)
+      (subst (λ (e : Bool). EachWire (λ i. i.shut ≡ e) (ins g picture outlook k n)) ended
       (laws.match g w left outlook run (still rest) k n at is))
 
   -- in a polytree every sink has ended where no event was left
-  ending : NoneFollow plans → IsPolytree (wiring (blueprint_wires b)) → IsTrue st.at_rest → list_any (λ (s : SinkStand). is_unended s.2) st.end.sinks.items ≡ false
-  ending none tree rest =
+  ending : NoneFollow plans → HasNoCustom b → IsPolytree (wiring (blueprint_wires b)) → IsTrue st.at_rest → list_any (λ (s : SinkStand). is_unended s.2) st.end.sinks.items ≡ false
+  ending none own tree rest =
       none_unended st.end.sinks.items (λ i s at.
       let h = sink_here i s at in
-      let n : slice_get g.nodes h.is.to ≡ Some (graph_node h.node) = subst (λ j. slice_get g.nodes j ≡ Some (graph_node h.node)) (sym h.to) (mapped_at graph_node nodes s.0 h.node h.at) in
+      let n : slice_get g.nodes h.is.to ≡ Some (graph_node b.wires.items h.node) = subst (λ j. slice_get g.nodes j ≡ Some (graph_node b.wires.items h.node)) (sym h.to) (mapped_at (graph_node b.wires.items) nodes s.0 h.node h.at) in
       let over : ended_there (left.nodes h.is.to) ≡ true =
       laws.trees g (unread book moved) picture (as_passed carried) picture_wired
-      (rests_freely g (unread book moved) (plan_at plans) (none_at plans none) picture (as_passed carried) (laws.rests_by g (unread book moved) (plan_at plans) left (as_passed carried) run (still rest) told_moves follows all_agree)) (tree_by_wires g tree)
-      (λ k. ended_there (left.nodes k)) (laws.match g (unread book moved) left (as_passed carried) run (still rest)) h.wire h.is (graph_node h.node) h.there n h.shape in
+      (rests_freely g (unread book moved) (plan_at plans) (none_at plans none) picture (as_passed carried) (laws.rests_by g (unread book moved) (plan_at plans) left (as_passed carried) run (still rest) told_moves (λ k n name at is. refl) follows all_agree)) (all_tell b (unread book moved).customs own) (tree_by_wires g tree)
+      (λ k. ended_there (left.nodes k)) (laws.match g (unread book moved) left (as_passed carried) run (still rest)) h.wire h.is (graph_node b.wires.items h.node) h.there n h.shape in
       ended_goes s.2 (sym h.ended ∙ ap (λ (k : ℕ). ended_there (left.nodes k)) (sym h.to) ∙ over))
+
+  -- what a world says of the custom stages that are named, it says of those of the graph
+  none_told_of : (w : World) → TellNone nodes w.customs → TellsNoList g w
+  none_told_of w untold k n name at is =
+      let m = unmapped_at (graph_node b.wires.items) nodes k n at in
+      untold k m.0 name m.1.0 (ap (λ (x : graph.Node). x.kind) (sym m.1.1) ∙ is)
 
   -- the picture by what passed
   pictured : PictureStands book b plans st.end.sinks.items drawn.picks st.wires.items st.at_rest
   pictured = record {
     carries = carried;
-    lawful = λ w is has.
+    lawful = λ w is has untold.
         subst (λ (c : List WireCount). IsLawfulBy g w (plan_at plans) c (as_passed carried)) (sym wires_are)
-        (laws.lawful_by g w (plan_at plans) left (as_passed carried) (run_at w is) settled (picks_told sources drains book handles b can ss ds left last between old mid opens w has) follows all_pass);
-    rest = λ rest w is has.
+        (laws.lawful_by g w (plan_at plans) left (as_passed carried) (run_at w is) settled (picks_told sources drains book handles b can ss ds left last between old mid opens w has) (none_told_of w untold) follows all_pass);
+    rest = λ rest w is has untold.
         subst (λ (c : List WireCount). RestsBy g w (plan_at plans) c (as_passed carried)) (sym wires_are)
-        (laws.rests_by g w (plan_at plans) left (as_passed carried) (run_at w is) (still rest) (picks_told sources drains book handles b can ss ds left last between old mid opens w has) follows all_agree);
+        (laws.rests_by g w (plan_at plans) left (as_passed carried) (run_at w is) (still rest) (picks_told sources drains book handles b can ss ds left last between old mid opens w has) (none_told_of w untold) follows all_agree);
     matching = λ rest w. matched rest w (as_passed carried);
   }
 
@@ -674,9 +680,9 @@ module _ {S D L B : Type 0} (sources : S → SourceState) (drains : D → DrainS
       let c = chose_along 0 last chose.0 k moves chose.1 in
       let place : c.at ≡ k = let p = c.place in omega (arith, p) in
       let there = node_there k c.node (subst (λ (j : ℕ). slice_get last j ≡ Some c.node) place c.there) in
-      let here = mapped_at graph_node nodes k n at in
-      let m = run.keeps.each_node k (graph_node n) here in
-      let its = laws.begins g (unread book moved) left run k (graph_node n) m.first c.node plan here m.first_at there (sym (follows k m.first m.first_at) ∙ is) in
+      let here = mapped_at (graph_node b.wires.items) nodes k n at in
+      let m = run.keeps.each_node k (graph_node b.wires.items n) here in
+      let its = laws.begins g (unread book moved) left run k (graph_node b.wires.items n) m.first c.node plan here m.first_at there (sym (follows k m.first m.first_at) ∙ is) in
       subst (λ (ms : List ℕ). IsPrefix ms plan × (IsAtOnce n.kind → (ms ≡ []) ⊎ (ms ≡ plan))) (ap (λ (o : Option (List ℕ)). unwrap_or o []) c.picks) its
 
   -- one that could not make its next move, by what is told of its cause
@@ -691,7 +697,7 @@ module _ {S D L B : Type 0} (sources : S → SourceState) (drains : D → DrainS
       let found : slice_get last stage ≡ Some f.node = subst (λ (j : ℕ). slice_get last j ≡ Some f.node) same f.there in
       let below : stage < length nodes = subst (λ (m : ℕ). stage < m) (sym (as_many sources drains book handles b ss ds left last between old mid opens)) (place_within last stage f.node found) in
       let n = place_of nodes stage below in
-      let here = mapped_at graph_node nodes stage n.0 n.1 in
+      let here = mapped_at (graph_node b.wires.items) nodes stage n.0 n.1 in
       let there = node_there stage f.node found in
       let why = laws.misfit g (unread book moved) (plan_at plans) left (as_passed carried) run told_moves follows all_agree stage (graph_node n.0) f.node place here there f.found in
       let more = misfit_has_more g (unread book moved) (plan_at plans) (as_passed carried) stage (graph_node n.0) why.1 in
@@ -714,7 +720,7 @@ module _ {S D L B : Type 0} (sources : S → SourceState) (drains : D → DrainS
       }
 
   by_passed : Told (MisfitByPassed carried plans)
-  by_passed k n x place at there found = λ w is has. (laws.misfit g w (plan_at plans) left (as_passed carried) (run_at w is) (picks_told sources drains book handles b can ss ds left last between old mid opens w has) follows all_agree k (graph_node n) x place (mapped_at graph_node nodes k n at) there found).1
+  by_passed k n x place at there found = λ w is has. (laws.misfit g w (plan_at plans) left (as_passed carried) (run_at w is) (picks_told sources drains book handles b can ss ds left last between old mid opens w has) follows all_agree k (graph_node b.wires.items n) x place (mapped_at (graph_node b.wires.items) nodes k n at) there found).1
 
   -- the picture by what passed, and the cause of a misfit by that
   abbrev Pictured : List Pick → Type 0
@@ -749,13 +755,13 @@ module _ {S D L B : Type 0} (sources : S → SourceState) (drains : D → DrainS
 
     -- what was sent on each wire may pass
     sent_agrees : (u : ℕ) (v : Edge) → slice_get (blueprint_wires b) u ≡ Some v → (w : World) → IsWorldOf book nodes drawn w → AgreesWith (composed g w u) (left.near u).wire.sent
-    sent_agrees u v at w is = let ranked = laws.ranked b can.plugs can.taken can.fit in laws.agree g w ranked.0 left (run_at w is.book_is) (world_tells w is) ranked.1 u (place_within (blueprint_wires b) u v at)
+    sent_agrees u v at w is = let ranked = laws.ranked b can.heads can.taken can.fit in laws.agree g w ranked.0 left (run_at w is.book_is) (world_tells w is) ranked.1 u (place_within (blueprint_wires b) u v at)
 
     by_files : Told (MisfitByFiles book b plans drawn)
     by_files k n x place at there found = λ w is.
-        let ranked = laws.ranked b can.plugs can.taken can.fit in
+        let ranked = laws.ranked b can.heads can.taken can.fit in
         let tells = world_tells w is in
-        (laws.misfit g w (plan_at plans) left (composed g w) (run_at w is.book_is) tells.picks follows (laws.agree g w ranked.0 left (run_at w is.book_is) tells ranked.1) k (graph_node n) x place (mapped_at graph_node nodes k n at) there found).1
+        (laws.misfit g w (plan_at plans) left (composed g w) (run_at w is.book_is) tells.picks follows (laws.agree g w ranked.0 left (run_at w is.book_is) tells ranked.1) k (graph_node b.wires.items n) x place (mapped_at (graph_node b.wires.items) nodes k n at) there found).1
 
     -- one world that has the files
     abbrev world : World
@@ -766,33 +772,33 @@ module _ {S D L B : Type 0} (sources : S → SourceState) (drains : D → DrainS
 
     -- a sink's file
     module _ (k : ℕ) (n : blue.Node) (file : List ℕ) (at : slice_get nodes k ≡ Some n) (f : ASink k file) where
-      at_graph : slice_get g.nodes k ≡ Some (graph_node n)
-      at_graph = mapped_at graph_node nodes k n at
+      at_graph : slice_get g.nodes k ≡ Some (graph_node b.wires.items n)
+      at_graph = mapped_at (graph_node b.wires.items) nodes k n at
 
       room_now : n.kind ≡ kind.ToLines file → (u : ℕ) (v : Edge) → slice_get (blueprint_wires b) u ≡ Some v → v.to ≡ k → f.now.gather.room ≡ gather_of v.lane
       room_now shape u v wire to =
           f.law.room_same ∙ roomed_at k n f.first u v (ap inputs_of shape) at f.there.at_first wire to
           ∙ ap (λ (m : Writes). sink_room m (gather_of v.lane)) ((run.made k (graph_node n) (node.Writing f.first) at_graph f.there.at_first).writes ∙ ap writes_of shape) ∙ room_each v.lane
 
-      wrote : SinkWrote sources drains book g left k (graph_node n) f.first f.now
-      wrote = laws.wrote g left run k (graph_node n) f.first f.now at_graph f.there
+      wrote : SinkWrote sources drains book g left k (graph_node b.wires.items n) f.first f.now
+      wrote = laws.wrote g left run k (graph_node b.wires.items n) f.first f.now at_graph f.there
 
       sink_leaves : SinkLeaves book new b drawn st.wires.items st.at_rest k n file f.now.count f.now.end
       sink_leaves = record {
         held = wrote.written;
         there = λ tells. sink_held k file f tells ∙ wrote.holds (f.start.holds (closes.told tells));
-        tells = λ w is. let ranked = laws.ranked b can.plugs can.taken can.fit in wrote.tells w ranked.0 is.book_is (world_tells w is) ranked.1;
+        tells = λ w is. let ranked = laws.ranked b can.heads can.taken can.fit in wrote.tells w ranked.0 is.book_is (world_tells w is) ranked.1;
         lines_are = wrote.lines_are;
         sent = λ shape u v at to.
-            let ranked = laws.ranked b can.plugs can.taken can.fit in
-            let list = laws.took g world ranked.0 left (run_at world has_files.book_is) (world_tells world has_files) ranked.1 k (graph_node n) file f.first f.now at_graph shape f.there in
+            let ranked = laws.ranked b can.heads can.taken can.fit in
+            let list = laws.took g world ranked.0 left (run_at world has_files.book_is) (world_tells world has_files) ranked.1 k (graph_node b.wires.items n) file f.first f.now at_graph shape f.there in
             subst (λ (m : ℕ). SentOn v.lane f.now.end m f.now.count) (sym (wire_count_at u v at))
-            (sink_sent sources drains book g left run u v at (composed g world u) (sent_agrees u v at world has_files) k (graph_node n) at_graph (ap inputs_of shape) to f.now.end (sink_outlook g world k (graph_node n)) list f.now.gather.room f.now.count
+            (sink_sent sources drains book g left run u v at (composed g world u) (sent_agrees u v at world has_files) k (graph_node b.wires.items n) at_graph (ap (inputs_by (graph_node b.wires.items n).head) shape) to f.now.end (sink_outlook g world k (graph_node b.wires.items n)) list f.now.gather.room f.now.count
             (room_now shape u v at to)
-            (laws.sent g left run k (graph_node n) file f.first f.now u v at_graph shape f.there at to));
+            (laws.sent g left run k (graph_node b.wires.items n) file f.first f.now u v at_graph shape f.there at to));
         rests = λ shape rest unended u v at to.
-            wire_count_at u v at ∙ sink_rests sources drains book g left run u v at (composed g world u) (sent_agrees u v at world has_files) k (graph_node n) at_graph (ap inputs_of shape) to f.first f.now f.there (still rest) unended
-            ∙ laws.rest g left run k (graph_node n) file f.first f.now u v at_graph shape f.there at to (still rest) unended (l.none_late rest k f.now f.there.at_last);
+            wire_count_at u v at ∙ sink_rests sources drains book g left run u v at (composed g world u) (sent_agrees u v at world has_files) k (graph_node b.wires.items n) at_graph (ap (inputs_by (graph_node b.wires.items n).head) shape) to f.first f.now f.there (still rest) unended
+            ∙ laws.rest g left run k (graph_node b.wires.items n) file f.first f.now u v at_graph shape f.there at to (still rest) unended (l.none_late rest k f.now f.there.at_last);
       }
 
     -- a sink without a file
@@ -804,9 +810,9 @@ module _ {S D L B : Type 0} (sources : S → SourceState) (drains : D → DrainS
         record {
           none = ap (λ (t : SinkStand). t.1) (sym same);
           tells = λ w is_world u v wire to.
-              subst (λ (e : EndState). IgnoreTells (sink_outlook g w s.0 (graph_node n)) e (sent_at st.wires.items u)) (ap (λ (t : SinkStand). t.2) same)
-              (subst (λ (c : ℕ). IgnoreTells (sink_outlook g w s.0 (graph_node n)) now.end c) (sym (wire_count_at u v wire))
-              (ignorer_told sources drains book g left run u v wire w (sent_agrees u v wire w is_world) s.0 (graph_node n) (mapped_at graph_node nodes s.0 n here) shape to x.0 now x.1.1.0));
+              subst (λ (e : EndState). IgnoreTells (sink_outlook g w s.0 (graph_node b.wires.items n)) e (sent_at st.wires.items u)) (ap (λ (t : SinkStand). t.2) same)
+              (subst (λ (c : ℕ). IgnoreTells (sink_outlook g w s.0 (graph_node b.wires.items n)) now.end c) (sym (wire_count_at u v wire))
+              (ignorer_told sources drains book g left run u v wire w (sent_agrees u v wire w is_world) s.0 (graph_node b.wires.items n) (mapped_at (graph_node b.wires.items) nodes s.0 n here) shape to x.0 now x.1.1.0));
         }
 
     needed : (w : World) → IsWorldOf book nodes drawn w → count_needed g st.wires.items ≤ need g (composed g w)
@@ -826,8 +832,8 @@ module _ {S D L B : Type 0} (sources : S → SourceState) (drains : D → DrainS
       serves_there : ServesPlans g w left
       serves_there k n first now gi fi ni moves at = by (node_plan first) refl
         where
-          m : (x : blue.Node) × ((slice_get nodes k ≡ Some x) × (n ≡ graph_node x))
-          m = unmapped_at graph_node nodes k n gi
+          m : (x : blue.Node) × ((slice_get nodes k ≡ Some x) × (n ≡ graph_node b.wires.items x))
+          m = unmapped_at (graph_node b.wires.items) nodes k n gi
 
           found : slice_get last k ≡ Some now
           found = sym (between.node_at k) ∙ ni
@@ -852,7 +858,7 @@ module _ {S D L B : Type 0} (sources : S → SourceState) (drains : D → DrainS
           by (Some plan) e = let p = follows k first fi ∙ e in by_plan plan p (serve k m.0 plan m.1.0 p)
 
       serves_wires : (i : ℕ) → i < length g.wires → AgreesWith (composed g w i) (left.near i).wire.sent
-      serves_wires = let ranked = laws.ranked b can.plugs can.taken can.fit in laws.serves g w ranked.0 left (run_at w is.book_is) files_there serves_there ranked.1
+      serves_wires = let ranked = laws.ranked b can.heads can.taken can.fit in laws.serves g w ranked.0 left (run_at w is.book_is) files_there serves_there ranked.1
 
       wire_serves : (i : ℕ) (v : Edge) → slice_get (blueprint_wires b) i ≡ Some v → AgreesWith (composed g w i) (left.near i).wire.sent
       wire_serves i v at = serves_wires i (place_within (blueprint_wires b) i v at)
@@ -860,23 +866,23 @@ module _ {S D L B : Type 0} (sources : S → SourceState) (drains : D → DrainS
       serves_all : ServesAll book new b drawn.picks st.end.sinks.items st.wires.items carried w
       serves_all = record {
         sink = λ i s n file at here shape.
-            let ranked = laws.ranked b can.plugs can.taken can.fit in
+            let ranked = laws.ranked b can.heads can.taken can.fit in
             let found = stand_of i s n file at here shape in
             let f = found.0 in
             let its = wrote s.0 n file here f in (
               its.written,
               (
                 λ tells. sink_held s.0 file f tells ∙ its.holds (f.start.holds (closes.told tells)),
-                subst (λ (t : SinkStand). SinkTells (sink_outlook g w s.0 (graph_node n)) t.2 its.written) (sym found.1) (its.serves w ranked.0 is.book_is files_there serves_there ranked.1),
+                subst (λ (t : SinkStand). SinkTells (sink_outlook g w s.0 (graph_node b.wires.items n)) t.2 its.written) (sym found.1) (its.serves w ranked.0 is.book_is files_there serves_there ranked.1),
               ),
             );
         ignores = λ i s n at here shape u v wire to.
             let x = ignorer_of i s n at here shape in
             let now = x.1.0 in
             let same : (now.node, 0, now.end) ≡ s = x.1.1.1 in
-            subst (λ (e : EndState). IgnoreTells (sink_outlook g w s.0 (graph_node n)) e (sent_at st.wires.items u)) (ap (λ (t : SinkStand). t.2) same)
-            (subst (λ (c : ℕ). IgnoreTells (sink_outlook g w s.0 (graph_node n)) now.end c) (sym (wire_count_at u v wire))
-            (ignorer_told sources drains book g left run u v wire w (wire_serves u v wire) s.0 (graph_node n) (mapped_at graph_node nodes s.0 n here) shape to x.0 now x.1.1.0));
+            subst (λ (e : EndState). IgnoreTells (sink_outlook g w s.0 (graph_node b.wires.items n)) e (sent_at st.wires.items u)) (ap (λ (t : SinkStand). t.2) same)
+            (subst (λ (c : ℕ). IgnoreTells (sink_outlook g w s.0 (graph_node b.wires.items n)) now.end c) (sym (wire_count_at u v wire))
+            (ignorer_told sources drains book g left run u v wire w (wire_serves u v wire) s.0 (graph_node b.wires.items n) (mapped_at (graph_node b.wires.items) nodes s.0 n here) shape to x.0 now x.1.1.0));
         passed = λ i v at. agrees_told (composed g w i) (left.near i).wire.sent (wire_serves i v at);
       }
 
@@ -893,7 +899,7 @@ module _ {S D L B : Type 0} (sources : S → SourceState) (drains : D → DrainS
 
     leaves_files : LeavesFiles book old new b plans trace st.end.sinks.items (map pick_of st.end.picks.items) st.wires.items st.at_rest
     leaves_files =
-        let ranked = laws.ranked b can.plugs can.taken can.fit in
+        let ranked = laws.ranked b can.heads can.taken can.fit in
         record {
           drawn = drawn;
           chose = sym l.picks;
@@ -916,7 +922,7 @@ module _ {S D L B : Type 0} (sources : S → SourceState) (drains : D → DrainS
               let f = source_at k file is in
               let d = drew.source k file f in
               let told = draws_told d.bytes (sources f.first.reader.source) (sources f.now.reader.source) (left.near u).wire.sent (sent_at st.wires.items u) f.start.faults (wire_count_at u v at)
-              (laws.reads g left run k (graph_node is.node) f.first f.now u v d.bytes (mapped_at graph_node nodes k is.node is.at) f.there at from d.whole) in
+              (laws.reads g left run k (graph_node b.wires.items is.node) f.first f.now u v d.bytes (mapped_at (graph_node b.wires.items) nodes k is.node is.at) f.there at from d.whole) in
               rw (d.drawn_bytes, d.given, d.faulted) told;
           lawful = λ w is. subst (λ (c : List WireCount). IsLawfulBy g w (plan_at plans) c (composed g w)) (sym wires_are) (laws.lawful g w (plan_at plans) ranked.0 left (run_at w is.book_is) settled (world_tells w is) follows ranked.1);
           rest = λ rest w is. subst (λ (c : List WireCount). RestsBy g w (plan_at plans) c (composed g w)) (sym wires_are) (laws.rests g w (plan_at plans) ranked.0 left (run_at w is.book_is) (still rest) (world_tells w is) follows ranked.1);

@@ -94,7 +94,7 @@ module _ {S D L B : Type 0} (sources : S → SourceState) (drains : D → DrainS
       picked_along 0 nodes last (as_many sources drains book handles b ss ds left last l old mid opens)
       (λ i n x at here.
       let f = node_facts sources drains book handles b ss ds left last l old mid opens i n x at here in
-      node_chooses sources drains book (chains_of b) i n f.first x f.knew f.came f.went f.made f.law)
+      node_chooses sources drains book b.wires.items (chains_of b) i n f.first x f.knew f.came f.went f.made f.law)
 
   -- what a source drew of its file, which was there
   pub record DrawsOf (k : ℕ) (file : List ℕ) (f : Source k file) : Type 0 where
@@ -153,7 +153,7 @@ module _ {S D L B : Type 0} (sources : S → SourceState) (drains : D → DrainS
 
     files_told : (w : World) → HasFiles w → TellsFiles sources (graph_of b) w left
     files_told w has k n first now gi fi ni = tells_node sources w n first now (λ a c name fa nc shape.
-        let m = unmapped_at graph_node nodes k n gi in
+        let m = unmapped_at (graph_node b.wires.items) nodes k n gi in
         let place : IsSource nodes k name = record { node = m.0; at = m.1.0; kind_is = ap (λ (x : graph.Node). x.kind) (sym m.1.1) ∙ shape } in
         let f = source_facts sources drains book handles b ss ds left last l old mid opens k name place in
         let first_is : f.first ≡ a = reading_same f.first a first (one_node first (node.Reading f.first) fi f.there.at_first) fa in
@@ -169,6 +169,6 @@ module _ {S D L B : Type 0} (sources : S → SourceState) (drains : D → DrainS
       source = draws_of;
       tells = world_tells;
       files = files_told;
-      has_files = world_has book nodes drawn made_moves (λ i k m n name at here p q. one_file b can.plugs can.taken can.fit i k m n name at here (ap file_of p) (ap file_of q))
+      has_files = world_has book nodes drawn made_moves (λ i k m n name at here p q. one_file b can.heads can.taken can.fit i k m n name at here (ap file_of p) (ap file_of q))
           (has_made (world_of book nodes drawn made_moves) (λ k. refl));
     }

@@ -2,7 +2,7 @@
 use Rattle.std.proofs.Common.{◌≡◌, Bool, true, false, List, Option, Some, None, refl}
 use Rattle.std.specs.Prelude.{if◌then◌else◌, nat_le}
 use Rattle.elem_core.specs.Sort.{Sort, num_type, nesting}
-use Rattle.stream_model.specs.declared.head.PlugHead.{PlugHead}
+use Rattle.stream_model.specs.Known.{HeadLists}
 use Rattle.blue_names.specs.declared.typed.TheConstants.{MAX_NESTING}
 use Rattle.blue_names.specs.declared.typed.Typed.{Typed}
 use Rattle.blue_names.specs.declared.typed.Typed.TheVariants.{Gives, Clashes, TooDeep}
@@ -39,7 +39,7 @@ keyed_by : (b : Bool) (t u : Sort) → (if b then Gives t else TooDeep) ≡ Give
 keyed_by true t u h = h
 keyed_by false t u h = cc
 
-pub keyed_is : (plugs : List PlugHead) (key : Sort) (r : Typed) (u : Sort) → keyed plugs key r ≡ Gives u → r ≡ Gives u
-keyed_is plugs key (Gives t) u h = keyed_by (nat_le (nesting key) MAX_NESTING) t u h
-keyed_is plugs key (Clashes t w) u h = cc
-keyed_is plugs key TooDeep u h = cc
+pub keyed_is : (heads : HeadLists) (key : Sort) (r : Typed) (u : Sort) → keyed heads key r ≡ Gives u → r ≡ Gives u
+keyed_is heads key (Gives t) u h = keyed_by (nat_le (nesting key) MAX_NESTING) t u h
+keyed_is heads key (Clashes t w) u h = cc
+keyed_is heads key TooDeep u h = cc

@@ -3,20 +3,20 @@ use Rattle.std.specs.Prelude.{slice_get, if◌then◌else◌, Option, Some, None
 use Rattle.std.proofs.Common.{◌≡◌, ℕ, zero, suc, ◌+◌, ◌-◌, ◌<◌, ◌≤◌, ◌⊎◌, inl, inr, Bool, true, false, List, [], ◌∷◌, length, map, sym, ap, subst, ◌∙◌, arith}
 use Rattle.std.proofs.lemmas.Bool.{cases_eq}
 use Rattle.stream_io.specs.State.{FolderState}
-use Rattle.stream_model.specs.Composed.{inputs_of, count_from}
+use Rattle.stream_model.specs.Composed.{inputs_by, inputs_of, count_from}
 use Rattle.stream_model.specs.Graph.{Graph, Edge, find_wire}
 use Rattle.stream_model.specs.Graph as graph
 use Rattle.stream_model.specs.Joined.{IsJoined}
 use Rattle.stream_model.specs.Lawful.{MergeInputs, MergeLawful, RowLawful}
-use Rattle.stream_model.specs.Linear.{Book, role_of}
+use Rattle.stream_model.specs.Linear.{Book, none_told, role_of}
 use Rattle.stream_model.specs.Node.{World}
 use Rattle.stream_model.specs.Outlook.{Outlook}
 use Rattle.stream_model.specs.Picks.{count_of}
 use Rattle.stream_model.specs.Rests.{ManyToOne}
-use Rattle.stream_model.specs.View.{SeenWire, demand, view_of, with_wire, ins_at, ins, outs}
+use Rattle.stream_model.specs.View.{SeenWire, demand, view_of, with_wire, ins_at, outs_at, outputs_by}
 use Rattle.stream_model.specs.declared.blueprint.Blueprint.{Blueprint}
 use Rattle.stream_model.specs.declared.blueprint.Node.{Node}
-use Rattle.stream_model.specs.declared.head.PlugHead.{PlugHead}
+use Rattle.stream_model.specs.Known.{HeadLists}
 use Rattle.stream_model.specs.declared.kind.Kind.{Kind}
 use Rattle.stream_model.specs.declared.kind.Kind.TheVariants.{MergeHub}
 use Rattle.stream_model.specs.declared.outcome.WireCount.{WireCount}
@@ -91,7 +91,7 @@ lane_few u v c o size g lane h = by v.lane lane h
     by (Some s) is d = let same : s ≡ size = cc in sent_few c.asked c.sent size g (subst (λ (x : ℕ). (if c.asked then c.sent + 1 else c.sent) - x ≤ g + 1) same d)
 
 module _ (b : Blueprint) (wires : List WireCount) (counted : length wires ≡ length (blueprint_wires b)) (joined : IsJoined (graph_of b)) where
-  port_wire : (k : ℕ) (n : graph.Node) (p : ℕ) → slice_get (graph_of b).nodes k ≡ Some n → p < inputs_of n.kind → PortWire (graph_of b) wires k p
+  port_wire : (k : ℕ) (n : graph.Node) (p : ℕ) → slice_get (graph_of b).nodes k ≡ Some n → p < inputs_of n → PortWire (graph_of b) wires k p
   port_wire k n p at less =
       let w = joined.each_input k n p at less in
       let f = found_first (λ (v : Edge). v.to) (λ (v : Edge). v.input) k p (blueprint_wires b) w.0 w.1 in
@@ -103,20 +103,20 @@ module _ (b : Blueprint) (wires : List WireCount) (counted : length wires ≡ le
       → (u : ℕ) (v : Edge) (c : WireCount) (size : ℕ) → slice_get (blueprint_wires b) u ≡ Some v → v.to ≡ k → v.lane ≡ Some size → slice_get wires u ≡ Some c
       → (count_of v.input (w.moves k) ≤ c.sent) × (c.sent ≤ count_of v.input (w.moves k) + (size + 1))
   hub_left w plans outlook lawful k n own producers at is u v c size there to lane count =
-      let row : RowLawful (graph_of b) w k (MergeHub own producers) n.decider (ins (graph_of b) wires outlook k (MergeHub own producers)) (outs (graph_of b) wires outlook k (MergeHub own producers)) =
-      subst (λ (x : Kind). RoleLawfulBy (graph_of b) w plans k (role_of x) n.decider (ins (graph_of b) wires outlook k x) (outs (graph_of b) wires outlook k x)) is (lawful.nodes k n at) in
-      let one = one_out (MergeLawful (w.moves k)) (ins (graph_of b) wires outlook k (MergeHub own producers)) (outs (graph_of b) wires outlook k (MergeHub own producers)) row in
+      let row : RowLawful (graph_of b) w k (MergeHub own producers) n.decider (ins_at (graph_of b) wires outlook k (count_from 0 producers)) (outs_at (graph_of b) wires outlook k (count_from 0 1)) =
+      subst (λ (x : Kind). RoleLawfulBy (graph_of b) w plans k (role_of x) n.decider (ins_at (graph_of b) wires outlook k (count_from 0 (inputs_by n.head x))) (outs_at (graph_of b) wires outlook k (count_from 0 (outputs_by n.head x)))) is (lawful.nodes k n at) in
+      let one = one_out (MergeLawful (w.moves k)) (ins_at (graph_of b) wires outlook k (count_from 0 producers)) (outs_at (graph_of b) wires outlook k (count_from 0 1)) row in
       let t = joined.target u v there in
       let both : Some t.0 ≡ Some n = sym (subst (λ (x : ℕ). slice_get (graph_of b).nodes x ≡ Some t.0) to t.1) ∙ at in
       let same : t.0 ≡ n = cc in
-      let less : v.input < producers = subst (λ (x : Kind). v.input < inputs_of x) (ap (λ (x : graph.Node). x.kind) same ∙ is) t.2 in
+      let less : v.input < producers = subst (λ (x : Kind). v.input < inputs_by n.head x) is (subst (λ (x : graph.Node). v.input < inputs_of x) same t.2) in
       let found : find_wire k v.input (blueprint_wires b) ≡ Some u = subst (λ (x : ℕ). find_wire x v.input (blueprint_wires b) ≡ Some u) to t.3 in
-      let ports : (q : ℕ) → 0 ≤ q → q < 0 + producers → PortWire (graph_of b) wires k q = λ q low high. let below : q < producers = omega (arith, high) in port_wire k n q at (subst (λ (x : Kind). q < inputs_of x) (sym is) below) in
+      let ports : (q : ℕ) → 0 ≤ q → q < 0 + producers → PortWire (graph_of b) wires k q = λ q low high. let below : q < producers = omega (arith, high) in port_wire k n q at (subst (λ (x : Kind). q < inputs_by n.head x) (sym is) below) in
       let owed = row_at (graph_of b) wires outlook (w.moves k) k producers 0 v.input u v c (omega arith) (omega (arith, less)) ports found there count one.1.1 in
       (owed.0, lane_few u v c (outlook u) size (count_of v.input (w.moves k)) lane owed.1)
 
-pub hub_leaves : (book : Book) (old new : FolderState) (b : Blueprint) (plans : List (Option (List ℕ))) (trace : Option (List ℕ)) (budget : ℕ) (ran : RunResult) (plugs : List PlugHead) (taken : List (List ℕ)) (w : World) → Runs book old new b plans trace budget ran → IsFit b plugs taken → w.book ≡ book → HasPicks (map pick_of ran.picks.items) w
+pub hub_leaves : (book : Book) (old new : FolderState) (b : Blueprint) (plans : List (Option (List ℕ))) (trace : Option (List ℕ)) (budget : ℕ) (ran : RunResult) (heads : HeadLists) (taken : List (List ℕ)) (w : World) → Runs book old new b plans trace budget ran → IsFit b heads taken → w.book ≡ book → HasPicks (map pick_of ran.picks.items) w
     → (k : ℕ) (n : Node) (own producers u : ℕ) (v : Edge) (c : WireCount) (size : ℕ) → slice_get b.nodes.items k ≡ Some n → n.kind ≡ MergeHub own producers → slice_get (blueprint_wires b) u ≡ Some v → v.to ≡ k → hub_size b.nodes.items v.from v.to ≡ Some size → slice_get ran.wires.items u ≡ Some c
     → (count_of v.input (w.moves k) ≤ c.sent) × (c.sent ≤ count_of v.input (w.moves k) + (size + 1))
-hub_leaves book old new b plans trace budget ran plugs taken w runs fit same has k n own producers u v c size at is there to hub count =
-    hub_left b ran.wires.items runs.pays.counted (fit_joined b plugs taken fit) w (plan_at plans) (as_passed runs.picture.carries) (runs.picture.lawful w same has) k (graph_node n) own producers (mapped_at graph_node b.nodes.items k n at) is u v c size there to (hub_wire b u v size there hub).0 count
+hub_leaves book old new b plans trace budget ran heads taken w runs fit same has k n own producers u v c size at is there to hub count =
+    hub_left b ran.wires.items runs.pays.counted (fit_joined b heads taken fit) (record w { customs = none_told w.book }) (plan_at plans) (as_passed runs.picture.carries) (runs.picture.lawful (record w { customs = none_told w.book }) same has (λ j m name there custom. refl)) k (graph_node b.wires.items n) own producers (mapped_at (graph_node b.wires.items) b.nodes.items k n at) is u v c size there to (hub_wire b u v size there hub).0 count

@@ -10,9 +10,9 @@ pub mod Fans
 pub mod Choices
 pub mod Substreams
 pub mod Stages
+pub mod Shapes
 pub mod Rules
 pub mod Origins
-pub mod Shapes
 pub mod Settling
 pub mod Carrying
 pub mod TypeSending

@@ -5,11 +5,12 @@ use Rattle.std.specs.Option.{option_or}
 use Rattle.std.proofs.lemmas.Bool.{cases_lt}
 use mathlib.Core.Path.{fun_ext}
 use Rattle.elem_core.specs.Sort.{Sort}
-use Rattle.stream_model.specs.Composed.{inputs_of, count_from}
+use Rattle.stream_model.specs.Composed.{count_from}
 use Rattle.stream_model.specs.Graph.{Edge}
 use Rattle.stream_model.specs.declared.blueprint.ChainDecl.{ChainDecl}
 use Rattle.stream_model.specs.declared.blueprint.Node.{Node}
-use Rattle.stream_model.specs.declared.head.PlugHead.{PlugHead}
+use Rattle.stream_model.specs.Known.{HeadLists}
+use Rattle.blue_names.specs.CustomPorts.{kind_inputs}
 use Rattle.blue_names.specs.Rounds.{source_at, fixes, arrivals, attempt, attempt_at, next, rounds, settled}
 use Rattle.blue_names.specs.StageTypes.{source_type}
 use Rattle.blue_names.specs.declared.typed.Typed.{Typed}
@@ -82,32 +83,32 @@ no_more types later (suc n) keeps le i lt k =
     subst (λ j. is_some (types j) ≡ true) (sym same) (one_same (types n) (later n) (omega (arith, le, below)) (subst (λ j. is_some (later j) ≡ true) same k)))
     (cases_lt i n)
 
-module _ (plugs : List PlugHead) (chains : List ChainDecl) (nodes : List Node) (ws : List Edge) where
+module _ (heads : HeadLists) (chains : List ChainDecl) (nodes : List Node) (ws : List Edge) where
   abbrev after : ℕ → ℕ → Option Sort
-  after = rounds plugs chains nodes ws
+  after = rounds heads chains nodes ws
 
   -- a type that is settled stays so
   pub kept_next : (m i : ℕ) (s : Sort) → after m i ≡ Some s → after (suc m) i ≡ Some s
-  kept_next m i s e = ap (λ o. option_or o (fixes (attempt_at plugs chains nodes ws (after m) i (slice_get nodes i)))) e
+  kept_next m i s e = ap (λ o. option_or o (fixes (attempt_at heads chains nodes ws (after m) i (slice_get nodes i)))) e
 
   -- the type of node k, by its kind alone, or by what it gives for types that are settled
   pub data Origin (k : ℕ) (n : Node) (u : Sort) : Type 0 where
     by_source : source_type n.kind ≡ Some u → Origin k n u
-    by_round : (types : ℕ → Option Sort) → ((i : ℕ) (s : Sort) → types i ≡ Some s → settled plugs chains nodes ws i ≡ Some s)
-        → attempt plugs chains n.kind (arrivals nodes ws types k (count_from 0 (inputs_of n.kind))) ≡ Some (Gives u) → Origin k n u
+    by_round : (types : ℕ → Option Sort) → ((i : ℕ) (s : Sort) → types i ≡ Some s → settled heads chains nodes ws i ≡ Some s)
+        → attempt heads chains n.kind (arrivals heads nodes ws types k (count_from 0 (kind_inputs heads n.kind))) ≡ Some (Gives u) → Origin k n u
 
-  origin_at : (k : ℕ) (n : Node) (u : Sort) → slice_get nodes k ≡ Some n → (m : ℕ) → ((i : ℕ) (s : Sort) → after m i ≡ Some s → settled plugs chains nodes ws i ≡ Some s) → after m k ≡ Some u → Origin k n u
+  origin_at : (k : ℕ) (n : Node) (u : Sort) → slice_get nodes k ≡ Some n → (m : ℕ) → ((i : ℕ) (s : Sort) → after m i ≡ Some s → settled heads chains nodes ws i ≡ Some s) → after m k ≡ Some u → Origin k n u
   origin_at k n u at zero later e = by_source (sym (ap source_at at) ∙ e)
   origin_at k n u at (suc m) later e =
-      by_case (either (after m k) (fixes (attempt_at plugs chains nodes ws (after m) k (slice_get nodes k))) u e)
+      by_case (either (after m k) (fixes (attempt_at heads chains nodes ws (after m) k (slice_get nodes k))) u e)
       (λ (h : after m k ≡ Some u). origin_at k n u at m (λ i s r. later i s (kept_next m i s r)) h)
     where
-      by_case : (after m k ≡ Some u) ⊎ ((after m k ≡ None) × (fixes (attempt_at plugs chains nodes ws (after m) k (slice_get nodes k)) ≡ Some u)) → (after m k ≡ Some u → Origin k n u) → Origin k n u
+      by_case : (after m k ≡ Some u) ⊎ ((after m k ≡ None) × (fixes (attempt_at heads chains nodes ws (after m) k (slice_get nodes k)) ≡ Some u)) → (after m k ≡ Some u → Origin k n u) → Origin k n u
       by_case (inl h) earlier = earlier h
       by_case (inr h) earlier =
-          by_round (after m) (λ i s r. later i s (kept_next m i s r)) (sym (ap (attempt_at plugs chains nodes ws (after m) k) at) ∙ fixes_from (attempt_at plugs chains nodes ws (after m) k (slice_get nodes k)) u h.1)
+          by_round (after m) (λ i s r. later i s (kept_next m i s r)) (sym (ap (attempt_at heads chains nodes ws (after m) k) at) ∙ fixes_from (attempt_at heads chains nodes ws (after m) k (slice_get nodes k)) u h.1)
 
-  pub origin : (k : ℕ) (n : Node) (u : Sort) → slice_get nodes k ≡ Some n → settled plugs chains nodes ws k ≡ Some u → Origin k n u
+  pub origin : (k : ℕ) (n : Node) (u : Sort) → slice_get nodes k ≡ Some n → settled heads chains nodes ws k ≡ Some u → Origin k n u
   origin k n u at e = origin_at k n u at (length nodes) (λ i s r. r) e
 
   -- a source has its type from the start
@@ -115,7 +116,7 @@ module _ (plugs : List PlugHead) (chains : List ChainDecl) (nodes : List Node) (
   source_after zero k u h = h
   source_after (suc m) k u h = kept_next m k u (source_after m k u h)
 
-  pub source_settles : (k : ℕ) (n : Node) (u : Sort) → slice_get nodes k ≡ Some n → source_type n.kind ≡ Some u → settled plugs chains nodes ws k ≡ Some u
+  pub source_settles : (k : ℕ) (n : Node) (u : Sort) → slice_get nodes k ≡ Some n → source_type n.kind ≡ Some u → settled heads chains nodes ws k ≡ Some u
   source_settles k n u at h = source_after (length nodes) k u (ap source_at at ∙ h)
 
   -- ---- the rounds come to rest
@@ -130,12 +131,12 @@ module _ (plugs : List PlugHead) (chains : List ChainDecl) (nodes : List Node) (
       known (Some s) b k = refl
 
       by_place : (i : ℕ) → (i < length nodes) ⊎ (length nodes ≤ i) → after (suc m) i ≡ after m i
-      by_place i (inl lt) = known (after m i) (fixes (attempt_at plugs chains nodes ws (after m) i (slice_get nodes i))) (h i lt)
+      by_place i (inl lt) = known (after m i) (fixes (attempt_at heads chains nodes ws (after m) i (slice_get nodes i))) (h i lt)
       by_place i (inr le) =
-          ap (λ o. option_or (after m i) (fixes (attempt_at plugs chains nodes ws (after m) i o))) (past_end nodes i le) ∙ none_behind (after m i)
+          ap (λ o. option_or (after m i) (fixes (attempt_at heads chains nodes ws (after m) i o))) (past_end nodes i le) ∙ none_behind (after m i)
 
   same_onward : (m : ℕ) → after (suc m) ≡ after m → after (suc (suc m)) ≡ after (suc m)
-  same_onward m e = ap (next plugs chains nodes ws) e
+  same_onward m e = ap (next heads chains nodes ws) e
 
   -- after m + 1 rounds more than m nodes are known, or a round earlier all that ever will be
   rests_or_grows : (m : ℕ) → (after (suc m) ≡ after m) ⊎ (m < known_of (after (suc m)) (length nodes))
@@ -155,7 +156,7 @@ module _ (plugs : List PlugHead) (chains : List ChainDecl) (nodes : List Node) (
       by_earlier (inr more) (inr le) = inl (same_types (suc m) (no_more (after (suc m)) (after (suc (suc m))) (length nodes) (kept_next (suc m)) le))
 
   -- so a round more than there are nodes settles nothing
-  pub settles_no_more : next plugs chains nodes ws (settled plugs chains nodes ws) ≡ settled plugs chains nodes ws
+  pub settles_no_more : next heads chains nodes ws (settled heads chains nodes ws) ≡ settled heads chains nodes ws
   settles_no_more =
       ⊎_elim (λ (same : after (suc (length nodes)) ≡ after (length nodes)). same)
       (λ (more : length nodes < known_of (after (suc (length nodes))) (length nodes)). absurd (omega (arith, more, known_few (after (suc (length nodes))) (length nodes))))

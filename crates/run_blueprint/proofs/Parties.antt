@@ -28,7 +28,7 @@ use Rattle.stream_model.specs.declared.blueprint.WireDecl.{WireDecl}
 use Rattle.nodes.specs.declared.node.IslandNode.{IslandNode}
 use Rattle.run_laws.specs.Account.{Account, WireKeeps}
 use Rattle.run_laws.specs.Ends.{LaneKeeps}
-use Rattle.run_laws.specs.Items.{list_of, end_of_items}
+use Rattle.run_laws.specs.Items.{list_of, end_of_items, IsToldList}
 use Rattle.run_laws.proofs.Carrying.{carries_part}
 use Rattle.run_laws.proofs.Coming.{elements_append, elements_told}
 use Rattle.run_laws.proofs.Histories.{got_begins}
@@ -39,7 +39,6 @@ use Rattle.blue_check.specs.Wires.{blueprint_wires}
 use Rattle.materializer.proofs.Joining.{mapped_from}
 use Rattle.island_runs.specs.Leaving.{Moment}
 use Rattle.run_blueprint.specs.Parties.{CarriesParty}
-use Rattle.run_blueprint.proofs.Carried.{IsTold}
 
 -- ---- one connection
 
@@ -48,7 +47,7 @@ none_behind [] r e = refl
 none_behind (x ∷ h) r e = cc
 
 -- what begins a list and its end is a list, and that end or none
-begun_told : (h : List Item) (l : List Tree) (e : End) (r : List Item) → told l e ≡ h ++ r → IsTold h
+begun_told : (h : List Item) (l : List Tree) (e : End) (r : List Item) → told l e ≡ h ++ r → IsToldList h
 begun_told [] l e r is = record { list = []; end = unended; is = refl }
 begun_told (item.Elem x ∷ h) (t ∷ l) e r is =
     let rest : told l e ≡ h ++ r = cc in
@@ -119,7 +118,7 @@ module _ (s : ℕ) (near far : WireState) (p q : Bool) (asked : ℕ) (sn : IsSou
   pushed_on : IsPrefix far.wire.got (told k.in_keeps.pushed_list k.in_keeps.pushed_end)
   pushed_on = subst (λ (x : List Item). IsPrefix far.wire.got x) k.in_keeps.pushed_is (got_begins far.wire q sf)
 
-  took : IsTold far.wire.got
+  took : IsToldList far.wire.got
   took = begun_told far.wire.got k.in_keeps.pushed_list k.in_keeps.pushed_end pushed_on.rest pushed_on.is
 
   carried : Carries 0 (list_of near.wire.sent) (end_of_items near.wire.sent) took.list took.end

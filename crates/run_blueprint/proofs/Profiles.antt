@@ -1,16 +1,15 @@
 -- What each node of an island leaves at its end, by the kind of its node in the blueprint.
-use Rattle.std.proofs.Common.{◌≡◌, ◌≢◌, inl, inr, ℕ, zero, suc, ◌+◌, ◌≤◌, Bool, true, false, List, [], ◌∷◌, length, map, slice_get, refl, sym, ap, ◌∙◌, subst, arith}
-use Rattle.std.specs.Prelude.{Option, Some, None, ◌==◌, if◌then◌else◌}
+use Rattle.std.proofs.Common.{◌≡◌, ◌≢◌, inl, inr, ℕ, zero, suc, ◌+◌, Bool, true, false, List, [], ◌∷◌, length, map, slice_get, refl, sym, ap, ◌∙◌, subst, arith}
+use Rattle.std.specs.Prelude.{Option, Some, None, if◌then◌else◌}
 use Rattle.std.specs.Option.{option_map}
 use Rattle.std.specs.List.{filter_map, cons_option}
-use Rattle.std.proofs.lemmas.Bool.Decides.{eqb_tells, nat_tests}
+use Rattle.std.proofs.lemmas.Bool.Decides.{eqb_tells}
 use Rattle.elem_core.specs.declared.item.Item.{Item}
 use Rattle.port_core.specs.View.{View}
 use Rattle.stream_model.specs.Graph as graph
 use Rattle.stream_model.specs.declared.kind.Kind.{Kind}
 use Rattle.stream_model.specs.declared.kind.Kind.TheVariants as kind
 use Rattle.stream_model.specs.declared.outcome.EndState.TheVariants.{WriteFault}
-use Rattle.stream_model.specs.View.{outputs_of}
 use Rattle.stream_model.specs.OneWay as oneway
 use Rattle.stream_io.specs.State.{SourceState, DrainState}
 use Rattle.stage_linear.specs.States.{IsLinear}
@@ -29,6 +28,7 @@ use Rattle.interpreter.specs.Island.{sinks_of, readers_of, writers_of}
 use Rattle.run_laws.specs.Made.{FirstOf}
 use Rattle.run_laws.specs.Picture.{has_ended}
 use Rattle.stream_model.specs.declared.blueprint.Node as blue
+use Rattle.stream_model.specs.declared.blueprint.WireDecl.{WireDecl}
 use Rattle.materializer.specs.Files.{source_file, output_of, is_sink}
 use Rattle.materializer.specs.Graphs.{graph_node}
 use Rattle.run_blueprint.specs.Stands.{SinkStand, sink_places, has_ended_at}
@@ -58,6 +58,7 @@ readers_filtered (node.State x ∷ xs) = readers_filtered xs
 readers_filtered (node.Sub x ∷ xs) = readers_filtered xs
 readers_filtered (node.FanIn x ∷ xs) = readers_filtered xs
 readers_filtered (node.FanOut x ∷ xs) = readers_filtered xs
+readers_filtered (node.Custom x ∷ xs) = readers_filtered xs
 readers_filtered (node.Entering x ∷ xs) = readers_filtered xs
 readers_filtered (node.Leaving x ∷ xs) = readers_filtered xs
 readers_filtered (node.Ignoring x ∷ xs) = readers_filtered xs
@@ -72,6 +73,7 @@ writers_filtered (node.State x ∷ xs) = writers_filtered xs
 writers_filtered (node.Sub x ∷ xs) = writers_filtered xs
 writers_filtered (node.FanIn x ∷ xs) = writers_filtered xs
 writers_filtered (node.FanOut x ∷ xs) = writers_filtered xs
+writers_filtered (node.Custom x ∷ xs) = writers_filtered xs
 writers_filtered (node.Entering x ∷ xs) = writers_filtered xs
 writers_filtered (node.Leaving x ∷ xs) = writers_filtered xs
 writers_filtered (node.Ignoring x ∷ xs) = writers_filtered xs
@@ -86,6 +88,7 @@ sinks_filtered (node.State x ∷ xs) = sinks_filtered xs
 sinks_filtered (node.Sub x ∷ xs) = sinks_filtered xs
 sinks_filtered (node.FanIn x ∷ xs) = sinks_filtered xs
 sinks_filtered (node.FanOut x ∷ xs) = sinks_filtered xs
+sinks_filtered (node.Custom x ∷ xs) = sinks_filtered xs
 sinks_filtered (node.Entering x ∷ xs) = sinks_filtered xs
 sinks_filtered (node.Leaving x ∷ xs) = sinks_filtered xs
 sinks_filtered (node.Ignoring x ∷ xs) = ap (λ (l : List SinkStand). (x.node, 0, x.end) ∷ l) (sinks_filtered xs)
@@ -106,85 +109,81 @@ pub record Profile {S D L B : Type 0} (sources : S → SourceState) (drains : D 
   pub stand : StandsAt k (is_sink n) (stand_in x)
   pub sink : (s : SinkStand) → stand_in x ≡ Some s → oneway.is_sink n.kind ≡ true
 
--- a kind with some output that reads no file: a stage, or a source without a file
+-- a kind that is no sink and reads no file: a stage, or a source without a file
 record IsInner (shape : Kind) : Type 0 where
   input : source_file shape ≡ None
   output : output_of shape ≡ None
-  outputs : (outputs_of shape == 0) ≡ false
+  sink : oneway.is_sink shape ≡ false
 
 linear_inner : (shape : Kind) → IsLinear shape → IsInner shape
-linear_inner (kind.Map f) h = record { input = refl; output = refl; outputs = refl }
-linear_inner (kind.Filter p) h = record { input = refl; output = refl; outputs = refl }
-linear_inner (kind.FilterNot p) h = record { input = refl; output = refl; outputs = refl }
-linear_inner (kind.Take n) h = record { input = refl; output = refl; outputs = refl }
-linear_inner (kind.TakeWhile p) h = record { input = refl; output = refl; outputs = refl }
-linear_inner (kind.Drop n) h = record { input = refl; output = refl; outputs = refl }
-linear_inner (kind.DropWhile p) h = record { input = refl; output = refl; outputs = refl }
-linear_inner (kind.Limit n) h = record { input = refl; output = refl; outputs = refl }
-linear_inner (kind.MapConcat x) h = record { input = refl; output = refl; outputs = refl }
-linear_inner (kind.Plug name) h = record { input = refl; output = refl; outputs = refl }
+linear_inner (kind.Map f) h = record { input = refl; output = refl; sink = refl }
+linear_inner (kind.Filter p) h = record { input = refl; output = refl; sink = refl }
+linear_inner (kind.FilterNot p) h = record { input = refl; output = refl; sink = refl }
+linear_inner (kind.Take n) h = record { input = refl; output = refl; sink = refl }
+linear_inner (kind.TakeWhile p) h = record { input = refl; output = refl; sink = refl }
+linear_inner (kind.Drop n) h = record { input = refl; output = refl; sink = refl }
+linear_inner (kind.DropWhile p) h = record { input = refl; output = refl; sink = refl }
+linear_inner (kind.Limit n) h = record { input = refl; output = refl; sink = refl }
+linear_inner (kind.MapConcat x) h = record { input = refl; output = refl; sink = refl }
+linear_inner (kind.Plug name) h = record { input = refl; output = refl; sink = refl }
 linear_inner _ h = absurd h
 
 state_inner : (shape : Kind) → IsStateful shape → IsInner shape
-state_inner (kind.Grouped n) h = record { input = refl; output = refl; outputs = refl }
-state_inner (kind.Fold o) h = record { input = refl; output = refl; outputs = refl }
-state_inner (kind.Reduce r) h = record { input = refl; output = refl; outputs = refl }
-state_inner (kind.Scan o) h = record { input = refl; output = refl; outputs = refl }
-state_inner (kind.Buffer n p) h = record { input = refl; output = refl; outputs = refl }
-state_inner (kind.RecoverNum z) h = record { input = refl; output = refl; outputs = refl }
-state_inner (kind.RecoverText l) h = record { input = refl; output = refl; outputs = refl }
-state_inner (kind.Valve name) h = record { input = refl; output = refl; outputs = refl }
-state_inner (kind.TripShutdown name n) h = record { input = refl; output = refl; outputs = refl }
-state_inner (kind.TripAbort name n) h = record { input = refl; output = refl; outputs = refl }
+state_inner (kind.Grouped n) h = record { input = refl; output = refl; sink = refl }
+state_inner (kind.Fold o) h = record { input = refl; output = refl; sink = refl }
+state_inner (kind.Reduce r) h = record { input = refl; output = refl; sink = refl }
+state_inner (kind.Scan o) h = record { input = refl; output = refl; sink = refl }
+state_inner (kind.Buffer n p) h = record { input = refl; output = refl; sink = refl }
+state_inner (kind.RecoverNum z) h = record { input = refl; output = refl; sink = refl }
+state_inner (kind.RecoverText l) h = record { input = refl; output = refl; sink = refl }
+state_inner (kind.Valve name) h = record { input = refl; output = refl; sink = refl }
+state_inner (kind.TripShutdown name n) h = record { input = refl; output = refl; sink = refl }
+state_inner (kind.TripAbort name n) h = record { input = refl; output = refl; sink = refl }
 state_inner _ h = absurd h
 
 sub_inner : (shape : Kind) → IsSub shape → IsInner shape
-sub_inner (kind.GroupBy n f name) h = record { input = refl; output = refl; outputs = refl }
-sub_inner (kind.SplitWhen p name j) h = record { input = refl; output = refl; outputs = refl }
-sub_inner (kind.SplitAfter p name j) h = record { input = refl; output = refl; outputs = refl }
+sub_inner (kind.GroupBy n f name) h = record { input = refl; output = refl; sink = refl }
+sub_inner (kind.SplitWhen p name j) h = record { input = refl; output = refl; sink = refl }
+sub_inner (kind.SplitAfter p name j) h = record { input = refl; output = refl; sink = refl }
 sub_inner _ h = absurd h
 
 fan_in_inner : (shape : Kind) → IsFanIn shape → IsInner shape
-fan_in_inner (kind.Concat n) h = record { input = refl; output = refl; outputs = refl }
-fan_in_inner (kind.Interleave n s) h = record { input = refl; output = refl; outputs = refl }
-fan_in_inner kind.MergeSorted h = record { input = refl; output = refl; outputs = refl }
-fan_in_inner kind.Zip h = record { input = refl; output = refl; outputs = refl }
-fan_in_inner (kind.Merge n) h = record { input = refl; output = refl; outputs = refl }
-fan_in_inner (kind.MergeHub m n) h = record { input = refl; output = refl; outputs = refl }
+fan_in_inner (kind.Concat n) h = record { input = refl; output = refl; sink = refl }
+fan_in_inner (kind.Interleave n s) h = record { input = refl; output = refl; sink = refl }
+fan_in_inner kind.MergeSorted h = record { input = refl; output = refl; sink = refl }
+fan_in_inner kind.Zip h = record { input = refl; output = refl; sink = refl }
+fan_in_inner (kind.Merge n) h = record { input = refl; output = refl; sink = refl }
+fan_in_inner (kind.MergeHub m n) h = record { input = refl; output = refl; sink = refl }
 fan_in_inner _ h = absurd h
 
-some_outputs : (n : ℕ) → 2 ≤ n → (n == 0) ≡ false
-some_outputs n h = grind (arith, nat_tests, h)
-
-some_consumers : (n : ℕ) → 1 ≤ n → (n == 0) ≡ false
-some_consumers n h = grind (arith, nat_tests, h)
-
 fan_out_inner : (shape : Kind) → IsOut shape → IsInner shape
-fan_out_inner (kind.Broadcast n) h = record { input = refl; output = refl; outputs = some_outputs n h.0 }
-fan_out_inner (kind.BroadcastHub m n) h = record { input = refl; output = refl; outputs = some_consumers n h.0 }
-fan_out_inner (kind.Partition n f) h = record { input = refl; output = refl; outputs = some_outputs n h.0 }
-fan_out_inner kind.Unzip h = record { input = refl; output = refl; outputs = refl }
-fan_out_inner (kind.Balance n) h = record { input = refl; output = refl; outputs = some_outputs n h.0 }
+fan_out_inner (kind.Broadcast n) h = record { input = refl; output = refl; sink = refl }
+fan_out_inner (kind.BroadcastHub m n) h = record { input = refl; output = refl; sink = refl }
+fan_out_inner (kind.Partition n f) h = record { input = refl; output = refl; sink = refl }
+fan_out_inner kind.Unzip h = record { input = refl; output = refl; sink = refl }
+fan_out_inner (kind.Balance n) h = record { input = refl; output = refl; sink = refl }
 fan_out_inner _ h = absurd h
 
 maker_inner : (shape : Kind) → IsMaker shape → IsInner shape
-maker_inner (kind.Range low high) h = record { input = refl; output = refl; outputs = refl }
-maker_inner (kind.Empty b) h = record { input = refl; output = refl; outputs = refl }
-maker_inner (kind.Failed b) h = record { input = refl; output = refl; outputs = refl }
+maker_inner (kind.Range low high) h = record { input = refl; output = refl; sink = refl }
+maker_inner (kind.Empty b) h = record { input = refl; output = refl; sink = refl }
+maker_inner (kind.Failed b) h = record { input = refl; output = refl; sink = refl }
 maker_inner _ h = absurd h
+
+custom_inner : (shape : Kind) (name : List ℕ) → shape ≡ kind.Custom name → IsInner shape
+custom_inner shape name is = record { input = ap source_file is; output = ap output_of is; sink = ap oneway.is_sink is }
 
 -- a sink with a file has one, and reads none
 record HasFile (shape : Kind) : Type 0 where
   name : List ℕ
   input : source_file shape ≡ None
   output : output_of shape ≡ Some name
-  none : (outputs_of shape == 0) ≡ true
   sink : oneway.is_sink shape ≡ true
 
 file_sink : (shape : Kind) → IsFileSink shape → HasFile shape
-file_sink (kind.ToLines name) h = record { name = name; input = refl; output = refl; none = refl; sink = refl }
-file_sink (kind.Head name) h = record { name = name; input = refl; output = refl; none = refl; sink = refl }
-file_sink (kind.Last name) h = record { name = name; input = refl; output = refl; none = refl; sink = refl }
+file_sink (kind.ToLines name) h = record { name = name; input = refl; output = refl; sink = refl }
+file_sink (kind.Head name) h = record { name = name; input = refl; output = refl; sink = refl }
+file_sink (kind.Last name) h = record { name = name; input = refl; output = refl; sink = refl }
 file_sink _ h = absurd h
 
 -- a kind that writes a file is a sink with one
@@ -207,7 +206,7 @@ module _ {S D L B : Type 0} (sources : S → SourceState) (drains : D → DrainS
   reading_profile x name is named = record {
     input = ap source_file is ∙ ap Some (sym named);
     output = ap output_of is;
-    stand = no_sink k (is_sink n) None (ap (λ (s : Kind). outputs_of s == 0) is) refl;
+    stand = no_sink k (is_sink n) None (ap oneway.is_sink is) refl;
     sink = λ s e. absurd cc;
   }
 
@@ -217,7 +216,7 @@ module _ {S D L B : Type 0} (sources : S → SourceState) (drains : D → DrainS
       record {
         input = f.input;
         output = f.output ∙ ap Some (sym (named f.name f.output));
-        stand = a_sink k (is_sink n) (Some (x.node, x.count, x.end)) (x.node, x.count, x.end) f.none refl place;
+        stand = a_sink k (is_sink n) (Some (x.node, x.count, x.end)) (x.node, x.count, x.end) f.sink refl place;
         sink = λ s e. f.sink;
       }
 
@@ -225,7 +224,7 @@ module _ {S D L B : Type 0} (sources : S → SourceState) (drains : D → DrainS
   ignoring_profile x is place = record {
     input = ap source_file is;
     output = ap output_of is;
-    stand = a_sink k (is_sink n) (Some (x.node, 0, x.end)) (x.node, 0, x.end) (ap (λ (s : Kind). outputs_of s == 0) is) refl place;
+    stand = a_sink k (is_sink n) (Some (x.node, 0, x.end)) (x.node, 0, x.end) (ap oneway.is_sink is) refl place;
     sink = λ s e. ap oneway.is_sink is;
   }
 
@@ -233,42 +232,44 @@ module _ {S D L B : Type 0} (sources : S → SourceState) (drains : D → DrainS
   inner_profile x reads writes stands is = record {
     input = is.input ∙ ap (option_map (λ s. (sources s).name)) (sym reads);
     output = is.output ∙ ap (option_map (λ d. (drains d).name)) (sym writes);
-    stand = no_sink k (is_sink n) (stand_in x) is.outputs stands;
+    stand = no_sink k (is_sink n) (stand_in x) is.sink stands;
     sink = λ s e. absurd cc;
   }
 
   -- what a node leaves, whatever its kind is, where its source and its drain have the names of their files
-  pub node_profile : (chains : List graph.Chain) (first now : IslandNode S D L B) (v : View) (took gave : List (List Item)) → FirstOf sources chains k (graph_node n) first → node_law sources drains book first now v took gave
+  pub node_profile : (wires : List WireDecl) (chains : List graph.Chain) (first now : IslandNode S D L B) (v : View) (took gave : List (List Item)) → FirstOf sources chains k (graph_node wires n) first → node_law sources drains book first now v took gave
       → ((name : List ℕ) (x : Lines S) → n.kind ≡ kind.Lines name → now ≡ node.Reading x → (sources x.reader.source).name ≡ name)
       → ((name : List ℕ) (x : Sink D) → output_of n.kind ≡ Some name → now ≡ node.Writing x → (drains x.drain).name ≡ name)
       → Profile sources drains k n now
-  node_profile chains (node.Reading f) (node.Reading x) v took gave made law reads writes = reading_profile x made.name made.kind_is (reads made.name x made.kind_is refl)
-  node_profile chains (node.Making f) (node.Making x) v took gave made law reads writes = inner_profile (node.Making x) refl refl refl (maker_inner n.kind made.is_maker)
-  node_profile chains (node.Linear f) (node.Linear x) v took gave made law reads writes = inner_profile (node.Linear x) refl refl refl (linear_inner n.kind made.is_linear)
-  node_profile chains (node.State f) (node.State x) v took gave made law reads writes = inner_profile (node.State x) refl refl refl (state_inner n.kind made.is_state)
-  node_profile chains (node.Sub f) (node.Sub x) v took gave made law reads writes = inner_profile (node.Sub x) refl refl refl (sub_inner n.kind made.is_sub)
-  node_profile chains (node.FanIn f) (node.FanIn x) v took gave made law reads writes = inner_profile (node.FanIn x) refl refl refl (fan_in_inner n.kind made.is_in)
-  node_profile chains (node.FanOut f) (node.FanOut x) v took gave made law reads writes = inner_profile (node.FanOut x) refl refl refl (fan_out_inner n.kind made.is_out)
-  node_profile chains (node.Writing f) (node.Writing x) v took gave made law reads writes = writing_profile x made.is_sink (law.node ∙ made.node) (λ name e. writes name x e refl)
-  node_profile chains (node.Ignoring f) (node.Ignoring x) v took gave made law reads writes = ignoring_profile x made.kind_is (law.node ∙ made.node)
-  node_profile chains (node.Entering f) x v took gave made law reads writes = absurd made
-  node_profile chains (node.Leaving f) x v took gave made law reads writes = absurd made
-  node_profile chains f x v took gave made law reads writes = absurd law
+  node_profile wires chains (node.Reading f) (node.Reading x) v took gave made law reads writes = reading_profile x made.name made.kind_is (reads made.name x made.kind_is refl)
+  node_profile wires chains (node.Making f) (node.Making x) v took gave made law reads writes = inner_profile (node.Making x) refl refl refl (maker_inner n.kind made.is_maker)
+  node_profile wires chains (node.Linear f) (node.Linear x) v took gave made law reads writes = inner_profile (node.Linear x) refl refl refl (linear_inner n.kind made.is_linear)
+  node_profile wires chains (node.State f) (node.State x) v took gave made law reads writes = inner_profile (node.State x) refl refl refl (state_inner n.kind made.is_state)
+  node_profile wires chains (node.Sub f) (node.Sub x) v took gave made law reads writes = inner_profile (node.Sub x) refl refl refl (sub_inner n.kind made.is_sub)
+  node_profile wires chains (node.FanIn f) (node.FanIn x) v took gave made law reads writes = inner_profile (node.FanIn x) refl refl refl (fan_in_inner n.kind made.is_in)
+  node_profile wires chains (node.FanOut f) (node.FanOut x) v took gave made law reads writes = inner_profile (node.FanOut x) refl refl refl (fan_out_inner n.kind made.is_out)
+  node_profile wires chains (node.Custom f) (node.Custom x) v took gave made law reads writes = inner_profile (node.Custom x) refl refl refl (custom_inner n.kind made.name made.kind_is)
+  node_profile wires chains (node.Writing f) (node.Writing x) v took gave made law reads writes = writing_profile x made.is_sink (law.node ∙ made.node) (λ name e. writes name x e refl)
+  node_profile wires chains (node.Ignoring f) (node.Ignoring x) v took gave made law reads writes = ignoring_profile x made.kind_is (law.node ∙ made.node)
+  node_profile wires chains (node.Entering f) x v took gave made law reads writes = absurd made
+  node_profile wires chains (node.Leaving f) x v took gave made law reads writes = absurd made
+  node_profile wires chains f x v took gave made law reads writes = absurd law
 
   -- a sink with a file is one by its kind
-  pub writing_kind : (chains : List graph.Chain) (first now : IslandNode S D L B) (x : Sink D) (v : View) (took gave : List (List Item)) → FirstOf sources chains k (graph_node n) first → node_law sources drains book first now v took gave → now ≡ node.Writing x → (name : List ℕ) × (output_of n.kind ≡ Some name)
-  writing_kind chains (node.Writing f) (node.Writing y) x v took gave made law is = let f = file_sink n.kind made.is_sink in (f.name, f.output)
-  writing_kind chains (node.Reading f) (node.Reading y) x v took gave made law is = absurd cc
-  writing_kind chains (node.Making f) (node.Making y) x v took gave made law is = absurd cc
-  writing_kind chains (node.Linear f) (node.Linear y) x v took gave made law is = absurd cc
-  writing_kind chains (node.State f) (node.State y) x v took gave made law is = absurd cc
-  writing_kind chains (node.Sub f) (node.Sub y) x v took gave made law is = absurd cc
-  writing_kind chains (node.FanIn f) (node.FanIn y) x v took gave made law is = absurd cc
-  writing_kind chains (node.FanOut f) (node.FanOut y) x v took gave made law is = absurd cc
-  writing_kind chains (node.Ignoring f) (node.Ignoring y) x v took gave made law is = absurd cc
-  writing_kind chains (node.Entering f) y x v took gave made law is = absurd made
-  writing_kind chains (node.Leaving f) y x v took gave made law is = absurd made
-  writing_kind chains f y x v took gave made law is = absurd law
+  pub writing_kind : (wires : List WireDecl) (chains : List graph.Chain) (first now : IslandNode S D L B) (x : Sink D) (v : View) (took gave : List (List Item)) → FirstOf sources chains k (graph_node wires n) first → node_law sources drains book first now v took gave → now ≡ node.Writing x → (name : List ℕ) × (output_of n.kind ≡ Some name)
+  writing_kind wires chains (node.Writing f) (node.Writing y) x v took gave made law is = let f = file_sink n.kind made.is_sink in (f.name, f.output)
+  writing_kind wires chains (node.Reading f) (node.Reading y) x v took gave made law is = absurd cc
+  writing_kind wires chains (node.Making f) (node.Making y) x v took gave made law is = absurd cc
+  writing_kind wires chains (node.Linear f) (node.Linear y) x v took gave made law is = absurd cc
+  writing_kind wires chains (node.State f) (node.State y) x v took gave made law is = absurd cc
+  writing_kind wires chains (node.Sub f) (node.Sub y) x v took gave made law is = absurd cc
+  writing_kind wires chains (node.FanIn f) (node.FanIn y) x v took gave made law is = absurd cc
+  writing_kind wires chains (node.FanOut f) (node.FanOut y) x v took gave made law is = absurd cc
+  writing_kind wires chains (node.Custom f) (node.Custom y) x v took gave made law is = absurd cc
+  writing_kind wires chains (node.Ignoring f) (node.Ignoring y) x v took gave made law is = absurd cc
+  writing_kind wires chains (node.Entering f) y x v took gave made law is = absurd made
+  writing_kind wires chains (node.Leaving f) y x v took gave made law is = absurd made
+  writing_kind wires chains f y x v took gave made law is = absurd law
 
   -- no write of a sink without a file fails
   pub never_faults : (first now : IslandNode S D L B) (s : SinkStand) (v : View) (took gave : List (List Item)) → node_law sources drains book first now v took gave → stand_in now ≡ Some s → s.2 ≡ WriteFault → (x : Sink D) × (now ≡ node.Writing x)
@@ -284,6 +285,7 @@ module _ {S D L B : Type 0} (sources : S → SourceState) (drains : D → DrainS
   never_faults (node.Sub f) (node.Sub y) s v took gave law stands fault = absurd cc
   never_faults (node.FanIn f) (node.FanIn y) s v took gave law stands fault = absurd cc
   never_faults (node.FanOut f) (node.FanOut y) s v took gave law stands fault = absurd cc
+  never_faults (node.Custom f) (node.Custom y) s v took gave law stands fault = absurd cc
   never_faults (node.Entering f) (node.Entering y) s v took gave law stands fault = absurd cc
   never_faults (node.Leaving f) (node.Leaving y) s v took gave law stands fault = absurd cc
   never_faults f y s v took gave law stands fault = absurd law
@@ -298,6 +300,7 @@ writer_there name (node.State y) n e = absurd cc
 writer_there name (node.Sub y) n e = absurd cc
 writer_there name (node.FanIn y) n e = absurd cc
 writer_there name (node.FanOut y) n e = absurd cc
+writer_there name (node.Custom y) n e = absurd cc
 writer_there name (node.Entering y) n e = absurd cc
 writer_there name (node.Leaving y) n e = absurd cc
 writer_there name (node.Ignoring y) n e = absurd cc

@@ -17,7 +17,7 @@ use Rattle.port_core.specs.Reading.{inp_of, got_of}
 use Rattle.stream_model.specs.declared.kind.Kind.TheVariants as kind
 use Rattle.stream_model.specs.declared.outcome.EndState.{EndState}
 use Rattle.stream_model.specs.declared.outcome.EndState.TheVariants.{Ended, Failed, Unended, WriteFault}
-use Rattle.stream_model.specs.Composed.{inputs_of, count_from, received, wire_loss, incoming, ports_of, composed, sink_outlook}
+use Rattle.stream_model.specs.Composed.{inputs_by, inputs_of, count_from, received, wire_loss, incoming, ports_of, composed, sink_outlook}
 use Rattle.stream_model.specs.Graph.{Graph, Edge, find_wire}
 use Rattle.stream_model.specs.Graph as graph
 use Rattle.stream_model.specs.Lane.{loss_of, lane_loss, Carries}
@@ -177,12 +177,12 @@ module _ {S D L B : Type 0} (sources : S → SourceState) (drains : D → DrainS
   brings : ArrivedOf (lane_loss v.keep v.lane) (a.near u).wire.sent (a.far u).wire.got
   brings = wire_brings v.keep v.lane (a.near u) (a.far u) (a.asked u) near_sound.0 far_sound.0 near_sound.1 far_sound.1 keeps
 
-  module _ (o : Outlook) (sent : AgreesWith o (a.near u).wire.sent) (k : ℕ) (n : graph.Node) (ni : slice_get g.nodes k ≡ Some n) (one : inputs_of n.kind ≡ 1) (to : v.to ≡ k) where
+  module _ (o : Outlook) (sent : AgreesWith o (a.near u).wire.sent) (k : ℕ) (n : graph.Node) (ni : slice_get g.nodes k ≡ Some n) (one : inputs_of n ≡ 1) (to : v.to ≡ k) where
     found : find_wire k 0 g.wires ≡ Some u
     found = one_input g run.joined k n u v ni one at to
 
     took_one : took g a k n ≡ (a.far u).wire.got ∷ []
-    took_one = read_one g got_of a.far k (inputs_of n.kind) u one found
+    took_one = read_one g got_of a.far k (inputs_of n) u one found
 
     -- a sink of lines that ended got all
     module _ (end : EndState) (so : Outlook) (list : TookList so end (took g a k n)) where
@@ -204,7 +204,7 @@ module _ {S D L B : Type 0} (sources : S → SourceState) (drains : D → DrainS
     sink_rests first now there still goes =
         let within = slice_get-below g.wires u v at in
         let kept = kept_as node_port_state (node_law sources drains book) node_asking node_moves g a run.keeps k n (node.Writing first) (node.Writing now) ni there.at_first there.at_last in
-        let ins : (knows g a k n).ins ≡ (a.far u).wire.inp ∷ [] = read_one g inp_of a.far k (inputs_of n.kind) u one found in
+        let ins : (knows g a k n).ins ≡ (a.far u).wire.inp ∷ [] = read_one g inp_of a.far k (inputs_of n) u one found in
         let row : OneInOf (sink_port_state_in now.started now.end) ((a.far u).wire.inp ∷ []) (knows g a k n).outs = subst (λ (l : List InView). OneInOf (sink_port_state_in now.started now.end) l (knows g a k n).outs) ins kept.port_state_holds in
         let waits : (a.far u).wire.inp ≡ Pulled = sink_waits_as now.started now.end (a.far u).wire.inp (knows g a k n).outs goes row in
         let rests = in_rests u (a.near u) (a.far u) (a.asked u) [] (still.near u within) (still.far u within) (run.keeps.near_marked u within) (run.keeps.far_marked u within) v.keep v.lane keeps (still.quiet u v at) in
@@ -213,7 +213,7 @@ module _ {S D L B : Type 0} (sources : S → SourceState) (drains : D → DrainS
   -- what was sent to a sink that keeps nothing may pass by its outlook
   module _ (w : World) (sent : AgreesWith (composed g w u) (a.near u).wire.sent) (k : ℕ) (n : graph.Node) (ni : slice_get g.nodes k ≡ Some n) (shape : n.kind ≡ kind.Ignore) (to : v.to ≡ k) where
     ignored : find_wire k 0 g.wires ≡ Some u
-    ignored = one_input g run.joined k n u v ni (ap inputs_of shape) at to
+    ignored = one_input g run.joined k n u v ni (ap (inputs_by n.head) shape) at to
 
     comes : Agrees (head_of (ports_of g w (composed g w) k (count_from 0 1))) sent.list sent.end
     comes =
@@ -230,7 +230,7 @@ module _ {S D L B : Type 0} (sources : S → SourceState) (drains : D → DrainS
     ignorer_told first now there =
         let kept = kept_as node_port_state (node_law sources drains book) node_asking node_moves g a run.keeps k n (node.Ignoring first) (node.Ignoring now) ni there.at_first there.at_last in
         let law : IgnoreLaw first now (knows g a k n) (took g a k n) (gave g a k n) = kept.law_holds in
-        let came : took g a k n ≡ (a.far u).wire.got ∷ [] = read_one g got_of a.far k (inputs_of n.kind) u (ap inputs_of shape) ignored in
+        let came : took g a k n ≡ (a.far u).wire.got ∷ [] = read_one g got_of a.far k (inputs_of n) u (ap (inputs_by n.head) shape) ignored in
         let got : (a.far u).wire.got ≡ told law.elems law.in_end = heads_same (a.far u).wire.got (told law.elems law.in_end) (sym came ∙ law.took_is) in
         let brought : Carries (lane_size (lane_loss v.keep v.lane)) (list_of (a.near u).wire.sent) (end_of_items (a.near u).wire.sent) law.elems law.in_end = brings law.elems law.in_end got in
         let list : list_of (a.near u).wire.sent ≡ sent.list = ap list_of sent.is ∙ list_of_told sent.list sent.end in

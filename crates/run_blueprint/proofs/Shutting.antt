@@ -70,10 +70,10 @@ module _ {S D L B : Type 0} (sources : S → SourceState) (drains : D → DrainS
   writers_named = writer_names sources drains b final readers writers apart
 
   readers_distinct : DistinctNames (source_names (map sources readers))
-  readers_distinct = subst DistinctNames (sym readers_named) (inputs_distinct b can.plugs can.taken can.fit)
+  readers_distinct = subst DistinctNames (sym readers_named) (inputs_distinct b can.heads can.taken can.fit)
 
   writers_distinct : DistinctNames (drain_names (map drains writers))
-  writers_distinct = subst DistinctNames (sym writers_named) (outputs_distinct b can.plugs can.taken can.fit)
+  writers_distinct = subst DistinctNames (sym writers_named) (outputs_distinct b can.heads can.taken can.fit)
 
   writers_lone : (n : List ℕ) → Contains (drain_names (map drains writers)) n → Contains others n → ⊥
   writers_lone n c = lone n (subst (λ (l : List (List ℕ)). Contains l n) writers_named c)

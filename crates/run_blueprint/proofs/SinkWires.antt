@@ -23,7 +23,7 @@ use Rattle.stream_model.specs.declared.kind.Kind.{Kind}
 use Rattle.stream_model.specs.declared.kind.Kind.TheVariants as kind
 use Rattle.stream_model.specs.declared.outcome.EndState.{EndState}
 use Rattle.stream_model.specs.declared.outcome.EndState.TheVariants.{Ended, Failed, Unended, WriteFault}
-use Rattle.stream_model.specs.Composed.{inputs_of}
+use Rattle.stream_model.specs.Composed.{inputs_by, inputs_of}
 use Rattle.stream_model.specs.View.{outputs_of}
 use Rattle.stream_model.specs.Graph.{Graph, Edge, find_wire, find_source}
 use Rattle.stream_model.specs.Graph as graph
@@ -103,6 +103,7 @@ sink_sees (node.State x) s v i is r ins = absurd cc
 sink_sees (node.Sub x) s v i is r ins = absurd cc
 sink_sees (node.FanIn x) s v i is r ins = absurd cc
 sink_sees (node.FanOut x) s v i is r ins = absurd cc
+sink_sees (node.Custom x) s v i is r ins = absurd cc
 sink_sees (node.Entering x) s v i is r ins = absurd cc
 sink_sees (node.Leaving x) s v i is r ins = absurd cc
 
@@ -170,6 +171,7 @@ ended_sees sources drains book chains k n first (node.State x) s v took gave i i
 ended_sees sources drains book chains k n first (node.Sub x) s v took gave i is over other made law r ins = absurd cc
 ended_sees sources drains book chains k n first (node.FanIn x) s v took gave i is over other made law r ins = absurd cc
 ended_sees sources drains book chains k n first (node.FanOut x) s v took gave i is over other made law r ins = absurd cc
+ended_sees sources drains book chains k n first (node.Custom x) s v took gave i is over other made law r ins = absurd cc
 ended_sees sources drains book chains k n first (node.Entering x) s v took gave i is over other made law r ins = absurd cc
 ended_sees sources drains book chains k n first (node.Leaving x) s v took gave i is over other made law r ins = absurd cc
 ended_sees sources drains book chains k n _ now s v took gave i is over other made law r ins = absurd law
@@ -269,8 +271,8 @@ module _ {S D L B : Type 0} (sources : S → SourceState) (drains : D → DrainS
       let t = run.joined.target u v at in
       let none : 0 + v.input ≡ v.input = omega arith in
       let kept = run.keeps.each_node v.to t.0 t.1 in
-      let got = in_there g got_of a.far v.to 0 (inputs_of t.0.kind) v.input u t.2 (rw none t.3) in
-      let inp = in_there g inp_of a.far v.to 0 (inputs_of t.0.kind) v.input u t.2 (rw none t.3) in
+      let got = in_there g got_of a.far v.to 0 (inputs_of t.0) v.input u t.2 (rw none t.3) in
+      let inp = in_there g inp_of a.far v.to 0 (inputs_of t.0) v.input u t.2 (rw none t.3) in
       let h : IsHistoryOf (slice_index_or (knows g a v.to t.0).ins v.input Cancelled) (a.far u).wire.got =
       node_hears sources drains book g.chains v.to t.0 kept.first kept.now (knows g a v.to t.0) (took g a v.to t.0) (gave g a v.to t.0) (run.made v.to t.0 kept.first t.1 kept.first_at) kept.law_holds v.input (a.far u).wire.got got in
       let seen : TookAs (a.far u).wire.inp h.end = subst (λ (x : InView). TookAs x h.end) (some_index (knows g a v.to t.0).ins v.input (a.far u).wire.inp Cancelled inp) h.as_seen in
@@ -298,14 +300,14 @@ module _ {S D L B : Type 0} (sources : S → SourceState) (drains : D → DrainS
       let t = run.joined.target u v at in
       let kept = run.keeps.each_node v.to t.0 t.1 in
       let first : 0 + v.input ≡ v.input = omega arith in
-      let there : slice_get (knows g a v.to t.0).ins v.input ≡ Some (a.far u).wire.inp = in_there g inp_of a.far v.to 0 (inputs_of t.0.kind) v.input u t.2 (rw first t.3) in
+      let there : slice_get (knows g a v.to t.0).ins v.input ≡ Some (a.far u).wire.inp = in_there g inp_of a.far v.to 0 (inputs_of t.0) v.input u t.2 (rw first t.3) in
       let closed : OutsClosed (knows g a v.to t.0).outs = closes_outs kept.now (knows g a v.to t.0) v.input kept.port_state_holds (there ∙ ap Some far) in
       let s = run.joined.source j x behind in
       let same : s.0 ≡ t.0 = some_one s.0 t.0 (sym s.1 ∙ ap (slice_get g.nodes) from ∙ t.1) in
       let second : 0 + x.output ≡ x.output = omega arith in
-      let below : x.output < outputs_of t.0.kind = subst (λ (m : graph.Node). x.output < outputs_of m.kind) same s.2 in
+      let below : x.output < outputs_of t.0 = subst (λ (m : graph.Node). x.output < outputs_of m) same s.2 in
       let found : find_source v.to (0 + x.output) g.wires ≡ Some j = rw second (subst (λ (k : ℕ). find_source k x.output g.wires ≡ Some j) from s.3) in
-      let out : slice_get (knows g a v.to t.0).outs x.output ≡ Some (a.near j).wire.out = read_there g out_of a.near v.to 0 (outputs_of t.0.kind) x.output j below found in
+      let out : slice_get (knows g a v.to t.0).outs x.output ≡ Some (a.near j).wire.out = read_there g out_of a.near v.to 0 (outputs_of t.0) x.output j below found in
       let sound = run.keeps.near_sound j (slice_get-below g.wires j x behind) in
       out_shut (a.near j).wire sound.0 sound.1 (closed_there (knows g a v.to t.0).outs x.output (a.near j).wire.out closed out)
 
@@ -314,7 +316,7 @@ module _ {S D L B : Type 0} (sources : S → SourceState) (drains : D → DrainS
   lane_asked s is unasked = asks_by v.keep (a.near u) (a.far u) (a.asked u) near_sound.0 far_sound.0 near_sound.1 far_sound.1 v.lane s keeps is unasked
 
   -- the wire of a sink
-  module _ (k : ℕ) (n : graph.Node) (now : IslandNode S D L B) (ni : slice_get g.nodes k ≡ Some n) (one : inputs_of n.kind ≡ 1) (to : v.to ≡ k) (here : a.nodes k ≡ Some now) (cancels : CancelsCross g a) where
+  module _ (k : ℕ) (n : graph.Node) (now : IslandNode S D L B) (ni : slice_get g.nodes k ≡ Some n) (one : inputs_of n ≡ 1) (to : v.to ≡ k) (here : a.nodes k ≡ Some now) (cancels : CancelsCross g a) where
     found : find_wire k 0 g.wires ≡ Some u
     found = one_input g run.joined k n u v ni one at to
 
@@ -323,7 +325,7 @@ module _ {S D L B : Type 0} (sources : S → SourceState) (drains : D → DrainS
         let kept = run.keeps.each_node k n ni in
         let same : kept.now ≡ now = some_one kept.now now (sym kept.now_at ∙ here) in
         let row : node_port_state now (knows g a k n) = subst (λ (x : IslandNode S D L B). node_port_state x (knows g a k n)) same kept.port_state_holds in
-        sink_sees now s (knows g a k n) (a.far u).wire.inp is row (read_one g inp_of a.far k (inputs_of n.kind) u one found)
+        sink_sees now s (knows g a k n) (a.far u).wire.inp is row (read_one g inp_of a.far k (inputs_of n) u one found)
 
     pub sink_shut : (s : SinkStand) → stand_in now ≡ Some s → ShutBy s.2 v.lane (wire_count v.lane (a.near u) (a.asked u)).shut × OverBy s.2 (wire_count v.lane (a.near u) (a.asked u)).shut (end_of_items (a.near u).wire.sent)
     sink_shut s is =
@@ -339,7 +341,7 @@ module _ {S D L B : Type 0} (sources : S → SourceState) (drains : D → DrainS
         let same : kept.now ≡ now = some_one kept.now now (sym kept.now_at ∙ here) in
         let row : node_port_state now (knows g a k n) = subst (λ (x : IslandNode S D L B). node_port_state x (knows g a k n)) same kept.port_state_holds in
         let law : node_law sources drains book kept.first now (knows g a k n) (took g a k n) (gave g a k n) = subst (λ (x : IslandNode S D L B). node_law sources drains book kept.first x (knows g a k n) (took g a k n) (gave g a k n)) same kept.law_holds in
-        let finished : (a.far u).wire.inp ≡ Finished = ended_sees sources drains book g.chains k n kept.first now s (knows g a k n) (took g a k n) (gave g a k n) (a.far u).wire.inp is over other (run.made k n kept.first ni kept.first_at) law row (read_one g inp_of a.far k (inputs_of n.kind) u one found) in
+        let finished : (a.far u).wire.inp ≡ Finished = ended_sees sources drains book g.chains k n kept.first now s (knows g a k n) (took g a k n) (gave g a k n) (a.far u).wire.inp is over other (run.made k n kept.first ni kept.first_at) law row (read_one g inp_of a.far k (inputs_of n) u one found) in
         over_there v.keep (a.near u) (a.far u) (a.asked u) near_sound.0 far_sound.0 near_sound.1 far_sound.1 v.lane keeps finished
 
   -- what came to the node at its input
@@ -347,13 +349,13 @@ module _ {S D L B : Type 0} (sources : S → SourceState) (drains : D → DrainS
   brought = wire_brings v.keep v.lane (a.near u) (a.far u) (a.asked u) near_sound.0 far_sound.0 near_sound.1 far_sound.1 keeps
 
   -- to a sink with a file
-  pub sink_took : (k : ℕ) (n : graph.Node) (first now : Sink D) → slice_get g.nodes k ≡ Some n → inputs_of n.kind ≡ 1 → v.to ≡ k → IsSinkAt a k first now → first.gather.room ≡ sink_room first.writes (gather_of v.lane)
+  pub sink_took : (k : ℕ) (n : graph.Node) (first now : Sink D) → slice_get g.nodes k ≡ Some n → inputs_of n ≡ 1 → v.to ≡ k → IsSinkAt a k first now → first.gather.room ≡ sink_room first.writes (gather_of v.lane)
       → SinkTook (lane_loss v.keep v.lane) v.lane (list_of (a.near u).wire.sent) (end_of_items (a.near u).wire.sent) n.kind (now.node, now.count, now.end)
   sink_took k n first now ni one to there roomed =
       let kept = kept_as node_port_state (node_law sources drains book) node_asking node_moves g a run.keeps k n (node.Writing first) (node.Writing now) ni there.at_first there.at_last in
       let law : SinkLaw drains first now (knows g a k n) (took g a k n) (gave g a k n) = kept.law_holds in
       let its : FirstWriting k n.kind first = run.made k n (node.Writing first) ni there.at_first in
-      let came : took g a k n ≡ (a.far u).wire.got ∷ [] = read_one g got_of a.far k (inputs_of n.kind) u one (one_input g run.joined k n u v ni one at to) in
+      let came : took g a k n ≡ (a.far u).wire.got ∷ [] = read_one g got_of a.far k (inputs_of n) u one (one_input g run.joined k n u v ni one at to) in
       let got : (a.far u).wire.got ≡ told law.elems law.in_end = heads_same (a.far u).wire.got (told law.elems law.in_end) (sym came ∙ law.took_is) in
       record {
         came = law.elems;
@@ -367,12 +369,12 @@ module _ {S D L B : Type 0} (sources : S → SourceState) (drains : D → DrainS
       }
 
   -- to one that keeps nothing
-  pub ignorer_took : (k : ℕ) (n : graph.Node) (first now : Ignorer) → slice_get g.nodes k ≡ Some n → inputs_of n.kind ≡ 1 → v.to ≡ k → IsIgnorerAt a k first now
+  pub ignorer_took : (k : ℕ) (n : graph.Node) (first now : Ignorer) → slice_get g.nodes k ≡ Some n → inputs_of n ≡ 1 → v.to ≡ k → IsIgnorerAt a k first now
       → IgnorerTook (lane_loss v.keep v.lane) (list_of (a.near u).wire.sent) (end_of_items (a.near u).wire.sent) (now.node, 0, now.end)
   ignorer_took k n first now ni one to there =
       let kept = kept_as node_port_state (node_law sources drains book) node_asking node_moves g a run.keeps k n (node.Ignoring first) (node.Ignoring now) ni there.at_first there.at_last in
       let law : IgnoreLaw first now (knows g a k n) (took g a k n) (gave g a k n) = kept.law_holds in
-      let came : took g a k n ≡ (a.far u).wire.got ∷ [] = read_one g got_of a.far k (inputs_of n.kind) u one (one_input g run.joined k n u v ni one at to) in
+      let came : took g a k n ≡ (a.far u).wire.got ∷ [] = read_one g got_of a.far k (inputs_of n) u one (one_input g run.joined k n u v ni one at to) in
       let got : (a.far u).wire.got ≡ told law.elems law.in_end = heads_same (a.far u).wire.got (told law.elems law.in_end) (sym came ∙ law.took_is) in
       record { came = law.elems; seen = law.in_end; carried = brought law.elems law.in_end got; none = refl; ends = law.ends }
 
@@ -383,8 +385,8 @@ module _ {S D L B : Type 0} (sources : S → SourceState) (drains : D → DrainS
         let kept = kept_as node_port_state (node_law sources drains book) node_asking node_moves g a run.keeps k n (node.Writing first) (node.Writing now) ni there.at_first there.at_last in
         let law : SinkLaw drains first now (knows g a k n) (took g a k n) (gave g a k n) = kept.law_holds in
         let its : FirstWriting k n.kind first = run.made k n (node.Writing first) ni there.at_first in
-        let one : inputs_of n.kind ≡ 1 = ap inputs_of shape in
-        let came : took g a k n ≡ (a.far u).wire.got ∷ [] = read_one g got_of a.far k (inputs_of n.kind) u one (one_input g run.joined k n u v ni one at to) in
+        let one : inputs_of n ≡ 1 = ap (inputs_by n.head) shape in
+        let came : took g a k n ≡ (a.far u).wire.got ∷ [] = read_one g got_of a.far k (inputs_of n) u one (one_input g run.joined k n u v ni one at to) in
         let got : (a.far u).wire.got ≡ told law.elems law.in_end = heads_same (a.far u).wire.got (told law.elems law.in_end) (sym came ∙ law.took_is) in
         let each : now.writes ≡ Each = law.writes_same ∙ its.writes ∙ ap writes_of shape in
         ap elements got ∙ elements_told law.elems law.in_end
@@ -393,5 +395,5 @@ module _ {S D L B : Type 0} (sources : S → SourceState) (drains : D → DrainS
 
     pub sink_asked : AskedBy now.end v.lane now.count (wire_count v.lane (a.near u) (a.asked u))
     sink_asked =
-        let view = sees k n (node.Writing now) ni (ap inputs_of shape) to there.at_last cancels (now.node, now.count, now.end) refl in
+        let view = sees k n (node.Writing now) ni (ap (inputs_by n.head) shape) to there.at_last cancels (now.node, now.count, now.end) refl in
         asked_by v.keep (a.near u) (a.far u) (a.asked u) near_sound.0 far_sound.0 near_sound.1 far_sound.1 now.end v.lane now.count keeps (run.keeps.near_marked u (slice_get-below g.wires u v at)) view wrote_all

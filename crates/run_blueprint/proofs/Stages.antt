@@ -10,7 +10,7 @@ use Rattle.elem_core.specs.declared.why.Decider.{Decider}
 use Rattle.elem_core.specs.declared.why.Decider.TheVariants.{Stop}
 use Rattle.stream_model.specs.declared.kind.Joining.TheVariants as join
 use Rattle.stream_model.specs.declared.kind.Kind.{Kind}
-use Rattle.stream_model.specs.declared.kind.Kind.TheVariants.{Lines, Range, Empty, Failed, Buffer, RecoverNum, RecoverText, Valve, GroupBy, SplitWhen, SplitAfter, Merge, MergeHub, Concat, Interleave, MergeSorted, Zip, Broadcast, BroadcastHub, Balance, Partition, Unzip}
+use Rattle.stream_model.specs.declared.kind.Kind.TheVariants.{Lines, Range, Empty, Failed, Buffer, RecoverNum, RecoverText, Valve, Custom, GroupBy, SplitWhen, SplitAfter, Merge, MergeHub, Concat, Interleave, MergeSorted, Zip, Broadcast, BroadcastHub, Balance, Partition, Unzip}
 use Rattle.stream_model.specs.declared.kind.Policy.TheVariants.{Backpressure}
 use Rattle.stream_model.specs.FanIn.{concat_of, interleave_of, inlets, turns_of, sorted_of, merge_of}
 use Rattle.stream_model.specs.FanOut.{left_outlook, right_outlook}
@@ -23,7 +23,7 @@ use Rattle.stream_model.specs.Sources.{short, count_up, span_of}
 use Rattle.stream_model.specs.Substreams.{Opening, by_key, before, behind, through, concat_subs, merge_subs}
 use Rattle.stream_model.specs.declared.blueprint.ChainDecl.{ChainDecl}
 use Rattle.stream_model.specs.declared.blueprint.Step.{Step}
-use Rattle.stream_model.specs.declared.head.PlugHead.{PlugHead}
+use Rattle.stream_model.specs.Known.{HeadLists}
 use Rattle.blue_names.specs.declared.typed.Typed.TheVariants.{Gives}
 use Rattle.blue_names.specs.declared.want.Want.TheVariants.{Is, AnyPair}
 use Rattle.blue_names.specs.FnTypes.{map_want, map_gives, pred_want, left_type, right_type}
@@ -98,21 +98,21 @@ module _ (g : Graph) (w : World) (node : ℕ) (d : Decider) (is : List Outlook) 
 
   -- ---- a node with one input
 
-  module _ (plugs : List PlugHead) (chains : List ChainDecl) (keeps : KeepsPlugTypes plugs w.book) (chains_are : g.chains ≡ map declared_chain chains)
-      (steps : list_all (λ (c : ChainDecl). list_all (λ (s : Step). is_known plugs s.kind) c.steps.items) chains ≡ true) (t u : Sort) (h : AllTyped t (head_of is).list) where
+  module _ (heads : HeadLists) (chains : List ChainDecl) (keeps : KeepsPlugTypes heads w.book) (chains_are : g.chains ≡ map declared_chain chains)
+      (steps : list_all (λ (c : ChainDecl). list_all (λ (s : Step). is_known heads s.kind) c.steps.items) chains ≡ true) (t u : Sort) (h : AllTyped t (head_of is).list) where
     -- the chain of a node with substreams
-    chain_at : (name : List ℕ) → chain_typed plugs (chain_named name chains) t ≡ Gives u → ChainTyped plugs t u (chain_of node (steps_of name g.chains))
+    chain_at : (name : List ℕ) → chain_typed heads (chain_named name chains) t ≡ Gives u → ChainTyped heads t u (chain_of node (steps_of name g.chains))
     chain_at name e =
         let are : steps_of name g.chains ≡ map model_step (chain_named name chains) = ap (steps_of name) chains_are ∙ steps_are name chains in
-        subst (λ ss. ChainTyped plugs t u (chain_of node ss)) (sym are) (chain_typed_by plugs node (chain_named name chains) t u (steps_known plugs name chains steps) e)
+        subst (λ ss. ChainTyped heads t u (chain_of node ss)) (sym are) (chain_typed_by heads node (chain_named name chains) t u (steps_known heads name chains steps) e)
 
-    merged : (o : Opening) (name : List ℕ) → chain_typed plugs (chain_named name chains) t ≡ Gives u → AllTyped u (merge_subs (through w.book (chain_of node (steps_of name g.chains))) node o (w.moves node) (head_of is)).list
-    merged o name e = merge_subs_typed plugs w.book keeps (chain_of node (steps_of name g.chains)) t u (chain_at name e) node o (w.moves node) (head_of is) h
+    merged : (o : Opening) (name : List ℕ) → chain_typed heads (chain_named name chains) t ≡ Gives u → AllTyped u (merge_subs (through w.book (chain_of node (steps_of name g.chains))) node o (w.moves node) (head_of is)).list
+    merged o name e = merge_subs_typed heads w.book keeps (chain_of node (steps_of name g.chains)) t u (chain_at name e) node o (w.moves node) (head_of is) h
 
-    in_turn : (o : Opening) (name : List ℕ) → chain_typed plugs (chain_named name chains) t ≡ Gives u → AllTyped u (concat_subs (through w.book (chain_of node (steps_of name g.chains))) node o (head_of is)).list
-    in_turn o name e = concat_subs_typed plugs w.book keeps (chain_of node (steps_of name g.chains)) t u (chain_at name e) node o (head_of is) h
+    in_turn : (o : Opening) (name : List ℕ) → chain_typed heads (chain_named name chains) t ≡ Gives u → AllTyped u (concat_subs (through w.book (chain_of node (steps_of name g.chains))) node o (head_of is)).list
+    in_turn o name e = concat_subs_typed heads w.book keeps (chain_of node (steps_of name g.chains)) t u (chain_at name e) node o (head_of is) h
 
-    pub single_keeps : (k : Kind) → is_known plugs k ≡ true → shape_of k ≡ single → stage_typed plugs chains k t ≡ Gives u → (p : ℕ) → AllTyped (half_type k p u) (node_outlook g w node k d is p).list
+    pub single_keeps : (k : Kind) → is_known heads k ≡ true → shape_of k ≡ single → stage_typed heads chains k t ≡ Gives u → (p : ℕ) → AllTyped (half_type heads k p u) (node_outlook g w node k d is p).list
     single_keeps (Lines name) a s e p = cc
     single_keeps (Range low high) a s e p = cc
     single_keeps (Empty b) a s e p = cc
@@ -123,6 +123,7 @@ module _ (g : Graph) (w : World) (node : ℕ) (d : Decider) (is : List Outlook) 
     single_keeps (Interleave n m) a s e p = cc
     single_keeps MergeSorted a s e p = cc
     single_keeps Zip a s e p = cc
+    single_keeps (Custom name) a s e p = cc
     single_keeps (Buffer n Backpressure) a s e p = retype_all t u (head_of is).list (given None t t u e).1 h
     single_keeps (Buffer n q) a s e p =
         retype_all t u (buffered q n (w.moves node) (head_of is).list empty_buffer).gave (given None t t u e).1
@@ -140,20 +141,20 @@ module _ (g : Graph) (w : World) (node : ℕ) (d : Decider) (is : List Outlook) 
     single_keeps (Valve name) a s e p =
         retype_all t u (acted_outlook node (acted (w.moves node)) (head_of is)).list (given None t t u e).1 (acted_typed t node (acted (w.moves node)) (head_of is) h)
     single_keeps (GroupBy n q name) a s e p =
-        let r = wanted (map_want q) t (keyed plugs (map_gives q t) (chain_typed plugs (chain_named name chains) t)) u e in
-        merged (by_key n q) name (keyed_is plugs (map_gives q t) (chain_typed plugs (chain_named name chains) t) u r.1)
-    single_keeps (SplitWhen q name join.Merge) a s e p = merged (before q) name (wanted (Some (pred_want q)) t (chain_typed plugs (chain_named name chains) t) u e).1
-    single_keeps (SplitWhen q name join.Concat) a s e p = in_turn (before q) name (wanted (Some (pred_want q)) t (chain_typed plugs (chain_named name chains) t) u e).1
-    single_keeps (SplitAfter q name join.Merge) a s e p = merged (behind q) name (wanted (Some (pred_want q)) t (chain_typed plugs (chain_named name chains) t) u e).1
-    single_keeps (SplitAfter q name join.Concat) a s e p = in_turn (behind q) name (wanted (Some (pred_want q)) t (chain_typed plugs (chain_named name chains) t) u e).1
+        let r = wanted (map_want q) t (keyed heads (map_gives q t) (chain_typed heads (chain_named name chains) t)) u e in
+        merged (by_key n q) name (keyed_is heads (map_gives q t) (chain_typed heads (chain_named name chains) t) u r.1)
+    single_keeps (SplitWhen q name join.Merge) a s e p = merged (before q) name (wanted (Some (pred_want q)) t (chain_typed heads (chain_named name chains) t) u e).1
+    single_keeps (SplitWhen q name join.Concat) a s e p = in_turn (before q) name (wanted (Some (pred_want q)) t (chain_typed heads (chain_named name chains) t) u e).1
+    single_keeps (SplitAfter q name join.Merge) a s e p = merged (behind q) name (wanted (Some (pred_want q)) t (chain_typed heads (chain_named name chains) t) u e).1
+    single_keeps (SplitAfter q name join.Concat) a s e p = in_turn (behind q) name (wanted (Some (pred_want q)) t (chain_typed heads (chain_named name chains) t) u e).1
     single_keeps (Broadcast n) a s e p = retype_all t u (head_of is).list (given None t t u e).1 h
     single_keeps (BroadcastHub m n) a s e p = retype_all t u (head_of is).list (given None t t u e).1 h
     single_keeps (Balance n) a s e p = retype_all t u (sent_to p (w.moves node) (head_of is).list) (given None t t u e).1 (sent_typed t p (w.moves node) (head_of is).list h)
     single_keeps (Partition n q) a s e p =
-        let r = wanted (map_want q) t (parted plugs (map_gives q t) t) u e in
-        output_typed plugs w.book keeps (numbering n q p) t u node Stop (numbering n q p) (head_of is) (parted_by (same_sort num_type (map_gives q t)) t (map_gives q t) u r.1) h
+        let r = wanted (map_want q) t (parted heads (map_gives q t) t) u e in
+        output_typed heads w.book keeps (numbering n q p) t u node Stop (numbering n q p) (head_of is) (parted_by (same_sort num_type (map_gives q t)) t (map_gives q t) u r.1) h
     single_keeps Unzip a s e p =
         let r = given (Some AnyPair) t t u e in
         subst (λ v. AllTyped (if p == 0 then left_type v else right_type v) (if p == 0 then left_outlook (head_of is) else right_outlook (head_of is)).list) r.1
         (unzip_by (p == 0) t (head_of is) r.0 h)
-    single_keeps k a s e p = output_typed plugs w.book keeps (unwrap_or (work_of k) passing) t u node d (unwrap_or (work_of k) passing) (head_of is) (work_typed plugs t u k a e) h
+    single_keeps k a s e p = output_typed heads w.book keeps (unwrap_or (work_of k) passing) t u node d (unwrap_or (work_of k) passing) (head_of is) (work_typed heads t u k a e) h

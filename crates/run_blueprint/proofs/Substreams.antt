@@ -12,7 +12,7 @@ use Rattle.stream_model.specs.Linear.{Book}
 use Rattle.stream_model.specs.Machine.{Run, Finish, Given, whole}
 use Rattle.stream_model.specs.Outlook.{Outlook, End}
 use Rattle.stream_model.specs.Substreams.{Chain, through, Opening, by_key, before, behind, Sub, Subs, Fault, given_by, news, arranged, trouble, substreams, begin_subs, concat_subs, merge_subs, of_sub, by_sub, sub_count}
-use Rattle.stream_model.specs.declared.head.PlugHead.{PlugHead}
+use Rattle.stream_model.specs.Known.{HeadLists}
 use Rattle.run_blueprint.specs.Plugs.{KeepsPlugTypes}
 use Rattle.run_blueprint.specs.Types.{Each, HasType, AllTyped}
 use Rattle.run_blueprint.proofs.Lists.{typed_append}
@@ -107,7 +107,7 @@ module _ (t : Sort) where
 
 -- ---- what they give
 
-module _ (plugs : List PlugHead) (book : Book) (keeps : KeepsPlugTypes plugs book) (chain : Chain) (t u : Sort) (typed : ChainTyped plugs t u chain) where
+module _ (heads : HeadLists) (book : Book) (keeps : KeepsPlugTypes heads book) (chain : Chain) (t u : Sort) (typed : ChainTyped heads t u chain) where
   abbrev yields : List Tree → End → Given Tree
   yields = through book chain
 
@@ -117,7 +117,7 @@ module _ (plugs : List PlugHead) (book : Book) (keeps : KeepsPlugTypes plugs boo
   drop_typed (suc n) (x ∷ l) h = drop_typed n l h.1
 
   given_typed : (s : Sub) → AllTyped t s.took → AllTyped u (given_by yields s).list
-  given_typed s h = through_typed plugs book keeps chain t u s.took _ typed h
+  given_typed s h = through_typed heads book keeps chain t u s.took _ typed h
 
   news_typed : (n : ℕ) (old now : List Sub) → Each (λ (s : Sub). AllTyped t s.took) now → TagsTyped u (news yields n old now)
   news_typed n old [] h = tt

@@ -22,12 +22,12 @@ use Rattle.run_laws.specs.Reads.{GivesTexts}
 use Rattle.run_laws.proofs.Histories.{list_of_told, standing_told}
 use Rattle.stream_model.specs.declared.blueprint.ChainDecl.{ChainDecl}
 use Rattle.stream_model.specs.declared.blueprint.Node.{Node}
-use Rattle.stream_model.specs.declared.head.PlugHead.{PlugHead}
+use Rattle.stream_model.specs.Known.{HeadLists}
 use Rattle.blue_names.specs.Rounds.{half_type, settled}
 use Rattle.blue_names.specs.StageTypes.{source_type}
 use Rattle.materializer.specs.Graphs.{graph_node}
 use Rattle.run_blueprint.specs.Checked.{PassesRules, wire_type}
-use Rattle.run_blueprint.specs.Plugs.{KeepsPlugTypes}
+use Rattle.run_blueprint.specs.Plugs.{KeepsPlugTypes, GivenTyped}
 use Rattle.run_blueprint.specs.Sent.{exact, SendsItsType}
 use Rattle.run_blueprint.specs.Types.{AllTyped}
 use Rattle.run_blueprint.proofs.Lists.{retype_all, typed_prefix}
@@ -47,7 +47,7 @@ is_lines : (k : Kind) → ((name : List ℕ) × (k ≡ Lines name)) ⊎ ((name :
 is_lines (Lines name) = inl (name, refl)
 is_lines _ = inr (λ name e. cc)
 
-module _ (plugs : List PlugHead) (chains : List ChainDecl) (nodes : List Node) (g : Graph) (w : World) (rank : ℕ → ℕ) (ranked : IsRanked g rank) (passes : PassesRules plugs chains nodes g) (keeps : KeepsPlugTypes plugs w.book)
+module _ (heads : HeadLists) (chains : List ChainDecl) (nodes : List Node) (g : Graph) (w : World) (rank : ℕ → ℕ) (ranked : IsRanked g rank) (passes : PassesRules heads chains nodes g) (keeps : KeepsPlugTypes heads w.book) (gave : GivenTyped heads nodes w)
     (items : ℕ → List Item)
     (texts : (u : ℕ) (v : Edge) (n : graph.Node) (name : List ℕ) → slice_get g.wires u ≡ Some v → slice_get g.nodes v.from ≡ Some n → n.kind ≡ Lines name → GivesTexts (items u))
     (gives : (sent : ℕ → Outlook) (j : ℕ) (v : Edge) (n : graph.Node) → slice_get g.wires j ≡ Some v → slice_get g.nodes v.from ≡ Some n → ((name : List ℕ) → n.kind ≢ Lines name)
@@ -61,9 +61,9 @@ module _ (plugs : List PlugHead) (chains : List ChainDecl) (nodes : List Node) (
     list : List Tree
     end : End
     is : items i ≡ told list end
-    typed : (v : Edge) → slice_get g.wires i ≡ Some v → (t : Sort) → wire_type plugs chains nodes g v ≡ Some t → AllTyped t list
+    typed : (v : Edge) → slice_get g.wires i ≡ Some v → (t : Sort) → wire_type heads chains nodes g v ≡ Some t → AllTyped t list
 
-  as_typed : (i : ℕ) → Passed i → HasTyped plugs chains nodes g w as_sent i
+  as_typed : (i : ℕ) → Passed i → HasTyped heads chains nodes g w as_sent i
   as_typed i p =
       let same : list_of (items i) ≡ p.list = ap list_of p.is ∙ list_of_told p.list p.end in
       record { typed = λ v at t e. subst (λ l. AllTyped t l) (sym same) (p.typed v at t e) }
@@ -77,46 +77,46 @@ module _ (plugs : List PlugHead) (chains : List ChainDecl) (nodes : List Node) (
   }
 
   module _ (j : ℕ) (l : j < length g.wires) (below : (i : ℕ) → i < length g.wires → rank i < rank j → Passed i) (v : Edge) (at : slice_get g.wires j ≡ Some v) (n : Node) (is : slice_get nodes v.from ≡ Some n) where
-    in_graph : slice_get g.nodes v.from ≡ Some (graph_node n)
-    in_graph = ap (λ (ns : List graph.Node). slice_get ns v.from) passes.nodes_are ∙ plain_at nodes v.from n is
+    in_graph : slice_get g.nodes v.from ≡ Some (graph_node passes.decls n)
+    in_graph = ap (λ (ns : List graph.Node). slice_get ns v.from) passes.nodes_are ∙ plain_at passes.decls nodes v.from n is
 
-    text_wire : (name : List ℕ) → n.kind ≡ Lines name → (t : Sort) → wire_type plugs chains nodes g v ≡ Some t → text_type ≡ t
+    text_wire : (name : List ℕ) → n.kind ≡ Lines name → (t : Sort) → wire_type heads chains nodes g v ≡ Some t → text_type ≡ t
     text_wire name e t on =
         let source : source_type n.kind ≡ Some text_type = rw e refl in
-        let from = type_from plugs chains nodes g w as_sent rank ranked passes keeps j v n text_type is (source_settles plugs chains nodes g.wires v.from n text_type is source) in
-        let whole : half_type n.kind v.output text_type ≡ text_type = rw e refl in
-        sym whole ∙ one_some (wire_type plugs chains nodes g v) (half_type n.kind v.output text_type) t from on
+        let from = type_from heads chains nodes g w as_sent rank ranked passes keeps gave j v n text_type is (source_settles heads chains nodes g.wires v.from n text_type is source) in
+        let whole : half_type heads n.kind v.output text_type ≡ text_type = rw e refl in
+        sym whole ∙ one_some (wire_type heads chains nodes g v) (half_type heads n.kind v.output text_type) t from on
 
     passed_by : ((name : List ℕ) × (n.kind ≡ Lines name)) ⊎ ((name : List ℕ) → n.kind ≢ Lines name) → Passed j
     passed_by (inl r) =
-        let s = texts j v (graph_node n) r.0 at in_graph r.1 in
+        let s = texts j v (graph_node passes.decls n) r.0 at in_graph r.1 in
         record {
           list = map text s.texts;
           end = s.end;
           is = s.is;
           typed = λ x xat t e.
               let same : x ≡ v = let both : Some x ≡ Some v = sym xat ∙ at in cc in
-              retype_all text_type t (map text s.texts) (text_wire r.0 r.1 t (subst (λ y. wire_type plugs chains nodes g y ≡ Some t) same e)) (lines_typed s.texts);
+              retype_all text_type t (map text s.texts) (text_wire r.0 r.1 t (subst (λ y. wire_type heads chains nodes g y ≡ Some t) same e)) (lines_typed s.texts);
         }
     passed_by (inr other) =
-        let a = gives as_sent j v (graph_node n) at in_graph other (λ u x ux to. as_agreed u (below u (slice_get-below g.wires u x ux) (ranked.rises u j x v ux at to))) in
+        let a = gives as_sent j v (graph_node passes.decls n) at in_graph other (λ u x ux to. as_agreed u (below u (slice_get-below g.wires u x ux) (ranked.rises u j x v ux at to))) in
         record {
           list = a.list;
           end = a.end;
           is = a.is;
           typed = λ x xat t e.
               typed_prefix t (agrees_prefix (next g w as_sent j) a.list a.end a.agrees)
-              (next_typed plugs chains nodes g w as_sent rank ranked passes keeps j l (λ i il r. as_typed i (below i il r)) x xat t e);
+              (next_typed heads chains nodes g w as_sent rank ranked passes keeps gave j l (λ i il r. as_typed i (below i il r)) x xat t e);
         }
 
   passes_on : (j : ℕ) → j < length g.wires → ((i : ℕ) → i < length g.wires → rank i < rank j → Passed i) → Passed j
   passes_on j l below =
       let v = get_there g.wires j l in
-      let n = (ends_there nodes g.wires passes.no_missing j v.0 v.1).0 in
+      let n = (ends_there heads nodes g.wires passes.no_missing j v.0 v.1).0 in
       passed_by j l below v.0 v.1 n.node n.is (is_lines n.node.kind)
 
-  pub every_wire_sends : (i : ℕ) (v : Edge) → slice_get g.wires i ≡ Some v → SendsItsType plugs chains nodes g w i v (items i)
+  pub every_wire_sends : (i : ℕ) (v : Edge) → slice_get g.wires i ≡ Some v → SendsItsType heads chains nodes g w i v (items i)
   every_wire_sends i v at =
       let p = all_by_rank rank (length g.wires) Passed passes_on i (slice_get-below g.wires i v at) in
-      let c = every_wire_carries plugs chains nodes g w rank ranked passes keeps i v at in
+      let c = every_wire_carries heads chains nodes g w rank ranked passes keeps gave i v at in
       record { carries = c; list = p.list; end = p.end; is = p.is; typed = p.typed v at c.type c.settles }

@@ -1,19 +1,25 @@
 -- The world that has the input files as the sources of a run read them, and walks along the wires of a blueprint.
-use Rattle.std.proofs.Common.{◌≡◌, ℕ, zero, suc, ◌+◌, Bool, true, false, List, [], ◌∷◌, slice_get, refl, ap, ◌∙◌, arith}
+use Rattle.std.proofs.Common.{◌≡◌, ℕ, zero, suc, ◌+◌, Bool, true, false, List, [], ◌∷◌, slice_get, refl, sym, ap, ◌∙◌, arith}
 use Rattle.std.specs.Prelude.{Some, if◌then◌else◌}
 use Rattle.std.specs.Cmp.Lexicographic.{bytes_decides}
 use Rattle.elem_core.specs.Values.{same_text}
 use Rattle.stream_model.specs.declared.kind.Kind.{Kind}
 use Rattle.stream_model.specs.declared.kind.Kind.TheVariants as kind
 use Rattle.stream_model.specs.Graph.{Graph}
-use Rattle.stream_model.specs.Linear.{Book}
+use Rattle.stream_model.specs.Graph as graph
+use Rattle.stream_model.specs.Linear.{Book, CustomBook}
+use Rattle.stream_model.specs.Listed.{tells_none, AllTell}
 use Rattle.stream_model.specs.Node.{World}
 use Rattle.stream_model.specs.Sources.{File}
 use Rattle.stream_model.specs.Shape.{Walk, stay, along, IsPolytree}
+use Rattle.stream_model.specs.declared.blueprint.Blueprint.{Blueprint}
 use Rattle.stream_model.specs.declared.blueprint.Node as blue
 use Rattle.blue_check.specs.Forest.{wiring}
+use Rattle.materializer.specs.Graphs.{graph_of, graph_node}
 use Rattle.run_blueprint.specs.Choosing.{HasPicks}
 use Rattle.run_blueprint.specs.Drawing.{Drawn, IsWorldOf}
+use Rattle.run_blueprint.specs.Running.{HasNoCustom}
+use Rattle.run_blueprint.proofs.Places.{unmapped_at}
 
 -- a kind that reads the file of that name
 abbrev reads : Kind → List ℕ → Bool
@@ -86,3 +92,15 @@ walk_by g (along j more) = along (record { wire = j.wire; at = j.at; ends = j.en
 
 pub tree_by_wires : (g : Graph) → IsPolytree (wiring g.wires) → IsPolytree g
 tree_by_wires g tree = record { open_walks = λ a is walk new. tree.open_walks a is (walk_by g walk) new }
+
+-- ---- where no custom stage is named each of them tells a list
+
+tells_one : (c : CustomBook) (k : Kind) → ((name : List ℕ) → k ≡ kind.Custom name → ⊥) → tells_none c k ≡ false
+tells_one c (kind.Custom name) none = absurd (none name refl)
+tells_one c _ none = refl
+
+pub all_tell : (b : Blueprint) (c : CustomBook) → HasNoCustom b → AllTell (graph_of b) c
+all_tell b c none k n at =
+    let m = unmapped_at (graph_node b.wires.items) b.nodes.items k n at in
+    let same : n.kind ≡ m.0.kind = ap (λ (x : graph.Node). x.kind) m.1.1 in
+    tells_one c n.kind (λ name is. none k m.0 name m.1.0 (sym same ∙ is))

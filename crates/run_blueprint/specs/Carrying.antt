@@ -3,7 +3,7 @@ use Rattle.std.specs.Prelude.{◌≡◌, ◌≢◌, ℕ, ◌+◌, ◌≤◌, Boo
 use Rattle.elem_core.specs.Sort.{Sort}
 use Rattle.elem_core.specs.Tree.{Tree}
 use Rattle.stream_model.specs.declared.kind.Kind.{Kind}
-use Rattle.stream_model.specs.declared.kind.Kind.TheVariants.{Lines, ToLines, Head, Ignore}
+use Rattle.stream_model.specs.declared.kind.Kind.TheVariants.{Lines, ToLines, Head, Ignore, Custom}
 use Rattle.stream_model.specs.declared.outcome.WireCount.{WireCount}
 use Rattle.stream_model.specs.declared.outcome.EndState.{EndState}
 use Rattle.stream_model.specs.declared.outcome.EndState.TheVariants.{Ended, Failed, Unended, WriteFault}
@@ -16,7 +16,7 @@ use Rattle.stream_model.specs.Rests.{SinksMatch}
 use Rattle.stream_model.specs.Shape.{sent_at}
 use Rattle.stream_model.specs.declared.blueprint.Blueprint.{Blueprint}
 use Rattle.stream_model.specs.declared.blueprint.Node.{Node}
-use Rattle.stream_model.specs.declared.head.PlugHead.{PlugHead}
+use Rattle.stream_model.specs.Known.{HeadLists}
 use Rattle.nodes.specs.Ignoring.{EndsWith}
 use Rattle.nodes.specs.Kinds.{writes_of}
 use Rattle.nodes.specs.Sink.{WritesOf, sink_room}
@@ -35,13 +35,13 @@ use Rattle.run_blueprint.specs.Stands.{SinkStand, has_ended_at}
 use Rattle.run_blueprint.specs.Types.{AllTyped}
 use Rattle.interpreter.specs.Picks.{Pick}
 use Rattle.run_blueprint.specs.Choosing.{HasPicks}
-use Rattle.run_blueprint.specs.Drawing.{Drawn, IsWorldOf}
+use Rattle.run_blueprint.specs.Drawing.{Drawn, TellNone, IsWorldOf}
 use Rattle.stream_model.specs.Linear.{Book}
 use Rattle.run_blueprint.specs.Plugs.{KeepsPlugTypes}
 
 -- the type that the check settles for a wire
-abbrev pub settled_type : Blueprint → List PlugHead → Edge → Option Sort
-settled_type b plugs v = wire_type plugs b.chains.items b.nodes.items (graph_of b) v
+abbrev pub settled_type : Blueprint → HeadLists → Edge → Option Sort
+settled_type b heads v = wire_type heads b.chains.items b.nodes.items (graph_of b) v
 
 -- The wire of a sink is shut where the sink has ended or a write of it failed, but for a lane, through which the sink's cancel may be
 -- on its way; and where the sink failed, also a lane (`lane_shut` of `WiresCarry` says more of a lane).
@@ -97,8 +97,8 @@ pub record IgnorerTook (loss : Option ℕ) (list : List Tree) (end : End) (s : S
   pub ends : EndsWith s.2 seen
 
 -- On each wire a list passed, and it stands so: as many elements as the picture counts (`counted`), all of the type that the
--- check settles for the wire (`typed`). What a node gave that is no source of lines agrees with what it gives of the lists that
--- passed on its inputs, by every world that has what the stages chose (`given`). A wire on which an end was sent is shut (`shut_is`);
+-- check settles for the wire (`typed`). What a node gave that is no source of lines and no custom stage agrees with what it gives of
+-- the lists that passed on its inputs, by every world that has what the stages chose (`given`). A wire on which an end was sent is shut (`shut_is`);
 -- a lane is not asked only where as many elements were sent as it has places (`lane_asks`); and the wire of a sink stands by how the
 -- sink does (`sink_shut`, `sink_asked`): also a lane is shut where its sink has ended, unless that takes one element alone and so may
 -- have cancelled it (`lane_shut`). A wire that is shut though no end was sent on it was cancelled, and then each wire behind it is shut,
@@ -108,11 +108,11 @@ pub record WiresCarry (book : Book) (b : Blueprint) (stands : List SinkStand) (w
   pub lists : ℕ → List Tree
   pub ends : ℕ → End
   pub counted : (i : ℕ) (v : Edge) → slice_get (blueprint_wires b) i ≡ Some v → sent_at wires i ≡ length (lists i)
-  pub typed : (plugs : List PlugHead) (taken : List (List ℕ)) → IsFit b plugs taken → KeepsPlugTypes plugs book → (i : ℕ) (v : Edge)
+  pub typed : (heads : HeadLists) (taken : List (List ℕ)) → IsFit b heads taken → KeepsPlugTypes heads book → (i : ℕ) (v : Edge)
       → slice_get (blueprint_wires b) i ≡ Some v
-      → (t : Sort) × ((settled_type b plugs v ≡ Some t) × AllTyped t (lists i))
+      → (t : Sort) × ((settled_type b heads v ≡ Some t) × AllTyped t (lists i))
   pub given : (w : World) → w.book ≡ book → HasPicks picks w → (j : ℕ) (v : Edge) (n : Node) → slice_get (blueprint_wires b) j ≡ Some v
-      → slice_get b.nodes.items v.from ≡ Some n → ((name : List ℕ) → n.kind ≢ Lines name)
+      → slice_get b.nodes.items v.from ≡ Some n → ((name : List ℕ) → n.kind ≢ Lines name) → ((name : List ℕ) → n.kind ≢ Custom name)
       → Agrees (next (graph_of b) w (λ u. exact (lists u) (ends u)) j) (lists j) (ends j)
   pub shut_is : (i : ℕ) (v : Edge) (c : WireCount) → slice_get (blueprint_wires b) i ≡ Some v → slice_get wires i ≡ Some c → ends i ≢ unended → c.shut ≡ true
   pub left_shut : (i : ℕ) (v : Edge) (c : WireCount) → slice_get (blueprint_wires b) i ≡ Some v → slice_get wires i ≡ Some c → c.shut ≡ true → ends i ≡ unended
@@ -151,14 +151,14 @@ AgreesWithFiles {book} {b} d c = (w : World) → IsWorldOf book b.nodes.items d 
 abbrev pub MisfitByPassed : {book : Book} → {b : Blueprint} → {stands : List SinkStand} → {wires : List WireCount} → {picks : List Pick}
     → WiresCarry book b stands wires picks → List (Option (List ℕ)) → ℕ → Node → Type 0
 MisfitByPassed {book} {b} {stands} {wires} {picks} c plans k n = (w : World) → w.book ≡ book → HasPicks picks w
-    → MisfitsOver (graph_of b) w (plan_at plans) (as_passed c) k (graph_node n)
+    → MisfitsOver (graph_of b) w (plan_at plans) (as_passed c) k (graph_node b.wires.items n)
 
--- The picture of a run by what passed its wires, whatever the folder tells of its files. By every world that has the plugs of the run
--- and what its stages chose it is lawful, and where no event was left it rests, but for the stages that cannot make their next move; then a sink's input is shut exactly where the sink has
--- ended.
+-- The picture of a run by what passed its wires, whatever the folder tells of its files. By every world that has the heads of the run
+-- and what its stages chose, and in which no custom stage tells a list, it is lawful, and where no event was left it rests, but for the stages that cannot make their next move; then a
+-- sink's input is shut exactly where the sink has ended.
 pub record PictureStands (book : Book) (b : Blueprint) (plans : List (Option (List ℕ))) (sinks : List SinkStand) (picks : List Pick)
     (wires : List WireCount) (at_rest : Bool) : Type 0 where
   pub carries : WiresCarry book b sinks wires picks
-  pub lawful : (w : World) → w.book ≡ book → HasPicks picks w → IsLawfulBy (graph_of b) w (plan_at plans) wires (as_passed carries)
-  pub rest : IsTrue at_rest → (w : World) → w.book ≡ book → HasPicks picks w → RestsBy (graph_of b) w (plan_at plans) wires (as_passed carries)
+  pub lawful : (w : World) → w.book ≡ book → HasPicks picks w → TellNone b.nodes.items w.customs → IsLawfulBy (graph_of b) w (plan_at plans) wires (as_passed carries)
+  pub rest : IsTrue at_rest → (w : World) → w.book ≡ book → HasPicks picks w → TellNone b.nodes.items w.customs → RestsBy (graph_of b) w (plan_at plans) wires (as_passed carries)
   pub matching : IsTrue at_rest → (w : World) → SinksMatch (graph_of b) w wires (as_passed carries) (has_ended_at sinks)

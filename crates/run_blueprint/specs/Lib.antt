@@ -1,10 +1,10 @@
 pub mod Types
 pub mod Kinds
-pub mod Plugs
 pub mod Checked
 pub mod Sent
 pub mod Choosing
 pub mod Drawing
+pub mod Plugs
 pub mod Replaying
 pub mod Stands
 pub mod Units

@@ -11,7 +11,7 @@ use Rattle.materializer.specs.Choosers.{plan_at}
 use Rattle.materializer.specs.Graphs.{graph_of, graph_node}
 use Rattle.run_laws.specs.Replayed.{IsAtOnce}
 use Rattle.run_laws.specs.Serving.{IsSureAt}
-use Rattle.run_blueprint.specs.Drawing.{Drawn, IsSource}
+use Rattle.run_blueprint.specs.Drawing.{Drawn, IsSource, TellNone}
 
 -- the stage that is node k made these moves
 abbrev pub HasMade : List Pick → ℕ → List ℕ → Type 0
@@ -24,17 +24,19 @@ MakesItsMoves b plans picks = (k : ℕ) (n : Node) (plan moves : List ℕ) → s
     → IsPrefix moves plan × (IsAtOnce n.kind → (moves ≡ []) ⊎ (moves ≡ plan))
 
 -- The world has the plugs as this book lists them, each input file as it was read, of each stage that follows moves all of those, and of each
--- other stage that chose the moves that it made.
+-- other stage that chose the moves that it made; no custom stage of it tells a list, and what each gave is as it was.
 pub record IsReplayOf (book : Book) (nodes : List Node) (plans : List (Option (List ℕ))) (d : Drawn) (w : World) : Type 0 where
   pub book_is : w.book ≡ book
   pub files : (k : ℕ) (file : List ℕ) → IsSource nodes k file → w.file file ≡ record { bytes = d.bytes k; read = d.given k; faulted = d.faulted k }
   pub followed : (k : ℕ) (plan : List ℕ) → plan_at plans k ≡ Some plan → w.moves k ≡ plan
   pub chosen : (k : ℕ) (moves : List ℕ) → plan_at plans k ≡ None → HasMade d.picks k moves → w.moves k ≡ moves
+  pub gave : (k p : ℕ) → w.given k p ≡ d.given_by k p
+  pub untold : TellNone nodes w.customs
 
 -- Each stage that follows moves made all of them, or no failure may come on any of its wires.
 abbrev pub ServesItsMoves : Blueprint → List (Option (List ℕ)) → List Pick → World → Type 0
 ServesItsMoves b plans picks w = (k : ℕ) (n : Node) (plan : List ℕ) → slice_get b.nodes.items k ≡ Some n → plan_at plans k ≡ Some plan
-    → HasMade picks k plan ⊎ IsSureAt (graph_of b) w k (graph_node n)
+    → HasMade picks k plan ⊎ IsSureAt (graph_of b) w k (graph_node b.wires.items n)
 
 -- This stage could not make its move at this place: those before it are the moves that it made, of a valve or a recover none, it has that one
 -- too, and this is the cause.

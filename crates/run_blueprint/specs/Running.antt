@@ -7,7 +7,7 @@ use Rattle.stream_model.specs.declared.blueprint.Blueprint.{Blueprint}
 use Rattle.stream_model.specs.declared.blueprint.Node.{Node}
 use Rattle.blue_check.specs.Wires.{blueprint_wires}
 use Rattle.blue_check.specs.Forest.{wiring}
-use Rattle.stream_model.specs.declared.kind.Kind.TheVariants.{ToLines, Ignore}
+use Rattle.stream_model.specs.declared.kind.Kind.TheVariants.{ToLines, Ignore, Custom}
 use Rattle.stream_model.specs.declared.outcome.WireCount.{WireCount}
 use Rattle.stream_model.specs.declared.outcome.EndState.{EndState}
 use Rattle.stream_model.specs.declared.outcome.EndState.TheVariants.{Unended, WriteFault}
@@ -39,6 +39,10 @@ use Rattle.run_blueprint.specs.Units.{Pays}
 use Rattle.run_blueprint.specs.declared.run.RunResult.{RunResult}
 use Rattle.stream_model.specs.Linear.{Book}
 
+-- no node of it is a custom stage
+abbrev pub HasNoCustom : Blueprint → Type 0
+HasNoCustom b = (k : ℕ) (n : Node) (name : List ℕ) → slice_get b.nodes.items k ≡ Some n → n.kind ≡ Custom name → ⊥
+
 -- What is told of the sink with a file that is node k, which stands so: it wrote what the composed outlook of the sink lets it
 -- write, by every world that has the input files as they were read and what the stages chose, and so many whole lines. Where the
 -- folder still tells its files, the sink's file holds just that. To a sink of lines as many
@@ -48,7 +52,7 @@ pub record SinkLeaves (book : Book) (new : FolderState) (b : Blueprint) (d : Dra
     (count : ℕ) (end : EndState) : Type 0 where
   pub held : List ℕ
   pub there : IsTrue new.tells → new.file file ≡ Some held
-  pub tells : (w : World) → IsWorldOf book b.nodes.items d w → SinkTells (sink_outlook (graph_of b) w k (graph_node n)) end held
+  pub tells : (w : World) → IsWorldOf book b.nodes.items d w → SinkTells (sink_outlook (graph_of b) w k (graph_node b.wires.items n)) end held
   pub lines_are : whole_lines (length held) held ≡ count
   pub sent : n.kind ≡ ToLines file → (u : ℕ) (v : Edge) → slice_get (blueprint_wires b) u ≡ Some v → v.to ≡ k → SentOn v.lane end (sent_at wires u) count
   pub rests : n.kind ≡ ToLines file → IsTrue at_rest → end ≡ Unended → (u : ℕ) (v : Edge) → slice_get (blueprint_wires b) u ≡ Some v → v.to ≡ k
@@ -59,7 +63,7 @@ pub record SinkLeaves (book : Book) (new : FolderState) (b : Blueprint) (d : Dra
 pub record IgnoreLeaves (book : Book) (b : Blueprint) (d : Drawn) (wires : List WireCount) (k : ℕ) (n : Node) (count : ℕ) (end : EndState) : Type 0 where
   pub none : count ≡ 0
   pub tells : (w : World) → IsWorldOf book b.nodes.items d w → (u : ℕ) (v : Edge) → slice_get (blueprint_wires b) u ≡ Some v → v.to ≡ k
-      → IgnoreTells (sink_outlook (graph_of b) w k (graph_node n)) end (sent_at wires u)
+      → IgnoreTells (sink_outlook (graph_of b) w k (graph_node b.wires.items n)) end (sent_at wires u)
 
 -- What is told of each sink by a world: it wrote what the composed outlook of the sink lets it write; and what passed each wire agrees with the
 -- wire's.
@@ -67,17 +71,17 @@ pub record ServesAll (book : Book) (new : FolderState) (b : Blueprint) (picks : 
     (carries : WiresCarry book b sinks wires picks) (w : World) : Type 0 where
   pub sink : (i : ℕ) (s : SinkStand) (n : Node) (file : List ℕ) → slice_get sinks i ≡ Some s → slice_get b.nodes.items s.0 ≡ Some n
       → output_of n.kind ≡ Some file
-      → (held : List ℕ) × ((IsTrue new.tells → new.file file ≡ Some held) × SinkTells (sink_outlook (graph_of b) w s.0 (graph_node n)) s.2 held)
+      → (held : List ℕ) × ((IsTrue new.tells → new.file file ≡ Some held) × SinkTells (sink_outlook (graph_of b) w s.0 (graph_node b.wires.items n)) s.2 held)
   pub ignores : (i : ℕ) (s : SinkStand) (n : Node) → slice_get sinks i ≡ Some s → slice_get b.nodes.items s.0 ≡ Some n → n.kind ≡ Ignore
       → (u : ℕ) (v : Edge) → slice_get (blueprint_wires b) u ≡ Some v → v.to ≡ s.0
-      → IgnoreTells (sink_outlook (graph_of b) w s.0 (graph_node n)) s.2 (sent_at wires u)
+      → IgnoreTells (sink_outlook (graph_of b) w s.0 (graph_node b.wires.items n)) s.2 (sent_at wires u)
   pub passed : (i : ℕ) (v : Edge) → slice_get (blueprint_wires b) i ≡ Some v → Agrees (composed (graph_of b) w i) (carries.lists i) (carries.ends i)
 
 -- The inputs were read, and each sink wrote what its outlook lets it write. No other file but that of the trace is changed, where the
 -- folder still tells its files. The lines that were
 -- drawn are the first of each input, and little more than those was read. Each wire stands by what was sent on it and by how its sink
 -- stands, and what was sent agrees with its composed outlook. The picture is lawful; and where no event was left it
--- rests, and a sink's input is shut exactly where the sink has ended; in a polytree every sink has ended then. The stages chose
+-- rests, and a sink's input is shut exactly where the sink has ended; in a polytree without custom stages every sink has ended then. The stages chose
 -- these moves, which fit what may come in on their inputs. There is a world that has the input files as they were read, and these
 -- moves.
 -- Choice: docs/DECISIONS.md#polytrees-never-stall
@@ -104,7 +108,7 @@ pub record LeavesFiles (book : Book) (old new : FolderState) (b : Blueprint) (pl
   pub lawful : (w : World) → IsWorldOf book b.nodes.items drawn w → IsLawfulBy (graph_of b) w (plan_at plans) wires (composed (graph_of b) w)
   pub rest : IsTrue at_rest → (w : World) → IsWorldOf book b.nodes.items drawn w → RestsBy (graph_of b) w (plan_at plans) wires (composed (graph_of b) w)
   pub matching : IsTrue at_rest → (w : World) → SinksMatch (graph_of b) w wires (composed (graph_of b) w) (has_ended_at sinks)
-  pub ending : NoneFollow plans → IsPolytree (wiring (blueprint_wires b)) → IsTrue at_rest → list_any (λ s. is_unended s.2) sinks ≡ false
+  pub ending : NoneFollow plans → HasNoCustom b → IsPolytree (wiring (blueprint_wires b)) → IsTrue at_rest → list_any (λ s. is_unended s.2) sinks ≡ false
   -- the stages that follow moves made the first of them; and where each made all of them, or nothing may fail at it, and they fit, all is as by
   -- all of them
   pub made : MakesItsMoves b plans picks
@@ -116,7 +120,7 @@ pub record LeavesFiles (book : Book) (old new : FolderState) (b : Blueprint) (pl
 -- a stage cannot make its next move, by every world that has the input files as they were read and what the stages chose
 abbrev pub MisfitByFiles : Book → Blueprint → List (Option (List ℕ)) → Drawn → ℕ → Node → Type 0
 MisfitByFiles book b plans d k n = (w : World) → IsWorldOf book b.nodes.items d w
-    → MisfitsOver (graph_of b) w (plan_at plans) (composed (graph_of b) w) k (graph_node n)
+    → MisfitsOver (graph_of b) w (plan_at plans) (composed (graph_of b) w) k (graph_node b.wires.items n)
 
 -- the count of failed writes of a sink's file rose exactly where a write failed
 abbrev pub FailedWritesOf : EndState → ℕ → ℕ → Type 0
@@ -132,7 +136,7 @@ pub record SomeWriteRose (old new : FolderState) (b : Blueprint) : Type 0 where
 -- What is told of a run where the folder told its files before it, and how its counts rose. There is a list of moves for each
 -- stage whose kind chooses, in order of nodes, and no other; the trace's file, where one is wanted, holds the text of these moves, or
 -- a first part where a write to it failed. Whatever the folder tells, the units are within the budget and pay for what passed, the picture
--- stands by what passed, and where no event was left every sink of a polytree has ended.
+-- stands by what passed, and where no event was left every sink of a polytree without custom stages has ended.
 pub record Runs (book : Book) (old new : FolderState) (b : Blueprint) (plans : List (Option (List ℕ))) (trace : Option (List ℕ)) (budget : ℕ)
     (ran : RunResult) : Type 0 where
   pub sinks_are : map (λ (s : SinkStand). s.0) ran.sinks.items ≡ sink_places 0 b.nodes.items
@@ -155,7 +159,7 @@ pub record Runs (book : Book) (old new : FolderState) (b : Blueprint) (plans : L
   pub spent : ran.at_rest ≡ false → ran.used ≡ budget
   pub pays : Pays b ran.wires.items ran.used
   pub picture : PictureStands book b plans ran.sinks.items (map pick_of ran.picks.items) ran.wires.items ran.at_rest
-  pub ending : NoneFollow plans → IsPolytree (wiring (blueprint_wires b)) → IsTrue ran.at_rest → list_any (λ s. is_unended s.2) ran.sinks.items ≡ false
+  pub ending : NoneFollow plans → HasNoCustom b → IsPolytree (wiring (blueprint_wires b)) → IsTrue ran.at_rest → list_any (λ s. is_unended s.2) ran.sinks.items ≡ false
   pub misfit : (stage place : ℕ) → ran.misfit ≡ Some (stage, place)
       → IsMisfit b plans (map pick_of ran.picks.items) (MisfitByPassed picture.carries plans) stage place
   pub made : MakesItsMoves b plans (map pick_of ran.picks.items)
@@ -176,8 +180,8 @@ pub record SinkBreaks (book : Book) (old new : FolderState) (b : Blueprint) (d :
   pub held : List ℕ
   pub end : EndState
   pub there : IsTrue new.tells → new.file file ≡ Some held
-  pub tells : (w : World) → IsWorldOf book b.nodes.items d w → SinkTells (sink_outlook (graph_of b) w k (graph_node n)) end held
-  pub part : (w : World) → IsWorldOf book b.nodes.items d w → IsPrefix held (text_lines (sink_outlook (graph_of b) w k (graph_node n)).list)
+  pub tells : (w : World) → IsWorldOf book b.nodes.items d w → SinkTells (sink_outlook (graph_of b) w k (graph_node b.wires.items n)) end held
+  pub part : (w : World) → IsWorldOf book b.nodes.items d w → IsPrefix held (text_lines (sink_outlook (graph_of b) w k (graph_node b.wires.items n)).list)
   pub writes : FailedWritesOf end (old.wfaults file) (new.wfaults file)
 
 -- The inputs were read, and each sink wrote a first part of what it may write; the trace's file is empty, and no other file is

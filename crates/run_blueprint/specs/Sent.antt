@@ -8,7 +8,7 @@ use Rattle.stream_model.specs.Outlook.{Outlook, Entry, End, unended, ended, fail
 use Rattle.stage_core.specs.Held.{told}
 use Rattle.stream_model.specs.declared.blueprint.ChainDecl.{ChainDecl}
 use Rattle.stream_model.specs.declared.blueprint.Node.{Node}
-use Rattle.stream_model.specs.declared.head.PlugHead.{PlugHead}
+use Rattle.stream_model.specs.Known.{HeadLists}
 use Rattle.run_blueprint.specs.Checked.{CarriesType}
 use Rattle.run_blueprint.specs.Types.{AllTyped}
 
@@ -29,9 +29,9 @@ abbrev pub exact : List Tree → End → Outlook
 exact l e = record { list = l; ends = ends_by e; fails = fails_by e }
 
 -- the items are elements of the type that is settled for the wire, and how it stands
-pub record SendsItsType (plugs : List PlugHead) (chains : List ChainDecl) (nodes : List Node) (g : Graph) (w : World) (i : ℕ) (v : Edge) (sent : List Item)
+pub record SendsItsType (heads : HeadLists) (chains : List ChainDecl) (nodes : List Node) (g : Graph) (w : World) (i : ℕ) (v : Edge) (sent : List Item)
     : Type 0 where
-  pub carries : CarriesType plugs chains nodes g w i v
+  pub carries : CarriesType heads chains nodes g w i v
   pub list : List Tree
   pub end : End
   pub is : sent ≡ told list end

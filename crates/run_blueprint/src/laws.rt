@@ -31,11 +31,11 @@ ghost use Rattle.run_laws.specs.Account.{Account};
 ghost use Rattle.run_laws.specs.Seats.{account_of};
 ghost use Rattle.run_laws.specs.Made.{Materializes};
 ghost use Rattle.run_laws.specs.Runs.{IsRun};
-ghost use Rattle.run_laws.specs.Telling.{TellsPicks};
+ghost use Rattle.run_laws.specs.Telling.{TellsPicks, TellsCustoms};
 ghost use Rattle.stream_model.specs.declared.blueprint.Blueprint.{Blueprint};
 ghost use Rattle.stream_model.specs.declared.blueprint.ChainDecl.{ChainDecl};
 ghost use Rattle.stream_model.specs.declared.blueprint.Node.{Node};
-ghost use Rattle.stream_model.specs.declared.head.PlugHead.{PlugHead};
+ghost use Rattle.stream_model.specs.Known.{HeadLists};
 ghost use Rattle.blue_names.specs.declared.typed.Typed.TheVariants.{Gives};
 ghost use Rattle.blue_names.specs.FnTypes.{map_want, map_gives, pred_want, expand_want, expand_gives, fold_want, fold_gives, reduce_want, reduce_gives};
 ghost use Rattle.blue_names.specs.Hubs.{hub_size};
@@ -51,7 +51,7 @@ ghost use Rattle.run_blueprint.specs.Choosing.{HasPicks};
 ghost use Rattle.run_blueprint.specs.Drawing.{IsWorldOf};
 ghost use Rattle.run_blueprint.specs.Kinds.{is_known, shape_of, joining, single};
 ghost use Rattle.run_blueprint.specs.Parties.{CarriesParty};
-ghost use Rattle.run_blueprint.specs.Plugs.{KeepsPlugTypes};
+ghost use Rattle.run_blueprint.specs.Plugs.{KeepsPlugTypes, GivenTyped};
 ghost use Rattle.run_blueprint.specs.Running.{LeavesFiles, Runs};
 ghost use Rattle.run_blueprint.specs.Sent.{SendsItsType};
 ghost use Rattle.run_blueprint.specs.Stands.{SinkStand};
@@ -93,10 +93,10 @@ pub fn functions_meet_their_types()
 pub fn stages_keep_types()
     ensures source { (g : Graph) (w : World) (node : ℕ) (d : Decider) (is : List Outlook) (k : Kind) (t : Sort) → source_type k ≡ Some t → (p : ℕ)
         → AllTyped t (node_outlook g w node k d is p).list }
-    ensures single { (g : Graph) (w : World) (node : ℕ) (d : Decider) (o : Outlook) (plugs : List PlugHead) (chains : List ChainDecl) (k : Kind) (t u : Sort)
-        → KeepsPlugTypes plugs w.book
-        → g.chains ≡ map graph_chain chains → HasKnownSteps plugs chains → is_known plugs k ≡ true → shape_of k ≡ single
-        → stage_typed plugs chains k t ≡ Gives u → AllTyped t o.list → (p : ℕ) → AllTyped (half_type k p u) (node_outlook g w node k d (o ∷ []) p).list }
+    ensures single { (g : Graph) (w : World) (node : ℕ) (d : Decider) (o : Outlook) (heads : HeadLists) (chains : List ChainDecl) (k : Kind) (t u : Sort)
+        → KeepsPlugTypes heads w.book
+        → g.chains ≡ map graph_chain chains → HasKnownSteps heads chains → is_known heads k ≡ true → shape_of k ≡ single
+        → stage_typed heads chains k t ≡ Gives u → AllTyped t o.list → (p : ℕ) → AllTyped (half_type heads k p u) (node_outlook g w node k d (o ∷ []) p).list }
     ensures joining { (g : Graph) (w : World) (node : ℕ) (d : Decider) (is : List Outlook) (k : Kind) (t : Sort) → shape_of k ≡ joining → OutlooksTyped t is
         → (p : ℕ) → AllTyped t (node_outlook g w node k d is p).list }
     ensures zip { (g : Graph) (w : World) (node : ℕ) (d : Decider) (o r : Outlook) (t u : Sort) → AllTyped t o.list → AllTyped u r.list → (p : ℕ)
@@ -105,33 +105,33 @@ pub fn stages_keep_types()
 
 /// A graph of a blueprint that breaks no rule passes the rules that the laws below rest on.
 pub fn fit_blueprints_pass_the_rules()
-    ensures { (b : Blueprint) (plugs : List PlugHead) (taken : List (List ℕ)) (g : Graph) → IsFit b plugs taken → g.nodes ≡ map graph_node b.nodes.items
+    ensures { (b : Blueprint) (heads : HeadLists) (taken : List (List ℕ)) (g : Graph) → IsFit b heads taken → g.nodes ≡ map (graph_node b.wires.items) b.nodes.items
         → g.wires ≡ blueprint_wires b → g.chains ≡ map graph_chain b.chains.items
-        → PassesRules plugs b.chains.items b.nodes.items g }
+        → PassesRules heads b.chains.items b.nodes.items g }
 {}
 
-/// In a graph that passes the rules, where no directed walk of wires is closed and the plugs keep to their types, a type is
+/// In a graph that passes the rules, where no directed walk of wires is closed and the heads keep to their types, a type is
 /// settled for each wire, only elements of that type may pass it, and the functions of the node to which it leads take that
 /// type: its own, and in a chain each what the steps before it give.
 pub fn every_list_is_typed()
-    ensures { (plugs : List PlugHead) (chains : List ChainDecl) (nodes : List Node) (g : Graph) (w : World) (rank : ℕ → ℕ) → PassesRules plugs chains nodes g
-        → KeepsPlugTypes plugs w.book → IsRanked g rank
-        → (i : ℕ) (v : Edge) → slice_get g.wires i ≡ Some v → CarriesType plugs chains nodes g w i v }
+    ensures { (heads : HeadLists) (chains : List ChainDecl) (nodes : List Node) (g : Graph) (w : World) (rank : ℕ → ℕ) → PassesRules heads chains nodes g
+        → KeepsPlugTypes heads w.book → GivenTyped heads nodes w → IsRanked g rank
+        → (i : ℕ) (v : Edge) → slice_get g.wires i ≡ Some v → CarriesType heads chains nodes g w i v }
 {}
 
 /// What was sent on each wire of such a graph, at any moment of its run, has only elements of the type that is settled for the
-/// wire, whatever the folder tells of its files, where the world tells what the stages chose and its book what the plugs of the
-/// run give (`run`); so it is of an island that was made of it (`island`).
+/// wire, whatever the folder tells of its files, where the world tells what the stages chose and what custom stages gave, and its book
+/// what the heads of the run give (`run`); so it is of an island that was made of it (`island`).
 pub fn every_wire_carries_its_type<S: Source, D: Drain, L: Logic, B: PlugBook>()
-    ensures run { (plugs : List PlugHead) (chains : List ChainDecl) (nodes : List Node) (g : Graph) (w : World) (rank : ℕ → ℕ)
-        (a : Account (stage.IslandNode S D L B)) → IsRun S.state D.state w.book g a → TellsPicks w a
-        → PassesRules plugs chains nodes g → KeepsPlugTypes plugs w.book → IsRanked g rank
-        → (i : ℕ) (v : Edge) → slice_get g.wires i ≡ Some v → SendsItsType plugs chains nodes g w i v (a.near i).wire.sent }
-    ensures island { (plugs : List PlugHead) (chains : List ChainDecl) (nodes : List Node) (g : Graph) (w : World) (rank : ℕ → ℕ)
+    ensures run { (heads : HeadLists) (chains : List ChainDecl) (nodes : List Node) (g : Graph) (w : World) (rank : ℕ → ℕ)
+        (a : Account (stage.IslandNode S D L B)) → IsRun S.state D.state w.book g a → TellsPicks w a → TellsCustoms g w a
+        → PassesRules heads chains nodes g → KeepsPlugTypes heads w.book → GivenTyped heads nodes w → IsRanked g rank
+        → (i : ℕ) (v : Edge) → slice_get g.wires i ≡ Some v → SendsItsType heads chains nodes g w i v (a.near i).wire.sent }
+    ensures island { (heads : HeadLists) (chains : List ChainDecl) (nodes : List Node) (g : Graph) (w : World) (rank : ℕ → ℕ)
         (net : Net (stage.IslandNode S D L B)) → Settled node_port_state (node_law S.state D.state w.book) node_asking node_moves net
-        → Materializes S.state g net.firsts net.ends → TellsPicks w (account_of net) → PassesRules plugs chains nodes g → KeepsPlugTypes plugs w.book
+        → Materializes S.state g net.firsts net.ends → TellsPicks w (account_of net) → TellsCustoms g w (account_of net) → PassesRules heads chains nodes g → KeepsPlugTypes heads w.book → GivenTyped heads nodes w
         → IsRanked g rank
-        → (i : ℕ) (v : Edge) → slice_get g.wires i ≡ Some v → SendsItsType plugs chains nodes g w i v (wire_at net i).wire.sent }
+        → (i : ℕ) (v : Edge) → slice_get g.wires i ≡ Some v → SendsItsType heads chains nodes g w i v (wire_at net i).wire.sent }
 {}
 
 /// Whenever a run stopped whose folder had told its files, also where its units were used up: the wire of a sink that goes on, lane or
@@ -159,7 +159,7 @@ pub fn hubs_carry_each_party<S: Source, D: Drain, L: Logic, B: PlugBook>()
 /// the run answers, and of those that were sent all but as many as the hub's size and one, which the hub itself may have.
 pub fn a_merge_hub_leaves_few()
     ensures { (book : Book) (old new : FolderState) (b : Blueprint) (plans : List (Option (List ℕ))) (trace : Option (List ℕ)) (budget : ℕ) (ran : RunResult)
-        (plugs : List PlugHead) (taken : List (List ℕ)) (w : World) → Runs book old new b plans trace budget ran → IsFit b plugs taken → w.book ≡ book
+        (heads : HeadLists) (taken : List (List ℕ)) (w : World) → Runs book old new b plans trace budget ran → IsFit b heads taken → w.book ≡ book
         → HasPicks (map pick_of ran.picks.items) w
         → (k : ℕ) (n : Node) (own producers u : ℕ) (v : Edge) (c : WireCount) (size : ℕ) → slice_get b.nodes.items k ≡ Some n
         → n.kind ≡ kind.MergeHub own producers → slice_get (blueprint_wires b) u ≡ Some v → v.to ≡ k → hub_size b.nodes.items v.from v.to ≡ Some size

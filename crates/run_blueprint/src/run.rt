@@ -19,11 +19,13 @@ ghost use Rattle.run_blueprint.specs.Running.{Runs, Wants, WantsWithin};
 ghost use Rattle.run_blueprint.specs.Tracing.{written_files, IsApart};
 ghost use Rattle.std.specs.List.{All};
 ghost use Rattle.elem_core.specs.declared.count.TheConstants.{MOST_COUNT};
-ghost use Rattle.materializer.specs.HandedPlugs.{GivesAsListed, HasPlugs};
+ghost use Rattle.materializer.specs.HandedCustoms.{handed_heads, HasGuests};
+ghost use Rattle.materializer.specs.HandedPlugs.{GivesAsListed};
 
 use crate::laws::{every_wire_carries_its_type, fit_blueprints_pass_the_rules};
 use elem_core::line::Line;
 use elem_core::why::NoMemory;
+use graph_stage::custom::Custom;
 use interpreter::island::{IslandEnd, SinkStand};
 use island_runs::prepare::prepare;
 use island_runs::ran::Ran;
@@ -271,10 +273,11 @@ pub fn run<R: Threads + Wait + Sync, F: Folder, L: Logic + Send, B: PlugBook + S
     workers: u32,
     budget: u32,
     plugs: Vec<Plug<L>>,
+    customs: Vec<Custom>,
     plans: Vec<Option<Vec<u32>>>,
 ) -> Result<RunResult, OpenEnd>
     requires runs { CanRun b }
-    requires has { HasPlugs (map (λ p. p.head) plugs.items) b.nodes.items }
+    requires has { HasGuests (handed_heads plugs.items customs.items) b.wires.items b.nodes.items }
     requires listed { All (GivesAsListed L.gives B.lists) plugs.items }
     requires follow { PlansFit (map (λ n. n.kind) b.nodes.items) (map moves_of plans.items) }
     requires apart { IsApart b trace }
@@ -299,7 +302,7 @@ pub fn run<R: Threads + Wait + Sync, F: Folder, L: Logic + Send, B: PlugBook + S
         choosers,
         room,
     } = named;
-    let Ok(prepared) = prepare::<F::Inp, F::Out, L, B>(alloc, b, plugs, plans) else {
+    let Ok(prepared) = prepare::<F::Inp, F::Out, L, B>(alloc, b, plugs, customs, plans) else {
         return Err(OpenEnd::NoMemory);
     };
     let Opened {

@@ -67,7 +67,7 @@ list_agrees o h a = rw (a.is, list_of_told a.list a.end, standing_told a.list a.
 
 module _ {N : Type 0} (port_state : N → View → Type 0) (law : N → N → View → List (List Item) → List (List Item) → Type 0) (asking : N → View → Type 0) (moves : N → List ℕ)
     (FirstOf : ℕ → graph.Node → N → Type 0) (Tells : World → ℕ → graph.Node → N → N → Type 0) (g : Graph) (w : World)
-    (laws : (k : ℕ) (n : graph.Node) (first now : N) (v : View) (took gave : List (List Item)) → FirstOf k n first → Tells w k n first now → length took ≡ inputs_of n.kind → law first now v took gave → RunLaws g w k n took gave)
+    (laws : (k : ℕ) (n : graph.Node) (first now : N) (v : View) (took gave : List (List Item)) → FirstOf k n first → Tells w k n first now → length took ≡ inputs_of n → law first now v took gave → RunLaws g w k n took gave)
     (a : Account N) (joined : IsJoined g) (keeps : KeepsLaws port_state law asking moves g a) (made : AllMade FirstOf g a) where
   -- what is told of node k
   abbrev pub TellsAt : ℕ → graph.Node → Type 0
@@ -75,7 +75,7 @@ module _ {N : Type 0} (port_state : N → View → Type 0) (law : N → N → Vi
 
   -- the laws of node k, whatever its kind is
   pub node_laws : (k : ℕ) (n : graph.Node) → slice_get g.nodes k ≡ Some n → TellsAt k n → RunLaws g w k n (took g a k n) (gave g a k n)
-  node_laws k n e tells = let m = keeps.each_node k n e in laws k n m.first m.now (knows g a k n) (took g a k n) (gave g a k n) (made k n m.first e m.first_at) (tells m.first m.now m.first_at m.now_at) (length_ins g got_of a.far k 0 (inputs_of n.kind)) m.law_holds
+  node_laws k n e tells = let m = keeps.each_node k n e in laws k n m.first m.now (knows g a k n) (took g a k n) (gave g a k n) (made k n m.first e m.first_at) (tells m.first m.now m.first_at m.now_at) (length_ins g got_of a.far k 0 (inputs_of n)) m.law_holds
 
   pub brings : (u : ℕ) (v : Edge) → slice_get g.wires u ≡ Some v → ArrivedOf (lane_loss v.keep v.lane) (a.near u).wire.sent (a.far u).wire.got
   brings u v e =
@@ -109,11 +109,11 @@ module _ {N : Type 0} (port_state : N → View → Type 0) (law : N → N → Vi
     wire_by j v n vi ni tells b =
         let source = joined.source j v vi in
         let same : source.0 ≡ n = some_same source.0 n (sym source.1 ∙ ni) in
-        let within : v.output < outputs_of n.kind = rw same at source.2 in
-        let ins = inputs_pass v.from (count_from 0 (inputs_of n.kind)) b in
+        let within : v.output < outputs_of n = rw same at source.2 in
+        let ins = inputs_pass v.from (count_from 0 (inputs_of n)) b in
         let none : 0 + v.output ≡ v.output = omega arith in
-        let at : slice_get (gave g a v.from n) v.output ≡ Some (a.near j).wire.sent = read_there g sent_of a.near v.from 0 (outputs_of n.kind) v.output j within (rw none source.3) in
-        rw (vi, ni) ((node_laws v.from n ni tells).gives (ports_of g w sent v.from (count_from 0 (inputs_of n.kind))) ins v.output (a.near j).wire.sent at)
+        let at : slice_get (gave g a v.from n) v.output ≡ Some (a.near j).wire.sent = read_there g sent_of a.near v.from 0 (outputs_of n) v.output j within (rw none source.3) in
+        rw (vi, ni) ((node_laws v.from n ni tells).gives (ports_of g w sent v.from (count_from 0 (inputs_of n))) ins v.output (a.near j).wire.sent at)
 
     -- the same by outlooks with which what was sent agrees
     pub gives_by : (j : ℕ) (v : Edge) (n : graph.Node) → slice_get g.wires j ≡ Some v → slice_get g.nodes v.from ≡ Some n → TellsAt v.from n
@@ -139,9 +139,9 @@ module _ {N : Type 0} (port_state : N → View → Type 0) (law : N → N → Vi
     every_wire i hi = subst (λ (o : Outlook). AgreesWith o (a.near i).wire.sent) (composed_composes g w rank ranked i hi) (wire_agrees i hi (λ u hu r. sent_agrees u hu))
 
     -- and what every node took
-    pub every_input : (k : ℕ) (n : graph.Node) → slice_get g.nodes k ≡ Some n → AllMayPass (ports_of g w (composed g w) k (count_from 0 (inputs_of n.kind))) (took g a k n)
-    every_input k n e = inputs_pass (composed g w) k (count_from 0 (inputs_of n.kind)) (λ u v ui to. sent_agrees u (slice_get-below g.wires u v ui))
+    pub every_input : (k : ℕ) (n : graph.Node) → slice_get g.nodes k ≡ Some n → AllMayPass (ports_of g w (composed g w) k (count_from 0 (inputs_of n))) (took g a k n)
+    every_input k n e = inputs_pass (composed g w) k (count_from 0 (inputs_of n)) (λ u v ui to. sent_agrees u (slice_get-below g.wires u v ui))
 
     -- the moves of every node fit what may come in there
     pub all_fit : (k : ℕ) (n : graph.Node) → slice_get g.nodes k ≡ Some n → moves_fit g w k n.kind (inputs g w k n) ≡ true
-    all_fit k n e = (node_laws k n e (told_at k n e)).fits (ports_of g w (composed g w) k (count_from 0 (inputs_of n.kind))) (every_input k n e)
+    all_fit k n e = (node_laws k n e (told_at k n e)).fits (ports_of g w (composed g w) k (count_from 0 (inputs_of n))) (every_input k n e)

@@ -17,7 +17,7 @@ use Rattle.stream_model.specs.Outlook.{Outlook, End, unended, ended, failed, Agr
 use Rattle.stream_model.specs.Graph.{Graph, Edge}
 use Rattle.stream_model.specs.Graph as graph
 use Rattle.stream_model.specs.Node.{World, nothing, head_of, of_work}
-use Rattle.stream_model.specs.Composed.{inputs_of, count_from, ports_of, composed, sink_outlook, IsRanked}
+use Rattle.stream_model.specs.Composed.{inputs_by, inputs_of, count_from, ports_of, composed, sink_outlook, IsRanked}
 use Rattle.stream_model.proofs.Compositions.{slice_get-below}
 use Rattle.stream_io.specs.State.{SourceState, DrainState}
 use Rattle.stream_model.specs.Linear.{Book, Work, passing, work_of}
@@ -29,7 +29,7 @@ use Rattle.stage_sub.specs.Handling.{IsSub}
 use Rattle.port_core.specs.Marks.{wanted}
 use Rattle.port_core.specs.Reading.{inp_of, got_of}
 use Rattle.nodes.specs.declared.node.IslandNode.{IslandNode}
-use Rattle.nodes.specs.declared.node.IslandNode.TheVariants.{Reading, Making, Linear, State, Sub, FanIn, FanOut, Writing, Ignoring, Entering, Leaving}
+use Rattle.nodes.specs.declared.node.IslandNode.TheVariants.{Reading, Making, Linear, State, Sub, FanIn, FanOut, Custom, Writing, Ignoring, Entering, Leaving}
 use Rattle.nodes.specs.Nodes.{node_port_state, node_law, node_asking, node_moves}
 use Rattle.nodes.specs.Ports.{OneInOf}
 use Rattle.nodes.specs.Kinds.{IsMaker, IsFileSink, writes_of}
@@ -102,6 +102,7 @@ sink_cases sources drains book chains k n (State first) now v took gave is made 
 sink_cases sources drains book chains k n (Sub first) now v took gave is made law = absurd (not_sub n.kind is made.is_sub)
 sink_cases sources drains book chains k n (FanIn first) now v took gave is made law = absurd (not_fan_in n.kind is made.is_in)
 sink_cases sources drains book chains k n (FanOut first) now v took gave is made law = absurd (not_fan_out n.kind is made.is_out)
+sink_cases sources drains book chains k n (Custom first) now v took gave is made law = absurd (subst IsFileSink made.kind_is is)
 sink_cases sources drains book chains k n (Ignoring first) now v took gave is made law = let e : IsFileSink kind.Ignore = subst IsFileSink made.kind_is is in absurd e
 sink_cases sources drains book chains k n (Entering first) now v took gave is made law = absurd made
 sink_cases sources drains book chains k n (Leaving first) now v took gave is made law = absurd made
@@ -118,6 +119,7 @@ ignore_cases sources drains book chains k n (State first) now v took gave is mad
 ignore_cases sources drains book chains k n (Sub first) now v took gave is made law = let e : IsSub kind.Ignore = subst IsSub is made.is_sub in absurd e
 ignore_cases sources drains book chains k n (FanIn first) now v took gave is made law = let e : IsFanIn kind.Ignore = subst IsFanIn is made.is_in in absurd e
 ignore_cases sources drains book chains k n (FanOut first) now v took gave is made law = let e : IsOut kind.Ignore = subst IsOut is made.is_out in absurd e
+ignore_cases sources drains book chains k n (Custom first) now v took gave is made law = let e : kind.Ignore ≡ kind.Custom made.name = sym is ∙ made.kind_is in cc
 ignore_cases sources drains book chains k n (Writing first) now v took gave is made law = let e : IsFileSink kind.Ignore = subst IsFileSink is made.is_sink in absurd e
 ignore_cases sources drains book chains k n (Entering first) now v took gave is made law = absurd made
 ignore_cases sources drains book chains k n (Leaving first) now v took gave is made law = absurd made
@@ -167,10 +169,10 @@ module _ {S D L B : Type 0} (sources : S → SourceState) (drains : D → DrainS
     came : took g a k n ≡ (a.far u).wire.got ∷ []
     wants : ins_wanted g a k n ≡ wanted (a.far u) ∷ []
 
-  one_wire : (k : ℕ) (n : graph.Node) (u : ℕ) (v : Edge) → slice_get g.nodes k ≡ Some n → inputs_of n.kind ≡ 1 → slice_get g.wires u ≡ Some v → v.to ≡ k → OneWire k n u
+  one_wire : (k : ℕ) (n : graph.Node) (u : ℕ) (v : Edge) → slice_get g.nodes k ≡ Some n → inputs_of n ≡ 1 → slice_get g.wires u ≡ Some v → v.to ≡ k → OneWire k n u
   one_wire k n u v ni one ui to =
       let found = one_input g run.joined k n u v ni one ui to in
-      record { ins = read_one g inp_of a.far k (inputs_of n.kind) u one found; came = read_one g got_of a.far k (inputs_of n.kind) u one found; wants = read_one g wanted a.far k (inputs_of n.kind) u one found }
+      record { ins = read_one g inp_of a.far k (inputs_of n) u one found; came = read_one g got_of a.far k (inputs_of n) u one found; wants = read_one g wanted a.far k (inputs_of n) u one found }
 
   heads_same : (x y : List Item) → x ∷ [] ≡ y ∷ [] → x ≡ y
   heads_same x y e = cc
@@ -181,7 +183,7 @@ module _ {S D L B : Type 0} (sources : S → SourceState) (drains : D → DrainS
     law = sink_law k n first now ni at
 
     wire : OneWire k n u
-    wire = one_wire k n u v ni (ap inputs_of is) ui to
+    wire = one_wire k n u v ni (ap (inputs_by n.head) is) ui to
 
     each : (law.wrote ≡ law.elems) × (now.end ≢ WriteFault → law.in_end ≡ end_seen now.end)
     each = sink_each drains first now (knows g a k n) (took g a k n) (gave g a k n) law nothing (writes_each k n name first now ni is at)
@@ -212,7 +214,7 @@ module _ {S D L B : Type 0} (sources : S → SourceState) (drains : D → DrainS
         let came = no_fewer (a.far u).wire sound.0 sound.1 in
         let least : elements (a.far u).wire.sent ≤ wanted (a.far u) = sent_wanted (elements (a.far u).wire.sent) (a.far u).asked in
         let wants : slice_index_or (ins_wanted g a k n) 0 0 ≡ wanted (a.far u) = ap (λ (l : List ℕ). slice_index_or l 0 0) wire.wants in
-        let one : inputs_of n.kind ≡ 1 = ap inputs_of is in
+        let one : inputs_of n ≡ 1 = ap (inputs_by n.head) is in
         let asked : 1 ≤ slice_index_or (ins_wanted g a k n) 0 0 = omega (arith, some, same, all, came, least, wants) in
         let e = (sink_at k n first now ni at).asks 0 (omega (arith, one)) asked in
         let e' = subst (λ (l : List (List Item)). Earlier {N = IslandNode S D L B} node_port_state (node_law sources drains book) node_asking node_moves 0 (Writing first) (Writing now) l [] (ins_wanted g a k n) (outs_wanted g a k n) (outs_shut g a k n)) wire.came
@@ -245,15 +247,15 @@ module _ {S D L B : Type 0} (sources : S → SourceState) (drains : D → DrainS
   sink_lines k n first now written ni at h l = (has_lines drains first now (knows g a k n) (took g a k n) (gave g a k n) written (sink_law k n first now ni at) h l).0
 
   -- where what came to each node agrees with what a world lets come
-  module _ (w : World) (agrees_in : (k : ℕ) (n : graph.Node) → slice_get g.nodes k ≡ Some n → AllMayPass (ports_of g w (composed g w) k (count_from 0 (inputs_of n.kind))) (took g a k n)) where
+  module _ (w : World) (agrees_in : (k : ℕ) (n : graph.Node) → slice_get g.nodes k ≡ Some n → AllMayPass (ports_of g w (composed g w) k (count_from 0 (inputs_of n))) (took g a k n)) where
     -- the outlook of what comes to a sink
     abbrev comes_in : ℕ → Outlook
     comes_in k = head_of (ports_of g w (composed g w) k (count_from 0 1))
 
     -- what came to its input agrees with that
-    input_agrees : (k : ℕ) (n : graph.Node) (l : List Tree) (e : End) → slice_get g.nodes k ≡ Some n → inputs_of n.kind ≡ 1 → took g a k n ≡ told l e ∷ [] → Agrees (comes_in k) l e
+    input_agrees : (k : ℕ) (n : graph.Node) (l : List Tree) (e : End) → slice_get g.nodes k ≡ Some n → inputs_of n ≡ 1 → took g a k n ≡ told l e ∷ [] → Agrees (comes_in k) l e
     input_agrees k n l e ni one_in is =
-        let all : AllMayPass (ports_of g w (composed g w) k (count_from 0 (inputs_of n.kind))) (told l e ∷ []) = subst (λ (h : List (List Item)). AllMayPass (ports_of g w (composed g w) k (count_from 0 (inputs_of n.kind))) h) is (agrees_in k n ni) in
+        let all : AllMayPass (ports_of g w (composed g w) k (count_from 0 (inputs_of n))) (told l e ∷ []) = subst (λ (h : List (List Item)). AllMayPass (ports_of g w (composed g w) k (count_from 0 (inputs_of n))) h) is (agrees_in k n ni) in
         let one : AllMayPass (ports_of g w (composed g w) k (count_from 0 1)) (told l e ∷ []) = subst (λ (c : ℕ). AllMayPass (ports_of g w (composed g w) k (count_from 0 c)) (told l e ∷ [])) one_in all in
         one.0 l e refl
 
@@ -264,7 +266,7 @@ module _ {S D L B : Type 0} (sources : S → SourceState) (drains : D → DrainS
         let law = sink_law k n first now ni at in
         let its : FirstWriting k n.kind first = its_first k n first now ni at in
         let node : now.node ≡ k = law.node ∙ its.node in
-        let came : Agrees (comes_in k) law.elems law.in_end = input_agrees k n law.elems law.in_end ni (file_sink_inputs n.kind its.is_sink) law.took_is in
+        let came : Agrees (comes_in k) law.elems law.in_end = input_agrees k n law.elems law.in_end ni (file_sink_inputs n.head n.kind its.is_sink) law.took_is in
         let writes : WritesOf now.writes k now.kept now.end law.elems law.in_end law.wrote = subst (λ (x : ℕ). WritesOf now.writes x now.kept now.end law.elems law.in_end law.wrote) node law.writes in
         let work : work_of n.kind ≡ Some (work_by now.writes) = file_sink_work n.kind its.is_sink ∙ ap (λ (x : Writes). Some (work_by x)) (sym (writes_are k n first now ni at)) in
         subst (λ (x : Option Work). Agrees (of_work w.book k n.decider x (ports_of g w (composed g w) k (count_from 0 1))) law.wrote (end_by now.end now.writes)) (sym work) (written_agrees w.book k n.decider now.writes now.kept now.end law.elems law.in_end law.wrote (comes_in k) writes came)
@@ -277,7 +279,7 @@ module _ {S D L B : Type 0} (sources : S → SourceState) (drains : D → DrainS
     pub every_sink_took : (k : ℕ) (n : graph.Node) (name : List ℕ) (first now : Sink D) → slice_get g.nodes k ≡ Some n → n.kind ≡ kind.ToLines name → IsSinkAt a k first now → TookList (sink_outlook g w k n) now.end (took g a k n)
     every_sink_took k n name first now ni is at =
         let law = sink_law k n first now ni at in
-        let came : Agrees (comes_in k) law.elems law.in_end = input_agrees k n law.elems law.in_end ni (ap inputs_of is) law.took_is in
+        let came : Agrees (comes_in k) law.elems law.in_end = input_agrees k n law.elems law.in_end ni (ap (inputs_by n.head) is) law.took_is in
         sink_took drains first now (knows g a k n) (took g a k n) (gave g a k n) law (sink_outlook g w k n) (writes_each k n name first now ni is at)
         (passes k n (kind.ToLines name) law.elems law.in_end is refl came)
 
@@ -293,11 +295,11 @@ module _ {S D L B : Type 0} (sources : S → SourceState) (drains : D → DrainS
         let m = ignore_at k n first now ni at in
         let law : IgnoreLaw first now (knows g a k n) (took g a k n) (gave g a k n) = m.law_holds in
         let its : FirstIgnoring k n.kind first = run.made k n (Ignoring first) ni at.at_first in
-        let wire = one_wire k n u v ni (ap inputs_of its.kind_is) ui to in
+        let wire = one_wire k n u v ni (ap (inputs_by n.head) its.kind_is) ui to in
         let here : OneInOf (ignore_port_state_in now.started now.end) ((a.far u).wire.inp ∷ []) (knows g a k n).outs = subst (λ (l : List InView). OneInOf (ignore_port_state_in now.started now.end) l (knows g a k n).outs) wire.ins m.port_state_holds in
         let seen : TookAs (a.far u).wire.inp law.in_end = subst (λ (x : InView). TookAs x law.in_end) (ap (λ (l : List InView). get_or l 0 Cancelled) wire.ins) law.took_as in
         let got : (a.far u).wire.got ≡ told law.elems law.in_end = heads_same (a.far u).wire.got (told law.elems law.in_end) (sym wire.came ∙ law.took_is) in
-        let came : Agrees (comes_in k) law.elems law.in_end = input_agrees k n law.elems law.in_end ni (ap inputs_of its.kind_is) law.took_is in
+        let came : Agrees (comes_in k) law.elems law.in_end = input_agrees k n law.elems law.in_end ni (ap (inputs_by n.head) its.kind_is) law.took_is in
         let agrees : Agrees (sink_outlook g w k n) law.elems law.in_end = passes k n kind.Ignore law.elems law.in_end its.kind_is refl came in
         let sound = run.keeps.far_sound u (slice_get-below g.wires u v ui) in
         ignored_by (a.far u).wire sound.0 sound.1 now.started (knows g a k n).outs law.elems law.in_end got seen now.end (sink_outlook g w k n) law.ends here agrees

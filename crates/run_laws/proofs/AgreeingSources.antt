@@ -16,7 +16,7 @@ use Rattle.stage_core.specs.Held.{told}
 use Rattle.port_core.specs.Reading.{sent_of}
 use Rattle.fused_net.proofs.Reading.{some_same}
 use Rattle.nodes.specs.declared.node.IslandNode.{IslandNode}
-use Rattle.nodes.specs.declared.node.IslandNode.TheVariants.{Reading, Making, Linear, State, Sub, FanIn, FanOut, Writing, Ignoring, Entering, Leaving}
+use Rattle.nodes.specs.declared.node.IslandNode.TheVariants.{Reading, Making, Linear, State, Sub, FanIn, FanOut, Custom, Writing, Ignoring, Entering, Leaving}
 use Rattle.nodes.specs.Kinds.{IsMaker, IsFileSink}
 use Rattle.nodes.specs.Nodes.{node_port_state, node_law, node_asking, node_moves}
 use Rattle.nodes.specs.Source.{Lines, LinesLaw}
@@ -44,6 +44,7 @@ source_cases sources drains book chains k n name (State first) now v took gave i
 source_cases sources drains book chains k n name (Sub first) now v took gave is made law = let e : IsSub (kind.Lines name) = subst IsSub is made.is_sub in absurd e
 source_cases sources drains book chains k n name (FanIn first) now v took gave is made law = let e : IsFanIn (kind.Lines name) = subst IsFanIn is made.is_in in absurd e
 source_cases sources drains book chains k n name (FanOut first) now v took gave is made law = let e : IsOut (kind.Lines name) = subst IsOut is made.is_out in absurd e
+source_cases sources drains book chains k n name (Custom first) now v took gave is made law = let e : kind.Lines name ≡ kind.Custom made.name = sym is ∙ made.kind_is in cc
 source_cases sources drains book chains k n name (Entering first) now v took gave is made law = absurd made
 source_cases sources drains book chains k n name (Leaving first) now v took gave is made law = absurd made
 source_cases sources drains book chains k n name (Reading first) now v took gave is made law = absurd law
@@ -64,9 +65,9 @@ module _ {S D L B : Type 0} (sources : S → SourceState) (drains : D → DrainS
       let s = run.joined.source u v ui in
       let same : s.0 ≡ n = some_same s.0 n (sym s.1 ∙ subst (λ (j : ℕ). slice_get g.nodes j ≡ Some n) (sym from) ni) in
       let none : 0 + v.output ≡ v.output = omega arith in
-      let within : v.output < outputs_of n.kind = rw same at s.2 in
+      let within : v.output < outputs_of n = rw same at s.2 in
       let found : find_source k (0 + v.output) g.wires ≡ Some u = rw none (rw from at s.3) in
-      let port : slice_get (gave g a k n) v.output ≡ Some (a.near u).wire.sent = read_there g sent_of a.near k 0 (outputs_of n.kind) v.output u within found in
+      let port : slice_get (gave g a k n) v.output ≡ Some (a.near u).wire.sent = read_there g sent_of a.near k 0 (outputs_of n) v.output u within found in
       sent_lines sources first now (knows g a k n) (took g a k n) (gave g a k n) m.law_holds bytes its.kept its.given whole v.output (a.near u).wire.sent port
 
   -- it sent texts, whatever is told of its file
@@ -78,9 +79,9 @@ module _ {S D L B : Type 0} (sources : S → SourceState) (drains : D → DrainS
       let s = run.joined.source u v ui in
       let same : s.0 ≡ n = some_same s.0 n (sym s.1 ∙ ni) in
       let none : 0 + v.output ≡ v.output = omega arith in
-      let within : v.output < outputs_of n.kind = rw same at s.2 in
+      let within : v.output < outputs_of n = rw same at s.2 in
       let found : find_source v.from (0 + v.output) g.wires ≡ Some u = rw none s.3 in
-      let port : slice_get (gave g a v.from n) v.output ≡ Some (a.near u).wire.sent = read_there g sent_of a.near v.from 0 (outputs_of n.kind) v.output u within found in
+      let port : slice_get (gave g a v.from n) v.output ≡ Some (a.near u).wire.sent = read_there g sent_of a.near v.from 0 (outputs_of n) v.output u within found in
       record {
         texts = law.lines_drawn;
         end = law.end;

@@ -1,13 +1,14 @@
 -- What a node of any kind gives of its law for a picture. A kind more is one line more.
-use Rattle.std.proofs.Common.{◌≡◌, ◌∙◌, ℕ, List, Option, None, Some, map, refl, sym, ap, subst}
+use Rattle.std.proofs.Common.{◌≡◌, ◌∙◌, ℕ, false, List, Option, None, Some, map, refl, sym, ap, subst}
 use Rattle.port_core.specs.View.{View}
 use Rattle.stream_io.specs.State.{SourceState, DrainState}
 use Rattle.stream_model.specs.declared.kind.Kind.{Kind}
+use Rattle.stream_model.specs.declared.kind.Kind.TheVariants as kind
 use Rattle.stream_model.specs.Graph.{Graph}
 use Rattle.stream_model.specs.Graph as graph
 use Rattle.stream_model.specs.Node.{World}
 use Rattle.nodes.specs.declared.node.IslandNode.{IslandNode}
-use Rattle.nodes.specs.declared.node.IslandNode.TheVariants.{Reading, Making, Linear, State, Sub, FanIn, FanOut, Writing, Ignoring, Entering, Leaving}
+use Rattle.nodes.specs.declared.node.IslandNode.TheVariants.{Reading, Making, Linear, State, Sub, FanIn, FanOut, Custom, Writing, Ignoring, Entering, Leaving}
 use Rattle.nodes.specs.declared.sink.Writes.TheVariants.{First}
 use Rattle.nodes.specs.Kinds.{writes_of}
 use Rattle.nodes.specs.Nodes.{node_port_state, node_law, node_asking, node_moves, node_plan}
@@ -24,6 +25,7 @@ use Rattle.run_laws.specs.Ports.{InPort, OutPort, views_of}
 use Rattle.run_laws.specs.Made.{FirstOf}
 use Rattle.run_laws.specs.Telling.{TellsMoves}
 use Rattle.run_laws.specs.Picture.{sink_ended}
+use Rattle.run_laws.proofs.CustomRows.{custom_picture}
 use Rattle.run_laws.proofs.EndRows.{SourceRows, maker_rows, lines_rows, SinkRows, file_sink_rows, ignore_rows, first_wants, source_picture, sink_picture}
 use Rattle.run_laws.proofs.ByPlan.{in_by_plan, out_by_plan}
 use Rattle.run_laws.proofs.Freely.{freely}
@@ -35,7 +37,7 @@ use Rattle.run_laws.proofs.SubRows.{sub_picture}
 use Rattle.run_laws.proofs.LedSubs.{some_followed, subs_picture}
 use Rattle.run_laws.proofs.PictureStages.{sink_ports, ignore_ports}
 
-module _ {S D L B : Type 0} (sources : S → SourceState) (drains : D → DrainState) (g : Graph) (w : World) (plans : Plans) (k : ℕ) (n : graph.Node) where
+module _ {S D L B : Type 0} (sources : S → SourceState) (drains : D → DrainState) (g : Graph) (w : World) (plans : Plans) (k : ℕ) (n : graph.Node) (untold : (name : List ℕ) → n.kind ≡ kind.Custom name → w.customs.tells name ≡ false) where
   abbrev Own : IslandNode S D L B → IslandNode S D L B → List InPort → List OutPort → Type 0
   Own first x is os = PictureLaws node_port_state (node_law sources drains w.book) node_asking node_moves sink_ended g w k n first x is os
 
@@ -74,6 +76,7 @@ module _ {S D L B : Type 0} (sources : S → SourceState) (drains : D → DrainS
   node_picture (Sub first) (Sub x) is os same f t r law = subs_by_plan first x is os first.left refl same f t r law
   node_picture (FanIn first) (FanIn x) is os same f t r law = fan_in_picture sources drains g w plans k n first x is os (in_by_plan g w plans k n first x is os f.begins t same r law)
   node_picture (FanOut first) (FanOut x) is os same f t r law = fan_out_picture sources drains g w plans k n first x is os (out_by_plan g w plans k n first x is os f.begins t same r law)
+  node_picture (Custom first) (Custom x) is os same f t r law = own (Custom first) (Custom x) is os same (custom_picture S D L B sources drains g w k n untold first x is os f)
   node_picture (Writing first) (Writing x) is os same f t r law =
       own (Writing first) (Writing x) is os same (sink_picture L B sources drains g w k n (Writing first) (Writing x) (writes_of n.kind ≡ First) (sink_port_state_in x.started x.end) is os (file_sink_rows g w n.kind f.is_sink) r (sink_ports x.started x.end)
       (λ i ii oo s m is_first. first_wants L B sources drains g w k n first x i (f.writes ∙ is_first) s m))

@@ -62,7 +62,7 @@ module _ {N : Type 0} (port_state : N → View → Type 0) (law : N → N → Vi
     (FirstOf : ℕ → graph.Node → N → Type 0) (Tells : ℕ → N → Type 0) (g : Graph) (w : World) (plans : Plans) (a : Account N) (joined : IsJoined g) (keeps : KeepsLaws port_state law asking moves g a) (made : AllMade FirstOf g a)
     (tells : (k : ℕ) (now : N) → a.nodes k ≡ Some now → Tells k now)
     (hears : (k : ℕ) (n : graph.Node) → slice_get g.nodes k ≡ Some n → HearsAll (knows g a k n) (took g a k n))
-    (pictures : (k : ℕ) (n : graph.Node) (first now : N) (is : List InPort) (os : List OutPort) → a.firsts k ≡ Some first → FirstOf k n first → Tells k now
+    (pictures : (k : ℕ) (n : graph.Node) (first now : N) (is : List InPort) (os : List OutPort) → slice_get g.nodes k ≡ Some n → a.firsts k ≡ Some first → FirstOf k n first → Tells k now
     → port_state now (record { ins = map (λ (i : InPort). i.view) is; outs = map (λ (o : OutPort). o.view) os })
     → law first now (record { ins = map (λ (i : InPort). i.view) is; outs = map (λ (o : OutPort). o.view) os }) (map (λ (i : InPort). i.got) is) (map (λ (o : OutPort). o.sent) os)
     → PictureLawsBy port_state law asking moves has_ended g w plans k n first now is os)
@@ -71,10 +71,10 @@ module _ {N : Type 0} (port_state : N → View → Type 0) (law : N → N → Vi
   counts = picture_counts a g
 
   abbrev pub In : ℕ → graph.Node → List InPort
-  In k n = in_ports a g outlook k (count_from 0 (inputs_of n.kind))
+  In k n = in_ports a g outlook k (count_from 0 (inputs_of n))
 
   abbrev pub Out : ℕ → graph.Node → List OutPort
-  Out k n = out_ports a g outlook k (count_from 0 (outputs_of n.kind))
+  Out k n = out_ports a g outlook k (count_from 0 (outputs_of n))
 
   abbrev pub FoundIn : ℕ → ℕ → Type 0
   FoundIn k p = (u : ℕ) × ((v : Edge) × ((find_wire k p g.wires ≡ Some u) × (slice_get g.wires u ≡ Some v)))
@@ -90,32 +90,32 @@ module _ {N : Type 0} (port_state : N → View → Type 0) (law : N → N → Vi
   AllFoundOut k [] = Unit {0}
   AllFoundOut k (p ∷ ps) = FoundOut k p × AllFoundOut k ps
 
-  found_ins : (k : ℕ) (n : graph.Node) → slice_get g.nodes k ≡ Some n → (q c : ℕ) → q + c ≡ inputs_of n.kind → AllFoundIn k (count_from q c)
+  found_ins : (k : ℕ) (n : graph.Node) → slice_get g.nodes k ≡ Some n → (q c : ℕ) → q + c ≡ inputs_of n → AllFoundIn k (count_from q c)
   found_ins k n e q zero h = tt
   found_ins k n e q (suc c) h =
       let u = joined.each_input k n q e (omega (arith, h)) in
       let f = found_both (λ (x : Edge). x.to) (λ (x : Edge). x.input) k q g.wires u.0 u.1 in
       ((u.0, (f.wire, (u.1, f.at))), found_ins k n e (q + 1) c (omega (arith, h)))
 
-  found_outs : (k : ℕ) (n : graph.Node) → slice_get g.nodes k ≡ Some n → (q c : ℕ) → q + c ≡ outputs_of n.kind → AllFoundOut k (count_from q c)
+  found_outs : (k : ℕ) (n : graph.Node) → slice_get g.nodes k ≡ Some n → (q c : ℕ) → q + c ≡ outputs_of n → AllFoundOut k (count_from q c)
   found_outs k n e q zero h = tt
   found_outs k n e q (suc c) h =
       let u = joined.each_output k n q e (omega (arith, h)) in
       let f = found_both (λ (x : Edge). x.from) (λ (x : Edge). x.output) k q g.wires u.0 u.1 in
       ((u.0, (f.wire, (u.1, f.at))), found_outs k n e (q + 1) c (omega (arith, h)))
 
-  all_in : (k : ℕ) (n : graph.Node) → slice_get g.nodes k ≡ Some n → AllFoundIn k (count_from 0 (inputs_of n.kind))
-  all_in k n e = found_ins k n e 0 (inputs_of n.kind) (omega arith)
+  all_in : (k : ℕ) (n : graph.Node) → slice_get g.nodes k ≡ Some n → AllFoundIn k (count_from 0 (inputs_of n))
+  all_in k n e = found_ins k n e 0 (inputs_of n) (omega arith)
 
-  all_out : (k : ℕ) (n : graph.Node) → slice_get g.nodes k ≡ Some n → AllFoundOut k (count_from 0 (outputs_of n.kind))
-  all_out k n e = found_outs k n e 0 (outputs_of n.kind) (omega arith)
+  all_out : (k : ℕ) (n : graph.Node) → slice_get g.nodes k ≡ Some n → AllFoundOut k (count_from 0 (outputs_of n))
+  all_out k n e = found_outs k n e 0 (outputs_of n) (omega arith)
 
   -- what the input of a wire got is a list and an end, by the law of its node
   heard : (u : ℕ) (v : Edge) → slice_get g.wires u ≡ Some v → (l : List Tree) × ((e : End) × ((a.far u).wire.got ≡ told l e))
   heard u v e =
       let t = joined.target u v e in
       let none : 0 + v.input ≡ v.input = omega arith in
-      let at = in_there g got_of a.far v.to 0 (inputs_of t.0.kind) v.input u t.2 (rw none t.3) in
+      let at = in_there g got_of a.far v.to 0 (inputs_of t.0) v.input u t.2 (rw none t.3) in
       let h = hears v.to t.0 t.1 v.input (a.far u).wire.got at in
       (h.list, (h.end, h.is))
 
@@ -124,35 +124,35 @@ module _ {N : Type 0} (port_state : N → View → Type 0) (law : N → N → Vi
 
   module _ (k : ℕ) (n : graph.Node) (e : slice_get g.nodes k ≡ Some n) where
     views : knows g a k n ≡ record { ins = map (λ (i : InPort). i.view) (In k n); outs = map (λ (o : OutPort). o.view) (Out k n) }
-    views = view_same (reads_in a g outlook k inp_of (λ (i : InPort). i.view) (λ u v. refl) (count_from 0 (inputs_of n.kind)) (all_in k n e)) (reads_out a g outlook k out_of (λ (o : OutPort). o.view) (λ u v. refl) (count_from 0 (outputs_of n.kind)) (all_out k n e))
+    views = view_same (reads_in a g outlook k inp_of (λ (i : InPort). i.view) (λ u v. refl) (count_from 0 (inputs_of n)) (all_in k n e)) (reads_out a g outlook k out_of (λ (o : OutPort). o.view) (λ u v. refl) (count_from 0 (outputs_of n)) (all_out k n e))
 
     tooks : took g a k n ≡ map (λ (i : InPort). i.got) (In k n)
-    tooks = reads_in a g outlook k got_of (λ (i : InPort). i.got) (λ u v. refl) (count_from 0 (inputs_of n.kind)) (all_in k n e)
+    tooks = reads_in a g outlook k got_of (λ (i : InPort). i.got) (λ u v. refl) (count_from 0 (inputs_of n)) (all_in k n e)
 
     gaves : gave g a k n ≡ map (λ (o : OutPort). o.sent) (Out k n)
-    gaves = reads_out a g outlook k sent_of (λ (o : OutPort). o.sent) (λ u v. refl) (count_from 0 (outputs_of n.kind)) (all_out k n e)
+    gaves = reads_out a g outlook k sent_of (λ (o : OutPort). o.sent) (λ u v. refl) (count_from 0 (outputs_of n)) (all_out k n e)
 
     in_wants : ins_wanted g a k n ≡ map (λ (i : InPort). i.want) (In k n)
-    in_wants = reads_in a g outlook k wanted (λ (i : InPort). i.want) (λ u v. refl) (count_from 0 (inputs_of n.kind)) (all_in k n e)
+    in_wants = reads_in a g outlook k wanted (λ (i : InPort). i.want) (λ u v. refl) (count_from 0 (inputs_of n)) (all_in k n e)
 
     out_wants : outs_wanted g a k n ≡ map (λ (o : OutPort). o.want) (Out k n)
-    out_wants = reads_out a g outlook k wanted (λ (o : OutPort). o.want) (λ u v. refl) (count_from 0 (outputs_of n.kind)) (all_out k n e)
+    out_wants = reads_out a g outlook k wanted (λ (o : OutPort). o.want) (λ u v. refl) (count_from 0 (outputs_of n)) (all_out k n e)
 
     out_shuts : outs_shut g a k n ≡ map (λ (o : OutPort). o.wire.shut) (Out k n)
-    out_shuts = reads_out a g outlook k shut_of (λ (o : OutPort). o.wire.shut) (λ u v. refl) (count_from 0 (outputs_of n.kind)) (all_out k n e)
+    out_shuts = reads_out a g outlook k shut_of (λ (o : OutPort). o.wire.shut) (λ u v. refl) (count_from 0 (outputs_of n)) (all_out k n e)
 
-    ins_same : ins g counts outlook k n.kind ≡ map (λ (i : InPort). i.wire) (In k n)
-    ins_same = ins_are a g outlook k (count_from 0 (inputs_of n.kind)) (all_in k n e)
+    ins_same : ins g counts outlook k n ≡ map (λ (i : InPort). i.wire) (In k n)
+    ins_same = ins_are a g outlook k (count_from 0 (inputs_of n)) (all_in k n e)
 
-    outs_same : outs g counts outlook k n.kind ≡ map (λ (o : OutPort). o.wire) (Out k n)
-    outs_same = outs_are a g outlook k (count_from 0 (outputs_of n.kind)) (all_out k n e)
+    outs_same : outs g counts outlook k n ≡ map (λ (o : OutPort). o.wire) (Out k n)
+    outs_same = outs_are a g outlook k (count_from 0 (outputs_of n)) (all_out k n e)
 
     kept : NodeKeeps port_state law asking moves g a k n
     kept = keeps.each_node k n e
 
     -- what its kind tells
     kind : PictureLawsBy port_state law asking moves has_ended g w plans k n kept.first kept.now (In k n) (Out k n)
-    kind = pictures k n kept.first kept.now (In k n) (Out k n) kept.first_at (made k n kept.first e kept.first_at) (tells k kept.now kept.now_at) (subst (λ (v : View). port_state kept.now v) views kept.port_state_holds) (rw (views, tooks, gaves) at kept.law_holds)
+    kind = pictures k n kept.first kept.now (In k n) (Out k n) e kept.first_at (made k n kept.first e kept.first_at) (tells k kept.now kept.now_at) (subst (λ (v : View). port_state kept.now v) views kept.port_state_holds) (rw (views, tooks, gaves) at kept.law_holds)
 
   module _ (passes : AllPass a g outlook) where
     port_in : (u : ℕ) (v : Edge) → slice_get g.wires u ≡ Some v → InStands (in_port a g outlook u v)
@@ -170,16 +170,16 @@ module _ {N : Type 0} (port_state : N → View → Type 0) (law : N → N → Vi
         out_stands u (a.near u) (a.far u) (a.asked u) (outlook u).list sn.0 sn.1 v.keep v.lane (keeps.wires u v e)
 
     ins_stand : (k : ℕ) (n : graph.Node) → slice_get g.nodes k ≡ Some n → EachPort InStands (In k n)
-    ins_stand k n e = each_in a g outlook k InStands port_in (count_from 0 (inputs_of n.kind)) (all_in k n e)
+    ins_stand k n e = each_in a g outlook k InStands port_in (count_from 0 (inputs_of n)) (all_in k n e)
 
     outs_stand : (k : ℕ) (n : graph.Node) → slice_get g.nodes k ≡ Some n → EachPort OutStands (Out k n)
-    outs_stand k n e = each_out a g outlook k OutStands port_out (count_from 0 (outputs_of n.kind)) (all_out k n e)
+    outs_stand k n e = each_out a g outlook k OutStands port_out (count_from 0 (outputs_of n)) (all_out k n e)
 
-    row_lawful : (k : ℕ) (n : graph.Node) (e : slice_get g.nodes k ≡ Some n) → RoleLawfulBy g w plans k (role_of n.kind) n.decider (ins g counts outlook k n.kind) (outs g counts outlook k n.kind)
+    row_lawful : (k : ℕ) (n : graph.Node) (e : slice_get g.nodes k ≡ Some n) → RoleLawfulBy g w plans k (role_of n.kind) n.decider (ins g counts outlook k n) (outs g counts outlook k n)
     row_lawful k n e = rw (ins_same k n e, outs_same k n e) ((kind k n e).lawful (ins_stand k n e) (outs_stand k n e) moments)
       where
-        within : (p : ℕ) → 1 ≤ slice_index_or (ins_wanted g a k n) p 0 → p < inputs_of n.kind
-        within p some = let l = some_within (ins_wanted g a k n) p some in let c = length_ins g wanted a.far k 0 (inputs_of n.kind) in omega (arith, l, c)
+        within : (p : ℕ) → 1 ≤ slice_index_or (ins_wanted g a k n) p 0 → p < inputs_of n
+        within p some = let l = some_within (ins_wanted g a k n) p some in let c = length_ins g wanted a.far k 0 (inputs_of n) in omega (arith, l, c)
 
         moments : (p : ℕ) → 1 ≤ slice_index_or (map (λ (i : InPort). i.want) (In k n)) p 0 → Moments port_state law asking moves (kept k n e).first (kept k n e).now (In k n) (Out k n) p
         moments p some =
@@ -188,16 +188,16 @@ module _ {N : Type 0} (port_state : N → View → Type 0) (law : N → N → Vi
               rw (tooks k n e, gaves k n e, in_wants k n e, out_wants k n e, out_shuts k n e) at ((kept k n e).last p (within p here) here),
             )
 
-    wires_lawful : (k : ℕ) (n : graph.Node) → slice_get g.nodes k ≡ Some n → EachWire WireLawful (ins g counts outlook k n.kind)
+    wires_lawful : (k : ℕ) (n : graph.Node) → slice_get g.nodes k ≡ Some n → EachWire WireLawful (ins g counts outlook k n)
     wires_lawful k n e = rw (ins_same k n e) (each_wire InStands WireLawful (λ i s. (s.within, s.least)) (In k n) (ins_stand k n e))
 
     -- what came at a node's first input was sent to it
-    pub first_sent : (k : ℕ) (n : graph.Node) → slice_get g.nodes k ≡ Some n → elements (slice_index_or (took g a k n) 0 []) ≤ sent_in (ins g counts outlook k n.kind)
+    pub first_sent : (k : ℕ) (n : graph.Node) → slice_get g.nodes k ≡ Some n → elements (slice_index_or (took g a k n) 0 []) ≤ sent_in (ins g counts outlook k n)
     first_sent k n e = rw (tooks k n e, ins_same k n e) (first_came (In k n) (ins_stand k n e))
 
     -- where the order of each valve that acted and follows no moves was given by a trip
     pub all_lawful : ((k : ℕ) (n : graph.Node) (v : List ℕ × ℕ) → slice_get g.nodes k ≡ Some n → plans k ≡ None → valve_order n.kind (w.moves k) ≡ Some v
-        → (trip : ℕ) × (t : graph.Node) × (slice_get g.nodes trip ≡ Some t) × CanTrip v.0 v.1 t.kind (sent_in (ins g counts outlook trip t.kind))) → IsLawfulBy g w plans counts outlook
+        → (trip : ℕ) × (t : graph.Node) × (slice_get g.nodes trip ≡ Some t) × CanTrip v.0 v.1 t.kind (sent_in (ins g counts outlook trip t))) → IsLawfulBy g w plans counts outlook
     all_lawful orders = record { wires = wires_lawful; nodes = row_lawful; valves = orders }
 
   -- ---- where no event is left
@@ -210,12 +210,12 @@ module _ {N : Type 0} (port_state : N → View → Type 0) (law : N → N → Vi
     rest_out u v e = let h = slice_get-below g.wires u v e in out_rests u (a.near u) (a.far u) (a.asked u) (outlook u).list (still.near u h) (still.far u h) (keeps.near_marked u h) (keeps.far_marked u h) v.keep v.lane (still.quiet u v e)
 
     ins_rest : (k : ℕ) (n : graph.Node) → slice_get g.nodes k ≡ Some n → EachPort InRests (In k n)
-    ins_rest k n e = each_in a g outlook k InRests rest_in (count_from 0 (inputs_of n.kind)) (all_in k n e)
+    ins_rest k n e = each_in a g outlook k InRests rest_in (count_from 0 (inputs_of n)) (all_in k n e)
 
     -- where what came at each node may pass by these outlooks
-    pub all_rest : AllPass a g outlook → ((k : ℕ) (n : graph.Node) → slice_get g.nodes k ≡ Some n → AllMayPass (ports_of g w outlook k (count_from 0 (inputs_of n.kind))) (took g a k n)) → RestsBy g w plans counts outlook
+    pub all_rest : AllPass a g outlook → ((k : ℕ) (n : graph.Node) → slice_get g.nodes k ≡ Some n → AllMayPass (ports_of g w outlook k (count_from 0 (inputs_of n))) (took g a k n)) → RestsBy g w plans counts outlook
     all_rest passes came k n e =
-        rw (ins_same k n e, outs_same k n e) ((kind k n e).rests (ports_of g w outlook k (count_from 0 (inputs_of n.kind))) (subst (AllMayPass (ports_of g w outlook k (count_from 0 (inputs_of n.kind)))) (tooks k n e) (came k n e)) (ins_stand passes k n e) (outs_stand passes k n e) (ins_rest k n e) (each_out a g outlook k OutRests rest_out (count_from 0 (outputs_of n.kind)) (all_out k n e)))
+        rw (ins_same k n e, outs_same k n e) ((kind k n e).rests (ports_of g w outlook k (count_from 0 (inputs_of n))) (subst (AllMayPass (ports_of g w outlook k (count_from 0 (inputs_of n)))) (tooks k n e) (came k n e)) (ins_stand passes k n e) (outs_stand passes k n e) (ins_rest k n e) (each_out a g outlook k OutRests rest_out (count_from 0 (outputs_of n)) (all_out k n e)))
 
     -- by the nodes as they are now
     pub all_match : (ended : ℕ → Bool) → ((k : ℕ) (x : N) → a.nodes k ≡ Some x → ended k ≡ has_ended x) → SinksMatch g w counts outlook ended

@@ -7,10 +7,11 @@ use Rattle.elem_core.specs.declared.why.Decider.TheVariants.{Stop}
 use Rattle.port_core.specs.View.{View}
 use Rattle.stream_io.specs.State.{SourceState, DrainState}
 use Rattle.nodes.specs.declared.node.IslandNode.{IslandNode}
-use Rattle.nodes.specs.declared.node.IslandNode.TheVariants.{Reading, Making, Linear, State, Sub, FanIn, FanOut, Writing, Ignoring, Entering, Leaving}
+use Rattle.nodes.specs.declared.node.IslandNode.TheVariants.{Reading, Making, Linear, State, Sub, FanIn, FanOut, Custom, Writing, Ignoring, Entering, Leaving}
 use Rattle.nodes.specs.Nodes.{node_law}
 use Rattle.stream_model.specs.Graph as graph
 use Rattle.stream_model.specs.Linear.{Book}
+use Rattle.graph_stage.proofs.Passing.{inputs_pass}
 use Rattle.run_laws.specs.KindLaws.{HearsAll}
 use Rattle.stream_model.specs.Outlook.{End}
 use Rattle.stream_model.specs.FanIn.{Inflow}
@@ -64,6 +65,9 @@ module _ {S D L B : Type 0} (sources : S → SourceState) (drains : D → DrainS
   node_hears (Sub first) (Sub now) v took gave made law p h at = subs_hear chains k n first now v took gave made law first.left refl p h at
   node_hears (FanIn first) (FanIn now) v took gave made law p h at = in_hears first now v took gave law p h at
   node_hears (FanOut first) (FanOut now) v took gave made law p h at = out_hears book k n.kind first now v took gave made.begins law p h at
+  node_hears (Custom first) (Custom now) v took gave made law p h at =
+      let q = (inputs_pass first now v took gave law).1 p h at in
+      record { list = q.list; end = q.end; is = q.is; as_seen = q.ends }
   node_hears (Writing first) (Writing now) v took gave made law p h at = heard_one v took _ law.took_is (record { list = law.elems; end = law.in_end; is = refl; as_seen = law.took_as }) p h at
   node_hears (Ignoring first) (Ignoring now) v took gave made law p h at = heard_one v took _ law.took_is (record { list = law.elems; end = law.in_end; is = refl; as_seen = law.took_as }) p h at
   node_hears (Entering first) now v took gave made law p h at = absurd made

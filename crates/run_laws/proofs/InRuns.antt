@@ -7,7 +7,7 @@ use Rattle.port_core.specs.View.{View}
 use Rattle.fused_net.proofs.Reading.{get_there}
 use Rattle.stream_model.specs.declared.kind.Kind.{Kind}
 use Rattle.stream_model.specs.declared.kind.Kind.TheVariants.{Merge, MergeHub, Concat, Interleave, MergeSorted, Zip}
-use Rattle.stream_model.specs.Composed.{inputs_of}
+use Rattle.stream_model.specs.Composed.{inputs_by, inputs_of}
 use Rattle.stream_model.specs.FanIn.{Inflow, AllAgree}
 use Rattle.stream_model.specs.Graph.{Graph}
 use Rattle.stream_model.specs.Graph as graph
@@ -38,26 +38,26 @@ pass_length [] (h ∷ hs) a = absurd a
 pass_length (o ∷ os) [] a = absurd a
 pass_length (o ∷ os) (h ∷ hs) a = ap suc (pass_length os hs a.1)
 
-same_inputs : (kd : Kind) (first : InLogic) → TakesAs kd first → inputs_of kd ≡ stage.inputs_of kd
-same_inputs (Concat n) (logic.Taking f) t = refl
-same_inputs (Interleave n s) (logic.Taking f) t = refl
-same_inputs MergeSorted (logic.Sorting f) t = refl
-same_inputs Zip (logic.Zipping f) t = refl
-same_inputs (Merge n) (logic.Merging f) t = refl
-same_inputs (MergeHub s n) (logic.Merging f) t = refl
-same_inputs kd first t = absurd t
+same_inputs : (head : ℕ × ℕ) (kd : Kind) (first : InLogic) → TakesAs kd first → inputs_by head kd ≡ stage.inputs_of kd
+same_inputs head (Concat n) (logic.Taking f) t = refl
+same_inputs head (Interleave n s) (logic.Taking f) t = refl
+same_inputs head MergeSorted (logic.Sorting f) t = refl
+same_inputs head Zip (logic.Zipping f) t = refl
+same_inputs head (Merge n) (logic.Merging f) t = refl
+same_inputs head (MergeHub s n) (logic.Merging f) t = refl
+same_inputs head kd first t = absurd t
 
 pub one_given : (x h : List Item) (p : ℕ) → slice_get (x ∷ []) p ≡ Some h → (p ≡ 0) × (h ≡ x)
 one_given x h zero e = let same : x ≡ h = cc in (refl, sym same)
 one_given x h (suc p) e = cc
 
-module _ (g : Graph) (w : World) (k : ℕ) (n : graph.Node) (first now : InLogic) (v : View) (took gave : List (List Item)) (b : Begins k n.kind n.decider first) (many : length took ≡ inputs_of n.kind) (tells : TellsMoves w k now) (law : InLaw first now v took gave) where
+module _ (g : Graph) (w : World) (k : ℕ) (n : graph.Node) (first now : InLogic) (v : View) (took gave : List (List Item)) (b : Begins k n.kind n.decider first) (many : length took ≡ inputs_of n) (tells : TellsMoves w k now) (law : InLaw first now v took gave) where
   gives : (os : List Outlook) → AllMayPass os took → (p : ℕ) (h : List Item) → slice_get gave p ≡ Some h → AgreesWith (node_outlook g w k n.kind n.decider os p) h
   gives os a p h at =
       let one = one_given law.by.given h p (subst (λ (hs : List (List Item)). slice_get hs p ≡ Some h) law.by.gave_is at) in
       let l = law.by.law in
       let agree = all_agree os took l.ins (l.ports ∙ sym law.by.ports) l.took_is a in
-      let is = pass_length os took a ∙ (many ∙ same_inputs n.kind first b.takes) in
+      let is = pass_length os took a ∙ (many ∙ same_inputs n.head n.kind first b.takes) in
       record {
         list = l.out_list;
         end = l.out_end;

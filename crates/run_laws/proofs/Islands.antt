@@ -80,10 +80,10 @@ module _ {S D L B : Type 0} (sources : S → SourceState) (drains : D → DrainS
 
   module _ (is_joined : IsJoined g) where
     -- a node has as many inputs in the island as its kind has
-    ins_count : (k : ℕ) (n : graph.Node) → slice_get g.nodes k ≡ Some n → length (ports_at net k).ins ≡ inputs_of n.kind
-    ins_count k n e = as_long (ports_at net k).ins (inputs_of n.kind) most least
+    ins_count : (k : ℕ) (n : graph.Node) → slice_get g.nodes k ≡ Some n → length (ports_at net k).ins ≡ inputs_of n
+    ins_count k n e = as_long (ports_at net k).ins (inputs_of n) most least
       where
-        most : (p : ℕ) → p < inputs_of n.kind → p < length (ports_at net k).ins
+        most : (p : ℕ) → p < inputs_of n → p < length (ports_at net k).ins
         most p h =
             let u = is_joined.each_input k n p e h in
             let f = found_both (λ (x : Edge). x.to) (λ (x : Edge). x.input) k p g.wires u.0 u.1 in
@@ -91,7 +91,7 @@ module _ {S D L B : Type 0} (sources : S → SourceState) (drains : D → DrainS
             let slot : slice_get (port_at net.ports k).ins p ≡ Some u.0 = rw (w.to ∙ f.here, w.input ∙ f.port_is) at (settled.wired.to_input u.0 (below u.0 f.wire f.at)) in
             get_within (ports_at net k).ins p u.0 slot
 
-        least : (p : ℕ) → p < length (ports_at net k).ins → p < inputs_of n.kind
+        least : (p : ℕ) → p < length (ports_at net k).ins → p < inputs_of n
         least p h =
             let q = get_there (ports_at net k).ins p h in
             let t = settled.wired.input_to k p q.0 (within k n e) q.1 in
@@ -103,10 +103,10 @@ module _ {S D L B : Type 0} (sources : S → SourceState) (drains : D → DrainS
             let same : j.0 ≡ n = some_same j.0 n (sym j.1 ∙ subst (λ (i : ℕ). slice_get g.nodes i ≡ Some n) (sym to) e) in
             rw (input, same) at j.2
 
-    outs_count : (k : ℕ) (n : graph.Node) → slice_get g.nodes k ≡ Some n → length (ports_at net k).outs ≡ outputs_of n.kind
-    outs_count k n e = as_long (ports_at net k).outs (outputs_of n.kind) most least
+    outs_count : (k : ℕ) (n : graph.Node) → slice_get g.nodes k ≡ Some n → length (ports_at net k).outs ≡ outputs_of n
+    outs_count k n e = as_long (ports_at net k).outs (outputs_of n) most least
       where
-        most : (p : ℕ) → p < outputs_of n.kind → p < length (ports_at net k).outs
+        most : (p : ℕ) → p < outputs_of n → p < length (ports_at net k).outs
         most p h =
             let u = is_joined.each_output k n p e h in
             let f = found_both (λ (x : Edge). x.from) (λ (x : Edge). x.output) k p g.wires u.0 u.1 in
@@ -114,7 +114,7 @@ module _ {S D L B : Type 0} (sources : S → SourceState) (drains : D → DrainS
             let slot : slice_get (port_at net.ports k).outs p ≡ Some u.0 = rw (w.from ∙ f.here, w.output ∙ f.port_is) at (settled.wired.from_output u.0 (below u.0 f.wire f.at)) in
             get_within (ports_at net k).outs p u.0 slot
 
-        least : (p : ℕ) → p < length (ports_at net k).outs → p < outputs_of n.kind
+        least : (p : ℕ) → p < length (ports_at net k).outs → p < outputs_of n
         least p h =
             let q = get_there (ports_at net k).outs p h in
             let t = settled.wired.output_from k p q.0 (within k n e) q.1 in

@@ -42,6 +42,7 @@ pub mod Stages
 pub mod States
 pub mod Writings
 pub mod Makings
+pub mod Customs
 pub mod AnyKind
 pub mod ServingNodes
 pub mod Replaying
@@ -77,6 +78,7 @@ pub mod FanRows
 pub mod Freely
 pub mod Led
 pub mod ByPlan
+pub mod CustomRows
 pub mod AnyPicture
 pub mod PictureOrders
 pub mod PictureRests

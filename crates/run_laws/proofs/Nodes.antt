@@ -17,7 +17,7 @@ module _ {N : Type 0} (port_state : N → View → Type 0) (law : N → N → Vi
   pub record KeptAs (k : ℕ) (n : graph.Node) (first now : N) : Type 0 where
     pub port_state_holds : port_state now (knows g a k n)
     pub law_holds : law first now (knows g a k n) (took g a k n) (gave g a k n)
-    pub asks : (p : ℕ) → p < inputs_of n.kind → 1 ≤ slice_index_or (ins_wanted g a k n) p 0 → Earlier port_state law asking moves p first now (took g a k n) (gave g a k n) (ins_wanted g a k n) (outs_wanted g a k n) (outs_shut g a k n)
+    pub asks : (p : ℕ) → p < inputs_of n → 1 ≤ slice_index_or (ins_wanted g a k n) p 0 → Earlier port_state law asking moves p first now (took g a k n) (gave g a k n) (ins_wanted g a k n) (outs_wanted g a k n) (outs_shut g a k n)
 
   pub kept_as : KeepsLaws port_state law asking moves g a → (k : ℕ) (n : graph.Node) (first now : N) → slice_get g.nodes k ≡ Some n → a.firsts k ≡ Some first → a.nodes k ≡ Some now → KeptAs k n first now
   kept_as keeps k n first now e f x =
@@ -30,11 +30,11 @@ below_one : (p n : ℕ) → p < n → n ≡ 1 → p ≡ 0
 below_one p n h e = omega (arith, h, e)
 
 -- the one input of a node is at the wire that goes there
-pub one_input : (g : Graph) → IsJoined g → (k : ℕ) (n : graph.Node) (u : ℕ) (v : Edge) → slice_get g.nodes k ≡ Some n → inputs_of n.kind ≡ 1 → slice_get g.wires u ≡ Some v → v.to ≡ k → find_wire k 0 g.wires ≡ Some u
+pub one_input : (g : Graph) → IsJoined g → (k : ℕ) (n : graph.Node) (u : ℕ) (v : Edge) → slice_get g.nodes k ≡ Some n → inputs_of n ≡ 1 → slice_get g.wires u ≡ Some v → v.to ≡ k → find_wire k 0 g.wires ≡ Some u
 one_input g joined k n u v ni one ui to =
     let t = joined.target u v ui in
     let same : t.0 ≡ n = some_same t.0 n (sym t.1 ∙ (subst (λ (j : ℕ). slice_get g.nodes j ≡ Some n) (sym to) ni)) in
-    let first : v.input ≡ 0 = below_one v.input (inputs_of t.0.kind) t.2 (rw same one) in
+    let first : v.input ≡ 0 = below_one v.input (inputs_of t.0) t.2 (rw same one) in
     rw (to, first) at t.3
 
 pub read_one : {X : Type 0} (g : Graph) (f : WireState → X) (cells : ℕ → WireState) (k n u : ℕ) → n ≡ 1 → find_wire k 0 g.wires ≡ Some u → read_ins g f cells k (count_from 0 n) ≡ f (cells u) ∷ []

@@ -1,5 +1,5 @@
 -- What was sent on every wire of a run agrees with the outlook of that wire, and so does what every node took.
-use Rattle.std.proofs.Common.{◌≡◌, ◌≢◌, ℕ, ◌<◌, true, List, length}
+use Rattle.std.proofs.Common.{◌≡◌, ◌≢◌, ℕ, ◌<◌, true, List, length, refl, ap, ◌∙◌}
 use Rattle.std.specs.Prelude.{slice_get, Some}
 use Rattle.stream_model.specs.Graph.{Graph, Edge}
 use Rattle.stream_model.specs.Outlook.{Outlook}
@@ -8,9 +8,10 @@ use Rattle.stream_model.specs.Fits.{moves_fit, inputs}
 use Rattle.stream_model.specs.Graph as graph
 use Rattle.stream_model.specs.Node.{World}
 use Rattle.stream_model.specs.Composed.{inputs_of, count_from, ports_of, next, composed, IsRanked}
+use Rattle.graph_stage.specs.State.{CustomState}
 use Rattle.stream_io.specs.State.{SourceState, DrainState}
 use Rattle.nodes.specs.declared.node.IslandNode.{IslandNode}
-use Rattle.nodes.specs.declared.node.IslandNode.TheVariants.{Reading}
+use Rattle.nodes.specs.declared.node.IslandNode.TheVariants.{Reading, Custom}
 use Rattle.nodes.specs.Nodes.{node_port_state, node_law, node_asking, node_moves}
 use Rattle.run_laws.specs.Account.{Account, took}
 use Rattle.run_laws.specs.Items.{AllMayPass, AgreesWith}
@@ -19,7 +20,7 @@ use Rattle.stream_model.proofs.Compositions.{slice_get-below}
 use Rattle.run_laws.specs.Pictures.{AllAgreeWith}
 use Rattle.run_laws.specs.Made.{FirstOf}
 use Rattle.run_laws.specs.Runs.{IsRun}
-use Rattle.run_laws.specs.Telling.{TellsNode, TellsMoves, TellsPicks, WorldTells}
+use Rattle.run_laws.specs.Telling.{TellsNode, TellsMoves, TellsPicks, TellsGave, TellsCustoms, WorldTells}
 use Rattle.run_laws.proofs.AnyKind.{node_laws}
 
 module _ {S D L B : Type 0} (sources : S → SourceState) (drains : D → DrainState) (g : Graph) (w : World) (a : Account (IslandNode S D L B)) (run : IsRun sources drains w.book g a) (tells : WorldTells sources g w a) (rank : ℕ → ℕ) (ranked : IsRanked g rank) where
@@ -31,7 +32,7 @@ module _ {S D L B : Type 0} (sources : S → SourceState) (drains : D → DrainS
   every_wire_of = every_wire node_port_state (node_law sources drains w.book) node_asking node_moves (FirstOf sources g.chains) (λ v k n first now. TellsNode sources v n first now × TellsMoves v k now) g w
       (λ k n first now v took gave made each many law. node_laws sources drains g w k n first now v took gave made each many law) a run.joined run.keeps run.made told rank ranked
 
-  pub every_input_of : (k : ℕ) (n : graph.Node) → slice_get g.nodes k ≡ Some n → AllMayPass (ports_of g w (composed g w) k (count_from 0 (inputs_of n.kind))) (took g a k n)
+  pub every_input_of : (k : ℕ) (n : graph.Node) → slice_get g.nodes k ≡ Some n → AllMayPass (ports_of g w (composed g w) k (count_from 0 (inputs_of n))) (took g a k n)
   every_input_of = every_input node_port_state (node_law sources drains w.book) node_asking node_moves (FirstOf sources g.chains) (λ v k n first now. TellsNode sources v n first now × TellsMoves v k now) g w
       (λ k n first now v took gave made each many law. node_laws sources drains g w k n first now v took gave made each many law) a run.joined run.keeps run.made told rank ranked
 
@@ -40,23 +41,44 @@ module _ {S D L B : Type 0} (sources : S → SourceState) (drains : D → DrainS
   every_move_fits = all_fit node_port_state (node_law sources drains w.book) node_asking node_moves (FirstOf sources g.chains) (λ v k n first now. TellsNode sources v n first now × TellsMoves v k now) g w
       (λ k n first now v took gave made each many law. node_laws sources drains g w k n first now v took gave made each many law) a run.joined run.keeps run.made told rank ranked
 
--- what the world tells of a node that is no source of lines
-no_lines : {S D L B : Type 0} (sources : S → SourceState) (w : World) (n : graph.Node) (first now : IslandNode S D L B) → ((name : List ℕ) → n.kind ≢ kind.Lines name) → TellsNode sources w n first now
-no_lines sources w n (Reading first) (Reading now) other = λ name is. absurd (other name is)
-no_lines sources w n _ _ other = tt
+-- what the world tells of a node that is no source of lines and no custom stage
+neither : {S D L B : Type 0} (sources : S → SourceState) (chains : List graph.Chain) (w : World) (k : ℕ) (n : graph.Node) (first now : IslandNode S D L B) → ((name : List ℕ) → n.kind ≢ kind.Lines name) → ((name : List ℕ) → n.kind ≢ kind.Custom name)
+    → FirstOf sources chains k n first → TellsNode sources w n first now
+neither sources chains w k n (Reading first) (Reading now) other hired made = λ name is. absurd (other name is)
+neither sources chains w k n (Custom first) (Custom now) other hired made = absurd (hired made.name made.kind_is)
+neither sources chains w k n _ _ other hired made = tt
+
+-- what it tells of one that is no source of lines, where it tells what a custom stage gave
+no_lines : {S D L B : Type 0} (sources : S → SourceState) (w : World) (n : graph.Node) (first now : IslandNode S D L B) → ((name : List ℕ) → n.kind ≢ kind.Lines name) → ((x : CustomState) → now ≡ Custom x → TellsGave w n x)
+    → TellsNode sources w n first now
+no_lines sources w n (Reading first) (Reading now) other gave = λ name is. absurd (other name is)
+no_lines sources w n (Custom first) (Custom now) other gave = gave now refl
+no_lines sources w n _ _ other gave = tt
 
 module _ {S D L B : Type 0} (sources : S → SourceState) (drains : D → DrainState) (g : Graph) (w : World) (a : Account (IslandNode S D L B)) (run : IsRun sources drains w.book g a) (chose : TellsPicks w a) where
-  -- what was sent on a wire from a node that is no source of lines, by any outlooks with which what came to it agrees
-  pub given_of : (sent : ℕ → Outlook) (j : ℕ) (v : Edge) (n : graph.Node) → slice_get g.wires j ≡ Some v → slice_get g.nodes v.from ≡ Some n → ((name : List ℕ) → n.kind ≢ kind.Lines name)
+  -- what was sent on a wire from a node of which the world tells, by any outlooks with which what came to it agrees
+  given_where : (sent : ℕ → Outlook) (j : ℕ) (v : Edge) (n : graph.Node) → slice_get g.wires j ≡ Some v → slice_get g.nodes v.from ≡ Some n
+      → ((first now : IslandNode S D L B) → a.firsts v.from ≡ Some first → a.nodes v.from ≡ Some now → TellsNode sources w n first now)
       → ((u : ℕ) (x : Edge) → slice_get g.wires u ≡ Some x → x.to ≡ v.from → AgreesWith (sent u) (a.near u).wire.sent) → AgreesWith (next g w sent j) (a.near j).wire.sent
-  given_of sent j v n vi ni other b =
+  given_where sent j v n vi ni tells b =
       gives_by node_port_state (node_law sources drains w.book) node_asking node_moves (FirstOf sources g.chains) (λ x k m first now. TellsNode sources x m first now × TellsMoves x k now) g w
       (λ k m first now view took gave made told many law. node_laws sources drains g w k m first now view took gave made told many law) a run.joined run.keeps run.made sent j v n vi ni
-      (λ first now fi xi. (no_lines sources w n first now other, chose v.from now xi)) b
+      (λ first now fi xi. (tells first now fi xi, chose v.from now xi)) b
+
+  -- from a node that is no source of lines and no custom stage
+  pub given_of : (sent : ℕ → Outlook) (j : ℕ) (v : Edge) (n : graph.Node) → slice_get g.wires j ≡ Some v → slice_get g.nodes v.from ≡ Some n → ((name : List ℕ) → n.kind ≢ kind.Lines name) → ((name : List ℕ) → n.kind ≢ kind.Custom name)
+      → ((u : ℕ) (x : Edge) → slice_get g.wires u ≡ Some x → x.to ≡ v.from → AgreesWith (sent u) (a.near u).wire.sent) → AgreesWith (next g w sent j) (a.near j).wire.sent
+  given_of sent j v n vi ni other hired b = given_where sent j v n vi ni (λ first now fi xi. neither sources g.chains w v.from n first now other hired (run.made v.from n first ni fi)) b
+
+  -- from one that is no source of lines, where the world tells what custom stages gave
+  pub given_told : TellsCustoms g w a → (sent : ℕ → Outlook) (j : ℕ) (v : Edge) (n : graph.Node) → slice_get g.wires j ≡ Some v → slice_get g.nodes v.from ≡ Some n → ((name : List ℕ) → n.kind ≢ kind.Lines name)
+      → ((u : ℕ) (x : Edge) → slice_get g.wires u ≡ Some x → x.to ≡ v.from → AgreesWith (sent u) (a.near u).wire.sent) → AgreesWith (next g w sent j) (a.near j).wire.sent
+  given_told gave sent j v n vi ni other b =
+      given_where sent j v n vi ni (λ first now fi xi. no_lines sources w n first now other (λ x e. gave v.from n x ni (xi ∙ ap (λ (y : IslandNode S D L B). Some y) e))) b
 
   -- what every node took, by any outlooks with which what was sent agrees
-  pub came_of : (outlook : ℕ → Outlook) → AllAgreeWith a g outlook → (k : ℕ) (n : graph.Node) → slice_get g.nodes k ≡ Some n → AllMayPass (ports_of g w outlook k (count_from 0 (inputs_of n.kind))) (took g a k n)
+  pub came_of : (outlook : ℕ → Outlook) → AllAgreeWith a g outlook → (k : ℕ) (n : graph.Node) → slice_get g.nodes k ≡ Some n → AllMayPass (ports_of g w outlook k (count_from 0 (inputs_of n))) (took g a k n)
   came_of outlook agree k n e =
       inputs_pass node_port_state (node_law sources drains w.book) node_asking node_moves (FirstOf sources g.chains) (λ x k m first now. TellsNode sources x m first now × TellsMoves x k now) g w
-      (λ k m first now view took gave made told many law. node_laws sources drains g w k m first now view took gave made told many law) a run.joined run.keeps run.made outlook k (count_from 0 (inputs_of n.kind))
+      (λ k m first now view took gave made told many law. node_laws sources drains g w k m first now view took gave made told many law) a run.joined run.keeps run.made outlook k (count_from 0 (inputs_of n))
       (λ u v at to. list_agrees (outlook u) (a.near u).wire.sent (agree u (slice_get-below g.wires u v at)))

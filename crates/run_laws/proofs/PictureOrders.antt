@@ -24,7 +24,7 @@ use Rattle.stage_state.specs.declared.logic.StateLogic.TheVariants.{Machine, Dro
 use Rattle.stage_state.specs.Handling.{StateLaw}
 use Rattle.stage_state.specs.Moves.{state_seat, state_plan}
 use Rattle.nodes.specs.declared.node.IslandNode.{IslandNode}
-use Rattle.nodes.specs.declared.node.IslandNode.TheVariants.{Reading, Making, Linear, State, Sub, FanIn, FanOut, Writing, Ignoring, Entering, Leaving}
+use Rattle.nodes.specs.declared.node.IslandNode.TheVariants.{Reading, Making, Linear, State, Sub, FanIn, FanOut, Custom, Writing, Ignoring, Entering, Leaving}
 use Rattle.nodes.specs.Nodes.{node_law, node_plan, node_seat}
 use Rattle.run_laws.specs.Account.{Account, knows, took, gave}
 use Rattle.run_laws.specs.Items.{AllMayPass}
@@ -99,6 +99,7 @@ module _ (w : World) (k : ℕ) (n : graph.Node) (plan : Option (List ℕ)) (v : 
   node_told sources drains book chains first (Sub now) made follows told law s at = absurd (no_seat s at)
   node_told sources drains book chains first (FanIn now) made follows told law s at = absurd (no_seat s at)
   node_told sources drains book chains first (FanOut now) made follows told law s at = absurd (no_seat s at)
+  node_told sources drains book chains first (Custom now) made follows told law s at = absurd (no_seat s at)
   node_told sources drains book chains first (Writing now) made follows told law s at = absurd (no_seat s at)
   node_told sources drains book chains first (Ignoring now) made follows told law s at = absurd (no_seat s at)
   node_told sources drains book chains first (Entering now) made follows told law s at = absurd (no_seat s at)

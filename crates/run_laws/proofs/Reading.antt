@@ -96,7 +96,7 @@ module _ {N : Type 0} (g : Graph) (nets : ℕ → Net N) (s : Seats) (joined : I
 
   -- so what the node reads there, off these nets or off others with the same wiring
   pub read_in : {X : Type 0} (f : WireState → X) (cells : ℕ → List WireState) (k : ℕ) (n : graph.Node) → slice_get g.nodes k ≡ Some n
-      → read_all f (cells (s.node k).island) (ports_at (nets (s.node k).island) (s.node k).at).ins ≡ read_ins g f (λ u. get_or (cells (s.far u).island) (s.far u).at no_wire) k (count_from 0 (inputs_of n.kind))
+      → read_all f (cells (s.node k).island) (ports_at (nets (s.node k).island) (s.node k).at).ins ≡ read_ins g f (λ u. get_or (cells (s.far u).island) (s.far u).at no_wire) k (count_from 0 (inputs_of n))
   read_in f cells k n e =
       let ws = (ports_at (nets (s.node k).island) (s.node k).at).ins in
       subst (λ (c : ℕ). read_all f (cells (s.node k).island) ws ≡ read_ins g f (λ u. get_or (cells (s.far u).island) (s.far u).at no_wire) k (count_from 0 c)) (covers.ins k n e)
@@ -105,7 +105,7 @@ module _ {N : Type 0} (g : Graph) (nets : ℕ → Net N) (s : Seats) (joined : I
       slot : (p q : ℕ) → slice_get (ports_at (nets (s.node k).island) (s.node k).at).ins p ≡ Some q → p < length (ports_at (nets (s.node k).island) (s.node k).at).ins
           → get_or (cells (s.node k).island) q no_wire ≡ cell_by (λ u. get_or (cells (s.far u).island) (s.far u).at no_wire) (find_wire k (0 + p) g.wires)
       slot p q at h =
-          let many : length (ports_at (nets (s.node k).island) (s.node k).at).ins ≡ inputs_of n.kind = covers.ins k n e in
+          let many : length (ports_at (nets (s.node k).island) (s.node k).at).ins ≡ inputs_of n = covers.ins k n e in
           let i = joined.each_input k n p e (omega (arith, many, h)) in
           let there = far_slot k n p i.0 e i.1 in
           let same : q ≡ (s.far i.0).at = some_same q (s.far i.0).at (sym at ∙ there.1.1) in
@@ -113,7 +113,7 @@ module _ {N : Type 0} (g : Graph) (nets : ℕ → Net N) (s : Seats) (joined : I
           rw (none, i.1, there.0, same) refl
 
   pub read_out : {X : Type 0} (f : WireState → X) (cells : ℕ → List WireState) (k : ℕ) (n : graph.Node) → slice_get g.nodes k ≡ Some n
-      → read_all f (cells (s.node k).island) (ports_at (nets (s.node k).island) (s.node k).at).outs ≡ read_outs g f (λ u. get_or (cells (s.near u).island) (s.near u).at no_wire) k (count_from 0 (outputs_of n.kind))
+      → read_all f (cells (s.node k).island) (ports_at (nets (s.node k).island) (s.node k).at).outs ≡ read_outs g f (λ u. get_or (cells (s.near u).island) (s.near u).at no_wire) k (count_from 0 (outputs_of n))
   read_out f cells k n e =
       let ws = (ports_at (nets (s.node k).island) (s.node k).at).outs in
       subst (λ (c : ℕ). read_all f (cells (s.node k).island) ws ≡ read_outs g f (λ u. get_or (cells (s.near u).island) (s.near u).at no_wire) k (count_from 0 c)) (covers.outs k n e)
@@ -122,7 +122,7 @@ module _ {N : Type 0} (g : Graph) (nets : ℕ → Net N) (s : Seats) (joined : I
       slot : (p q : ℕ) → slice_get (ports_at (nets (s.node k).island) (s.node k).at).outs p ≡ Some q → p < length (ports_at (nets (s.node k).island) (s.node k).at).outs
           → get_or (cells (s.node k).island) q no_wire ≡ cell_by (λ u. get_or (cells (s.near u).island) (s.near u).at no_wire) (find_source k (0 + p) g.wires)
       slot p q at h =
-          let many : length (ports_at (nets (s.node k).island) (s.node k).at).outs ≡ outputs_of n.kind = covers.outs k n e in
+          let many : length (ports_at (nets (s.node k).island) (s.node k).at).outs ≡ outputs_of n = covers.outs k n e in
           let i = joined.each_output k n p e (omega (arith, many, h)) in
           let there = near_slot k n p i.0 e i.1 in
           let same : q ≡ (s.near i.0).at = some_same q (s.near i.0).at (sym at ∙ there.1.1) in

@@ -33,7 +33,7 @@ module _ {S D L B : Type 0} (sources : S → SourceState) (drains : D → DrainS
 
   came_in : (k : ℕ) (n : graph.Node) → ((u : ℕ) (v : Edge) → slice_get g.wires u ≡ Some v → v.to ≡ k → SentSo u) → AllMayPass (inputs g w k n) (took g a k n)
   came_in k n b =
-      inputs_pass node_port_state (node_law sources drains w.book) node_asking node_moves (λ i m x. ⊤) (λ v i m first now. ⊥) g w (λ i m first now v t o made tells many law. absurd tells) a run.joined run.keeps (λ i m first at there. tt) (composed g w) k (count_from 0 (inputs_of n.kind)) b
+      inputs_pass node_port_state (node_law sources drains w.book) node_asking node_moves (λ i m x. ⊤) (λ v i m first now. ⊥) g w (λ i m first now v t o made tells many law. absurd tells) a run.joined run.keeps (λ i m first at there. tt) (composed g w) k (count_from 0 (inputs_of n)) b
 
   wire_agrees : (j : ℕ) → j < length g.wires → ((i : ℕ) → i < length g.wires → rank i < rank j → SentSo i) → AgreesWith (next g w (composed g w) j) (a.near j).wire.sent
   wire_agrees j hj below =
@@ -44,11 +44,11 @@ module _ {S D L B : Type 0} (sources : S → SourceState) (drains : D → DrainS
       let m = run.keeps.each_node k n source.1 in
       let within = source.2 in
       let none : 0 + v.0.output ≡ v.0.output = omega arith in
-      let at : slice_get (gave g a k n) v.0.output ≡ Some (a.near j).wire.sent = read_there g sent_of a.near k 0 (outputs_of n.kind) v.0.output j within (rw none source.3) in
-      let some : 0 < outputs_of n.kind = omega (arith, within) in
+      let at : slice_get (gave g a k n) v.0.output ≡ Some (a.near j).wire.sent = read_there g sent_of a.near k 0 (outputs_of n) v.0.output j within (rw none source.3) in
+      let some : 0 < outputs_of n = omega (arith, within) in
       let comes = came_in k n (λ u x ux to. below u (slice_get-below g.wires u x ux) (ranked.rises u j x v.0 ux v.1 to)) in
       let gives = node_serves sources drains g w k n m.first m.now (knows g a k n) (took g a k n) (gave g a k n) (run.made k n m.first source.1 m.first_at) (files k n m.first m.now source.1 m.first_at m.now_at, serves k n m.first m.now source.1 m.first_at m.now_at)
-      (length_ins g got_of a.far k 0 (inputs_of n.kind)) m.law_holds some comes in
+      (length_ins g got_of a.far k 0 (inputs_of n)) m.law_holds some comes in
       rw (v.1, source.1) (gives v.0.output (a.near j).wire.sent at)
 
   sent_agrees : (i : ℕ) → i < length g.wires → SentSo i
@@ -60,5 +60,5 @@ module _ {S D L B : Type 0} (sources : S → SourceState) (drains : D → DrainS
   every_wire_serves i hi = subst (λ (o : Outlook). AgreesWith o (a.near i).wire.sent) (composed_composes g w rank ranked i hi) (wire_agrees i hi (λ u hu r. sent_agrees u hu))
 
   -- and what every node took
-  pub every_input_serves : (k : ℕ) (n : graph.Node) → slice_get g.nodes k ≡ Some n → AllMayPass (ports_of g w (composed g w) k (count_from 0 (inputs_of n.kind))) (took g a k n)
+  pub every_input_serves : (k : ℕ) (n : graph.Node) → slice_get g.nodes k ≡ Some n → AllMayPass (ports_of g w (composed g w) k (count_from 0 (inputs_of n))) (took g a k n)
   every_input_serves k n e = came_in k n (λ u v ui to. sent_agrees u (slice_get-below g.wires u v ui))

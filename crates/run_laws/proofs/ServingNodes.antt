@@ -249,7 +249,7 @@ module _ (g : Graph) (w : World) (k : ℕ) (n : graph.Node) where
       record { list = l; end = e; is = one.1 ∙ is; agrees = subst (λ q. Agrees (node_outlook g w k n.kind n.decider comes q) l e) (sym one.0) a }
 
   module _ (plan : List ℕ) (is : w.moves k ≡ plan) (fit : moves_fit g w k n.kind comes ≡ true) (sure : IsSureAt g w k n) where
-    in_serves : (first now : InLogic) (v : View) (took gave : List (List Item)) → TakesAs n.kind first → in_plan first ≡ Some plan → 0 < outputs_of n.kind → InLaw first now v took gave → AllMayPass comes took → GivesSo gave
+    in_serves : (first now : InLogic) (v : View) (took gave : List (List Item)) → TakesAs n.kind first → in_plan first ≡ Some plan → 0 < outputs_of n → InLaw first now v took gave → AllMayPass comes took → GivesSo gave
     in_serves (logic.Merging first) (logic.Merging now) v took gave takes follows out law a =
         let x = law.by.law in
         let flows = flows_agree _ v took gave comes law.by a in
@@ -259,7 +259,7 @@ module _ (g : Graph) (w : World) (k : ℕ) (n : graph.Node) where
     in_serves (logic.Sorting first) now v took gave takes follows out law a = absurd (no_calm follows)
     in_serves (logic.Zipping first) now v took gave takes follows out law a = absurd (no_calm follows)
 
-    out_serves : (first now : OutLogic) (v : View) (took gave : List (List Item)) → fan_out.BeginsAs k n.kind first → out_plan first ≡ Some plan → 0 < outputs_of n.kind → OutLaw first now v took gave → AllMayPass comes took → GivesSo gave
+    out_serves : (first now : OutLogic) (v : View) (took gave : List (List Item)) → fan_out.BeginsAs k n.kind first → out_plan first ≡ Some plan → 0 < outputs_of n → OutLaw first now v took gave → AllMayPass comes took → GivesSo gave
     out_serves (Balances first) (Balances now) v took gave begins follows out law a = λ p h at.
         let within = slice_get_within gave p h at in
         let ports = law.ports in
@@ -272,7 +272,7 @@ module _ (g : Graph) (w : World) (k : ℕ) (n : graph.Node) where
     out_serves (Machines first) now v took gave begins follows out law a = absurd (no_calm follows)
     out_serves (Balances first) now v took gave begins follows out law a = absurd law
 
-    state_serves : (first now : StateLogic) (v : View) (took gave : List (List Item)) → LedAs n.kind k n.decider first → state_plan first ≡ Some plan → 0 < outputs_of n.kind → StateLaw first now v took gave → AllMayPass comes took → GivesSo gave
+    state_serves : (first now : StateLogic) (v : View) (took gave : List (List Item)) → LedAs n.kind k n.decider first → state_plan first ≡ Some plan → 0 < outputs_of n → StateLaw first now v took gave → AllMayPass comes took → GivesSo gave
     state_serves (Dropping first) (Dropping now) v took gave begins follows out law a =
         let x = law.by.law in
         one_out x.out_list x.out_end law.by.given gave law.by.gave_is x.gave_is (drop_serves g w k n comes plan is fit sure.ins (sure.outs 0 out) first now v took gave law (flows_agree _ v took gave comes law.by a) begins follows)
@@ -288,11 +288,11 @@ module _ (g : Graph) (w : World) (k : ℕ) (n : graph.Node) where
 
 module _ {S D L B : Type 0} (sources : S → SourceState) (drains : D → DrainState) (g : Graph) (w : World) (k : ℕ) (n : graph.Node) where
   -- the world has the moves that it made
-  as_made : (first now : IslandNode S D L B) (v : View) (took gave : List (List Item)) → FirstOf sources g.chains k n first → TellsNode sources w n first now → length took ≡ inputs_of n.kind → node_law sources drains w.book first now v took gave → AllMayPass (inputs g w k n) took
+  as_made : (first now : IslandNode S D L B) (v : View) (took gave : List (List Item)) → FirstOf sources g.chains k n first → TellsNode sources w n first now → length took ≡ inputs_of n → node_law sources drains w.book first now v took gave → AllMayPass (inputs g w k n) took
       → TellsMoves w k now → GivesSo g w k n gave
   as_made first now v took gave made tells many law a told = (node_laws sources drains g w k n first now v took gave made (tells, told) many law).gives (inputs g w k n) a
 
-  by_plan : (first now : IslandNode S D L B) (v : View) (took gave : List (List Item)) → FirstOf sources g.chains k n first → TellsNode sources w n first now → length took ≡ inputs_of n.kind → node_law sources drains w.book first now v took gave → 0 < outputs_of n.kind → AllMayPass (inputs g w k n) took
+  by_plan : (first now : IslandNode S D L B) (v : View) (took gave : List (List Item)) → FirstOf sources g.chains k n first → TellsNode sources w n first now → length took ≡ inputs_of n → node_law sources drains w.book first now v took gave → 0 < outputs_of n → AllMayPass (inputs g w k n) took
       → (plan : List ℕ) → node_plan first ≡ Some plan → w.moves k ≡ plan → moves_fit g w k n.kind (inputs g w k n) ≡ true → IsSureAt g w k n → GivesSo g w k n gave
   by_plan (node.State first) (node.State now) v took gave made tells many law out a plan follows is fit sure = state_serves g w k n plan is fit sure first now v took gave made.begins.as_kind follows out law a
   by_plan (node.FanIn first) (node.FanIn now) v took gave made tells many law out a plan follows is fit sure = in_serves g w k n plan is fit sure first now v took gave made.begins.takes follows out law a
@@ -301,6 +301,7 @@ module _ {S D L B : Type 0} (sources : S → SourceState) (drains : D → DrainS
   by_plan (node.Linear first) now v took gave made tells many law out a plan follows is fit sure = absurd (no_calm follows)
   by_plan (node.Sub first) (node.Sub now) v took gave made tells many law out a plan follows is fit sure = let led = planned_some (led_subs.made_moves first) first.left plan follows in led_serves g w k n first made led now v took gave (law.led led) plan (law.plan ∙ follows) is (inputs g w k n) a fit (sure.outs 0 out)
   by_plan (node.FanOut first) (node.FanOut now) v took gave made tells many law out a plan follows is fit sure = out_serves g w k n plan is fit sure first now v took gave made.begins.as_kind follows out law a
+  by_plan (node.Custom first) now v took gave made tells many law out a plan follows is fit sure = absurd (no_calm follows)
   by_plan (node.Writing first) now v took gave made tells many law out a plan follows is fit sure = absurd (no_calm follows)
   by_plan (node.Ignoring first) now v took gave made tells many law out a plan follows is fit sure = absurd (no_calm follows)
   by_plan (node.Entering first) now v took gave made tells many law out a plan follows is fit sure = absurd made
@@ -308,7 +309,7 @@ module _ {S D L B : Type 0} (sources : S → SourceState) (drains : D → DrainS
   by_plan first now v took gave made tells many law out a plan follows is fit sure = absurd law
 
   -- it serves the moves that the world has of it, where it chooses
-  pub node_serves : (first now : IslandNode S D L B) (v : View) (took gave : List (List Item)) → FirstOf sources g.chains k n first → TellsNode sources w n first now × ServesMoves g w k n first now → length took ≡ inputs_of n.kind → node_law sources drains w.book first now v took gave → 0 < outputs_of n.kind → AllMayPass (inputs g w k n) took → GivesSo g w k n gave
+  pub node_serves : (first now : IslandNode S D L B) (v : View) (took gave : List (List Item)) → FirstOf sources g.chains k n first → TellsNode sources w n first now × ServesMoves g w k n first now → length took ≡ inputs_of n → node_law sources drains w.book first now v took gave → 0 < outputs_of n → AllMayPass (inputs g w k n) took → GivesSo g w k n gave
   node_serves first now v took gave made serves many law out a = by (node_picks now) refl
     where
       told : (moves : List ℕ) → node_picks now ≡ Some moves → w.moves k ≡ moves → TellsMoves w k now

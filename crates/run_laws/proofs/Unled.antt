@@ -134,9 +134,9 @@ rests_freely g w plans none counts outlook rests k n at = by (rests k n at)
     free : left g w plans k ≡ None
     free = ap (left_behind (length (w.moves k))) (none k)
 
-    by : (EachWire IsShut (ins g counts outlook k n.kind) × EachWire IsShut (outs g counts outlook k n.kind)) ⊎ RowRestsBy g w plans k n.kind n.decider (ports_of g w outlook k (count_from 0 (inputs_of n.kind))) (ins g counts outlook k n.kind) (outs g counts outlook k n.kind)
-        → (EachWire IsShut (ins g counts outlook k n.kind) × EachWire IsShut (outs g counts outlook k n.kind)) ⊎ RowRests g w k n.kind n.decider (ins g counts outlook k n.kind) (outs g counts outlook k n.kind)
+    by : (EachWire IsShut (ins g counts outlook k n) × EachWire IsShut (outs g counts outlook k n)) ⊎ RowRestsBy g w plans k n.kind n.decider (ports_of g w outlook k (count_from 0 (inputs_of n))) (ins g counts outlook k n) (outs g counts outlook k n)
+        → (EachWire IsShut (ins g counts outlook k n) × EachWire IsShut (outs g counts outlook k n)) ⊎ RowRests g w k n.kind n.decider (ins g counts outlook k n) (outs g counts outlook k n)
     by (inl shut) = inl shut
-    by (inr (inl row)) = inr (role_free g w k n.decider (ports_of g w outlook k (count_from 0 (inputs_of n.kind))) (ins g counts outlook k n.kind) (outs g counts outlook k n.kind) (role_of n.kind)
-        (subst (λ (l : Option (List ℕ)). RoleRestsBy g w (ports_of g w outlook k (count_from 0 (inputs_of n.kind))) (next_move l) k (role_of n.kind) n.decider (ins g counts outlook k n.kind) (outs g counts outlook k n.kind)) free row))
-    by (inr (inr cause)) = absurd (subst (λ (l : Option (List ℕ)). IsMove (next_move l)) free (cause_moves g w k (left g w plans k) (role_of n.kind) (ports_of g w outlook k (count_from 0 (inputs_of n.kind))) cause))
+    by (inr (inl row)) = inr (role_free g w k n.decider (ports_of g w outlook k (count_from 0 (inputs_of n))) (ins g counts outlook k n) (outs g counts outlook k n) (role_of n.kind)
+        (subst (λ (l : Option (List ℕ)). RoleRestsBy g w (ports_of g w outlook k (count_from 0 (inputs_of n))) (next_move l) k (role_of n.kind) n.decider (ins g counts outlook k n) (outs g counts outlook k n)) free row))
+    by (inr (inr cause)) = absurd (subst (λ (l : Option (List ℕ)). IsMove (next_move l)) free (cause_moves g w k (left g w plans k) (role_of n.kind) (ports_of g w outlook k (count_from 0 (inputs_of n))) cause))

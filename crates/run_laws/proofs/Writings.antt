@@ -8,7 +8,7 @@ use Rattle.stream_model.specs.Outlook.{Outlook}
 use Rattle.stream_model.specs.Graph.{Graph}
 use Rattle.stream_model.specs.Graph as graph
 use Rattle.stream_model.specs.Node.{World}
-use Rattle.stream_model.specs.Composed.{inputs_of}
+use Rattle.stream_model.specs.Composed.{inputs_by}
 use Rattle.stream_model.specs.Fits.{moves_fit}
 use Rattle.stream_io.specs.State.{DrainState}
 use Rattle.nodes.specs.Kinds.{IsFileSink}
@@ -18,11 +18,11 @@ use Rattle.run_laws.specs.KindLaws.{RunLaws}
 use Rattle.run_laws.specs.Made.{FirstWriting, FirstIgnoring}
 use Rattle.run_laws.proofs.Ports.{none_at}
 
-pub file_sink_inputs : (shape : Kind) → IsFileSink shape → inputs_of shape ≡ 1
-file_sink_inputs (kind.ToLines name) h = refl
-file_sink_inputs (kind.Head name) h = refl
-file_sink_inputs (kind.Last name) h = refl
-file_sink_inputs _ h = absurd h
+pub file_sink_inputs : (head : ℕ × ℕ) (shape : Kind) → IsFileSink shape → inputs_by head shape ≡ 1
+file_sink_inputs head (kind.ToLines name) h = refl
+file_sink_inputs head (kind.Head name) h = refl
+file_sink_inputs head (kind.Last name) h = refl
+file_sink_inputs head _ h = absurd h
 
 -- it chooses nothing
 file_sink_moves : (g : Graph) (w : World) (k : ℕ) (shape : Kind) (os : List Outlook) → IsFileSink shape → moves_fit g w k shape os ≡ true

@@ -54,27 +54,27 @@ module _ (g : Graph) where
   module _ {N : Type 0} (a : Account N) (k : ℕ) (n : graph.Node) where
     -- what the node knows of its ports
     abbrev pub knows : View
-    knows = record { ins = read_ins inp_of a.far k (count_from 0 (inputs_of n.kind)); outs = read_outs out_of a.near k (count_from 0 (outputs_of n.kind)) }
+    knows = record { ins = read_ins inp_of a.far k (count_from 0 (inputs_of n)); outs = read_outs out_of a.near k (count_from 0 (outputs_of n)) }
 
     -- what the node took at each of its inputs
     abbrev pub took : List (List Item)
-    took = read_ins got_of a.far k (count_from 0 (inputs_of n.kind))
+    took = read_ins got_of a.far k (count_from 0 (inputs_of n))
 
     -- what the node gave at each of its outputs
     abbrev pub gave : List (List Item)
-    gave = read_outs sent_of a.near k (count_from 0 (outputs_of n.kind))
+    gave = read_outs sent_of a.near k (count_from 0 (outputs_of n))
 
     -- how many elements are wanted in all of each of its inputs
     abbrev pub ins_wanted : List ℕ
-    ins_wanted = read_ins wanted a.far k (count_from 0 (inputs_of n.kind))
+    ins_wanted = read_ins wanted a.far k (count_from 0 (inputs_of n))
 
     -- how many elements are wanted in all of each of its outputs
     abbrev pub outs_wanted : List ℕ
-    outs_wanted = read_outs wanted a.near k (count_from 0 (outputs_of n.kind))
+    outs_wanted = read_outs wanted a.near k (count_from 0 (outputs_of n))
 
     -- which of its outputs are shut
     abbrev pub outs_shut : List Bool
-    outs_shut = read_outs shut_of a.near k (count_from 0 (outputs_of n.kind))
+    outs_shut = read_outs shut_of a.near k (count_from 0 (outputs_of n))
 
 -- each history begins the one at its place
 abbrev pub AllBegin : List (List Item) → List (List Item) → Type 0
@@ -150,9 +150,9 @@ module _ {N : Type 0} (port_state : N → View → Type 0) (law : N → N → Vi
       pub now_at : a.nodes k ≡ Some now
       pub port_state_holds : port_state now (knows g a k n)
       pub law_holds : law first now (knows g a k n) (took g a k n) (gave g a k n)
-      pub asks : (p : ℕ) → p < inputs_of n.kind → 1 ≤ slice_index_or (ins_wanted g a k n) p 0
+      pub asks : (p : ℕ) → p < inputs_of n → 1 ≤ slice_index_or (ins_wanted g a k n) p 0
           → Earlier p first now (took g a k n) (gave g a k n) (ins_wanted g a k n) (outs_wanted g a k n) (outs_shut g a k n)
-      pub last : (p : ℕ) → p < inputs_of n.kind → 1 ≤ slice_index_or (ins_wanted g a k n) p 0
+      pub last : (p : ℕ) → p < inputs_of n → 1 ≤ slice_index_or (ins_wanted g a k n) p 0
           → LastAsked first now (took g a k n) (gave g a k n) (ins_wanted g a k n) (outs_wanted g a k n) (outs_shut g a k n)
 
     -- what all nodes and wires keep

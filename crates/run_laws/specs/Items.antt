@@ -1,10 +1,10 @@
 -- The list and the end of a history, what a wire brings of one, and what of it may pass by an outlook.
-use Rattle.std.specs.Prelude.{◌≡◌, ℕ, List, [], ◌∷◌, Option, None, Some}
+use Rattle.std.specs.Prelude.{◌≡◌, ℕ, Bool, true, false, List, [], ◌∷◌, length, Option, None, Some}
 use Rattle.elem_core.specs.Prefix.{IsPrefix}
 use Rattle.elem_core.specs.Tree.{Tree}
 use Rattle.elem_core.specs.declared.item.Item.{Item}
 use Rattle.elem_core.specs.declared.item.Item.TheVariants as item
-use Rattle.stream_model.specs.Outlook.{Outlook, End, unended, ended, failed, Agrees}
+use Rattle.stream_model.specs.Outlook.{Outlook, Entry, End, unended, ended, failed, Agrees}
 use Rattle.stream_model.specs.Lane.{Carries}
 use Rattle.stage_core.specs.Held.{told}
 
@@ -22,10 +22,32 @@ end_of_items (item.Elem t ∷ is) = end_of_items is
 end_of_items (item.Ended ∷ is) = ended
 end_of_items (item.Failed c ∷ is) = failed c
 
+-- they are a list, and how it stands
+pub record IsToldList (items : List Item) : Type 0 where
+  pub list : List Tree
+  pub end : End
+  pub is : items ≡ told list end
+
 -- the number of a lane, its size or its loss, and 0 where a wire is no lane
 abbrev pub lane_size : Option ℕ → ℕ
 lane_size None = 0
 lane_size (Some s) = s
+
+-- the failures of a list that has come to this end
+abbrev fails_so : List Tree → End → List Entry
+fails_so l unended = []
+fails_so l ended = []
+fails_so l (failed c) = record { cause = c; low = length l } ∷ []
+
+-- a list that has come to this end has ended
+abbrev has_ended : End → Bool
+has_ended unended = false
+has_ended ended = true
+has_ended (failed c) = false
+
+-- what has passed, as an outlook of all that may pass
+abbrev pub passed_so : List Item → Outlook
+passed_so h = record { list = list_of h; ends = has_ended (end_of_items h); fails = fails_so (list_of h) (end_of_items h) }
 
 -- of what was sent at one end of a wire, its other end got this: a first part; where it ended all; where it failed all but
 -- as many elements as its lane may lose

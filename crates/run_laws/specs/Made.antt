@@ -8,7 +8,7 @@ use Rattle.elem_core.specs.Tree.{num, text}
 use Rattle.stream_model.specs.declared.outcome.EndState.TheVariants.{Unended}
 use Rattle.stream_model.specs.Graph.{Graph, Edge, steps_of}
 use Rattle.stream_model.specs.Graph as graph
-use Rattle.stream_model.specs.Linear.{Mention, no_name, a_file, a_switch, a_trip, a_plug, a_chain, mention_of}
+use Rattle.stream_model.specs.Linear.{Mention, no_name, a_file, a_switch, a_trip, a_plug, a_custom, a_chain, mention_of}
 use Rattle.port_core.specs.View.{unpulled_ports}
 use Rattle.stream_io.specs.State.{SourceState}
 use Rattle.stage_linear.specs.States.{Logic, IsLinear, Begins}
@@ -27,10 +27,13 @@ use Rattle.stage_in.specs.declared.logic.InLogic.{InLogic}
 use Rattle.stage_in.specs.Logics as fan_in
 use Rattle.stage_out.specs.declared.logic.OutLogic.{OutLogic}
 use Rattle.stage_out.specs.OutLogics as fan_out
+use Rattle.graph_stage.specs.Laws.{CustomFresh}
+use Rattle.graph_stage.specs.Making.{unpulled_view}
+use Rattle.graph_stage.specs.State.{CustomState}
 use Rattle.fused_net.specs.declared.net.WireEnds.{WireEnds}
 use Rattle.fused_net.specs.Net.{end_at}
 use Rattle.nodes.specs.declared.node.IslandNode.{IslandNode}
-use Rattle.nodes.specs.declared.node.IslandNode.TheVariants.{Reading, Making, Linear, State, Sub, FanIn, FanOut, Writing, Ignoring, Entering, Leaving}
+use Rattle.nodes.specs.declared.node.IslandNode.TheVariants.{Reading, Making, Linear, State, Sub, FanIn, FanOut, Custom, Writing, Ignoring, Entering, Leaving}
 use Rattle.nodes.specs.Source.{Lines}
 use Rattle.nodes.specs.Maker.{Made}
 use Rattle.nodes.specs.Sink.{Sink}
@@ -75,6 +78,7 @@ mentioned_chain (a_file file) = []
 mentioned_chain (a_switch switch) = []
 mentioned_chain (a_trip order switch n) = []
 mentioned_chain (a_plug plug) = []
+mentioned_chain (a_custom custom) = []
 mentioned_chain (a_chain name) = name
 
 -- the name of the chain through which each substream of a stage goes
@@ -96,6 +100,13 @@ pub record FirstFanIn (k : ℕ) (n : graph.Node) (x : InLogic) : Type 0 where
 pub record FirstFanOut (k : ℕ) (n : graph.Node) (x : OutLogic) : Type 0 where
   pub is_out : fan_out.IsOut n.kind
   pub begins : fan_out.Begins k n.kind x
+
+-- a custom stage that was not started, with the ports that its node has
+pub record FirstCustom (k : ℕ) (n : graph.Node) (x : CustomState) : Type 0 where
+  pub name : List ℕ
+  pub kind_is : n.kind ≡ kind.Custom name
+  pub node : x.node ≡ k
+  pub fresh : CustomFresh x (unpulled_view n.head.0 n.head.1)
 
 -- a source without a file at its start
 pub record FirstMaking (k : ℕ) (shape : Kind) (x : Made) : Type 0 where
@@ -125,6 +136,7 @@ FirstOf sources chains k n (State x) = FirstState k n x
 FirstOf sources chains k n (Sub x) = FirstSub chains k n x
 FirstOf sources chains k n (FanIn x) = FirstFanIn k n x
 FirstOf sources chains k n (FanOut x) = FirstFanOut k n x
+FirstOf sources chains k n (Custom x) = FirstCustom k n x
 FirstOf sources chains k n (Writing x) = FirstWriting k n.kind x
 FirstOf sources chains k n (Ignoring x) = FirstIgnoring k n.kind x
 FirstOf sources chains k n (Entering x) = ⊥

@@ -3,7 +3,7 @@ use Rattle.std.specs.Prelude.{Bool, true, false, Option, None, Some}
 use Rattle.stream_model.specs.declared.outcome.EndState.{EndState}
 use Rattle.stream_model.specs.declared.outcome.EndState.TheVariants.{Ended, Failed, Unended, WriteFault}
 use Rattle.nodes.specs.declared.node.IslandNode.{IslandNode}
-use Rattle.nodes.specs.declared.node.IslandNode.TheVariants.{Reading, Making, Linear, State, Sub, FanIn, FanOut, Writing, Ignoring, Entering, Leaving}
+use Rattle.nodes.specs.declared.node.IslandNode.TheVariants.{Reading, Making, Linear, State, Sub, FanIn, FanOut, Custom, Writing, Ignoring, Entering, Leaving}
 
 -- a sink does not go on
 abbrev pub has_ended : EndState → Bool
@@ -21,6 +21,7 @@ sink_ended (State x) = false
 sink_ended (Sub x) = false
 sink_ended (FanIn x) = false
 sink_ended (FanOut x) = false
+sink_ended (Custom x) = false
 sink_ended (Writing x) = has_ended x.end
 sink_ended (Ignoring x) = has_ended x.end
 sink_ended (Entering x) = false

@@ -183,13 +183,13 @@ module _ (g : Graph) (w : World) (plans : Plans) where
   abbrev pub RestsBy : List WireCount → (ℕ → Outlook) → Type 0
   RestsBy counts outlook =
       (node : ℕ) (n : Node) → slice_get g.nodes node ≡ Some n
-      → (EachWire IsShut (ins g counts outlook node n.kind) × EachWire IsShut (outs g counts outlook node n.kind))
-      ⊎ RowRestsBy node n.kind n.decider (ports_of g w outlook node (count_from 0 (inputs_of n.kind))) (ins g counts outlook node n.kind)
-      (outs g counts outlook node n.kind)
+      → (EachWire IsShut (ins g counts outlook node n) × EachWire IsShut (outs g counts outlook node n))
+      ⊎ RowRestsBy node n.kind n.decider (ports_of g w outlook node (count_from 0 (inputs_of n))) (ins g counts outlook node n)
+      (outs g counts outlook node n)
 
   -- this node cannot make its next move, where each wire is sent that outlook
   abbrev pub MisfitsOver : (ℕ → Outlook) → ℕ → Node → Type 0
-  MisfitsOver outlook node n = RoleMisfits g w (left node) node (role_of n.kind) (ports_of g w outlook node (count_from 0 (inputs_of n.kind)))
+  MisfitsOver outlook node n = RoleMisfits g w (left node) node (role_of n.kind) (ports_of g w outlook node (count_from 0 (inputs_of n)))
 
 -- ---- a lawful picture
 
@@ -217,11 +217,11 @@ module _ (g : Graph) (w : World) (plans : Plans) where
 
   -- every wire and every node is lawful; and each order of a valve that follows no moves was given by a trip
   pub record IsLawfulBy (counts : List WireCount) (outlook : ℕ → Outlook) : Type 0 where
-    pub wires : (node : ℕ) (n : Node) → slice_get g.nodes node ≡ Some n → EachWire WireLawful (ins g counts outlook node n.kind)
+    pub wires : (node : ℕ) (n : Node) → slice_get g.nodes node ≡ Some n → EachWire WireLawful (ins g counts outlook node n)
     pub nodes : (node : ℕ) (n : Node) → slice_get g.nodes node ≡ Some n
-        → RoleLawfulBy node (role_of n.kind) n.decider (ins g counts outlook node n.kind) (outs g counts outlook node n.kind)
+        → RoleLawfulBy node (role_of n.kind) n.decider (ins g counts outlook node n) (outs g counts outlook node n)
     pub valves : (node : ℕ) (n : Node) (v : List ℕ × ℕ) → slice_get g.nodes node ≡ Some n → plans node ≡ None → valve_order n.kind (w.moves node) ≡ Some v
-        → (trip : ℕ) × (t : Node) × (slice_get g.nodes trip ≡ Some t) × CanTrip v.0 v.1 t.kind (sent_in (ins g counts outlook trip t.kind))
+        → (trip : ℕ) × (t : Node) × (slice_get g.nodes trip ≡ Some t) × CanTrip v.0 v.1 t.kind (sent_in (ins g counts outlook trip t))
 
   -- all moves fit; and the valves of a switch that acted and follow no moves show one order, and some trip gave it
   pub record FitsBy : Type 0 where

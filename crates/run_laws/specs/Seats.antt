@@ -35,8 +35,8 @@ module _ {N : Type 0} (g : Graph) (nets : ℕ → Net N) (s : Seats) where
   -- no lane's between both.
   pub record Covers : Type 0 where
     pub node_within : (k : ℕ) (n : graph.Node) → slice_get g.nodes k ≡ Some n → (s.node k).at < length (nets (s.node k).island).nodes
-    pub ins : (k : ℕ) (n : graph.Node) → slice_get g.nodes k ≡ Some n → length (ports_at (nets (s.node k).island) (s.node k).at).ins ≡ inputs_of n.kind
-    pub outs : (k : ℕ) (n : graph.Node) → slice_get g.nodes k ≡ Some n → length (ports_at (nets (s.node k).island) (s.node k).at).outs ≡ outputs_of n.kind
+    pub ins : (k : ℕ) (n : graph.Node) → slice_get g.nodes k ≡ Some n → length (ports_at (nets (s.node k).island) (s.node k).at).ins ≡ inputs_of n
+    pub outs : (k : ℕ) (n : graph.Node) → slice_get g.nodes k ≡ Some n → length (ports_at (nets (s.node k).island) (s.node k).at).outs ≡ outputs_of n
     pub near_within : (u : ℕ) (v : Edge) → slice_get g.wires u ≡ Some v → (s.near u).at < length (nets (s.near u).island).wires
     pub near_home : (u : ℕ) (v : Edge) → slice_get g.wires u ≡ Some v → (s.near u).island ≡ (s.node v.from).island
     pub near_from : (u : ℕ) (v : Edge) → slice_get g.wires u ≡ Some v → (end_at (nets (s.near u).island).ends (s.near u).at).from ≡ (s.node v.from).at

@@ -9,7 +9,7 @@ use Rattle.plan_laws.specs.Sure.{AllSure}
 -- no failure may come on any wire of node k: neither on one into it, nor on one out of it
 pub record IsSureAt (g : Graph) (w : World) (k : ℕ) (n : Node) : Type 0 where
   pub ins : AllSure (inputs g w k n)
-  pub outs : (p : ℕ) → p < outputs_of n.kind → (node_outlook g w k n.kind n.decider (inputs g w k n) p).fails ≡ []
+  pub outs : (p : ℕ) → p < outputs_of n → (node_outlook g w k n.kind n.decider (inputs g w k n) p).fails ≡ []
 
 -- The world has the moves that node k made; or those that it follows, which fit, and no failure may come on its wires.
 abbrev pub ServesPlan : Graph → World → ℕ → Node → Option (List ℕ) → List ℕ → Type 0

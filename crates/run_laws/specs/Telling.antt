@@ -1,18 +1,21 @@
 -- What a world tells of a run: its input files, by the sources of its nodes at the start and as they are now, and what its stages
 -- chose. And what the seats of its nodes at kill switches tell, once each switch was settled.
-use Rattle.std.specs.Prelude.{◌≡◌, ℕ, IsTrue, List, [], Option, Some, None, slice_get, ⊤}
+use Rattle.elem_core.specs.declared.item.Item.{Item}
+use Rattle.graph_stage.specs.State.{CustomState, done_gave}
+use Rattle.run_laws.specs.Items.{passed_so}
+use Rattle.std.specs.Prelude.{◌≡◌, ℕ, false, IsTrue, List, [], replicate, Option, Some, None, slice_get, ⊤}
 use Rattle.stage_switch.specs.Public.{SeatState}
 use Rattle.stream_model.specs.declared.kind.Kind.TheVariants as kind
 use Rattle.stream_model.specs.Graph.{Graph}
 use Rattle.stream_model.specs.Graph as graph
-use Rattle.stream_model.specs.Linear.{Book}
-use Rattle.stream_model.specs.Node.{World}
+use Rattle.stream_model.specs.Linear.{Book, none_told}
+use Rattle.stream_model.specs.Node.{World, nothing}
 use Rattle.stream_model.specs.Sources.{File}
 use Rattle.stream_io.specs.Counts.{Rose}
 use Rattle.stream_io.specs.State.{SourceState}
 use Rattle.run_laws.specs.Account.{Account}
 use Rattle.nodes.specs.declared.node.IslandNode.{IslandNode}
-use Rattle.nodes.specs.declared.node.IslandNode.TheVariants.{Reading}
+use Rattle.nodes.specs.declared.node.IslandNode.TheVariants.{Reading, Custom}
 use Rattle.nodes.specs.Nodes.{node_picks, node_moves, node_plan, node_seat}
 use Rattle.run_laws.specs.Replayed.{Plans}
 use Rattle.run_laws.specs.Serving.{ServesPlan}
@@ -46,6 +49,23 @@ ServesPlans {S} {D} {L} {B} g w a = (k : ℕ) (n : graph.Node) (first now : Isla
 abbrev pub FollowsPlans : {S D L B : Type 0} → Plans → Account (IslandNode S D L B) → Type 0
 FollowsPlans {S} {D} {L} {B} plans a = (k : ℕ) (first : IslandNode S D L B) → a.firsts k ≡ Some first → plans k ≡ node_plan first
 
+-- no custom stage of this graph tells a list
+abbrev pub TellsNoList : Graph → World → Type 0
+TellsNoList g w = (k : ℕ) (n : graph.Node) (name : List ℕ) → slice_get g.nodes k ≡ Some n → n.kind ≡ kind.Custom name → w.customs.tells name ≡ false
+
+-- what a custom stage gave, on each output of its node
+abbrev pub given_at : graph.Node → CustomState → List (List Item)
+given_at n now = done_gave now.done (replicate n.head.1 [])
+
+-- A custom stage tells no list, and the world tells what it gave.
+pub record TellsGave (w : World) (n : graph.Node) (now : CustomState) : Type 0 where
+  pub untold : (name : List ℕ) → n.kind ≡ kind.Custom name → w.customs.tells name ≡ false
+  pub given : (p : ℕ) (h : List Item) → slice_get (given_at n now) p ≡ Some h → w.given now.node p ≡ passed_so h
+
+-- it tells so of every custom stage
+abbrev pub TellsCustoms : {S D L B : Type 0} → Graph → World → Account (IslandNode S D L B) → Type 0
+TellsCustoms g w a = (k : ℕ) (n : graph.Node) (now : CustomState) → slice_get g.nodes k ≡ Some n → a.nodes k ≡ Some (Custom now) → TellsGave w n now
+
 -- the moves of a node, where there is one
 abbrev pub moves_at : {S D L B : Type 0} → Option (IslandNode S D L B) → List ℕ
 moves_at None = []
@@ -62,13 +82,14 @@ AreSettled g a = AllSettled (kinds_of g) (λ k. seat_at (a.nodes k))
 
 -- the world with these plugs and files in which each node has made the moves of the account's
 abbrev pub chosen_world : {S D L B : Type 0} → Book → (List ℕ → File) → Account (IslandNode S D L B) → World
-chosen_world book file a = record { book = book; file = file; moves = λ k. moves_at (a.nodes k) }
+chosen_world book file a = record { book = book; customs = none_told book; file = file; moves = λ k. moves_at (a.nodes k); given = λ k p. nothing }
 
 module _ {S D L B : Type 0} (sources : S → SourceState) where
-  -- a source's file, by its name
+  -- a source's file, by its name, and what a custom stage gave
   abbrev pub TellsNode : World → graph.Node → IslandNode S D L B → IslandNode S D L B → Type 0
   TellsNode w n (Reading first) (Reading now) = (name : List ℕ) → n.kind ≡ kind.Lines name
       → TellsFile (sources first.reader.source) (sources now.reader.source) (w.file name)
+  TellsNode w n (Custom first) (Custom now) = TellsGave w n now
   TellsNode w n _ _ = ⊤
 
   -- a world tells the files of all sources

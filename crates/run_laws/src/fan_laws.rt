@@ -44,7 +44,7 @@ pub fn a_node_with_several_outputs_tells_its_rows()
 /// end, which is known there.
 pub fn nodes_with_several_ports_agree()
     ensures ins { (g : Graph) (w : World) (k : ℕ) (n : graph.Node) (first now : InLogic) (v : View) (took gave : List (List Item))
-        → stage_in.Begins k n.kind n.decider first → length took ≡ inputs_of n.kind → TellsMoves w k now
+        → stage_in.Begins k n.kind n.decider first → length took ≡ inputs_of n → TellsMoves w k now
         → InLaw first now v took gave → RunLaws g w k n took gave }
     ensures outs { (g : Graph) (w : World) (k : ℕ) (n : graph.Node) (first now : OutLogic) (v : View) (took gave : List (List Item))
         → stage_out.Begins k n.kind first

@@ -22,7 +22,7 @@ ghost use Rattle.nodes.specs.Sink.{Sink, sink_late};
 ghost use Rattle.nodes.specs.Source.{Lines};
 ghost use Rattle.nodes.specs.declared.node.IslandNode.{IslandNode};
 ghost use Rattle.run_laws.specs.Account.{Account, AllMade, took, IsStill};
-ghost use Rattle.run_laws.specs.Items.{AgreesWith};
+ghost use Rattle.run_laws.specs.Items.{AgreesWith, IsToldList};
 ghost use Rattle.run_laws.specs.Pictures.{picture_counts};
 ghost use Rattle.run_laws.specs.Ports.{wire_count};
 ghost use Rattle.run_laws.specs.Seats.{Seats, Covers, LanesKeep, LanesRest, joined_account, account_of};
@@ -151,16 +151,19 @@ pub fn every_source_reads_little_ahead<S: Source, D: Drain, L: Logic, B: PlugBoo
         → SentLines bytes (S.state first.reader.source) (S.state now.reader.source) (a.near u).wire.sent }
 {}
 
-/// Whatever a folder tells of its files, a source of lines sent texts (`lines`), and what any other node sent on a wire agrees
-/// with what it gives of all outlooks with which what was sent on the wires into it agrees, where the world tells what the
-/// stages chose (`others`).
+/// Whatever a folder tells of its files, a source of lines sent texts (`lines`), a custom stage sent a list and then an end or none
+/// (`customs`), and what any other node sent on a wire agrees with what it gives of all outlooks with which what was sent on the
+/// wires into it agrees, where the world tells what the stages chose (`others`).
 pub fn every_node_gives_of_what_came<S: Source, D: Drain, L: Logic, B: PlugBook>()
     ensures lines { (g : Graph) (a : Account (IslandNode S D L B)) → IsRun S.state D.state B.lists g a
         → (u : ℕ) (v : Edge) (n : graph.Node) (name : List ℕ) → slice_get g.wires u ≡ Some v → slice_get g.nodes v.from ≡ Some n → n.kind ≡ kind.Lines name
         → GivesTexts (a.near u).wire.sent }
+    ensures customs { (g : Graph) (a : Account (IslandNode S D L B)) → IsRun S.state D.state B.lists g a
+        → (u : ℕ) (v : Edge) (n : graph.Node) (name : List ℕ) → slice_get g.wires u ≡ Some v → slice_get g.nodes v.from ≡ Some n → n.kind ≡ kind.Custom name
+        → IsToldList (a.near u).wire.sent }
     ensures others { (g : Graph) (w : World) (a : Account (IslandNode S D L B)) → IsRun S.state D.state w.book g a → TellsPicks w a
         → (sent : ℕ → Outlook) (j : ℕ) (v : Edge) (n : graph.Node) → slice_get g.wires j ≡ Some v → slice_get g.nodes v.from ≡ Some n
-        → ((name : List ℕ) → n.kind ≢ kind.Lines name)
+        → ((name : List ℕ) → n.kind ≢ kind.Lines name) → ((name : List ℕ) → n.kind ≢ kind.Custom name)
         → ((u : ℕ) (x : Edge) → slice_get g.wires u ≡ Some x → x.to ≡ v.from → AgreesWith (sent u) (a.near u).wire.sent)
         → AgreesWith (next g w sent j) (a.near j).wire.sent }
 {}

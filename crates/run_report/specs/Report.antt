@@ -5,7 +5,7 @@ use Rattle.std.specs.Fmt.{decimal}
 use Rattle.elem_core.specs.Why.{number_of_why}
 use Rattle.elem_core.specs.declared.why.Cause.{Cause}
 use Rattle.elem_core.specs.declared.why.Why.{Why}
-use Rattle.elem_core.specs.declared.why.Why.TheVariants.{Plug}
+use Rattle.elem_core.specs.declared.why.Why.TheVariants.{Plug, IllegalCall}
 use Rattle.blue_words.specs.Fault.{number_of_kind}
 use Rattle.blue_check.specs.Number.{number_of_fault}
 use Rattle.blue_check.specs.Detail.{detail_text}
@@ -38,9 +38,10 @@ status_text status.ReadFault used = codes "read fault"
 status_text status.WriteFault used = codes "write fault"
 status_text status.NoMemory used = codes "no memory"
 
--- the number of a reason, and behind it the code that a plug gave
+-- the number of a reason, and behind it the code that a plug gave or by which an ask is forbidden
 abbrev pub why_text : Why → List ℕ
 why_text (Plug c) = codes "15/" ++ decimal c
+why_text (IllegalCall c) = codes "16/" ++ decimal c
 why_text why = decimal (number_of_why why)
 
 -- what is to blame

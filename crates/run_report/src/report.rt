@@ -184,6 +184,7 @@ fn put_why<D: Drain>(console: &mut D, why: Why) -> Result<(), Failed>
     let mut buffer = Buffer::new();
     match why {
         Why::Plug(code) => put_parts(console, &[b"15/", buffer.format(code).as_bytes()]),
+        Why::IllegalCall(code) => put_parts(console, &[b"16/", buffer.format(code).as_bytes()]),
         why => put_parts(console, &[buffer.format(why.number()).as_bytes()]),
     }
 }

@@ -6,7 +6,6 @@ pub mod CallAnswering
 pub mod Completing
 pub mod Surely
 pub mod Receipts
-pub mod Plugs
 pub mod Answering
 pub mod Types
 pub mod SinkFiles

@@ -134,7 +134,7 @@ module _ (plugged : Plugged) (old mid new : FolderState) (file : List ℕ) (r : 
       within = ran.within;
       pays = ran.pays;
       ending = ran.ending;
-      enough = λ none tree w is suffices i s n f at here shape fails calm. ran.enough none tree w is suffices i s n f at here shape fails (λ rose. calm (rose_later (old.wfaults f) (mid.wfaults f) (new.wfaults f) (r.wfaults f) rose));
+      enough = λ none own tree w is suffices i s n f at here shape fails calm. ran.enough none own tree w is suffices i s n f at here shape fails (λ rose. calm (rose_later (old.wfaults f) (mid.wfaults f) (new.wfaults f) (r.wfaults f) rose));
     }
 
     there_later : (names : List (List ℕ)) → All (λ m. IsSome (mid.file m)) names → All (λ m. IsSome (old.file m)) names

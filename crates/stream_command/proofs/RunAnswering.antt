@@ -33,7 +33,7 @@ use Rattle.run_blueprint.specs.Drawing.{Drawn, IsWorldOf}
 use Rattle.run_blueprint.specs.Replaying.{IsMisfit}
 use Rattle.run_blueprint.specs.Stands.{SinkStand, is_write_fault, is_unended, is_failed}
 use Rattle.run_blueprint.specs.Units.{Pays}
-use Rattle.run_blueprint.specs.Running.{SinkLeaves, LeavesFiles, MisfitByFiles, FailedWritesOf, Runs, Wants}
+use Rattle.run_blueprint.specs.Running.{HasNoCustom, SinkLeaves, LeavesFiles, MisfitByFiles, FailedWritesOf, Runs, Wants}
 use Rattle.run_blueprint.specs.Tracing.{written_files, Traces}
 use Rattle.run_blueprint.specs.declared.run.RunResult.{RunResult}
 use Rattle.run_blueprint.proofs.Places.{contains_at, place_within}
@@ -125,7 +125,7 @@ module _ (plugged : Plugged) (old new : FolderState) (b : Blueprint) (plans : Li
     lawful = l.lawful;
     rest = λ h. l.rest (more h);
     matching = λ h. l.matching (more h);
-    ending = λ none tree h. l.ending none tree (more h);
+    ending = λ none own tree h. l.ending none own tree (more h);
     made = l.made;
     served = l.served;
     needed = l.needed;
@@ -260,12 +260,12 @@ module _ (plugged : Plugged) (b : Blueprint) (plans : List (Option (List ℕ))) 
       omega (arith, wired, most)
 
   -- in a polytree every sink has ended where no event was left
-  tree_ends : NoneFollow plans → IsPolytree (wiring (blueprint_wires b)) → ran.at_rest ≡ true → some_unended a.sinks ≡ false
-  tree_ends none tree e = unended_told ∙ runs.ending none tree e
+  tree_ends : NoneFollow plans → HasNoCustom b → IsPolytree (wiring (blueprint_wires b)) → ran.at_rest ≡ true → some_unended a.sinks ≡ false
+  tree_ends none own tree e = unended_told ∙ runs.ending none own tree e
 
-  tree_spent : (rest : Bool) → ran.at_rest ≡ rest → NoneFollow plans → IsPolytree (wiring (blueprint_wires b)) → some_unended a.sinks ≡ true → a.used ≡ turns
-  tree_spent false e none tree some = spent e
-  tree_spent true e none tree some = absurd (not_both_bools (some_unended a.sinks) some (tree_ends none tree e))
+  tree_spent : (rest : Bool) → ran.at_rest ≡ rest → NoneFollow plans → HasNoCustom b → IsPolytree (wiring (blueprint_wires b)) → some_unended a.sinks ≡ true → a.used ≡ turns
+  tree_spent false e none own tree some = spent e
+  tree_spent true e none own tree some = absurd (not_both_bools (some_unended a.sinks) some (tree_ends none own tree e))
 
   within : a.used ≤ turns
   within = subst (λ n. n ≤ turns) (sym after.used) runs.within
@@ -292,17 +292,17 @@ module _ (plugged : Plugged) (b : Blueprint) (plans : List (Option (List ℕ))) 
         let most : count_needed (graph_of b) a.wires ≤ need (graph_of b) (composed (graph_of b) w) = leaves_at.needed w is in
         omega (arith, count, most)
 
-    tree_enough : NoneFollow plans → IsPolytree (wiring (blueprint_wires b)) → (w : World) → IsWorldOf plugged.book b.nodes.items leaves_at.drawn w → need (graph_of b) (composed (graph_of b) w) ≤ turns
+    tree_enough : NoneFollow plans → HasNoCustom b → IsPolytree (wiring (blueprint_wires b)) → (w : World) → IsWorldOf plugged.book b.nodes.items leaves_at.drawn w → need (graph_of b) (composed (graph_of b) w) ≤ turns
         → (i : ℕ) (s : SinkStand) (n : Node) (file : List ℕ) → slice_get stands i ≡ Some s → slice_get b.nodes.items s.0 ≡ Some n → output_of n.kind ≡ Some file
-        → (sink_outlook (graph_of b) w s.0 (graph_node n)).fails ≡ [] → (Rose (old.wfaults file) (new.wfaults file) → ⊥) → s.2 ≡ state.Ended
-    tree_enough none tree w is suffices i s n file at here shape fails calm =
+        → (sink_outlook (graph_of b) w s.0 (graph_node b.wires.items n)).fails ≡ [] → (Rose (old.wfaults file) (new.wfaults file) → ⊥) → s.2 ≡ state.Ended
+    tree_enough none own tree w is suffices i s n file at here shape fails calm =
         let within : i < length stands = place_within stands i s at in
         let some : 1 ≤ length stands = omega (arith, within) in
         let used : a.used < need (graph_of b) (composed (graph_of b) w) = below_need some w is in
         let fewer : a.used < turns = omega (arith, used, suffices) in
         let rest : ran.at_rest ≡ true = less_rests ran.at_rest a.used turns fewer spent in
         let l = leaves_at.sink i s n file at here shape in
-        must_end s.2 (sink_outlook (graph_of b) w s.0 (graph_node n)) l.held (old.wfaults file) (new.wfaults file) (no_unended_at stands i s (leaves_at.ending none tree rest) at) (l.tells w is) fails (runs.writes i s n file at here shape) calm
+        must_end s.2 (sink_outlook (graph_of b) w s.0 (graph_node b.wires.items n)) l.held (old.wfaults file) (new.wfaults file) (no_unended_at stands i s (leaves_at.ending none own tree rest) at) (l.tells w is) fails (runs.writes i s n file at here shape) calm
 
     abbrev ran_to : RanTo plugged old new b plans trace turns a
     ran_to = record {

@@ -1,6 +1,6 @@
 -- From what is told of a call to what the files of its sinks hold.
 use Rattle.std.proofs.Common.{◌≡◌, ◌≢◌, ℕ, zero, suc, ◌+◌, Bool, true, false, List, [], ◌∷◌, ◌⊎◌, inl, inr, refl, sym, ap, ◌∙◌, subst, arith, length, slice_get}
-use Rattle.std.specs.Prelude.{IsTrue, Option, None, Some, ◌==◌, ◌||◌, ◌&&◌, if◌then◌else◌}
+use Rattle.std.specs.Prelude.{IsTrue, Option, None, Some, ◌||◌, ◌&&◌, if◌then◌else◌}
 use Rattle.std.proofs.lemmas.List.{length-map}
 use Rattle.elem_core.specs.Text.{text_lines}
 use Rattle.elem_core.specs.Tree.{Tree}
@@ -9,17 +9,18 @@ use Rattle.stream_model.specs.declared.blueprint.Blueprint.{Blueprint}
 use Rattle.stream_model.specs.declared.blueprint.Node.{Node}
 use Rattle.stream_model.specs.declared.kind.Kind.{Kind}
 use Rattle.stream_model.specs.declared.kind.Kind.TheVariants.{ToLines, Head, Last}
-use Rattle.stream_model.specs.declared.head.PlugHead.{PlugHead}
+use Rattle.stream_model.specs.Known.{HeadLists}
 use Rattle.stream_model.specs.declared.outcome.EndState.{EndState}
 use Rattle.stream_model.specs.declared.outcome.EndState.TheVariants as state
 use Rattle.stream_model.specs.Composed.{sink_outlook, IsRanked}
+use Rattle.stream_model.specs.Listed.{HasLists}
 use Rattle.stream_model.specs.Exact.{LosesNothing, ReachesLast}
 use Rattle.stream_model.specs.Graph.{Graph}
 use Rattle.stream_model.specs.Graph as graph
 use Rattle.stream_model.specs.Linear.{Keeping, every_one, first_one, last_one, sinks, role_of}
 use Rattle.stream_model.specs.Node.{World}
 use Rattle.stream_model.specs.Outlook.{Outlook, Agrees, Allows, failed}
-use Rattle.stream_model.specs.View.{outputs_of}
+use Rattle.stream_model.specs.OneWay as oneway
 use Rattle.stream_io.specs.State.{FolderState}
 use Rattle.blue_check.specs.Fitness.{IsFit}
 use Rattle.blue_names.specs.Picks.{picks, needs_picks}
@@ -49,7 +50,7 @@ some_one e = cc
 
 -- ---- the sinks of a blueprint stand in order of nodes
 
-file_sink : (k : Kind) (file : List ℕ) → output_of k ≡ Some file → (outputs_of k == 0) ≡ true
+file_sink : (k : Kind) (file : List ℕ) → output_of k ≡ Some file → oneway.is_sink k ≡ true
 file_sink (ToLines f) file e = refl
 file_sink (Head f) file e = refl
 file_sink (Last f) file e = refl
@@ -147,19 +148,19 @@ module _ (p : Plugged) (a : Answer) (c : AskedRun) (old new : FolderState) (tell
 
   -- and what is told of it is of the outlook of that node
   held_at : (w : World) (i k : ℕ) (n : Node) (file : List ℕ) (s : SinkStand) → IsWorldOf p.book b.nodes.items ran.leaves.drawn w → slice_get ran.stands i ≡ Some s → k ≡ s.0 → slice_get b.nodes.items k ≡ Some n → output_of n.kind ≡ Some file
-      → (held : List ℕ) × ((new.file file ≡ Some held) × SinkTells (sink_outlook (graph_of b) w k (graph_node n)) s.2 held)
+      → (held : List ℕ) × ((new.file file ≡ Some held) × SinkTells (sink_outlook (graph_of b) w k (graph_node b.wires.items n)) s.2 held)
   held_at w i k n file s is at same here shape =
       let l = ran.leaves.sink i s n file at (subst (λ (m : ℕ). slice_get b.nodes.items m ≡ Some n) same here) shape in
-      (l.held, (l.there tells, subst (λ (m : ℕ). SinkTells (sink_outlook (graph_of b) w m (graph_node n)) s.2 l.held) (sym same) (l.tells w is)))
+      (l.held, (l.there tells, subst (λ (m : ℕ). SinkTells (sink_outlook (graph_of b) w m (graph_node b.wires.items n)) s.2 l.held) (sym same) (l.tells w is)))
 
   whole_at : all_ended a.sinks ≡ true → (w : World) (k : ℕ) (n : Node) (file : List ℕ) → IsWorldOf p.book b.nodes.items ran.leaves.drawn w → slice_get b.nodes.items k ≡ Some n → output_of n.kind ≡ Some file
-      → HoldsWhole new file (sink_outlook (graph_of b) w k (graph_node n))
+      → HoldsWhole new file (sink_outlook (graph_of b) w k (graph_node b.wires.items n))
   whole_at all w k n file is here shape =
       let place = sink_placed 0 k b.nodes.items n here (file_sink n.kind file shape) in
       let number : 0 + k ≡ k = omega arith in
       let stand = stand_at place.0 k (place.1 ∙ ap Some number) in
       let held = held_at w place.0 k n file stand.0 is stand.1.0 stand.1.1 here shape in
-      whole_text new file held.0 (sink_outlook (graph_of b) w k (graph_node n)) stand.0.2 (ended_at b.nodes.items ran.stands place.0 stand.0 (ap all_ended (sym ran.sinks) ∙ all) stand.1.0) held.1.0 held.1.1
+      whole_text new file held.0 (sink_outlook (graph_of b) w k (graph_node b.wires.items n)) stand.0.2 (ended_at b.nodes.items ran.stands place.0 stand.0 (ap all_ended (sym ran.sinks) ∙ all) stand.1.0) held.1.0 held.1.1
 
   whole_files : (moves : List Pick) → a.picks ≡ moves → all_ended a.sinks ≡ true → WholeFiles p moves c old new
   whole_files moves same all = record { blueprint = b; drawn = ran.leaves.drawn; by_moves = ran.leaves.chose ∙ same; ran = over; whole = whole_at all }
@@ -183,11 +184,11 @@ module _ (p : Plugged) (a : Answer) (c : AskedRun) (old new : FolderState) (tell
     ended = λ w k n file is x.
         let stand = stand_at x.place k x.sink in
         let held = held_at w x.place k n file stand.0 is stand.1.0 stand.1.1 x.node x.writes in
-        whole_text new file held.0 (sink_outlook (graph_of b) w k (graph_node n)) stand.0.2 (stands_so k n file state.Ended x stand.0 stand.1.0) held.1.0 held.1.1;
+        whole_text new file held.0 (sink_outlook (graph_of b) w k (graph_node b.wires.items n)) stand.0.2 (stands_so k n file state.Ended x stand.0 stand.1.0) held.1.0 held.1.1;
     failed = λ w k n file cause is x.
         let stand = stand_at x.place k x.sink in
         let held = held_at w x.place k n file stand.0 is stand.1.0 stand.1.1 x.node x.writes in
-        between_text new file held.0 (sink_outlook (graph_of b) w k (graph_node n)) stand.0.2 cause (stands_so k n file (state.Failed cause) x stand.0 stand.1.0) held.1.0 held.1.1;
+        between_text new file held.0 (sink_outlook (graph_of b) w k (graph_node b.wires.items n)) stand.0.2 cause (stands_so k n file (state.Failed cause) x stand.0 stand.1.0) held.1.0 held.1.1;
   }
 
   replayed_files : ReplayedFiles p a c old new
@@ -201,8 +202,8 @@ module _ (p : Plugged) (a : Answer) (c : AskedRun) (old new : FolderState) (tell
     ended = λ w k n file is fit serves x.
         let stand = stand_at x.place k x.sink in
         let held = (ran.leaves.served w is fit serves).sink x.place stand.0 n file stand.1.0 (subst (λ (m : ℕ). slice_get b.nodes.items m ≡ Some n) stand.1.1 x.node) x.writes in
-        whole_text new file held.0 (sink_outlook (graph_of b) w k (graph_node n)) stand.0.2 (stands_so k n file state.Ended x stand.0 stand.1.0) (held.1.0 tells)
-        (subst (λ (m : ℕ). SinkTells (sink_outlook (graph_of b) w m (graph_node n)) stand.0.2 held.0) (sym stand.1.1) held.1.1);
+        whole_text new file held.0 (sink_outlook (graph_of b) w k (graph_node b.wires.items n)) stand.0.2 (stands_so k n file state.Ended x stand.0 stand.1.0) (held.1.0 tells)
+        (subst (λ (m : ℕ). SinkTells (sink_outlook (graph_of b) w m (graph_node b.wires.items n)) stand.0.2 held.0) (sym stand.1.1) held.1.1);
   }
 
 -- a call that ran a blueprint, by these moves
@@ -332,10 +333,10 @@ file_role (Head f) file e = (Some f, (first_one, refl))
 file_role (Last f) file e = (Some f, (last_one, refl))
 file_role _ file e = absurd cc
 
-module _ (ranked : (b : Blueprint) (plugs : List PlugHead) (taken : List (List ℕ)) → IsFit b plugs taken → (rank : ℕ → ℕ) × IsRanked (graph_of b) rank)
+module _ (ranked : (b : Blueprint) (heads : HeadLists) (taken : List (List ℕ)) → IsFit b heads taken → (rank : ℕ → ℕ) × IsRanked (graph_of b) rank)
     (found : (c : Cause) (o : Outlook) (l : List Tree) → LosesNothing c o → Agrees o l (failed c) → l ≡ o.list)
     (reaches : (g : Graph) (w : World) (c : Cause) (rank : ℕ → ℕ) → IsRanked g rank → (k : ℕ) (n : graph.Node) (file : Option (List ℕ)) (keeps : Keeping) → role_of n.kind ≡ sinks file keeps
-    → ReachesLast g c k n → LosesNothing c (sink_outlook g w k n)) where
+    → HasLists g w.customs k → ReachesLast g c k n → LosesNothing c (sink_outlook g w k n)) where
   whole_between : (new : FolderState) (file : List ℕ) (o : Outlook) (cause : Cause) → LosesNothing cause o → HoldsBetween new file o cause → new.file file ≡ Some (text_lines o.list)
   whole_between new file o cause last holds = holds.text ∙ ap (λ (l : List Tree). Some (text_lines l)) (found cause o holds.list last (holds.most, holds.least))
 
@@ -349,8 +350,8 @@ module _ (ranked : (b : Blueprint) (plugs : List PlugHead) (taken : List (List �
         by_moves = e.by_moves;
         ran = e.ran;
         every = e.every;
-        whole = λ w k n file cause is x last.
+        whole = λ w k n file cause is x lists last.
             let role = file_role n.kind file x.writes in
-            whole_between new file (sink_outlook (graph_of e.blueprint) w k (graph_node n)) cause
-            (reaches (graph_of e.blueprint) w cause rank.0 rank.1 k (graph_node n) role.0 role.1.0 role.1.1 last) (e.failed w k n file cause is x);
+            whole_between new file (sink_outlook (graph_of e.blueprint) w k (graph_node e.blueprint.wires.items n)) cause
+            (reaches (graph_of e.blueprint) w cause rank.0 rank.1 k (graph_node e.blueprint.wires.items n) role.0 role.1.0 role.1.1 lists last) (e.failed w k n file cause is x);
       }

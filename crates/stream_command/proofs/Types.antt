@@ -14,7 +14,7 @@ use Rattle.plug_logic.specs.Gives.{Gives}
 use Rattle.plug_logic.specs.Shipped.{last_behind, unrepeated, dedup_after, waiting, summed, pair_reply, odd, sums_after, silent, shipped_book}
 use Rattle.run_blueprint.specs.Plugs.{KeepsPlugTypes}
 use Rattle.run_blueprint.specs.Types.{HasType, AllTyped}
-use Rattle.stream_model.specs.Heads.{dedup_head, pairsum_head, shipped_heads}
+use Rattle.stream_model.specs.Heads.{dedup_head, pairsum_head, shipped_guests}
 
 -- ---- dedup
 
@@ -84,7 +84,7 @@ by_name true s p e = let same : dedup_head ≡ p = cc in subst (λ (h : PlugHead
 by_name false true p e = let same : pairsum_head ≡ p = cc in subst (λ (h : PlugHead). Keeps h (sums_after None)) same pairsum_keeps
 by_name false false p e = absurd cc
 
-pub types_kept : KeepsPlugTypes shipped_heads shipped_book
+pub types_kept : KeepsPlugTypes shipped_guests shipped_book
 types_kept = record {
   reply = λ name p e. (by_name (pointwise ◌==◌ name (codes "dedup")) (pointwise ◌==◌ name (codes "pairsum")) p e).reply;
   closing = λ name p e. (by_name (pointwise ◌==◌ name (codes "dedup")) (pointwise ◌==◌ name (codes "pairsum")) p e).closing;

@@ -1,7 +1,9 @@
 -- What is asked of a call.
-use Rattle.std.specs.Prelude.{ℕ, List, map, Option}
-use Rattle.stream_model.specs.Linear.{Book}
-use Rattle.stream_model.specs.declared.head.PlugHead.{PlugHead}
+use Rattle.std.specs.Prelude.{ℕ, List, Option}
+use Rattle.stream_model.specs.Known.{HeadLists}
+use Rattle.stream_model.specs.Linear.{Book, CustomBook}
+use Rattle.graph_stage.specs.declared.custom.Custom.{Custom}
+use Rattle.materializer.specs.HandedCustoms.{handed_heads}
 use Rattle.plug_logic.specs.declared.plug.Plug.{Plug}
 
 -- the run of a file's blueprint, by so many units at most, and perhaps a file for the trace, and a file of the moves to follow
@@ -11,11 +13,12 @@ pub record AskedRun : Type 0 where
   pub replay : Option (List ℕ)
   pub turns : ℕ
 
--- the plugs that a caller hands in: what is known of each, and the book of what they give
+-- what a caller hands in: what is known of each plug and custom stage, the book of what the plugs give, and that of the custom stages
 pub record Plugged : Type 0 where
-  pub heads : List PlugHead
+  pub heads : HeadLists
   pub book : Book
+  pub customs : CustomBook
 
--- what is known of these plugs, with the book of what they give
-abbrev pub plugged_by : {L : Type 0} → Book → List (Plug L) → Plugged
-plugged_by {L} book plugs = record { heads = map (λ (p : Plug L). p.head) plugs; book = book }
+-- what is known of these plugs and custom stages, with the books of what they give
+abbrev pub plugged_by : {L H : Type 0} → Book → CustomBook → List (Plug L) → List (Custom H) → Plugged
+plugged_by book told plugs customs = record { heads = handed_heads plugs customs; book = book; customs = told }

@@ -9,6 +9,7 @@ use Rattle.stream_model.specs.declared.blueprint.Node.{Node}
 use Rattle.stream_model.specs.declared.outcome.EndState.{EndState}
 use Rattle.stream_model.specs.declared.outcome.EndState.TheVariants as state
 use Rattle.stream_model.specs.Composed.{sink_outlook}
+use Rattle.stream_model.specs.Listed.{HasLists}
 use Rattle.stream_model.specs.Exact.{ReachesLast}
 use Rattle.stream_model.specs.Node.{World}
 use Rattle.stream_model.specs.Outlook.{Outlook, Allows}
@@ -51,8 +52,8 @@ pub record RanOver (p : Plugged) (c : AskedRun) (old new : FolderState) (b : Blu
   pub is_one : IsWorldOf p.book b.nodes.items d world
 
 -- The command's file says a blueprint, which ran over its input files by these moves. The file of each of its sinks holds the text of
--- the whole list that the graph's list functions give, by every world of those files and moves. Where there are no moves that is every
--- world of those files.
+-- the whole list that the graph's list functions give, by every world of those files and moves, and of what custom stages gave that tell no
+-- list. Where there are no moves and no custom stages that is every world of those files.
 pub record WholeFiles (p : Plugged) (moves : List Pick) (c : AskedRun) (old new : FolderState) : Type 0 where
   pub blueprint : Blueprint
   pub drawn : Drawn
@@ -60,7 +61,7 @@ pub record WholeFiles (p : Plugged) (moves : List Pick) (c : AskedRun) (old new 
   pub ran : RanOver p c old new blueprint drawn
   pub whole : (w : World) (k : ℕ) (n : Node) (file : List ℕ) → IsWorldOf p.book blueprint.nodes.items drawn w → slice_get blueprint.nodes.items k ≡ Some n
       → output_of n.kind ≡ Some file
-      → HoldsWhole new file (sink_outlook (graph_of blueprint) w k (graph_node n))
+      → HoldsWhole new file (sink_outlook (graph_of blueprint) w k (graph_node blueprint.wires.items n))
 
 -- The answer says that the sink with this file, which is node k, stands so. Sinks are answered in the order of nodes.
 pub record AnswersSink (a : Answer) (b : Blueprint) (k : ℕ) (n : Node) (file : List ℕ) (end : EndState) : Type 0 where
@@ -81,10 +82,10 @@ pub record EndedFiles (p : Plugged) (a : Answer) (c : AskedRun) (old new : Folde
   pub ran : RanOver p c old new blueprint drawn
   pub every : length a.sinks ≡ length (sink_places 0 blueprint.nodes.items)
   pub ended : (w : World) (k : ℕ) (n : Node) (file : List ℕ) → IsWorldOf p.book blueprint.nodes.items drawn w → AnswersSink a blueprint k n file state.Ended
-      → HoldsWhole new file (sink_outlook (graph_of blueprint) w k (graph_node n))
+      → HoldsWhole new file (sink_outlook (graph_of blueprint) w k (graph_node blueprint.wires.items n))
   pub failed : (w : World) (k : ℕ) (n : Node) (file : List ℕ) (cause : Cause) → IsWorldOf p.book blueprint.nodes.items drawn w
       → AnswersSink a blueprint k n file (state.Failed cause)
-      → HoldsBetween new file (sink_outlook (graph_of blueprint) w k (graph_node n)) cause
+      → HoldsBetween new file (sink_outlook (graph_of blueprint) w k (graph_node blueprint.wires.items n)) cause
 
 -- A second call ran what the same text says over input files of the same bytes, by the same moves; and no read of a file failed in either.
 pub record RunsAlike (p : Plugged) (a x : Answer) (c e : AskedRun) (old new before after : FolderState) (first : EndedFiles p a c old new) : Type 0 where
@@ -105,7 +106,7 @@ pub record ReplayedFiles (p : Plugged) (a : Answer) (c : AskedRun) (old new : Fo
   pub made : MakesItsMoves blueprint ran.plans a.picks
   pub ended : (w : World) (k : ℕ) (n : Node) (file : List ℕ) → IsReplayOf p.book blueprint.nodes.items ran.plans drawn w
       → FitsBy (graph_of blueprint) w (plan_at ran.plans) → ServesItsMoves blueprint ran.plans a.picks w → AnswersSink a blueprint k n file state.Ended
-      → HoldsWhole new file (sink_outlook (graph_of blueprint) w k (graph_node n))
+      → HoldsWhole new file (sink_outlook (graph_of blueprint) w k (graph_node blueprint.wires.items n))
 
 -- A second call ran what the same text says over input files of the same bytes, and of each stage that chose in the first its file of moves says
 -- those that it made; no read of a file failed in either. All its stages made all their moves, or no failure may come on their wires, and the
@@ -123,7 +124,7 @@ pub record ReplaysRun (p : Plugged) (a x : Answer) (c e : AskedRun) (old new bef
       → ServesItsMoves second.blueprint second.ran.plans x.picks w
 
 -- Of a call whose answer has every sink: the file of a sink that failed holds the text of that whole list too, where the failure reaches
--- it behind all that passes.
+-- it behind all that passes and no way leads to the sink from a custom stage that tells no list.
 pub record FailedWhole (p : Plugged) (a : Answer) (c : AskedRun) (old new : FolderState) : Type 0 where
   pub blueprint : Blueprint
   pub drawn : Drawn
@@ -131,5 +132,5 @@ pub record FailedWhole (p : Plugged) (a : Answer) (c : AskedRun) (old new : Fold
   pub ran : RanOver p c old new blueprint drawn
   pub every : length a.sinks ≡ length (sink_places 0 blueprint.nodes.items)
   pub whole : (w : World) (k : ℕ) (n : Node) (file : List ℕ) (cause : Cause) → IsWorldOf p.book blueprint.nodes.items drawn w
-      → AnswersSink a blueprint k n file (state.Failed cause)
-      → ReachesLast (graph_of blueprint) cause k (graph_node n) → new.file file ≡ Some (text_lines (sink_outlook (graph_of blueprint) w k (graph_node n)).list)
+      → AnswersSink a blueprint k n file (state.Failed cause) → HasLists (graph_of blueprint) w.customs k
+      → ReachesLast (graph_of blueprint) cause k (graph_node blueprint.wires.items n) → new.file file ≡ Some (text_lines (sink_outlook (graph_of blueprint) w k (graph_node blueprint.wires.items n)).list)

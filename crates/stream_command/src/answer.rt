@@ -24,7 +24,8 @@ ghost use Rattle.stream_io.specs.Text.{text_limit};
 ghost use Rattle.run_blueprint.specs.Receipt.{HasIslands};
 ghost use Rattle.stream_command.specs.RunReceipts.{Receipts, RanIslands, RanSaid, RanText, RanFile};
 ghost use Rattle.stream_command.specs.Texts.{EndedParsed, EndedSaid, EndedText, CausesChecked, CausesParsed, CausesSaid, CausesText};
-ghost use Rattle.materializer.specs.HandedPlugs.{GivesAsListed, HasPlugs};
+ghost use Rattle.materializer.specs.HandedPlugs.{GivesAsListed};
+ghost use Rattle.materializer.specs.HandedCustoms.{handed_heads, HasGuests, TellsNone};
 ghost use Rattle.stream_command.specs.Asked.{plugged_by};
 
 use crate::replays::{PlansEnd, plans_of_file};
@@ -37,9 +38,10 @@ use blue_lang::parse::{ParseEnd, parse};
 use blue_modules::text::BlueText;
 use elem_core::line::Line;
 use elem_core::why::NoMemory;
+use graph_stage::custom::Custom;
 use interpreter::island::SinkStand;
 use island_runs::ran::Ran;
-use materializer::heads::heads_of;
+use materializer::heads::{custom_heads_of, heads_of};
 use materializer::names::sink_names;
 use plug_logic::book::PlugBook;
 use plug_logic::logic::Logic;
@@ -240,19 +242,21 @@ fn run_fit<R: Threads + Wait + Sync, F: Folder, L: Logic + Send, B: PlugBook + S
     workers: u32,
     turns: u32,
     plugs: Vec<Plug<L>>,
+    customs: Vec<Custom>,
 ) -> CallEnd
     requires runs { CanRun b }
-    requires has { HasPlugs (map (λ p. p.head) plugs.items) b.nodes.items }
+    requires has { HasGuests (handed_heads plugs.items customs.items) b.wires.items b.nodes.items }
     requires listed { All (GivesAsListed L.gives B.lists) plugs.items }
+    requires untold { All (TellsNone B.customs) customs.items }
     requires apart { IsApart b trace }
     requires follow { PlansFit (map (λ n. n.kind) b.nodes.items) (map moves_of plans.items) }
     requires workers { (0 < workers) × (workers ≤ 64) }
     requires turns { turns ≤ MOST_COUNT }
-    ensures told { IsTrue (F.state folder.old).tells → EndedRun (plugged_by B.lists plugs.items) result.status (of_outcome result) b
+    ensures told { IsTrue (F.state folder.old).tells → EndedRun (plugged_by B.lists B.customs plugs.items customs.items) result.status (of_outcome result) b
         (map moves_of plans.items) trace turns
         (F.state folder.old) (F.state folder.new) }
     ensures tells { IsTrue (F.state folder.new).tells → IsTrue (F.state folder.old).tells }
-    ensures causes { RunCauses (plugged_by B.lists plugs.items) result.status (of_outcome result) b (map moves_of plans.items) trace turns
+    ensures causes { RunCauses (plugged_by B.lists B.customs plugs.items customs.items) result.status (of_outcome result) b (map moves_of plans.items) trace turns
         (F.state folder.old) (F.state folder.new) }
     ensures sinks { SinksOf result.status (of_outcome result) trace }
     ensures detail { result.detail.items ≡ detail_of result.status }
@@ -265,7 +269,9 @@ fn run_fit<R: Threads + Wait + Sync, F: Folder, L: Logic + Send, B: PlugBook + S
     let Ok((names, room)) = sinks_to_tell(alloc, &b) else {
         return without_run(alloc, Status::NoMemory);
     };
-    match run::<R, F, L, B>(rt, alloc, folder, b, trace, workers, turns, plugs, plans) {
+    match run::<R, F, L, B>(
+        rt, alloc, folder, b, trace, workers, turns, plugs, customs, plans,
+    ) {
         Ok(ran) => after_run(alloc, names, room, ran),
         Err(OpenEnd::MissingInput(name)) => without_run(alloc, Status::Missing(name)),
         Err(OpenEnd::MissingOutput(name)) => without_run(alloc, Status::Missing(name)),
@@ -299,18 +305,20 @@ fn run_checked<R: Threads + Wait + Sync, F: Folder, L: Logic + Send, B: PlugBook
     workers: u32,
     turns: u32,
     plugs: Vec<Plug<L>>,
+    customs: Vec<Custom>,
 ) -> CallEnd
     requires listed { All (GivesAsListed L.gives B.lists) plugs.items }
-    requires fit { (taken : List (List ℕ)) × IsFit (checked_blueprint checked) (map (λ p. p.head) plugs.items) taken }
+    requires untold { All (TellsNone B.customs) customs.items }
+    requires fit { (taken : List (List ℕ)) × IsFit (checked_blueprint checked) (handed_heads plugs.items customs.items) taken }
     requires apart { IsApart (checked_blueprint checked) trace }
     requires other { IsReadApart (checked_blueprint checked) replay }
     requires few { length (checked_blueprint checked).nodes.items ≤ 1024 }
     requires workers { (0 < workers) × (workers ≤ 64) }
     requires turns { turns ≤ MOST_COUNT }
-    ensures told { IsTrue (F.state folder.old).tells → EndedChecked (plugged_by B.lists plugs.items) result.status (of_outcome result)
+    ensures told { IsTrue (F.state folder.old).tells → EndedChecked (plugged_by B.lists B.customs plugs.items customs.items) result.status (of_outcome result)
         (checked_blueprint checked) trace replay turns (F.state folder.old) (F.state folder.new) }
     ensures tells { IsTrue (F.state folder.new).tells → IsTrue (F.state folder.old).tells }
-    ensures causes { CausesChecked (plugged_by B.lists plugs.items) result.status (of_outcome result) (checked_blueprint checked) trace replay turns
+    ensures causes { CausesChecked (plugged_by B.lists B.customs plugs.items customs.items) result.status (of_outcome result) (checked_blueprint checked) trace replay turns
         (F.state folder.old)
         (F.state folder.new) }
     ensures sinks { SinksOf result.status (of_outcome result) trace }
@@ -319,8 +327,8 @@ fn run_checked<R: Threads + Wait + Sync, F: Folder, L: Logic + Send, B: PlugBook
         (F.state folder.new).read }
     ensures reads_moves { ReadsMost replay (F.state folder.old).read (F.state folder.new).read }
     ensures ran { Receipts result.status workers result.used result.ran }
-    ensures islands { (taken : List (List ℕ)) → IsFit (checked_blueprint checked) (map (λ p. p.head) plugs.items) taken
-        → IfSome result.ran (λ r. RanIslands (plugged_by B.lists plugs.items) (checked_blueprint checked) taken r) }
+    ensures islands { (taken : List (List ℕ)) → IsFit (checked_blueprint checked) (handed_heads plugs.items customs.items) taken
+        → IfSome result.ran (λ r. RanIslands (plugged_by B.lists B.customs plugs.items customs.items) (checked_blueprint checked) taken r) }
     ensures handles { F.handles folder.new ≡ F.handles folder.old }
 {
     let b = checked.into_blueprint();
@@ -328,7 +336,9 @@ fn run_checked<R: Threads + Wait + Sync, F: Folder, L: Logic + Send, B: PlugBook
         Ok(plans) => plans,
         Err(end) => return without_plans(alloc, end, replay),
     };
-    run_fit::<R, F, L, B>(rt, alloc, folder, b, trace, plans, workers, turns, plugs)
+    run_fit::<R, F, L, B>(
+        rt, alloc, folder, b, trace, plans, workers, turns, plugs, customs,
+    )
 }
 
 /// Checks a blueprint, where these files are taken, and runs it.
@@ -343,33 +353,38 @@ fn run_parsed<R: Threads + Wait + Sync, F: Folder, L: Logic + Send, B: PlugBook 
     workers: u32,
     turns: u32,
     plugs: Vec<Plug<L>>,
+    customs: Vec<Custom>,
 ) -> CallEnd
     requires listed { All (GivesAsListed L.gives B.lists) plugs.items }
+    requires untold { All (TellsNone B.customs) customs.items }
     requires taken { (t : List ℕ) → trace ≡ Some t → Contains taken.now t }
     requires moves { (t : List ℕ) → replay ≡ Some t → Contains taken.now t }
     requires few { length b.nodes.items ≤ 1024 }
     requires workers { (0 < workers) × (workers ≤ 64) }
     requires turns { turns ≤ MOST_COUNT }
-    ensures told { IsTrue (F.state folder.old).tells → EndedParsed (plugged_by B.lists plugs.items) result.status
+    ensures told { IsTrue (F.state folder.old).tells → EndedParsed (plugged_by B.lists B.customs plugs.items customs.items) result.status
         (of_outcome result) b taken.now trace replay turns
         (F.state folder.old) (F.state folder.new) }
     ensures tells { IsTrue (F.state folder.new).tells → IsTrue (F.state folder.old).tells }
-    ensures causes { CausesParsed (plugged_by B.lists plugs.items) result.status (of_outcome result) b taken.now trace replay turns (F.state folder.old)
+    ensures causes { CausesParsed (plugged_by B.lists B.customs plugs.items customs.items) result.status (of_outcome result) b taken.now trace replay turns (F.state folder.old)
         (F.state folder.new) }
     ensures sinks { SinksOf result.status (of_outcome result) trace }
     ensures detail { result.detail.items ≡ detail_of result.status }
     ensures reads { QuietAmong taken.now replay (F.state folder.old).read (F.state folder.new).read }
     ensures reads_moves { ReadsMost replay (F.state folder.old).read (F.state folder.new).read }
     ensures ran { Receipts result.status workers result.used result.ran }
-    ensures islands { IfSome result.ran (λ r. RanIslands (plugged_by B.lists plugs.items) b taken.now r) }
+    ensures islands { IfSome result.ran (λ r. RanIslands (plugged_by B.lists B.customs plugs.items customs.items) b taken.now r) }
     ensures handles { F.handles folder.new ≡ F.handles folder.old }
 {
     let Ok(heads) = heads_of(alloc, &plugs) else {
         return without_run(alloc, Status::NoMemory);
     };
-    match check(alloc, b, &heads, taken) {
+    let Ok(shapes) = custom_heads_of(alloc, &customs) else {
+        return without_run(alloc, Status::NoMemory);
+    };
+    match check(alloc, b, &heads, &shapes, taken) {
         Ok(checked) => run_checked::<R, F, L, B>(
-            rt, alloc, folder, checked, trace, replay, workers, turns, plugs,
+            rt, alloc, folder, checked, trace, replay, workers, turns, plugs, customs,
         ),
         Err(CheckEnd::Fault(fault)) => unfit(alloc, fault),
         Err(CheckEnd::NoMemory) => without_run(alloc, Status::NoMemory),
@@ -396,16 +411,18 @@ fn run_said<R: Threads + Wait + Sync, F: Folder, L: Logic + Send, B: PlugBook + 
     workers: u32,
     turns: u32,
     plugs: Vec<Plug<L>>,
+    customs: Vec<Custom>,
 ) -> CallEnd
     requires listed { All (GivesAsListed L.gives B.lists) plugs.items }
+    requires untold { All (TellsNone B.customs) customs.items }
     requires taken { (t : List ℕ) → trace ≡ Some t → Contains taken.now t }
     requires moves { (t : List ℕ) → replay ≡ Some t → Contains taken.now t }
     requires workers { (0 < workers) × (workers ≤ 64) }
     requires turns { turns ≤ MOST_COUNT }
-    ensures told { IsTrue (F.state folder.old).tells → EndedSaid (plugged_by B.lists plugs.items) result.status
+    ensures told { IsTrue (F.state folder.old).tells → EndedSaid (plugged_by B.lists B.customs plugs.items customs.items) result.status
         (of_outcome result) (plain_text text) taken.now trace replay turns (F.state folder.old) (F.state folder.new) }
     ensures tells { IsTrue (F.state folder.new).tells → IsTrue (F.state folder.old).tells }
-    ensures causes { CausesSaid (plugged_by B.lists plugs.items) result.status (of_outcome result) (plain_text text) taken.now trace replay turns
+    ensures causes { CausesSaid (plugged_by B.lists B.customs plugs.items customs.items) result.status (of_outcome result) (plain_text text) taken.now trace replay turns
         (F.state folder.old)
         (F.state folder.new) }
     ensures sinks { SinksOf result.status (of_outcome result) trace }
@@ -413,12 +430,12 @@ fn run_said<R: Threads + Wait + Sync, F: Folder, L: Logic + Send, B: PlugBook + 
     ensures reads { QuietAmong taken.now replay (F.state folder.old).read (F.state folder.new).read }
     ensures reads_moves { ReadsMost replay (F.state folder.old).read (F.state folder.new).read }
     ensures ran { Receipts result.status workers result.used result.ran }
-    ensures islands { RanSaid (plugged_by B.lists plugs.items) (plain_text text) taken.now result.ran }
+    ensures islands { RanSaid (plugged_by B.lists B.customs plugs.items customs.items) (plain_text text) taken.now result.ran }
     ensures handles { F.handles folder.new ≡ F.handles folder.old }
 {
     match blueprint_of(alloc, text) {
         Ok(b) => run_parsed::<R, F, L, B>(
-            rt, alloc, folder, b, taken, trace, replay, workers, turns, plugs,
+            rt, alloc, folder, b, taken, trace, replay, workers, turns, plugs, customs,
         ),
         Err(CheckEnd::Fault(fault)) => unfit(alloc, fault),
         Err(CheckEnd::NoMemory) => without_run(alloc, Status::NoMemory),
@@ -437,28 +454,30 @@ fn run_text<R: Threads + Wait + Sync, F: Folder, L: Logic + Send, B: PlugBook + 
     workers: u32,
     turns: u32,
     plugs: Vec<Plug<L>>,
+    customs: Vec<Custom>,
 ) -> CallEnd
     requires listed { All (GivesAsListed L.gives B.lists) plugs.items }
+    requires untold { All (TellsNone B.customs) customs.items }
     requires taken { (t : List ℕ) → trace ≡ Some t → Contains taken.now t }
     requires moves { (t : List ℕ) → replay ≡ Some t → Contains taken.now t }
     requires workers { (0 < workers) × (workers ≤ 64) }
     requires turns { turns ≤ MOST_COUNT }
-    ensures told { IsTrue (F.state folder.old).tells → EndedText (plugged_by B.lists plugs.items) result.status
+    ensures told { IsTrue (F.state folder.old).tells → EndedText (plugged_by B.lists B.customs plugs.items customs.items) result.status
         (of_outcome result) text.now taken.now trace replay turns (F.state folder.old) (F.state folder.new) }
     ensures tells { IsTrue (F.state folder.new).tells → IsTrue (F.state folder.old).tells }
-    ensures causes { CausesText (plugged_by B.lists plugs.items) result.status (of_outcome result) text.now taken.now trace replay turns (F.state folder.old)
+    ensures causes { CausesText (plugged_by B.lists B.customs plugs.items customs.items) result.status (of_outcome result) text.now taken.now trace replay turns (F.state folder.old)
         (F.state folder.new) }
     ensures sinks { SinksOf result.status (of_outcome result) trace }
     ensures detail { result.detail.items ≡ detail_of result.status }
     ensures reads { QuietAmong taken.now replay (F.state folder.old).read (F.state folder.new).read }
     ensures reads_moves { ReadsMost replay (F.state folder.old).read (F.state folder.new).read }
     ensures ran { Receipts result.status workers result.used result.ran }
-    ensures islands { RanText (plugged_by B.lists plugs.items) text.now taken.now result.ran }
+    ensures islands { RanText (plugged_by B.lists B.customs plugs.items customs.items) text.now taken.now result.ran }
     ensures handles { F.handles folder.new ≡ F.handles folder.old }
 {
     match parse(alloc, text) {
         Ok(said) => run_said::<R, F, L, B>(
-            rt, alloc, folder, said, taken, trace, replay, workers, turns, plugs,
+            rt, alloc, folder, said, taken, trace, replay, workers, turns, plugs, customs,
         ),
         Err(ParseEnd::Fault(fault)) => without_run(alloc, Status::Refused(fault)),
         Err(ParseEnd::NoMemory) => without_run(alloc, Status::NoMemory),
@@ -535,14 +554,16 @@ pub fn run_file<R: Threads + Wait + Sync, F: Folder, L: Logic + Send, B: PlugBoo
     workers: u32,
     turns: u32,
     plugs: Vec<Plug<L>>,
+    customs: Vec<Custom>,
 ) -> CallEnd
     requires listed { All (GivesAsListed L.gives B.lists) plugs.items }
+    requires untold { All (TellsNone B.customs) customs.items }
     requires workers { (0 < workers) × (workers ≤ 64) }
     requires turns { turns ≤ MOST_COUNT }
-    ensures told { IsTrue (F.state folder.old).tells → Told (plugged_by B.lists plugs.items) (of_outcome result)
+    ensures told { IsTrue (F.state folder.old).tells → Told (plugged_by B.lists B.customs plugs.items customs.items) (of_outcome result)
         (record { file = file.now; trace = option_copied trace.entry; replay = option_copied replay.entry; turns = turns }) (F.state folder.old)
         (F.state folder.new) }
-    ensures causes { Causes (plugged_by B.lists plugs.items) result.status (of_outcome result) file.now (option_copied trace.entry)
+    ensures causes { Causes (plugged_by B.lists B.customs plugs.items customs.items) result.status (of_outcome result) file.now (option_copied trace.entry)
         (option_copied replay.entry) turns (F.state folder.old)
         (F.state folder.new) }
     ensures sinks { SinksOf result.status (of_outcome result) (option_copied trace.entry) }
@@ -554,7 +575,7 @@ pub fn run_file<R: Threads + Wait + Sync, F: Folder, L: Logic + Send, B: PlugBoo
     ensures reads_moves { (t : List ℕ) → option_copied replay.entry ≡ Some t → t ≢ file.now
         → GrewAtMost ((F.state folder.old).read t) plan_limit ((F.state folder.new).read t) }
     ensures ran { Receipts result.status workers result.used result.ran }
-    ensures islands { IsTrue (F.state folder.old).tells → RanFile (plugged_by B.lists plugs.items) (F.state folder.old) file.now
+    ensures islands { IsTrue (F.state folder.old).tells → RanFile (plugged_by B.lists B.customs plugs.items customs.items) (F.state folder.old) file.now
         (option_copied trace.entry) (option_copied replay.entry) result.ran }
     ensures handles { F.handles folder.new ≡ F.handles folder.old }
 {
@@ -569,7 +590,7 @@ pub fn run_file<R: Threads + Wait + Sync, F: Folder, L: Logic + Send, B: PlugBoo
     } = names;
     match read_file(alloc, folder, file) {
         Ok(text) => run_text::<R, F, L, B>(
-            rt, alloc, folder, &text, &taken, path, moves, workers, turns, plugs,
+            rt, alloc, folder, &text, &taken, path, moves, workers, turns, plugs, customs,
         ),
         Err(ReadEnd::Missing) => without_run(alloc, Status::Missing(name)),
         Err(ReadEnd::Fault) => without_run(alloc, Status::ReadFault),

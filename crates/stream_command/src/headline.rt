@@ -4,6 +4,8 @@ ghost use Rattle.std.specs.Prelude.{◌≡◌, ◌≢◌, [], false, IsTrue, Lis
 ghost use Rattle.blue_names.specs.Picks.{needs_picks};
 ghost use Rattle.run_report.specs.Answer.{Answer};
 ghost use Rattle.stream_io.specs.State.{FolderState};
+ghost use Rattle.materializer.specs.Graphs.{graph_of};
+ghost use Rattle.stream_model.specs.Listed.{HasLists};
 ghost use Rattle.stream_model.specs.declared.blueprint.Blueprint.{Blueprint};
 ghost use Rattle.stream_command.specs.Asked.{AskedRun, Plugged};
 ghost use Rattle.stream_model.specs.declared.blueprint.Node.{Node};
@@ -13,7 +15,7 @@ ghost use Rattle.stream_command.specs.Outcome.{SaysFile, Told};
 
 use materializer::laws::fit_blueprints_are_whole;
 use run_report::outcome::Status;
-use stream_model::laws::failures_lose_nothing;
+use stream_model::laws::{failures_lose_nothing, lists_are_apart_from_customs};
 
 // Choice: docs/DECISIONS.md#headline
 /// Where a call answers Done and the folder tells its files, each sink's file holds exactly the text of the list that the blueprint's
@@ -23,7 +25,8 @@ pub fn done_means_whole_files()
         → WholeFiles p a.picks c old new }
 {}
 
-/// Where no kind of the blueprint chooses, the same is said without moves: the input files and the plugs alone tell the text.
+/// Where no kind of the blueprint chooses, the same is said without moves: the input files and the plugs alone tell the text, with what
+/// custom stages gave where some are named.
 pub fn done_without_choice_means_whole_files()
     ensures { (p : Plugged) (a : Answer) (c : AskedRun) (old new : FolderState) (b : Blueprint) → Told p a c old new → a.status ≡ Status.Done → IsTrue new.tells
         → SaysFile old c.file b → needs_picks b.nodes.items ≡ false → WholeFiles p [] c old new }
@@ -37,13 +40,17 @@ pub fn each_end_tells_its_file()
 {}
 
 /// Two calls that ran what one text says over input files of the same bytes, by the same moves, where no read of a file failed: each
-/// sink that ended in both wrote the same bytes. So does a replay that made all moves of a run's own trace.
+/// sink that ended in both, to which no way leads from a custom stage, wrote the same bytes. So does a replay that made all moves of a
+/// run's own trace.
 pub fn the_same_moves_write_the_same()
     ensures { (p : Plugged) (a x : Answer) (c e : AskedRun) (old new before after : FolderState) → (first : EndedFiles p a c old new)
         → (second : EndedFiles p x e before after)
         → RunsAlike p a x c e old new before after first → (k : ℕ) (n : Node) (file : List ℕ) → AnswersSink a first.blueprint k n file Ended
-        → AnswersSink x second.blueprint k n file Ended → new.file file ≡ after.file file }
-{}
+        → AnswersSink x second.blueprint k n file Ended → HasLists (graph_of first.blueprint) first.ran.world.customs k → new.file file ≡ after.file file }
+{
+    fit_blueprints_are_whole();
+    lists_are_apart_from_customs();
+}
 
 /// Whatever the status of a call that answers some sink, its stages made the first of the moves that its file of moves says. And where
 /// each made all of them, or no failure may come on its wires, the text is that by all moves of the file.
@@ -52,12 +59,17 @@ pub fn each_replay_tells_its_files()
         → ReplayedFiles p a c old new }
 {}
 
-/// A replay of the moves that another run made, of the same text over the same bytes: each sink that ended in both wrote the same bytes.
+/// A replay of the moves that another run made, of the same text over the same bytes: each sink that ended in both, to which no way leads
+/// from a custom stage, wrote the same bytes.
 pub fn a_replay_writes_what_was_written()
     ensures { (p : Plugged) (a x : Answer) (c e : AskedRun) (old new before after : FolderState) → (first : EndedFiles p a c old new)
         → (second : ReplayedFiles p x e before after) → ReplaysRun p a x c e old new before after first second → (k : ℕ) (n : Node) (file : List ℕ)
-        → AnswersSink a first.blueprint k n file Ended → AnswersSink x second.blueprint k n file Ended → new.file file ≡ after.file file }
-{}
+        → AnswersSink a first.blueprint k n file Ended → AnswersSink x second.blueprint k n file Ended
+        → HasLists (graph_of first.blueprint) first.ran.world.customs k → new.file file ≡ after.file file }
+{
+    fit_blueprints_are_whole();
+    lists_are_apart_from_customs();
+}
 
 /// With no lane that does not keep, no buffer, no stage that holds outputs, no partition and no fan-in between the stage that failed and
 /// a sink, that sink's file holds exactly the text of the list: nothing that came before the failure is lost.

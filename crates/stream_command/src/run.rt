@@ -16,10 +16,12 @@ ghost use Rattle.stream_command.specs.RunReceipts.{Receipts, RanFile};
 ghost use Rattle.plug_logic.specs.Gives.{listed};
 ghost use Rattle.stage_linear.specs.Plugs.{Is};
 ghost use Rattle.materializer.specs.HandedPlugs.{GivesAsListed};
+ghost use Rattle.materializer.specs.HandedCustoms.{TellsNone};
 ghost use Rattle.stream_command.specs.Asked.{plugged_by};
 
 use crate::top::{RunEnd, end_before_run, run_file};
 use elem_core::line::Line;
+use graph_stage::custom::Custom;
 use plug_logic::book::PlugBook;
 use plug_logic::logic::Logic;
 use plug_logic::plug::Plug;
@@ -40,22 +42,24 @@ pub fn run_streams<R: Threads + Wait + Sync, F: Folder, C: Drain, B: PlugBook + 
     folder: &mut F,
     console: &mut C,
     plugs: Vec<Plug>,
+    customs: Vec<Custom>,
 ) -> RunEnd
     requires listed { All (λ p. Is (gives p.logic) [] (listed B.lists p.head.name)) plugs.items }
+    requires untold { All (TellsNone B.customs) customs.items }
     // Words that are no command, and no others, have this answer, or memory was wanting.
     ensures usage { result.status ≢ Status.NoMemory → (result.status ≡ Status.Usage ↔ asked_of words.now ≡ None) }
 
     // What is answered and left, by what the words ask for.
-    ensures answers { AnswersCommand (plugged_by B.lists plugs.items) (asked_of words.now) (answer_of result) (F.state folder.old) (F.state folder.new) }
+    ensures answers { AnswersCommand (plugged_by B.lists B.customs plugs.items customs.items) (asked_of words.now) (answer_of result) (F.state folder.old) (F.state folder.new) }
 
     // A valid blueprint and no fault give a run, or memory was wanting.
-    ensures complete { (c : Asked) → asked_of words.now ≡ Some c → IsValidFor (plugged_by B.lists plugs.items) c.generated c.file c.trace c.replay
+    ensures complete { (c : Asked) → asked_of words.now ≡ Some c → IsValidFor (plugged_by B.lists B.customs plugs.items customs.items) c.generated c.file c.trace c.replay
         (F.state folder.old)
         (F.state folder.new) → RoseNowhere (F.state folder.old) (F.state folder.new) → RanWithoutFault result.status }
 
     // After a run, and only there, there is a receipt, of the command's workers and as many islands as the file's blueprint has.
     ensures ran { ReceiptsOf (asked_of words.now) (answer_of result) result.ran }
-    ensures islands { IslandsOf (plugged_by B.lists plugs.items) (asked_of words.now) result.ran (F.state folder.old) (F.state folder.new) }
+    ensures islands { IslandsOf (plugged_by B.lists B.customs plugs.items customs.items) (asked_of words.now) result.ran (F.state folder.old) (F.state folder.new) }
 
     // Reading the blueprint's file stops after so many bytes.
     ensures reads { (c : Asked) → asked_of words.now ≡ Some c → GrewAtMost ((F.state folder.old).read c.file) text_limit ((F.state folder.new).read c.file) }
@@ -70,7 +74,9 @@ pub fn run_streams<R: Threads + Wait + Sync, F: Folder, C: Drain, B: PlugBook + 
     ensures console { (Puts (C.state console.old) (C.state console.new) (report_of (answer_of result)) × (result.code ≡ code_of result.status))
         ⊎ (PutsPart (C.state console.old) (C.state console.new) (report_of (answer_of result)) × (result.code ≡ 8)) }
 {
-    run_words::<R, F, C, Box<dyn Logic + Send>, B>(rt, alloc, words, folder, console, plugs)
+    run_words::<R, F, C, Box<dyn Logic + Send>, B>(
+        rt, alloc, words, folder, console, plugs, customs,
+    )
 }
 
 /// Reads the command's words, generates the files that they ask for, reads the blueprint of the file that they name and lets as many workers run it as they say, and writes the report to the console.
@@ -82,22 +88,24 @@ fn run_words<R: Threads + Wait + Sync, F: Folder, C: Drain, L: Logic + Send, B: 
     folder: &mut F,
     console: &mut C,
     plugs: Vec<Plug<L>>,
+    customs: Vec<Custom>,
 ) -> RunEnd
     requires listed { All (GivesAsListed L.gives B.lists) plugs.items }
+    requires untold { All (TellsNone B.customs) customs.items }
     // Words that are no command, and no others, have this answer, or memory was wanting.
     ensures usage { result.status ≢ Status.NoMemory → (result.status ≡ Status.Usage ↔ asked_of words.now ≡ None) }
 
     // What is answered and left, by what the words ask for.
-    ensures answers { AnswersCommand (plugged_by B.lists plugs.items) (asked_of words.now) (answer_of result) (F.state folder.old) (F.state folder.new) }
+    ensures answers { AnswersCommand (plugged_by B.lists B.customs plugs.items customs.items) (asked_of words.now) (answer_of result) (F.state folder.old) (F.state folder.new) }
 
     // A valid blueprint and no fault give a run, or memory was wanting.
-    ensures complete { (c : Asked) → asked_of words.now ≡ Some c → IsValidFor (plugged_by B.lists plugs.items) c.generated c.file c.trace c.replay
+    ensures complete { (c : Asked) → asked_of words.now ≡ Some c → IsValidFor (plugged_by B.lists B.customs plugs.items customs.items) c.generated c.file c.trace c.replay
         (F.state folder.old)
         (F.state folder.new) → RoseNowhere (F.state folder.old) (F.state folder.new) → RanWithoutFault result.status }
 
     // After a run, and only there, there is a receipt, of the command's workers and as many islands as the file's blueprint has.
     ensures ran { ReceiptsOf (asked_of words.now) (answer_of result) result.ran }
-    ensures islands { IslandsOf (plugged_by B.lists plugs.items) (asked_of words.now) result.ran (F.state folder.old) (F.state folder.new) }
+    ensures islands { IslandsOf (plugged_by B.lists B.customs plugs.items customs.items) (asked_of words.now) result.ran (F.state folder.old) (F.state folder.new) }
 
     // Reading the blueprint's file stops after so many bytes.
     ensures reads { (c : Asked) → asked_of words.now ≡ Some c → GrewAtMost ((F.state folder.old).read c.file) text_limit ((F.state folder.new).read c.file) }
@@ -113,7 +121,9 @@ fn run_words<R: Threads + Wait + Sync, F: Folder, C: Drain, L: Logic + Send, B: 
         ⊎ (PutsPart (C.state console.old) (C.state console.new) (report_of (answer_of result)) × (result.code ≡ 8)) }
 {
     match read_words(alloc, words) {
-        Ok(command) => run_command::<R, F, C, L, B>(rt, alloc, &command, folder, console, plugs),
+        Ok(command) => run_command::<R, F, C, L, B>(
+            rt, alloc, &command, folder, console, plugs, customs,
+        ),
         Err(WordsEnd::Usage) => end_before_run(alloc, Status::Usage, console),
         Err(WordsEnd::NoMemory) => end_before_run(alloc, Status::NoMemory, console),
     }
@@ -128,20 +138,26 @@ fn run_command<R: Threads + Wait + Sync, F: Folder, C: Drain, L: Logic + Send, B
     folder: &mut F,
     console: &mut C,
     plugs: Vec<Plug<L>>,
+    customs: Vec<Custom>,
 ) -> RunEnd
     requires listed { All (GivesAsListed L.gives B.lists) plugs.items }
+    requires untold { All (TellsNone B.customs) customs.items }
     requires workers { (0 < command.now.workers) × (command.now.workers ≤ 64) }
     requires turns { command.now.turns ≤ MOST_COUNT }
-    ensures answers { AnswersCommand (plugged_by B.lists plugs.items) (Some (asked command.now)) (answer_of result) (F.state folder.old) (F.state folder.new) }
+    ensures answers { AnswersCommand (plugged_by B.lists B.customs plugs.items customs.items) (Some (asked command.now)) (answer_of result) (F.state folder.old) (F.state folder.new) }
     ensures ran { ReceiptsOf (Some (asked command.now)) (answer_of result) result.ran }
-    ensures islands { IslandsOf (plugged_by B.lists plugs.items) (Some (asked command.now)) result.ran (F.state folder.old) (F.state folder.new) }
+    ensures islands { IslandsOf (plugged_by B.lists B.customs plugs.items customs.items) (Some (asked command.now)) result.ran (F.state folder.old) (F.state folder.new) }
     ensures handles { F.handles folder.new ≡ F.handles folder.old }
     ensures console { (Puts (C.state console.old) (C.state console.new) (report_of (answer_of result)) × (result.code ≡ code_of result.status))
         ⊎ (PutsPart (C.state console.old) (C.state console.new) (report_of (answer_of result)) × (result.code ≡ 8)) }
 {
     match command.generated {
-        Some(n) => run_generated::<R, F, C, L, B>(rt, alloc, n, command, folder, console, plugs),
-        None => run_command_file::<R, F, C, L, B>(rt, alloc, command, folder, console, plugs),
+        Some(n) => run_generated::<R, F, C, L, B>(
+            rt, alloc, n, command, folder, console, plugs, customs,
+        ),
+        None => run_command_file::<R, F, C, L, B>(
+            rt, alloc, command, folder, console, plugs, customs,
+        ),
     }
 }
 
@@ -160,15 +176,17 @@ fn run_command_file<
     folder: &mut F,
     console: &mut C,
     plugs: Vec<Plug<L>>,
+    customs: Vec<Custom>,
 ) -> RunEnd
     requires listed { All (GivesAsListed L.gives B.lists) plugs.items }
+    requires untold { All (TellsNone B.customs) customs.items }
     requires workers { (0 < command.now.workers) × (command.now.workers ≤ 64) }
     requires turns { command.now.turns ≤ MOST_COUNT }
-    ensures runs { RunsFile (plugged_by B.lists plugs.items) command.now.file command.now.trace command.now.replay command.now.turns (answer_of result)
+    ensures runs { RunsFile (plugged_by B.lists B.customs plugs.items customs.items) command.now.file command.now.trace command.now.replay command.now.turns (answer_of result)
         (F.state folder.old)
         (F.state folder.new) }
     ensures ran { Receipts result.status command.now.workers result.used result.ran }
-    ensures islands { IsTrue (F.state folder.old).tells → RanFile (plugged_by B.lists plugs.items)
+    ensures islands { IsTrue (F.state folder.old).tells → RanFile (plugged_by B.lists B.customs plugs.items customs.items)
         (F.state folder.old) command.now.file command.now.trace command.now.replay result.ran }
     ensures handles { F.handles folder.new ≡ F.handles folder.old }
     ensures console { (Puts (C.state console.old) (C.state console.new) (report_of (answer_of result)) × (result.code ≡ code_of result.status))
@@ -185,6 +203,7 @@ fn run_command_file<
         folder,
         console,
         plugs,
+        customs,
     )
 }
 
@@ -205,20 +224,24 @@ fn run_generated<
     folder: &mut F,
     console: &mut C,
     plugs: Vec<Plug<L>>,
+    customs: Vec<Custom>,
 ) -> RunEnd
     requires listed { All (GivesAsListed L.gives B.lists) plugs.items }
+    requires untold { All (TellsNone B.customs) customs.items }
     requires workers { (0 < command.now.workers) × (command.now.workers ≤ 64) }
     requires turns { command.now.turns ≤ MOST_COUNT }
-    ensures answers { AnswersTo (plugged_by B.lists plugs.items) (Some n) (asked command.now) (answer_of result) (F.state folder.old) (F.state folder.new) }
+    ensures answers { AnswersTo (plugged_by B.lists B.customs plugs.items customs.items) (Some n) (asked command.now) (answer_of result) (F.state folder.old) (F.state folder.new) }
     ensures ran { ReceiptsFor (Some n) (answer_of result) command.now.workers result.ran }
-    ensures islands { IslandsFor (plugged_by B.lists plugs.items) (Some n) command.now.file command.now.trace command.now.replay result.ran (F.state folder.old)
+    ensures islands { IslandsFor (plugged_by B.lists B.customs plugs.items customs.items) (Some n) command.now.file command.now.trace command.now.replay result.ran (F.state folder.old)
         (F.state folder.new) }
     ensures handles { F.handles folder.new ≡ F.handles folder.old }
     ensures console { (Puts (C.state console.old) (C.state console.new) (report_of (answer_of result)) × (result.code ≡ code_of result.status))
         ⊎ (PutsPart (C.state console.old) (C.state console.new) (report_of (answer_of result)) × (result.code ≡ 8)) }
 {
     match generate(alloc, folder, n) {
-        Ok(()) => run_command_file::<R, F, C, L, B>(rt, alloc, command, folder, console, plugs),
+        Ok(()) => run_command_file::<R, F, C, L, B>(
+            rt, alloc, command, folder, console, plugs, customs,
+        ),
         Err(GenerateEnd::Missing(name)) => end_before_run(alloc, Status::Missing(name), console),
         Err(GenerateEnd::WriteFault) => end_before_run(alloc, Status::WriteFault, console),
         Err(GenerateEnd::NoMemory) => end_before_run(alloc, Status::NoMemory, console),

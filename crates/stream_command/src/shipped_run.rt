@@ -1,4 +1,4 @@
-// The whole call with the plugs that the program ships.
+// The whole call with the plugs and the custom stages that the program ships.
 ghost use Rattle.std.specs.Prelude.{◌≡◌, ◌⊎◌, ◌↔◌, ◌≢◌, ◌++◌, ◌∷◌, [], List, ℕ, Some, None, IsTrue, OnOk, map, codes};
 ghost use Rattle.std.specs.List.{All};
 ghost use Rattle.plug_logic.specs.Gives.{listed};
@@ -12,13 +12,18 @@ ghost use Rattle.stream_io.specs.Putting.{Puts, PutsPart};
 ghost use Rattle.stream_command.specs.Answers.{AnswersCommand, IsValidFor};
 ghost use Rattle.stream_command.specs.Calls.{answer_of, RoseNowhere, WasRun};
 ghost use Rattle.stream_command.specs.Receipts.{ReceiptsOf, IslandsOf};
-ghost use Rattle.stream_model.specs.Heads.{shipped_heads};
+ghost use Rattle.stream_model.specs.Heads.{shipped_heads, shipped_shapes};
+ghost use Rattle.stream_model.specs.Known.{head_shape};
 ghost use Rattle.stream_command.specs.Heads.{shipped_plugs};
 
 use crate::run::run_streams;
 use crate::{RunEnd, end_before_run};
 use elem_core::line::Line;
 use elem_core::why::NoMemory;
+use graph_stage::alternate::Alternate;
+use graph_stage::custom::Custom;
+use graph_stage::handlers::Handlers;
+use graph_stage::rude::Rude;
 use plug_logic::book::Shipped;
 use plug_logic::dedup::Dedup;
 use plug_logic::logic::Logic;
@@ -29,8 +34,8 @@ use std::alloc::Global;
 use std::sync::Wait;
 use std::thread::Threads;
 use stream_io::outside::{Drain, Folder};
-use stream_model::head::PlugHead;
-use stream_model::heads::{dedup_head, pairsum_head};
+use stream_model::head::{CustomHead, PlugHead};
+use stream_model::heads::{alternate_head, dedup_head, pairsum_head, rude_head};
 
 /// One more plug, whose logic gives what the book of the program lists of its name.
 fn add(plugs: &mut Vec<Plug>, head: PlugHead, logic: Box<dyn Logic + Send>) -> Result<(), NoMemory>
@@ -61,7 +66,35 @@ fn add_both(
     Ok(())
 }
 
-/// Does what the words of a command ask for, as `run_streams` does, with the plugs `dedup` and `pairsum`.
+/// One more custom stage.
+fn hire(
+    customs: &mut Vec<Custom>,
+    head: CustomHead,
+    stage: Box<dyn Handlers + Send>,
+) -> Result<(), NoMemory>
+    ensures { OnOk result (map (λ c. head_shape c.head) customs.new.items ≡ map (λ c. head_shape c.head) customs.old.items ++ head_shape head ∷ []) }
+{
+    customs.push(Custom { head, stage })?;
+    Ok(())
+}
+
+/// Both custom stages of the program, with their heads.
+fn hire_both(
+    alloc: Global,
+    customs: &mut Vec<Custom>,
+    alternate: Box<dyn Handlers + Send>,
+    rude: Box<dyn Handlers + Send>,
+) -> Result<(), NoMemory>
+    requires none { customs.old.items ≡ [] }
+    ensures heads { OnOk result (map (λ c. head_shape c.head) customs.new.items ≡ shipped_shapes) }
+{
+    hire(customs, alternate_head(alloc)?, alternate)?;
+    hire(customs, rude_head(alloc)?, rude)?;
+    Ok(())
+}
+
+/// Does what the words of a command ask for, as `run_streams` does, with the plugs `dedup` and `pairsum` and the custom stages `alternate`
+/// and `rude`.
 pub fn run_shipped<R: Threads + Wait + Sync, F: Folder, C: Drain>(
     rt: &R,
     alloc: Global,
@@ -107,5 +140,15 @@ pub fn run_shipped<R: Threads + Wait + Sync, F: Folder, C: Drain>(
     if add_both(alloc, &mut plugs, dedup, pairsum).is_err() {
         return end_before_run(alloc, Status::NoMemory, console);
     }
-    run_streams::<R, F, C, Shipped>(rt, alloc, words, folder, console, plugs)
+    let Ok(alternate) = Box::new(alloc, Alternate::new()) else {
+        return end_before_run(alloc, Status::NoMemory, console);
+    };
+    let Ok(rude) = Box::new(alloc, Rude {}) else {
+        return end_before_run(alloc, Status::NoMemory, console);
+    };
+    let mut customs: Vec<Custom> = Vec::new(alloc);
+    if hire_both(alloc, &mut customs, alternate, rude).is_err() {
+        return end_before_run(alloc, Status::NoMemory, console);
+    }
+    run_streams::<R, F, C, Shipped>(rt, alloc, words, folder, console, plugs, customs)
 }

@@ -6,10 +6,12 @@ ghost use Rattle.elem_core.specs.declared.count.TheConstants.{MOST_COUNT};
 ghost use Rattle.stream_command.specs.RunCalls.{answer_of};
 ghost use Rattle.stream_command.specs.Outcome.{IsValid, Told, RanWithoutFault};
 ghost use Rattle.materializer.specs.HandedPlugs.{GivesAsListed};
+ghost use Rattle.materializer.specs.HandedCustoms.{TellsNone};
 ghost use Rattle.stream_command.specs.Asked.{plugged_by};
 
 use crate::top::{RunEnd, run_file};
 use elem_core::line::Line;
+use graph_stage::custom::Custom;
 use plug_logic::book::PlugBook;
 use plug_logic::logic::Logic;
 use plug_logic::plug::Plug;
@@ -31,19 +33,21 @@ pub fn run_surely<R: Threads + Wait + Sync, C: Drain, L: Logic + Send, B: PlugBo
     folder: &mut SureFolder,
     console: &mut C,
     plugs: Vec<Plug<L>>,
+    customs: Vec<Custom>,
 ) -> RunEnd
     requires listed { All (GivesAsListed L.gives B.lists) plugs.items }
+    requires untold { All (TellsNone B.customs) customs.items }
     requires workers { (0 < workers) × (workers ≤ 64) }
     requires turns { turns ≤ MOST_COUNT }
-    ensures told { IsTrue (⟦<SureFolder as Folder>⟧.state folder.old).tells → Told (plugged_by B.lists plugs.items) (answer_of result)
+    ensures told { IsTrue (⟦<SureFolder as Folder>⟧.state folder.old).tells → Told (plugged_by B.lists B.customs plugs.items customs.items) (answer_of result)
         (record { file = file.now; trace = option_copied trace.entry; replay = option_copied replay.entry; turns = turns })
         (⟦<SureFolder as Folder>⟧.state folder.old)
         (⟦<SureFolder as Folder>⟧.state folder.new) }
     ensures runs { IsTrue (⟦<SureFolder as Folder>⟧.state folder.old).tells
-        → IsValid (plugged_by B.lists plugs.items) file.now (option_copied trace.entry) (option_copied replay.entry)
+        → IsValid (plugged_by B.lists B.customs plugs.items customs.items) file.now (option_copied trace.entry) (option_copied replay.entry)
         (⟦<SureFolder as Folder>⟧.state folder.old) → RanWithoutFault result.status }
 {
     run_file::<R, SureFolder, C, L, B>(
-        rt, alloc, file, trace, replay, workers, turns, folder, console, plugs,
+        rt, alloc, file, trace, replay, workers, turns, folder, console, plugs, customs,
     )
 }

@@ -1,5 +1,5 @@
 -- An entry of an outlook blames its own node, or one from which the elements came.
-use Rattle.std.specs.Prelude.{slice_get, if◌then◌else◌, ◌==◌, ◌-◌, nat_le, min, Result, Ok, Err, ⊤}
+use Rattle.std.specs.Prelude.{slice_get, not, if◌then◌else◌, ◌==◌, ◌-◌, nat_le, min, Result, Ok, Err, ⊤}
 use Rattle.std.specs.List.{filter_map, cons_option, take_while}
 use Rattle.std.specs.Option.{option_map}
 use Rattle.std.proofs.Common.{◌≡◌, ◌≢◌, ℕ, zero, suc, ◌+◌, ◌<◌, Bool, true, false, List, [], ◌∷◌, ◌++◌, length, map, take, Option, None, Some, refl, sym, ap, ◌∙◌, subst, arith}
@@ -17,14 +17,16 @@ use Rattle.stream_model.specs.Composed.{inputs_of, count_from, incoming, receive
 use Rattle.stream_model.specs.FanIn.{Tagged, reach, reached, reached_all, paired, concat_of, interleave_of, inlets, turns_of, sorted_of, pairs}
 use Rattle.stream_model.specs.FanOut.{left_outlook, right_outlook}
 use Rattle.stream_model.specs.Graph.{Graph, Node, Edge, find_wire, steps_of}
-use Rattle.stream_model.specs.Linear.{Book, Work, Stage, Role, a_source, a_flow, a_fan_in, a_fan_out, Verdict, go, finish, fail, Reaction, gives, ends, blames, breaks, reads_lines, gives_range, gives_nothing, gives_failure, works, trips, plugs_in, buffers, recovers, obeys, groups_by, splits_when, splits_after, merges, gathers, concats, interleaves, merges_sorted, zips, broadcasts, balances, partitions, unzips, sinks, passing, plugged, numbering, taking, grouping, folding, reducing, heading, lasting, decided, reacts, reaction, finish_of, blame_end, keeping_work, linear, begin_work, role_of}
+use Rattle.stream_model.specs.Linear.{Book, Work, Stage, Role, a_source, a_flow, a_fan_in, a_fan_out, Verdict, go, finish, fail, Reaction, gives, ends, blames, breaks, reads_lines, gives_range, gives_nothing, gives_failure, works, trips, plugs_in, buffers, recovers, obeys, groups_by, splits_when, splits_after, merges, gathers, concats, interleaves, merges_sorted, zips, broadcasts, balances, partitions, unzips, customs, sinks, passing, plugged, numbering, taking, grouping, folding, reducing, heading, lasting, decided, reacts, reaction, finish_of, blame_end, keeping_work, linear, begin_work, role_of}
 use Rattle.stream_model.specs.Machine.{State, going, done, broken, Run, Finish, adds, refuses, Machine, is_going, feed, feed_at, run, finish_at, close_at, close, Given, input_end, whole, passed, own, fails_of, output}
-use Rattle.stream_model.specs.Node.{World, head_of, second_of, chain_of, role_outlook}
+use Rattle.stream_model.specs.Listed.{is_untold, tells_none, begins, goes_on, IsListed, HasLists}
+use Rattle.stream_model.specs.Node.{World, head_of, second_of, chain_of, custom_by, role_outlook}
 use Rattle.stream_model.specs.Outlook.{Outlook, Entry, End, behind}
 use Rattle.stream_model.specs.Picks.{count_of, at_end_of, merge_fails, sent_to, Buffered, buffered, empty_buffer, buffer_outlook, once_came, Acted, untouched, completed, aborted, acted, acted_outlook, recover_outlook}
 use Rattle.stream_model.specs.Sources.{File, short, whole_lines, file_fails, lines_outlook}
 use Rattle.stream_model.specs.Substreams.{Subs, Sub, Fault, by_element, by_end, cause_of, Opening, by_key, before, through, arranged, trouble, end_all, sub_run, sub_step, sub_finish, substreams, begin_subs, concat_subs, merge_subs, once_given}
 use Rattle.stream_model.specs.Substreams as sub
+use Rattle.stream_model.proofs.Apart.{true_or_false}
 use Rattle.stream_model.proofs.Compositions.{Found, found_first, composed_composes, slice_get-below}
 
 -- none of these entries blames node s
@@ -258,42 +260,48 @@ module _ (node s : ℕ) (other : node ≢ s) where
     halves_by true o h = h
     halves_by false o h = h
 
-    -- what a node gives blames it, or what came to it
-    role_by : (r : Role) (d : Decider) (os : List Outlook) (port : ℕ) → AllNotBy s os → AreNotBy s (role_outlook g w node r d os port).fails
-    role_by (a_source (reads_lines name)) d os port h = lines_by (w.file name)
-    role_by (a_source (gives_range low high)) d os port h = tt
-    role_by (a_source (gives_nothing b)) d os port h = tt
-    role_by (a_source (gives_failure b)) d os port h = (other, tt)
-    role_by (a_flow (works v)) d os port h = linear_by w.book node s d v v (head_of os) other (head_by os h)
-    role_by (a_flow (trips order name n)) d os port h = linear_by w.book node s d passing passing (head_of os) other (head_by os h)
-    role_by (a_flow (plugs_in name)) d os port h = linear_by w.book node s d (plugged name []) (plugged name []) (head_of os) other (head_by os h)
-    role_by (a_flow (buffers n Backpressure)) d os port h = not_behind s n (head_of os).fails (head_by os h)
-    role_by (a_flow (buffers n DropHead)) d os port h = buffer_by DropHead n (w.moves node) (head_of os) (head_by os h)
-    role_by (a_flow (buffers n DropTail)) d os port h = buffer_by DropTail n (w.moves node) (head_of os) (head_by os h)
-    role_by (a_flow (buffers n DropBuffer)) d os port h = buffer_by DropBuffer n (w.moves node) (head_of os) (head_by os h)
-    role_by (a_flow (buffers n DropNew)) d os port h = buffer_by DropNew n (w.moves node) (head_of os) (head_by os h)
-    role_by (a_flow (buffers n Fail)) d os port h = buffer_by Fail n (w.moves node) (head_of os) (head_by os h)
-    role_by (a_flow (recovers t)) d os port h = recover_by t (w.moves node) (head_of os)
-    role_by (a_flow (obeys name)) d os port h = valve_by (acted (w.moves node)) (head_of os) (head_by os h)
-    role_by (a_flow (groups_by n f chain)) d os port h = merge_by (by_key n f) chain (head_of os) (head_by os h)
-    role_by (a_flow (splits_when p chain joining.Merge)) d os port h = merge_by (before p) chain (head_of os) (head_by os h)
-    role_by (a_flow (splits_when p chain joining.Concat)) d os port h = concat_by (before p) chain (head_of os) (head_by os h)
-    role_by (a_flow (splits_after p chain joining.Merge)) d os port h = merge_by (sub.behind p) chain (head_of os) (head_by os h)
-    role_by (a_flow (splits_after p chain joining.Concat)) d os port h = concat_by (sub.behind p) chain (head_of os) (head_by os h)
-    role_by (a_fan_in (merges n)) d os port h = merged_by s (w.moves node) 0 os h
-    role_by (a_fan_in (gathers n)) d os port h = tt
-    role_by (a_fan_in (concats n)) d os port h = reached_by s 0 0 (concat_of 0 os) os h
-    role_by (a_fan_in (interleaves n k)) d os port h = reached_by s 0 0 (interleave_of k (turns_of os) k (inlets 0 os)) os h
-    role_by (a_fan_in merges_sorted) d os port h =
+    -- a custom stage that tells a list
+    custom_told : (name : List ℕ) (d : Decider) (os : List Outlook) (port : ℕ) (b : Bool) → not b ≡ false → AllNotBy s os → AreNotBy s (custom_by g w node name d os port b).fails
+    custom_told name d os port true t h = linear_by w.customs.lists node s d (plugged name []) (plugged name []) (head_of os) other (head_by os h)
+    custom_told name d os port false t h = cc
+
+    -- what a node gives blames it, or what came to it, but for a custom stage that tells no list
+    role_by : (r : Role) (d : Decider) (os : List Outlook) (port : ℕ) → is_untold w.customs r ≡ false → AllNotBy s os → AreNotBy s (role_outlook g w node r d os port).fails
+    role_by (a_source (reads_lines name)) d os port t h = lines_by (w.file name)
+    role_by (a_source (gives_range low high)) d os port t h = tt
+    role_by (a_source (gives_nothing b)) d os port t h = tt
+    role_by (a_source (gives_failure b)) d os port t h = (other, tt)
+    role_by (a_flow (works v)) d os port t h = linear_by w.book node s d v v (head_of os) other (head_by os h)
+    role_by (a_flow (trips order name n)) d os port t h = linear_by w.book node s d passing passing (head_of os) other (head_by os h)
+    role_by (a_flow (plugs_in name)) d os port t h = linear_by w.book node s d (plugged name []) (plugged name []) (head_of os) other (head_by os h)
+    role_by (a_flow (buffers n Backpressure)) d os port t h = not_behind s n (head_of os).fails (head_by os h)
+    role_by (a_flow (buffers n DropHead)) d os port t h = buffer_by DropHead n (w.moves node) (head_of os) (head_by os h)
+    role_by (a_flow (buffers n DropTail)) d os port t h = buffer_by DropTail n (w.moves node) (head_of os) (head_by os h)
+    role_by (a_flow (buffers n DropBuffer)) d os port t h = buffer_by DropBuffer n (w.moves node) (head_of os) (head_by os h)
+    role_by (a_flow (buffers n DropNew)) d os port t h = buffer_by DropNew n (w.moves node) (head_of os) (head_by os h)
+    role_by (a_flow (buffers n Fail)) d os port t h = buffer_by Fail n (w.moves node) (head_of os) (head_by os h)
+    role_by (a_flow (recovers t)) d os port t h = recover_by t (w.moves node) (head_of os)
+    role_by (a_flow (obeys name)) d os port t h = valve_by (acted (w.moves node)) (head_of os) (head_by os h)
+    role_by (a_flow (groups_by n f chain)) d os port t h = merge_by (by_key n f) chain (head_of os) (head_by os h)
+    role_by (a_flow (splits_when p chain joining.Merge)) d os port t h = merge_by (before p) chain (head_of os) (head_by os h)
+    role_by (a_flow (splits_when p chain joining.Concat)) d os port t h = concat_by (before p) chain (head_of os) (head_by os h)
+    role_by (a_flow (splits_after p chain joining.Merge)) d os port t h = merge_by (sub.behind p) chain (head_of os) (head_by os h)
+    role_by (a_flow (splits_after p chain joining.Concat)) d os port t h = concat_by (sub.behind p) chain (head_of os) (head_by os h)
+    role_by (a_fan_in (merges n)) d os port t h = merged_by s (w.moves node) 0 os h
+    role_by (a_fan_in (gathers n)) d os port t h = tt
+    role_by (a_fan_in (concats n)) d os port t h = reached_by s 0 0 (concat_of 0 os) os h
+    role_by (a_fan_in (interleaves n k)) d os port t h = reached_by s 0 0 (interleave_of k (turns_of os) k (inlets 0 os)) os h
+    role_by (a_fan_in merges_sorted) d os port t h =
         reached_by s 1 0 (sorted_of (head_of os).ends (second_of os).ends (head_of os).list (second_of os).list) (head_of os ∷ second_of os ∷ []) (head_by os h, (second_by os h, tt))
-    role_by (a_fan_in zips) d os port h = paired_by s (length (pairs (head_of os).list (second_of os).list)) (head_of os) (second_of os) (head_by os h) (second_by os h)
-    role_by (a_fan_out (broadcasts n)) d os port h = head_by os h
-    role_by (a_fan_out (balances n)) d os port h =
+    role_by (a_fan_in zips) d os port t h = paired_by s (length (pairs (head_of os).list (second_of os).list)) (head_of os) (second_of os) (head_by os h) (second_by os h)
+    role_by (a_fan_out (broadcasts n)) d os port t h = head_by os h
+    role_by (a_fan_out (balances n)) d os port t h =
         not_kept s (at_end_of (length (sent_to port (w.moves node) (head_of os).list)) (length (w.moves node)))
         (λ e r is. if_left (nat_le (e.low - 1) (length (w.moves node))) (record { cause = e.cause; low = length (sent_to port (w.moves node) (head_of os).list) }) r is) (head_of os).fails (head_by os h)
-    role_by (a_fan_out (partitions n f)) d os port h = linear_by w.book node s Stop (numbering n f port) (numbering n f port) (head_of os) other (head_by os h)
-    role_by (a_fan_out unzips) d os port h = halves_by (port == 0) (head_of os) (head_by os h)
-    role_by (sinks file keeps) d os port h = linear_by w.book node s d (keeping_work keeps) (keeping_work keeps) (head_of os) other (head_by os h)
+    role_by (a_fan_out (partitions n f)) d os port t h = linear_by w.book node s Stop (numbering n f port) (numbering n f port) (head_of os) other (head_by os h)
+    role_by (a_fan_out unzips) d os port t h = halves_by (port == 0) (head_of os) (head_by os h)
+    role_by (customs name) d os port t h = custom_told name d os port (w.customs.tells name) t h
+    role_by (sinks file keeps) d os port t h = linear_by w.book node s d (keeping_work keeps) (keeping_work keeps) (head_of os) other (head_by os h)
 
 -- ---- wires
 
@@ -318,27 +326,31 @@ module _ (g : Graph) (w : World) (rank : ℕ → ℕ) (ranked : IsRanked g rank)
   ports_by_none node [] each = tt
   ports_by_none node (p ∷ ps) each = (comes_by node p each, ports_by_none node ps each)
 
-  node_by : (x : Edge) → x.from ≢ s → ((i : ℕ) (y : Edge) → slice_get g.wires i ≡ Some y → y.to ≡ x.from → AreNotBy s (composed g w i).fails) → (n : Option Node) → AreNotBy s (given_on g w (composed g w) x.from n x.output).fails
-  node_by x other each None = tt
-  node_by x other each (Some n) = role_by x.from s other g w (role_of n.kind) n.decider (ports_of g w (composed g w) x.from (count_from 0 (inputs_of n.kind))) x.output (ports_by_none x.from (count_from 0 (inputs_of n.kind)) each)
+  node_by : (x : Edge) → x.from ≢ s → ((i : ℕ) (y : Edge) → slice_get g.wires i ≡ Some y → y.to ≡ x.from → AreNotBy s (composed g w i).fails) → (n : Option Node) → ((m : Node) → n ≡ Some m → tells_none w.customs m.kind ≡ false)
+      → AreNotBy s (given_on g w (composed g w) x.from n x.output).fails
+  node_by x other each None told = tt
+  node_by x other each (Some n) told =
+      role_by x.from s other g w (role_of n.kind) n.decider (ports_of g w (composed g w) x.from (count_from 0 (inputs_of n))) x.output (told n refl) (ports_by_none x.from (count_from 0 (inputs_of n)) each)
 
   sent_by : (o : Option Edge) → ((x : Edge) → o ≡ Some x → AreNotBy s (given_on g w (composed g w) x.from (slice_get g.nodes x.from) x.output).fails) → AreNotBy s (sent_on g w (composed g w) o).fails
   sent_by None each = tt
   sent_by (Some x) each = each x refl
 
-  wire_by : (k j : ℕ) → rank j < k → j < length g.wires → Before j → AreNotBy s (composed g w j).fails
-  wire_by zero j low below first = absurd (omega (arith, low))
-  wire_by (suc k) j low below first =
+  wire_by : (k j : ℕ) → rank j < k → j < length g.wires → Before j → IsListed g w.customs j → AreNotBy s (composed g w j).fails
+  wire_by zero j low below first listed = absurd (omega (arith, low))
+  wire_by (suc k) j low below first listed =
       subst (λ (o : Outlook). AreNotBy s o.fails) (composed_composes g w rank ranked j below)
       (sent_by (slice_get g.wires j)
       (λ x at.
       node_by x (λ same. let less : rank j < rank j = first j x at same in omega (arith, less))
       (λ i y there to.
       let lower : rank i < rank j = ranked.rises i j y x there at to in
-      wire_by k i (omega (arith, lower, low)) (slice_get-below g.wires i y there) (λ l z here is. let more : rank j < rank l = first l z here is in omega (arith, lower, more))) (slice_get g.nodes x.from)))
+      wire_by k i (omega (arith, lower, low)) (slice_get-below g.wires i y there) (λ l z here is. let more : rank j < rank l = first l z here is in omega (arith, lower, more))
+      (λ h. listed (goes_on i j y x there at to h))) (slice_get g.nodes x.from)
+      (λ m is. true_or_false (tells_none w.customs m.kind) (λ e. listed (begins j x m at is e)))))
 
-  -- so no failure that comes to a node blames it
-  pub input_by : AreNotBy s (incoming g w (composed g w) (find_wire s 0 g.wires)).fails
-  input_by =
+  -- so no failure that comes to a node with lists blames it
+  pub input_by : HasLists g w.customs s → AreNotBy s (incoming g w (composed g w) (find_wire s 0 g.wires)).fails
+  input_by lists =
       comes_by s 0
-      (λ i x at to. wire_by (suc (rank i)) i (omega arith) (slice_get-below g.wires i x at) (λ l z here is. ranked.rises i l x z at here (to ∙ sym is)))
+      (λ i x at to. wire_by (suc (rank i)) i (omega arith) (slice_get-below g.wires i x at) (λ l z here is. ranked.rises i l x z at here (to ∙ sym is)) (lists i x at to))

@@ -13,7 +13,7 @@ use Rattle.elem_core.specs.declared.why.Why.{Why}
 use Rattle.elem_core.specs.declared.why.Why.TheVariants.{ReadFault, LineTooLong, BufferOverflow}
 use Rattle.stream_model.specs.declared.kind.Policy.TheVariants.{Fail}
 use Rattle.elem_core.proofs.Prefixes.{prefix_whole}
-use Rattle.stream_model.specs.Composed.{ports_by, count_from, incoming, received, wire_loss, ports_of, given_on, sent_on, composed, sink_outlook, IsRanked}
+use Rattle.stream_model.specs.Composed.{ports_by, inputs_of, count_from, incoming, received, wire_loss, ports_of, given_on, sent_on, composed, sink_outlook, IsRanked}
 use Rattle.stream_model.specs.Exact.{ComeLast, LosesNothing, OvertakesNone, hands_on, fails_last, LeadsInto, HandsOver, LeadsTo, BeginsOn, ReachesLast, its_own, by_way}
 use Rattle.stream_model.specs.FanOut.{mapped, left_outlook, right_outlook}
 use Rattle.stream_model.specs.Graph.{Graph, Node, Edge, find_wire}
@@ -24,8 +24,9 @@ use Rattle.stream_model.specs.Node.{World, role_outlook, of_work}
 use Rattle.stream_model.specs.Outlook.{Outlook, Entry, failed, Agrees, Allows, behind, lane_outlook}
 use Rattle.stream_model.specs.Picks.{sent_to, at_end_of, balance_outlook, Buffered, buffered, empty_buffer, nothing_held, once_came, Acted, untouched, completed, aborted, acted, acted_outlook}
 use Rattle.stream_model.specs.Sources.{File, short, whole_lines, file_fails, lines_outlook}
+use Rattle.stream_model.specs.Listed.{goes_on, Unlisted, HasLists}
 use Rattle.stream_model.proofs.Blaming.{AreNotBy, not_kept, if_left, input_by}
-use Rattle.stream_model.proofs.Compositions.{composed_composes, slice_get-below}
+use Rattle.stream_model.proofs.Compositions.{found_first, composed_composes, slice_get-below}
 
 -- ---- what it says of a list that failed
 
@@ -223,55 +224,55 @@ kept_not first_one = refl
 kept_not last_one = refl
 
 module _ (g : Graph) (w : World) (c : Cause) where
-  role_last : (node : ℕ) (r : Role) (d : Decider) (sent : ℕ → Outlook) (port : ℕ) → hands_on r ≡ true → LosesNothing c (incoming g w sent (find_wire node 0 g.wires))
-      → LosesNothing c (role_outlook g w node r d (ports_of g w sent node (count_from 0 (ports_by r).0)) port)
-  role_last node (a_flow (works v)) d sent port is h = linear_last w.book c v (begin_work node d v) (incoming g w sent (find_wire node 0 g.wires)) (not_held (holds v) is) h
-  role_last node (a_flow (trips order name n)) d sent port is h = linear_last w.book c passing (begin_work node d passing) (incoming g w sent (find_wire node 0 g.wires)) refl h
-  role_last node (a_flow (obeys name)) d sent port is h = valve_last c node (acted (w.moves node)) (incoming g w sent (find_wire node 0 g.wires)) h
-  role_last node (a_fan_out (broadcasts n)) d sent port is h = h
-  role_last node (a_fan_out (balances n)) d sent port is h = sent_last (incoming g w sent (find_wire node 0 g.wires)) h
+  role_last : (head : ℕ × ℕ) (node : ℕ) (r : Role) (d : Decider) (sent : ℕ → Outlook) (port : ℕ) → hands_on r ≡ true → LosesNothing c (incoming g w sent (find_wire node 0 g.wires))
+      → LosesNothing c (role_outlook g w node r d (ports_of g w sent node (count_from 0 (ports_by head r).0)) port)
+  role_last head node (a_flow (works v)) d sent port is h = linear_last w.book c v (begin_work node d v) (incoming g w sent (find_wire node 0 g.wires)) (not_held (holds v) is) h
+  role_last head node (a_flow (trips order name n)) d sent port is h = linear_last w.book c passing (begin_work node d passing) (incoming g w sent (find_wire node 0 g.wires)) refl h
+  role_last head node (a_flow (obeys name)) d sent port is h = valve_last c node (acted (w.moves node)) (incoming g w sent (find_wire node 0 g.wires)) h
+  role_last head node (a_fan_out (broadcasts n)) d sent port is h = h
+  role_last head node (a_fan_out (balances n)) d sent port is h = sent_last (incoming g w sent (find_wire node 0 g.wires)) h
     where
       sent_last : (o : Outlook) → LosesNothing c o → LosesNothing c (balance_outlook (w.moves node) o port)
       sent_last o h =
           balance_last c o.ends (length (w.moves node) == length o.list) (length o.list) (length (sent_to port (w.moves node) o.list)) (length (w.moves node)) o.fails h
-  role_last node (a_fan_out unzips) d sent port is h = by (port == 0)
+  role_last head node (a_fan_out unzips) d sent port is h = by (port == 0)
     where
       by : (b : Bool) → LosesNothing c (if b then left_outlook (incoming g w sent (find_wire node 0 g.wires)) else right_outlook (incoming g w sent (find_wire node 0 g.wires)))
       by true = half_last c left_half (incoming g w sent (find_wire node 0 g.wires)) h
       by false = half_last c right_half (incoming g w sent (find_wire node 0 g.wires)) h
-  role_last node (sinks file keeps) d sent port is h = linear_last w.book c (keeping_work keeps) (begin_work node d (keeping_work keeps)) (incoming g w sent (find_wire node 0 g.wires)) (kept_not keeps) h
-  role_last node _ d sent port is h = absurd cc
+  role_last head node (sinks file keeps) d sent port is h = linear_last w.book c (keeping_work keeps) (begin_work node d (keeping_work keeps)) (incoming g w sent (find_wire node 0 g.wires)) (kept_not keeps) h
+  role_last head node _ d sent port is h = absurd cc
 
   -- what a stage fails with by its own doing comes last on its output
-  role_fails : (node : ℕ) (r : Role) (d : Decider) (sent : ℕ → Outlook) (port : ℕ) → fails_last r c.why ≡ true → AreNotBy c.stage (incoming g w sent (find_wire node 0 g.wires)).fails
-      → LosesNothing c (role_outlook g w node r d (ports_of g w sent node (count_from 0 (ports_by r).0)) port)
-  role_fails node (a_source (reads_lines name)) d sent port is h = lines_last c node (w.file name) (too_long name c.why is)
-  role_fails node (a_source (gives_failure b)) d sent port is h = ((λ same. (refl, omega arith)), tt)
-  role_fails node (a_flow (works v)) d sent port is h = own_failure (linear w.book v) (begin_work node d v) c refl (incoming g w sent (find_wire node 0 g.wires)) h
-  role_fails node (a_flow (trips order name n)) d sent port is h = own_failure (linear w.book passing) (begin_work node d passing) c refl (incoming g w sent (find_wire node 0 g.wires)) h
-  role_fails node (a_flow (plugs_in name)) d sent port is h = own_failure (linear w.book (plugged name [])) (begin_work node d (plugged name [])) c refl (incoming g w sent (find_wire node 0 g.wires)) h
-  role_fails node (a_flow (buffers n Fail)) d sent port is h = overflow_last c (buffered Fail n (w.moves node) (incoming g w sent (find_wire node 0 g.wires)).list empty_buffer) node (incoming g w sent (find_wire node 0 g.wires)) h
-  role_fails node (a_flow (obeys name)) d sent port is h =
+  role_fails : (head : ℕ × ℕ) (node : ℕ) (r : Role) (d : Decider) (sent : ℕ → Outlook) (port : ℕ) → fails_last r c.why ≡ true → AreNotBy c.stage (incoming g w sent (find_wire node 0 g.wires)).fails
+      → LosesNothing c (role_outlook g w node r d (ports_of g w sent node (count_from 0 (ports_by head r).0)) port)
+  role_fails head node (a_source (reads_lines name)) d sent port is h = lines_last c node (w.file name) (too_long name c.why is)
+  role_fails head node (a_source (gives_failure b)) d sent port is h = ((λ same. (refl, omega arith)), tt)
+  role_fails head node (a_flow (works v)) d sent port is h = own_failure (linear w.book v) (begin_work node d v) c refl (incoming g w sent (find_wire node 0 g.wires)) h
+  role_fails head node (a_flow (trips order name n)) d sent port is h = own_failure (linear w.book passing) (begin_work node d passing) c refl (incoming g w sent (find_wire node 0 g.wires)) h
+  role_fails head node (a_flow (plugs_in name)) d sent port is h = own_failure (linear w.book (plugged name [])) (begin_work node d (plugged name [])) c refl (incoming g w sent (find_wire node 0 g.wires)) h
+  role_fails head node (a_flow (buffers n Fail)) d sent port is h = overflow_last c (buffered Fail n (w.moves node) (incoming g w sent (find_wire node 0 g.wires)).list empty_buffer) node (incoming g w sent (find_wire node 0 g.wires)) h
+  role_fails head node (a_flow (obeys name)) d sent port is h =
       valve_last c node (acted (w.moves node)) (incoming g w sent (find_wire node 0 g.wires))
       (come_others c (incoming g w sent (find_wire node 0 g.wires)).ends (length (incoming g w sent (find_wire node 0 g.wires)).list) (incoming g w sent (find_wire node 0 g.wires)).fails h)
-  role_fails node (a_fan_out (partitions n f)) d sent port is h = own_failure (linear w.book (numbering n f port)) (begin_work node Stop (numbering n f port)) c refl (incoming g w sent (find_wire node 0 g.wires)) h
-  role_fails node (sinks file keeps) d sent port is h = own_failure (linear w.book (keeping_work keeps)) (begin_work node d (keeping_work keeps)) c refl (incoming g w sent (find_wire node 0 g.wires)) h
-  role_fails node _ d sent port is h = absurd cc
+  role_fails head node (a_fan_out (partitions n f)) d sent port is h = own_failure (linear w.book (numbering n f port)) (begin_work node Stop (numbering n f port)) c refl (incoming g w sent (find_wire node 0 g.wires)) h
+  role_fails head node (sinks file keeps) d sent port is h = own_failure (linear w.book (keeping_work keeps)) (begin_work node d (keeping_work keeps)) c refl (incoming g w sent (find_wire node 0 g.wires)) h
+  role_fails head node _ d sent port is h = absurd cc
 
   module _ (rank : ℕ → ℕ) (ranked : IsRanked g rank) where
     on_wire : (j : ℕ) (x : Edge) (n : Node) → slice_get g.wires j ≡ Some x → slice_get g.nodes x.from ≡ Some n
-        → LosesNothing c (role_outlook g w x.from (role_of n.kind) n.decider (ports_of g w (composed g w) x.from (count_from 0 (ports_by (role_of n.kind)).0)) x.output) → LosesNothing c (composed g w j)
+        → LosesNothing c (role_outlook g w x.from (role_of n.kind) n.decider (ports_of g w (composed g w) x.from (count_from 0 (inputs_of n))) x.output) → LosesNothing c (composed g w j)
     on_wire j x n there node h =
         subst (λ (o : Outlook). LosesNothing c o) (composed_composes g w rank ranked j (slice_get-below g.wires j x there))
         (subst (λ (y : Option Edge). LosesNothing c (sent_on g w (composed g w) y)) (sym there)
         (subst (λ (y : Option Node). LosesNothing c (given_on g w (composed g w) x.from y x.output)) (sym node) h))
 
     -- what comes to the node that the cause names has no failure with that cause
-    comes_not : (node : ℕ) → node ≡ c.stage → AreNotBy c.stage (incoming g w (composed g w) (find_wire node 0 g.wires)).fails
-    comes_not node is = subst (λ (s : ℕ). AreNotBy s (incoming g w (composed g w) (find_wire node 0 g.wires)).fails) is (input_by g w rank ranked node)
+    comes_not : (node : ℕ) → node ≡ c.stage → HasLists g w.customs node → AreNotBy c.stage (incoming g w (composed g w) (find_wire node 0 g.wires)).fails
+    comes_not node is lists = subst (λ (s : ℕ). AreNotBy s (incoming g w (composed g w) (find_wire node 0 g.wires)).fails) is (input_by g w rank ranked node lists)
 
-    wire_begins : (u : ℕ) → BeginsOn g c u → LosesNothing c (composed g w u)
-    wire_begins u b = on_wire u b.wire b.node b.at b.from (role_fails b.wire.from (role_of b.node.kind) b.node.decider (composed g w) b.wire.output b.last (comes_not b.wire.from b.named))
+    wire_begins : (u : ℕ) (b : BeginsOn g c u) → HasLists g w.customs b.wire.from → LosesNothing c (composed g w u)
+    wire_begins u b lists = on_wire u b.wire b.node b.at b.from (role_fails b.node.head b.wire.from (role_of b.node.kind) b.node.decider (composed g w) b.wire.output b.last (comes_not b.wire.from b.named lists))
 
     -- what comes in by a wire on which a failure overtakes nothing
     comes_last : (u node : ℕ) → LeadsInto g u node → LosesNothing c (composed g w u) → LosesNothing c (incoming g w (composed g w) (find_wire node 0 g.wires))
@@ -281,11 +282,18 @@ module _ (g : Graph) (w : World) (c : Cause) where
 
     -- from one wire to the next, and so on along a way
     goes_last : (u j : ℕ) → HandsOver g u j → LosesNothing c (composed g w u) → LosesNothing c (composed g w j)
-    goes_last u j x h = on_wire j x.wire x.node x.at x.from (role_last x.wire.from (role_of x.node.kind) x.node.decider (composed g w) x.wire.output x.hands (comes_last u x.wire.from x.comes h))
+    goes_last u j x h = on_wire j x.wire x.node x.at x.from (role_last x.node.head x.wire.from (role_of x.node.kind) x.node.decider (composed g w) x.wire.output x.hands (comes_last u x.wire.from x.comes h))
 
     way_last : (u : ℕ) (js : List ℕ) (node : ℕ) → LeadsTo g u js node → LosesNothing c (composed g w u) → LosesNothing c (incoming g w (composed g w) (find_wire node 0 g.wires))
     way_last u [] node x h = comes_last u node x h
     way_last u (j ∷ js) node x h = way_last j js node x.1 (goes_last u j x.0 h)
+
+    -- no way leads to a node with lists from a wire that has none
+    leads_unlisted : (u : ℕ) (js : List ℕ) (k : ℕ) → LeadsTo g u js k → HasLists g w.customs k → Unlisted g w.customs u → ⊥
+    leads_unlisted u [] k x lists h = let r = found_first (λ v. v.to) (λ v. v.input) k 0 g.wires u x.into in lists u r.wire r.at r.to h
+    leads_unlisted u (j ∷ js) k x lists h =
+        let r = found_first (λ v. v.to) (λ v. v.input) x.0.wire.from 0 g.wires u x.0.comes.into in
+        leads_unlisted j js k x.1 lists (goes_on u j r.wire x.0.wire r.at x.0.at r.to h)
 
     -- a sink is the machine of what it keeps
     at_sink : (k : ℕ) (n : Node) (file : Option (List ℕ)) (keeps : Keeping) → role_of n.kind ≡ sinks file keeps
@@ -294,13 +302,13 @@ module _ (g : Graph) (w : World) (c : Cause) where
         let work : work_of n.kind ≡ Some (keeping_work keeps) = ap work_by role in
         subst (λ (y : Option Work). LosesNothing c (of_work w.book k n.decider y (ports_of g w (composed g w) k (count_from 0 1)))) (sym work) h
 
-    reaches_here : (k : ℕ) (n : Node) (file : Option (List ℕ)) (keeps : Keeping) → role_of n.kind ≡ sinks file keeps → ReachesLast g c k n → LosesNothing c (sink_outlook g w k n)
-    reaches_here k n file keeps role (its_own named last) =
-        at_sink k n file keeps role (own_failure (linear w.book (keeping_work keeps)) (begin_work k n.decider (keeping_work keeps)) c refl (incoming g w (composed g w) (find_wire k 0 g.wires)) (comes_not k named))
-    reaches_here k n file keeps role (by_way u js begins leads) =
+    reaches_here : (k : ℕ) (n : Node) (file : Option (List ℕ)) (keeps : Keeping) → role_of n.kind ≡ sinks file keeps → HasLists g w.customs k → ReachesLast g c k n → LosesNothing c (sink_outlook g w k n)
+    reaches_here k n file keeps role lists (its_own named last) =
+        at_sink k n file keeps role (own_failure (linear w.book (keeping_work keeps)) (begin_work k n.decider (keeping_work keeps)) c refl (incoming g w (composed g w) (find_wire k 0 g.wires)) (comes_not k named lists))
+    reaches_here k n file keeps role lists (by_way u js begun leads) =
         at_sink k n file keeps role
-        (linear_last w.book c (keeping_work keeps) (begin_work k n.decider (keeping_work keeps)) (incoming g w (composed g w) (find_wire k 0 g.wires)) (kept_not keeps) (way_last u js k leads (wire_begins u begins)))
+        (linear_last w.book c (keeping_work keeps) (begin_work k n.decider (keeping_work keeps)) (incoming g w (composed g w) (find_wire k 0 g.wires)) (kept_not keeps) (way_last u js k leads (wire_begins u begun (λ i v at to h. leads_unlisted u js k leads lists (goes_on i u v begun.wire at begun.at to h)))))
 
 pub reaches_last : (g : Graph) (w : World) (c : Cause) (rank : ℕ → ℕ) → IsRanked g rank → (k : ℕ) (n : Node) (file : Option (List ℕ)) (keeps : Keeping) → role_of n.kind ≡ sinks file keeps
-    → ReachesLast g c k n → LosesNothing c (sink_outlook g w k n)
-reaches_last g w c rank ranked k n file keeps role reaches = reaches_here g w c rank ranked k n file keeps role reaches
+    → HasLists g w.customs k → ReachesLast g c k n → LosesNothing c (sink_outlook g w k n)
+reaches_last g w c rank ranked k n file keeps role lists reaches = reaches_here g w c rank ranked k n file keeps role lists reaches

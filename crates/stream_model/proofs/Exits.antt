@@ -1,16 +1,18 @@
 -- Where a picture rests, each node that is not shut leads on: an input of it waits, or an output of it is unasked.
-use Rattle.std.proofs.Common.{◌≡◌, ℕ, ◌+◌, Bool, ◌⊎◌, inl, inr, List, [], ◌∷◌, Option, Some, None}
+use Rattle.std.specs.Prelude.{not}
+use Rattle.std.proofs.Common.{◌≡◌, ℕ, ◌+◌, Bool, true, false, ◌⊎◌, inl, inr, List, [], ◌∷◌, Option, Some, None, refl}
 use Rattle.elem_core.specs.Tree.{Tree}
 use Rattle.stream_model.specs.declared.kind.Kind.{Kind}
-use Rattle.stream_model.specs.declared.kind.Kind.TheVariants.{Lines, Range, Empty, Failed, Buffer, Merge, MergeHub, Concat, Interleave, MergeSorted, Zip, Broadcast, BroadcastHub, Balance, Partition, Unzip}
+use Rattle.stream_model.specs.declared.kind.Kind.TheVariants.{Lines, Range, Empty, Failed, Buffer, Merge, MergeHub, Concat, Interleave, MergeSorted, Zip, Broadcast, BroadcastHub, Balance, Partition, Unzip, Custom}
 use Rattle.elem_core.specs.declared.why.Decider.{Decider}
 use Rattle.stream_model.specs.declared.kind.Policy.{Policy}
 use Rattle.stream_model.specs.declared.kind.Policy.TheVariants.{Backpressure}
 use Rattle.stream_model.specs.Graph.{Graph}
 use Rattle.stream_model.specs.Node.{World}
-use Rattle.stream_model.specs.OneWay.{OneWay, one_way}
+use Rattle.stream_model.specs.Listed.{tells_none}
+use Rattle.stream_model.specs.OneWay.{OneWay, custom_way, one_way}
 use Rattle.stream_model.specs.View.{SeenWire, SomeWire}
-use Rattle.stream_model.specs.Rests.{Waits, IsAsked, IsUnasked, FirstOpenWaits, WaitsAt, OneToOne, ManyToOne, OneToMany, StageRests, BufferRests, DroppingRests, MergeRests, ConcatRests, InterleaveRests, SortedStands, SortedRests, ZipRests, BroadcastRests, BalanceRests, numbered, SomeOwed, PartitionRests, SinkRests, SourceRests, RowRests, stage_rests, dropping_rests}
+use Rattle.stream_model.specs.Rests.{Waits, IsAsked, IsUnasked, FirstOpenWaits, WaitsAt, OneToOne, ManyToOne, OneToMany, StageRests, BufferRests, DroppingRests, MergeRests, ConcatRests, InterleaveRests, SortedStands, SortedRests, ZipRests, BroadcastRests, BalanceRests, numbered, SomeOwed, PartitionRests, SinkRests, SourceRests, RowRests, stage_rests, custom_rests, dropping_rests}
 
 -- some input waits, or some output is unasked
 abbrev pub Exit : List SeenWire → List SeenWire → Type 0
@@ -128,22 +130,35 @@ module _ (g : Graph) (w : World) where
   any_buffer_exit node n Backpressure is os h = one_to_one (BufferRests n) is os (buffer_exit n) h
   any_buffer_exit node n p is os h = one_to_one (λ i o. DroppingRests _ i o) is os (λ i o. dropping_exit _ i o) h
 
+  some_exit : (s : Option OneWay) (is os : List SeenWire) → (s ≡ None → ⊥) → custom_rests g w s is os → Exit is os
+  some_exit None is os t h = absurd (t refl)
+  some_exit (Some s) is os t h = one_to_one (StageRests s) is os (stage_exit s) h
+
+  has_way : (node : ℕ) (name : List ℕ) (d : Decider) (b : Bool) → not b ≡ false → custom_way w node name d b ≡ None → ⊥
+  has_way node name d true t e = cc
+  has_way node name d false t e = cc
+
+  custom_exit : (node : ℕ) (name : List ℕ) (d : Decider) (is os : List SeenWire) → not (w.customs.tells name) ≡ false
+      → custom_rests g w (custom_way w node name d (w.customs.tells name)) is os → Exit is os
+  custom_exit node name d is os t h = some_exit (custom_way w node name d (w.customs.tells name)) is os (has_way node name d (w.customs.tells name) t) h
+
   -- each row leads on
-  pub row_exit : (node : ℕ) (k : Kind) (d : Decider) (is os : List SeenWire) → RowRests g w node k d is os → Exit is os
-  row_exit node (Lines name) d is os h = source_exit is os h
-  row_exit node (Range low high) d is os h = source_exit is os h
-  row_exit node (Empty b) d is os h = source_exit is os h
-  row_exit node (Failed b) d is os h = source_exit is os h
-  row_exit node (Buffer n p) d is os h = any_buffer_exit node n p is os h
-  row_exit node (Merge n) d is os h = many_to_one (MergeRests (w.moves node)) is os (merge_exit (w.moves node) is) h
-  row_exit node (MergeHub s n) d is os h = many_to_one (MergeRests (w.moves node)) is os (merge_exit (w.moves node) is) h
-  row_exit node (Concat n) d is os h = many_to_one ConcatRests is os (concat_exit is) h
-  row_exit node (Interleave n s) d is os h = many_to_one (InterleaveRests s) is os (interleave_exit s is) h
-  row_exit node MergeSorted d is os h = many_to_one SortedRests is os (sorted_exit is) h
-  row_exit node Zip d is os h = many_to_one ZipRests is os (zip_exit is) h
-  row_exit node (Broadcast n) d is os h = one_to_many BroadcastRests is os (λ i p. broadcast_exit i os p) h
-  row_exit node (BroadcastHub s n) d is os h = one_to_many BroadcastRests is os (λ i p. broadcast_exit i os p) h
-  row_exit node Unzip d is os h = one_to_many BroadcastRests is os (λ i p. broadcast_exit i os p) h
-  row_exit node (Balance n) d is os h = one_to_many BalanceRests is os (λ i p. balance_exit i os p) h
-  row_exit node (Partition n f) d is os h = one_to_many (PartitionRests (numbered w node n f)) is os (λ i p. partition_exit (numbered w node n f) i os p) h
-  row_exit node k d is os h = any_stage_exit (one_way g w node k d) is os h
+  pub row_exit : (node : ℕ) (k : Kind) (d : Decider) (is os : List SeenWire) → tells_none w.customs k ≡ false → RowRests g w node k d is os → Exit is os
+  row_exit node (Lines name) d is os t h = source_exit is os h
+  row_exit node (Range low high) d is os t h = source_exit is os h
+  row_exit node (Empty b) d is os t h = source_exit is os h
+  row_exit node (Failed b) d is os t h = source_exit is os h
+  row_exit node (Buffer n p) d is os t h = any_buffer_exit node n p is os h
+  row_exit node (Merge n) d is os t h = many_to_one (MergeRests (w.moves node)) is os (merge_exit (w.moves node) is) h
+  row_exit node (MergeHub s n) d is os t h = many_to_one (MergeRests (w.moves node)) is os (merge_exit (w.moves node) is) h
+  row_exit node (Concat n) d is os t h = many_to_one ConcatRests is os (concat_exit is) h
+  row_exit node (Interleave n s) d is os t h = many_to_one (InterleaveRests s) is os (interleave_exit s is) h
+  row_exit node MergeSorted d is os t h = many_to_one SortedRests is os (sorted_exit is) h
+  row_exit node Zip d is os t h = many_to_one ZipRests is os (zip_exit is) h
+  row_exit node (Broadcast n) d is os t h = one_to_many BroadcastRests is os (λ i p. broadcast_exit i os p) h
+  row_exit node (BroadcastHub s n) d is os t h = one_to_many BroadcastRests is os (λ i p. broadcast_exit i os p) h
+  row_exit node Unzip d is os t h = one_to_many BroadcastRests is os (λ i p. broadcast_exit i os p) h
+  row_exit node (Balance n) d is os t h = one_to_many BalanceRests is os (λ i p. balance_exit i os p) h
+  row_exit node (Partition n f) d is os t h = one_to_many (PartitionRests (numbered w node n f)) is os (λ i p. partition_exit (numbered w node n f) i os p) h
+  row_exit node (Custom name) d is os t h = custom_exit node name d is os t h
+  row_exit node k d is os t h = any_stage_exit (one_way g w node k d) is os h

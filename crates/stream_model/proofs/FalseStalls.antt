@@ -28,13 +28,13 @@ has_no_order : (m n : Node) → Some m ≡ Some n → (moves : List ℕ) (v : Li
 has_no_order m n h moves v none some = let e : m ≡ n = cc in no_none (sym none ∙ ap (λ (x : Node). valve_order x.kind moves) e ∙ some)
 
 abbrev Lawfully : Graph → List WireCount → ℕ → Node → Type 0
-Lawfully g counts i n = RowLawful g no_files i n.kind n.decider (ins g counts (composed g no_files) i n.kind) (outs g counts (composed g no_files) i n.kind)
+Lawfully g counts i n = RowLawful g no_files i n.kind n.decider (ins g counts (composed g no_files) i n) (outs g counts (composed g no_files) i n)
 
 lawful_at : (g : Graph) (counts : List WireCount) (i : ℕ) (m n : Node) → Some m ≡ Some n → Lawfully g counts i m → Lawfully g counts i n
 lawful_at g counts i m n h r = let e : m ≡ n = cc in subst (Lawfully g counts i) e r
 
 abbrev WiresLawful : Graph → List WireCount → ℕ → Node → Type 0
-WiresLawful g counts i n = EachWire WireLawful (ins g counts (composed g no_files) i n.kind)
+WiresLawful g counts i n = EachWire WireLawful (ins g counts (composed g no_files) i n)
 
 wires_at : (g : Graph) (counts : List WireCount) (i : ℕ) (m n : Node) → Some m ≡ Some n → WiresLawful g counts i m → WiresLawful g counts i n
 wires_at g counts i m n h r = let e : m ≡ n = cc in subst (WiresLawful g counts i) e r
@@ -140,7 +140,7 @@ doubles_fit = record { each = doubles_each; given = λ i n v h e. absurd (double
 -- ---- a merge
 
 abbrev MergedLawfully : ℕ → Node → Type 0
-MergedLawfully i n = RowLawful merged one_move i n.kind n.decider (ins merged one_merged (composed merged one_move) i n.kind) (outs merged one_merged (composed merged one_move) i n.kind)
+MergedLawfully i n = RowLawful merged one_move i n.kind n.decider (ins merged one_merged (composed merged one_move) i n) (outs merged one_merged (composed merged one_move) i n)
 
 merged_lawful_at : (i : ℕ) (m n : Node) → Some m ≡ Some n → MergedLawfully i m → MergedLawfully i n
 merged_lawful_at i m n h r = let e : m ≡ n = cc in subst (MergedLawfully i) e r
@@ -155,7 +155,7 @@ merged_rows (suc (suc (suc (suc (suc zero))))) n h = merged_lawful_at 5 _ n h (t
 merged_rows (suc (suc (suc (suc (suc (suc i)))))) n h = cc
 
 abbrev MergedWires : ℕ → Node → Type 0
-MergedWires i n = EachWire WireLawful (ins merged one_merged (composed merged one_move) i n.kind)
+MergedWires i n = EachWire WireLawful (ins merged one_merged (composed merged one_move) i n)
 
 merged_wires_at : (i : ℕ) (m n : Node) → Some m ≡ Some n → MergedWires i m → MergedWires i n
 merged_wires_at i m n h r = let e : m ≡ n = cc in subst (MergedWires i) e r

@@ -11,8 +11,8 @@ use Rattle.stream_model.specs.Stalled.{dropping, no_files, counts}
 
 abbrev Meets : ℕ → Node → Type 0
 Meets i n =
-    (EachWire IsShut (ins dropping counts (composed dropping no_files) i n.kind) × EachWire IsShut (outs dropping counts (composed dropping no_files) i n.kind))
-    ⊎ RowRests dropping no_files i n.kind n.decider (ins dropping counts (composed dropping no_files) i n.kind) (outs dropping counts (composed dropping no_files) i n.kind)
+    (EachWire IsShut (ins dropping counts (composed dropping no_files) i n) × EachWire IsShut (outs dropping counts (composed dropping no_files) i n))
+    ⊎ RowRests dropping no_files i n.kind n.decider (ins dropping counts (composed dropping no_files) i n) (outs dropping counts (composed dropping no_files) i n)
 
 at_node : (i : ℕ) (m n : Node) → Some m ≡ Some n → Meets i m → Meets i n
 at_node i m n h r = let e : m ≡ n = cc in subst (Meets i) e r
@@ -27,7 +27,7 @@ rests (suc (suc (suc (suc (suc i))))) n h = cc
 
 -- and it is lawful
 abbrev Lawfully : ℕ → Node → Type 0
-Lawfully i n = RowLawful dropping no_files i n.kind n.decider (ins dropping counts (composed dropping no_files) i n.kind) (outs dropping counts (composed dropping no_files) i n.kind)
+Lawfully i n = RowLawful dropping no_files i n.kind n.decider (ins dropping counts (composed dropping no_files) i n) (outs dropping counts (composed dropping no_files) i n)
 
 lawful_at : (i : ℕ) (m n : Node) → Some m ≡ Some n → Lawfully i m → Lawfully i n
 lawful_at i m n h r = let e : m ≡ n = cc in subst (Lawfully i) e r
@@ -44,7 +44,7 @@ lawful_rows (suc (suc (suc (suc zero)))) n h = lawful_at 4 _ n h tt
 lawful_rows (suc (suc (suc (suc (suc i))))) n h = cc
 
 abbrev WiresLawful : ℕ → Node → Type 0
-WiresLawful i n = EachWire WireLawful (ins dropping counts (composed dropping no_files) i n.kind)
+WiresLawful i n = EachWire WireLawful (ins dropping counts (composed dropping no_files) i n)
 
 wires_at : (i : ℕ) (m n : Node) → Some m ≡ Some n → WiresLawful i m → WiresLawful i n
 wires_at i m n h r = let e : m ≡ n = cc in subst (WiresLawful i) e r

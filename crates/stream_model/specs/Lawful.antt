@@ -9,7 +9,7 @@ use Rattle.stream_model.specs.declared.kind.Policy.{Policy}
 use Rattle.stream_model.specs.declared.kind.Policy.TheVariants.{Backpressure}
 use Rattle.stream_model.specs.declared.outcome.WireCount.{WireCount}
 use Rattle.stream_model.specs.Outlook.{Outlook}
-use Rattle.stream_model.specs.Linear.{Keeping, every_one, first_one, last_one, Role, a_source, a_flow, a_fan_in, a_fan_out, works, trips, plugs_in, buffers, recovers, obeys, groups_by, splits_when, splits_after, merges, gathers, concats, interleaves, merges_sorted, zips, broadcasts, balances, partitions, unzips, sinks, role_of}
+use Rattle.stream_model.specs.Linear.{Keeping, every_one, first_one, last_one, Role, a_source, a_flow, a_fan_in, a_fan_out, works, trips, plugs_in, buffers, recovers, obeys, groups_by, splits_when, splits_after, merges, gathers, concats, interleaves, merges_sorted, zips, broadcasts, balances, partitions, unzips, customs, sinks, role_of}
 use Rattle.stream_model.specs.Picks.{count_of}
 use Rattle.stream_model.specs.Graph.{Graph, Node}
 use Rattle.stream_model.specs.Fits.{CanTrip, valve_order}
@@ -123,8 +123,8 @@ SubsLawful joining.Merge moves i o = o.sent ≡ length moves
 SubsLawful joining.Concat moves i o = Unit {0}
 
 module _ (g : Graph) (w : World) where
-  -- a sink has no row
-  abbrev stage_lawful : Option OneWay → List SeenWire → List SeenWire → Type 0
+  -- a sink has no row, and a custom stage that tells no list has none
+  abbrev pub stage_lawful : Option OneWay → List SeenWire → List SeenWire → Type 0
   stage_lawful None is os = Unit {0}
   stage_lawful (Some s) is os = OneToOne (StageLawful s) is os
 
@@ -165,6 +165,7 @@ module _ (g : Graph) (w : World) where
   RoleLawful node (a_fan_out (balances n)) d is os = OneToMany (BalanceLawful (w.moves node)) is os
   RoleLawful node (a_fan_out (partitions n f)) d is os = OneToMany (PartitionLawful (numbered w node n f)) is os
   RoleLawful node (a_fan_out unzips) d is os = OneToMany BroadcastLawful is os
+  RoleLawful node (customs name) d is os = stage_lawful (one_way_by g w node (customs name) d) is os
   RoleLawful node (sinks file keeps) d is os = sink_lawful keeps is
 
   -- the row of a node of this kind
@@ -173,8 +174,8 @@ module _ (g : Graph) (w : World) where
 
   -- every wire and every node is lawful, and each order of a valve was given by a trip
   pub record IsLawful (counts : List WireCount) (outlook : ℕ → Outlook) : Type 0 where
-    pub wires : (node : ℕ) (n : Node) → slice_get g.nodes node ≡ Some n → EachWire WireLawful (ins g counts outlook node n.kind)
+    pub wires : (node : ℕ) (n : Node) → slice_get g.nodes node ≡ Some n → EachWire WireLawful (ins g counts outlook node n)
     pub nodes : (node : ℕ) (n : Node) → slice_get g.nodes node ≡ Some n
-        → RowLawful node n.kind n.decider (ins g counts outlook node n.kind) (outs g counts outlook node n.kind)
+        → RowLawful node n.kind n.decider (ins g counts outlook node n) (outs g counts outlook node n)
     pub valves : (node : ℕ) (n : Node) (v : List ℕ × ℕ) → slice_get g.nodes node ≡ Some n → valve_order n.kind (w.moves node) ≡ Some v
-        → (trip : ℕ) × (t : Node) × (slice_get g.nodes trip ≡ Some t) × CanTrip v.0 v.1 t.kind (sent_in (ins g counts outlook trip t.kind))
+        → (trip : ℕ) × (t : Node) × (slice_get g.nodes trip ≡ Some t) × CanTrip v.0 v.1 t.kind (sent_in (ins g counts outlook trip t))

@@ -5,7 +5,7 @@ use Rattle.stream_model.specs.declared.kind.Kind.{Kind}
 use Rattle.elem_core.specs.declared.why.Decider.{Decider}
 use Rattle.stream_model.specs.Outlook.{ended}
 use Rattle.stream_model.specs.Machine.{Machine, Run, run, close, is_going}
-use Rattle.stream_model.specs.Linear.{Book, Work, linear, begin_work, grouping, expanding, folding, scanning, reducing, passing, plugged, Role, a_source, a_flow, a_fan_in, a_fan_out, works, trips, plugs_in, buffers, recovers, obeys, groups_by, splits_when, splits_after, sinks, role_of, Side, at_source, at_stage, at_sink, side_by}
+use Rattle.stream_model.specs.Linear.{Book, Work, linear, begin_work, grouping, expanding, folding, scanning, reducing, passing, plugged, Role, a_source, a_flow, a_fan_in, a_fan_out, works, trips, plugs_in, buffers, recovers, obeys, groups_by, splits_when, splits_after, customs, sinks, role_of, Side, at_source, at_stage, at_sink, side_by}
 use Rattle.stream_model.specs.Substreams.{Opening, by_key, before, behind, through, substreams, begin_subs}
 use Rattle.stream_model.specs.Graph.{Graph, steps_of}
 use Rattle.stream_model.specs.Node.{World, chain_of}
@@ -46,7 +46,7 @@ ends_here at_source = false
 ends_here at_stage = false
 ends_here at_sink = true
 
--- the kinds without an output
+-- the kinds that stand at a sink's side
 abbrev pub is_sink : Kind → Bool
 is_sink k = ends_here (side_by (role_of k))
 
@@ -60,7 +60,12 @@ abbrev of_subs : Graph → World → ℕ → Opening → List ℕ → Option One
 of_subs g w node o chain =
     let c = through w.book (chain_of node (steps_of chain g.chains)) in Some (of_machine (substreams c o) (begin_subs c node) true)
 
--- the same by its role: the stages with one input and one output, but for buffers; no sink
+-- a custom stage that tells a list is a plug
+abbrev pub custom_way : World → ℕ → List ℕ → Decider → Bool → Option OneWay
+custom_way w node name d true = of_work w.customs.lists node d (Some (plugged name []))
+custom_way w node name d false = None
+
+-- the same by its role: the stages with one input and one output, but for buffers; no sink, and no custom stage that tells no list
 abbrev pub one_way_by : Graph → World → ℕ → Role → Decider → Option OneWay
 one_way_by g w node (a_source source) d = None
 one_way_by g w node (a_flow (works v)) d = of_work w.book node d (Some v)
@@ -74,6 +79,7 @@ one_way_by g w node (a_flow (splits_when p chain j)) d = of_subs g w node (befor
 one_way_by g w node (a_flow (splits_after p chain j)) d = of_subs g w node (behind p) chain
 one_way_by g w node (a_fan_in fan) d = None
 one_way_by g w node (a_fan_out fan) d = None
+one_way_by g w node (customs name) d = custom_way w node name d (w.customs.tells name)
 one_way_by g w node (sinks file keeps) d = None
 
 -- what a node of this kind gives as numbers, where it is a stage with one input and one output and no buffer; none of a sink

@@ -11,7 +11,7 @@ use Rattle.stream_model.specs.declared.kind.Policy.TheVariants.{Backpressure}
 use Rattle.stream_model.specs.Outlook.{Outlook}
 use Rattle.stream_model.specs.declared.kind.Policy.{Policy}
 use Rattle.stream_model.specs.declared.outcome.WireCount.{WireCount}
-use Rattle.stream_model.specs.Linear.{numbering, linear, begin_work, Role, a_source, a_flow, a_fan_in, a_fan_out, works, trips, plugs_in, buffers, recovers, obeys, groups_by, splits_when, splits_after, merges, gathers, concats, interleaves, merges_sorted, zips, broadcasts, balances, partitions, unzips, sinks, role_of}
+use Rattle.stream_model.specs.Linear.{numbering, linear, begin_work, Role, a_source, a_flow, a_fan_in, a_fan_out, works, trips, plugs_in, buffers, recovers, obeys, groups_by, splits_when, splits_after, merges, gathers, concats, interleaves, merges_sorted, zips, broadcasts, balances, partitions, unzips, customs, sinks, role_of}
 use Rattle.stream_model.specs.Graph.{Graph, Node}
 use Rattle.stream_model.specs.Node.{World}
 use Rattle.stream_model.specs.Picks.{buffered, count_of, empty_buffer, nothing_held}
@@ -245,6 +245,11 @@ module _ (g : Graph) (w : World) where
   stage_rests None is os = SinkRests is
   stage_rests (Some s) is os = OneToOne (StageRests s) is os
 
+  -- a custom stage that tells a list; of one that tells none nothing is asked
+  abbrev pub custom_rests : Option OneWay → List SeenWire → List SeenWire → Type 0
+  custom_rests None is os = Unit {0}
+  custom_rests (Some s) is os = OneToOne (StageRests s) is os
+
   -- a buffer by its policy
   abbrev pub dropping_rests : ℕ → ℕ → Policy → List SeenWire → List SeenWire → Type 0
   dropping_rests node n Backpressure is os = OneToOne (BufferRests n) is os
@@ -272,6 +277,7 @@ module _ (g : Graph) (w : World) where
   RoleRests node (a_fan_out (balances n)) d is os = OneToMany BalanceRests is os
   RoleRests node (a_fan_out (partitions n f)) d is os = OneToMany (PartitionRests (numbered w node n f)) is os
   RoleRests node (a_fan_out unzips) d is os = OneToMany BroadcastRests is os
+  RoleRests node (customs name) d is os = custom_rests (one_way_by g w node (customs name) d) is os
   RoleRests node (sinks file keeps) d is os = SinkRests is
 
   -- the row of node `node`, which is of this kind
@@ -282,11 +288,11 @@ module _ (g : Graph) (w : World) where
   abbrev pub Rests : List WireCount → (ℕ → Outlook) → Type 0
   Rests counts outlook =
       (node : ℕ) (n : Node) → slice_get g.nodes node ≡ Some n
-      → (EachWire IsShut (ins g counts outlook node n.kind) × EachWire IsShut (outs g counts outlook node n.kind))
-      ⊎ RowRests node n.kind n.decider (ins g counts outlook node n.kind) (outs g counts outlook node n.kind)
+      → (EachWire IsShut (ins g counts outlook node n) × EachWire IsShut (outs g counts outlook node n))
+      ⊎ RowRests node n.kind n.decider (ins g counts outlook node n) (outs g counts outlook node n)
 
   -- a sink's input is shut exactly where the sink has ended
   abbrev pub SinksMatch : List WireCount → (ℕ → Outlook) → (ℕ → Bool) → Type 0
   SinksMatch counts outlook ended =
       (node : ℕ) (n : Node) → slice_get g.nodes node ≡ Some n → is_sink n.kind ≡ true
-      → EachWire (λ i. i.shut ≡ ended node) (ins g counts outlook node n.kind)
+      → EachWire (λ i. i.shut ≡ ended node) (ins g counts outlook node n)

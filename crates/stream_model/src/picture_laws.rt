@@ -7,6 +7,7 @@ ghost use Rattle.stream_model.specs.Graph.{Graph, Node, Edge};
 ghost use Rattle.stream_model.specs.Node.{World};
 ghost use Rattle.stream_model.specs.Outlook.{Outlook};
 ghost use Rattle.stream_model.specs.Lawful.{IsLawful};
+ghost use Rattle.stream_model.specs.Listed.{AllTell};
 ghost use Rattle.stream_model.specs.OneWay.{is_sink};
 ghost use Rattle.stream_model.specs.Rests.{Rests, SinksMatch};
 ghost use Rattle.stream_model.specs.Shape.{IsPolytree, IsWired, need, count_needed};
@@ -47,9 +48,9 @@ pub fn moves_are_not_spare()
     ensures unlawful { IsLawful doubling four_moves one_given (composed doubling four_moves) → ⊥ }
 {}
 
-/// In a polytree a picture that rests has every wire shut, so every sink has ended.
+/// In a polytree whose custom stages all tell lists a picture that rests has every wire shut, so every sink has ended.
 pub fn polytrees_end()
-    ensures { (g : Graph) (w : World) (counts : List WireCount) (outlook : ℕ → Outlook) → IsWired g counts → Rests g w counts outlook → IsPolytree g
+    ensures { (g : Graph) (w : World) (counts : List WireCount) (outlook : ℕ → Outlook) → IsWired g counts → Rests g w counts outlook → AllTell g w.customs → IsPolytree g
         → (ended : ℕ → Bool) → SinksMatch g w counts outlook ended
         → (i : ℕ) (v : Edge) (n : Node) → slice_get g.wires i ≡ Some v → slice_get g.nodes v.to ≡ Some n → is_sink n.kind ≡ true → ended v.to ≡ true }
 {}

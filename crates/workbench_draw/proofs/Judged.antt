@@ -2,7 +2,7 @@
 use Rattle.std.proofs.Common.{◌≡◌, inl, inr, ℕ, List, [], ◌∷◌}
 use Rattle.std.specs.Prelude.{Some}
 use Rattle.stream_model.specs.declared.blueprint.Blueprint.{Blueprint}
-use Rattle.stream_model.specs.Heads.{shipped_heads}
+use Rattle.stream_model.specs.Heads.{shipped_guests}
 use Rattle.blue_modules.specs.Plain.{plain}
 use Rattle.blue_modules.specs.Text.{PlainText}
 use Rattle.blue_modules.specs.Fitness.{IsFlat}
@@ -21,5 +21,5 @@ pub breaks_modules : (text file : List ℕ) (said : PlainText) (f : CheckFault) 
 breaks_modules text file said f says broken = record { said = said; says = says; broken = inl broken }
 
 -- its blueprint breaks a rule
-pub breaks_rule : (text file : List ℕ) (b : Blueprint) (f : CheckFault) → Denotes (Says text) b → IsFirstFault b shipped_heads (file ∷ []) f → IsUnfitText text file f
+pub breaks_rule : (text file : List ℕ) (b : Blueprint) (f : CheckFault) → Denotes (Says text) b → IsFirstFault b shipped_guests (file ∷ []) f → IsUnfitText text file f
 breaks_rule text file b f d first = record { said = d.text; says = d.says; broken = inr (b, (d.flat, first)) }

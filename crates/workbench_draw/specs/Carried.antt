@@ -2,7 +2,7 @@
 use Rattle.std.specs.Prelude.{ℕ, ◌+◌, ◌==◌, if◌then◌else◌, List, [], ◌∷◌, map, slice_get, unwrap_or}
 use Rattle.stream_model.specs.Graph.{Edge}
 use Rattle.stream_model.specs.declared.blueprint.Node.{Node}
-use Rattle.stream_model.specs.Composed.{inputs_of}
+use Rattle.stream_model.specs.Composed.{inputs_by}
 
 -- the number at a place; 0 where there is none
 abbrev pub number_at : List ℕ → ℕ → ℕ
@@ -11,7 +11,7 @@ number_at ns i = unwrap_or (slice_get ns i) 0
 -- how many sources there are: nodes without inputs
 abbrev pub source_count : List Node → ℕ
 source_count [] = 0
-source_count (n ∷ ns) = (if inputs_of n.kind == 0 then 1 else 0) + source_count ns
+source_count (n ∷ ns) = (if inputs_by (1, 1) n.kind == 0 then 1 else 0) + source_count ns
 
 -- the first count; 0 where there is none
 abbrev pub next_count : List ℕ → ℕ
@@ -26,7 +26,7 @@ later_counts (c ∷ cs) = cs
 -- what each node gives of its own: a source the count of its place among sources, any other node none
 abbrev pub own_elements : List Node → List ℕ → List ℕ
 own_elements [] counts = []
-own_elements (n ∷ ns) counts = if inputs_of n.kind == 0 then next_count counts ∷ own_elements ns (later_counts counts) else 0 ∷ own_elements ns counts
+own_elements (n ∷ ns) counts = if inputs_by (1, 1) n.kind == 0 then next_count counts ∷ own_elements ns (later_counts counts) else 0 ∷ own_elements ns counts
 
 -- what the wires from number i on carry into node a, where f tells what each wire carries
 abbrev pub into : ℕ → List Edge → (ℕ → ℕ) → ℕ → ℕ

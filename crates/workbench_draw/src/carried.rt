@@ -25,7 +25,7 @@ pub(crate) fn source_count(nodes: &[Node]) -> usize
 {
     let mut count = 0;
     for node in nodes {
-        if input_ports(&node.kind) == 0 {
+        if input_ports((1, 1), &node.kind) == 0 {
             count += 1;
         }
     }
@@ -39,7 +39,7 @@ pub(crate) fn own_of(alloc: Global, nodes: &[Node], counts: &[u64]) -> Result<Ve
     let mut numbers = Vec::new(alloc);
     let mut rest = counts;
     for node in nodes {
-        if input_ports(&node.kind) != 0 {
+        if input_ports((1, 1), &node.kind) != 0 {
             numbers.push(0)?;
         } else if let Some((count, later)) = rest.split_first() {
             numbers.push(*count)?;

@@ -1,10 +1,11 @@
 // Whether a text says a blueprint that can be run.
-ghost use Rattle.std.specs.Prelude.{◌≡◌, ◌∷◌, [], IfOk, IfErr};
+ghost use Rattle.std.specs.Prelude.{◌≡◌, ◌∷◌, [], IfOk, IfErr, map};
 ghost use Rattle.blue_check.specs.Checked.{checked_blueprint};
 ghost use Rattle.blue_modules.specs.Text.{plain_text};
 ghost use Rattle.blue_check.specs.Meaning.{Denotes};
 ghost use Rattle.blue_lang.specs.Texts.{Says};
-ghost use Rattle.stream_model.specs.Heads.{shipped_heads};
+ghost use Rattle.stream_model.specs.Heads.{shipped_heads, shipped_shapes};
+ghost use Rattle.stream_model.specs.Known.{head_shape};
 ghost use Rattle.workbench_draw.specs.Judging.{IsFitText, IsUnready};
 
 use blue_check::check::{CheckEnd, check};
@@ -18,8 +19,8 @@ use elem_core::line::Line;
 use elem_core::why::NoMemory;
 use std::alloc::Global;
 use stream_model::blueprint::Blueprint;
-use stream_model::head::PlugHead;
-use stream_model::heads::shipped_heads;
+use stream_model::head::{CustomHead, PlugHead};
+use stream_model::heads::{shipped_customs, shipped_heads};
 
 /// Why a text says no blueprint that can be run.
 #[derive(Drop)]
@@ -45,18 +46,20 @@ fn taken_of(alloc: Global, file: &Line) -> Result<Vec<Line>, NoMemory>
 fn check_said(
     alloc: Global,
     text: &[u8],
-    heads: &[PlugHead],
+    plugs: &[PlugHead],
+    customs: &[CustomHead],
     taken: &[Line],
     file: &Line,
     b: Blueprint,
 ) -> Result<Checked, Unready>
     requires says { Denotes (Says text.now) b }
-    requires heads { heads.now ≡ shipped_heads }
+    requires plugs { plugs.now ≡ shipped_heads }
+    requires customs { map head_shape customs.now ≡ shipped_shapes }
     requires taken { taken.now ≡ file.now ∷ [] }
     ensures fit { IfOk result (λ c. IsFitText text.now file.now (checked_blueprint c)) }
     ensures unready { IfErr result (IsUnready text.now file.now) }
 {
-    match check(alloc, b, heads, taken) {
+    match check(alloc, b, plugs, customs, taken) {
         Ok(checked) => Ok(checked),
         Err(CheckEnd::Fault(fault)) => Err(Unready::Unfit(fault)),
         Err(CheckEnd::NoMemory) => Err(Unready::NoMemory),
@@ -90,7 +93,7 @@ pub fn blueprint_of(alloc: Global, text: &[u8], file: &Line) -> Result<Blueprint
     }
 }
 
-/// The checked blueprint of the text of that name's file, with the plugs of `streams`, or why there is none: the first fault of the
+/// The checked blueprint of the text of that name's file, with the plugs and the custom stages of `streams`, or why there is none: the first fault of the
 /// text, or the first rule that it or its blueprint breaks. Want of memory may come in the place of each.
 pub fn judge_text(alloc: Global, text: &[u8], file: &Line) -> Result<Checked, Unready>
     ensures fit { IfOk result (λ c. IsFitText text.now file.now (checked_blueprint c)) }
@@ -99,11 +102,14 @@ pub fn judge_text(alloc: Global, text: &[u8], file: &Line) -> Result<Checked, Un
     let Ok(taken) = taken_of(alloc, file) else {
         return Err(Unready::NoMemory);
     };
-    let Ok(heads) = shipped_heads(alloc) else {
+    let Ok(plugs) = shipped_heads(alloc) else {
+        return Err(Unready::NoMemory);
+    };
+    let Ok(customs) = shipped_customs(alloc) else {
         return Err(Unready::NoMemory);
     };
     match blueprint_of(alloc, text, file) {
-        Ok(b) => check_said(alloc, text, &heads, &taken, file, b),
+        Ok(b) => check_said(alloc, text, &plugs, &customs, &taken, file, b),
         Err(why) => Err(why),
     }
 }

@@ -225,7 +225,7 @@ fn node_named<'a>(nodes: &'a [Node], name: &Line) -> Option<&'a Node> {
 /// Whether an output is told by its number: its node has several, or it is not the first.
 fn is_output_told(nodes: &[Node], wire: &WireDecl) -> bool {
     match node_named(nodes, &wire.from) {
-        Some(node) => wire.output != 0 || output_ports(&node.kind) > 1,
+        Some(node) => wire.output != 0 || output_ports((2, 2), &node.kind) > 1,
         None => wire.output != 0,
     }
 }
@@ -233,7 +233,7 @@ fn is_output_told(nodes: &[Node], wire: &WireDecl) -> bool {
 /// Whether an input is told by its number: its node has several, or it is not the first.
 fn is_input_told(nodes: &[Node], wire: &WireDecl) -> bool {
     match node_named(nodes, &wire.to) {
-        Some(node) => wire.input != 0 || input_ports(&node.kind) > 1,
+        Some(node) => wire.input != 0 || input_ports((2, 2), &node.kind) > 1,
         None => wire.input != 0,
     }
 }

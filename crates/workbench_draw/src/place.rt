@@ -1,6 +1,7 @@
 // The part of a blueprint at which a fault is.
 use blue_check::fault::CheckFault;
 use blue_names::claims::{file_of, plug_of};
+use blue_names::custom_ports::custom_of;
 use blue_names::spot::Spot;
 use blue_names::table::Named;
 use elem_core::line::Line;
@@ -138,11 +139,44 @@ fn used(b: &Blueprint, name: &Line) -> Option<FaultPlace> {
     wired(&b.wires, name).map(|i| FaultPlace::of(Sort::Wire, i))
 }
 
-/// The first node of that plug, from a number on.
-fn plugged(nodes: &[Node], plug: &Line, from: usize) -> Option<usize> {
+/// Whether it is the name of a plug, or of a custom stage, that the program does not ship.
+fn is_unknown(kind: &Kind, name: &Line) -> bool {
+    match kind {
+        Kind::Plug(plug) => {
+            *plug == *name
+                && name.bytes() != b"dedup".as_slice()
+                && name.bytes() != b"pairsum".as_slice()
+        }
+        Kind::Custom(custom) => {
+            *custom == *name
+                && name.bytes() != b"alternate".as_slice()
+                && name.bytes() != b"rude".as_slice()
+        }
+        _ => false,
+    }
+}
+
+/// The first node that names a plug or a custom stage of this name that the program does not ship.
+fn unknown(nodes: &[Node], name: &Line) -> Option<usize> {
+    for i in 0..nodes.len() {
+        if is_unknown(&nodes[i].kind, name) {
+            return Some(i);
+        }
+    }
+    None
+}
+
+/// The first node of that plug, or of that custom stage, from a number on.
+fn hosting(nodes: &[Node], custom: bool, name: &Line, from: usize) -> Option<usize> {
     for i in from..nodes.len() {
-        if let Some(name) = plug_of(&nodes[i].kind) {
-            if *name == *plug {
+        let kind = &nodes[i].kind;
+        let guest = if custom {
+            custom_of(kind)
+        } else {
+            plug_of(kind)
+        };
+        if let Some(named) = guest {
+            if *named == *name {
                 return Some(i);
             }
         }
@@ -150,10 +184,10 @@ fn plugged(nodes: &[Node], plug: &Line, from: usize) -> Option<usize> {
     None
 }
 
-/// The second node of that plug.
-fn plugged_again(nodes: &[Node], plug: &Line) -> Option<usize> {
-    let first = plugged(nodes, plug, 0)?;
-    plugged(nodes, plug, first.saturating_add(1))
+/// The second node of that plug, or of that custom stage.
+fn hosting_again(nodes: &[Node], custom: bool, name: &Line) -> Option<usize> {
+    let first = hosting(nodes, custom, name, 0)?;
+    hosting(nodes, custom, name, first.saturating_add(1))
 }
 
 /// The place of a size.
@@ -178,8 +212,11 @@ pub fn place_of(b: &Blueprint, own: &Line, fault: &CheckFault) -> Option<FaultPl
         | CheckFault::ClosedWalk(i) => return Some(FaultPlace::of(Sort::Wire, *i as usize)),
         CheckFault::BadSize(spot) => return Some(sized(*spot)),
         CheckFault::PortOpen(name, _, _) | CheckFault::TooDeep(name) => named(&b.nodes, name, 0),
-        CheckFault::NoSuchPlug(name) => plugged(&b.nodes, name, 0),
-        CheckFault::PlugTwice(name) => plugged_again(&b.nodes, name),
+        CheckFault::NoSuchPlug(name) => unknown(&b.nodes, name),
+        CheckFault::PlugTwice(name) => least(
+            hosting_again(&b.nodes, false, name),
+            hosting_again(&b.nodes, true, name),
+        ),
         CheckFault::NoSuchModule(_) | CheckFault::PortName(_, _) | CheckFault::TooLarge => None,
     };
     node.map(|i| FaultPlace::of(Sort::Node, i))

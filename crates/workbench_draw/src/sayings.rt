@@ -53,12 +53,12 @@ fn of_names(fault: &CheckFault) -> Option<Saying> {
             advice: b"Declare it, or mend its spelling.",
         }),
         CheckFault::NoSuchPlug(_) => Some(Saying {
-            means: b"`streams` has no plug of this name.",
-            advice: b"It has `dedup` and `pairsum`. Use one of them, a stage of the language, or a program that hands the plug in.",
+            means: b"`streams` has no plug or custom stage of this name.",
+            advice: b"It has the plugs `dedup` and `pairsum` and the custom stages `alternate` and `rude`. Use one of them, a stage of the language, or a program that hands it in.",
         }),
         CheckFault::PlugTwice(_) => Some(Saying {
-            means: b"Two plugs have this name, or two stages name this plug.",
-            advice: b"Name each plug once.",
+            means: b"Two plugs or two custom stages have this name, or two stages name it.",
+            advice: b"Name each plug and each custom stage once.",
         }),
         _ => None,
     }

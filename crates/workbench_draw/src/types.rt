@@ -12,7 +12,8 @@ use elem_core::elem_type::ElemType;
 use elem_core::why::NoMemory;
 use std::alloc::Global;
 use stream_model::blueprint::{ChainDecl, Node};
-use stream_model::heads::shipped_heads;
+use stream_model::heads::{shipped_customs, shipped_heads};
+use stream_model::known::Heads;
 
 /// The type on each wire of a net of so many nodes, where it is settled.
 fn types_in(
@@ -26,7 +27,9 @@ fn types_in(
 {
     let targets = targets_of(alloc, links)?;
     let outs = outs_of(alloc, count, links)?;
-    let heads = shipped_heads(alloc)?;
+    let plugs = shipped_heads(alloc)?;
+    let customs = shipped_customs(alloc)?;
+    let heads = Heads::of(&plugs, &customs);
     let library = Library::new(alloc, &heads, chains)?;
     let net = Net {
         nodes,
@@ -36,7 +39,7 @@ fn types_in(
     let settled = settle_types(alloc, &library, &net, &outs)?;
     let mut types = Vec::new(alloc);
     for link in links {
-        types.push(type_on(alloc, &net, &settled, *link)?)?;
+        types.push(type_on(alloc, &library, &net, &settled, *link)?)?;
     }
     Ok(types)
 }

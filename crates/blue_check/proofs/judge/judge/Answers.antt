@@ -11,7 +11,7 @@ pub returns : goal.returns
 returns c =
     let b = c.args.b.now in
     let r = c.by_parts.result in
-    let p = c.args.plugs.now in
+    let p = c.args.heads.now in
     let t = c.args.taken.now in
     subst (λ (s : List (List ℕ)). IfOk r (IsJudged (early_of s b.chains.items b.nodes.items b.wires.items p t) (wires_of b.nodes.items b.wires.items))) c.deref.ensures.value
     (subst (λ (ch : List ChainDecl). IfOk r (IsJudged (early_of c.deref.result.now ch b.nodes.items b.wires.items p t) (wires_of b.nodes.items b.wires.items))) c.deref-2.ensures.value

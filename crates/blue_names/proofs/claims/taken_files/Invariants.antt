@@ -4,4 +4,4 @@ use Rattle.blue_names.specs.Claims.{Knows}
 use Rattle.blue_names.proofs.claims.taken_files.Given as goal
 
 abbrev pub invariant-loop-file : goal.invariant-loop-file
-invariant-loop-file l = Knows l.taken.names l.taken.files (map opens (take l.file-index l.files))
+invariant-loop-file l = Knows l.taken.names l.taken.files l.taken.customs (map opens (take l.file-index l.files))

@@ -3,7 +3,7 @@ use Rattle.blue_names.proofs.OpenPorts.{open_output-found}
 use Rattle.blue_names.proofs.ports.open_output.Goals as goal
 
 pub returns-in-Some : goal.returns-in-Some
-returns-in-Some c = λ n ws k f. open_output-found c.args.sources.now c.args.i n ws c.args.kind.now c.output_ports.result (Some c.in-Some.port) k f c.output_ports.ensures c.in-Some.ensures
+returns-in-Some c = λ n ws k f. open_output-found c.args.heads.now c.args.sources.now c.args.i n ws c.args.kind.now c.kind_outputs.result (Some c.in-Some.port) k f c.kind_outputs.ensures c.in-Some.ensures
 
 pub returns-in-None : goal.returns-in-None
-returns-in-None c = λ n ws k f. open_output-found c.args.sources.now c.args.i n ws c.args.kind.now c.output_ports.result None k f c.output_ports.ensures c.in-None.ensures
+returns-in-None c = λ n ws k f. open_output-found c.args.heads.now c.args.sources.now c.args.i n ws c.args.kind.now c.kind_outputs.result None k f c.kind_outputs.ensures c.in-None.ensures

@@ -6,5 +6,5 @@ use Rattle.blue_names.specs.Links.{wires_of_links}
 use Rattle.blue_names.proofs.ports.port_missing.Given as goal
 
 abbrev pub invariant-loop-i : goal.invariant-loop-i
-invariant-loop-i l = port_missing l.nodes (wires_of_links l.links)
-    ≡ first_from (λ i w. when (lacks_output (slice_get l.nodes w.from) w.output || lacks_input (slice_get l.nodes w.to) w.input) i) l.i (wires_of_links (drop l.i l.links))
+invariant-loop-i l = port_missing l.heads l.nodes (wires_of_links l.links)
+    ≡ first_from (λ i w. when (lacks_output l.heads (slice_get l.nodes w.from) w.output || lacks_input l.heads (slice_get l.nodes w.to) w.input) i) l.i (wires_of_links (drop l.i l.links))

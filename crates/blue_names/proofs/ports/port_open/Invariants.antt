@@ -8,4 +8,4 @@ use Rattle.blue_names.proofs.ports.port_open.Given as goal
 
 abbrev pub invariant-loop-i : goal.invariant-loop-i
 invariant-loop-i l = (ws : List Edge) → FindsWires l.targets ws → FindsSources l.sources ws
-    → port_open l.nodes ws ≡ first_from (λ i n. option_or (open_input i n ws) (open_output i n ws)) l.i (drop l.i l.nodes)
+    → port_open l.heads l.nodes ws ≡ first_from (λ i n. option_or (open_input l.heads i n ws) (open_output l.heads i n ws)) l.i (drop l.i l.nodes)

@@ -9,6 +9,6 @@ use Rattle.blue_types.proofs.attempts.first_typed.Goals as goal
 
 pub loop-port-preserved : goal.loop-port-preserved
 loop-port-preserved c =
-    let e = ap (λ ps. first_typed (arrivals c.args.net.now.nodes.now (wires_of_links c.args.net.now.links.now) (type_at c.args.types.now) c.args.node ps)) (count_from_here c.loop-port.port c.args.count c.loop-port-test.true) in
-    let rest = first_typed (arrivals c.args.net.now.nodes.now (wires_of_links c.args.net.now.links.now) (type_at c.args.types.now) c.args.node (count_from (c.loop-port.port + 1) (c.args.count - (c.loop-port.port + 1)))) in
+    let e = ap (λ ps. first_typed (arrivals c.args.library.now.heads.now c.args.net.now.nodes.now (wires_of_links c.args.net.now.links.now) (type_at c.args.types.now) c.args.node ps)) (count_from_here c.loop-port.port c.args.count c.loop-port-test.true) in
+    let rest = first_typed (arrivals c.args.library.now.heads.now c.args.net.now.nodes.now (wires_of_links c.args.net.now.links.now) (type_at c.args.types.now) c.args.node (count_from (c.loop-port.port + 1) (c.args.count - (c.loop-port.port + 1)))) in
     c.loop-port.invariant ∙ e ∙ ap (λ o. option_or o rest) (sym c.in_ok-t.ensures ∙ c.in-None.is)

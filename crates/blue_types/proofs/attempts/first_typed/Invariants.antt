@@ -7,5 +7,5 @@ use Rattle.blue_types.proofs.attempts.first_typed.Given as goal
 
 abbrev pub invariant-loop-port : goal.invariant-loop-port
 invariant-loop-port l =
-    let arrive = arrivals l.net.nodes.now (wires_of_links l.net.links.now) (type_at l.types) l.node in
+    let arrive = arrivals l.library.heads.now l.net.nodes.now (wires_of_links l.net.links.now) (type_at l.types) l.node in
     first_typed (arrive (count_from 0 l.count)) ≡ first_typed (arrive (count_from l.port (l.count - l.port)))

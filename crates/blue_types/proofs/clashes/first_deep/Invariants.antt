@@ -8,5 +8,5 @@ use Rattle.blue_types.proofs.clashes.first_deep.Given as goal
 
 abbrev pub invariant-loop-i : goal.invariant-loop-i
 invariant-loop-i l =
-    let deep : ℕ → Node → Option ℕ = λ i n. when (is_deep (attempt_at l.library.plugs.now l.library.chains.now l.net.nodes.now (wires_of_links l.net.links.now) (type_at l.types) i (Some n))) i in
+    let deep : ℕ → Node → Option ℕ = λ i n. when (is_deep (attempt_at l.library.heads.now l.library.chains.now l.net.nodes.now (wires_of_links l.net.links.now) (type_at l.types) i (Some n))) i in
     first_from deep 0 l.net.nodes.now ≡ first_from deep l.i (drop l.i l.net.nodes.now)

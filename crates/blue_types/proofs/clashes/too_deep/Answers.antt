@@ -11,4 +11,4 @@ returns c =
     let l = c.args.library.now in
     let n = c.args.net.now in
     let ws = wires_of_links n.links.now in
-    subst (λ (t : ℕ → Option Sort). IfOk c.first_deep.result (λ r. r ≡ first_from (λ i m. when (is_deep (attempt_at l.plugs.now l.chains.now n.nodes.now ws t i (Some m))) i) 0 n.nodes.now)) (fun_ext c.requires.settled) c.first_deep.ensures
+    subst (λ (t : ℕ → Option Sort). IfOk c.first_deep.result (λ r. r ≡ first_from (λ i m. when (is_deep (attempt_at l.heads.now l.chains.now n.nodes.now ws t i (Some m))) i) 0 n.nodes.now)) (fun_ext c.requires.settled) c.first_deep.ensures

@@ -11,4 +11,4 @@ returns c =
     let l = c.args.library.now in
     let n = c.args.net.now in
     let ws = wires_of_links n.links.now in
-    subst (λ (t : ℕ → Option Sort). IfOk c.first_clash.result (λ r. r ≡ first_from (clash_on l.plugs.now l.chains.now n.nodes.now ws t) 0 ws)) (fun_ext c.requires.settled) c.first_clash.ensures
+    subst (λ (t : ℕ → Option Sort). IfOk c.first_clash.result (λ r. r ≡ first_from (clash_on l.heads.now l.chains.now n.nodes.now ws t) 0 ws)) (fun_ext c.requires.settled) c.first_clash.ensures

@@ -21,5 +21,5 @@ returns-in_ok-push-in-Some-clause-below c = λ old.
     let l = c.args.library.now in
     let types = type_at c.args.types.now in
     let is : would l n types c.args.node ≡ Some c.in-Some.fixed = sym c.in_ok-fixed.ensures ∙ c.in-Some.is in
-    let lt = below_from_some n.nodes.now c.args.node (λ o. fixes (attempt_at l.plugs.now l.chains.now n.nodes.now (wires_of_links n.links.now) types c.args.node o)) c.in-Some.fixed refl is in
+    let lt = below_from_some n.nodes.now c.args.node (λ o. fixes (attempt_at l.heads.now l.chains.now n.nodes.now (wires_of_links n.links.now) types c.args.node o)) c.in-Some.fixed refl is in
     subst (AreBelow (length n.nodes.now)) (sym c.in_ok-push-in-Some.ensures.items) (AreBelow-push (length n.nodes.now) c.args.news.now.items (record { node = c.args.node; fixed = c.in-Some.fixed }) lt old)

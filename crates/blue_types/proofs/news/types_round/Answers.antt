@@ -17,7 +17,7 @@ returns-clause-rests c =
     let u = type_at c.fix_all.new.types in
     let ws = wires_of_links n.links.now in
     RestsOn-next n.nodes.now ws (would l n) t u c.in_ok-news.news.items c.args.front.now c.in_ok-next.next.items
-    (λ i same. ap fixes (attempt_at-same n.nodes.now ws u t i same l.plugs.now l.chains.now (slice_get n.nodes.now i)))
+    (λ i same. ap fixes (attempt_at-same l.heads.now n.nodes.now ws u t i same l.chains.now (slice_get n.nodes.now i)))
     c.in_ok-news.ensures.news c.requires.rests
     (subst (λ xs. (i : ℕ) → u i ≡ option_or (t i) (news_at xs i)) c.deref.ensures.value c.in_ok-next.ensures.types)
     (subst (λ xs. AreReached ws t xs c.in_ok-next.next.items) c.deref.ensures.value c.in_ok-next.ensures.reached)

@@ -59,7 +59,7 @@ returns-clause-begun g c =
     let bodies = c.make_all-bodies_made.result.items in
     let law = c.made_bodies_begin_their_blueprint.ensures in (
       record {
-        plugs = is.plans_are.runs.plugs;
+        heads = is.plans_are.runs.heads;
         taken = is.plans_are.runs.taken;
         fit = is.plans_are.runs.fit;
         unread = c.requires.unread;

@@ -34,7 +34,7 @@ returns g c = λ b ss ds begun h.
     let told = c.told_asks_are_those_of_lanes.ensures in
     let all = told.some crossings now (stay.lie crossings begun now m.meet have) in
     let asked = told.are lanes crossings now all.0 m.many m.rise (stay.aligned lanes crossings begun now m.aligned have) all.1 in
-    let run = law.run b m.homes m.count m.nodes crossings begun now then.0 (lane_demand lanes all.0) m.plugs m.taken ss ds m.fit m.seats m.unread m.bodies_are h.broke then.1 asked h.joined in
+    let run = law.run b m.homes m.count m.nodes crossings begun now then.0 (lane_demand lanes all.0) m.heads m.taken ss ds m.fit m.seats m.unread m.bodies_are h.broke then.1 asked h.joined in
     let left = law.nodes b m.homes m.count m.nodes crossings begun now then.0 (lane_demand lanes all.0) back.0.0 back.0.1.0 m.bodies_are h.broke then.1 back.0.1.1 in
     let kept = law.kept m.homes m.count b begun now then.0 back.0.0 back.0.1.0 back.1.0 back.1.1.0 h.broke then.1 back.0.1.1 back.1.1.1 in
     broken g.S.Source.state g.D.Drain.state g.B.PlugBook.lists b ss ds m.nodes m.seats (sym m.bodies_are.graph.each_node) (account_in m.homes (blueprint_wires b) then.0 (lane_demand lanes all.0)) back.0.0 left run c.join_handles.result back.1.0 kept (c.join_handles.ensures.readers (readers_of back.1.0) (writers_of back.1.0) handles) (c.join_handles.ensures.writers (readers_of back.1.0) (writers_of back.1.0) handles)

@@ -115,7 +115,7 @@ returns-clause-leaves g c = λ b ss ds begun budget r.
     let counts = subst (λ ls. c.note_asked.new.counts ≡ picture_counts (account_in m.homes ws now (lane_demand ls asks)) (graph_of b)) (sym m.lanes_are) (c.noted_counts_are_the_picture.ensures b m.homes now asks c.note_asked.new.counts many noted) in
     let size = sym c.counts_of-wires.result.ok.0 in
     let whole_list = came_back c.counts_of-wires.result.len c.note_asked.new.counts c.counts_of-wires.result.items (c.note_asked.ensures.many ∙ ap length c.deref_mut.ensures.value ∙ size) size in
-    let is_run = run.run b m.homes m.count m.nodes crossings begun now all m.plugs m.taken ss ds m.fit m.seats m.unread m.bodies_are r.went r.keep are r.joined in
+    let is_run = run.run b m.homes m.count m.nodes crossings begun now all m.heads m.taken ss ds m.fit m.seats m.unread m.bodies_are r.went r.keep are r.joined in
     let left_by = run.nodes b m.homes m.count m.nodes crossings begun now all back.0 back.1.0 m.bodies_are r.went r.keep back.1.1 in
     let at = kept g.S.Source.state g.D.Drain.state g.B.PlugBook.lists b ss ds m.nodes m.seats (sym m.bodies_are.graph.each_node) account back.0 left_by is_run c.args.remains.board m.at_switches in
     let settled = c.settle.ensures (map (λ (n : blue.Node). n.kind) b.nodes.items) (map node_seat back.0) m.board_is at (left_seats ws account.near back.0 c.join_ends-end.result left) in
@@ -151,7 +151,7 @@ settle-requires g c =
     let told = c.told_asks_are_those_of_lanes.ensures in
     let asked = subst (λ bodies. AreAsked bodies crossings asks) c.deref.ensures.value c.asked_of-all.ensures in
     let are = told.are lanes crossings now asks m.many m.rise (stay.aligned lanes crossings begun now m.aligned (stay.went begun now r.went)) asked in
-    let is_run = run.run b m.homes m.count m.nodes crossings begun now all m.plugs m.taken c.requires.1.0 c.requires.1.1.0 m.fit m.seats m.unread m.bodies_are r.went r.keep are r.joined in
+    let is_run = run.run b m.homes m.count m.nodes crossings begun now all m.heads m.taken c.requires.1.0 c.requires.1.1.0 m.fit m.seats m.unread m.bodies_are r.went r.keep are r.joined in
     let left_by = run.nodes b m.homes m.count m.nodes crossings begun now all back.0 back.1.0 m.bodies_are r.went r.keep back.1.1 in
     let at = kept g.S.Source.state g.D.Drain.state g.B.PlugBook.lists b c.requires.1.0 c.requires.1.1.0 m.nodes m.seats (sym m.bodies_are.graph.each_node) account back.0 left_by is_run c.args.remains.board m.at_switches in
     (map (λ (n : blue.Node). n.kind) b.nodes.items, (map node_seat back.0, (m.board_is, (at, left_seats ws account.near back.0 c.join_ends-end.result left))))

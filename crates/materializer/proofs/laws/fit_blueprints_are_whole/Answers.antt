@@ -5,6 +5,6 @@ use Rattle.materializer.proofs.laws.fit_blueprints_are_whole.Goals as goal
 
 pub returns : goal.returns
 returns c = record {
-  ranked = λ b plugs taken fit. ranked (graph_of b) fit.open_walks;
+  ranked = λ b heads taken fit. ranked (graph_of b) fit.open_walks;
   joined = fit_joined;
 }

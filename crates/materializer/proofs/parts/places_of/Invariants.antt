@@ -5,4 +5,4 @@ use Rattle.materializer.proofs.parts.places_of.Given as goal
 
 -- with those of the nodes that are left they are all
 abbrev pub invariant-loop-i : goal.invariant-loop-i
-invariant-loop-i l = l.places.items ++ places_from l.i (drop l.i l.nodes) ≡ places_from 0 l.nodes
+invariant-loop-i l = l.places.items ++ places_from l.wires l.i (drop l.i l.nodes) ≡ places_from l.wires 0 l.nodes

@@ -1,8 +1,15 @@
 -- The loop of `board::hand_out`.
-use Rattle.std.proofs.Common.{drop}
-use Rattle.materializer.proofs.HandingPlugs.{IsReady, Completes}
+use Rattle.std.proofs.Common.{List, drop}
+use Rattle.stream_model.specs.declared.blueprint.WireDecl.{WireDecl}
+use Rattle.materializer.specs.HandedCustoms.{handed_heads, HasGuests}
+use Rattle.materializer.proofs.HandingGuests.{IsReady, IsReadyToHire, AllHold, FitsWires, Completes, CompletesPorts}
 use Rattle.materializer.proofs.plug_board.hand_out.Given as goal
 
--- there are plugs for the nodes that are left, and with those that were handed theirs they are all
+-- there are plugs and custom stages for the nodes that are left, and with those that were handed theirs they are all
 abbrev pub invariant-loop-node : goal.invariant-loop-node
-invariant-loop-node g l = IsReady g.L.Logic.gives g.B.PlugBook.lists l.left.items (drop l.node-index l.nodes) × Completes g.L.Logic.gives g.B.PlugBook.lists l.nodes (drop l.node-index l.nodes) l.handed.items
+invariant-loop-node g l =
+    IsReady g.L.Logic.gives g.B.PlugBook.lists l.left.items (drop l.node-index l.nodes)
+    × IsReadyToHire l.unhired.items (drop l.node-index l.nodes)
+    × Completes g.L.Logic.gives g.B.PlugBook.lists l.nodes (drop l.node-index l.nodes) l.handed.items
+    × ((wires : List WireDecl) → HasGuests (handed_heads l.fn.plugs.items l.fn.customs.items) wires l.nodes
+    → AllHold (FitsWires wires) l.unhired.items (drop l.node-index l.nodes) × CompletesPorts wires l.nodes (drop l.node-index l.nodes) l.handed.items)

@@ -24,7 +24,7 @@ loop-seat-init g c =
       omega (arith, none, left, many, c.requires.room),
       refl,
       omega (arith, none, left, many),
-      λ chains nodes planned. fills_first nodes _ _ chains (into_iter_items r) _ _ _ c.into_iter-unread.ensures.rest c.into_iter-unwritten.ensures.rest c.requires.empty (subst (λ (l : List (Seat _ _ _ _)). ArePlanned chains 0 nodes l) (sym all) planned),
+      λ around nodes planned. fills_first nodes _ _ around (into_iter_items r) _ _ _ c.into_iter-unread.ensures.rest c.into_iter-unwritten.ensures.rest c.requires.empty (subst (λ (l : List (Seat _ _ _ _)). ArePlanned around 0 nodes l) (sym all) planned),
       ap (λ l. map place_seat l ++ map planned_seat (into_iter_items r)) c.requires.empty ∙ ap (map planned_seat) all,
       ap (λ l. map place_plan l ++ map planned_plan (into_iter_items r)) c.requires.empty ∙ ap (map planned_plan) all,
       ap (λ l. map place_room l ++ map planned_room (into_iter_items r)) c.requires.empty ∙ ap (map planned_room) all,
@@ -48,14 +48,14 @@ loop-seat-preserved g c =
       omega (arith, kept.5, next.1, c.push_reserved.ensures.len, c.push_reserved.ensures.capacity),
       omega (arith, kept.6, c.push_reserved.ensures.capacity),
       omega (arith, kept.7, next.1, c.push_reserved.ensures.len),
-      λ chains nodes planned. fills_next nodes _ _ chains _ _ _ _ _ _ _ _ _ _ (kept.8 chains nodes planned) next.0 (c.fill.ensures.fills chains) c.push_reserved.ensures.items,
+      λ around nodes planned. fills_next nodes _ _ around _ _ _ _ _ _ _ _ _ _ (kept.8 around nodes planned) next.0 (c.fill.ensures.fills around) c.push_reserved.ensures.items,
       map_next place_seat planned_seat _ _ _ _ _ _ _ next.0 c.push_reserved.ensures.items c.fill.ensures.seat kept.9,
       map_next place_plan planned_plan _ _ _ _ _ _ _ next.0 c.push_reserved.ensures.items c.fill.ensures.plan kept.10,
       map_next place_room planned_room _ _ _ _ _ _ _ next.0 c.push_reserved.ensures.items c.fill.ensures.room kept.11,
     )
 
 pub returns-clause-seats : goal.returns-clause-seats
-returns-clause-seats g c = λ chains nodes planned. fills_last nodes _ _ chains _ _ _ _ (c.loop-seat.invariant.8 chains nodes planned) (none_left _ _ c.in-None.ensures.steps.0 c.loop-seat.invariant.2)
+returns-clause-seats g c = λ around nodes planned. fills_last nodes _ _ around _ _ _ _ (c.loop-seat.invariant.8 around nodes planned) (none_left _ _ c.in-None.ensures.steps.0 c.loop-seat.invariant.2)
 
 pub returns-clause-room : goal.returns-clause-room
 returns-clause-room g c = c.loop-seat.invariant.6

@@ -1,8 +1,8 @@
 -- The loop of `seats::fill_all`.
 use Rattle.std.proofs.Common.{◌≡◌, ◌+◌, ◌≤◌, List, ◌++◌, length, map, vec_len, vec_capacity}
 use Rattle.std.specs.Vec.Iter.{into_iter_items, into_iter_len}
-use Rattle.stream_model.specs.Graph as graph
 use Rattle.stream_model.specs.declared.blueprint.Node.{Node}
+use Rattle.materializer.specs.Graphs.{Around}
 use Rattle.materializer.specs.Planned.{ArePlanned, planned_plan, planned_seat, planned_room, reads_in, writes_in}
 use Rattle.materializer.specs.Seats.{place_plan, place_seat, place_room}
 use Rattle.materializer.proofs.SeatLoops.{FillsRest}
@@ -19,7 +19,7 @@ invariant-loop-seat g l =
     × (vec_len l.places + into_iter_len l.seat-iterator ≤ vec_capacity l.places)
     × (vec_capacity l.places ≡ vec_capacity l.fn.places)
     × (vec_len l.places + into_iter_len l.seat-iterator ≡ vec_len l.fn.seats)
-    × ((chains : List graph.Chain) (nodes : List Node) → ArePlanned chains 0 nodes l.fn.seats.items → FillsRest nodes l.fn.sources.items l.fn.drains.items chains (into_iter_items l.seat-iterator) (into_iter_items l.unread) (into_iter_items l.unwritten) l.places.items)
+    × ((around : Around) (nodes : List Node) → ArePlanned around 0 nodes l.fn.seats.items → FillsRest nodes l.fn.sources.items l.fn.drains.items around (into_iter_items l.seat-iterator) (into_iter_items l.unread) (into_iter_items l.unwritten) l.places.items)
     × (map place_seat l.places.items ++ map planned_seat (into_iter_items l.seat-iterator) ≡ map planned_seat l.fn.seats.items)
     × (map place_plan l.places.items ++ map planned_plan (into_iter_items l.seat-iterator) ≡ map planned_plan l.fn.seats.items)
     × (map place_room l.places.items ++ map planned_room (into_iter_items l.seat-iterator) ≡ map planned_room l.fn.seats.items)

@@ -3,6 +3,6 @@ use Rattle.run_blueprint.proofs.laws.every_wire_carries_its_type.Goals as goal
 
 pub returns : goal.returns
 returns g c = record {
-  run = λ plugs chains nodes graph w rank. run_sends g.S.Source.state g.D.Drain.state plugs chains nodes graph w rank;
-  island = λ plugs chains nodes graph w rank. island_sends g.S.Source.state g.D.Drain.state plugs chains nodes graph w rank;
+  run = λ heads chains nodes graph w rank. run_sends g.S.Source.state g.D.Drain.state heads chains nodes graph w rank;
+  island = λ heads chains nodes graph w rank. island_sends g.S.Source.state g.D.Drain.state heads chains nodes graph w rank;
 }

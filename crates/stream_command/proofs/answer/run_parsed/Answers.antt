@@ -13,19 +13,19 @@ pub returns-in-Ok-check-clause-causes : goal.returns-in-Ok-check-clause-causes
 returns-in-Ok-check-clause-causes g c =
     let heads = c.deref-2.ensures.value ∙ c.in-Ok.ensures ∙ ap (map (λ p. p.head)) c.deref.ensures.value in
     let fit = subst (λ h. IsFit c.args.b h c.args.taken.now) heads c.in-Ok-check.ensures.fit in
-    causes_parsed (plugged_by g.B.PlugBook.lists c.args.plugs.items) c.run_checked.result.status (of_outcome c.run_checked.result) c.args.b (checked_blueprint c.in-Ok-check.checked) c.args.taken.now c.args.trace c.args.replay c.args.turns _ _ fit c.in-Ok-check.ensures.blueprint c.run_checked.ensures.causes
+    causes_parsed (plugged_by g.B.PlugBook.lists g.B.PlugBook.customs c.args.plugs.items c.args.customs.items) c.run_checked.result.status (of_outcome c.run_checked.result) c.args.b (checked_blueprint c.in-Ok-check.checked) c.args.taken.now c.args.trace c.args.replay c.args.turns _ _ fit c.in-Ok-check.ensures.blueprint c.run_checked.ensures.causes
 
 pub returns-in-Ok-check-clause-reads : goal.returns-in-Ok-check-clause-reads
 returns-in-Ok-check-clause-reads g c =
     let heads = c.deref-2.ensures.value ∙ c.in-Ok.ensures ∙ ap (map (λ p. p.head)) c.deref.ensures.value in
     let fit = subst (λ h. IsFit c.args.b h c.args.taken.now) heads c.in-Ok-check.ensures.fit in
-    reads_parsed (plugged_by g.B.PlugBook.lists c.args.plugs.items) c.args.b (checked_blueprint c.in-Ok-check.checked) c.args.taken.now c.args.replay _ _ fit c.in-Ok-check.ensures.blueprint c.run_checked.ensures.reads
+    reads_parsed (plugged_by g.B.PlugBook.lists g.B.PlugBook.customs c.args.plugs.items c.args.customs.items) c.args.b (checked_blueprint c.in-Ok-check.checked) c.args.taken.now c.args.replay _ _ fit c.in-Ok-check.ensures.blueprint c.run_checked.ensures.reads
 
 pub run_checked-requires-clause-apart : goal.run_checked-requires-clause-apart
 run_checked-requires-clause-apart g c = λ κs lives.
     let heads = c.deref-2.ensures.value ∙ c.in-Ok.ensures ∙ ap (map (λ p. p.head)) c.deref.ensures.value in
     let fit = subst (λ h. IsFit c.args.b h c.args.taken.now) heads c.in-Ok-check.ensures.fit in
-    apart_of (plugged_by g.B.PlugBook.lists c.args.plugs.items) c.args.b (checked_blueprint c.in-Ok-check.checked) c.args.taken.now c.args.trace fit c.in-Ok-check.ensures.blueprint c.requires.taken
+    apart_of (plugged_by g.B.PlugBook.lists g.B.PlugBook.customs c.args.plugs.items c.args.customs.items) c.args.b (checked_blueprint c.in-Ok-check.checked) c.args.taken.now c.args.trace fit c.in-Ok-check.ensures.blueprint c.requires.taken
 
 pub run_checked-requires-clause-few : goal.run_checked-requires-clause-few
 run_checked-requires-clause-few g c = λ κs lives. subst (λ (b : Blueprint). length b.nodes.items ≤ 1024) (sym c.in-Ok-check.ensures.blueprint) c.requires.few
@@ -34,11 +34,11 @@ pub run_checked-requires-clause-other : goal.run_checked-requires-clause-other
 run_checked-requires-clause-other g c = λ κs lives.
     let heads = c.deref-2.ensures.value ∙ c.in-Ok.ensures ∙ ap (map (λ p. p.head)) c.deref.ensures.value in
     let fit = subst (λ h. IsFit c.args.b h c.args.taken.now) heads c.in-Ok-check.ensures.fit in
-    read_apart_of (plugged_by g.B.PlugBook.lists c.args.plugs.items) c.args.b (checked_blueprint c.in-Ok-check.checked) c.args.taken.now c.args.replay fit c.in-Ok-check.ensures.blueprint c.requires.moves
+    read_apart_of (plugged_by g.B.PlugBook.lists g.B.PlugBook.customs c.args.plugs.items c.args.customs.items) c.args.b (checked_blueprint c.in-Ok-check.checked) c.args.taken.now c.args.replay fit c.in-Ok-check.ensures.blueprint c.requires.moves
 
 pub returns-in-Err-Fault-clause-told : goal.returns-in-Err-Fault-clause-told
 returns-in-Err-Fault-clause-told g c =
     let heads = c.deref-2.ensures.value ∙ c.in-Ok.ensures ∙ ap (map (λ p. p.head)) c.deref.ensures.value in
     let ends = subst (λ e. IsCheckEnd c.args.b c.deref-2.result.now c.args.taken.now e) c.in-Err-Fault.field-0-is c.in-Err-Fault.ensures.unfit in
     let first = subst (λ h. IsFirstFault c.args.b h c.args.taken.now c.in-Err-Fault.fault) heads ends in
-    λ tells. unfit_told (plugged_by g.B.PlugBook.lists c.args.plugs.items) _ (of_outcome c.unfit.result) c.args.b c.args.taken.now c.args.trace c.args.replay c.args.turns c.in-Err-Fault.fault c.unfit.ensures.status c.unfit.ensures.blank first
+    λ tells. unfit_told (plugged_by g.B.PlugBook.lists g.B.PlugBook.customs c.args.plugs.items c.args.customs.items) _ (of_outcome c.unfit.result) c.args.b c.args.taken.now c.args.trace c.args.replay c.args.turns c.in-Err-Fault.fault c.unfit.ensures.status c.unfit.ensures.blank first

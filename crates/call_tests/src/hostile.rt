@@ -1,0 +1,226 @@
+// What a custom stage can do that breaks its rules: it fails by the rule, and the sink of another stage has what it had without it.
+ghost use Rattle.std.specs.Prelude.{⊤};
+
+use crate::plug_calls::{Came, call_with, hire};
+use elem_core::elem::{Elem, Form};
+use elem_core::why::{Cause, NoMemory};
+use graph_stage::ask::Ask;
+use graph_stage::asks::Asks;
+use graph_stage::custom::Custom;
+use graph_stage::handlers::Handlers;
+use graph_stage::sight::Sight;
+use std::alloc::{AllocError, Global};
+use std::sync::Wait;
+use std::test::Fail;
+use std::thread::Threads;
+
+const BESIDE: &str =
+    "streams 1\nsource src lines in.txt\nstage h custom hostile\nsource a range 1 3\nsink out lines out.txt\nsink far lines far.txt\nwire src.0 -> h.0\nwire h.0 -> out.0\nwire a.0 -> far.0\n";
+
+const ALONE: &str =
+    "streams 1\nsource src lines in.txt\nstage h custom hostile\nsink out lines out.txt\nwire src.0 -> h.0\nwire h.0 -> out.0\n";
+
+/// What it does with each element.
+#[derive(Clone, Copy)]
+enum Deed {
+    /// It pushes a number where a text is due.
+    OtherType,
+    /// It pushes at an output that it has not.
+    NoSuchOutput,
+    /// It pulls an input that it has not.
+    NoSuchInput,
+    /// It pulls its input twice.
+    TwicePulled,
+    /// It passes on a failure where none came.
+    PassesNothing,
+    /// It completes its output a thousand times.
+    ThousandAsks,
+    /// It finishes, and then pushes.
+    PushesBehindEnd,
+    /// It never asks for anything.
+    AsksNothing,
+    /// It says that there is no memory.
+    WantsMemory,
+}
+
+#[derive(Drop)]
+struct Hostile {
+    deed: Deed,
+}
+
+impl Handlers for Hostile {
+    ghost does = { λ old heard asks new. ⊤ };
+
+    fn start(&mut self, _alloc: Global, _sight: &Sight, _asks: &mut Asks) -> Result<(), NoMemory> {
+        Ok(())
+    }
+
+    fn on_push(
+        &mut self,
+        _alloc: Global,
+        _port: u8,
+        e: Elem,
+        _sight: &Sight,
+        asks: &mut Asks,
+    ) -> Result<(), NoMemory> {
+        match self.deed {
+            Deed::OtherType => asks.add(Ask::Push(0, Elem::of(Form::Num(7)))),
+            Deed::NoSuchOutput => asks.add(Ask::Push(200, e)),
+            Deed::NoSuchInput => asks.add(Ask::Pull(200)),
+            Deed::TwicePulled => {
+                asks.add(Ask::Pull(0))?;
+                asks.add(Ask::Pull(0))
+            }
+            Deed::PassesNothing => asks.add(Ask::Pass),
+            Deed::ThousandAsks => {
+                asks.add(Ask::Push(0, e))?;
+                for _i in 0..1000u32 {
+                    asks.add(Ask::Complete(0))?;
+                }
+                Ok(())
+            }
+            Deed::PushesBehindEnd => {
+                asks.add(Ask::Finish)?;
+                asks.add(Ask::Push(0, e))
+            }
+            Deed::AsksNothing => Ok(()),
+            Deed::WantsMemory => Err(AllocError),
+        }
+    }
+
+    fn on_pull(
+        &mut self,
+        _alloc: Global,
+        _port: u8,
+        _sight: &Sight,
+        asks: &mut Asks,
+    ) -> Result<(), NoMemory> {
+        match self.deed {
+            Deed::AsksNothing => Ok(()),
+            _ => asks.add(Ask::Pull(0)),
+        }
+    }
+
+    fn on_finish(
+        &mut self,
+        _alloc: Global,
+        _port: u8,
+        _sight: &Sight,
+        asks: &mut Asks,
+    ) -> Result<(), NoMemory> {
+        match self.deed {
+            Deed::AsksNothing => Ok(()),
+            _ => asks.add(Ask::Finish),
+        }
+    }
+
+    fn on_fail(
+        &mut self,
+        _alloc: Global,
+        _port: u8,
+        _cause: Cause,
+        _sight: &Sight,
+        asks: &mut Asks,
+    ) -> Result<(), NoMemory> {
+        asks.add(Ask::Pass)
+    }
+
+    fn on_cancel(
+        &mut self,
+        _alloc: Global,
+        _port: u8,
+        _sight: &Sight,
+        asks: &mut Asks,
+    ) -> Result<(), NoMemory> {
+        asks.add(Ask::Finish)
+    }
+}
+
+/// What the run of a blueprint with a hostile stage comes to.
+fn run<R: Threads + Wait + Sync>(
+    rt: &R,
+    alloc: Global,
+    text: &str,
+    deed: Deed,
+) -> Result<Came, AllocError> {
+    let mut customs: Vec<Custom> = Vec::new(alloc);
+    let hostile = Box::new(alloc, Hostile { deed })?;
+    hire(alloc, &mut customs, "hostile", (1, 1), false, hostile)?;
+    call_with(rt, alloc, text, "a\nb\n", "2", Vec::new(alloc), customs)
+}
+
+#[test]
+fn a_push_of_another_type_fails(rt: HostRuntime) -> Result<(), Fail> {
+    let came = run(&rt, rt.alloc(), BESIDE, Deed::OtherType)?;
+    assert!(rt; came.says("failed\nsink out failed 0 stage 1 nth 1 why 16/4\nsink far ended 3\n"));
+    assert!(rt; came.holds(rt.alloc(), "out.txt", "")?);
+    assert!(rt; came.holds(rt.alloc(), "far.txt", "1\n2\n3\n")?);
+    Ok(())
+}
+
+#[test]
+fn a_push_where_no_output_is_fails(rt: HostRuntime) -> Result<(), Fail> {
+    let came = run(&rt, rt.alloc(), BESIDE, Deed::NoSuchOutput)?;
+    assert!(rt; came.says("failed\nsink out failed 0 stage 1 nth 1 why 16/3\nsink far ended 3\n"));
+    assert!(rt; came.holds(rt.alloc(), "far.txt", "1\n2\n3\n")?);
+    Ok(())
+}
+
+#[test]
+fn a_pull_where_no_input_is_fails(rt: HostRuntime) -> Result<(), Fail> {
+    let came = run(&rt, rt.alloc(), BESIDE, Deed::NoSuchInput)?;
+    assert!(rt; came.says("failed\nsink out failed 0 stage 1 nth 1 why 16/3\nsink far ended 3\n"));
+    assert!(rt; came.holds(rt.alloc(), "far.txt", "1\n2\n3\n")?);
+    Ok(())
+}
+
+#[test]
+fn a_second_pull_fails(rt: HostRuntime) -> Result<(), Fail> {
+    let came = run(&rt, rt.alloc(), BESIDE, Deed::TwicePulled)?;
+    assert!(rt; came.says("failed\nsink out failed 0 stage 1 nth 1 why 16/1\nsink far ended 3\n"));
+    assert!(rt; came.holds(rt.alloc(), "far.txt", "1\n2\n3\n")?);
+    Ok(())
+}
+
+#[test]
+fn no_failure_is_passed_on_that_did_not_come(rt: HostRuntime) -> Result<(), Fail> {
+    let came = run(&rt, rt.alloc(), BESIDE, Deed::PassesNothing)?;
+    assert!(rt; came.says("failed\nsink out failed 0 stage 1 nth 1 why 16/5\nsink far ended 3\n"));
+    assert!(rt; came.holds(rt.alloc(), "far.txt", "1\n2\n3\n")?);
+    Ok(())
+}
+
+#[test]
+fn a_thousand_asks_complete_once(rt: HostRuntime) -> Result<(), Fail> {
+    let came = run(&rt, rt.alloc(), BESIDE, Deed::ThousandAsks)?;
+    assert!(rt; came.says("done\nsink out ended 1\nsink far ended 3\n"));
+    assert!(rt; came.holds(rt.alloc(), "out.txt", "a\n")?);
+    assert!(rt; came.holds(rt.alloc(), "far.txt", "1\n2\n3\n")?);
+    Ok(())
+}
+
+#[test]
+fn a_push_behind_the_end_changes_nothing(rt: HostRuntime) -> Result<(), Fail> {
+    let came = run(&rt, rt.alloc(), BESIDE, Deed::PushesBehindEnd)?;
+    assert!(rt; came.says("done\nsink out ended 0\nsink far ended 3\n"));
+    assert!(rt; came.holds(rt.alloc(), "far.txt", "1\n2\n3\n")?);
+    Ok(())
+}
+
+#[test]
+fn one_that_asks_nothing_stalls(rt: HostRuntime) -> Result<(), Fail> {
+    let came = run(&rt, rt.alloc(), ALONE, Deed::AsksNothing)?;
+    assert!(rt;
+        came.says(
+            "stalled\nsink out unended 0\nwire 0 sent 0 unasked live\nwire 1 sent 0 asked live\n"
+        )
+    );
+    Ok(())
+}
+
+#[test]
+fn a_want_of_memory_is_the_run_s(rt: HostRuntime) -> Result<(), Fail> {
+    let came = run(&rt, rt.alloc(), BESIDE, Deed::WantsMemory)?;
+    assert!(rt; came.says("no memory\n"));
+    Ok(())
+}

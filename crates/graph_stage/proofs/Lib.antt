@@ -1,0 +1,11 @@
+pub mod Boxes
+pub mod Rooms
+pub mod Sees
+pub mod Standing
+pub mod Calls
+pub mod Handles
+pub mod Pushes
+pub mod Passing
+pub mod Making
+pub mod Shown
+pub mod Done

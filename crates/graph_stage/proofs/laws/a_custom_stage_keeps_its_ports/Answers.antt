@@ -1,0 +1,7 @@
+use Rattle.graph_stage.proofs.Done.{gave_by_done}
+use Rattle.graph_stage.proofs.Passing.{inputs_pass, outputs_pass}
+use Rattle.graph_stage.proofs.Pushes.{gives_typed, stays}
+use Rattle.graph_stage.proofs.laws.a_custom_stage_keeps_its_ports.Goals as goal
+
+pub returns : goal.returns
+returns c = record { inputs = inputs_pass; outputs = outputs_pass; typed = gives_typed; given = gave_by_done; same = stays }

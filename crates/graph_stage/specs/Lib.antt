@@ -1,0 +1,12 @@
+pub mod OwnView
+pub mod Room
+pub mod Standing
+pub mod Ruled
+pub mod State
+pub mod Ports
+pub mod Pushes
+pub mod Passed
+pub mod Calls
+pub mod Laws
+pub mod Making
+pub mod Samples

@@ -1,0 +1,48 @@
+// Laws: each function has no body, and its contract is the law.
+ghost use Rattle.std.specs.Prelude.{◌≡◌, ℕ, List, [], Some, length, replicate, slice_get};
+ghost use Rattle.elem_core.specs.Sort.{Sort};
+ghost use Rattle.elem_core.specs.declared.item.Item.{Item};
+ghost use Rattle.port_core.specs.declared.act.Act.{Act};
+ghost use Rattle.port_core.specs.View.{View, in_at, out_at, ActsAllowed, acted_all};
+ghost use Rattle.port_core.specs.Asking.{PullsStand};
+ghost use Rattle.stage_core.specs.Law.{TookAs, GaveAs};
+ghost use Rattle.graph_stage.specs.declared.ask.Ask.{Ask};
+ghost use Rattle.graph_stage.specs.declared.occasion.Occasion.{Occasion};
+ghost use Rattle.graph_stage.specs.Laws.{CustomLaw};
+ghost use Rattle.graph_stage.specs.OwnView.{Seen, carried_out};
+ghost use Rattle.graph_stage.specs.Passed.{PassedUpTo, ItemsTyped};
+ghost use Rattle.graph_stage.specs.Ports.{Sees};
+ghost use Rattle.graph_stage.specs.Pushes.{PushesTyped};
+ghost use Rattle.graph_stage.specs.Standing.{without_taken_back};
+ghost use Rattle.graph_stage.specs.State.{CustomState, done_gave};
+
+/// Actions without the pulls of inputs that are closed once all is done are allowed where all are, lead to the same, and pull no input
+/// that they cancel.
+pub fn pulls_can_be_taken_back()
+    ensures allowed { (s : Seen) (v : View) (acts : List Act) → length v.ins ≡ length s.ins → ActsAllowed v acts → Sees (acted_all v acts) s
+        → ActsAllowed v (without_taken_back s acts) }
+    ensures same { (s : Seen) (v : View) (acts : List Act) → length v.ins ≡ length s.ins → ActsAllowed v acts → Sees (acted_all v acts) s
+        → acted_all v (without_taken_back s acts) ≡ acted_all v acts }
+    ensures stands { (s : Seen) (v : View) (acts : List Act) → length v.ins ≡ length s.ins → ActsAllowed v acts → Sees (acted_all v acts) s
+        → PullsStand (without_taken_back s acts) }
+{}
+
+/// Whatever a stage asks for, only elements of an output's type are pushed there.
+pub fn only_typed_elements_are_pushed()
+    ensures { (types : List Sort) (o : Occasion) (s : Seen) (asks : List Ask) → PushesTyped types (carried_out types o s asks).acts }
+{}
+
+/// Over a run of a custom stage, whatever its handlers do: what passed at each port is a list and an end, which the stage knows of; what it
+/// gave is of the types of its outputs (`typed`), and told by the actions that it noted (`given`); and it stays the logic of its node.
+pub fn a_custom_stage_keeps_its_ports()
+    ensures inputs { (first now : CustomState) (v : View) (took gave : List (List Item)) → CustomLaw first now v took gave
+        → (length took ≡ length v.ins) × ((i : ℕ) (items : List Item) → slice_get took i ≡ Some items → PassedUpTo (TookAs (in_at v i)) items) }
+    ensures outputs { (first now : CustomState) (v : View) (took gave : List (List Item)) → CustomLaw first now v took gave
+        → (length gave ≡ length v.outs) × ((j : ℕ) (items : List Item) → slice_get gave j ≡ Some items → PassedUpTo (GaveAs (out_at v j)) items) }
+    ensures typed { (first now : CustomState) (v : View) (took gave : List (List Item)) → CustomLaw first now v took gave
+        → (j : ℕ) (items : List Item) → slice_get gave j ≡ Some items → ItemsTyped (slice_get first.types j) items }
+    ensures given { (first now : CustomState) (v : View) (took gave : List (List Item)) → CustomLaw first now v took gave
+        → gave ≡ done_gave now.done (replicate (length first.sight.outs) []) }
+    ensures same { (first now : CustomState) (v : View) (took gave : List (List Item)) → CustomLaw first now v took gave
+        → (now.node ≡ first.node) × (now.types ≡ first.types) }
+{}

@@ -1,0 +1,39 @@
+-- The goals of `seats::invited` that the search leaves.
+use Rattle.std.proofs.Common.{◌∙◌, [], Some, subst}
+use Rattle.blue_names.specs.CustomPorts.{custom_of}
+use Rattle.blue_names.specs.Names.{plug_of}
+use Rattle.materializer.specs.HandedCustoms.{IsGuest, HasPorts}
+use Rattle.materializer.specs.Ports.{used_ports}
+use Rattle.materializer.proofs.Guests.{plug_is, custom_is}
+use Rattle.materializer.proofs.Leading.{free_plan}
+use Rattle.materializer.proofs.seats.invited.Goals as goal
+
+pub plugged-requires : goal.plugged-requires
+plugged-requires g c = (plug_is g.L.Logic.gives g.B.PlugBook.lists c.args.kind c.in-Plug.plug (subst (λ e. IsGuest g.L.Logic.gives g.B.PlugBook.lists (plug_of c.args.kind) (custom_of c.args.kind) (Some e)) c.in-Plug.is c.requires)).1
+
+pub returns-in-Plug-clause-planned : goal.returns-in-Plug-clause-planned
+returns-in-Plug-clause-planned g c =
+    let handed = subst (λ e. IsGuest g.L.Logic.gives g.B.PlugBook.lists (plug_of c.args.kind) (custom_of c.args.kind) (Some e)) c.in-Plug.is c.requires in
+    λ around node is same ports. c.plugged.ensures.planned around node (is ∙ (plug_is g.L.Logic.gives g.B.PlugBook.lists c.args.kind c.in-Plug.plug handed).0) same
+
+pub returns-in-Plug-clause-free : goal.returns-in-Plug-clause-free
+returns-in-Plug-clause-free g c =
+    let handed = subst (λ e. IsGuest g.L.Logic.gives g.B.PlugBook.lists (plug_of c.args.kind) (custom_of c.args.kind) (Some e)) c.in-Plug.is c.requires in
+    λ chains node is same.
+    let around = record { chains = chains; wires = [] } in
+    free_plan around c.args.k node _ (c.plugged.ensures.planned around node (is ∙ (plug_is g.L.Logic.gives g.B.PlugBook.lists c.args.kind c.in-Plug.plug handed).0) same)
+
+pub hired-requires : goal.hired-requires
+hired-requires g c = (custom_is g.L.Logic.gives g.B.PlugBook.lists c.args.kind c.in-Custom.custom (subst (λ e. IsGuest g.L.Logic.gives g.B.PlugBook.lists (plug_of c.args.kind) (custom_of c.args.kind) (Some e)) c.in-Custom.is c.requires)).1
+
+pub returns-in_ok-planned-in-Custom-clause-planned : goal.returns-in_ok-planned-in-Custom-clause-planned
+returns-in_ok-planned-in-Custom-clause-planned g c =
+    let handed = subst (λ e. IsGuest g.L.Logic.gives g.B.PlugBook.lists (plug_of c.args.kind) (custom_of c.args.kind) (Some e)) c.in-Custom.is c.requires in
+    λ around node is same ports.
+    c.in_ok-planned.ensures.planned around node (is ∙ (custom_is g.L.Logic.gives g.B.PlugBook.lists c.args.kind c.in-Custom.custom handed).0)
+    (subst (λ e. HasPorts (used_ports around.wires node.name) (Some e)) c.in-Custom.is ports)
+
+pub returns-in_ok-planned-in-Custom-clause-free : goal.returns-in_ok-planned-in-Custom-clause-free
+returns-in_ok-planned-in-Custom-clause-free g c =
+    let handed = subst (λ e. IsGuest g.L.Logic.gives g.B.PlugBook.lists (plug_of c.args.kind) (custom_of c.args.kind) (Some e)) c.in-Custom.is c.requires in
+    λ chains node is same. c.in_ok-planned.ensures.free chains node (is ∙ (custom_is g.L.Logic.gives g.B.PlugBook.lists c.args.kind c.in-Custom.custom handed).0)

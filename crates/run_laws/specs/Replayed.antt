@@ -16,7 +16,7 @@ use Rattle.stream_model.specs.declared.kind.Joining.{Joining}
 use Rattle.stream_model.specs.declared.kind.Joining.TheVariants as joining
 use Rattle.stream_model.specs.declared.outcome.WireCount.{WireCount}
 use Rattle.stream_model.specs.Outlook.{Outlook, End}
-use Rattle.stream_model.specs.Linear.{Role, a_source, a_flow, a_fan_in, a_fan_out, works, trips, plugs_in, buffers, recovers, obeys, groups_by, splits_when, splits_after, merges, gathers, concats, interleaves, merges_sorted, zips, broadcasts, balances, partitions, unzips, sinks, role_of}
+use Rattle.stream_model.specs.Linear.{Role, a_source, a_flow, a_fan_in, a_fan_out, works, trips, plugs_in, buffers, recovers, obeys, groups_by, splits_when, splits_after, merges, gathers, concats, interleaves, merges_sorted, zips, broadcasts, balances, partitions, unzips, customs, sinks, role_of}
 use Rattle.stream_model.specs.Graph.{Graph, Node, steps_of}
 use Rattle.stream_model.specs.Composed.{count_from, inputs_of, ports_of}
 use Rattle.stream_model.specs.Node.{World, chain_of, head_of}
@@ -105,6 +105,7 @@ module _ (g : Graph) (w : World) (comes : List Outlook) (next : Next) where
   RoleRestsBy node (a_fan_out (balances n)) d is os = OneToMany (BalanceRestsBy next) is os
   RoleRestsBy node (a_fan_out (partitions n f)) d is os = RoleRests g w node (a_fan_out (partitions n f)) d is os
   RoleRestsBy node (a_fan_out unzips) d is os = RoleRests g w node (a_fan_out unzips) d is os
+  RoleRestsBy node (customs name) d is os = RoleRests g w node (customs name) d is os
   RoleRestsBy node (sinks file keeps) d is os = RoleRests g w node (sinks file keeps) d is os
 
 -- ---- the causes of a misfit
@@ -167,6 +168,7 @@ module _ (g : Graph) (w : World) (left : Option (List ℕ)) where
   RoleMisfits node (a_fan_out (balances n)) os = BalanceCause (next_move left) (w.moves node) os
   RoleMisfits node (a_fan_out (partitions n f)) os = ⊥
   RoleMisfits node (a_fan_out unzips) os = ⊥
+  RoleMisfits node (customs name) os = ⊥
   RoleMisfits node (sinks file keeps) os = ⊥
 
 module _ (g : Graph) (w : World) (plans : Plans) where
@@ -213,6 +215,7 @@ module _ (g : Graph) (w : World) (plans : Plans) where
   RoleLawfulBy node (a_fan_out (balances n)) d is os = OneToMany (BalanceLawfulBy (plans node) (w.moves node)) is os
   RoleLawfulBy node (a_fan_out (partitions n f)) d is os = RoleLawful g w node (a_fan_out (partitions n f)) d is os
   RoleLawfulBy node (a_fan_out unzips) d is os = RoleLawful g w node (a_fan_out unzips) d is os
+  RoleLawfulBy node (customs name) d is os = RoleLawful g w node (customs name) d is os
   RoleLawfulBy node (sinks file keeps) d is os = RoleLawful g w node (sinks file keeps) d is os
 
   -- every wire and every node is lawful; and each order of a valve that follows no moves was given by a trip

@@ -35,7 +35,7 @@ AreNotBy s [] = ⊤
 AreNotBy s (e ∷ es) = (e.cause.stage ≢ s) × AreNotBy s es
 
 -- of each of these outlooks
-abbrev AllNotBy : ℕ → List Outlook → Type 0
+abbrev pub AllNotBy : ℕ → List Outlook → Type 0
 AllNotBy s [] = ⊤
 AllNotBy s (o ∷ os) = AreNotBy s o.fails × AllNotBy s os
 
@@ -143,7 +143,7 @@ begins_by node d (taking zero) = tt
 begins_by node d (taking (suc n)) = refl
 begins_by node d _ = refl
 
-linear_by : (b : Book) (node s : ℕ) (d : Decider) (v w : Work) (o : Outlook) → node ≢ s → AreNotBy s o.fails → AreNotBy s (output (linear b v) (begin_work node d w) o).fails
+pub linear_by : (b : Book) (node s : ℕ) (d : Decider) (v w : Work) (o : Outlook) → node ≢ s → AreNotBy s o.fails → AreNotBy s (output (linear b v) (begin_work node d w) o).fails
 linear_by b node s d v w o other h =
     fails_by (linear b v) (begin_work node d w) node s other (λ (y : Stage). y.node ≡ node) (λ x t at. reacts_by node x (reaction b x.work t) at) (λ x at. finish_by b node x x.work at) (begins_by node d w) o h
 
@@ -266,7 +266,7 @@ module _ (node s : ℕ) (other : node ≢ s) where
     custom_told name d os port false t h = cc
 
     -- what a node gives blames it, or what came to it, but for a custom stage that tells no list
-    role_by : (r : Role) (d : Decider) (os : List Outlook) (port : ℕ) → is_untold w.customs r ≡ false → AllNotBy s os → AreNotBy s (role_outlook g w node r d os port).fails
+    pub role_by : (r : Role) (d : Decider) (os : List Outlook) (port : ℕ) → is_untold w.customs r ≡ false → AllNotBy s os → AreNotBy s (role_outlook g w node r d os port).fails
     role_by (a_source (reads_lines name)) d os port t h = lines_by (w.file name)
     role_by (a_source (gives_range low high)) d os port t h = tt
     role_by (a_source (gives_nothing b)) d os port t h = tt

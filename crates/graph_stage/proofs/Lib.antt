@@ -6,6 +6,7 @@ pub mod Calls
 pub mod Handles
 pub mod Pushes
 pub mod Passing
+pub mod Failing
 pub mod Making
 pub mod Shown
 pub mod Done

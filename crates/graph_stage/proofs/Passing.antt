@@ -27,7 +27,7 @@ use Rattle.graph_stage.proofs.Handles.{goes, sees_on}
 
 -- ---- the same of all ports in order
 
-abbrev InsPassed : List InView → List (List Item) → Type 0
+abbrev pub InsPassed : List InView → List (List Item) → Type 0
 InsPassed [] [] = ⊤
 InsPassed (x ∷ xs) (h ∷ hs) = PassedUpTo (TookAs x) h × InsPassed xs hs
 InsPassed _ _ = ⊥
@@ -167,11 +167,11 @@ goes_out ys hs j y h p o f = by (out_passed ys hs j p)
 -- ---- a call and its actions
 
 -- both of what is known of all ports and of what passed there
-record AllPassed (v : View) (took gave : List (List Item)) : Type 0 where
+pub record AllPassed (v : View) (took gave : List (List Item)) : Type 0 where
   pub ins : InsPassed v.ins took
   pub outs : OutsPassed v.outs gave
 
-call_passed : (call : Call) (v : View) (took gave : List (List Item)) → CallAllowed call v → AllPassed v took gave → AllPassed (seen call v) (brought_by call took) gave
+pub call_passed : (call : Call) (v : View) (took gave : List (List Item)) → CallAllowed call v → AllPassed v took gave → AllPassed (seen call v) (brought_by call took) gave
 call_passed starts v took gave may p = p
 call_passed (pulls j) v took gave may p = record { ins = p.ins; outs = keep_out v.outs gave j outlet.Available (λ e g. none_out (out_at v j) (unpulled_open (out_at v j) may) e g) p.outs }
 call_passed (arrives i (item.Elem t)) v took gave may p = record {
@@ -204,7 +204,7 @@ act_passed (act.FailOut j c) v took gave may p = record {
 }
 act_passed (act.Cancel i) v took gave may p = record { ins = keep_in v.ins took i Cancelled (λ e g. none_in (in_at v i) may e g) p.ins; outs = p.outs }
 
-acts_passed : (acts : List Act) (v : View) (took gave : List (List Item)) → ActsAllowed v acts → AllPassed v took gave → AllPassed (acted_all v acts) took (given_all acts gave)
+pub acts_passed : (acts : List Act) (v : View) (took gave : List (List Item)) → ActsAllowed v acts → AllPassed v took gave → AllPassed (acted_all v acts) took (given_all acts gave)
 acts_passed [] v took gave may p = p
 acts_passed (a ∷ acts) v took gave may p = acts_passed acts (acted v a) took (given_by a gave) may.1 (act_passed a v took gave may.0 p)
 
@@ -226,7 +226,7 @@ calls_passed x now (c ∷ calls) v took gave sees h may p =
     let q = acts_passed c.acts (seen c.call v) (brought_by c.call took) gave g.leads.allowed (call_passed c.call v took gave may.0 p) in
     calls_passed c.after now calls (acted_all (seen c.call v) c.acts) (brought_by c.call took) (given_all c.acts gave) (sees_on c.call x c.after c.acts h.0 v may.0 sees) h.1 may.1 q
 
-begun : (calls : List CallMade) (v : View) → BeginsOnce calls → CallsAllowed v calls → AllPassed v (replicate (length v.ins) []) (replicate (length v.outs) [])
+pub begun : (calls : List CallMade) (v : View) → BeginsOnce calls → CallsAllowed v calls → AllPassed v (replicate (length v.ins) []) (replicate (length v.outs) [])
 begun [] v h may = absurd h
 begun (c ∷ calls) v h may = let idle = subst (λ (z : Call). CallAllowed z v) h.0 may.0 in record { ins = ins_begun v.ins idle.0; outs = outs_begun v.outs idle.1 }
 

@@ -6,6 +6,7 @@ pub mod State
 pub mod Ports
 pub mod Pushes
 pub mod Passed
+pub mod Failing
 pub mod Calls
 pub mod Laws
 pub mod Making

@@ -1,13 +1,15 @@
 // Laws: each function has no body, and its contract is the law.
-ghost use Rattle.std.specs.Prelude.{◌≡◌, ℕ, List, [], Some, length, replicate, slice_get};
+ghost use Rattle.std.specs.Prelude.{◌≡◌, ◌⊎◌, ℕ, List, [], Some, length, replicate, slice_get};
 ghost use Rattle.elem_core.specs.Sort.{Sort};
 ghost use Rattle.elem_core.specs.declared.item.Item.{Item};
+ghost use Rattle.elem_core.specs.declared.why.Cause.{Cause};
 ghost use Rattle.port_core.specs.declared.act.Act.{Act};
 ghost use Rattle.port_core.specs.View.{View, in_at, out_at, ActsAllowed, acted_all};
 ghost use Rattle.port_core.specs.Asking.{PullsStand};
 ghost use Rattle.stage_core.specs.Law.{TookAs, GaveAs};
 ghost use Rattle.graph_stage.specs.declared.ask.Ask.{Ask};
 ghost use Rattle.graph_stage.specs.declared.occasion.Occasion.{Occasion};
+ghost use Rattle.graph_stage.specs.Failing.{AnyFailed, IsOwnCause};
 ghost use Rattle.graph_stage.specs.Laws.{CustomLaw};
 ghost use Rattle.graph_stage.specs.OwnView.{Seen, carried_out};
 ghost use Rattle.graph_stage.specs.Passed.{PassedUpTo, ItemsTyped};
@@ -45,4 +47,11 @@ pub fn a_custom_stage_keeps_its_ports()
         → gave ≡ done_gave now.done (replicate (length first.sight.outs) []) }
     ensures same { (first now : CustomState) (v : View) (took gave : List (List Item)) → CustomLaw first now v took gave
         → (now.node ≡ first.node) × (now.types ≡ first.types) }
+{}
+
+/// A failure that a custom stage gave is its own, by a number that its handlers asked for or by the rule that they broke, or it came to
+/// one of its inputs.
+pub fn a_custom_stage_blames_itself()
+    ensures { (first now : CustomState) (v : View) (took gave : List (List Item)) → CustomLaw first now v took gave
+        → (c : Cause) → AnyFailed c gave → IsOwnCause first.node c ⊎ AnyFailed c took }
 {}

@@ -1,0 +1,5 @@
+use Rattle.graph_stage.proofs.Failing.{failures_lead}
+use Rattle.graph_stage.proofs.laws.a_custom_stage_blames_itself.Goals as goal
+
+pub returns : goal.returns
+returns c = failures_lead

@@ -86,7 +86,7 @@ custom_cases sources drains book chains k n name (Custom first) now v took gave 
 
 module _ {S D L B : Type 0} (sources : S → SourceState) (drains : D → DrainState) (book : Book) (g : Graph) (a : Account (IslandNode S D L B)) (run : IsRun sources drains book g a) where
   -- it is there, as it was and as it is
-  custom_there : (k : ℕ) (n : graph.Node) (name : List ℕ) → slice_get g.nodes k ≡ Some n → n.kind ≡ kind.Custom name
+  pub custom_there : (k : ℕ) (n : graph.Node) (name : List ℕ) → slice_get g.nodes k ≡ Some n → n.kind ≡ kind.Custom name
       → (first : CustomState) × ((now : CustomState) × ((a.firsts k ≡ Some (Custom first)) × ((a.nodes k ≡ Some (Custom now)) × CustomLaw first now (knows g a k n) (took g a k n) (gave g a k n))))
   custom_there k n name ni is =
       let m = run.keeps.each_node k n ni in

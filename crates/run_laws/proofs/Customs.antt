@@ -45,10 +45,10 @@ module _ (g : Graph) (w : World) (k : ℕ) (n : graph.Node) (first now : CustomS
       ap (λ (x : Kind). node_outlook g w k x n.decider os p) made.kind_is
       ∙ ap (λ (b : Bool). custom_by g w k made.name n.decider os p b) (tells.untold made.name made.kind_is)
 
-  node_is : now.node ≡ k
+  pub node_is : now.node ≡ k
   node_is = (stays first now v took gave law).0 ∙ made.node
 
-  gave_is : gave ≡ given_at n now
+  pub gave_is : gave ≡ given_at n now
   gave_is = gave_by_done first now v took gave law ∙ ap (λ (m : ℕ). done_gave now.done (replicate m [])) (seen_outs n.head.1 first.sight.outs made.fresh.sees.outs)
 
   given_agrees : (p : ℕ) (h : List Item) → slice_get gave p ≡ Some h → AgreesWith (w.given k p) h

@@ -50,6 +50,7 @@ pub mod Hearing
 pub mod Islands
 pub mod Choosing
 pub mod OutlookAgreeing
+pub mod Blaming
 pub mod OutlookCounting
 pub mod Faults
 pub mod Passing

@@ -34,20 +34,20 @@ lane_size None = 0
 lane_size (Some s) = s
 
 -- the failures of a list that has come to this end
-abbrev fails_so : List Tree → End → List Entry
+abbrev pub fails_so : List Tree → End → List Entry
 fails_so l unended = []
 fails_so l ended = []
 fails_so l (failed c) = record { cause = c; low = length l } ∷ []
 
 -- a list that has come to this end has ended
-abbrev has_ended : End → Bool
-has_ended unended = false
-has_ended ended = true
-has_ended (failed c) = false
+abbrev pub ended_so : End → Bool
+ended_so unended = false
+ended_so ended = true
+ended_so (failed c) = false
 
 -- what has passed, as an outlook of all that may pass
 abbrev pub passed_so : List Item → Outlook
-passed_so h = record { list = list_of h; ends = has_ended (end_of_items h); fails = fails_so (list_of h) (end_of_items h) }
+passed_so h = record { list = list_of h; ends = ended_so (end_of_items h); fails = fails_so (list_of h) (end_of_items h) }
 
 -- of what was sent at one end of a wire, its other end got this: a first part; where it ended all; where it failed all but
 -- as many elements as its lane may lose

@@ -4,6 +4,7 @@
 ghost use Rattle.std.specs.Prelude.{◌≡◌, ◌≢◌, ◌<◌, ◌≤◌, ℕ, List, [], map, length, None, Some, slice_get};
 ghost use Rattle.port_core.specs.Cell.{WireState};
 ghost use Rattle.elem_core.specs.Items.{elements};
+ghost use Rattle.stream_model.specs.Blame.{GivenLeads};
 ghost use Rattle.stream_model.specs.Composed.{next, composed, sink_outlook, IsRanked};
 ghost use Rattle.stream_model.specs.Graph as graph;
 ghost use Rattle.stream_model.specs.Graph.{Graph, Edge};
@@ -67,6 +68,12 @@ pub fn every_wire_agrees<S: Source, D: Drain, L: Logic, B: PlugBook>()
     ensures { (g : Graph) (w : World) (rank : ℕ → ℕ) (a : Account (IslandNode S D L B)) → IsRun S.state D.state w.book g a → WorldTells S.state g w a
         → IsRanked g rank
         → (i : ℕ) → i < length g.wires → AgreesWith (composed g w i) (a.near i).wire.sent }
+{}
+
+/// What a custom stage that tells no list failed with on its wires was of its own, or came to it.
+pub fn customs_blame_themselves<S: Source, D: Drain, L: Logic, B: PlugBook>()
+    ensures { (g : Graph) (w : World) (rank : ℕ → ℕ) (a : Account (IslandNode S D L B)) → IsRun S.state D.state w.book g a → WorldTells S.state g w a
+        → IsRanked g rank → GivenLeads g w }
 {}
 
 /// A node of the kind of a sink with a file is one (`there`). What a sink of lines took, and how it stands, agrees with its

@@ -218,7 +218,7 @@ module _ (P : Cause → Type 0) where
 -- ---- each cause by itself
 
 -- some of these outlooks may fail with it
-abbrev AnyCause : Cause → List Outlook → Type 0
+abbrev pub AnyCause : Cause → List Outlook → Type 0
 AnyCause c [] = ⊥
 AnyCause c (o ∷ os) = HasCause c o.fails ⊎ AnyCause c os
 
@@ -310,7 +310,7 @@ module _ (g : Graph) (w : World) where
           let r = f i refl in
           record { wire = i; edge = r.wire; at = r.at; to = r.to; may_come = received_cause (wire_loss g w (slice_get g.wires i)) (composed g w i) c h }
 
-  any_came : (node : ℕ) (ps : List ℕ) (c : Cause) → AnyCause c (ports_of g w (composed g w) node ps) → ComesIn g w node c
+  pub any_came : (node : ℕ) (ps : List ℕ) (c : Cause) → AnyCause c (ports_of g w (composed g w) node ps) → ComesIn g w node c
   any_came node [] c h = absurd h
   any_came node (p ∷ ps) c (inl h) = came_in node p c h
   any_came node (p ∷ ps) c (inr h) = any_came node ps c h
@@ -331,7 +331,7 @@ module _ (g : Graph) (w : World) where
         by_told : (v : Edge) (n : Node) → slice_get g.wires j ≡ Some v → slice_get g.nodes v.from ≡ Some n → (b : Bool) → tells_none w.customs n.kind ≡ b
             → HasCause c (node_outlook g w v.from n.kind n.decider (inputs g w v.from n) v.output).fails → ComesBy g w c j
         by_told v n at node true told h =
-            elim (given v.from n v.output c node told (subst (λ (o : Outlook). HasCause c o.fails) (untold_gives v.from (role_of n.kind) n.decider (inputs g w v.from n) v.output told) h)) as (λ _. ComesBy g w c j) [
+            elim (given j v n c at node told (subst (λ (o : Outlook). HasCause c o.fails) (untold_gives v.from (role_of n.kind) n.decider (inputs g w v.from n) v.output told) h)) as (λ _. ComesBy g w c j) [
               | inl its ↦
                   arises j v n at node has (record {
                     blames = its.0;

@@ -40,10 +40,10 @@ module _ (g : Graph) (w : World) where
     pub to : edge.to ≡ k
     pub may_come : HasCause c (composed g w wire).fails
 
-  -- what custom stages failed with that tell no list was of their own, or came to them
+  -- what custom stages that tell no list failed with on their wires was of their own, or came to them
   abbrev pub GivenLeads : Type 0
-  GivenLeads = (k : ℕ) (n : Node) (port : ℕ) (c : Cause) → slice_get g.nodes k ≡ Some n → tells_none w.customs n.kind ≡ true → HasCause c (w.given k port).fails
-      → ((c.stage ≡ k) × IsCustomWhy c.why) ⊎ ComesIn k c
+  GivenLeads = (i : ℕ) (v : Edge) (n : Node) (c : Cause) → slice_get g.wires i ≡ Some v → slice_get g.nodes v.from ≡ Some n → tells_none w.customs n.kind ≡ true
+      → HasCause c (w.given v.from v.output).fails → ((c.stage ≡ v.from) × IsCustomWhy c.why) ⊎ ComesIn v.from c
 
   -- a failure came to wire i: it may come there and arises where the wire begins, or it came to a wire into that node
   pub data ComesBy (c : Cause) : ℕ → Type 0 where

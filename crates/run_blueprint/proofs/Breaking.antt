@@ -249,7 +249,7 @@ module _ {S D L B : Type 0} (sources : S → SourceState) (drains : D → DrainS
   }
 
   abbrev drawn : Drawn
-  drawn = drawn_of sources left last
+  drawn = drawn_of sources (graph_of b) left last
 
   module _ (tells_was : IsTrue old.tells) where
     drew : Draws sources drains book handles b can ss ds left last between old mid opens

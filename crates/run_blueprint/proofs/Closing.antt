@@ -17,6 +17,7 @@ use Rattle.stream_model.specs.Graph.{Graph, Edge, find_wire}
 use Rattle.stream_model.specs.Graph as graph
 use Rattle.stream_model.specs.Node.{World}
 use Rattle.stream_model.specs.Outlook.{Outlook, unended}
+use Rattle.stream_model.specs.Blame.{GivenLeads}
 use Rattle.stream_model.specs.Composed.{next, composed, count_from, sink_outlook, IsRanked, inputs_by, inputs_of}
 use Rattle.stream_model.proofs.Compositions.{found_first}
 use Rattle.stream_model.specs.Lane.{lane_loss}
@@ -286,6 +287,10 @@ module _ {S D : Type 0} (L B : Type 0) (sources : S → SourceState) (drains : D
   AgreeLaw = (g : Graph) (w : World) (rank : ℕ → ℕ) (a : Account (IslandNode S D L B)) → IsRun sources drains w.book g a
       → WorldTells sources g w a → IsRanked g rank → (i : ℕ) → i < length g.wires → AgreesWith (composed g w i) (a.near i).wire.sent
 
+  abbrev BlameLaw : Type 0
+  BlameLaw = (g : Graph) (w : World) (rank : ℕ → ℕ) (a : Account (IslandNode S D L B)) → IsRun sources drains w.book g a
+      → WorldTells sources g w a → IsRanked g rank → GivenLeads g w
+
   abbrev TreesLaw : Type 0
   TreesLaw = (g : Graph) (w : World) (counts : List WireCount) (outlook : ℕ → Outlook) → IsWired g counts → Rests g w counts outlook → AllTell g w.customs → IsPolytree g → (ended : ℕ → Bool) → SinksMatch g w counts outlook ended
       → (i : ℕ) (v : Edge) (n : graph.Node) → slice_get g.wires i ≡ Some v → slice_get g.nodes v.to ≡ Some n → oneway.is_sink n.kind ≡ true → ended v.to ≡ true
@@ -324,6 +329,7 @@ module _ {S D : Type 0} (L B : Type 0) (sources : S → SourceState) (drains : D
     pub gives : GivesLaw
     pub ranked : (b : Blueprint) (heads : HeadLists) (taken : List (List ℕ)) → IsFit b heads taken → (rank : ℕ → ℕ) × IsRanked (graph_of b) rank
     pub agree : AgreeLaw
+    pub blames : BlameLaw
     pub trees : TreesLaw
     pub wrote : WroteLaw
     pub sent : SentLaw
@@ -486,7 +492,7 @@ module _ {S D L B : Type 0} (sources : S → SourceState) (drains : D → DrainS
 
   -- what the sources drew
   abbrev drawn : Drawn
-  drawn = drawn_of sources left last
+  drawn = drawn_of sources (graph_of b) left last
 
   -- what the nodes chose
   abbrev moved : ℕ → List ℕ
@@ -827,7 +833,7 @@ module _ {S D L B : Type 0} (sources : S → SourceState) (drains : D → DrainS
     -- a world that has the moves that the stages follow, where each made all of them or nothing may fail at it
     module _ (w : World) (is : IsReplayOf book nodes plans drawn w) (fits : FitsBy g w (plan_at plans)) (serve : ServesItsMoves b plans drawn.picks w) where
       files_there : TellsFiles sources g w left
-      files_there = drew.files w is.files
+      files_there = drew.files w is.files is.gave is.untold
 
       serves_there : ServesPlans g w left
       serves_there k n first now gi fi ni moves at = by (node_plan first) refl
@@ -908,6 +914,7 @@ module _ {S D L B : Type 0} (sources : S → SourceState) (drains : D → DrainS
           fits = λ w is. laws.moves g w (plan_at plans) ranked.0 left (run_at w is.book_is) settled (world_tells w is) follows ranked.1;
           made = subst (MakesItsMoves b plans) (sym l.picks) made;
           served = carried_told.1.1;
+          blames = λ w is. laws.blames g w ranked.0 left (run_at w is.book_is) (world_tells w is) ranked.1;
           read = λ k file is. was_read k file (source_at k file is);
           world = world;
           has_files = has_files;

@@ -1,19 +1,28 @@
 -- What the sources of a blueprint had drawn at a moment of its run between two events and what its stages had chosen, and the worlds
 -- that tell of it.
 use Rattle.std.proofs.Common.{◌≡◌, ℕ, ◌+◌, List, [], map, length, refl, sym, ap, ◌∙◌, subst, arith}
-use Rattle.std.specs.Prelude.{IsTrue, IsSome, Option, Some, None, unwrap_or}
+use Rattle.std.specs.Prelude.{slice_get, IsTrue, IsSome, Option, Some, None, unwrap_or}
 use Rattle.stream_model.specs.declared.kind.Kind.TheVariants as kind
 use Rattle.stream_model.specs.Composed.{count_from}
+use Rattle.stream_model.specs.Graph.{Graph}
 use Rattle.stream_model.specs.Graph as graph
-use Rattle.stream_model.specs.Node.{World}
+use Rattle.stream_model.specs.Node.{World, nothing}
+use Rattle.stream_model.specs.Outlook.{Outlook}
+use Rattle.elem_core.specs.declared.item.Item.{Item}
+use Rattle.port_core.specs.View.{View}
+use Rattle.graph_stage.specs.State.{CustomState}
+use Rattle.graph_stage.proofs.Pushes.{stays}
 use Rattle.stream_io.specs.Counts.{Grew}
 use Rattle.stream_io.specs.State.{FolderState, SourceState, DrainState}
 use Rattle.nodes.specs.Source.{Lines}
 use Rattle.nodes.specs.declared.node.IslandNode.{IslandNode}
 use Rattle.nodes.specs.declared.node.IslandNode.TheVariants as node
+use Rattle.nodes.specs.Nodes.{node_law}
+use Rattle.run_laws.specs.Items.{passed_so}
+use Rattle.run_laws.specs.Made.{FirstOf}
 use Rattle.run_laws.specs.Account.{Account}
 use Rattle.interpreter.specs.Picks.{picks_of}
-use Rattle.run_laws.specs.Telling.{TellsFile, TellsNode, TellsFiles, TellsPicks, WorldTells, moves_at}
+use Rattle.run_laws.specs.Telling.{TellsFile, TellsGave, given_at, TellsNode, TellsFiles, TellsPicks, WorldTells, moves_at}
 use Rattle.stream_model.specs.declared.blueprint.Blueprint.{Blueprint}
 use Rattle.blue_names.specs.Names.{file_of}
 use Rattle.stream_model.specs.declared.blueprint.Node as blue
@@ -22,7 +31,7 @@ use Rattle.materializer.specs.Files.{inputs_of_nodes, outputs_of_nodes}
 use Rattle.materializer.specs.Graphs.{graph_node, graph_of, chains_of}
 use Rattle.run_blueprint.specs.Choosing.{pick_places, picked, HasPicks}
 use Rattle.run_blueprint.specs.Opening.{Opens}
-use Rattle.run_blueprint.specs.Drawing.{Drawn, IsSource, WasRead, IsWorldOf}
+use Rattle.run_blueprint.specs.Drawing.{Drawn, TellNone, IsSource, WasRead, IsWorldOf}
 use Rattle.island_runs.specs.Leaving.{Moment}
 use Rattle.run_blueprint.proofs.Choosing.{node_chooses, picked_along, told_along, has_along}
 use Rattle.run_blueprint.proofs.Counts.{rose_by, rose_from_none, is_positive, positive, above_none, not_positive, some_of}
@@ -49,18 +58,43 @@ one_node x y a b = cc
 told_whole : (o : Option (List ℕ)) (bytes : List ℕ) → o ≡ Some bytes → unwrap_or o [] ≡ bytes
 told_whole o bytes e = rw e refl
 
--- a world that has the files as they were read tells of each source
-tells_node : {S D L B : Type 0} (sources : S → SourceState) (w : World) (n : graph.Node) (first now : IslandNode S D L B)
-    → ((a c : Lines S) (name : List ℕ) → first ≡ node.Reading a → now ≡ node.Reading c → n.kind ≡ kind.Lines name → TellsFile (sources a.reader.source) (sources c.reader.source) (w.file name)) → TellsNode sources w n first now
-tells_node sources w n (node.Reading a) (node.Reading c) tells = λ name shape. tells a c name refl refl shape
-tells_node sources w n first now tells = tt
+-- what a custom stage at a place gave on an output
+abbrev so_passed : Option (List Item) → Outlook
+so_passed None = nothing
+so_passed (Some h) = passed_so h
 
-abbrev pub drawn_of : {S D L B : Type 0} → (S → SourceState) → Account (IslandNode S D L B) → List (IslandNode S D L B) → Drawn
-drawn_of sources left last = record {
+abbrev custom_gave : {S D L B : Type 0} → Option graph.Node → Option (IslandNode S D L B) → ℕ → Outlook
+custom_gave (Some n) (Some (node.Custom x)) p = so_passed (slice_get (given_at n x) p)
+custom_gave _ _ p = nothing
+
+custom_there : {S D L B : Type 0} (o : Option graph.Node) (x : Option (IslandNode S D L B)) (n : graph.Node) (c : CustomState) (p : ℕ) (h : List Item) → o ≡ Some n → x ≡ Some (node.Custom c) → slice_get (given_at n c) p ≡ Some h
+    → custom_gave o x p ≡ passed_so h
+custom_there {S} {D} {L} {B} o x n c p h e f at =
+    ap (λ (z : Option graph.Node). custom_gave z x p) e ∙ ap (λ (z : Option (IslandNode S D L B)). custom_gave (Some n) z p) f ∙ ap so_passed at
+
+-- it stays the stage of its node
+custom_node : {S D L B : Type 0} (sources : S → SourceState) (drains : D → DrainState) (book : Book) (chains : List graph.Chain) (k : ℕ) (n : graph.Node) (first : IslandNode S D L B) (c : CustomState) (v : View) (took gave : List (List Item))
+    → FirstOf sources chains k n first → node_law sources drains book first (node.Custom c) v took gave → c.node ≡ k
+custom_node sources drains book chains k n (node.Custom f) c v took gave made law = (stays f c v took gave law).0 ∙ made.node
+custom_node sources drains book chains k n (node.Entering f) c v took gave made law = absurd made
+custom_node sources drains book chains k n (node.Leaving f) c v took gave made law = absurd made
+custom_node sources drains book chains k n first c v took gave made law = absurd law
+
+-- a world that has the files as they were read and what custom stages gave tells of each of them
+tells_node : {S D L B : Type 0} (sources : S → SourceState) (w : World) (n : graph.Node) (first now : IslandNode S D L B)
+    → ((a c : Lines S) (name : List ℕ) → first ≡ node.Reading a → now ≡ node.Reading c → n.kind ≡ kind.Lines name → TellsFile (sources a.reader.source) (sources c.reader.source) (w.file name))
+    → ((c : CustomState) → now ≡ node.Custom c → TellsGave w n c) → TellsNode sources w n first now
+tells_node sources w n (node.Reading a) (node.Reading c) tells gave = λ name shape. tells a c name refl refl shape
+tells_node sources w n (node.Custom a) (node.Custom c) tells gave = gave c refl
+tells_node sources w n first now tells gave = tt
+
+abbrev pub drawn_of : {S D L B : Type 0} → (S → SourceState) → Graph → Account (IslandNode S D L B) → List (IslandNode S D L B) → Drawn
+drawn_of sources g left last = record {
   bytes = λ k. unwrap_or (source_in sources (left.firsts k)).whole [];
   given = λ k. (source_in sources (left.nodes k)).given;
   faulted = λ k. is_positive (source_in sources (left.nodes k)).faults;
   picks = picks_of (count_from 0 (length last)) last;
+  given_by = λ k p. custom_gave (slice_get g.nodes k) (left.nodes k) p;
 }
 
 module _ {S D L B : Type 0} (sources : S → SourceState) (drains : D → DrainState) (book : Book) (handles : HandleLaws L B sources drains book) (b : Blueprint) (can : CanRun b) (ss : List S) (ds : List D) (left : Account (IslandNode S D L B)) (last : List (IslandNode S D L B)) (l : Moment sources drains book b ss ds left last)
@@ -72,7 +106,7 @@ module _ {S D L B : Type 0} (sources : S → SourceState) (drains : D → DrainS
   Source k file = SourceFacts sources drains book handles b ss ds left last l old mid opens k file
 
   abbrev drawn : Drawn
-  drawn = drawn_of sources left last
+  drawn = drawn_of sources (graph_of b) left last
 
   -- the moves of each node
   abbrev pub made_moves : ℕ → List ℕ
@@ -109,11 +143,11 @@ module _ {S D L B : Type 0} (sources : S → SourceState) (drains : D → DrainS
   abbrev pub HasFiles : World → Type 0
   HasFiles w = (k : ℕ) (file : List ℕ) → IsSource nodes k file → w.file file ≡ record { bytes = drawn.bytes k; read = drawn.given k; faulted = drawn.faulted k }
 
-  -- the same of every source; and a world that has the files as they were read tells of them
+  -- the same of every source; and a world that has the files as they were read, and what the custom stages gave that tell no list, tells of them
   pub record Draws : Type 0 where
     pub source : (k : ℕ) (file : List ℕ) (f : Source k file) → DrawsOf k file f
     pub tells : (w : World) → IsWorldOf book nodes drawn w → WorldTells sources (graph_of b) w left
-    pub files : (w : World) → HasFiles w → TellsFiles sources (graph_of b) w left
+    pub files : (w : World) → HasFiles w → ((k p : ℕ) → w.given k p ≡ drawn.given_by k p) → TellNone nodes w.customs → TellsFiles sources (graph_of b) w left
     pub has_files : IsWorldOf book nodes drawn (world_of book nodes drawn made_moves)
 
   module _ (tells_was : IsTrue old.tells) where
@@ -151,8 +185,19 @@ module _ {S D L B : Type 0} (sources : S → SourceState) (drains : D → DrainS
           faulted = λ rose. subst IsTrue (sym d.faulted) (positive (sources f.now.reader.source).faults (rose_from_none (sources f.first.reader.source).faults (sources f.now.reader.source).faults f.start.faults rose));
         })
 
-    files_told : (w : World) → HasFiles w → TellsFiles sources (graph_of b) w left
-    files_told w has k n first now gi fi ni = tells_node sources w n first now (λ a c name fa nc shape.
+    -- what a custom stage gave, it has
+    gave_told : (w : World) → ((k p : ℕ) → w.given k p ≡ drawn.given_by k p) → TellNone nodes w.customs → (k : ℕ) (n : graph.Node) (c : CustomState) → slice_get (graph_of b).nodes k ≡ Some n → left.nodes k ≡ Some (node.Custom c) → TellsGave w n c
+    gave_told w gave untold k n c gi ni =
+        let m = unmapped_at (graph_node b.wires.items) nodes k n gi in
+        let f = node_facts sources drains book handles b ss ds left last l old mid opens k m.0 (node.Custom c) m.1.0 (sym (l.node_at k) ∙ ni) in
+        let place : c.node ≡ k = custom_node sources drains book (chains_of b) k (graph_node b.wires.items m.0) f.first c f.knew f.came f.went f.made f.law in
+        record {
+          untold = λ name shape. untold k m.0 name m.1.0 (ap (λ (x : graph.Node). x.kind) (sym m.1.1) ∙ shape);
+          given = λ p h at. ap (λ (j : ℕ). w.given j p) place ∙ gave k p ∙ custom_there (slice_get (graph_of b).nodes k) (left.nodes k) n c p h gi ni at;
+        }
+
+    files_told : (w : World) → HasFiles w → ((k p : ℕ) → w.given k p ≡ drawn.given_by k p) → TellNone nodes w.customs → TellsFiles sources (graph_of b) w left
+    files_told w has gave untold k n first now gi fi ni = tells_node sources w n first now (λ a c name fa nc shape.
         let m = unmapped_at (graph_node b.wires.items) nodes k n gi in
         let place : IsSource nodes k name = record { node = m.0; at = m.1.0; kind_is = ap (λ (x : graph.Node). x.kind) (sym m.1.1) ∙ shape } in
         let f = source_facts sources drains book handles b ss ds left last l old mid opens k name place in
@@ -160,9 +205,10 @@ module _ {S D L B : Type 0} (sources : S → SourceState) (drains : D → DrainS
         let now_is : f.now ≡ c = reading_same f.now c now (one_node now (node.Reading f.now) ni f.there.at_last) nc in
         subst (λ (x : Lines S). TellsFile (sources x.reader.source) (sources c.reader.source) (w.file name)) first_is
         (subst (λ (x : Lines S). TellsFile (sources f.first.reader.source) (sources x.reader.source) (w.file name)) now_is (file_told k name f w (has k name place))))
+        (λ c nc. gave_told w gave untold k n c gi (ni ∙ ap (λ (x : IslandNode S D L B). Some x) nc))
 
     world_tells : (w : World) → IsWorldOf book nodes drawn w → WorldTells sources (graph_of b) w left
-    world_tells w is = record { files = files_told w is.files; picks = picks_told w is.moves }
+    world_tells w is = record { files = files_told w is.files is.gave is.untold; picks = picks_told w is.moves }
 
     pub draws_all : Draws
     draws_all = record {

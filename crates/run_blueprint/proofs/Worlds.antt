@@ -7,7 +7,7 @@ use Rattle.stream_model.specs.declared.kind.Kind.{Kind}
 use Rattle.stream_model.specs.declared.kind.Kind.TheVariants as kind
 use Rattle.stream_model.specs.Graph.{Graph}
 use Rattle.stream_model.specs.Graph as graph
-use Rattle.stream_model.specs.Linear.{Book, CustomBook}
+use Rattle.stream_model.specs.Linear.{Book, CustomBook, none_told}
 use Rattle.stream_model.specs.Listed.{tells_none, AllTell}
 use Rattle.stream_model.specs.Node.{World}
 use Rattle.stream_model.specs.Sources.{File}
@@ -71,7 +71,7 @@ file_found (m ∷ ms) j (suc k) n d name at is one =
 
 -- the world of a run with these plugs, in which the nodes made these moves
 abbrev pub world_of : Book → List blue.Node → Drawn → (ℕ → List ℕ) → World
-world_of book nodes d moves = record { book = book; file = file_of nodes 0 d; moves = moves }
+world_of book nodes d moves = record { book = book; customs = none_told book; file = file_of nodes 0 d; moves = moves; given = d.given_by }
 
 -- has each file as it was read, where no two sources have one
 pub world_has : (book : Book) (nodes : List blue.Node) (d : Drawn) (moves : ℕ → List ℕ) → ((i k : ℕ) (m n : blue.Node) (name : List ℕ) → slice_get nodes i ≡ Some m → slice_get nodes k ≡ Some n → m.kind ≡ kind.Lines name → n.kind ≡ kind.Lines name → i ≡ k) → HasPicks d.picks (world_of book nodes d moves)
@@ -82,6 +82,8 @@ world_has book nodes d moves one picks = record {
       let place : 0 + k ≡ k = omega arith in
       file_found nodes 0 k is.node d name is.at is.kind_is (λ i m at shape. one i k m is.node name at is.at shape is.kind_is) ∙ ap (file_at d) place;
   moves = picks;
+  gave = λ k p. refl;
+  untold = λ k n name at is. refl;
 }
 
 -- ---- walks go by the wires alone

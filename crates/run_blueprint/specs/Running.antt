@@ -13,6 +13,7 @@ use Rattle.stream_model.specs.declared.outcome.EndState.{EndState}
 use Rattle.stream_model.specs.declared.outcome.EndState.TheVariants.{Unended, WriteFault}
 use Rattle.stream_model.specs.Graph.{Edge}
 use Rattle.stream_model.specs.Node.{World}
+use Rattle.stream_model.specs.Blame.{GivenLeads}
 use Rattle.stream_model.specs.Composed.{composed, sink_outlook}
 use Rattle.stream_model.specs.Sources.{whole_lines}
 use Rattle.stream_model.specs.Outlook.{Agrees}
@@ -114,6 +115,8 @@ pub record LeavesFiles (book : Book) (old new : FolderState) (b : Blueprint) (pl
   pub made : MakesItsMoves b plans picks
   pub served : (w : World) → IsReplayOf book b.nodes.items plans drawn w → FitsBy (graph_of b) w (plan_at plans) → ServesItsMoves b plans picks w
       → ServesAll book new b picks sinks wires carries w
+  -- what a custom stage failed with that tells no list was of its own, or came to it
+  pub blames : (w : World) → IsWorldOf book b.nodes.items drawn w → GivenLeads (graph_of b) w
   -- the units that suffice for what was sent suffice for all that may be sent
   pub needed : (w : World) → IsWorldOf book b.nodes.items drawn w → count_needed (graph_of b) wires ≤ need (graph_of b) (composed (graph_of b) w)
 

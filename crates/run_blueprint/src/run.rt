@@ -37,9 +37,9 @@ use plug_logic::logic::Logic;
 use plug_logic::plug::Plug;
 use run_laws::misfit_laws::{every_misfit_has_its_cause, every_node_begins_its_plan};
 use run_laws::outlook_laws::{
-    every_node_gives_of_what_came, every_plan_is_served, every_sink_agrees,
-    every_sink_counts_its_lines, every_sink_writes, every_source_reads_little_ahead,
-    every_wire_agrees,
+    customs_blame_themselves, every_node_gives_of_what_came, every_plan_is_served,
+    every_sink_agrees, every_sink_counts_its_lines, every_sink_writes,
+    every_source_reads_little_ahead, every_wire_agrees,
 };
 use run_laws::picture_laws::{
     a_picture_without_events_rests, every_move_fits, every_picture_is_lawful,
@@ -176,6 +176,7 @@ fn close<F: Folder, L: Logic, B: PlugBook>(
     ensures same { (result.used ≡ stopped.used) × (result.at_rest ≡ stopped.at_rest) × (result.ran ≡ stopped.ran) }
 {
     every_wire_agrees::<F::Inp, F::Out, L, B>();
+    customs_blame_themselves::<F::Inp, F::Out, L, B>();
     every_sink_agrees::<F::Inp, F::Out, L, B>();
     every_sink_counts_its_lines::<F::Inp, F::Out, L, B>();
     every_sink_writes::<F::Inp, F::Out, L, B>();

@@ -120,6 +120,7 @@ module _ (plugged : Plugged) (old mid new : FolderState) (file : List ℕ) (r : 
       ending = l.ending;
       made = l.made;
       served = l.served;
+      blames = l.blames;
       needed = l.needed;
     }
 

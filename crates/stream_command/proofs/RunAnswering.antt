@@ -128,6 +128,7 @@ module _ (plugged : Plugged) (old new : FolderState) (b : Blueprint) (plans : Li
     ending = λ none own tree h. l.ending none own tree (more h);
     made = l.made;
     served = l.served;
+    blames = l.blames;
     needed = l.needed;
   }
 

@@ -19,7 +19,8 @@ use Rattle.stream_model.specs.Graph.{Graph}
 use Rattle.stream_model.specs.Graph as graph
 use Rattle.stream_model.specs.Linear.{Keeping, every_one, first_one, last_one, sinks, role_of}
 use Rattle.stream_model.specs.Node.{World}
-use Rattle.stream_model.specs.Outlook.{Outlook, Agrees, Allows, failed}
+use Rattle.stream_model.specs.Outlook.{Outlook, Entry, Agrees, Allows, failed}
+use Rattle.stream_model.specs.Blame.{HasCause, GivenLeads, EndsSink}
 use Rattle.stream_model.specs.OneWay as oneway
 use Rattle.stream_io.specs.State.{FolderState}
 use Rattle.blue_check.specs.Fitness.{IsFit}
@@ -42,7 +43,7 @@ use Rattle.run_report.specs.declared.outcome.Status.{Status}
 use Rattle.run_report.specs.declared.outcome.Status.TheVariants as status
 use Rattle.stream_command.specs.AfterRun.{told_end, told_ends, is_ended, all_ended}
 use Rattle.stream_command.specs.Asked.{Plugged, AskedRun}
-use Rattle.stream_command.specs.Headline.{HoldsWhole, HoldsBetween, RanOver, WholeFiles, AnswersSink, EndedFiles, ReplayedFiles, FailedWhole}
+use Rattle.stream_command.specs.Headline.{HoldsWhole, HoldsBetween, RanOver, WholeFiles, AnswersSink, EndedFiles, ReplayedFiles, FailedWhole, FailuresLead}
 use Rattle.stream_command.specs.Outcome.{SaysFile, SaysFit, taken_files, Blank, RanTo, LacksInput, LacksOutput, EndedBefore, EndedReplay, EndedRun, EndedChecked, FollowsFile, Told}
 
 some_one : {A : Type 0} {a b : A} → Some a ≡ Some b → a ≡ b
@@ -140,7 +141,7 @@ nothing_picked (p ∷ ps) e = absurd cc
 
 module _ (p : Plugged) (a : Answer) (c : AskedRun) (old new : FolderState) (tells : IsTrue new.tells) (b : Blueprint) (said : SaysFit p old c.file c.trace c.replay b) (plans : List (Option (List ℕ))) (follows : FollowsFile old c.replay b.nodes.items plans) (ran : RanTo p old new b plans c.trace c.turns a) where
   over : RanOver p c old new b ran.leaves.drawn
-  over = record { said = said; plans = plans; follows = follows; read = ran.leaves.read; fits = ran.leaves.fits; world = ran.leaves.world; is_one = ran.leaves.has_files }
+  over = record { said = said; plans = plans; follows = follows; read = ran.leaves.read; fits = ran.leaves.fits; blames = ran.leaves.blames; world = ran.leaves.world; is_one = ran.leaves.has_files }
 
   -- a node at a place among the sinks stands there
   stand_at : (i k : ℕ) → slice_get (sink_places 0 b.nodes.items) i ≡ Some k → (s : SinkStand) × ((slice_get ran.stands i ≡ Some s) × (k ≡ s.0))
@@ -354,4 +355,29 @@ module _ (ranked : (b : Blueprint) (heads : HeadLists) (taken : List (List ℕ))
             let role = file_role n.kind file x.writes in
             whole_between new file (sink_outlook (graph_of e.blueprint) w k (graph_node e.blueprint.wires.items n)) cause
             (reaches (graph_of e.blueprint) w cause rank.0 rank.1 k (graph_node e.blueprint.wires.items n) role.0 role.1.0 role.1.1 lists last) (e.failed w k n file cause is x);
+      }
+
+-- ---- the node that a failure blames
+
+has_cause : (c : Cause) (es : List Entry) (n : ℕ) → Allows es c n → HasCause c es
+has_cause c [] n h = absurd h
+has_cause c (e ∷ es) n (inl h) = inl h.0
+has_cause c (e ∷ es) n (inr h) = inr (has_cause c es n h)
+
+module _ (ranked : (b : Blueprint) (heads : HeadLists) (taken : List (List ℕ)) → IsFit b heads taken → (rank : ℕ → ℕ) × IsRanked (graph_of b) rank)
+    (lead : (g : Graph) (w : World) (rank : ℕ → ℕ) → IsRanked g rank → GivenLeads g w → (k : ℕ) (n : graph.Node) (c : Cause) → HasCause c (sink_outlook g w k n).fails → EndsSink g w k n c) where
+  pub failures_lead : (p : Plugged) (a : Answer) (c : AskedRun) (old new : FolderState) → Told p a c old new → IsTrue new.tells → a.sinks ≢ [] → FailuresLead p a c old new
+  failures_lead p a c old new told tells some =
+      let e = ends_tell p a c old new told tells some in
+      let rank = ranked e.blueprint p.heads (taken_files c.file c.trace c.replay) e.ran.said.fit in
+      record {
+        blueprint = e.blueprint;
+        drawn = e.drawn;
+        by_moves = e.by_moves;
+        ran = e.ran;
+        every = e.every;
+        leads = λ w k n file cause is x.
+            let m = graph_node e.blueprint.wires.items n in
+            let holds = e.failed w k n file cause is x in
+            lead (graph_of e.blueprint) w rank.0 rank.1 (e.ran.blames w is) k m cause (has_cause cause (sink_outlook (graph_of e.blueprint) w k m).fails (length holds.list) holds.least);
       }

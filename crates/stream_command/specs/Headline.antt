@@ -8,6 +8,7 @@ use Rattle.stream_model.specs.declared.blueprint.Blueprint.{Blueprint}
 use Rattle.stream_model.specs.declared.blueprint.Node.{Node}
 use Rattle.stream_model.specs.declared.outcome.EndState.{EndState}
 use Rattle.stream_model.specs.declared.outcome.EndState.TheVariants as state
+use Rattle.stream_model.specs.Blame.{GivenLeads, EndsSink}
 use Rattle.stream_model.specs.Composed.{sink_outlook}
 use Rattle.stream_model.specs.Listed.{HasLists}
 use Rattle.stream_model.specs.Exact.{ReachesLast}
@@ -48,6 +49,7 @@ pub record RanOver (p : Plugged) (c : AskedRun) (old new : FolderState) (b : Blu
   pub follows : FollowsFile old c.replay b.nodes.items plans
   pub read : WereRead old new b.nodes.items d
   pub fits : (w : World) → IsWorldOf p.book b.nodes.items d w → FitsBy (graph_of b) w (plan_at plans)
+  pub blames : (w : World) → IsWorldOf p.book b.nodes.items d w → GivenLeads (graph_of b) w
   pub world : World
   pub is_one : IsWorldOf p.book b.nodes.items d world
 
@@ -134,3 +136,15 @@ pub record FailedWhole (p : Plugged) (a : Answer) (c : AskedRun) (old new : Fold
   pub whole : (w : World) (k : ℕ) (n : Node) (file : List ℕ) (cause : Cause) → IsWorldOf p.book blueprint.nodes.items drawn w
       → AnswersSink a blueprint k n file (state.Failed cause) → HasLists (graph_of blueprint) w.customs k
       → ReachesLast (graph_of blueprint) cause k (graph_node blueprint.wires.items n) → new.file file ≡ Some (text_lines (sink_outlook (graph_of blueprint) w k (graph_node blueprint.wires.items n)).list)
+
+-- Of a call whose answer has every sink: each failure that is answered of a sink with a file is one of the sink's own, or came along a
+-- directed walk of wires from the node that it blames, where it may come on an output though nothing that comes in there fails; that of a
+-- custom stage that tells no list is of its own.
+pub record FailuresLead (p : Plugged) (a : Answer) (c : AskedRun) (old new : FolderState) : Type 0 where
+  pub blueprint : Blueprint
+  pub drawn : Drawn
+  pub by_moves : drawn.picks ≡ a.picks
+  pub ran : RanOver p c old new blueprint drawn
+  pub every : length a.sinks ≡ length (sink_places 0 blueprint.nodes.items)
+  pub leads : (w : World) (k : ℕ) (n : Node) (file : List ℕ) (cause : Cause) → IsWorldOf p.book blueprint.nodes.items drawn w
+      → AnswersSink a blueprint k n file (state.Failed cause) → EndsSink (graph_of blueprint) w k (graph_node blueprint.wires.items n) cause

@@ -1,4 +1,4 @@
-// What the sinks' files hold after a call, in seven short laws: each function does nothing, and its contract is the law. Each follows
+// What the sinks' files hold after a call, in eight short laws: each function does nothing, and its contract is the law. Each follows
 // from `told` of `run_file` alone, and `run_streams` hands that on in its clause `answers`.
 ghost use Rattle.std.specs.Prelude.{◌≡◌, ◌≢◌, [], false, IsTrue, List, ℕ};
 ghost use Rattle.blue_names.specs.Picks.{needs_picks};
@@ -10,12 +10,12 @@ ghost use Rattle.stream_model.specs.declared.blueprint.Blueprint.{Blueprint};
 ghost use Rattle.stream_command.specs.Asked.{AskedRun, Plugged};
 ghost use Rattle.stream_model.specs.declared.blueprint.Node.{Node};
 ghost use Rattle.stream_model.specs.declared.outcome.EndState.TheVariants.{Ended};
-ghost use Rattle.stream_command.specs.Headline.{WholeFiles, AnswersSink, EndedFiles, RunsAlike, ReplayedFiles, ReplaysRun, FailedWhole};
+ghost use Rattle.stream_command.specs.Headline.{WholeFiles, AnswersSink, EndedFiles, RunsAlike, ReplayedFiles, ReplaysRun, FailedWhole, FailuresLead};
 ghost use Rattle.stream_command.specs.Outcome.{SaysFile, Told};
 
 use materializer::laws::fit_blueprints_are_whole;
 use run_report::outcome::Status;
-use stream_model::laws::{failures_lose_nothing, lists_are_apart_from_customs};
+use stream_model::laws::{causes_lead, failures_lose_nothing, lists_are_apart_from_customs};
 
 // Choice: docs/DECISIONS.md#headline
 /// Where a call answers Done and the folder tells its files, each sink's file holds exactly the text of the list that the blueprint's
@@ -69,6 +69,16 @@ pub fn a_replay_writes_what_was_written()
 {
     fit_blueprints_are_whole();
     lists_are_apart_from_customs();
+}
+
+/// Whatever the status of a call that answers some sink, each sink that failed blames itself, or a node from which the failure came along a
+/// directed walk of wires and where it may arise: also behind a custom stage that tells no list.
+pub fn each_failure_has_its_node()
+    ensures { (p : Plugged) (a : Answer) (c : AskedRun) (old new : FolderState) → Told p a c old new → IsTrue new.tells → a.sinks ≢ []
+        → FailuresLead p a c old new }
+{
+    fit_blueprints_are_whole();
+    causes_lead();
 }
 
 /// With no lane that does not keep, no buffer, no stage that holds outputs, no partition and no fan-in between the stage that failed and

@@ -381,3 +381,21 @@ module _ (ranked : (b : Blueprint) (heads : HeadLists) (taken : List (List ℕ))
             let holds = e.failed w k n file cause is x in
             lead (graph_of e.blueprint) w rank.0 rank.1 (e.ran.blames w is) k m cause (has_cause cause (sink_outlook (graph_of e.blueprint) w k m).fails (length holds.list) holds.least);
       }
+
+-- ---- whatever custom stages gave
+
+module _ (ranked : (b : Blueprint) (heads : HeadLists) (taken : List (List ℕ)) → IsFit b heads taken → (rank : ℕ → ℕ) × IsRanked (graph_of b) rank)
+    (apart : (g : Graph) (w : World) (x : ℕ → ℕ → Outlook) (rank : ℕ → ℕ) → IsRanked g rank → (k : ℕ) (n : graph.Node) → HasLists g w.customs k → sink_outlook g (record w { given = x }) k n ≡ sink_outlook g w k n)
+    (p : Plugged) (a : Answer) (c : AskedRun) (old new : FolderState) (e : EndedFiles p a c old new) (w : World) (x : ℕ → ℕ → Outlook) (k : ℕ) (n : Node) (lists : HasLists (graph_of e.blueprint) w.customs k) where
+  outlook_apart : sink_outlook (graph_of e.blueprint) (record w { given = x }) k (graph_node e.blueprint.wires.items n) ≡ sink_outlook (graph_of e.blueprint) w k (graph_node e.blueprint.wires.items n)
+  outlook_apart =
+      let rank = ranked e.blueprint p.heads (taken_files c.file c.trace c.replay) e.ran.said.fit in
+      apart (graph_of e.blueprint) w x rank.0 rank.1 k (graph_node e.blueprint.wires.items n) lists
+
+  pub ended_apart : (file : List ℕ) → HoldsWhole new file (sink_outlook (graph_of e.blueprint) w k (graph_node e.blueprint.wires.items n))
+      → HoldsWhole new file (sink_outlook (graph_of e.blueprint) (record w { given = x }) k (graph_node e.blueprint.wires.items n))
+  ended_apart file h = subst (λ (o : Outlook). HoldsWhole new file o) (sym outlook_apart) h
+
+  pub failed_apart : (file : List ℕ) (cause : Cause) → HoldsBetween new file (sink_outlook (graph_of e.blueprint) w k (graph_node e.blueprint.wires.items n)) cause
+      → HoldsBetween new file (sink_outlook (graph_of e.blueprint) (record w { given = x }) k (graph_node e.blueprint.wires.items n)) cause
+  failed_apart file cause h = subst (λ (o : Outlook). HoldsBetween new file o cause) (sym outlook_apart) h

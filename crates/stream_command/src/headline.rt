@@ -1,16 +1,21 @@
-// What the sinks' files hold after a call, in eight short laws: each function does nothing, and its contract is the law. Each follows
+// What the sinks' files hold after a call, in nine short laws: each function does nothing, and its contract is the law. Each follows
 // from `told` of `run_file` alone, and `run_streams` hands that on in its clause `answers`.
 ghost use Rattle.std.specs.Prelude.{◌≡◌, ◌≢◌, [], false, IsTrue, List, ℕ};
 ghost use Rattle.blue_names.specs.Picks.{needs_picks};
 ghost use Rattle.run_report.specs.Answer.{Answer};
 ghost use Rattle.stream_io.specs.State.{FolderState};
-ghost use Rattle.materializer.specs.Graphs.{graph_of};
+ghost use Rattle.elem_core.specs.declared.why.Cause.{Cause};
+ghost use Rattle.materializer.specs.Graphs.{graph_of, graph_node};
+ghost use Rattle.run_blueprint.specs.Drawing.{IsWorldOf};
+ghost use Rattle.stream_model.specs.Composed.{sink_outlook};
+ghost use Rattle.stream_model.specs.Node.{World};
+ghost use Rattle.stream_model.specs.Outlook.{Outlook};
 ghost use Rattle.stream_model.specs.Listed.{HasLists};
 ghost use Rattle.stream_model.specs.declared.blueprint.Blueprint.{Blueprint};
 ghost use Rattle.stream_command.specs.Asked.{AskedRun, Plugged};
 ghost use Rattle.stream_model.specs.declared.blueprint.Node.{Node};
-ghost use Rattle.stream_model.specs.declared.outcome.EndState.TheVariants.{Ended};
-ghost use Rattle.stream_command.specs.Headline.{WholeFiles, AnswersSink, EndedFiles, RunsAlike, ReplayedFiles, ReplaysRun, FailedWhole, FailuresLead};
+ghost use Rattle.stream_model.specs.declared.outcome.EndState.TheVariants.{Ended, Failed};
+ghost use Rattle.stream_command.specs.Headline.{HoldsWhole, HoldsBetween, WholeFiles, AnswersSink, EndedFiles, RunsAlike, ReplayedFiles, ReplaysRun, FailedWhole, FailuresLead};
 ghost use Rattle.stream_command.specs.Outcome.{SaysFile, Told};
 
 use materializer::laws::fit_blueprints_are_whole;
@@ -38,6 +43,21 @@ pub fn each_end_tells_its_file()
     ensures { (p : Plugged) (a : Answer) (c : AskedRun) (old new : FolderState) → Told p a c old new → IsTrue new.tells → a.sinks ≢ []
         → EndedFiles p a c old new }
 {}
+
+/// The file of a sink to which no way leads from a custom stage that tells no list is told so by every world of the input files and the
+/// moves, whatever that has of what those stages gave.
+pub fn files_are_apart_from_customs()
+    ensures ended { (p : Plugged) (a : Answer) (c : AskedRun) (old new : FolderState) → (e : EndedFiles p a c old new) → (w : World) (x : ℕ → ℕ → Outlook) (k : ℕ) (n : Node)
+        (file : List ℕ) → IsWorldOf p.book e.blueprint.nodes.items e.drawn w → AnswersSink a e.blueprint k n file Ended → HasLists (graph_of e.blueprint) w.customs k
+        → HoldsWhole new file (sink_outlook (graph_of e.blueprint) (record w { given = x }) k (graph_node e.blueprint.wires.items n)) }
+    ensures failed { (p : Plugged) (a : Answer) (c : AskedRun) (old new : FolderState) → (e : EndedFiles p a c old new) → (w : World) (x : ℕ → ℕ → Outlook) (k : ℕ) (n : Node)
+        (file : List ℕ) (cause : Cause) → IsWorldOf p.book e.blueprint.nodes.items e.drawn w → AnswersSink a e.blueprint k n file (Failed cause)
+        → HasLists (graph_of e.blueprint) w.customs k
+        → HoldsBetween new file (sink_outlook (graph_of e.blueprint) (record w { given = x }) k (graph_node e.blueprint.wires.items n)) cause }
+{
+    fit_blueprints_are_whole();
+    lists_are_apart_from_customs();
+}
 
 /// Two calls that ran what one text says over input files of the same bytes, by the same moves, where no read of a file failed: each
 /// sink that ended in both, to which no way leads from a custom stage, wrote the same bytes. So does a replay that made all moves of a

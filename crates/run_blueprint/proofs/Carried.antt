@@ -31,7 +31,7 @@ use Rattle.blue_check.specs.Fitness.{IsFit}
 use Rattle.blue_check.specs.Wires.{blueprint_wires}
 use Rattle.materializer.specs.Files.{output_of}
 use Rattle.materializer.specs.Graphs.{graph_node, graph_of}
-use Rattle.run_blueprint.specs.Plugs.{KeepsPlugTypes}
+use Rattle.run_blueprint.specs.Plugs.{KeepsPlugTypes, CustomsTyped}
 use Rattle.run_blueprint.specs.Sent.{exact, SendsItsType}
 use Rattle.run_blueprint.specs.Types.{AllTyped}
 use Rattle.run_blueprint.proofs.TypeSending.{exact_agrees}
@@ -101,7 +101,7 @@ pub record Stood (v : Edge) (c : WireCount) (items : List Item) : Type 0 where
 
 module _ (book : Book) (b : Blueprint) (stands : List SinkStand) (wires : List WireCount) (picks : List Pick) (moves : ℕ → List ℕ) (items : ℕ → List Item) (counts : (u : ℕ) (v : Edge) → slice_get (blueprint_wires b) u ≡ Some v → sent_at wires u ≡ elements (items u))
     (told_there : (i : ℕ) (v : Edge) → slice_get (blueprint_wires b) i ≡ Some v → IsToldList (items i))
-    (sends : (heads : HeadLists) (taken : List (List ℕ)) → IsFit b heads taken → KeepsPlugTypes heads book → (i : ℕ) (v : Edge) → slice_get (blueprint_wires b) i ≡ Some v → SendsItsType heads b.chains.items b.nodes.items (graph_of b) (unread book moves) i v (items i))
+    (told : World) (sends : (heads : HeadLists) (taken : List (List ℕ)) → IsFit b heads taken → KeepsPlugTypes heads book → CustomsTyped heads b.nodes.items (blueprint_wires b) (λ u. list_of (items u)) → (i : ℕ) (v : Edge) → slice_get (blueprint_wires b) i ≡ Some v → SendsItsType heads b.chains.items b.nodes.items (graph_of b) told i v (items i))
     (gives : (w : World) → w.book ≡ book → HasPicks picks w → (sent : ℕ → Outlook) (j : ℕ) (v : Edge) (n : graph.Node) → slice_get (blueprint_wires b) j ≡ Some v → slice_get (graph_of b).nodes v.from ≡ Some n → ((name : List ℕ) → n.kind ≢ Lines name) → ((name : List ℕ) → n.kind ≢ Custom name)
     → ((u : ℕ) (x : Edge) → slice_get (blueprint_wires b) u ≡ Some x → x.to ≡ v.from → AgreesWith (sent u) (items u)) → AgreesWith (next (graph_of b) w sent j) (items j))
     (stood : (i : ℕ) (v : Edge) (c : WireCount) → slice_get (blueprint_wires b) i ≡ Some v → slice_get wires i ≡ Some c → Stood v c (items i))
@@ -134,8 +134,8 @@ module _ (book : Book) (b : Blueprint) (stands : List SinkStand) (wires : List W
     lists = lists;
     ends = ends;
     counted = counted;
-    typed = λ heads taken fit keeps i v at.
-        let s = sends heads taken fit keeps i v at in
+    typed = λ heads taken fit keeps passed i v at.
+        let s = sends heads taken fit keeps passed i v at in
         let list : lists i ≡ s.list = ap list_of s.is ∙ list_of_told s.list s.end in
         (s.carries.type, (s.carries.settles, subst (λ l. AllTyped s.carries.type l) (sym list) s.typed));
     given = λ w same has j v n at is other hired.

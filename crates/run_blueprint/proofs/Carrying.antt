@@ -86,7 +86,7 @@ module _ (heads : HeadLists) (chains : List ChainDecl) (nodes : List Node) (g : 
         subst (λ o. AllTyped i.type (incoming g w sent o).list) (sym i.into.finds)
         (received_typed (wire_loss g w (slice_get g.wires number)) (sent number) i.type (h.typed i.into.wire i.into.at i.type i.on_wire))
 
-    module _ (rank : ℕ → ℕ) (ranked : IsRanked g rank) (passes : PassesRules heads chains nodes g) (keeps : KeepsPlugTypes heads w.book) (gave : GivenTyped heads nodes w) where
+    module _ (rank : ℕ → ℕ) (ranked : IsRanked g rank) (passes : PassesRules heads chains nodes g) (keeps : KeepsPlugTypes heads w.book) (gave : GivenTyped heads nodes g.wires w) where
       pub settles : (i : ℕ) → i < length g.wires → HasSettled heads chains nodes g i
       settles = every_wire_settles heads chains nodes g rank ranked passes
 
@@ -175,7 +175,7 @@ module _ (heads : HeadLists) (chains : List ChainDecl) (nodes : List Node) (g : 
         -- a custom stage gives what it gave, which is of the types of its head
         given_by : (name : List ℕ) → n.kind ≡ Custom name → (o : Option Sort) → output_type (custom_named heads name) v.output ≡ o → (b : Bool) → b ≡ false → (os : List Outlook)
             → AllTyped (unwrap_or o u) (custom_by g w v.from name n.decider os v.output b).list
-        given_by name z (Some t) e false f os = gave.typed v.from n name v.output t is z e
+        given_by name z (Some t) e false f os = gave.typed j v n name t at is z e
         given_by name z None e false f os =
             absurd (has_output_type (custom_named heads name) v.output (subst (λ q. v.output < kind_outputs heads q) z (output_there heads chains nodes g.wires passes.no_unknown passes.no_missing passes.no_open j v n at is)) e)
         given_by name z o e true f os = absurd cc
@@ -218,7 +218,7 @@ module _ (heads : HeadLists) (chains : List ChainDecl) (nodes : List Node) (g : 
           let same = one_some (wire_type heads chains nodes g v) (half_type heads n.node.kind v.output u.0) t (type_from j v n.node u.0 n.is u.1) e in
           retype_all (half_type heads n.node.kind v.output u.0) t (next g w sent j).list same (node_gives j v n.node at n.is below u.0 u.1)
 
-  module _ (w : World) (rank : ℕ → ℕ) (ranked : IsRanked g rank) (passes : PassesRules heads chains nodes g) (keeps : KeepsPlugTypes heads w.book) (gave : GivenTyped heads nodes w) where
+  module _ (w : World) (rank : ℕ → ℕ) (ranked : IsRanked g rank) (passes : PassesRules heads chains nodes g) (keeps : KeepsPlugTypes heads w.book) (gave : GivenTyped heads nodes g.wires w) where
     wire_gives : (j : ℕ) → j < length g.wires → ((i : ℕ) → i < length g.wires → rank i < rank j → HasTyped w (composed g w) i) → HasTyped w (composed g w) j
     wire_gives j l below = record {
       typed = λ v at t e.

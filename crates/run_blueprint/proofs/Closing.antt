@@ -43,7 +43,8 @@ use Rattle.nodes.specs.declared.node.IslandNode.TheVariants as node
 use Rattle.interpreter.specs.Picks.{Pick, pick_of}
 use Rattle.interpreter.specs.Misfits.{Found, FindsMisfit, IsLeast}
 use Rattle.run_laws.specs.Account.{Account, IsStill, took}
-use Rattle.run_laws.specs.Items.{list_of, end_of_items, AgreesWith, IsToldList}
+use Rattle.run_laws.specs.Items.{list_of, end_of_items, passed_so, AgreesWith, IsToldList}
+use Rattle.run_laws.proofs.Blaming.{custom_gives}
 use Rattle.run_laws.specs.Pictures as pictures
 use Rattle.run_laws.specs.Ports.{wire_count}
 use Rattle.run_laws.proofs.Coming.{elements_told}
@@ -72,7 +73,8 @@ use Rattle.materializer.specs.Seats.{gather_of}
 use Rattle.run_laws.proofs.Nodes.{one_input}
 use Rattle.stream_io.specs.Names.{drain_names}
 use Rattle.run_blueprint.specs.Checked.{PassesRules}
-use Rattle.run_blueprint.specs.Plugs.{KeepsPlugTypes, GivenTyped}
+use Rattle.run_blueprint.specs.Plugs.{KeepsPlugTypes, GivenTyped, CustomsTyped}
+use Rattle.run_blueprint.specs.Types.{AllTyped}
 use Rattle.run_blueprint.specs.Sent.{SendsItsType}
 use Rattle.run_blueprint.specs.Carrying.{WiresCarry, AgreesWithFiles, PictureStands, MisfitByPassed, ShutBy, OverBy, AskedBy, SinkTook, IgnorerTook, as_passed}
 use Rattle.run_blueprint.specs.Choosing.{picked}
@@ -102,7 +104,7 @@ use Rattle.run_blueprint.proofs.SinkWires.{ended_shut, left_shut, lane_asked, si
 use Rattle.run_blueprint.proofs.Shuts.{Shuts}
 use Rattle.run_blueprint.proofs.Traces.{unlisted, lone_of, calm_trace}
 use Rattle.run_blueprint.proofs.Shutting.{TakenApart, unwritten, read_grew, faults_grew, writes_grew, file_held, other_files, other_reads, other_writes, other_draws, refused, tells_old, readers_many, writers_many}
-use Rattle.run_blueprint.proofs.Drawns.{drawn_of, made_moves, picks_told, picks_stand, Draws, draws_all, reads_of}
+use Rattle.run_blueprint.proofs.Drawns.{drawn_of, gave_told, made_moves, picks_told, picks_stand, Draws, draws_all, reads_of}
 use Rattle.stream_model.specs.Linear.{Book}
 
 -- ---- the wires' counts
@@ -305,7 +307,7 @@ module _ {S D : Type 0} (L B : Type 0) (sources : S → SourceState) (drains : D
 
   abbrev TypesLaw : Type 0
   TypesLaw = (heads : HeadLists) (chains : List ChainDecl) (nodes : List blue.Node) (g : Graph) (w : World) (rank : ℕ → ℕ) (a : Account (IslandNode S D L B)) → IsRun sources drains w.book g a → TellsPicks w a → TellsCustoms g w a
-      → PassesRules heads chains nodes g → KeepsPlugTypes heads w.book → GivenTyped heads nodes w → IsRanked g rank
+      → PassesRules heads chains nodes g → KeepsPlugTypes heads w.book → GivenTyped heads nodes g.wires w → IsRanked g rank
       → (i : ℕ) (v : Edge) → slice_get g.wires i ≡ Some v → SendsItsType heads chains nodes g w i v (a.near i).wire.sent
 
   abbrev GivesLaw : Type 0
@@ -502,6 +504,24 @@ module _ {S D L B : Type 0} (sources : S → SourceState) (drains : D → DrainS
   told_moves : TellsPicks (unread book moved) left
   told_moves = chosen_told book (unread book moved).file left
 
+  -- the same world, in which the custom stages gave what they gave
+  abbrev given_world : World
+  given_world = record (unread book moved) { given = drawn.given_by }
+
+  customs_told : TellsCustoms g given_world left
+  customs_told k n c gi ni = gave_told sources drains book handles b can ss ds left last between old mid opens given_world (λ j p. refl) (λ j m name at is. refl) k n c gi ni
+
+  -- what a custom stage gave is what was sent on the wire from there
+  given_typed : (heads : HeadLists) → CustomsTyped heads nodes (blueprint_wires b) (λ u. list_of (left.near u).wire.sent) → GivenTyped heads nodes (blueprint_wires b) given_world
+  given_typed heads passed = record {
+    untold = λ k n name at is. refl;
+    typed = λ j v n name t at is custom out.
+        let m = graph_node b.wires.items n in
+        let there : slice_get g.nodes v.from ≡ Some m = mapped_at (graph_node b.wires.items) nodes v.from n is in
+        let gave : given_world.given v.from v.output ≡ passed_so (left.near j).wire.sent = custom_gives sources drains g given_world left run (λ k x c gi ni. customs_told k x c gi ni) j v m name at there custom in
+        subst (λ (l : List Tree). AllTyped t l) (sym (ap (λ (o : Outlook). o.list) gave)) (passed j v n name t at is custom out);
+  }
+
   -- what was sent on each wire is a list, and how it stands
   sent_list : (i : ℕ) (v : Edge) → slice_get (blueprint_wires b) i ≡ Some v → IsToldList (left.near i).wire.sent
   sent_list i v at =
@@ -599,10 +619,10 @@ module _ {S D L B : Type 0} (sources : S → SourceState) (drains : D → DrainS
   -- it is of its type where the heads keep to theirs
   abbrev carried : WiresCarry book b st.end.sinks.items st.wires.items drawn.picks
   carried =
-      carries book b st.end.sinks.items st.wires.items drawn.picks moved (λ u. (left.near u).wire.sent) wire_count_at sent_list
-      (λ heads taken fit keeps i v at.
+      carries book b st.end.sinks.items st.wires.items drawn.picks moved (λ u. (left.near u).wire.sent) wire_count_at sent_list given_world
+      (λ heads taken fit keeps passed i v at.
       let by = laws.ranked b heads taken fit in
-      laws.types heads b.chains.items nodes g (unread book moved) by.0 left run told_moves (laws.fits b heads taken g fit refl refl refl) keeps by.1 i v at)
+      laws.types heads b.chains.items nodes g given_world by.0 left run told_moves customs_told (laws.fits b heads taken g fit refl refl refl) keeps (given_typed heads passed) by.1 i v at)
       (λ w is has sent j v n at from other hired came. laws.gives g w left (run_at w is) (picks_told sources drains book handles b can ss ds left last between old mid opens w has) sent j v n at from other hired came)
       (λ u v c at is. rw (wire_at u v c at is) (record { over = ended_shut sources drains book g left run u v at; asks = lane_asked sources drains book g left run u v at }))
       left_stood sink_stood ended_stood writer_stood took_there ignored_there
@@ -705,8 +725,8 @@ module _ {S D L B : Type 0} (sources : S → SourceState) (drains : D → DrainS
       let n = place_of nodes stage below in
       let here = mapped_at (graph_node b.wires.items) nodes stage n.0 n.1 in
       let there = node_there stage f.node found in
-      let why = laws.misfit g (unread book moved) (plan_at plans) left (as_passed carried) run told_moves follows all_agree stage (graph_node n.0) f.node place here there f.found in
-      let more = misfit_has_more g (unread book moved) (plan_at plans) (as_passed carried) stage (graph_node n.0) why.1 in
+      let why = laws.misfit g (unread book moved) (plan_at plans) left (as_passed carried) run told_moves follows all_agree stage (graph_node b.wires.items n.0) f.node place here there f.found in
+      let more = misfit_has_more g (unread book moved) (plan_at plans) (as_passed carried) stage (graph_node b.wires.items n.0) why.1 in
       let moves : List ℕ = node_moves f.node in
       let size : length (moved stage) ≡ length (node_moves f.node) = ap (λ (o : Option (IslandNode S D L B)). length (moves_at o)) there in
       let chose = made_along 0 last f.at stage f.node (node_moves f.node) number f.there (misfit_chooses f.node place f.found) in
@@ -855,7 +875,7 @@ module _ {S D L B : Type 0} (sources : S → SourceState) (drains : D → DrainS
               let same : c.node ≡ now = place_one last k c.node now (subst (λ (j : ℕ). slice_get last j ≡ Some c.node) place c.there) found in
               some_one plan moves (sym c.picks ∙ ap node_picks same ∙ at)
 
-          by_plan : (plan : List ℕ) → plan_at plans k ≡ Some plan → HasMade drawn.picks k plan ⊎ IsSureAt g w k (graph_node m.0) → ServesPlan g w k n (Some plan) moves
+          by_plan : (plan : List ℕ) → plan_at plans k ≡ Some plan → HasMade drawn.picks k plan ⊎ IsSureAt g w k (graph_node b.wires.items m.0) → ServesPlan g w k n (Some plan) moves
           by_plan plan p (inl all) = inl (is.followed k plan p ∙ one plan all)
           by_plan plan p (inr sure) = inr (is.followed k plan p, (fits.each k n gi, subst (λ (x : graph.Node). IsSureAt g w k x) (sym m.1.1) sure))
 

@@ -150,6 +150,17 @@ module _ {S D L B : Type 0} (sources : S → SourceState) (drains : D → DrainS
     pub files : (w : World) → HasFiles w → ((k p : ℕ) → w.given k p ≡ drawn.given_by k p) → TellNone nodes w.customs → TellsFiles sources (graph_of b) w left
     pub has_files : IsWorldOf book nodes drawn (world_of book nodes drawn made_moves)
 
+  -- what a custom stage gave, it has
+  pub gave_told : (w : World) → ((k p : ℕ) → w.given k p ≡ drawn.given_by k p) → TellNone nodes w.customs → (k : ℕ) (n : graph.Node) (c : CustomState) → slice_get (graph_of b).nodes k ≡ Some n → left.nodes k ≡ Some (node.Custom c) → TellsGave w n c
+  gave_told w gave untold k n c gi ni =
+      let m = unmapped_at (graph_node b.wires.items) nodes k n gi in
+      let f = node_facts sources drains book handles b ss ds left last l old mid opens k m.0 (node.Custom c) m.1.0 (sym (l.node_at k) ∙ ni) in
+      let place : c.node ≡ k = custom_node sources drains book (chains_of b) k (graph_node b.wires.items m.0) f.first c f.knew f.came f.went f.made f.law in
+      record {
+        untold = λ name shape. untold k m.0 name m.1.0 (ap (λ (x : graph.Node). x.kind) (sym m.1.1) ∙ shape);
+        given = λ p h at. ap (λ (j : ℕ). w.given j p) place ∙ gave k p ∙ custom_there (slice_get (graph_of b).nodes k) (left.nodes k) n c p h gi ni at;
+      }
+
   module _ (tells_was : IsTrue old.tells) where
     draws_of : (k : ℕ) (file : List ℕ) (f : Source k file) → DrawsOf k file f
     draws_of k file f =
@@ -184,17 +195,6 @@ module _ {S D L B : Type 0} (sources : S → SourceState) (drains : D → DrainS
           read = d.given;
           faulted = λ rose. subst IsTrue (sym d.faulted) (positive (sources f.now.reader.source).faults (rose_from_none (sources f.first.reader.source).faults (sources f.now.reader.source).faults f.start.faults rose));
         })
-
-    -- what a custom stage gave, it has
-    gave_told : (w : World) → ((k p : ℕ) → w.given k p ≡ drawn.given_by k p) → TellNone nodes w.customs → (k : ℕ) (n : graph.Node) (c : CustomState) → slice_get (graph_of b).nodes k ≡ Some n → left.nodes k ≡ Some (node.Custom c) → TellsGave w n c
-    gave_told w gave untold k n c gi ni =
-        let m = unmapped_at (graph_node b.wires.items) nodes k n gi in
-        let f = node_facts sources drains book handles b ss ds left last l old mid opens k m.0 (node.Custom c) m.1.0 (sym (l.node_at k) ∙ ni) in
-        let place : c.node ≡ k = custom_node sources drains book (chains_of b) k (graph_node b.wires.items m.0) f.first c f.knew f.came f.went f.made f.law in
-        record {
-          untold = λ name shape. untold k m.0 name m.1.0 (ap (λ (x : graph.Node). x.kind) (sym m.1.1) ∙ shape);
-          given = λ p h at. ap (λ (j : ℕ). w.given j p) place ∙ gave k p ∙ custom_there (slice_get (graph_of b).nodes k) (left.nodes k) n c p h gi ni at;
-        }
 
     files_told : (w : World) → HasFiles w → ((k p : ℕ) → w.given k p ≡ drawn.given_by k p) → TellNone nodes w.customs → TellsFiles sources (graph_of b) w left
     files_told w has gave untold k n first now gi fi ni = tells_node sources w n first now (λ a c name fa nc shape.

@@ -47,7 +47,7 @@ is_lines : (k : Kind) → ((name : List ℕ) × (k ≡ Lines name)) ⊎ ((name :
 is_lines (Lines name) = inl (name, refl)
 is_lines _ = inr (λ name e. cc)
 
-module _ (heads : HeadLists) (chains : List ChainDecl) (nodes : List Node) (g : Graph) (w : World) (rank : ℕ → ℕ) (ranked : IsRanked g rank) (passes : PassesRules heads chains nodes g) (keeps : KeepsPlugTypes heads w.book) (gave : GivenTyped heads nodes w)
+module _ (heads : HeadLists) (chains : List ChainDecl) (nodes : List Node) (g : Graph) (w : World) (rank : ℕ → ℕ) (ranked : IsRanked g rank) (passes : PassesRules heads chains nodes g) (keeps : KeepsPlugTypes heads w.book) (gave : GivenTyped heads nodes g.wires w)
     (items : ℕ → List Item)
     (texts : (u : ℕ) (v : Edge) (n : graph.Node) (name : List ℕ) → slice_get g.wires u ≡ Some v → slice_get g.nodes v.from ≡ Some n → n.kind ≡ Lines name → GivesTexts (items u))
     (gives : (sent : ℕ → Outlook) (j : ℕ) (v : Edge) (n : graph.Node) → slice_get g.wires j ≡ Some v → slice_get g.nodes v.from ≡ Some n → ((name : List ℕ) → n.kind ≢ Lines name)

@@ -37,7 +37,7 @@ use Rattle.interpreter.specs.Picks.{Pick}
 use Rattle.run_blueprint.specs.Choosing.{HasPicks}
 use Rattle.run_blueprint.specs.Drawing.{Drawn, TellNone, IsWorldOf}
 use Rattle.stream_model.specs.Linear.{Book}
-use Rattle.run_blueprint.specs.Plugs.{KeepsPlugTypes}
+use Rattle.run_blueprint.specs.Plugs.{KeepsPlugTypes, CustomsTyped}
 
 -- the type that the check settles for a wire
 abbrev pub settled_type : Blueprint → HeadLists → Edge → Option Sort
@@ -97,7 +97,7 @@ pub record IgnorerTook (loss : Option ℕ) (list : List Tree) (end : End) (s : S
   pub ends : EndsWith s.2 seen
 
 -- On each wire a list passed, and it stands so: as many elements as the picture counts (`counted`), all of the type that the
--- check settles for the wire (`typed`). What a node gave that is no source of lines and no custom stage agrees with what it gives of
+-- check settles for the wire, where those of custom stages are of their heads' (`typed`). What a node gave that is no source of lines and no custom stage agrees with what it gives of
 -- the lists that passed on its inputs, by every world that has what the stages chose (`given`). A wire on which an end was sent is shut (`shut_is`);
 -- a lane is not asked only where as many elements were sent as it has places (`lane_asks`); and the wire of a sink stands by how the
 -- sink does (`sink_shut`, `sink_asked`): also a lane is shut where its sink has ended, unless that takes one element alone and so may
@@ -108,8 +108,8 @@ pub record WiresCarry (book : Book) (b : Blueprint) (stands : List SinkStand) (w
   pub lists : ℕ → List Tree
   pub ends : ℕ → End
   pub counted : (i : ℕ) (v : Edge) → slice_get (blueprint_wires b) i ≡ Some v → sent_at wires i ≡ length (lists i)
-  pub typed : (heads : HeadLists) (taken : List (List ℕ)) → IsFit b heads taken → KeepsPlugTypes heads book → (i : ℕ) (v : Edge)
-      → slice_get (blueprint_wires b) i ≡ Some v
+  pub typed : (heads : HeadLists) (taken : List (List ℕ)) → IsFit b heads taken → KeepsPlugTypes heads book
+      → CustomsTyped heads b.nodes.items (blueprint_wires b) lists → (i : ℕ) (v : Edge) → slice_get (blueprint_wires b) i ≡ Some v
       → (t : Sort) × ((settled_type b heads v ≡ Some t) × AllTyped t (lists i))
   pub given : (w : World) → w.book ≡ book → HasPicks picks w → (j : ℕ) (v : Edge) (n : Node) → slice_get (blueprint_wires b) j ≡ Some v
       → slice_get b.nodes.items v.from ≡ Some n → ((name : List ℕ) → n.kind ≢ Lines name) → ((name : List ℕ) → n.kind ≢ Custom name)

@@ -2,6 +2,7 @@
 use Rattle.std.specs.Prelude.{◌≡◌, ℕ, List, slice_get, Some}
 use Rattle.elem_core.specs.Sort.{Sort}
 use Rattle.elem_core.specs.Tree.{Tree}
+use Rattle.stream_model.specs.Graph.{Edge}
 use Rattle.stream_model.specs.Linear.{Book}
 use Rattle.stream_model.specs.Node.{World}
 use Rattle.stream_model.specs.declared.blueprint.Node.{Node}
@@ -20,8 +21,13 @@ pub record KeepsPlugTypes (heads : HeadLists) (book : Book) : Type 0 where
   pub closing : (name : List ℕ) (p : PlugHead) → plug_named name heads.plugs ≡ Some p → (taken : List Tree) → AllTyped p.input taken
       → AllTyped p.output (book.closing name taken).gave
 
+-- what comes on each wire from a custom stage is of the type that its head has of the output
+abbrev pub CustomsTyped : HeadLists → List Node → List Edge → (ℕ → List Tree) → Type 0
+CustomsTyped heads nodes wires lists = (j : ℕ) (v : Edge) (n : Node) (name : List ℕ) (t : Sort) → slice_get wires j ≡ Some v → slice_get nodes v.from ≡ Some n → n.kind ≡ Custom name
+    → output_type (custom_named heads name) v.output ≡ Some t → AllTyped t (lists j)
+
 -- no custom stage that one of these nodes names tells a list, and what each gave is of the types of its head
-pub record GivenTyped (heads : HeadLists) (nodes : List Node) (w : World) : Type 0 where
+pub record GivenTyped (heads : HeadLists) (nodes : List Node) (wires : List Edge) (w : World) : Type 0 where
   pub untold : TellNone nodes w.customs
-  pub typed : (k : ℕ) (n : Node) (name : List ℕ) (p : ℕ) (t : Sort) → slice_get nodes k ≡ Some n → n.kind ≡ Custom name
-      → output_type (custom_named heads name) p ≡ Some t → AllTyped t (w.given k p).list
+  pub typed : (j : ℕ) (v : Edge) (n : Node) (name : List ℕ) (t : Sort) → slice_get wires j ≡ Some v → slice_get nodes v.from ≡ Some n → n.kind ≡ Custom name
+      → output_type (custom_named heads name) v.output ≡ Some t → AllTyped t (w.given v.from v.output).list

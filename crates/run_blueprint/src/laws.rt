@@ -115,7 +115,7 @@ pub fn fit_blueprints_pass_the_rules()
 /// type: its own, and in a chain each what the steps before it give.
 pub fn every_list_is_typed()
     ensures { (heads : HeadLists) (chains : List ChainDecl) (nodes : List Node) (g : Graph) (w : World) (rank : ℕ → ℕ) → PassesRules heads chains nodes g
-        → KeepsPlugTypes heads w.book → GivenTyped heads nodes w → IsRanked g rank
+        → KeepsPlugTypes heads w.book → GivenTyped heads nodes g.wires w → IsRanked g rank
         → (i : ℕ) (v : Edge) → slice_get g.wires i ≡ Some v → CarriesType heads chains nodes g w i v }
 {}
 
@@ -125,11 +125,11 @@ pub fn every_list_is_typed()
 pub fn every_wire_carries_its_type<S: Source, D: Drain, L: Logic, B: PlugBook>()
     ensures run { (heads : HeadLists) (chains : List ChainDecl) (nodes : List Node) (g : Graph) (w : World) (rank : ℕ → ℕ)
         (a : Account (stage.IslandNode S D L B)) → IsRun S.state D.state w.book g a → TellsPicks w a → TellsCustoms g w a
-        → PassesRules heads chains nodes g → KeepsPlugTypes heads w.book → GivenTyped heads nodes w → IsRanked g rank
+        → PassesRules heads chains nodes g → KeepsPlugTypes heads w.book → GivenTyped heads nodes g.wires w → IsRanked g rank
         → (i : ℕ) (v : Edge) → slice_get g.wires i ≡ Some v → SendsItsType heads chains nodes g w i v (a.near i).wire.sent }
     ensures island { (heads : HeadLists) (chains : List ChainDecl) (nodes : List Node) (g : Graph) (w : World) (rank : ℕ → ℕ)
         (net : Net (stage.IslandNode S D L B)) → Settled node_port_state (node_law S.state D.state w.book) node_asking node_moves net
-        → Materializes S.state g net.firsts net.ends → TellsPicks w (account_of net) → TellsCustoms g w (account_of net) → PassesRules heads chains nodes g → KeepsPlugTypes heads w.book → GivenTyped heads nodes w
+        → Materializes S.state g net.firsts net.ends → TellsPicks w (account_of net) → TellsCustoms g w (account_of net) → PassesRules heads chains nodes g → KeepsPlugTypes heads w.book → GivenTyped heads nodes g.wires w
         → IsRanked g rank
         → (i : ℕ) (v : Edge) → slice_get g.wires i ≡ Some v → SendsItsType heads chains nodes g w i v (wire_at net i).wire.sent }
 {}

@@ -1,8 +1,8 @@
 -- An entry of an outlook arises at its own node, though nothing that comes in fails, or came in.
-use Rattle.std.specs.Prelude.{slice_get, not, if◌then◌else◌, ◌==◌, ◌-◌, ◌⊎◌, inl, inr, nat_le, ⊤}
+use Rattle.std.specs.Prelude.{slice_get, not, if◌then◌else◌, ◌==◌, ◌-◌, nat_le, ⊤}
 use Rattle.std.specs.List.{filter_map, cons_option}
 use Rattle.std.specs.Option.{option_map}
-use Rattle.std.proofs.Common.{◌≡◌, ℕ, zero, suc, ◌+◌, ◌<◌, Bool, true, false, List, [], ◌∷◌, ◌++◌, length, map, take, Option, None, Some, refl, sym, ap, ◌∙◌, subst, arith}
+use Rattle.std.proofs.Common.{◌≡◌, ◌⊎◌, inl, inr, ℕ, zero, suc, ◌+◌, ◌<◌, Bool, true, false, List, [], ◌∷◌, ◌++◌, length, map, take, Option, None, Some, refl, sym, ap, ◌∙◌, subst, arith}
 use Rattle.elem_core.specs.declared.why.Cause.{Cause}
 use Rattle.elem_core.specs.declared.why.Decider.{Decider}
 use Rattle.elem_core.specs.declared.why.Decider.TheVariants.{Stop}
@@ -17,9 +17,9 @@ use Rattle.stream_model.specs.Fits.{inputs}
 use Rattle.stream_model.specs.Graph.{Graph, Node, Edge, find_wire, steps_of}
 use Rattle.stream_model.specs.Linear.{Book, Work, Role, a_source, a_flow, a_fan_in, a_fan_out, reads_lines, gives_range, gives_nothing, gives_failure, works, trips, plugs_in, buffers, recovers, obeys, groups_by, splits_when, splits_after, merges, gathers, concats, interleaves, merges_sorted, zips, broadcasts, balances, partitions, unzips, customs, sinks, passing, plugged, numbering, keeping_work, linear, begin_work, role_of, work_of}
 use Rattle.stream_model.specs.Listed.{is_untold, tells_none}
-use Rattle.stream_model.specs.Machine.{Run, Machine, is_going, run, whole, passed, own, fails_of, output}
+use Rattle.stream_model.specs.Machine.{Run, Machine, is_going, run, Given, whole, passed, own, fails_of, output}
 use Rattle.stream_model.specs.Node.{World, head_of, second_of, chain_of, custom_by, role_outlook, node_outlook, of_work}
-use Rattle.stream_model.specs.Outlook.{Outlook, Entry, behind, lane_outlook}
+use Rattle.stream_model.specs.Outlook.{Outlook, Entry, End, behind, lane_outlook}
 use Rattle.stream_model.specs.Picks.{count_of, at_end_of, merge_fails, sent_to, Buffered, buffered, empty_buffer, buffer_outlook, once_came, Acted, untouched, completed, aborted, acted, acted_outlook, recover_outlook}
 use Rattle.stream_model.specs.FanOut.{left_outlook, right_outlook}
 use Rattle.elem_core.specs.Tree.{Tree}
@@ -141,23 +141,23 @@ module _ (P : Cause → Type 0) where
           machine_have (substreams (through w.book (chain_of node (steps_of chain g.chains))) p) (begin_subs (through w.book (chain_of node (steps_of chain g.chains))) node) o h come.0
 
       -- an entry that is left of these was among them
-      given_left : (n : ℕ) (xs ys : List Entry) → AllCauses (filter_map (once_given n) xs) → AllCauses ys → AllCauses (filter_map (once_given n) (xs ++ ys))
-      given_left n [] ys h k = kept_have (once_given n) (λ e r is. if_left (nat_le e.low n) (record { cause = e.cause; low = n }) r is) ys k
-      given_left n (x ∷ xs) ys h k = by (nat_le x.low n) h
+      given_left : (yields : List Tree → End → Given Tree) (n : ℕ) (xs ys : List Entry) → AllCauses (filter_map (once_given yields n) xs) → AllCauses ys → AllCauses (filter_map (once_given yields n) (xs ++ ys))
+      given_left yields n [] ys h k = kept_have (once_given yields n) (λ e r is. if_left (nat_le e.low n) (record { cause = e.cause; low = n }) r is) ys k
+      given_left yields n (x ∷ xs) ys h k = by (nat_le x.low n) (λ t. given_left yields n xs ys t k) h
         where
-          by : (b : Bool) → AllCauses (cons_option (if b then Some (record { cause = x.cause; low = n }) else None) (filter_map (once_given n) xs))
-              → AllCauses (cons_option (if b then Some (record { cause = x.cause; low = n }) else None) (filter_map (once_given n) (xs ++ ys)))
-          by true t = (t.0, given_left n xs ys t.1 k)
-          by false t = given_left n xs ys t k
+          by : (b : Bool) → (AllCauses (filter_map (once_given yields n) xs) → AllCauses (filter_map (once_given yields n) (xs ++ ys))) → AllCauses (cons_option (if b then Some (record { cause = x.cause; low = n }) else None) (filter_map (once_given yields n) xs))
+              → AllCauses (cons_option (if b then Some (record { cause = x.cause; low = n }) else None) (filter_map (once_given yields n) (xs ++ ys)))
+          by true more t = (t.0, more t.1)
+          by false more t = more t
 
-      none_more : (n : ℕ) (xs : List Entry) → AllCauses (filter_map (once_given n) (xs ++ [])) → AllCauses (filter_map (once_given n) xs)
-      none_more n [] h = tt
-      none_more n (x ∷ xs) h = by (nat_le x.low n) h
+      none_more : (yields : List Tree → End → Given Tree) (n : ℕ) (xs : List Entry) → AllCauses (filter_map (once_given yields n) (xs ++ [])) → AllCauses (filter_map (once_given yields n) xs)
+      none_more yields n [] h = tt
+      none_more yields n (x ∷ xs) h = by (nat_le x.low n) (λ t. none_more yields n xs t) h
         where
-          by : (b : Bool) → AllCauses (cons_option (if b then Some (record { cause = x.cause; low = n }) else None) (filter_map (once_given n) (xs ++ [])))
-              → AllCauses (cons_option (if b then Some (record { cause = x.cause; low = n }) else None) (filter_map (once_given n) xs))
-          by true t = (t.0, none_more n xs t.1)
-          by false t = none_more n xs t
+          by : (b : Bool) → (AllCauses (filter_map (once_given yields n) (xs ++ [])) → AllCauses (filter_map (once_given yields n) xs)) → AllCauses (cons_option (if b then Some (record { cause = x.cause; low = n }) else None) (filter_map (once_given yields n) (xs ++ [])))
+              → AllCauses (cons_option (if b then Some (record { cause = x.cause; low = n }) else None) (filter_map (once_given yields n) xs))
+          by true more t = (t.0, more t.1)
+          by false more t = more t
 
       merge_have : (p : Opening) (chain : List ℕ) (os : List Outlook) → AllCauses (merge_subs (through w.book (chain_of node (steps_of chain g.chains))) node p (w.moves node) (head_of (map calm os))).fails → AllComing os
           → AllCauses (merge_subs (through w.book (chain_of node (steps_of chain g.chains))) node p (w.moves node) (head_of os)).fails
@@ -166,8 +166,8 @@ module _ (P : Cause → Type 0) where
           let yields = through w.book (chain_of node (steps_of chain g.chains)) in
           let m = substreams yields p in
           let start = begin_subs yields node in
-          given_left (length (w.moves node)) (own m start o.list (whole m start o).end) (filter_map (passed m start o.list) o.fails)
-          (none_more (length (w.moves node)) (own m start o.list (whole m start o).end) h)
+          given_left yields (length (w.moves node)) (own m start o.list (whole m start o).end) (filter_map (passed m start o.list) o.fails)
+          (none_more yields (length (w.moves node)) (own m start o.list (whole m start o).end) h)
           (kept_have (passed m start o.list) (λ e r is. if_left (is_going (run m start (take (e.low - m.hold) o.list)).state) (record { cause = e.cause; low = length (run m start (take (e.low - m.hold) o.list)).gave }) r is) o.fails come.0)
 
       custom_have : (name : List ℕ) (d : Decider) (os : List Outlook) (port : ℕ) (b : Bool) → AllCauses (custom_by g w node name d (map calm os) port b).fails → AllComing os → AllCauses (custom_by g w node name d os port b).fails
@@ -318,46 +318,49 @@ module _ (g : Graph) (w : World) where
   -- ---- wires
 
   module _ (rank : ℕ → ℕ) (ranked : IsRanked g rank) (given : GivenLeads g w) (c : Cause) where
+    -- one wire, where the wires of lower rank are led back
+    module _ (k j : ℕ) (low : rank j < suc k) (has : HasCause c (composed g w j).fails) (deeper : (i : ℕ) → rank i < k → i < length g.wires → HasCause c (composed g w i).fails → ComesBy g w c i) where
+      -- along a wire into the node where wire j begins
+      along : (v : Edge) → slice_get g.wires j ≡ Some v → ComesIn g w v.from c → ComesBy g w c j
+      along v at come =
+          let lower : rank come.wire < rank j = ranked.rises come.wire j come.edge v come.at at come.to in
+          comes_on come.wire j come.edge v come.at at come.to (deeper come.wire (omega (arith, lower, low)) (slice_get-below g.wires come.wire come.edge come.at) come.may_come)
+
+      by_told : (v : Edge) (n : Node) → slice_get g.wires j ≡ Some v → slice_get g.nodes v.from ≡ Some n → (b : Bool) → tells_none w.customs n.kind ≡ b
+          → HasCause c (node_outlook g w v.from n.kind n.decider (inputs g w v.from n) v.output).fails → ComesBy g w c j
+      by_told v n at node true told h =
+          elim (given j v n c at node told (subst (λ (o : Outlook). HasCause c o.fails) (untold_gives v.from (role_of n.kind) n.decider (inputs g w v.from n) v.output told) h)) as (λ _. ComesBy g w c j) [
+            | inl its ↦
+                arises j v n at node has (record {
+                  blames = its.0;
+                  alone = subst (λ (o : Outlook). HasCause c o.fails) (untold_gives v.from (role_of n.kind) n.decider (inputs g w v.from n) v.output told ∙ sym (untold_gives v.from (role_of n.kind) n.decider (map calm (inputs g w v.from n)) v.output told)) h;
+                  custom = λ _. its.1;
+                })
+            | inr come ↦ along v at come
+          ]
+      by_told v n at node false told h =
+          elim (parted v.from (role_of n.kind) n.decider (inputs g w v.from n) v.output c h) as (λ _. ComesBy g w c j) [
+            | inl its ↦
+                arises j v n at node has (record {
+                  blames = own_stage v.from (role_of n.kind) n.decider (inputs g w v.from n) v.output c told its;
+                  alone = its;
+                  custom = λ untold. absurd (not_both (tells_none w.customs n.kind) untold told);
+                })
+            | inr some ↦ along v at (any_came v.from (count_from 0 (inputs_of n)) c some)
+          ]
+
+      by_node : (v : Edge) → slice_get g.wires j ≡ Some v → (o : Option Node) → slice_get g.nodes v.from ≡ o → HasCause c (given_on g w (composed g w) v.from o v.output).fails → ComesBy g w c j
+      by_node v at None none h = absurd h
+      by_node v at (Some n) node h = by_told v n at node (tells_none w.customs n.kind) refl h
+
+      by_wire : (o : Option Edge) → slice_get g.wires j ≡ o → HasCause c (sent_on g w (composed g w) o).fails → ComesBy g w c j
+      by_wire None at h = absurd h
+      by_wire (Some v) at h = by_node v at (slice_get g.nodes v.from) refl h
+
     wire_comes : (k j : ℕ) → rank j < k → j < length g.wires → HasCause c (composed g w j).fails → ComesBy g w c j
     wire_comes zero j low below has = absurd (omega (arith, low))
-    wire_comes (suc k) j low below has = by_wire (slice_get g.wires j) refl (subst (λ (o : Outlook). HasCause c o.fails) (sym (composed_composes g w rank ranked j below)) has)
-      where
-        -- along a wire into the node where wire j begins
-        along : (v : Edge) → slice_get g.wires j ≡ Some v → ComesIn g w v.from c → ComesBy g w c j
-        along v at come =
-            let lower : rank come.wire < rank j = ranked.rises come.wire j come.edge v come.at at come.to in
-            comes_on come.wire j come.edge v come.at at come.to (wire_comes k come.wire (omega (arith, lower, low)) (slice_get-below g.wires come.wire come.edge come.at) come.may_come)
-
-        by_told : (v : Edge) (n : Node) → slice_get g.wires j ≡ Some v → slice_get g.nodes v.from ≡ Some n → (b : Bool) → tells_none w.customs n.kind ≡ b
-            → HasCause c (node_outlook g w v.from n.kind n.decider (inputs g w v.from n) v.output).fails → ComesBy g w c j
-        by_told v n at node true told h =
-            elim (given j v n c at node told (subst (λ (o : Outlook). HasCause c o.fails) (untold_gives v.from (role_of n.kind) n.decider (inputs g w v.from n) v.output told) h)) as (λ _. ComesBy g w c j) [
-              | inl its ↦
-                  arises j v n at node has (record {
-                    blames = its.0;
-                    alone = subst (λ (o : Outlook). HasCause c o.fails) (untold_gives v.from (role_of n.kind) n.decider (inputs g w v.from n) v.output told ∙ sym (untold_gives v.from (role_of n.kind) n.decider (map calm (inputs g w v.from n)) v.output told)) h;
-                    custom = λ _. its.1;
-                  })
-              | inr come ↦ along v at come
-            ]
-        by_told v n at node false told h =
-            elim (parted v.from (role_of n.kind) n.decider (inputs g w v.from n) v.output c h) as (λ _. ComesBy g w c j) [
-              | inl its ↦
-                  arises j v n at node has (record {
-                    blames = own_stage v.from (role_of n.kind) n.decider (inputs g w v.from n) v.output c told its;
-                    alone = its;
-                    custom = λ untold. absurd (not_both (tells_none w.customs n.kind) untold told);
-                  })
-              | inr some ↦ along v at (any_came v.from (count_from 0 (inputs_of n)) c some)
-            ]
-
-        by_node : (v : Edge) → slice_get g.wires j ≡ Some v → (o : Option Node) → slice_get g.nodes v.from ≡ o → HasCause c (given_on g w (composed g w) v.from o v.output).fails → ComesBy g w c j
-        by_node v at None none h = absurd h
-        by_node v at (Some n) node h = by_told v n at node (tells_none w.customs n.kind) refl h
-
-        by_wire : (o : Option Edge) → slice_get g.wires j ≡ o → HasCause c (sent_on g w (composed g w) o).fails → ComesBy g w c j
-        by_wire None at h = absurd h
-        by_wire (Some v) at h = by_node v at (slice_get g.nodes v.from) refl h
+    wire_comes (suc k) j low below has =
+        by_wire k j low has (λ i l h comes. wire_comes k i l h comes) (slice_get g.wires j) refl (subst (λ (o : Outlook). HasCause c o.fails) (sym (composed_composes g w rank ranked j below)) has)
 
     wire_led : (j : ℕ) → j < length g.wires → HasCause c (composed g w j).fails → ComesBy g w c j
     wire_led j below has = wire_comes (suc (rank j)) j (omega arith) below has

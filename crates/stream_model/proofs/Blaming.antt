@@ -280,7 +280,7 @@ module _ (node s : ℕ) (other : node ≢ s) where
     role_by (a_flow (buffers n DropBuffer)) d os port t h = buffer_by DropBuffer n (w.moves node) (head_of os) (head_by os h)
     role_by (a_flow (buffers n DropNew)) d os port t h = buffer_by DropNew n (w.moves node) (head_of os) (head_by os h)
     role_by (a_flow (buffers n Fail)) d os port t h = buffer_by Fail n (w.moves node) (head_of os) (head_by os h)
-    role_by (a_flow (recovers t)) d os port t h = recover_by t (w.moves node) (head_of os)
+    role_by (a_flow (recovers e)) d os port t h = recover_by e (w.moves node) (head_of os)
     role_by (a_flow (obeys name)) d os port t h = valve_by (acted (w.moves node)) (head_of os) (head_by os h)
     role_by (a_flow (groups_by n f chain)) d os port t h = merge_by (by_key n f) chain (head_of os) (head_by os h)
     role_by (a_flow (splits_when p chain joining.Merge)) d os port t h = merge_by (before p) chain (head_of os) (head_by os h)

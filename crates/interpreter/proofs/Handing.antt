@@ -167,6 +167,7 @@ module _ {S D L B : Type 0} (sources : S → SourceState) (drains : D → DrainS
   source_kept (node.Sub x) y rest n k = ap (map sources) (none_read sources drains (node_end {S = S} {D = D} {L = L} {B = B} (node.Sub x)) (node_end y) rest (tt {0}) k.ends)
   source_kept (node.FanIn x) y rest n k = ap (map sources) (none_read sources drains (node_end {S = S} {D = D} {L = L} {B = B} (node.FanIn x)) (node_end y) rest (tt {0}) k.ends)
   source_kept (node.FanOut x) y rest n k = ap (map sources) (none_read sources drains (node_end {S = S} {D = D} {L = L} {B = B} (node.FanOut x)) (node_end y) rest (tt {0}) k.ends)
+  source_kept (node.Custom x) y rest n k = ap (map sources) (none_read sources drains (node_end {S = S} {D = D} {L = L} {B = B} (node.Custom x)) (node_end y) rest (tt {0}) k.ends)
   source_kept (node.Writing x) y rest n k = ap (map sources) (none_read sources drains (node_end {S = S} {D = D} {L = L} {B = B} (node.Writing x)) (node_end y) rest (tt {0}) k.ends)
   source_kept (node.Ignoring x) y rest n k = ap (map sources) (none_read sources drains (node_end {S = S} {D = D} {L = L} {B = B} (node.Ignoring x)) (node_end y) rest (tt {0}) k.ends)
   source_kept (node.Entering x) y rest n k = ap (map sources) (none_read sources drains (node_end {S = S} {D = D} {L = L} {B = B} (node.Entering x)) (node_end y) rest (tt {0}) k.ends)

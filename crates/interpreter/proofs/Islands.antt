@@ -21,7 +21,7 @@ use Rattle.interpreter.specs.declared.parts.Link.{Link}
 use Rattle.interpreter.specs.declared.parts.Place.{Place}
 use Rattle.interpreter.specs.declared.parts.Seated.{Seated}
 use Rattle.interpreter.specs.declared.parts.Work.{Work}
-use Rattle.interpreter.specs.declared.parts.Work.TheVariants.{Reading, Making, Linear, State, Sub, FanIn, FanOut, Writing, LaneIn, LaneOut}
+use Rattle.interpreter.specs.declared.parts.Work.TheVariants.{Reading, Making, Linear, State, Sub, FanIn, FanOut, Custom, Writing, LaneIn, LaneOut}
 use Rattle.interpreter.specs.Parts.{work_inputs, work_outputs, inputs_at, outputs_at, IsUnused, AllUnused, BecomesOf, AllBecome, IsSized, seat_place, ends_of}
 use Rattle.stream_model.specs.declared.kind.Kind.{Kind}
 use Rattle.stream_model.specs.declared.kind.Kind.TheVariants as kind
@@ -60,7 +60,8 @@ becomes_fresh k room (State l) x u b = rw b u
 becomes_fresh k room (Sub l) x u b = rw b u
 becomes_fresh k room (FanIn l n) x u b = rw b u
 becomes_fresh k room (FanOut l n) x u b = rw b u
-becomes_fresh k room (Writing kind (Some d)) x u b = rw b (new_fresh k (writes_of kind) _ d)
+becomes_fresh k room (Custom l n m) x u b = rw b u
+becomes_fresh k (Writing kind (Some d)) x u b = rw b (new_fresh k (writes_of kind) _ d)
 becomes_fresh k room (Writing kind None) x u b = rw b (record { started = refl; end = refl; port = refl })
 becomes_fresh k room (LaneIn u) x t b = rw b refl
 becomes_fresh k room (LaneOut u) x t b = rw b (record { waits = refl; gone = refl; port = refl })

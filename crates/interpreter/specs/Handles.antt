@@ -8,7 +8,7 @@ use Rattle.interpreter.specs.declared.parts.Seated.{Seated}
 use Rattle.interpreter.specs.declared.parts.Work.{Work}
 use Rattle.interpreter.specs.Island.{readers_of, writers_of}
 use Rattle.nodes.specs.declared.node.IslandNode.{IslandNode}
-use Rattle.interpreter.specs.declared.parts.Work.TheVariants.{Reading, Making, Linear, State, Sub, FanIn, FanOut, Writing, LaneIn, LaneOut}
+use Rattle.interpreter.specs.declared.parts.Work.TheVariants.{Reading, Making, Linear, State, Sub, FanIn, FanOut, Custom, Writing, LaneIn, LaneOut}
 
 -- the source of a reader, in front of others
 abbrev pub with_source : {S D L B : Type 0} → Work S D L B → List S → List S
@@ -19,6 +19,7 @@ with_source (State l) rest = rest
 with_source (Sub l) rest = rest
 with_source (FanIn l n) rest = rest
 with_source (FanOut l n) rest = rest
+with_source (Custom x n m) rest = rest
 with_source (Writing k d) rest = rest
 with_source (LaneIn u) rest = rest
 with_source (LaneOut u) rest = rest
@@ -32,6 +33,7 @@ with_drain (State l) rest = rest
 with_drain (Sub l) rest = rest
 with_drain (FanIn l n) rest = rest
 with_drain (FanOut l n) rest = rest
+with_drain (Custom x n m) rest = rest
 with_drain (Writing k (Some d)) rest = d ∷ rest
 with_drain (Writing k None) rest = rest
 with_drain (LaneIn u) rest = rest

@@ -68,6 +68,7 @@ bare_misfit (node.State x) e = absurd cc
 bare_misfit (node.Sub x) e = absurd cc
 bare_misfit (node.FanIn x) e = absurd cc
 bare_misfit (node.FanOut x) e = absurd cc
+bare_misfit (node.Custom x) e = absurd cc
 bare_misfit (node.Writing x) e = absurd cc
 bare_misfit (node.Ignoring x) e = absurd cc
 

@@ -106,6 +106,7 @@ module _ (book : Book) (b : Blueprint) (stands : List SinkStand) (wires : List W
     → ((u : ℕ) (x : Edge) → slice_get (blueprint_wires b) u ≡ Some x → x.to ≡ v.from → AgreesWith (sent u) (items u)) → AgreesWith (next (graph_of b) w sent j) (items j))
     (stood : (i : ℕ) (v : Edge) (c : WireCount) → slice_get (blueprint_wires b) i ≡ Some v → slice_get wires i ≡ Some c → Stood v c (items i))
     (lefts : (i : ℕ) (v : Edge) (c : WireCount) → slice_get (blueprint_wires b) i ≡ Some v → slice_get wires i ≡ Some c → c.shut ≡ true → end_of_items (items i) ≡ unended
+    → ((n : Node) (name : List ℕ) → slice_get b.nodes.items v.to ≡ Some n → n.kind ≢ Custom name)
     → (j : ℕ) (x : Edge) (d : WireCount) → slice_get (blueprint_wires b) j ≡ Some x → x.from ≡ v.to → slice_get wires j ≡ Some d → d.shut ≡ true)
     (sinks : (k : ℕ) (s : SinkStand) (i : ℕ) (v : Edge) (c : WireCount) → slice_get stands k ≡ Some s → slice_get (blueprint_wires b) i ≡ Some v → v.to ≡ s.0 → slice_get wires i ≡ Some c
     → ShutBy s.2 v.lane c.shut × OverBy s.2 c.shut (end_of_items (items i)))

@@ -611,10 +611,11 @@ module _ {S D L B : Type 0} (sources : S → SourceState) (drains : D → DrainS
 
   -- one that was cancelled, and those behind it
   left_stood : (u : ℕ) (v : Edge) (c : WireCount) → slice_get (blueprint_wires b) u ≡ Some v → slice_get st.wires.items u ≡ Some c → c.shut ≡ true → end_of_items (left.near u).wire.sent ≡ unended
+      → ((n : blue.Node) (name : List ℕ) → slice_get nodes v.to ≡ Some n → n.kind ≢ kind.Custom name)
       → (j : ℕ) (x : Edge) (d : WireCount) → slice_get (blueprint_wires b) j ≡ Some x → x.from ≡ v.to → slice_get st.wires.items j ≡ Some d → d.shut ≡ true
-  left_stood u v c at is shut none j x d behind from there =
+  left_stood u v c at is shut none hired j x d behind from there =
       let closed : (wire_count v.lane (left.near u) (left.asked u)).shut ≡ true = subst (λ (w : WireCount). w.shut ≡ true) (wire_at u v c at is) shut in
-      rw (wire_at j x d behind there) (left_shut sources drains book g left run u v at l.cancels closed none j x behind from)
+      rw (wire_at j x d behind there) (left_shut sources drains book g left run u v at (λ m name here custom. let q = unmapped_at (graph_node b.wires.items) nodes v.to m here in hired q.0 name q.1.0 (ap (λ (y : graph.Node). y.kind) (sym q.1.1) ∙ custom)) l.cancels closed none j x behind from)
 
   -- it is of its type where the heads keep to theirs
   abbrev carried : WiresCarry book b st.end.sinks.items st.wires.items drawn.picks

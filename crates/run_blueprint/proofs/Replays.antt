@@ -47,7 +47,8 @@ module _ {S D L B : Type 0} where
   work_follows k room (work.Sub l) x h = sym (ap node_plan h)
   work_follows k room (work.FanIn l n) x h = sym (ap node_plan h)
   work_follows k room (work.FanOut l n) x h = sym (ap node_plan h)
-  work_follows k room (work.Writing shape (Some d)) x h = sym (ap node_plan h)
+  work_follows k room (work.Custom l n m) x h = sym (ap node_plan h)
+  work_follows k (work.Writing shape (Some d)) x h = sym (ap node_plan h)
   work_follows k room (work.Writing shape None) x h = sym (ap node_plan h)
   work_follows k room (work.LaneIn u) x h = sym (ap node_plan h)
   work_follows k room (work.LaneOut u) x h = sym (ap node_plan h)
@@ -138,6 +139,7 @@ misfit_chooses (node.FanOut x) place e = out_chooses x place e
 misfit_chooses (node.Reading x) place e = absurd (none_some e)
 misfit_chooses (node.Making x) place e = absurd (none_some e)
 misfit_chooses (node.Linear x) place e = absurd (none_some e)
+misfit_chooses (node.Custom x) place e = absurd (none_some e)
 misfit_chooses (node.Sub x) place e = sub_chooses x.stuck x.logic.moves place e
 misfit_chooses (node.Writing x) place e = absurd (none_some e)
 misfit_chooses (node.Ignoring x) place e = absurd (none_some e)

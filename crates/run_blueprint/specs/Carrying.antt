@@ -102,7 +102,7 @@ pub record IgnorerTook (loss : Option ℕ) (list : List Tree) (end : End) (s : S
 -- a lane is not asked only where as many elements were sent as it has places (`lane_asks`); and the wire of a sink stands by how the
 -- sink does (`sink_shut`, `sink_asked`): also a lane is shut where its sink has ended, unless that takes one element alone and so may
 -- have cancelled it (`lane_shut`). A wire that is shut though no end was sent on it was cancelled, and then each wire behind it is shut,
--- those that go out of the node to which it leads (`left_shut`). Each sink stands by what came to it of what passed its wire
+-- those that go out of the node to which it leads, where that is no custom stage (`left_shut`). Each sink stands by what came to it of what passed its wire
 -- (`sink_took`, `ignorer_took`). What a source of lines gave, `AgreesWithFiles` says.
 pub record WiresCarry (book : Book) (b : Blueprint) (stands : List SinkStand) (wires : List WireCount) (picks : List Pick) : Type 0 where
   pub lists : ℕ → List Tree
@@ -116,6 +116,7 @@ pub record WiresCarry (book : Book) (b : Blueprint) (stands : List SinkStand) (w
       → Agrees (next (graph_of b) w (λ u. exact (lists u) (ends u)) j) (lists j) (ends j)
   pub shut_is : (i : ℕ) (v : Edge) (c : WireCount) → slice_get (blueprint_wires b) i ≡ Some v → slice_get wires i ≡ Some c → ends i ≢ unended → c.shut ≡ true
   pub left_shut : (i : ℕ) (v : Edge) (c : WireCount) → slice_get (blueprint_wires b) i ≡ Some v → slice_get wires i ≡ Some c → c.shut ≡ true → ends i ≡ unended
+      → ((n : Node) (name : List ℕ) → slice_get b.nodes.items v.to ≡ Some n → n.kind ≢ Custom name)
       → (j : ℕ) (x : Edge) (d : WireCount) → slice_get (blueprint_wires b) j ≡ Some x → x.from ≡ v.to → slice_get wires j ≡ Some d → d.shut ≡ true
   pub lane_asks : (i : ℕ) (v : Edge) (c : WireCount) (s : ℕ) → slice_get (blueprint_wires b) i ≡ Some v → slice_get wires i ≡ Some c → v.lane ≡ Some s
       → c.asked ≡ false → s ≤ c.sent

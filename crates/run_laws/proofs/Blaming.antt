@@ -108,7 +108,7 @@ custom_one : {S D L B : Type 0} (x y : CustomState) → Some (as_custom {S} {D} 
 custom_one x y e = cc
 
 -- a node that is a custom stage is of such a kind
-law_named : {S D L B : Type 0} (sources : S → SourceState) (drains : D → DrainState) (book : Book) (chains : List graph.Chain) (k : ℕ) (n : graph.Node) (first now : IslandNode S D L B) (v : View) (took gave : List (List Item)) (x : CustomState)
+pub law_named : {S D L B : Type 0} (sources : S → SourceState) (drains : D → DrainState) (book : Book) (chains : List graph.Chain) (k : ℕ) (n : graph.Node) (first now : IslandNode S D L B) (v : View) (took gave : List (List Item)) (x : CustomState)
     → now ≡ Custom x → FirstOf sources chains k n first → node_law sources drains book first now v took gave → (name : List ℕ) × (n.kind ≡ kind.Custom name)
 law_named sources drains book chains k n (Custom first) now v took gave x is made law = (made.name, made.kind_is)
 law_named sources drains book chains k n (Entering first) now v took gave x is made law = absurd made

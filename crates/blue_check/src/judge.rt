@@ -122,7 +122,8 @@ fn by_ports(
     wires: &[WireDecl],
     links: &[NumberedWire],
 ) -> Result<Judged, NoMemory>
-    ensures { IfOk result (IsJudged (option_or (ports_fault heads.now nodes.now (wires_of_links links.now)) (option_or (guests_fault heads.now chains.now nodes.now)
+    ensures { IfOk result (IsJudged (option_or (ports_fault heads.now nodes.now (wires_of_links links.now))
+        (option_or (guests_fault heads.now chains.now nodes.now)
         (option_or (sizes_fault heads.now chains.now nodes.now wires.now) (types_fault heads.now chains.now nodes.now (wires_of_links links.now)))))
         (wires_of_links links.now)) }
 {

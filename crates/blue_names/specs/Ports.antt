@@ -48,11 +48,13 @@ pub record OpenPort : Type 0 where
 
 -- the first input of node i without a wire
 abbrev pub open_input : HeadLists → ℕ → Node → List Edge → Option OpenPort
-open_input heads i n ws = first_from (λ _ p. when (is_none (find_wire i p ws)) (record { node = i; output = false; port = p })) 0 (count_from 0 (kind_inputs heads n.kind))
+open_input heads i n ws = first_from (λ _ p. when (is_none (find_wire i p ws)) (record { node = i; output = false; port = p })) 0
+    (count_from 0 (kind_inputs heads n.kind))
 
 -- the first output of node i without a wire
 abbrev pub open_output : HeadLists → ℕ → Node → List Edge → Option OpenPort
-open_output heads i n ws = first_from (λ _ p. when (is_none (find_source i p ws)) (record { node = i; output = true; port = p })) 0 (count_from 0 (kind_outputs heads n.kind))
+open_output heads i n ws = first_from (λ _ p. when (is_none (find_source i p ws)) (record { node = i; output = true; port = p })) 0
+    (count_from 0 (kind_outputs heads n.kind))
 
 -- the first port without a wire; within a node inputs come first
 abbrev pub port_open : HeadLists → List Node → List Edge → Option OpenPort

@@ -29,7 +29,8 @@ fn first_typed(
     count: u32,
 ) -> Result<Option<ElemType>, NoMemory>
     requires { HasFirstWires net.now }
-    ensures { IfOk result (λ o. o ≡ first_typed (arrivals library.now.heads.now net.now.nodes.now (wires_of_links net.now.links.now) (type_at types.now) node (count_from 0 count))) }
+    ensures { IfOk result (λ o. o ≡ first_typed (arrivals library.now.heads.now net.now.nodes.now (wires_of_links net.now.links.now) (type_at types.now) node
+        (count_from 0 count))) }
 {
     for port in 0..count {
         match arrival(alloc, library, net, types, node, port)? {
@@ -49,7 +50,8 @@ fn zipped(
     node: usize,
 ) -> Result<Option<ElemType>, NoMemory>
     requires { HasFirstWires net.now }
-    ensures { IfOk result (λ o. o ≡ pair_up (arrivals library.now.heads.now net.now.nodes.now (wires_of_links net.now.links.now) (type_at types.now) node (0 ∷ 1 ∷ []))) }
+    ensures { IfOk result (λ o. o ≡ pair_up (arrivals library.now.heads.now net.now.nodes.now (wires_of_links net.now.links.now) (type_at types.now) node
+        (0 ∷ 1 ∷ []))) }
 {
     let left = arrival(alloc, library, net, types, node, 0)?;
     let right = arrival(alloc, library, net, types, node, 1)?;
@@ -74,7 +76,8 @@ fn attempt_on(
     requires known { IsKnown library.now }
     requires wired { HasFirstWires net.now }
     ensures { IfOk result (λ o. o ≡ attempt_by library.now.heads.now library.now.chains.now None kind.now
-        (arrivals library.now.heads.now net.now.nodes.now (wires_of_links net.now.links.now) (type_at types.now) node (count_from 0 (kind_inputs library.now.heads.now kind.now)))) }
+        (arrivals library.now.heads.now net.now.nodes.now (wires_of_links net.now.links.now) (type_at types.now) node
+        (count_from 0 (kind_inputs library.now.heads.now kind.now)))) }
 {
     match kind {
         Kind::Custom(_) => Ok(None),
@@ -108,7 +111,8 @@ pub fn attempt(
     requires known { IsKnown library.now }
     requires wired { HasFirstWires net.now }
     ensures { IfOk result (λ o. o ≡ attempt library.now.heads.now library.now.chains.now kind.now
-        (arrivals library.now.heads.now net.now.nodes.now (wires_of_links net.now.links.now) (type_at types.now) node (count_from 0 (kind_inputs library.now.heads.now kind.now)))) }
+        (arrivals library.now.heads.now net.now.nodes.now (wires_of_links net.now.links.now) (type_at types.now) node
+        (count_from 0 (kind_inputs library.now.heads.now kind.now)))) }
 {
     match fixed_type(alloc, library, kind)? {
         Some(t) => Ok(Some(limited(t))),

@@ -118,7 +118,8 @@ pub fn type_on(
     types: &[Option<ElemType>],
     link: NumberedWire,
 ) -> Result<Option<ElemType>, NoMemory>
-    ensures { IfOk result (λ o. o ≡ type_on library.now.heads.now net.now.nodes.now (wires_of_links net.now.links.now) (type_at types.now) (Some (wire_of_link link))) }
+    ensures { IfOk result (λ o. o ≡ type_on library.now.heads.now net.now.nodes.now (wires_of_links net.now.links.now) (type_at types.now)
+        (Some (wire_of_link link))) }
 {
     match type_of(types, link.from) {
         Some(t) => Ok(Some(port_type(alloc, library, net.nodes, link.from, link.output, t)?)),

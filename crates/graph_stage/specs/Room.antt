@@ -38,4 +38,5 @@ pub record FewPorts (s : Seen) : Type 0 where
 -- one ask was carried out, and the next one may be; or it was forbidden, and the stage has failed
 abbrev pub Steps : List Sort → Occasion → Seen → Ask → List Act → Seen → List Act → Bool → Type 0
 Steps types o s a before t after true = (forbidden types o s a ≡ None) × ((after ≡ before ++ acts_of o s a) × (t ≡ sees_behind s a))
-Steps types o s a before t after false = (code : ℕ) × ((forbidden types o s a ≡ Some code) × ((after ≡ before ++ (fails_by o s code).acts) × (t ≡ (fails_by o s code).sight)))
+Steps types o s a before t after false = (code : ℕ) × ((forbidden types o s a ≡ Some code)
+    × ((after ≡ before ++ (fails_by o s code).acts) × (t ≡ (fails_by o s code).sight)))

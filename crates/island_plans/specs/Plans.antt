@@ -1,5 +1,6 @@
 -- The plans of a blueprint's islands: what they take of memory before its files are opened, and their parts.
 use Rattle.std.specs.Prelude.{◌≡◌, ℕ, ◌+◌, ◌≤◌, List, [], length, map, slice_get, Option, Some, vec_len, vec_capacity}
+use Rattle.elem_core.specs.Sort.{Sort}
 use Rattle.stream_model.specs.Graph.{Edge}
 use Rattle.stream_model.specs.declared.blueprint.Blueprint.{Blueprint}
 use Rattle.stream_model.specs.declared.blueprint.Node.{Node}
@@ -18,7 +19,7 @@ use Rattle.island_parts.specs.Whole.{AreNodes, own_links, whole_homes, whole_lin
 use Rattle.materializer.specs.Fit.{CanRun}
 use Rattle.materializer.specs.Graphs.{around_of}
 use Rattle.materializer.specs.Board.{IsBoard, AreAtSwitches}
-use Rattle.materializer.specs.Planned.{ArePlanned, places_from, planned_seat, planned_plan, planned_room}
+use Rattle.materializer.specs.Planned.{ArePlanned, places_from, planned_seat, planned_plan, planned_room, planned_types}
 use Rattle.materializer.specs.Seats.{AreSeats, place_seat, place_room}
 use Rattle.island_plans.specs.Ends.{AreEndHomes}
 use Rattle.island_plans.specs.Homes.{AreNumberedHomes}
@@ -35,7 +36,8 @@ pub record IsPlans {S D L B : Type 0} (p : Plans S D L B) : Type 0 where
   pub lanes_are : p.lanes.items ≡ lanes_from p.homes.items 0 (blueprint_wires p.blueprint.value)
   pub ends_are : AreEndHomes p.homes.items p.blueprint.value.nodes.items (blueprint_wires p.blueprint.value) p.ends
   pub seats : ArePlanned (around_of p.blueprint.value) 0 p.blueprint.value.nodes.items p.seats.items
-  pub split : IsSplit p.homes.items p.count (blueprint_wires p.blueprint.value) (places_from p.blueprint.value.wires.items 0 p.blueprint.value.nodes.items) p.split
+  pub split : IsSplit p.homes.items p.count (blueprint_wires p.blueprint.value)
+      (places_from p.blueprint.value.wires.items 0 p.blueprint.value.nodes.items) p.split
   pub board_is : IsBoard (map (λ (n : Node). n.kind) p.blueprint.value.nodes.items) p.board
   pub at_switches : AreAtSwitches (map (λ (n : Node). n.kind) p.blueprint.value.nodes.items) p.board (map planned_seat p.seats.items)
   pub rooms : map planned_room p.seats.items ≡ rooms_by (length p.blueprint.value.nodes.items) (blueprint_wires p.blueprint.value)
@@ -45,6 +47,10 @@ pub record IsPlans {S D L B : Type 0} (p : Plans S D L B) : Type 0 where
 -- of each node the moves that it follows, where it follows some
 abbrev pub led_plans : {S D L B : Type 0} → Plans S D L B → List (Option (List ℕ))
 led_plans p = map planned_plan p.seats.items
+
+-- of each node the types of its outputs, where it is a custom stage
+abbrev pub made_types : {S D L B : Type 0} → Plans S D L B → List (Option (List Sort))
+made_types p = map planned_types p.seats.items
 
 -- the parts and the room of island k of these nodes, which have these homes, where these wires join them and these lanes are cut
 pub record IsIslandOf {S D L B : Type 0} (homes : List ℕ) (ws : List Edge) (lanes : List LanePlan) (nodes : List (Seated S D L B)) (k : ℕ)

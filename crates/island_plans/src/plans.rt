@@ -4,9 +4,9 @@ ghost use Rattle.std.specs.Prelude.{◌≡◌, ◌+◌, IfOk, length, map, vec_l
 ghost use Rattle.materializer.specs.Choosers.{PlansFit, moves_of};
 ghost use Rattle.materializer.specs.Fit.{CanRun};
 ghost use Rattle.materializer.specs.Files.{inputs_of_nodes, outputs_of_nodes};
-ghost use Rattle.materializer.specs.Seats.{place_plan};
-ghost use Rattle.island_plans.specs.Plans.{IsPlans, IsFilled, led_plans};
-ghost use Rattle.materializer.specs.HandedCustoms.{handed_heads, HasGuests};
+ghost use Rattle.materializer.specs.Seats.{place_plan, place_types};
+ghost use Rattle.island_plans.specs.Plans.{IsPlans, IsFilled, led_plans, made_types};
+ghost use Rattle.materializer.specs.HandedCustoms.{handed_heads, HasGuests, types_by_heads};
 ghost use Rattle.materializer.specs.HandedPlugs.{GivesAsListed};
 
 use crate::ends::end_homes;
@@ -117,6 +117,7 @@ pub fn plans_of<S: Source, D: Drain, L: Logic, B: PlugBook>(
     ensures blueprint { IfOk result (λ plans. plans.blueprint.value ≡ b) }
     ensures plans { IfOk result IsPlans }
     ensures led { IfOk result (λ made. led_plans made ≡ map moves_of plans.items) }
+    ensures types { IfOk result (λ made. made_types made ≡ types_by_heads (handed_heads plugs.items customs.items) b.nodes.items) }
 {
     let blueprint = Snapshot::of(&b);
     let wires = links_of(alloc, &b.nodes, &b.wires)?;
@@ -156,7 +157,8 @@ impl<S: Source, D: Drain, L: Logic, B: PlugBook> Plans<S, D, L, B> {
         requires plans { IsPlans self }
         requires sources { vec_len sources ≡ length (inputs_of_nodes self.blueprint.value.nodes.items) }
         requires drains { vec_len drains ≡ length (outputs_of_nodes self.blueprint.value.nodes.items) }
-        ensures filled { (filled : IsFilled self.blueprint.value sources.items drains.items result) × (map place_plan filled.nodes ≡ led_plans self) }
+        ensures filled { (filled : IsFilled self.blueprint.value sources.items drains.items result) × (map place_plan filled.nodes ≡ led_plans self)
+            × (map place_types filled.nodes ≡ made_types self) }
         ensures lanes { result.lanes ≡ self.lanes }
         ensures homes { result.homes ≡ self.homes }
         ensures count { result.count ≡ self.count }

@@ -3,9 +3,9 @@ ghost use Rattle.std.specs.List.{All};
 ghost use Rattle.std.specs.Prelude.{◌≡◌, IfOk, map};
 ghost use Rattle.materializer.specs.Choosers.{PlansFit, moves_of};
 ghost use Rattle.materializer.specs.Fit.{CanRun};
-ghost use Rattle.island_plans.specs.Plans.{led_plans};
+ghost use Rattle.island_plans.specs.Plans.{led_plans, made_types};
 ghost use Rattle.island_runs.specs.Prepared.{IsPrepared};
-ghost use Rattle.materializer.specs.HandedCustoms.{handed_heads, HasGuests};
+ghost use Rattle.materializer.specs.HandedCustoms.{handed_heads, HasGuests, types_by_heads};
 ghost use Rattle.materializer.specs.HandedPlugs.{GivesAsListed};
 
 use crate::begin_laws::filled_islands_are_seated;
@@ -60,6 +60,7 @@ pub fn prepare<S: Source, D: Drain, L: Logic, B: PlugBook>(
     ensures blueprint { IfOk result (λ p. p.plans.blueprint.value ≡ b) }
     ensures prepared { IfOk result IsPrepared }
     ensures led { IfOk result (λ p. led_plans p.plans ≡ map moves_of plans.items) }
+    ensures types { IfOk result (λ p. made_types p.plans ≡ types_by_heads (handed_heads plugs.items customs.items) b.nodes.items) }
 {
     filled_islands_are_seated::<S, D, L, B>();
     let plans = plans_of(alloc, b, plugs, customs, plans)?;

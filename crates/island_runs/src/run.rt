@@ -4,8 +4,8 @@ ghost use Rattle.elem_core.specs.declared.count.TheConstants.{MOST_COUNT};
 ghost use Rattle.stream_model.specs.declared.blueprint.Blueprint as plan;
 ghost use Rattle.island_body.specs.declared.body.Body as island;
 ghost use Rattle.materializer.specs.Files.{inputs_of_nodes, outputs_of_nodes};
-ghost use Rattle.materializer.specs.Seats.{place_plan};
-ghost use Rattle.island_plans.specs.Plans.{led_plans};
+ghost use Rattle.materializer.specs.Seats.{place_plan, place_types};
+ghost use Rattle.island_plans.specs.Plans.{led_plans, made_types};
 ghost use Rattle.island_runs.specs.Begun.{HaveBegun, HaveRun, HaveBroken};
 ghost use Rattle.island_runs.specs.Leaving.{HasHandles, RunLeaves, LeavesBroken, LeavesBrokenAs};
 ghost use Rattle.island_runs.specs.Prepared.{IsPrepared};
@@ -103,7 +103,7 @@ fn begin<S: Source, D: Drain, L: Logic, B: PlugBook>(
     ensures begun { IfOk result
         (λ begun. (h : HaveBegun S.state D.state B.lists prepared.plans.blueprint.value sources.items drains.items
         begun.bodies.items begun.crossings.items begun.remains)
-        × (map place_plan h.nodes ≡ led_plans prepared.plans)) }
+        × (map place_plan h.nodes ≡ led_plans prepared.plans) × (map place_types h.nodes ≡ made_types prepared.plans)) }
     ensures unmade { IfErr result (HasHandles S.state D.state sources.items drains.items) }
 {
     filled_islands_are_seated::<S, D, L, B>();
@@ -332,9 +332,10 @@ pub fn run<
     requires sources { vec_len sources ≡ length (inputs_of_nodes prepared.plans.blueprint.value.nodes.items) }
     requires drains { vec_len drains ≡ length (outputs_of_nodes prepared.plans.blueprint.value.nodes.items) }
     requires unread { All (λ s. (S.state s).given ≡ 0) sources.items }
-    ensures leaves { IfOk result (λ stopped. (l : RunLeaves L B S.state D.state B.lists prepared.plans.blueprint.value
+    ensures leaves { IfOk result
+        (λ stopped. (l : RunLeaves L B S.state D.state B.lists prepared.plans.blueprint.value
         sources.items drains.items budget stopped)
-        × (map place_plan l.moment.places ≡ led_plans prepared.plans)) }
+        × (map place_plan l.moment.places ≡ led_plans prepared.plans) × (map place_types l.moment.places ≡ made_types prepared.plans)) }
     ensures receipt { IfOk result (λ stopped. IsReceipt prepared.plans.blueprint.value workers stopped.used stopped.at_rest stopped.ran) }
     ensures breaks { IfErr result (λ broken. LeavesBrokenAs L B S.state D.state B.lists prepared.plans.blueprint.value sources.items drains.items broken) }
 {

@@ -24,7 +24,7 @@ none_some : {A : Type 0} {x : A} → None ≡ Some x → ⊥
 none_some e = absurd cc
 
 -- only a plug names one
-names_plug : (k : Kind) (name : List ℕ) → plug_of k ≡ Some name → k ≡ kind.Plug name
+pub names_plug : (k : Kind) (name : List ℕ) → plug_of k ≡ Some name → k ≡ kind.Plug name
 names_plug (kind.Plug q) name e = let same : q ≡ name = cc in ap kind.Plug same
 names_plug k name e = absurd (none_some e)
 
@@ -86,6 +86,13 @@ module _ {L H : Type 0} (gives : L → Gives) (book : Book) where
 
   pub guest_next : (n : Node) (old rest : List Node) (es more : List (Option (Guest L H))) (x : Option (Guest L H)) → old ≡ n ∷ rest → es ≡ x ∷ more → AreGuests gives book (kinds_of old) es → IsGuest gives book (plug_of n.kind) (custom_of n.kind) x × AreGuests gives book (kinds_of rest) more
   guest_next n old rest es more x e f h = subst (λ l. AreGuests gives book (n.kind ∷ kinds_of rest) l) f (subst (λ l. AreGuests gives book (kinds_of l) es) e h)
+
+  pub no_guests : (rest : List Node) (es : List (Option (Guest L H))) → rest ≡ [] → AreGuests gives book (kinds_of rest) es → es ≡ []
+  no_guests rest es e h = none es (subst (λ l. AreGuests gives book (kinds_of l) es) e h)
+    where
+      none : (fs : List (Option (Guest L H))) → AreGuests gives book [] fs → fs ≡ []
+      none [] k = refl
+      none (f ∷ fs) k = absurd k
 
   -- its ports, and those of the others that are left
   pub ports_next : (wires : List WireDecl) (n : Node) (old rest : List Node) (es more : List (Option (Guest L H))) (x : Option (Guest L H)) → old ≡ n ∷ rest → es ≡ x ∷ more → HaveUsedPorts wires old es → HasPorts (used_ports wires n.name) x × HaveUsedPorts wires rest more

@@ -2,12 +2,13 @@
 use Rattle.std.proofs.Common.{◌≡◌, ℕ, zero, suc, ◌+◌, ◌<◌, Bool, true, false, List, [], ◌∷◌, ◌++◌, length, map, take, drop, get_or, Option, Some, None, refl, ap, sym, ◌∙◌, subst, append_assoc, append-nil}
 use Rattle.std.specs.Prelude.{slice_get, ⊤}
 use Rattle.std.specs.List.{All, list_any, remove}
-use Rattle.std.specs.Option.{option_and_then}
+use Rattle.std.specs.Option.{option_and_then, option_map}
 use Rattle.std.proofs.lemmas.List.{drop_more}
 use Rattle.std.proofs.lemmas.List.Elements.{All-append, All-take, All-drop}
 use Rattle.std.proofs.lemmas.Option.{slice_get_within, get_or_from_slice_get}
 use Rattle.elem_core.specs.Values.{same_text}
-use Rattle.stream_model.specs.Known.{CustomShape, head_shape}
+use Rattle.elem_core.specs.Sort.{Sort}
+use Rattle.stream_model.specs.Known.{CustomShape, HeadLists, head_shape}
 use Rattle.stream_model.specs.Linear.{Book}
 use Rattle.stream_model.specs.declared.blueprint.Node.{Node}
 use Rattle.stream_model.specs.declared.blueprint.WireDecl.{WireDecl}
@@ -19,11 +20,13 @@ use Rattle.graph_stage.specs.declared.custom.Custom.{Custom}
 use Rattle.plug_logic.specs.declared.plug.Plug.{Plug}
 use Rattle.plug_logic.specs.Gives.{Gives}
 use Rattle.materializer.specs.HandedPlugs.{GivesAsListed}
-use Rattle.materializer.specs.HandedCustoms.{custom_names, handed_heads, IsHandedCustom, IsHandedGuest, HasGuests, IsGuest, AreGuests, HasPorts, HaveUsedPorts}
+use Rattle.materializer.specs.HandedCustoms.{custom_names, handed_heads, IsHandedCustom, IsHandedGuest, HasGuests, IsGuest, AreGuests, HasPorts, HaveUsedPorts, guest_types, head_types, types_by_heads}
 use Rattle.materializer.specs.Ports.{used_ports}
 use Rattle.materializer.specs.Handing.{names_of, IsHandedPlug}
 use Rattle.materializer.specs.declared.guest.Guest.{Guest}
 use Rattle.materializer.specs.declared.guest.Guest.TheVariants as guest
+use Rattle.materializer.proofs.Guests.{names_plug}
+use Rattle.materializer.proofs.Switches.{map_next, map_end}
 use Rattle.materializer.proofs.Naming.{Known, IsOnce, AreOnce, Holds, behind, first_of, once_head, none_some, none_both, known_all, once_all, no_custom_at, still_known}
 use Rattle.materializer.proofs.Places.{same_name}
 
@@ -103,6 +106,10 @@ Fits n c = head_fits (Some (head_shape c.head)) ≡ true
 abbrev pub FitsWires : {H : Type 0} → List WireDecl → Node → Custom H → Type 0
 FitsWires wires n c = used_ports wires n.name ≡ (length c.head.inputs.items, length c.head.outputs.items)
 
+-- the head of the name that a node names is its own
+abbrev pub HasHead : {H : Type 0} → HeadLists → Node → Custom H → Type 0
+HasHead heads n c = custom_head heads n.kind ≡ Some (head_shape c.head)
+
 -- the head of the name that a node names is that of the custom stage of that name
 head_of : {L H : Type 0} (plugs : List (Plug L)) (customs : List (Custom H)) (k : Kind) → HaveOwnNames [] customs → (at : ℕ) (c : Custom H) → slice_get customs at ≡ Some c → custom_of k ≡ Some c.head.name → custom_head (handed_heads plugs customs) k ≡ Some (head_shape c.head)
 head_of plugs customs k own at c there is = ap (λ o. option_and_then (custom_named (handed_heads plugs customs)) o) is ∙ own_head [] customs own at c there
@@ -121,6 +128,10 @@ all_fit_wires plugs customs wires (n ∷ ns) own ports = (
   (λ at c there is. ports 0 n (head_shape c.head) refl (head_of plugs customs n.kind own at c there is)),
   all_fit_wires plugs customs wires ns own (λ k m h at e. ports (suc k) m h at e),
 )
+
+all_have_heads : {L H : Type 0} (plugs : List (Plug L)) (customs : List (Custom H)) (nodes : List Node) → HaveOwnNames [] customs → AllHold (HasHead (handed_heads plugs customs)) customs nodes
+all_have_heads plugs customs [] own = tt
+all_have_heads plugs customs (n ∷ ns) own = ((λ at c there is. head_of plugs customs n.kind own at c there is), all_have_heads plugs customs ns own)
 
 -- ---- the custom stages that are left
 
@@ -298,3 +309,42 @@ ports_last {L} {H} wires nodes behind handed c is = subst (λ (l : List (Option 
 
 pub hire_here : {H : Type 0} (nodes : List Node) (i : ℕ) (n : Node) (left : List (Custom H)) → i < length nodes → n ≡ get_or nodes i n → IsReadyToHire left (drop i nodes) → IsReadyToHire left (n ∷ drop (i + 1) nodes)
 hire_here nodes i n left less is r = subst (λ behind. IsReadyToHire left behind) (here nodes i n less is) r
+
+-- ---- the types of those that are handed out
+
+pub heads_first : {L H : Type 0} (plugs : List (Plug L)) (customs : List (Custom H)) (wires : List WireDecl) (nodes : List Node) → HasGuests (handed_heads plugs customs) wires nodes → AllHold (HasHead (handed_heads plugs customs)) customs nodes
+heads_first plugs customs wires nodes has = all_have_heads plugs customs nodes (none_both _ _ (none_both _ _ has.once).1).0
+
+-- what it is handed has the types of the head that it names
+types_are : {L H : Type 0} (heads : HeadLists) (n : Node) (nodes : List Node) (plugs left : List (Plug L)) (old new : List (Custom H)) (e : Option (Guest L H)) → AllHold (HasHead heads) old (n ∷ nodes) → IsHandedGuest n.kind plugs old e left new → guest_types e ≡ head_types heads n.kind
+types_are heads n nodes plugs left old new None all h = none_of (custom_of n.kind) refl h.1
+  where
+    none_of : (o : Option (List ℕ)) → custom_of n.kind ≡ o → IsHandedCustom o old None new → None ≡ head_types heads n.kind
+    none_of None is k = sym (ap (λ (o : Option (List ℕ)). option_map (λ (s : CustomShape). s.outputs) (option_and_then (custom_named heads) o)) is)
+    none_of (Some name) is k = absurd (none_some k.1.0)
+types_are heads n nodes plugs left old new (Some (guest.Plug p)) all h = one_of (plug_of n.kind) refl h.0
+  where
+    one_of : (o : Option (List ℕ)) → plug_of n.kind ≡ o → IsHandedPlug o plugs (Some p) left → None ≡ head_types heads n.kind
+    one_of None is k = absurd (none_some (sym k.0))
+    one_of (Some name) is k = sym (ap (λ (q : Kind). head_types heads q) (names_plug n.kind name is))
+types_are heads n nodes plugs left old new (Some (guest.Custom c)) all h = one_of (custom_of n.kind) all.0 h.1
+  where
+    one_of : (o : Option (List ℕ)) → HoldsAt (HasHead heads) old n o → IsHandedCustom o old (Some c) new → Some c.head.outputs.items ≡ head_types heads n.kind
+    one_of None f k = absurd (none_some (sym k.0))
+    one_of (Some name) f k =
+        let t = k.1.1 in
+        let same : k.0 ≡ c = same_some k.0 c k.1.0 in
+        let has : custom_head heads n.kind ≡ Some (head_shape c.head) = subst (λ (d : Custom _). HasHead heads n d) same (f t.at k.0 t.there (ap Some (sym t.named))) in
+        sym (ap (λ (o : Option CustomShape). option_map (λ (s : CustomShape). s.outputs) o) has)
+
+pub types_first : {L H : Type 0} (heads : HeadLists) (nodes : List Node) (none : List (Option (Guest L H))) → none ≡ [] → map guest_types none ++ types_by_heads heads nodes ≡ types_by_heads heads nodes
+types_first heads nodes none is = ap (λ (l : List (Option (Guest _ _))). map guest_types l ++ types_by_heads heads nodes) is
+
+pub types_next : {L H : Type 0} (heads : HeadLists) (nodes : List Node) (i : ℕ) (n : Node) (plugs left : List (Plug L)) (unhired new : List (Custom H)) (was now : List (Option (Guest L H))) (e : Option (Guest L H)) → i < length nodes → n ≡ get_or nodes i n
+    → AllHold (HasHead heads) unhired (n ∷ drop (i + 1) nodes) → IsHandedGuest n.kind plugs unhired e left new → now ≡ was ++ e ∷ [] → map guest_types was ++ types_by_heads heads (drop i nodes) ≡ types_by_heads heads nodes
+    → map guest_types now ++ types_by_heads heads (drop (i + 1) nodes) ≡ types_by_heads heads nodes
+types_next heads nodes i n plugs left unhired new was now e less is all h more so =
+    map_next guest_types (λ (m : Node). head_types heads m.kind) was now (drop i nodes) (drop (i + 1) nodes) e n (types_by_heads heads nodes) (here nodes i n less is) more (types_are heads n (drop (i + 1) nodes) plugs left unhired new e all h) so
+
+pub types_last : {L H : Type 0} (heads : HeadLists) (nodes behind : List Node) (handed : List (Option (Guest L H))) → behind ≡ [] → map guest_types handed ++ types_by_heads heads behind ≡ types_by_heads heads nodes → map guest_types handed ≡ types_by_heads heads nodes
+types_last heads nodes behind handed is so = map_end guest_types (λ (m : Node). head_types heads m.kind) handed behind (types_by_heads heads nodes) is so

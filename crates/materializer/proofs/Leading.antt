@@ -43,8 +43,9 @@ use Rattle.interpreter.specs.declared.parts.Work.{Work}
 use Rattle.interpreter.specs.declared.parts.Work.TheVariants as work
 use Rattle.materializer.specs.Choosers.{KindMayFollow, moves_of, PlanFits, PlansFit}
 use Rattle.materializer.specs.Graphs.{Around}
-use Rattle.materializer.specs.Planned.{IsPlanned, IsFreePlan, IsLedPlan, plan_of_planned, seat_of_plan, PlannedMayFollow, PlannedFollows}
-use Rattle.materializer.specs.Seats.{IsFreeWork, IsLedWork, HasUsedPorts, work_plan, work_seat, WorkMayFollow, WorkFollows}
+use Rattle.blue_names.specs.CustomPorts.{custom_of}
+use Rattle.materializer.specs.Planned.{IsPlanned, IsFreePlan, IsLedPlan, plan_of_planned, seat_of_plan, types_of_planned, PlannedMayFollow, PlannedFollows}
+use Rattle.materializer.specs.Seats.{IsFreeWork, IsLedWork, HasUsedPorts, work_plan, work_seat, work_types, WorkMayFollow, WorkFollows}
 use Rattle.materializer.specs.declared.seats.Planned.{Planned}
 use Rattle.materializer.specs.declared.seats.Planned.TheVariants.{Reads, Writes, Works}
 use Rattle.materializer.proofs.SubPlaces.{sub_chain}
@@ -241,6 +242,16 @@ module _ {S D L B : Type 0} (around : Around) (k : ℕ) (n : Node) where
   bare_plan (Writes shape) is = refl
   bare_plan (Works w) is = bare_work w is
 
+  -- no types of a custom stage, where the node is none
+  bare_types : (w : Work S D L B) → IsFreeWork around.chains k n.kind n.decider w → custom_of n.kind ≡ None → work_types w ≡ None
+  bare_types (work.Custom x inputs outputs) is none = let e : Some is.is_custom.0 ≡ None = sym (ap (λ (q : Kind). custom_of q) is.is_custom.1) ∙ none in absurd cc
+  bare_types w is none = refl
+
+  pub no_types : (p : Planned S D L B) → IsFreePlan around.chains k n p → custom_of n.kind ≡ None → types_of_planned p ≡ None
+  no_types Reads is none = refl
+  no_types (Writes shape) is none = refl
+  no_types (Works w) is none = bare_types w is none
+
   -- what is planned is so whatever wires there are
   pub free_plan : (p : Planned S D L B) → IsPlanned around k n p → IsFreePlan around.chains k n p
   free_plan Reads is = is
@@ -338,6 +349,19 @@ pub seat_stays : {S D L B : Type 0} (moves : Option (List ℕ)) (old new : Plann
 seat_stays None old new f = ap seat_of_plan f
 seat_stays (Some moves) (Works old) (Works new) f = work_seat_stays moves old new f
 seat_stays (Some moves) old new f = absurd f
+
+-- the types of a custom stage stay
+work_types_stay : {S D L B : Type 0} (moves : List ℕ) (old new : Work S D L B) → WorkFollows moves old new → work_types new ≡ work_types old
+work_types_stay moves (work.State l) (work.State m) f = refl
+work_types_stay moves (work.Sub l) (work.Sub m) f = refl
+work_types_stay moves (work.FanIn l inputs) (work.FanIn m same) f = refl
+work_types_stay moves (work.FanOut l outputs) (work.FanOut m same) f = refl
+work_types_stay moves old new f = absurd f
+
+pub types_stay : {S D L B : Type 0} (moves : Option (List ℕ)) (old new : Planned S D L B) → PlannedFollows moves old new → types_of_planned new ≡ types_of_planned old
+types_stay None old new f = ap types_of_planned f
+types_stay (Some moves) (Works old) (Works new) f = work_types_stay moves old new f
+types_stay (Some moves) old new f = absurd f
 
 -- ---- one node after another
 

@@ -1,6 +1,8 @@
 -- The plugs and the custom stages that a caller hands in, and what each node is handed of them.
 use Rattle.std.specs.Prelude.{◌≡◌, ℕ, true, false, List, [], ◌∷◌, map, length, slice_get, Option, Some, None, ⊤}
 use Rattle.std.specs.List.{remove}
+use Rattle.std.specs.Option.{option_map}
+use Rattle.elem_core.specs.Sort.{Sort}
 use Rattle.elem_core.specs.Values.{same_text}
 use Rattle.stream_model.specs.Known.{CustomShape, head_shape, HeadLists}
 use Rattle.stream_model.specs.Linear.{Book, CustomBook}
@@ -44,7 +46,8 @@ IsHandedCustom {H} (Some name) old e new = (c : Custom H) × ((e ≡ Some c) × 
 abbrev pub IsHandedGuest : {L H : Type 0} → Kind → List (Plug L) → List (Custom H) → Option (Guest L H) → List (Plug L) → List (Custom H) → Type 0
 IsHandedGuest kind plugs customs None left unhired = IsHandedPlug (plug_of kind) plugs None left × IsHandedCustom (custom_of kind) customs None unhired
 IsHandedGuest kind plugs customs (Some (guest.Plug p)) left unhired = IsHandedPlug (plug_of kind) plugs (Some p) left × (unhired ≡ customs)
-IsHandedGuest kind plugs customs (Some (guest.Custom c)) left unhired = IsHandedPlug (plug_of kind) plugs None left × IsHandedCustom (custom_of kind) customs (Some c) unhired
+IsHandedGuest kind plugs customs (Some (guest.Custom c)) left unhired = IsHandedPlug (plug_of kind) plugs None left
+    × IsHandedCustom (custom_of kind) customs (Some c) unhired
 
 -- what is known of these plugs and custom stages
 abbrev pub handed_heads : {L H : Type 0} → List (Plug L) → List (Custom H) → HeadLists
@@ -89,6 +92,19 @@ abbrev pub HaveUsedPorts : {L H : Type 0} → List WireDecl → List Node → Li
 HaveUsedPorts wires [] [] = ⊤
 HaveUsedPorts wires (n ∷ ns) (e ∷ es) = HasPorts (used_ports wires n.name) e × HaveUsedPorts wires ns es
 HaveUsedPorts wires _ _ = ⊥
+
+-- the types of the outputs of what a node is handed, where it is a custom stage
+abbrev pub guest_types : {L H : Type 0} → Option (Guest L H) → Option (List Sort)
+guest_types (Some (guest.Custom c)) = Some c.head.outputs.items
+guest_types _ = None
+
+-- those of the custom stage that a node names, by its head
+abbrev pub head_types : HeadLists → Kind → Option (List Sort)
+head_types heads k = option_map (λ (h : CustomShape). h.outputs) (custom_head heads k)
+
+-- those of each of these nodes
+abbrev pub types_by_heads : HeadLists → List Node → List (Option (List Sort))
+types_by_heads heads nodes = map (λ (n : Node). head_types heads n.kind) nodes
 
 -- Choice: docs/DECISIONS.md#customs-tell-none
 -- a custom stage of this name tells no list

@@ -1,5 +1,6 @@
 -- The nodes of a blueprint at their places, before its files are opened.
 use Rattle.std.specs.Prelude.{◌≡◌, ℕ, ◌+◌, List, [], ◌∷◌, Option, None, Some, ⊤}
+use Rattle.elem_core.specs.Sort.{Sort}
 use Rattle.stage_switch.specs.Public.{SeatState}
 use Rattle.stream_model.specs.declared.kind.Kind.{Kind}
 use Rattle.stream_model.specs.declared.kind.Kind.TheVariants.{Lines}
@@ -15,7 +16,7 @@ use Rattle.stream_model.specs.declared.blueprint.WireDecl.{WireDecl}
 use Rattle.materializer.specs.Ports.{used_ports}
 use Rattle.materializer.specs.Files.{source_file, output_of}
 use Rattle.materializer.specs.Graphs.{Around}
-use Rattle.materializer.specs.Seats.{handles_left, IsFreeWork, IsLedWork, HasUsedPorts, IsWork, work_seat, work_plan, WorkMayFollow, WorkFollows}
+use Rattle.materializer.specs.Seats.{handles_left, IsFreeWork, IsLedWork, HasUsedPorts, IsWork, work_seat, work_plan, work_types, WorkMayFollow, WorkFollows}
 use Rattle.materializer.specs.declared.seats.Planned.{Planned}
 use Rattle.materializer.specs.declared.seats.Planned.TheVariants.{Reads, Writes, Works}
 use Rattle.materializer.specs.declared.seats.Seat.{Seat}
@@ -23,7 +24,8 @@ use Rattle.materializer.specs.declared.seats.Seat.{Seat}
 -- the places of these nodes, of which the first is node k, between which these wires lead
 abbrev pub places_from : List WireDecl → ℕ → List Node → List Place
 places_from ws k [] = []
-places_from ws k (n ∷ ns) = record { node = k; inputs = inputs_by (used_ports ws n.name) n.kind; outputs = outputs_by (used_ports ws n.name) n.kind } ∷ places_from ws (k + 1) ns
+places_from ws k (n ∷ ns) = record { node = k; inputs = inputs_by (used_ports ws n.name) n.kind; outputs = outputs_by (used_ports ws n.name) n.kind }
+    ∷ places_from ws (k + 1) ns
 
 -- a source of lines
 pub record PlansReader (n : Node) : Type 0 where
@@ -73,6 +75,12 @@ plan_of_planned Reads = None
 plan_of_planned (Writes shape) = None
 plan_of_planned (Works w) = work_plan w
 
+-- the types of the outputs of what is to stand at a place, where it is a custom stage
+abbrev pub types_of_planned : {S D L B : Type 0} → Planned S D L B → Option (List Sort)
+types_of_planned Reads = None
+types_of_planned (Writes shape) = None
+types_of_planned (Works w) = work_types w
+
 -- what is to stand at a place may follow these moves
 abbrev pub PlannedMayFollow : {S D L B : Type 0} → List ℕ → Planned S D L B → Type 0
 PlannedMayFollow moves (Works w) = WorkMayFollow moves w
@@ -87,6 +95,10 @@ PlannedFollows (Some moves) old new = ⊥
 -- the moves that what is to stand at a place follows
 abbrev pub planned_plan : {S D L B : Type 0} → Seat S D L B → Option (List ℕ)
 planned_plan s = plan_of_planned s.planned
+
+-- the types of the outputs of what is to stand at a place, where it is a custom stage
+abbrev pub planned_types : {S D L B : Type 0} → Seat S D L B → Option (List Sort)
+planned_types s = types_of_planned s.planned
 
 -- this is to stand at the place of node k, in a blueprint with these chains and wires
 pub record IsSeat {S D L B : Type 0} (around : Around) (k : ℕ) (n : Node) (s : Seat S D L B) : Type 0 where

@@ -1,5 +1,6 @@
 -- What stands at the place of each node of a blueprint, in whichever island it is.
 use Rattle.std.specs.Prelude.{◌≡◌, ℕ, ◌+◌, List, [], ◌∷◌, slice_get, Option, Some, None, ⊤}
+use Rattle.elem_core.specs.Sort.{Sort}
 use Rattle.elem_core.specs.declared.why.Decider.{Decider}
 use Rattle.stream_model.specs.declared.kind.Kind.{Kind}
 use Rattle.stream_model.specs.declared.kind.Kind.TheVariants.{Ignore, Custom}
@@ -166,6 +167,16 @@ work_plan (work.Sub l) = subs.sub_plan l
 work_plan (work.FanIn l inputs) = in_plan l
 work_plan (work.FanOut l outputs) = out_plan l
 work_plan w = None
+
+-- the types of the outputs of a work, where it is a custom stage
+abbrev pub work_types : {S D L B : Type 0} → Work S D L B → Option (List Sort)
+work_types (work.Custom x inputs outputs) = Some x.types
+work_types w = None
+
+-- Choice: docs/DECISIONS.md#types-go-along
+-- the types of the outputs of what stands at a place, where it is a custom stage
+abbrev pub place_types : {S D L B : Type 0} → Seated S D L B → Option (List Sort)
+place_types p = work_types p.work
 
 -- the moves that what stands at a place follows
 abbrev pub place_plan : {S D L B : Type 0} → Seated S D L B → Option (List ℕ)

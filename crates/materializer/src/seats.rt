@@ -14,11 +14,11 @@ ghost use Rattle.materializer.specs.Ports.{used_ports};
 ghost use Rattle.materializer.specs.Files.{source_file, output_of};
 ghost use Rattle.materializer.specs.Graphs.{Around, graph_chain};
 ghost use Rattle.materializer.specs.Board.{switch_of, IsHandedAt, AreHanded, seat_of_end};
-ghost use Rattle.materializer.specs.Seats.{IsFreeWork, AreSeats, work_seat, place_seat, place_plan, place_room, WorkMayFollow, WorkFollows};
+ghost use Rattle.materializer.specs.Seats.{IsFreeWork, AreSeats, work_seat, place_seat, place_plan, place_room, place_types, WorkMayFollow, WorkFollows};
 ghost use Rattle.materializer.specs.Choosers.{moves_of, PlanFits, PlansFit};
-ghost use Rattle.materializer.specs.Planned.{IsPlanned, IsFreePlan, IsSeat, ArePlanned, Fills, seat_of_plan, planned_seat, planned_plan, planned_room, PlannedMayFollow, PlannedFollows, reads, writes, reads_in, writes_in};
+ghost use Rattle.materializer.specs.Planned.{IsPlanned, IsFreePlan, IsSeat, ArePlanned, Fills, seat_of_plan, planned_seat, planned_plan, planned_room, planned_types, types_of_planned, PlannedMayFollow, PlannedFollows, reads, writes, reads_in, writes_in};
 ghost use Rattle.materializer.specs.HandedPlugs.{GivesAsListed};
-ghost use Rattle.materializer.specs.HandedCustoms.{IsGuest, AreGuests, HasPorts, HaveUsedPorts};
+ghost use Rattle.materializer.specs.HandedCustoms.{IsGuest, AreGuests, HasPorts, HaveUsedPorts, guest_types};
 ghost use Rattle.blue_names.specs.CustomPorts.{custom_of, head_fits};
 ghost use Rattle.blue_names.specs.Names.{plug_of};
 ghost use Rattle.stream_model.specs.Known.{head_shape};
@@ -263,6 +263,7 @@ fn plugged<S: Source, D: Drain, L: Logic, B: PlugBook>(
     requires { GivesAsListed L.gives B.lists plug }
     ensures planned { (around : Around) (node : blue.Node) → node.kind ≡ kind.Plug plug.head.name → node.decider ≡ decider
         → IsPlanned around k node result }
+    ensures types { types_of_planned result ≡ None }
     ensures seat { seat_of_plan result ≡ None }
 {
     Planned::Works(Work::Linear(LinearLogic::of_plug(k, plug, decider)))
@@ -279,6 +280,7 @@ fn hired<S: Source, D: Drain, L: Logic, B: PlugBook>(
         → used_ports around.wires node.name ≡ (length custom.head.inputs.items, length custom.head.outputs.items) → IsPlanned around k node p) }
     ensures free { IfOk result (λ p. (chains : List graph.Chain) (node : blue.Node) → node.kind ≡ kind.Custom custom.head.name
         → IsFreePlan chains k node p) }
+    ensures types { IfOk result (λ p. types_of_planned p ≡ Some custom.head.outputs.items) }
     ensures seat { IfOk result (λ p. seat_of_plan p ≡ None) }
 {
     let inputs = custom.head.inputs.len() as u32;
@@ -300,6 +302,7 @@ fn invited<S: Source, D: Drain, L: Logic, B: PlugBook>(
         → HasPorts (used_ports around.wires node.name) (Some guest) → IsPlanned around k node p) }
     ensures free { IfOk result (λ p. (chains : List graph.Chain) (node : blue.Node) → node.kind ≡ kind → node.decider ≡ decider
         → IsFreePlan chains k node p) }
+    ensures types { IfOk result (λ p. types_of_planned p ≡ guest_types (Some guest)) }
     ensures seat { IfOk result (λ p. seat_of_plan p ≡ None) }
 {
     let _ = kind;
@@ -330,6 +333,7 @@ fn stand<S: Source, D: Drain, L: Logic, B: PlugBook>(
         → HasPorts (used_ports wires node.name) guest → IsPlanned (record { chains = map graph_chain chains.now; wires = wires }) k node p) }
     ensures free { IfOk result (λ p. (node : blue.Node) → node.kind ≡ kind → node.decider ≡ decider
         → IsFreePlan (map graph_chain chains.now) k node p) }
+    ensures types { IfOk result (λ p. types_of_planned p ≡ guest_types guest) }
     ensures seat { IfOk result (λ p. seat_of_plan p ≡ seat_of_end switch) }
 {
     match guest {
@@ -393,10 +397,12 @@ fn plan<S: Source, D: Drain, L: Logic, B: PlugBook>(
     requires handed { IsHandedAt (switch_of node.kind) switch }
     requires guest { IsGuest L.gives B.lists (plug_of node.kind) (custom_of node.kind) guest }
     requires follows { PlanFits node.kind (moves_of moves) }
-    ensures planned { IfOk result (λ s. (wires : List WireDecl) → HasPorts (used_ports wires node.name) guest → IsSeat (record { chains = map graph_chain chains.now; wires = wires }) k node s) }
+    ensures planned { IfOk result (λ s. (wires : List WireDecl) → HasPorts (used_ports wires node.name) guest
+        → IsSeat (record { chains = map graph_chain chains.now; wires = wires }) k node s) }
     ensures seat { IfOk result (λ s. planned_seat s ≡ seat_of_end switch) }
     ensures plan { IfOk result (λ s. planned_plan s ≡ moves_of moves) }
     ensures room { IfOk result (λ s. s.room ≡ room) }
+    ensures types { IfOk result (λ s. planned_types s ≡ guest_types guest) }
 {
     let Node {
         name,
@@ -435,6 +441,7 @@ pub fn seat_all<S: Source, D: Drain, L: Logic, B: PlugBook>(
     ensures seats { IfOk result (λ seats. map planned_seat seats.items ≡ map seat_of_end ends.items) }
     ensures plans { IfOk result (λ seats. map planned_plan seats.items ≡ map moves_of plans.items) }
     ensures rooms { IfOk result (λ seats. map planned_room seats.items ≡ rooms.items) }
+    ensures types { IfOk result (λ seats. map planned_types seats.items ≡ map guest_types guests.items) }
 {
     let mut unhanded = ends.into_iter();
     let mut unhanded_guests = guests.into_iter();
@@ -467,6 +474,7 @@ fn fill<S: Source, D: Drain, L: Logic, B: PlugBook>(
     ensures seat { place_seat result ≡ planned_seat seat }
     ensures plan { place_plan result ≡ planned_plan seat }
     ensures room { result.room ≡ seat.room }
+    ensures types { place_types result ≡ planned_types seat }
     ensures fewer_sources { into_iter_len sources.old ≡ into_iter_len sources.new + reads seat.planned }
     ensures fewer_drains { into_iter_len drains.old ≡ into_iter_len drains.new + writes seat.planned }
 {
@@ -503,6 +511,7 @@ pub fn fill_all<S: Source, D: Drain, L: Logic, B: PlugBook>(
     ensures kept { map place_seat result.items ≡ map planned_seat seats.items }
     ensures plans { map place_plan result.items ≡ map planned_plan seats.items }
     ensures rooms { map place_room result.items ≡ map planned_room seats.items }
+    ensures types { map place_types result.items ≡ map planned_types seats.items }
 {
     let mut unread = sources.into_iter();
     let mut unwritten = drains.into_iter();

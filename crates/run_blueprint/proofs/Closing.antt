@@ -1,10 +1,11 @@
 -- From the account of a blueprint's run at its end to what the run leaves in the folder.
 use Rattle.std.proofs.Common.{◌≡◌, ◌≢◌, ◌⊎◌, inl, inr, ℕ, zero, suc, ◌+◌, ◌/◌, ◌<◌, ◌≤◌, max, Bool, true, false, List, [], ◌∷◌, map, length, slice_get, refl, sym, ap, ◌∙◌, subst, arith}
 use Rattle.std.specs.Prelude.{IsTrue, Option, None, Some, unwrap_or, ◌||◌}
-use Rattle.std.specs.Option.{option_to_list}
+use Rattle.std.specs.Option.{option_map, option_to_list}
 use Rattle.std.specs.List.{Contains, filter_map, list_any}
 use Rattle.std.proofs.lemmas.List.{length-map}
 use Rattle.elem_core.specs.Prefix.{IsPrefix}
+use Rattle.elem_core.specs.Sort.{Sort}
 use Rattle.elem_core.specs.Tree.{Tree, text}
 use Rattle.elem_core.specs.Items.{elements}
 use Rattle.elem_core.specs.declared.item.Item.{Item}
@@ -45,6 +46,7 @@ use Rattle.interpreter.specs.Misfits.{Found, FindsMisfit, IsLeast}
 use Rattle.run_laws.specs.Account.{Account, IsStill, took}
 use Rattle.run_laws.specs.Items.{list_of, end_of_items, passed_so, AgreesWith, IsToldList}
 use Rattle.run_laws.proofs.Blaming.{custom_gives}
+use Rattle.run_laws.proofs.CustomRows.{custom_there}
 use Rattle.run_laws.specs.Pictures as pictures
 use Rattle.run_laws.specs.Ports.{wire_count}
 use Rattle.run_laws.proofs.Coming.{elements_told}
@@ -63,11 +65,15 @@ use Rattle.stream_model.specs.declared.blueprint.Node as blue
 use Rattle.blue_check.specs.Fitness.{IsFit}
 use Rattle.blue_check.specs.Wires.{blueprint_wires}
 use Rattle.blue_check.specs.Forest.{wiring}
-use Rattle.stream_model.specs.Known.{HeadLists}
+use Rattle.stream_model.specs.Known.{CustomShape, HeadLists}
+use Rattle.blue_names.specs.CustomPorts.{custom_named}
+use Rattle.graph_stage.specs.Passed.{ItemsTyped}
+use Rattle.graph_stage.specs.State.{CustomState}
 use Rattle.materializer.specs.Fit.{CanRun}
 use Rattle.materializer.specs.Files.{output_of, inputs_of_nodes, outputs_of_nodes, is_sink}
 use Rattle.materializer.specs.Choosers.{NoneFollow, plan_at}
-use Rattle.materializer.specs.Seats.{place_plan}
+use Rattle.materializer.specs.HandedCustoms.{head_types, types_by_heads}
+use Rattle.materializer.specs.Seats.{place_plan, place_types}
 use Rattle.materializer.specs.Graphs.{graph_node, graph_of, graph_chain}
 use Rattle.materializer.specs.Seats.{gather_of}
 use Rattle.run_laws.proofs.Nodes.{one_input}
@@ -97,6 +103,7 @@ use Rattle.run_blueprint.proofs.Counts.{rose_by, rose_from_none, is_positive, po
 use Rattle.run_blueprint.proofs.Units.{need_more, passed_within}
 use Rattle.run_blueprint.proofs.Worlds.{world_of, tree_by_wires, all_tell}
 use Rattle.run_blueprint.proofs.Places.{contains_at, contained_at, mapped_at, unmapped_at, filtered_at, unfiltered_at, place_of, place_one, place_within}
+use Rattle.run_blueprint.proofs.CustomTypes.{list_typed, output_found, types_along}
 use Rattle.run_blueprint.proofs.Profiles.{some_one, stand_in, writer_there, sinks_filtered, StandsAt, Profile, ended_along}
 use Rattle.run_blueprint.proofs.Handles.{IsSinkInto, HandleLaws, fault_kind, writer_kind, SourceFacts, SinkFacts, source_facts, sink_facts, profiles, as_many, stands_are}
 use Rattle.run_blueprint.proofs.Sending.{sink_sent, sink_rests, ignorer_told}
@@ -323,11 +330,17 @@ module _ {S D : Type 0} (L B : Type 0) (sources : S → SourceState) (drains : D
   CustomsLaw = (g : Graph) (a : Account (IslandNode S D L B)) → IsRun sources drains book g a
       → (u : ℕ) (v : Edge) (n : graph.Node) (name : List ℕ) → slice_get g.wires u ≡ Some v → slice_get g.nodes v.from ≡ Some n → n.kind ≡ kind.Custom name → IsToldList (a.near u).wire.sent
 
+  abbrev TypedLaw : Type 0
+  TypedLaw = (g : Graph) (a : Account (IslandNode S D L B)) → IsRun sources drains book g a
+      → (u : ℕ) (v : Edge) (n : graph.Node) (name : List ℕ) → slice_get g.wires u ≡ Some v → slice_get g.nodes v.from ≡ Some n → n.kind ≡ kind.Custom name
+      → (first : CustomState) → a.firsts v.from ≡ Some (node.Custom first) → ItemsTyped (slice_get first.types v.output) (a.near u).wire.sent
+
   pub record RunLaws : Type 0 where
     pub fits : FitsLaw
     pub types : TypesLaw
     pub texts : TextsLaw
     pub customs : CustomsLaw
+    pub typed : TypedLaw
     pub gives : GivesLaw
     pub ranked : (b : Blueprint) (heads : HeadLists) (taken : List (List ℕ)) → IsFit b heads taken → (rank : ℕ → ℕ) × IsRanked (graph_of b) rank
     pub agree : AgreeLaw
@@ -522,6 +535,25 @@ module _ {S D L B : Type 0} (sources : S → SourceState) (drains : D → DrainS
         subst (λ (l : List Tree). AllTyped t l) (sym (ap (λ (o : Outlook). o.list) gave)) (passed j v n name t at is custom out);
   }
 
+  -- each custom stage has the types that these heads name
+  abbrev HasTypes : HeadLists → Type 0
+  HasTypes heads = map place_types between.places ≡ types_by_heads heads nodes
+
+  -- so what it sent is of them
+  sent_typed : (heads : HeadLists) → HasTypes heads → CustomsTyped heads nodes (blueprint_wires b) (λ u. list_of (left.near u).wire.sent)
+  sent_typed heads has j v n name t at is custom out =
+      let m = graph_node b.wires.items n in
+      let there : slice_get g.nodes v.from ≡ Some m = mapped_at (graph_node b.wires.items) nodes v.from n is in
+      let c = custom_there sources drains book g left run v.from m name there custom in
+      let first : slice_get between.firsts v.from ≡ Some (node.Custom c.0) = sym (between.first_at v.from) ∙ c.1.1.0 in
+      let by_place : slice_get (map place_types between.places) v.from ≡ Some (Some c.0.types) = types_along between.places between.firsts between.become v.from c.0 first in
+      let by_head : slice_get (types_by_heads heads nodes) v.from ≡ Some (head_types heads n.kind) = mapped_at (λ (y : blue.Node). head_types heads y.kind) nodes v.from n is in
+      let same : head_types heads n.kind ≡ Some c.0.types =
+      some_one (head_types heads n.kind) (Some c.0.types) (sym by_head ∙ sym (ap (λ (l : List (Option (List Sort))). slice_get l v.from) has) ∙ by_place) in
+      let named : option_map (λ (h : CustomShape). h.outputs) (custom_named heads name) ≡ Some c.0.types = ap (λ (q : Kind). head_types heads q) (sym custom) ∙ same in
+      let typed : ItemsTyped (slice_get c.0.types v.output) (left.near j).wire.sent = laws.typed g left run j v m name at there custom c.0 c.1.1.0 in
+      list_typed t (left.near j).wire.sent (subst (λ (o : Option Sort). ItemsTyped o (left.near j).wire.sent) (output_found (custom_named heads name) c.0.types v.output t named out) typed)
+
   -- what was sent on each wire is a list, and how it stands
   sent_list : (i : ℕ) (v : Edge) → slice_get (blueprint_wires b) i ≡ Some v → IsToldList (left.near i).wire.sent
   sent_list i v at =
@@ -685,9 +717,10 @@ module _ {S D L B : Type 0} (sources : S → SourceState) (drains : D → DrainS
       untold k m.0 name m.1.0 (ap (λ (x : graph.Node). x.kind) (sym m.1.1) ∙ is)
 
   -- the picture by what passed
-  pictured : PictureStands book b plans st.end.sinks.items drawn.picks st.wires.items st.at_rest
-  pictured = record {
+  pictured : (heads : HeadLists) → HasTypes heads → PictureStands book heads b plans st.end.sinks.items drawn.picks st.wires.items st.at_rest
+  pictured heads typed = record {
     carries = carried;
+    customs = sent_typed heads typed;
     lawful = λ w is has untold.
         subst (λ (c : List WireCount). IsLawfulBy g w (plan_at plans) c (as_passed carried)) (sym wires_are)
         (laws.lawful_by g w (plan_at plans) left (as_passed carried) (run_at w is) settled (picks_told sources drains book handles b can ss ds left last between old mid opens w has) (none_told_of w untold) follows all_pass);
@@ -750,16 +783,16 @@ module _ {S D L B : Type 0} (sources : S → SourceState) (drains : D → DrainS
   by_passed k n x place at there found = λ w is has. (laws.misfit g w (plan_at plans) left (as_passed carried) (run_at w is) (picks_told sources drains book handles b can ss ds left last between old mid opens w has) follows all_agree k (graph_node b.wires.items n) x place (mapped_at (graph_node b.wires.items) nodes k n at) there found).1
 
   -- the picture by what passed, and the cause of a misfit by that
-  abbrev Pictured : List Pick → Type 0
-  Pictured ps = (p : PictureStands book b plans st.end.sinks.items ps st.wires.items st.at_rest)
+  abbrev Pictured : HeadLists → List Pick → Type 0
+  Pictured heads ps = (p : PictureStands book heads b plans st.end.sinks.items ps st.wires.items st.at_rest)
       × ((stage place : ℕ) → st.end.misfit ≡ Some (stage, place) → IsMisfit b plans ps (MisfitByPassed p.carries plans) stage place)
 
-  pictured_so : Pictured drawn.picks
+  pictured_so : (heads : HeadLists) → HasTypes heads → Pictured heads drawn.picks
   unfolding pictured
-  pictured_so = (pictured, stopped (MisfitByPassed carried plans) by_passed)
+  pictured_so heads typed = (pictured heads typed, stopped (MisfitByPassed carried plans) by_passed)
 
-  pictured_told : Pictured (map pick_of st.end.picks.items)
-  pictured_told = subst Pictured (sym l.picks) pictured_so
+  pictured_told : (heads : HeadLists) → HasTypes heads → Pictured heads (map pick_of st.end.picks.items)
+  pictured_told heads typed = subst (Pictured heads) (sym l.picks) (pictured_so heads typed)
 
   module _ (tells_was : IsTrue old.tells) where
     abbrev Drew : Type 0
@@ -916,16 +949,16 @@ module _ {S D L B : Type 0} (sources : S → SourceState) (drains : D → DrainS
     -- what passed each wire agrees with what may pass it, and all is as by all the moves of stages that follow some
     abbrev Carried : List Pick → Type 0
     Carried ps = (c : WiresCarry book b st.end.sinks.items st.wires.items ps) × (AgreesWithFiles drawn c × ((w : World) → IsReplayOf book nodes plans drawn w → FitsBy g w (plan_at plans) → ServesItsMoves b plans ps w
-        → ServesAll book new b ps st.end.sinks.items st.wires.items c w))
+        → ServesAll book new b ps st.end.sinks.items st.wires.items c w) × ((heads : HeadLists) → HasTypes heads → CustomsTyped heads nodes (blueprint_wires b) c.lists))
 
     carried_so : Carried drawn.picks
-    carried_so = (carried, (λ w is i v at. agrees_told (composed g w i) (left.near i).wire.sent (sent_agrees i v at w is), λ w is fits serve. serves_all w is fits serve))
+    carried_so = (carried, (λ w is i v at. agrees_told (composed g w i) (left.near i).wire.sent (sent_agrees i v at w is), λ w is fits serve. serves_all w is fits serve, λ heads typed. sent_typed heads typed))
 
     carried_told : Carried (map pick_of st.end.picks.items)
     carried_told = subst Carried (sym l.picks) carried_so
 
-    leaves_files : LeavesFiles book old new b plans trace st.end.sinks.items (map pick_of st.end.picks.items) st.wires.items st.at_rest
-    leaves_files =
+    leaves_files : (heads : HeadLists) → HasTypes heads → LeavesFiles book heads old new b plans trace st.end.sinks.items (map pick_of st.end.picks.items) st.wires.items st.at_rest
+    leaves_files heads typed =
         let ranked = laws.ranked b can.heads can.taken can.fit in
         record {
           drawn = drawn;
@@ -935,6 +968,7 @@ module _ {S D L B : Type 0} (sources : S → SourceState) (drains : D → DrainS
           fits = λ w is. laws.moves g w (plan_at plans) ranked.0 left (run_at w is.book_is) settled (world_tells w is) follows ranked.1;
           made = subst (MakesItsMoves b plans) (sym l.picks) made;
           served = carried_told.1.1;
+          customs = carried_told.1.2 heads typed;
           blames = λ w is. laws.blames g w ranked.0 left (run_at w is.book_is) (world_tells w is) ranked.1;
           read = λ k file is. was_read k file (source_at k file is);
           world = world;
@@ -958,9 +992,9 @@ module _ {S D L B : Type 0} (sources : S → SourceState) (drains : D → DrainS
         }
 
     -- with what was drawn
-    leaves_so : (x : LeavesFiles book old new b plans trace st.end.sinks.items (map pick_of st.end.picks.items) st.wires.items st.at_rest) × (x.drawn ≡ drawn)
+    leaves_so : (heads : HeadLists) → HasTypes heads → (x : LeavesFiles book heads old new b plans trace st.end.sinks.items (map pick_of st.end.picks.items) st.wires.items st.at_rest) × (x.drawn ≡ drawn)
     unfolding leaves_files
-    leaves_so = (leaves_files, refl)
+    leaves_so heads typed = (leaves_files heads typed, refl)
 
   calm_output : ((i : ℕ) (s : SinkStand) → slice_get st.end.sinks.items i ≡ Some s → is_write_fault s.2 ≡ false) → (n : List ℕ) → Contains (outputs_of_nodes nodes) n → Grew (old.wfaults n) 0 (new.wfaults n)
   calm_output none n c =
@@ -1011,15 +1045,15 @@ module _ {S D L B : Type 0} (sources : S → SourceState) (drains : D → DrainS
   traced_so : (ran : RunResult) → Traced ran → Traces old new b trace (map pick_of ran.picks.items) ran.trace_failed
   traced_so ran traced = traced (unwritten sources drains b can last st.end.readers.items st.end.writers.items apart old mid _ _ opens new closes lone)
 
-  pub runs_of : (failed : Bool) (ran : Ran) → Traced (result failed ran) → Runs book old new b plans trace budget (result failed ran)
-  runs_of failed ran traced = record {
+  pub runs_of : (heads : HeadLists) → HasTypes heads → (failed : Bool) (ran : Ran) → Traced (result failed ran) → Runs book heads old new b plans trace budget (result failed ran)
+  runs_of heads typed failed ran traced = record {
     sinks_are = ap (map (λ (s : SinkStand). s.0)) l.sinks ∙ stands_are sources drains book handles b ss ds left last between old mid opens;
     picks_are = ap picked l.picks ∙ picks_stand sources drains book handles b can ss ds left last between old mid opens;
     told = tells_old sources drains b can last st.end.readers.items st.end.writers.items apart old mid _ _ opens new closes lone;
     traces = traced_so (result failed ran) traced;
-    leaves = λ h. (leaves_so h).0;
+    leaves = λ h. (leaves_so h heads typed).0;
     stuck = λ h stage place is.
-        subst (λ (d : Drawn). IsMisfit b plans (map pick_of st.end.picks.items) (MisfitByFiles book b plans d) stage place) (sym (leaves_so h).1)
+        subst (λ (d : Drawn). IsMisfit b plans (map pick_of st.end.picks.items) (MisfitByFiles book b plans d) stage place) (sym (leaves_so h heads typed).1)
         (subst (λ (ps : List Pick). IsMisfit b plans ps (MisfitByFiles book b plans drawn) stage place) (sym l.picks) (stopped (MisfitByFiles book b plans drawn) (by_files h) stage place is));
     refusals = refused sources drains b can last st.end.readers.items st.end.writers.items apart old mid _ _ opens new closes lone;
     reads = other_reads sources drains b can last st.end.readers.items st.end.writers.items apart old mid _ _ opens new closes lone;
@@ -1052,9 +1086,9 @@ module _ {S D L B : Type 0} (sources : S → SourceState) (drains : D → DrainS
     within = l.within;
     spent = l.spent;
     pays = pays;
-    picture = pictured_told.0;
+    picture = (pictured_told heads typed).0;
     ending = ending;
-    misfit = pictured_told.1;
+    misfit = (pictured_told heads typed).1;
     made = subst (MakesItsMoves b plans) (sym l.picks) made;
     wired = sinks_wired;
   }

@@ -115,8 +115,8 @@ module _ (b : Blueprint) (wires : List WireCount) (counted : length wires ≡ le
       let owed = row_at (graph_of b) wires outlook (w.moves k) k producers 0 v.input u v c (omega arith) (omega (arith, less)) ports found there count one.1.1 in
       (owed.0, lane_few u v c (outlook u) size (count_of v.input (w.moves k)) lane owed.1)
 
-pub hub_leaves : (book : Book) (old new : FolderState) (b : Blueprint) (plans : List (Option (List ℕ))) (trace : Option (List ℕ)) (budget : ℕ) (ran : RunResult) (heads : HeadLists) (taken : List (List ℕ)) (w : World) → Runs book old new b plans trace budget ran → IsFit b heads taken → w.book ≡ book → HasPicks (map pick_of ran.picks.items) w
+pub hub_leaves : (book : Book) (old new : FolderState) (b : Blueprint) (plans : List (Option (List ℕ))) (trace : Option (List ℕ)) (budget : ℕ) (ran : RunResult) (known heads : HeadLists) (taken : List (List ℕ)) (w : World) → Runs book known old new b plans trace budget ran → IsFit b heads taken → w.book ≡ book → HasPicks (map pick_of ran.picks.items) w
     → (k : ℕ) (n : Node) (own producers u : ℕ) (v : Edge) (c : WireCount) (size : ℕ) → slice_get b.nodes.items k ≡ Some n → n.kind ≡ MergeHub own producers → slice_get (blueprint_wires b) u ≡ Some v → v.to ≡ k → hub_size b.nodes.items v.from v.to ≡ Some size → slice_get ran.wires.items u ≡ Some c
     → (count_of v.input (w.moves k) ≤ c.sent) × (c.sent ≤ count_of v.input (w.moves k) + (size + 1))
-hub_leaves book old new b plans trace budget ran heads taken w runs fit same has k n own producers u v c size at is there to hub count =
+hub_leaves book old new b plans trace budget ran known heads taken w runs fit same has k n own producers u v c size at is there to hub count =
     hub_left b ran.wires.items runs.pays.counted (fit_joined b heads taken fit) (record w { customs = none_told w.book }) (plan_at plans) (as_passed runs.picture.carries) (runs.picture.lawful (record w { customs = none_told w.book }) same has (λ j m name there custom. refl)) k (graph_node b.wires.items n) own producers (mapped_at (graph_node b.wires.items) b.nodes.items k n at) is u v c size there to (hub_wire b u v size there hub).0 count

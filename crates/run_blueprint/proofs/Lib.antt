@@ -17,6 +17,7 @@ pub mod Settling
 pub mod Carrying
 pub mod TypeSending
 pub mod Runs
+mod CustomTypes
 pub mod Fit
 pub mod Places
 pub mod Counts

@@ -154,12 +154,16 @@ abbrev pub MisfitByPassed : {book : Book} → {b : Blueprint} → {stands : List
 MisfitByPassed {book} {b} {stands} {wires} {picks} c plans k n = (w : World) → w.book ≡ book → HasPicks picks w
     → MisfitsOver (graph_of b) w (plan_at plans) (as_passed c) k (graph_node b.wires.items n)
 
--- The picture of a run by what passed its wires, whatever the folder tells of its files. By every world that has the heads of the run
+-- The picture of a run by what passed its wires, whatever the folder tells of its files. What came of custom stages is of the types of these
+-- heads. By every world that has the heads of the run
 -- and what its stages chose, and in which no custom stage tells a list, it is lawful, and where no event was left it rests, but for the stages that cannot make their next move; then a
 -- sink's input is shut exactly where the sink has ended.
-pub record PictureStands (book : Book) (b : Blueprint) (plans : List (Option (List ℕ))) (sinks : List SinkStand) (picks : List Pick)
+pub record PictureStands (book : Book) (heads : HeadLists) (b : Blueprint) (plans : List (Option (List ℕ))) (sinks : List SinkStand) (picks : List Pick)
     (wires : List WireCount) (at_rest : Bool) : Type 0 where
   pub carries : WiresCarry book b sinks wires picks
-  pub lawful : (w : World) → w.book ≡ book → HasPicks picks w → TellNone b.nodes.items w.customs → IsLawfulBy (graph_of b) w (plan_at plans) wires (as_passed carries)
-  pub rest : IsTrue at_rest → (w : World) → w.book ≡ book → HasPicks picks w → TellNone b.nodes.items w.customs → RestsBy (graph_of b) w (plan_at plans) wires (as_passed carries)
+  pub customs : CustomsTyped heads b.nodes.items (blueprint_wires b) carries.lists
+  pub lawful : (w : World) → w.book ≡ book → HasPicks picks w → TellNone b.nodes.items w.customs
+      → IsLawfulBy (graph_of b) w (plan_at plans) wires (as_passed carries)
+  pub rest : IsTrue at_rest → (w : World) → w.book ≡ book → HasPicks picks w → TellNone b.nodes.items w.customs
+      → RestsBy (graph_of b) w (plan_at plans) wires (as_passed carries)
   pub matching : IsTrue at_rest → (w : World) → SinksMatch (graph_of b) w wires (as_passed carries) (has_ended_at sinks)

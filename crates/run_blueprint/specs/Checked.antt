@@ -31,7 +31,8 @@ module _ (heads : HeadLists) (chains : List ChainDecl) (nodes : List Node) (g : 
     pub decls : List WireDecl
     pub nodes_are : g.nodes ≡ map (graph_node decls) nodes
     pub chains_are : g.chains ≡ map graph_chain chains
-    pub ports_are : (k : ℕ) (n : Node) (h : CustomShape) → slice_get nodes k ≡ Some n → custom_head heads n.kind ≡ Some h → used_ports decls n.name ≡ (length h.inputs, length h.outputs)
+    pub ports_are : (k : ℕ) (n : Node) (h : CustomShape) → slice_get nodes k ≡ Some n → custom_head heads n.kind ≡ Some h
+        → used_ports decls n.name ≡ (length h.inputs, length h.outputs)
     pub no_unknown : unknown_guest heads chains nodes ≡ None
     pub no_missing : port_missing heads nodes g.wires ≡ None
     pub no_twice : port_twice heads nodes g.wires ≡ None

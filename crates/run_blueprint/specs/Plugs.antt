@@ -16,14 +16,16 @@ use Rattle.run_blueprint.specs.Types.{HasType, AllTyped}
 
 -- each plug that is handed in gives elements of its output type, where it takes elements of its input type
 pub record KeepsPlugTypes (heads : HeadLists) (book : Book) : Type 0 where
-  pub reply : (name : List ℕ) (p : PlugHead) → plug_named name heads.plugs ≡ Some p → (taken : List Tree) (x : Tree) → AllTyped p.input taken → HasType p.input x
+  pub reply : (name : List ℕ) (p : PlugHead) → plug_named name heads.plugs ≡ Some p → (taken : List Tree) (x : Tree) → AllTyped p.input taken
+      → HasType p.input x
       → AllTyped p.output (book.reply name taken x).gave
   pub closing : (name : List ℕ) (p : PlugHead) → plug_named name heads.plugs ≡ Some p → (taken : List Tree) → AllTyped p.input taken
       → AllTyped p.output (book.closing name taken).gave
 
 -- what comes on each wire from a custom stage is of the type that its head has of the output
 abbrev pub CustomsTyped : HeadLists → List Node → List Edge → (ℕ → List Tree) → Type 0
-CustomsTyped heads nodes wires lists = (j : ℕ) (v : Edge) (n : Node) (name : List ℕ) (t : Sort) → slice_get wires j ≡ Some v → slice_get nodes v.from ≡ Some n → n.kind ≡ Custom name
+CustomsTyped heads nodes wires lists = (j : ℕ) (v : Edge) (n : Node) (name : List ℕ) (t : Sort) → slice_get wires j ≡ Some v → slice_get nodes v.from ≡ Some n
+    → n.kind ≡ Custom name
     → output_type (custom_named heads name) v.output ≡ Some t → AllTyped t (lists j)
 
 -- no custom stage that one of these nodes names tells a list, and what each gave is of the types of its head

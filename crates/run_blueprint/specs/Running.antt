@@ -12,6 +12,7 @@ use Rattle.stream_model.specs.declared.outcome.WireCount.{WireCount}
 use Rattle.stream_model.specs.declared.outcome.EndState.{EndState}
 use Rattle.stream_model.specs.declared.outcome.EndState.TheVariants.{Unended, WriteFault}
 use Rattle.stream_model.specs.Graph.{Edge}
+use Rattle.stream_model.specs.Known.{HeadLists}
 use Rattle.stream_model.specs.Node.{World}
 use Rattle.stream_model.specs.Blame.{GivenLeads}
 use Rattle.stream_model.specs.Composed.{composed, sink_outlook}
@@ -32,6 +33,7 @@ use Rattle.interpreter.specs.Picks.{Pick, pick_of}
 use Rattle.run_blueprint.specs.Carrying.{WiresCarry, AgreesWithFiles, PictureStands, MisfitByPassed}
 use Rattle.run_blueprint.specs.Choosing.{pick_places, picked}
 use Rattle.run_blueprint.specs.Drawing.{Drawn, IsSource, WasRead, WereRead, IsWorldOf, DrawsFirst}
+use Rattle.run_blueprint.specs.Plugs.{CustomsTyped}
 use Rattle.run_blueprint.specs.Replaying.{MakesItsMoves, IsReplayOf, ServesItsMoves, IsMisfit}
 use Rattle.run_blueprint.specs.Sending.{SentOn}
 use Rattle.run_blueprint.specs.Stands.{SinkStand, sink_places, has_ended_at, is_write_fault, is_unended}
@@ -81,12 +83,12 @@ pub record ServesAll (book : Book) (new : FolderState) (b : Blueprint) (picks : 
 -- The inputs were read, and each sink wrote what its outlook lets it write. No other file but that of the trace is changed, where the
 -- folder still tells its files. The lines that were
 -- drawn are the first of each input, and little more than those was read. Each wire stands by what was sent on it and by how its sink
--- stands, and what was sent agrees with its composed outlook. The picture is lawful; and where no event was left it
+-- stands, and what was sent agrees with its composed outlook; of a custom stage it is of the types of its head. The picture is lawful; and where no event was left it
 -- rests, and a sink's input is shut exactly where the sink has ended; in a polytree without custom stages every sink has ended then. The stages chose
 -- these moves, which fit what may come in on their inputs. There is a world that has the input files as they were read, and these
 -- moves.
 -- Choice: docs/DECISIONS.md#polytrees-never-stall
-pub record LeavesFiles (book : Book) (old new : FolderState) (b : Blueprint) (plans : List (Option (List ℕ))) (trace : Option (List ℕ))
+pub record LeavesFiles (book : Book) (heads : HeadLists) (old new : FolderState) (b : Blueprint) (plans : List (Option (List ℕ))) (trace : Option (List ℕ))
     (sinks : List SinkStand) (picks : List Pick)
     (wires : List WireCount) (at_rest : Bool) : Type 0 where
   pub drawn : Drawn
@@ -105,6 +107,7 @@ pub record LeavesFiles (book : Book) (old new : FolderState) (b : Blueprint) (pl
   pub fits : (w : World) → IsWorldOf book b.nodes.items drawn w → FitsBy (graph_of b) w (plan_at plans)
   pub carries : WiresCarry book b sinks wires picks
   pub passed : AgreesWithFiles drawn carries
+  pub customs : CustomsTyped heads b.nodes.items (blueprint_wires b) carries.lists
   -- the picture, by the composed outlooks
   pub lawful : (w : World) → IsWorldOf book b.nodes.items drawn w → IsLawfulBy (graph_of b) w (plan_at plans) wires (composed (graph_of b) w)
   pub rest : IsTrue at_rest → (w : World) → IsWorldOf book b.nodes.items drawn w → RestsBy (graph_of b) w (plan_at plans) wires (composed (graph_of b) w)
@@ -140,13 +143,14 @@ pub record SomeWriteRose (old new : FolderState) (b : Blueprint) : Type 0 where
 -- stage whose kind chooses, in order of nodes, and no other; the trace's file, where one is wanted, holds the text of these moves, or
 -- a first part where a write to it failed. Whatever the folder tells, the units are within the budget and pay for what passed, the picture
 -- stands by what passed, and where no event was left every sink of a polytree without custom stages has ended.
-pub record Runs (book : Book) (old new : FolderState) (b : Blueprint) (plans : List (Option (List ℕ))) (trace : Option (List ℕ)) (budget : ℕ)
+pub record Runs (book : Book) (heads : HeadLists) (old new : FolderState) (b : Blueprint) (plans : List (Option (List ℕ))) (trace : Option (List ℕ))
+    (budget : ℕ)
     (ran : RunResult) : Type 0 where
   pub sinks_are : map (λ (s : SinkStand). s.0) ran.sinks.items ≡ sink_places 0 b.nodes.items
   pub picks_are : picked (map pick_of ran.picks.items) ≡ pick_places 0 b.nodes.items
   pub told : IsTrue new.tells → IsTrue old.tells
   pub traces : Traces old new b trace (map pick_of ran.picks.items) ran.trace_failed
-  pub leaves : IsTrue old.tells → LeavesFiles book old new b plans trace ran.sinks.items (map pick_of ran.picks.items) ran.wires.items ran.at_rest
+  pub leaves : IsTrue old.tells → LeavesFiles book heads old new b plans trace ran.sinks.items (map pick_of ran.picks.items) ran.wires.items ran.at_rest
   pub stuck : (tells : IsTrue old.tells) (stage place : ℕ) → ran.misfit ≡ Some (stage, place)
       → IsMisfit b plans (map pick_of ran.picks.items) (MisfitByFiles book b plans (leaves tells).drawn) stage place
   pub refusals : Quiet old.refusals new.refusals
@@ -161,8 +165,9 @@ pub record Runs (book : Book) (old new : FolderState) (b : Blueprint) (plans : L
   pub within : ran.used ≤ budget
   pub spent : ran.at_rest ≡ false → ran.used ≡ budget
   pub pays : Pays b ran.wires.items ran.used
-  pub picture : PictureStands book b plans ran.sinks.items (map pick_of ran.picks.items) ran.wires.items ran.at_rest
-  pub ending : NoneFollow plans → HasNoCustom b → IsPolytree (wiring (blueprint_wires b)) → IsTrue ran.at_rest → list_any (λ s. is_unended s.2) ran.sinks.items ≡ false
+  pub picture : PictureStands book heads b plans ran.sinks.items (map pick_of ran.picks.items) ran.wires.items ran.at_rest
+  pub ending : NoneFollow plans → HasNoCustom b → IsPolytree (wiring (blueprint_wires b)) → IsTrue ran.at_rest
+      → list_any (λ s. is_unended s.2) ran.sinks.items ≡ false
   pub misfit : (stage place : ℕ) → ran.misfit ≡ Some (stage, place)
       → IsMisfit b plans (map pick_of ran.picks.items) (MisfitByPassed picture.carries plans) stage place
   pub made : MakesItsMoves b plans (map pick_of ran.picks.items)

@@ -105,7 +105,8 @@ pub fn stages_keep_types()
 
 /// A graph of a blueprint that breaks no rule passes the rules that the laws below rest on.
 pub fn fit_blueprints_pass_the_rules()
-    ensures { (b : Blueprint) (heads : HeadLists) (taken : List (List ℕ)) (g : Graph) → IsFit b heads taken → g.nodes ≡ map (graph_node b.wires.items) b.nodes.items
+    ensures { (b : Blueprint) (heads : HeadLists) (taken : List (List ℕ)) (g : Graph) → IsFit b heads taken
+        → g.nodes ≡ map (graph_node b.wires.items) b.nodes.items
         → g.wires ≡ blueprint_wires b → g.chains ≡ map graph_chain b.chains.items
         → PassesRules heads b.chains.items b.nodes.items g }
 {}
@@ -129,7 +130,8 @@ pub fn every_wire_carries_its_type<S: Source, D: Drain, L: Logic, B: PlugBook>()
         → (i : ℕ) (v : Edge) → slice_get g.wires i ≡ Some v → SendsItsType heads chains nodes g w i v (a.near i).wire.sent }
     ensures island { (heads : HeadLists) (chains : List ChainDecl) (nodes : List Node) (g : Graph) (w : World) (rank : ℕ → ℕ)
         (net : Net (stage.IslandNode S D L B)) → Settled node_port_state (node_law S.state D.state w.book) node_asking node_moves net
-        → Materializes S.state g net.firsts net.ends → TellsPicks w (account_of net) → TellsCustoms g w (account_of net) → PassesRules heads chains nodes g → KeepsPlugTypes heads w.book → GivenTyped heads nodes g.wires w
+        → Materializes S.state g net.firsts net.ends → TellsPicks w (account_of net) → TellsCustoms g w (account_of net) → PassesRules heads chains nodes g
+        → KeepsPlugTypes heads w.book → GivenTyped heads nodes g.wires w
         → IsRanked g rank
         → (i : ℕ) (v : Edge) → slice_get g.wires i ≡ Some v → SendsItsType heads chains nodes g w i v (wire_at net i).wire.sent }
 {}
@@ -137,8 +139,9 @@ pub fn every_wire_carries_its_type<S: Source, D: Drain, L: Logic, B: PlugBook>()
 /// Whenever a run stopped whose folder had told its files, also where its units were used up: the wire of a sink that goes on, lane or
 /// not, is told shut only where all was sent that may pass it, unless its outlook has a failure.
 pub fn a_shut_wire_carried_all()
-    ensures { (book : Book) (old new : FolderState) (b : Blueprint) (plans : List (Option (List ℕ))) (trace : Option (List ℕ)) (sinks : List SinkStand)
-        (picks : List Pick) (wires : List WireCount) (at_rest : Bool) (l : LeavesFiles book old new b plans trace sinks picks wires at_rest) (w : World)
+    ensures { (book : Book) (heads : HeadLists) (old new : FolderState) (b : Blueprint) (plans : List (Option (List ℕ))) (trace : Option (List ℕ))
+        (sinks : List SinkStand) (picks : List Pick) (wires : List WireCount) (at_rest : Bool)
+        (l : LeavesFiles book heads old new b plans trace sinks picks wires at_rest) (w : World)
         → IsWorldOf book b.nodes.items l.drawn w
         → (k : ℕ) (s : SinkStand) (i : ℕ) (v : Edge) (c : WireCount) → slice_get sinks k ≡ Some s → s.2 ≡ Unended
         → slice_get (blueprint_wires b) i ≡ Some v → v.to ≡ s.0 → slice_get wires i ≡ Some c → c.shut ≡ true
@@ -159,7 +162,7 @@ pub fn hubs_carry_each_party<S: Source, D: Drain, L: Logic, B: PlugBook>()
 /// the run answers, and of those that were sent all but as many as the hub's size and one, which the hub itself may have.
 pub fn a_merge_hub_leaves_few()
     ensures { (book : Book) (old new : FolderState) (b : Blueprint) (plans : List (Option (List ℕ))) (trace : Option (List ℕ)) (budget : ℕ) (ran : RunResult)
-        (heads : HeadLists) (taken : List (List ℕ)) (w : World) → Runs book old new b plans trace budget ran → IsFit b heads taken → w.book ≡ book
+        (known heads : HeadLists) (taken : List (List ℕ)) (w : World) → Runs book known old new b plans trace budget ran → IsFit b heads taken → w.book ≡ book
         → HasPicks (map pick_of ran.picks.items) w
         → (k : ℕ) (n : Node) (own producers u : ℕ) (v : Edge) (c : WireCount) (size : ℕ) → slice_get b.nodes.items k ≡ Some n
         → n.kind ≡ kind.MergeHub own producers → slice_get (blueprint_wires b) u ≡ Some v → v.to ≡ k → hub_size b.nodes.items v.from v.to ≡ Some size

@@ -1,12 +1,13 @@
 // The run of a blueprint over a folder.
 ghost use Rattle.std.specs.Prelude.{◌≡◌, ◌+◌, ◌-◌, ◌<◌, ◌≤◌, ◌++◌, [], ℕ, List, Option, IfOk, IfErr, Err, Bool, true, false, IsTrue, map, length, vec_len, is_some};
 ghost use Rattle.std.specs.Option.{option_map, option_to_list};
+ghost use Rattle.stream_model.specs.Known.{HeadLists};
 ghost use Rattle.stream_model.specs.declared.blueprint.Blueprint as plan;
 ghost use Rattle.stream_io.specs.State.{FolderState};
 ghost use Rattle.materializer.specs.Fit.{CanRun};
 ghost use Rattle.materializer.specs.Choices.{pick_names};
 ghost use Rattle.materializer.specs.Choosers.{PlansFit, moves_of};
-ghost use Rattle.materializer.specs.Seats.{place_plan};
+ghost use Rattle.materializer.specs.Seats.{place_plan, place_types};
 ghost use Rattle.materializer.specs.Files.{inputs_of_nodes, outputs_of_nodes};
 ghost use Rattle.stream_io.specs.Opening.{MissesInput, RefusesOutput};
 ghost use Rattle.stream_io.specs.Closing.{ClosesAll};
@@ -19,7 +20,7 @@ ghost use Rattle.run_blueprint.specs.Running.{Runs, Wants, WantsWithin};
 ghost use Rattle.run_blueprint.specs.Tracing.{written_files, IsApart};
 ghost use Rattle.std.specs.List.{All};
 ghost use Rattle.elem_core.specs.declared.count.TheConstants.{MOST_COUNT};
-ghost use Rattle.materializer.specs.HandedCustoms.{handed_heads, HasGuests};
+ghost use Rattle.materializer.specs.HandedCustoms.{handed_heads, HasGuests, types_by_heads};
 ghost use Rattle.materializer.specs.HandedPlugs.{GivesAsListed};
 
 use crate::laws::{every_wire_carries_its_type, fit_blueprints_pass_the_rules};
@@ -165,7 +166,8 @@ fn close<F: Folder, L: Logic, B: PlugBook>(
         → Opens old (F.state folder.old) (inputs_of_nodes b.nodes.items) (outputs_of_nodes b.nodes.items) (option_to_list trace) (map F.Inp.state ss)
         (map F.Out.state ds) → OpensAs (F.state folder.old) trace (option_map F.Out.state drain)
         → (left : RunLeaves L B F.Inp.state F.Out.state B.lists b ss ds budget stopped) → map place_plan left.moment.places ≡ plans
-        → Runs B.lists old (F.state folder.new) b plans trace budget result }
+        → (heads : HeadLists) → map place_types left.moment.places ≡ types_by_heads heads b.nodes.items
+        → Runs B.lists heads old (F.state folder.new) b plans trace budget result }
     ensures handles { F.handles folder.new ≡ F.handles folder.old - (length stopped.end.readers.items + length stopped.end.writers.items + length
         (option_to_list drain)) }
     ensures all { (old : FolderState) (b : plan.Blueprint) (trace : Option (List ℕ)) (budget : ℕ) (ss : List F.Inp) (ds : List F.Out) → CanRun b
@@ -284,7 +286,8 @@ pub fn run<R: Threads + Wait + Sync, F: Folder, L: Logic + Send, B: PlugBook + S
     requires apart { IsApart b trace }
     requires workers { (0 < workers) × (workers ≤ 64) }
     requires budget { budget ≤ MOST_COUNT }
-    ensures ran { IfOk result (λ ran. Runs B.lists (F.state folder.old) (F.state folder.new) b (map moves_of plans.items) trace budget ran) }
+    ensures ran { IfOk result (λ ran. Runs B.lists (handed_heads plugs.items customs.items) (F.state folder.old) (F.state folder.new) b
+        (map moves_of plans.items) trace budget ran) }
     ensures receipt { IfOk result (λ ran. IsReceipt b workers ran.used ran.at_rest ran.ran) }
     ensures no_input { (n : List ℕ) → result ≡ Err (OpenEnd.MissingInput n) → MissesInput (F.state folder.old) (F.state folder.new)
         (inputs_of_nodes b.nodes.items) n }

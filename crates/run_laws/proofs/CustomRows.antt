@@ -6,7 +6,9 @@ use Rattle.elem_core.specs.declared.item.Item.{Item}
 use Rattle.elem_core.specs.declared.why.Decider.{Decider}
 use Rattle.fused_net.proofs.Reading.{some_same}
 use Rattle.graph_stage.proofs.Passing.{outputs_pass}
+use Rattle.graph_stage.proofs.Pushes.{gives_typed}
 use Rattle.graph_stage.specs.Laws.{CustomLaw}
+use Rattle.graph_stage.specs.Passed.{ItemsTyped}
 use Rattle.graph_stage.specs.State.{CustomState}
 use Rattle.port_core.specs.Reading.{sent_of}
 use Rattle.port_core.specs.View.{View}
@@ -67,6 +69,12 @@ module _ (S D L B : Type 0) (sources : S → SourceState) (drains : D → DrainS
 
 -- ---- in a run
 
+abbrev as_node : {S D L B : Type 0} → CustomState → IslandNode S D L B
+as_node x = Custom x
+
+one_custom : {S D L B : Type 0} (x y : CustomState) → as_node {S} {D} {L} {B} x ≡ as_node y → x ≡ y
+one_custom x y e = cc
+
 -- a node of a custom stage's kind is one
 custom_cases : {S D L B : Type 0} (sources : S → SourceState) (drains : D → DrainState) (book : Book) (chains : List graph.Chain) (k : ℕ) (n : graph.Node) (name : List ℕ) (first now : IslandNode S D L B) (v : View) (took gave : List (List Item))
     → n.kind ≡ kind.Custom name → FirstOf sources chains k n first → node_law sources drains book first now v took gave → (a : CustomState) × ((b : CustomState) × ((first ≡ Custom a) × (now ≡ Custom b)))
@@ -97,17 +105,30 @@ module _ {S D L B : Type 0} (sources : S → SourceState) (drains : D → DrainS
       subst (λ (x : IslandNode S D L B). node_law sources drains book (Custom c.0) x (knows g a k n) (took g a k n) (gave g a k n)) c.1.1.1 begun in
       (c.0, (c.1.0, (m.first_at ∙ ap (λ (x : IslandNode S D L B). Some x) c.1.1.0, (m.now_at ∙ ap (λ (x : IslandNode S D L B). Some x) c.1.1.1, law))))
 
-  -- what it sent is a list, and how it stands
-  pub custom_sent : (u : ℕ) (v : Edge) (n : graph.Node) (name : List ℕ) → slice_get g.wires u ≡ Some v → slice_get g.nodes v.from ≡ Some n → n.kind ≡ kind.Custom name → IsToldList (a.near u).wire.sent
-  custom_sent u v n name ui ni is =
-      let c = custom_there v.from n name ni is in
+  -- what it gave on an output is what was sent on the wire there
+  sent_there : (u : ℕ) (v : Edge) (n : graph.Node) → slice_get g.wires u ≡ Some v → slice_get g.nodes v.from ≡ Some n → slice_get (gave g a v.from n) v.output ≡ Some (a.near u).wire.sent
+  sent_there u v n ui ni =
       let s = run.joined.source u v ui in
       let same : s.0 ≡ n = some_same s.0 n (sym s.1 ∙ ni) in
       let none : 0 + v.output ≡ v.output = omega arith in
       let within : v.output < outputs_of n = rw same at s.2 in
-      let port : slice_get (gave g a v.from n) v.output ≡ Some (a.near u).wire.sent = read_there g sent_of a.near v.from 0 (outputs_of n) v.output u within (rw none s.3) in
-      let passed = (outputs_pass c.0 c.1.0 (knows g a v.from n) (took g a v.from n) (gave g a v.from n) c.1.1.1.1).1 v.output (a.near u).wire.sent port in
+      read_there g sent_of a.near v.from 0 (outputs_of n) v.output u within (rw none s.3)
+
+  -- what it sent is a list, and how it stands
+  pub custom_sent : (u : ℕ) (v : Edge) (n : graph.Node) (name : List ℕ) → slice_get g.wires u ≡ Some v → slice_get g.nodes v.from ≡ Some n → n.kind ≡ kind.Custom name → IsToldList (a.near u).wire.sent
+  custom_sent u v n name ui ni is =
+      let c = custom_there v.from n name ni is in
+      let passed = (outputs_pass c.0 c.1.0 (knows g a v.from n) (took g a v.from n) (gave g a v.from n) c.1.1.1.1).1 v.output (a.near u).wire.sent (sent_there u v n ui ni) in
       record { list = passed.list; end = passed.end; is = passed.is }
+
+  -- and all of it is of the type of the output
+  pub custom_typed : (u : ℕ) (v : Edge) (n : graph.Node) (name : List ℕ) → slice_get g.wires u ≡ Some v → slice_get g.nodes v.from ≡ Some n → n.kind ≡ kind.Custom name
+      → (first : CustomState) → a.firsts v.from ≡ Some (Custom first) → ItemsTyped (slice_get first.types v.output) (a.near u).wire.sent
+  custom_typed u v n name ui ni is first at =
+      let c = custom_there v.from n name ni is in
+      let same : c.0 ≡ first = one_custom c.0 first (some_same (as_node c.0) (as_node first) (sym c.1.1.0 ∙ at)) in
+      let typed = gives_typed c.0 c.1.0 (knows g a v.from n) (took g a v.from n) (gave g a v.from n) c.1.1.1.1 v.output (a.near u).wire.sent (sent_there u v n ui ni) in
+      subst (λ (x : CustomState). ItemsTyped (slice_get x.types v.output) (a.near u).wire.sent) same typed
 
 -- a world that tells of a run says that none tells a list
 pub no_list : {S D L B : Type 0} (sources : S → SourceState) (drains : D → DrainState) (g : Graph) (w : World) (a : Account (IslandNode S D L B)) → IsRun sources drains w.book g a → WorldTells sources g w a → TellsNoList g w

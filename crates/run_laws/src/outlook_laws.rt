@@ -22,6 +22,9 @@ ghost use Rattle.nodes.specs.Kinds.{IsFileSink};
 ghost use Rattle.nodes.specs.Sink.{Sink, sink_late};
 ghost use Rattle.nodes.specs.Source.{Lines};
 ghost use Rattle.nodes.specs.declared.node.IslandNode.{IslandNode};
+ghost use Rattle.nodes.specs.declared.node.IslandNode.TheVariants.{Custom};
+ghost use Rattle.graph_stage.specs.Passed.{ItemsTyped};
+ghost use Rattle.graph_stage.specs.State.{CustomState};
 ghost use Rattle.run_laws.specs.Account.{Account, AllMade, took, IsStill};
 ghost use Rattle.run_laws.specs.Items.{AgreesWith, IsToldList};
 ghost use Rattle.run_laws.specs.Pictures.{picture_counts};
@@ -159,7 +162,7 @@ pub fn every_source_reads_little_ahead<S: Source, D: Drain, L: Logic, B: PlugBoo
 {}
 
 /// Whatever a folder tells of its files, a source of lines sent texts (`lines`), a custom stage sent a list and then an end or none
-/// (`customs`), and what any other node sent on a wire agrees with what it gives of all outlooks with which what was sent on the
+/// (`customs`) of elements of the types of its outputs (`typed`), and what any other node sent on a wire agrees with what it gives of all outlooks with which what was sent on the
 /// wires into it agrees, where the world tells what the stages chose (`others`).
 pub fn every_node_gives_of_what_came<S: Source, D: Drain, L: Logic, B: PlugBook>()
     ensures lines { (g : Graph) (a : Account (IslandNode S D L B)) → IsRun S.state D.state B.lists g a
@@ -168,6 +171,9 @@ pub fn every_node_gives_of_what_came<S: Source, D: Drain, L: Logic, B: PlugBook>
     ensures customs { (g : Graph) (a : Account (IslandNode S D L B)) → IsRun S.state D.state B.lists g a
         → (u : ℕ) (v : Edge) (n : graph.Node) (name : List ℕ) → slice_get g.wires u ≡ Some v → slice_get g.nodes v.from ≡ Some n → n.kind ≡ kind.Custom name
         → IsToldList (a.near u).wire.sent }
+    ensures typed { (g : Graph) (a : Account (IslandNode S D L B)) → IsRun S.state D.state B.lists g a
+        → (u : ℕ) (v : Edge) (n : graph.Node) (name : List ℕ) → slice_get g.wires u ≡ Some v → slice_get g.nodes v.from ≡ Some n → n.kind ≡ kind.Custom name
+        → (first : CustomState) → a.firsts v.from ≡ Some (Custom first) → ItemsTyped (slice_get first.types v.output) (a.near u).wire.sent }
     ensures others { (g : Graph) (w : World) (a : Account (IslandNode S D L B)) → IsRun S.state D.state w.book g a → TellsPicks w a
         → (sent : ℕ → Outlook) (j : ℕ) (v : Edge) (n : graph.Node) → slice_get g.wires j ≡ Some v → slice_get g.nodes v.from ≡ Some n
         → ((name : List ℕ) → n.kind ≢ kind.Lines name) → ((name : List ℕ) → n.kind ≢ kind.Custom name)

@@ -100,7 +100,7 @@ module _ (plugged : Plugged) (old mid new : FolderState) (file : List ℕ) (r : 
     empties_later : (names : List (List ℕ)) → Empties mid new names → Empties old new names
     empties_later names h = record { told = λ x. tells_before old mid r.files (h.told x); still = λ e. h.still e ∙ r.files.telling; emptied = h.emptied; others = λ x m never. h.others x m never ∙ r.files.files tells m }
 
-    abbrev leaves_later : (ends : List SinkStand) (picks : List Pick) (wires : List WireCount) (rest : Bool) → LeavesFiles plugged.book mid new b plans trace ends picks wires rest → LeavesFiles plugged.book old new b plans trace ends picks wires rest
+    abbrev leaves_later : (ends : List SinkStand) (picks : List Pick) (wires : List WireCount) (rest : Bool) → LeavesFiles plugged.book plugged.heads mid new b plans trace ends picks wires rest → LeavesFiles plugged.book plugged.heads old new b plans trace ends picks wires rest
     leaves_later ends picks wires rest l = record {
       drawn = l.drawn;
       chose = l.chose;
@@ -114,6 +114,7 @@ module _ (plugged : Plugged) (old mid new : FolderState) (file : List ℕ) (r : 
       fits = l.fits;
       carries = l.carries;
       passed = l.passed;
+      customs = l.customs;
       lawful = l.lawful;
       rest = l.rest;
       matching = l.matching;

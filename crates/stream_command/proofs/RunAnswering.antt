@@ -7,6 +7,7 @@ use Rattle.std.proofs.lemmas.Bool.{ltb-true}
 use Rattle.stream_model.specs.declared.outcome.WireCount.{WireCount}
 use Rattle.stream_model.specs.declared.outcome.EndState.{EndState}
 use Rattle.stream_model.specs.declared.outcome.EndState.TheVariants as state
+use Rattle.stream_model.specs.Known.{HeadLists}
 use Rattle.stream_model.specs.Linear.{Book}
 use Rattle.stream_model.specs.Node.{World}
 use Rattle.stream_model.specs.Outlook.{Outlook, Entry, failed, Allows, Agrees}
@@ -108,7 +109,7 @@ module _ (plugged : Plugged) (old new : FolderState) (b : Blueprint) (plans : Li
     rests = λ shape h. s.rests shape (more h);
   }
 
-  abbrev leaves_less : LeavesFiles plugged.book old new b plans trace stands picks wires rest → LeavesFiles plugged.book old new b plans trace stands picks wires less
+  abbrev leaves_less : LeavesFiles plugged.book plugged.heads old new b plans trace stands picks wires rest → LeavesFiles plugged.book plugged.heads old new b plans trace stands picks wires less
   leaves_less l = record {
     drawn = l.drawn;
     chose = l.chose;
@@ -122,6 +123,7 @@ module _ (plugged : Plugged) (old new : FolderState) (b : Blueprint) (plans : Li
     fits = l.fits;
     carries = l.carries;
     passed = l.passed;
+    customs = l.customs;
     lawful = l.lawful;
     rest = λ h. l.rest (more h);
     matching = λ h. l.matching (more h);
@@ -132,8 +134,8 @@ module _ (plugged : Plugged) (old new : FolderState) (b : Blueprint) (plans : Li
     needed = l.needed;
   }
 
-abbrev picture_less : (book : Book) (b : Blueprint) (plans : List (Option (List ℕ))) (stands : List SinkStand) (picks : List Pick) (wires : List WireCount) (less rest : Bool) → (IsTrue less → IsTrue rest) → PictureStands book b plans stands picks wires rest → PictureStands book b plans stands picks wires less
-picture_less book b plans stands picks wires less rest more p = record { carries = p.carries; lawful = p.lawful; rest = λ h. p.rest (more h); matching = λ h. p.matching (more h) }
+abbrev picture_less : (book : Book) (heads : HeadLists) (b : Blueprint) (plans : List (Option (List ℕ))) (stands : List SinkStand) (picks : List Pick) (wires : List WireCount) (less rest : Bool) → (IsTrue less → IsTrue rest) → PictureStands book heads b plans stands picks wires rest → PictureStands book heads b plans stands picks wires less
+picture_less book heads b plans stands picks wires less rest more p = record { carries = p.carries; customs = p.customs; lawful = p.lawful; rest = λ h. p.rest (more h); matching = λ h. p.matching (more h) }
 
 -- ---- the end of a run
 
@@ -170,7 +172,7 @@ or_false : (a : Bool) → a || false ≡ true → a ≡ true
 or_false true e = refl
 or_false false e = absurd cc
 
-module _ (plugged : Plugged) (b : Blueprint) (plans : List (Option (List ℕ))) (trace : Option (List ℕ)) (ran : RunResult) (turns : ℕ) (a : Answer) (old new : FolderState) (after : AfterRun (sinks_of_nodes b.nodes.items) ran a) (runs : Runs plugged.book old new b plans trace turns ran) where
+module _ (plugged : Plugged) (b : Blueprint) (plans : List (Option (List ℕ))) (trace : Option (List ℕ)) (ran : RunResult) (turns : ℕ) (a : Answer) (old new : FolderState) (after : AfterRun (sinks_of_nodes b.nodes.items) ran a) (runs : Runs plugged.book plugged.heads old new b plans trace turns ran) where
   abbrev stands : List SinkStand
   stands = ran.sinks.items
 
@@ -243,7 +245,7 @@ module _ (plugged : Plugged) (b : Blueprint) (plans : List (Option (List ℕ))) 
 
   -- the picture stands by what passed, and a stage that stopped has its cause in that
   record Pictured (picks : List Pick) (wires : List WireCount) : Type 0 where
-    picture : PictureStands plugged.book b plans stands picks wires ran.at_rest
+    picture : PictureStands plugged.book plugged.heads b plans stands picks wires ran.at_rest
     misfit : (stage place : ℕ) → ran.misfit ≡ Some (stage, place) → IsMisfit b plans picks (MisfitByPassed picture.carries plans) stage place
 
   -- as the answer tells it
@@ -277,14 +279,14 @@ module _ (plugged : Plugged) (b : Blueprint) (plans : List (Option (List ℕ))) 
 
   -- the files are left so, and a stage that stopped has its cause in them
   record Left (picks : List Pick) (wires : List WireCount) : Type 0 where
-    leaves : LeavesFiles plugged.book old new b plans trace stands picks wires ran.at_rest
+    leaves : LeavesFiles plugged.book plugged.heads old new b plans trace stands picks wires ran.at_rest
     stuck : (stage place : ℕ) → ran.misfit ≡ Some (stage, place) → IsMisfit b plans picks (MisfitByFiles plugged.book b plans leaves.drawn) stage place
 
   module _ (tells : IsTrue old.tells) where
     left_at : Left a.picks a.wires
     left_at = subst (λ (p : List Pick). Left p a.wires) (sym after.picks) (subst (λ (w : List WireCount). Left (map pick_of ran.picks.items) w) (sym after.wires) (record { leaves = runs.leaves tells; stuck = runs.stuck tells }))
 
-    abbrev leaves_at : LeavesFiles plugged.book old new b plans trace stands a.picks a.wires ran.at_rest
+    abbrev leaves_at : LeavesFiles plugged.book plugged.heads old new b plans trace stands a.picks a.wires ran.at_rest
     leaves_at = left_at.leaves
 
     below_need : 1 ≤ length stands → (w : World) → IsWorldOf plugged.book b.nodes.items leaves_at.drawn w → a.used < need (graph_of b) (composed (graph_of b) w)
@@ -352,7 +354,7 @@ module _ (plugged : Plugged) (b : Blueprint) (plans : List (Option (List ℕ))) 
     writes = runs.writes;
     within = within;
     pays = pays;
-    picture = picture_less plugged.book b plans stands a.picks a.wires (no_event_left a turns) ran.at_rest over_rests pictured.picture;
+    picture = picture_less plugged.book plugged.heads b plans stands a.picks a.wires (no_event_left a turns) ran.at_rest over_rests pictured.picture;
     ending = tree_spent ran.at_rest refl;
   }
 

@@ -135,7 +135,8 @@ pub record FailedWhole (p : Plugged) (a : Answer) (c : AskedRun) (old new : Fold
   pub every : length a.sinks ≡ length (sink_places 0 blueprint.nodes.items)
   pub whole : (w : World) (k : ℕ) (n : Node) (file : List ℕ) (cause : Cause) → IsWorldOf p.book blueprint.nodes.items drawn w
       → AnswersSink a blueprint k n file (state.Failed cause) → HasLists (graph_of blueprint) w.customs k
-      → ReachesLast (graph_of blueprint) cause k (graph_node blueprint.wires.items n) → new.file file ≡ Some (text_lines (sink_outlook (graph_of blueprint) w k (graph_node blueprint.wires.items n)).list)
+      → ReachesLast (graph_of blueprint) cause k (graph_node blueprint.wires.items n)
+      → new.file file ≡ Some (text_lines (sink_outlook (graph_of blueprint) w k (graph_node blueprint.wires.items n)).list)
 
 -- Of a call whose answer has every sink: each failure that is answered of a sink with a file is one of the sink's own, or came along a
 -- directed walk of wires from the node that it blames, where it may come on an output though nothing that comes in there fails; that of a

@@ -81,7 +81,7 @@ pub record RanTo (p : Plugged) (old new : FolderState) (b : Blueprint) (plans : 
   pub stands_are : map (λ (s : SinkStand). s.0) stands ≡ sink_places 0 b.nodes.items
   pub sinks : a.sinks ≡ told_ends b.nodes.items stands
   pub picks_are : picked a.picks ≡ pick_places 0 b.nodes.items
-  pub leaves : LeavesFiles p.book old new b plans trace stands a.picks a.wires (no_event_left a turns)
+  pub leaves : LeavesFiles p.book p.heads old new b plans trace stands a.picks a.wires (no_event_left a turns)
   pub writes : (i : ℕ) (s : SinkStand) (n : Node) (file : List ℕ) → slice_get stands i ≡ Some s → slice_get b.nodes.items s.0 ≡ Some n
       → output_of n.kind ≡ Some file → FailedWritesOf s.2 (old.wfaults file) (new.wfaults file)
   pub within : a.used ≤ turns
@@ -243,7 +243,7 @@ pub record SinksWrote (p : Plugged) (old new : FolderState) (b : Blueprint) (pla
       → output_of n.kind ≡ Some file → FailedWritesOf s.2 (old.wfaults file) (new.wfaults file)
   pub within : a.used ≤ turns
   pub pays : Pays b a.wires a.used
-  pub picture : PictureStands p.book b plans stands a.picks a.wires (no_event_left a turns)
+  pub picture : PictureStands p.book p.heads b plans stands a.picks a.wires (no_event_left a turns)
   pub ending : NoneFollow plans → HasNoCustom b → IsPolytree (wiring (blueprint_wires b)) → some_unended a.sinks ≡ true → a.used ≡ turns
 
 -- the units were used up, and were fewer than the count over what was sent

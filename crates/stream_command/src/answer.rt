@@ -256,7 +256,8 @@ fn run_fit<R: Threads + Wait + Sync, F: Folder, L: Logic + Send, B: PlugBook + S
         (map moves_of plans.items) trace turns
         (F.state folder.old) (F.state folder.new) }
     ensures tells { IsTrue (F.state folder.new).tells → IsTrue (F.state folder.old).tells }
-    ensures causes { RunCauses (plugged_by B.lists B.customs plugs.items customs.items) result.status (of_outcome result) b (map moves_of plans.items) trace turns
+    ensures causes { RunCauses (plugged_by B.lists B.customs plugs.items customs.items) result.status (of_outcome result) b
+        (map moves_of plans.items) trace turns
         (F.state folder.old) (F.state folder.new) }
     ensures sinks { SinksOf result.status (of_outcome result) trace }
     ensures detail { result.detail.items ≡ detail_of result.status }
@@ -318,7 +319,8 @@ fn run_checked<R: Threads + Wait + Sync, F: Folder, L: Logic + Send, B: PlugBook
     ensures told { IsTrue (F.state folder.old).tells → EndedChecked (plugged_by B.lists B.customs plugs.items customs.items) result.status (of_outcome result)
         (checked_blueprint checked) trace replay turns (F.state folder.old) (F.state folder.new) }
     ensures tells { IsTrue (F.state folder.new).tells → IsTrue (F.state folder.old).tells }
-    ensures causes { CausesChecked (plugged_by B.lists B.customs plugs.items customs.items) result.status (of_outcome result) (checked_blueprint checked) trace replay turns
+    ensures causes { CausesChecked (plugged_by B.lists B.customs plugs.items customs.items) result.status (of_outcome result)
+        (checked_blueprint checked) trace replay turns
         (F.state folder.old)
         (F.state folder.new) }
     ensures sinks { SinksOf result.status (of_outcome result) trace }
@@ -366,7 +368,8 @@ fn run_parsed<R: Threads + Wait + Sync, F: Folder, L: Logic + Send, B: PlugBook 
         (of_outcome result) b taken.now trace replay turns
         (F.state folder.old) (F.state folder.new) }
     ensures tells { IsTrue (F.state folder.new).tells → IsTrue (F.state folder.old).tells }
-    ensures causes { CausesParsed (plugged_by B.lists B.customs plugs.items customs.items) result.status (of_outcome result) b taken.now trace replay turns (F.state folder.old)
+    ensures causes { CausesParsed (plugged_by B.lists B.customs plugs.items customs.items) result.status (of_outcome result) b taken.now trace replay turns
+        (F.state folder.old)
         (F.state folder.new) }
     ensures sinks { SinksOf result.status (of_outcome result) trace }
     ensures detail { result.detail.items ≡ detail_of result.status }
@@ -422,7 +425,8 @@ fn run_said<R: Threads + Wait + Sync, F: Folder, L: Logic + Send, B: PlugBook + 
     ensures told { IsTrue (F.state folder.old).tells → EndedSaid (plugged_by B.lists B.customs plugs.items customs.items) result.status
         (of_outcome result) (plain_text text) taken.now trace replay turns (F.state folder.old) (F.state folder.new) }
     ensures tells { IsTrue (F.state folder.new).tells → IsTrue (F.state folder.old).tells }
-    ensures causes { CausesSaid (plugged_by B.lists B.customs plugs.items customs.items) result.status (of_outcome result) (plain_text text) taken.now trace replay turns
+    ensures causes { CausesSaid (plugged_by B.lists B.customs plugs.items customs.items) result.status (of_outcome result)
+        (plain_text text) taken.now trace replay turns
         (F.state folder.old)
         (F.state folder.new) }
     ensures sinks { SinksOf result.status (of_outcome result) trace }
@@ -465,7 +469,8 @@ fn run_text<R: Threads + Wait + Sync, F: Folder, L: Logic + Send, B: PlugBook + 
     ensures told { IsTrue (F.state folder.old).tells → EndedText (plugged_by B.lists B.customs plugs.items customs.items) result.status
         (of_outcome result) text.now taken.now trace replay turns (F.state folder.old) (F.state folder.new) }
     ensures tells { IsTrue (F.state folder.new).tells → IsTrue (F.state folder.old).tells }
-    ensures causes { CausesText (plugged_by B.lists B.customs plugs.items customs.items) result.status (of_outcome result) text.now taken.now trace replay turns (F.state folder.old)
+    ensures causes { CausesText (plugged_by B.lists B.customs plugs.items customs.items) result.status (of_outcome result) text.now taken.now trace replay turns
+        (F.state folder.old)
         (F.state folder.new) }
     ensures sinks { SinksOf result.status (of_outcome result) trace }
     ensures detail { result.detail.items ≡ detail_of result.status }

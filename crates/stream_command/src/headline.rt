@@ -47,10 +47,13 @@ pub fn each_end_tells_its_file()
 /// The file of a sink to which no way leads from a custom stage that tells no list is told so by every world of the input files and the
 /// moves, whatever that has of what those stages gave.
 pub fn files_are_apart_from_customs()
-    ensures ended { (p : Plugged) (a : Answer) (c : AskedRun) (old new : FolderState) → (e : EndedFiles p a c old new) → (w : World) (x : ℕ → ℕ → Outlook) (k : ℕ) (n : Node)
-        (file : List ℕ) → IsWorldOf p.book e.blueprint.nodes.items e.drawn w → AnswersSink a e.blueprint k n file Ended → HasLists (graph_of e.blueprint) w.customs k
+    ensures ended { (p : Plugged) (a : Answer) (c : AskedRun) (old new : FolderState) → (e : EndedFiles p a c old new)
+        → (w : World) (x : ℕ → ℕ → Outlook) (k : ℕ) (n : Node)
+        (file : List ℕ) → IsWorldOf p.book e.blueprint.nodes.items e.drawn w → AnswersSink a e.blueprint k n file Ended
+        → HasLists (graph_of e.blueprint) w.customs k
         → HoldsWhole new file (sink_outlook (graph_of e.blueprint) (record w { given = x }) k (graph_node e.blueprint.wires.items n)) }
-    ensures failed { (p : Plugged) (a : Answer) (c : AskedRun) (old new : FolderState) → (e : EndedFiles p a c old new) → (w : World) (x : ℕ → ℕ → Outlook) (k : ℕ) (n : Node)
+    ensures failed { (p : Plugged) (a : Answer) (c : AskedRun) (old new : FolderState) → (e : EndedFiles p a c old new)
+        → (w : World) (x : ℕ → ℕ → Outlook) (k : ℕ) (n : Node)
         (file : List ℕ) (cause : Cause) → IsWorldOf p.book e.blueprint.nodes.items e.drawn w → AnswersSink a e.blueprint k n file (Failed cause)
         → HasLists (graph_of e.blueprint) w.customs k
         → HoldsBetween new file (sink_outlook (graph_of e.blueprint) (record w { given = x }) k (graph_node e.blueprint.wires.items n)) cause }

@@ -50,16 +50,19 @@ pub fn run_streams<R: Threads + Wait + Sync, F: Folder, C: Drain, B: PlugBook + 
     ensures usage { result.status ≢ Status.NoMemory → (result.status ≡ Status.Usage ↔ asked_of words.now ≡ None) }
 
     // What is answered and left, by what the words ask for.
-    ensures answers { AnswersCommand (plugged_by B.lists B.customs plugs.items customs.items) (asked_of words.now) (answer_of result) (F.state folder.old) (F.state folder.new) }
+    ensures answers { AnswersCommand (plugged_by B.lists B.customs plugs.items customs.items) (asked_of words.now) (answer_of result) (F.state folder.old)
+        (F.state folder.new) }
 
     // A valid blueprint and no fault give a run, or memory was wanting.
-    ensures complete { (c : Asked) → asked_of words.now ≡ Some c → IsValidFor (plugged_by B.lists B.customs plugs.items customs.items) c.generated c.file c.trace c.replay
+    ensures complete { (c : Asked) → asked_of words.now ≡ Some c
+        → IsValidFor (plugged_by B.lists B.customs plugs.items customs.items) c.generated c.file c.trace c.replay
         (F.state folder.old)
         (F.state folder.new) → RoseNowhere (F.state folder.old) (F.state folder.new) → RanWithoutFault result.status }
 
     // After a run, and only there, there is a receipt, of the command's workers and as many islands as the file's blueprint has.
     ensures ran { ReceiptsOf (asked_of words.now) (answer_of result) result.ran }
-    ensures islands { IslandsOf (plugged_by B.lists B.customs plugs.items customs.items) (asked_of words.now) result.ran (F.state folder.old) (F.state folder.new) }
+    ensures islands { IslandsOf (plugged_by B.lists B.customs plugs.items customs.items) (asked_of words.now) result.ran (F.state folder.old)
+        (F.state folder.new) }
 
     // Reading the blueprint's file stops after so many bytes.
     ensures reads { (c : Asked) → asked_of words.now ≡ Some c → GrewAtMost ((F.state folder.old).read c.file) text_limit ((F.state folder.new).read c.file) }
@@ -96,16 +99,19 @@ fn run_words<R: Threads + Wait + Sync, F: Folder, C: Drain, L: Logic + Send, B: 
     ensures usage { result.status ≢ Status.NoMemory → (result.status ≡ Status.Usage ↔ asked_of words.now ≡ None) }
 
     // What is answered and left, by what the words ask for.
-    ensures answers { AnswersCommand (plugged_by B.lists B.customs plugs.items customs.items) (asked_of words.now) (answer_of result) (F.state folder.old) (F.state folder.new) }
+    ensures answers { AnswersCommand (plugged_by B.lists B.customs plugs.items customs.items) (asked_of words.now) (answer_of result) (F.state folder.old)
+        (F.state folder.new) }
 
     // A valid blueprint and no fault give a run, or memory was wanting.
-    ensures complete { (c : Asked) → asked_of words.now ≡ Some c → IsValidFor (plugged_by B.lists B.customs plugs.items customs.items) c.generated c.file c.trace c.replay
+    ensures complete { (c : Asked) → asked_of words.now ≡ Some c
+        → IsValidFor (plugged_by B.lists B.customs plugs.items customs.items) c.generated c.file c.trace c.replay
         (F.state folder.old)
         (F.state folder.new) → RoseNowhere (F.state folder.old) (F.state folder.new) → RanWithoutFault result.status }
 
     // After a run, and only there, there is a receipt, of the command's workers and as many islands as the file's blueprint has.
     ensures ran { ReceiptsOf (asked_of words.now) (answer_of result) result.ran }
-    ensures islands { IslandsOf (plugged_by B.lists B.customs plugs.items customs.items) (asked_of words.now) result.ran (F.state folder.old) (F.state folder.new) }
+    ensures islands { IslandsOf (plugged_by B.lists B.customs plugs.items customs.items) (asked_of words.now) result.ran (F.state folder.old)
+        (F.state folder.new) }
 
     // Reading the blueprint's file stops after so many bytes.
     ensures reads { (c : Asked) → asked_of words.now ≡ Some c → GrewAtMost ((F.state folder.old).read c.file) text_limit ((F.state folder.new).read c.file) }
@@ -144,9 +150,11 @@ fn run_command<R: Threads + Wait + Sync, F: Folder, C: Drain, L: Logic + Send, B
     requires untold { All (TellsNone B.customs) customs.items }
     requires workers { (0 < command.now.workers) × (command.now.workers ≤ 64) }
     requires turns { command.now.turns ≤ MOST_COUNT }
-    ensures answers { AnswersCommand (plugged_by B.lists B.customs plugs.items customs.items) (Some (asked command.now)) (answer_of result) (F.state folder.old) (F.state folder.new) }
+    ensures answers { AnswersCommand (plugged_by B.lists B.customs plugs.items customs.items) (Some (asked command.now)) (answer_of result) (F.state folder.old)
+        (F.state folder.new) }
     ensures ran { ReceiptsOf (Some (asked command.now)) (answer_of result) result.ran }
-    ensures islands { IslandsOf (plugged_by B.lists B.customs plugs.items customs.items) (Some (asked command.now)) result.ran (F.state folder.old) (F.state folder.new) }
+    ensures islands { IslandsOf (plugged_by B.lists B.customs plugs.items customs.items) (Some (asked command.now)) result.ran (F.state folder.old)
+        (F.state folder.new) }
     ensures handles { F.handles folder.new ≡ F.handles folder.old }
     ensures console { (Puts (C.state console.old) (C.state console.new) (report_of (answer_of result)) × (result.code ≡ code_of result.status))
         ⊎ (PutsPart (C.state console.old) (C.state console.new) (report_of (answer_of result)) × (result.code ≡ 8)) }
@@ -182,7 +190,8 @@ fn run_command_file<
     requires untold { All (TellsNone B.customs) customs.items }
     requires workers { (0 < command.now.workers) × (command.now.workers ≤ 64) }
     requires turns { command.now.turns ≤ MOST_COUNT }
-    ensures runs { RunsFile (plugged_by B.lists B.customs plugs.items customs.items) command.now.file command.now.trace command.now.replay command.now.turns (answer_of result)
+    ensures runs { RunsFile (plugged_by B.lists B.customs plugs.items customs.items) command.now.file command.now.trace command.now.replay command.now.turns
+        (answer_of result)
         (F.state folder.old)
         (F.state folder.new) }
     ensures ran { Receipts result.status command.now.workers result.used result.ran }
@@ -230,9 +239,11 @@ fn run_generated<
     requires untold { All (TellsNone B.customs) customs.items }
     requires workers { (0 < command.now.workers) × (command.now.workers ≤ 64) }
     requires turns { command.now.turns ≤ MOST_COUNT }
-    ensures answers { AnswersTo (plugged_by B.lists B.customs plugs.items customs.items) (Some n) (asked command.now) (answer_of result) (F.state folder.old) (F.state folder.new) }
+    ensures answers { AnswersTo (plugged_by B.lists B.customs plugs.items customs.items) (Some n) (asked command.now) (answer_of result) (F.state folder.old)
+        (F.state folder.new) }
     ensures ran { ReceiptsFor (Some n) (answer_of result) command.now.workers result.ran }
-    ensures islands { IslandsFor (plugged_by B.lists B.customs plugs.items customs.items) (Some n) command.now.file command.now.trace command.now.replay result.ran (F.state folder.old)
+    ensures islands { IslandsFor (plugged_by B.lists B.customs plugs.items customs.items)
+        (Some n) command.now.file command.now.trace command.now.replay result.ran (F.state folder.old)
         (F.state folder.new) }
     ensures handles { F.handles folder.new ≡ F.handles folder.old }
     ensures console { (Puts (C.state console.old) (C.state console.new) (report_of (answer_of result)) × (result.code ≡ code_of result.status))

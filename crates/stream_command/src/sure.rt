@@ -44,7 +44,8 @@ pub fn run_surely<R: Threads + Wait + Sync, C: Drain, L: Logic + Send, B: PlugBo
         (⟦<SureFolder as Folder>⟧.state folder.old)
         (⟦<SureFolder as Folder>⟧.state folder.new) }
     ensures runs { IsTrue (⟦<SureFolder as Folder>⟧.state folder.old).tells
-        → IsValid (plugged_by B.lists B.customs plugs.items customs.items) file.now (option_copied trace.entry) (option_copied replay.entry)
+        → IsValid (plugged_by B.lists B.customs plugs.items customs.items) file.now
+        (option_copied trace.entry) (option_copied replay.entry)
         (⟦<SureFolder as Folder>⟧.state folder.old) → RanWithoutFault result.status }
 {
     run_file::<R, SureFolder, C, L, B>(

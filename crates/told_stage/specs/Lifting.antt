@@ -61,7 +61,12 @@ replied_asks p r = elim r.verdict as (λ _. List Ask) [ go ↦ spread_asks (p ++
 
 -- so it stands then
 abbrev pub replied_to : Standing → Reply → Standing
-replied_to s r = elim r.verdict as (λ _. Standing) [ go ↦ spread_to (s.pending ++ r.gave) | finish ↦ leaving_to (s.pending ++ r.gave) | fail n ↦ record s { pending = [] } ]
+replied_to s r = elim r.verdict as (λ _. Standing) [
+  | go ↦ spread_to (s.pending ++ r.gave)
+  | finish ↦ leaving_to
+      (s.pending ++ r.gave)
+  | fail n ↦ record s { pending = [] }
+]
 
 -- the end of its input came to this, where nothing is held
 abbrev pub closing_asks : Course → Reply → List Ask

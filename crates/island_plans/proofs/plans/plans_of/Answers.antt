@@ -15,7 +15,7 @@ use Rattle.blue_check.specs.Plan.{lanes_from}
 use Rattle.island_parts.specs.Split.{IsSplit}
 use Rattle.materializer.specs.Fit.{CanRun}
 use Rattle.materializer.specs.Graphs.{graph_chain, around_of}
-use Rattle.materializer.specs.HandedCustoms.{handed_heads, HasGuests, AreGuests, HaveUsedPorts}
+use Rattle.materializer.specs.HandedCustoms.{handed_heads, HasGuests, AreGuests, HaveUsedPorts, types_by_heads}
 use Rattle.materializer.specs.Board.{IsBoard, AreAtSwitches, AreHanded, seat_of_end}
 use Rattle.materializer.specs.Planned.{ArePlanned, places_from, planned_seat}
 use Rattle.materializer.proofs.Fitting.{few_link_ports, all_sized}
@@ -82,7 +82,7 @@ pub hand_out-requires-clause-has : goal.hand_out-requires-clause-has
 hand_out-requires-clause-has g c = (c.args.b.wires.items, subst (λ (l : List Node). HasGuests (handed_heads c.args.plugs.items c.args.customs.items) c.args.b.wires.items l) (sym c.deref-15.ensures.value) c.requires.has)
 
 pub seat_all-requires-clause-guests : goal.seat_all-requires-clause-guests
-seat_all-requires-clause-guests g c = subst (λ (l : List Node). AreGuests g.L.Logic.gives g.B.PlugBook.lists (map (λ (n : Node). n.kind) l) c.in_ok-handed.handed.items) c.deref-15.ensures.value c.in_ok-handed.ensures
+seat_all-requires-clause-guests g c = subst (λ (l : List Node). AreGuests g.L.Logic.gives g.B.PlugBook.lists (map (λ (n : Node). n.kind) l) c.in_ok-handed.handed.items) c.deref-15.ensures.value c.in_ok-handed.ensures.guests
 
 pub seat_all-requires-clause-rooms : goal.seat_all-requires-clause-rooms
 seat_all-requires-clause-rooms g c =
@@ -149,3 +149,7 @@ returns-clause-plans g c =
       empty = search rules;
       room_for_places = omega (arith, exact, places_all, c.len-2.ensures, c.len-3.ensures, c.in_ok-lanes.lanes.ok.0);
     }
+
+pub returns-clause-types : goal.returns-clause-types
+returns-clause-types g c =
+    c.in_ok-seats.ensures.types ∙ c.in_ok-handed.ensures.types ∙ ap (λ (l : List Node). types_by_heads (handed_heads c.args.plugs.items c.args.customs.items) l) c.deref-15.ensures.value

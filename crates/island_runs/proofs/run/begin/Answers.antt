@@ -89,4 +89,5 @@ returns-clause-begun g c =
         rooms = e.filled.0.rooms;
       },
       e.filled.1,
+      e.filled.2,
     )

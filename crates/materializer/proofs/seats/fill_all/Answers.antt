@@ -1,8 +1,8 @@
 -- The goals of `seats::fill_all` that the search leaves.
 use Rattle.std.proofs.Common.{◌≡◌, ◌∙◌, List, ◌++◌, length, map, vec_len, refl, ap, sym, subst, rules, arith}
 use Rattle.std.specs.Vec.Iter.{into_iter_items, into_iter_len}
-use Rattle.materializer.specs.Planned.{ArePlanned, planned_plan, planned_seat, planned_room, reads_in, writes_in}
-use Rattle.materializer.specs.Seats.{place_plan, place_seat, place_room}
+use Rattle.materializer.specs.Planned.{ArePlanned, planned_plan, planned_seat, planned_room, planned_types, reads_in, writes_in}
+use Rattle.materializer.specs.Seats.{place_plan, place_seat, place_room, place_types}
 use Rattle.materializer.proofs.Switches.{map_next, map_end}
 use Rattle.materializer.specs.declared.seats.Seat.{Seat}
 use Rattle.interpreter.proofs.Tables.{none_left, len_next}
@@ -28,6 +28,7 @@ loop-seat-init g c =
       ap (λ l. map place_seat l ++ map planned_seat (into_iter_items r)) c.requires.empty ∙ ap (map planned_seat) all,
       ap (λ l. map place_plan l ++ map planned_plan (into_iter_items r)) c.requires.empty ∙ ap (map planned_plan) all,
       ap (λ l. map place_room l ++ map planned_room (into_iter_items r)) c.requires.empty ∙ ap (map planned_room) all,
+      ap (λ l. map place_types l ++ map planned_types (into_iter_items r)) c.requires.empty ∙ ap (map planned_types) all,
     )
 
 pub fill-requires-clause-source : goal.fill-requires-clause-source
@@ -52,6 +53,7 @@ loop-seat-preserved g c =
       map_next place_seat planned_seat _ _ _ _ _ _ _ next.0 c.push_reserved.ensures.items c.fill.ensures.seat kept.9,
       map_next place_plan planned_plan _ _ _ _ _ _ _ next.0 c.push_reserved.ensures.items c.fill.ensures.plan kept.10,
       map_next place_room planned_room _ _ _ _ _ _ _ next.0 c.push_reserved.ensures.items c.fill.ensures.room kept.11,
+      map_next place_types planned_types _ _ _ _ _ _ _ next.0 c.push_reserved.ensures.items c.fill.ensures.types kept.12,
     )
 
 pub returns-clause-seats : goal.returns-clause-seats
@@ -74,3 +76,6 @@ returns-clause-plans g c = map_end place_plan planned_plan _ _ _ (none_left _ _ 
 
 pub returns-clause-rooms : goal.returns-clause-rooms
 returns-clause-rooms g c = map_end place_room planned_room _ _ _ (none_left _ _ c.in-None.ensures.steps.0 c.loop-seat.invariant.2) c.loop-seat.invariant.11
+
+pub returns-clause-types : goal.returns-clause-types
+returns-clause-types g c = map_end place_types planned_types _ _ _ (none_left _ _ c.in-None.ensures.steps.0 c.loop-seat.invariant.2) c.loop-seat.invariant.12

@@ -3,8 +3,8 @@ use Rattle.std.proofs.Common.{◌≡◌, ◌+◌, ◌≤◌, List, ◌++◌, len
 use Rattle.std.specs.Vec.Iter.{into_iter_items, into_iter_len}
 use Rattle.stream_model.specs.declared.blueprint.Node.{Node}
 use Rattle.materializer.specs.Graphs.{Around}
-use Rattle.materializer.specs.Planned.{ArePlanned, planned_plan, planned_seat, planned_room, reads_in, writes_in}
-use Rattle.materializer.specs.Seats.{place_plan, place_seat, place_room}
+use Rattle.materializer.specs.Planned.{ArePlanned, planned_plan, planned_seat, planned_room, planned_types, reads_in, writes_in}
+use Rattle.materializer.specs.Seats.{place_plan, place_seat, place_room, place_types}
 use Rattle.materializer.proofs.SeatLoops.{FillsRest}
 use Rattle.materializer.proofs.seats.fill_all.Given as goal
 
@@ -23,3 +23,4 @@ invariant-loop-seat g l =
     × (map place_seat l.places.items ++ map planned_seat (into_iter_items l.seat-iterator) ≡ map planned_seat l.fn.seats.items)
     × (map place_plan l.places.items ++ map planned_plan (into_iter_items l.seat-iterator) ≡ map planned_plan l.fn.seats.items)
     × (map place_room l.places.items ++ map planned_room (into_iter_items l.seat-iterator) ≡ map planned_room l.fn.seats.items)
+    × (map place_types l.places.items ++ map planned_types (into_iter_items l.seat-iterator) ≡ map planned_types l.fn.seats.items)

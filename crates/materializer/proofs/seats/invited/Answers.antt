@@ -1,9 +1,10 @@
 -- The goals of `seats::invited` that the search leaves.
-use Rattle.std.proofs.Common.{◌∙◌, [], Some, subst}
+use Rattle.std.proofs.Common.{◌∙◌, [], Some, ap, sym, subst}
 use Rattle.blue_names.specs.CustomPorts.{custom_of}
 use Rattle.blue_names.specs.Names.{plug_of}
-use Rattle.materializer.specs.HandedCustoms.{IsGuest, HasPorts}
+use Rattle.materializer.specs.HandedCustoms.{IsGuest, HasPorts, guest_types}
 use Rattle.materializer.specs.Ports.{used_ports}
+use Rattle.materializer.specs.declared.guest.Guest.{Guest}
 use Rattle.materializer.proofs.Guests.{plug_is, custom_is}
 use Rattle.materializer.proofs.Leading.{free_plan}
 use Rattle.materializer.proofs.seats.invited.Goals as goal
@@ -37,3 +38,9 @@ pub returns-in_ok-planned-in-Custom-clause-free : goal.returns-in_ok-planned-in-
 returns-in_ok-planned-in-Custom-clause-free g c =
     let handed = subst (λ e. IsGuest g.L.Logic.gives g.B.PlugBook.lists (plug_of c.args.kind) (custom_of c.args.kind) (Some e)) c.in-Custom.is c.requires in
     λ chains node is same. c.in_ok-planned.ensures.free chains node (is ∙ (custom_is g.L.Logic.gives g.B.PlugBook.lists c.args.kind c.in-Custom.custom handed).0)
+
+pub returns-in-Plug-clause-types : goal.returns-in-Plug-clause-types
+returns-in-Plug-clause-types g c = c.plugged.ensures.types ∙ ap (λ (e : Guest _ _). guest_types (Some e)) (sym c.in-Plug.is)
+
+pub returns-in_ok-planned-in-Custom-clause-types : goal.returns-in_ok-planned-in-Custom-clause-types
+returns-in_ok-planned-in-Custom-clause-types g c = c.in_ok-planned.ensures.types ∙ ap (λ (e : Guest _ _). guest_types (Some e)) (sym c.in-Custom.is)

@@ -2,7 +2,7 @@
 use Rattle.std.proofs.Common.{◌∙◌, ◌≡◌, [], Some, map, refl, subst, sym, ap, arith}
 use Rattle.materializer.specs.Choosers.{PlanFits, moves_of}
 use Rattle.materializer.specs.Graphs.{graph_chain}
-use Rattle.materializer.proofs.Leading.{led_may, followed_plan, follows_plan, seat_stays}
+use Rattle.materializer.proofs.Leading.{led_may, followed_plan, follows_plan, seat_stays, types_stay}
 use Rattle.materializer.proofs.seats.plan.Goals as goal
 
 pub led-requires : goal.led-requires
@@ -19,3 +19,6 @@ returns-clause-seat g c = seat_stays (moves_of c.args.moves) c.in_ok-planned.pla
 
 pub returns-clause-plan : goal.returns-clause-plan
 returns-clause-plan g c = follows_plan (record { chains = map graph_chain c.args.chains.now; wires = [] }) c.args.k c.args.node c.in_ok-planned.planned c.led.result (moves_of c.args.moves) (c.in_ok-planned.ensures.free c.args.node refl refl) c.led.ensures
+
+pub returns-clause-types : goal.returns-clause-types
+returns-clause-types g c = types_stay (moves_of c.args.moves) c.in_ok-planned.planned c.led.result c.led.ensures ∙ c.in_ok-planned.ensures.types

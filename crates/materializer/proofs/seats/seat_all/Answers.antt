@@ -4,14 +4,14 @@ use Rattle.std.specs.List.{list_all}
 use Rattle.std.specs.Vec.Iter.{into_iter_items, into_iter_len}
 use Rattle.interpreter.proofs.Tables.{none_left, len_next}
 use Rattle.blue_names.specs.Sizes.{sizes_fit}
-use Rattle.materializer.specs.HandedCustoms.{AreGuests, HaveUsedPorts}
+use Rattle.materializer.specs.HandedCustoms.{AreGuests, HaveUsedPorts, guest_types}
 use Rattle.materializer.specs.Board.{AreHanded, seat_of_end}
 use Rattle.materializer.specs.Graphs.{graph_chain}
 use Rattle.materializer.specs.Choosers.{moves_of, PlansFit}
-use Rattle.materializer.specs.Planned.{planned_plan, planned_seat, planned_room}
+use Rattle.materializer.specs.Planned.{planned_plan, planned_seat, planned_room, planned_types}
 use Rattle.materializer.proofs.Leading.{moves_left, moves_next, no_moves_left}
 use Rattle.materializer.proofs.Rooms.{room_next, count_next, rooms_left, rooms_end}
-use Rattle.materializer.proofs.Guests.{guests_left, guest_next, ports_next}
+use Rattle.materializer.proofs.Guests.{guests_left, guest_next, no_guests, ports_next}
 use Rattle.materializer.proofs.SeatLoops.{all_next, planned_start, planned_next, planned_end}
 use Rattle.materializer.proofs.Switches.{kinds_of, ends_left, end_next, no_ends, map_next, map_end}
 use Rattle.materializer.proofs.seats.seat_all.Goals as goal
@@ -43,6 +43,7 @@ loop-node-init g c =
       ap (λ l. map planned_room l ++ into_iter_items c.into_iter-unroomed.result) c.new-seats.ensures.items ∙ c.into_iter-unroomed.ensures.rest,
       omega (arith, ap length c.new-seats.ensures.items, ap length all),
       search rules,
+      ap (λ l. map planned_types l ++ map guest_types (into_iter_items c.into_iter-unhanded_guests.result)) c.new-seats.ensures.items ∙ ap (map guest_types) c.into_iter-unhanded_guests.ensures.rest,
     )
 
 pub loop-node-preserved : goal.loop-node-preserved
@@ -70,6 +71,7 @@ loop-node-preserved g c =
       room_next planned_room _ _ _ _ _ _ _ c.take_next-room.ensures.items c.in_ok-push.ensures.items c.in_ok-plan.ensures.room kept.13,
       count_next planned_room _ _ _ _ _ _ _ next.0 c.in_ok-push.ensures.items kept.14,
       len_next _ _ _ _ _ c.take_next-room.ensures.items (sym c.take_next-room.ensures.len) kept.15,
+      map_next planned_types guest_types _ _ _ _ _ _ _ c.take_next-guest.ensures.items c.in_ok-push.ensures.items c.in_ok-plan.ensures.types kept.16,
     )
 
 pub take_next-end-requires : goal.take_next-end-requires
@@ -112,3 +114,8 @@ pub returns-clause-rooms : goal.returns-clause-rooms
 returns-clause-rooms g c =
     let kept = c.loop-node.invariant in
     rooms_end planned_room _ _ _ _ _ (none_left _ _ c.in-None.ensures.steps.0 kept.2) kept.13 kept.14 (sym c.args.rooms.ok.0 ∙ c.requires.rooms ∙ c.args.nodes.ok.0)
+
+pub returns-clause-types : goal.returns-clause-types
+returns-clause-types g c =
+    let kept = c.loop-node.invariant in
+    map_end planned_types guest_types _ _ _ (no_guests g.L.Logic.gives g.B.PlugBook.lists _ _ (none_left _ _ c.in-None.ensures.steps.0 kept.2) kept.8) kept.16

@@ -4,9 +4,9 @@ use Rattle.std.specs.List.{list_all}
 use Rattle.std.specs.Vec.Iter.{into_iter_items, into_iter_len}
 use Rattle.blue_names.specs.Sizes.{sizes_fit}
 use Rattle.materializer.specs.Graphs.{graph_chain}
-use Rattle.materializer.specs.Planned.{ArePlanned, planned_plan, planned_seat, planned_room}
+use Rattle.materializer.specs.Planned.{ArePlanned, planned_plan, planned_seat, planned_room, planned_types}
 use Rattle.materializer.specs.Choosers.{moves_of, PlansFit}
-use Rattle.materializer.specs.HandedCustoms.{AreGuests, HaveUsedPorts}
+use Rattle.materializer.specs.HandedCustoms.{AreGuests, HaveUsedPorts, guest_types}
 use Rattle.stream_model.specs.declared.blueprint.WireDecl.{WireDecl}
 use Rattle.materializer.specs.Board.{AreHanded, seat_of_end}
 use Rattle.materializer.proofs.seats.seat_all.Given as goal
@@ -33,3 +33,4 @@ invariant-loop-node g l =
     × (map planned_room l.seats.items ++ into_iter_items l.unroomed ≡ l.fn.rooms.items)
     × (length l.seats.items + length (into_iter_items l.node-iterator) ≡ length l.fn.nodes.items)
     × (into_iter_len l.unroomed ≡ length (into_iter_items l.unroomed))
+    × (map planned_types l.seats.items ++ map guest_types (into_iter_items l.unhanded_guests) ≡ map guest_types l.fn.guests.items)

@@ -1,14 +1,16 @@
 -- The goals of `seats::stand` that the search leaves.
-use Rattle.std.proofs.Common.{◌∙◌, Option, [], map, ap, sym, subst}
+use Rattle.std.proofs.Common.{◌∙◌, Option, [], map, refl, ap, sym, subst}
 use Rattle.blue_names.specs.CustomPorts.{custom_of}
 use Rattle.blue_names.specs.Names.{plug_of}
 use Rattle.stage_switch.specs.declared.end.SwitchEnd.{SwitchEnd}
 use Rattle.materializer.specs.Board.{seat_of_end}
-use Rattle.materializer.specs.HandedCustoms.{IsGuest, HasPorts}
+use Rattle.materializer.specs.HandedCustoms.{IsGuest, HasPorts, guest_types}
 use Rattle.materializer.specs.Ports.{used_ports}
 use Rattle.materializer.specs.Graphs.{graph_chain}
+use Rattle.materializer.specs.declared.guest.Guest.{Guest}
+use Rattle.stream_model.specs.declared.blueprint.Node.{Node}
 use Rattle.materializer.proofs.Guests.{no_guest, guest_sits_nowhere}
-use Rattle.materializer.proofs.Leading.{free_plan}
+use Rattle.materializer.proofs.Leading.{free_plan, no_types}
 use Rattle.materializer.proofs.seats.stand.Goals as goal
 
 pub invited-requires : goal.invited-requires
@@ -37,3 +39,14 @@ returns-in_ok-planned-in-Some-clause-free g c = c.in_ok-planned.ensures.free (ma
 pub returns-in_ok-planned-in-None-clause-free : goal.returns-in_ok-planned-in-None-clause-free
 returns-in_ok-planned-in-None-clause-free g c =
     λ node is same. free_plan (record { chains = map graph_chain c.args.chains.now; wires = [] }) c.args.k node _ (c.in_ok-planned.ensures.planned [] node is same)
+
+pub returns-in_ok-planned-in-Some-clause-types : goal.returns-in_ok-planned-in-Some-clause-types
+returns-in_ok-planned-in-Some-clause-types g c = c.in_ok-planned.ensures.types ∙ ap (λ (e : Option (Guest _ _)). guest_types e) (sym c.in-Some.is)
+
+pub returns-in_ok-planned-in-None-clause-types : goal.returns-in_ok-planned-in-None-clause-types
+returns-in_ok-planned-in-None-clause-types g c =
+    let node : Node = record { name = []; kind = c.args.kind; decider = c.args.decider } in
+    let around = record { chains = map graph_chain c.args.chains.now; wires = [] } in
+    let none = (no_guest g.L.Logic.gives g.B.PlugBook.lists c.args.kind (subst (λ e. IsGuest g.L.Logic.gives g.B.PlugBook.lists (plug_of c.args.kind) (custom_of c.args.kind) e) c.in-None.is c.requires.guest)).1 in
+    no_types around c.args.k node _ (free_plan around c.args.k node _ (c.in_ok-planned.ensures.planned [] node refl refl)) none
+    ∙ ap (λ (e : Option (Guest _ _)). guest_types e) (sym c.in-None.is)

@@ -7,7 +7,7 @@ use Rattle.run_blueprint.proofs.Traces.{traces_of, text_written, name_opened, na
 use Rattle.run_blueprint.proofs.run.close.Goals as goal
 
 pub returns-clause-runs : goal.returns-clause-runs
-returns-clause-runs g c = λ old b plans trace budget ss ds can separate named opens opened leaves led.
+returns-clause-runs g c = λ old b plans trace budget ss ds can separate named opens opened leaves led heads typed.
     let wrote = c.write_trace-drain.ensures.writes in
     let shut = c.close_all.ensures.closes in
     let closed = c.close_trace.ensures.closes in
@@ -23,6 +23,7 @@ returns-clause-runs g c = λ old b plans trace budget ss ds can separate named o
       types = c.every_wire_carries_its_type.ensures.run;
       texts = c.every_node_gives_of_what_came.ensures.lines;
       customs = c.every_node_gives_of_what_came.ensures.customs;
+      typed = c.every_node_gives_of_what_came.ensures.typed;
       gives = c.every_node_gives_of_what_came.ensures.others;
       ranked = c.fit_blueprints_are_whole.ensures.ranked;
       agree = c.every_wire_agrees.ensures;
@@ -46,7 +47,7 @@ returns-clause-runs g c = λ old b plans trace budget ss ds can separate named o
     })
     b can ss ds budget _ leaves plans led old _ trace separate opens _
     (shuts_of _ _ _ (option_to_list trace) _ _ _ shut closed (name_written (option_to_list trace) _ _ _ _ wrote (name_opened _ trace _ opened)))
-    _ _
+    heads typed _ _
     (traces_of old _ _ _ b _ _ _ trace _ _ _ opened opens.wfaults (text_written b _ _ _ _ _ _ named c.deref.ensures.value wrote) shut closed)
 
 pub returns-clause-all : goal.returns-clause-all
@@ -63,6 +64,7 @@ returns-clause-all g c = λ old b trace budget ss ds can separate opens opened l
       types = c.every_wire_carries_its_type.ensures.run;
       texts = c.every_node_gives_of_what_came.ensures.lines;
       customs = c.every_node_gives_of_what_came.ensures.customs;
+      typed = c.every_node_gives_of_what_came.ensures.typed;
       gives = c.every_node_gives_of_what_came.ensures.others;
       ranked = c.fit_blueprints_are_whole.ensures.ranked;
       agree = c.every_wire_agrees.ensures;

@@ -6,7 +6,8 @@ use Rattle.stream_io.specs.Opening.{OpensAll, GivesUp, MissesInput, RefusesOutpu
 use Rattle.stream_io.proofs.Stoppings.{gives_up_first}
 use Rattle.materializer.specs.Choosers.{moves_of}
 use Rattle.materializer.specs.Files.{inputs_of_nodes, outputs_of_nodes}
-use Rattle.materializer.specs.Seats.{place_plan}
+use Rattle.materializer.specs.HandedCustoms.{handed_heads}
+use Rattle.materializer.specs.Seats.{place_plan, place_types}
 use Rattle.island_runs.specs.Leaving.{RunLeaves, LeavesBrokenAs}
 use Rattle.island_runs.specs.Receipt.{IsReceipt}
 use Rattle.run_blueprint.specs.Tracing.{written_files}
@@ -19,8 +20,9 @@ receipt_as : (b : Blueprint) (workers m n : ℕ) (p q : Bool) (r t : Ran) → m 
 receipt_as b workers m n p q r t e f h its = subst (λ (x : ℕ). IsReceipt b workers x p r) (sym e) (subst (λ (x : Bool). IsReceipt b workers n x r) (sym f) (subst (λ (x : Ran). IsReceipt b workers n q x) (sym h) its))
 
 -- what is left of one blueprint, and what its nodes follow, is so of the same one
-with_plan : {T : Type 0} (R : Blueprint → Type 0) (f : (p : Blueprint) → R p → T) (t : T) (x y : Blueprint) → x ≡ y → (l : R x) × (f x l ≡ t) → (l : R y) × (f y l ≡ t)
-with_plan R f t x y e h = subst (λ p. (l : R p) × (f p l ≡ t)) e h
+with_plan : {T U : Type 0} (R : Blueprint → Type 0) (f : (p : Blueprint) → R p → T) (h : (p : Blueprint) → R p → U) (t : T) (u : U) (x y : Blueprint) → x ≡ y
+    → (l : R x) × (f x l ≡ t) × (h x l ≡ u) → (l : R y) × (f y l ≡ t) × (h y l ≡ u)
+with_plan R f h t u x y e both = subst (λ p. (l : R p) × (f p l ≡ t) × (h p l ≡ u)) e both
 
 err_same : {T E : Type 0} (x y : Result T E) (a b : E) → x ≡ Err a → y ≡ Err b → x ≡ y → a ≡ b
 err_same x y a b p q e = cc
@@ -81,8 +83,9 @@ returns-in-Ok-run-clause-ran g c =
     let ds = c.take_last-drain.new.drains.items in
     let drain = c.take_last-drain.result in
     let both = opened_apart g.F.Out.Drain.state old mid c.args.b c.args.trace (map g.F.Inp.Source.state ss) all ds drain _ _ _ c.in-Ok.ensures.inputs c.in-Ok.ensures.outputs c.in-Ok-open_all.ensures.opened c.take_last-drain.ensures.all c.take_last-drain.ensures.wanted c.is_some-wanted.ensures in
-    let leaves = with_plan (λ p. RunLeaves g.row.L.Denot g.row.B.Denot g.F.Inp.Source.state g.F.Out.Drain.state g.B.PlugBook.lists p ss ds c.args.budget c.in-Ok-run.stopped) (λ p l. map place_plan l.moment.places) _ _ _ c.in-Ok-prepare.ensures.blueprint c.in-Ok-run.ensures.leaves in
+    let leaves = with_plan (λ p. RunLeaves g.row.L.Denot g.row.B.Denot g.F.Inp.Source.state g.F.Out.Drain.state g.B.PlugBook.lists p ss ds c.args.budget c.in-Ok-run.stopped) (λ p l. map place_plan l.moment.places) (λ p l. map place_types l.moment.places) _ _ _ _ c.in-Ok-prepare.ensures.blueprint c.in-Ok-run.ensures.leaves in
     c.close.ensures.runs old c.args.b (map moves_of c.args.plans.items) c.args.trace c.args.budget ss ds c.requires.runs c.requires.apart (c.deref.ensures.value ∙ c.in-Ok.ensures.choosers) both.0 both.1 leaves.0 (leaves.1 ∙ c.in-Ok-prepare.ensures.led)
+    (handed_heads c.args.plugs.items c.args.customs.items) (leaves.2 ∙ c.in-Ok-prepare.ensures.types)
 
 pub returns-in-Ok-run-clause-handles : goal.returns-in-Ok-run-clause-handles
 returns-in-Ok-run-clause-handles g c =
@@ -93,7 +96,7 @@ returns-in-Ok-run-clause-handles g c =
     let ds = c.take_last-drain.new.drains.items in
     let drain = c.take_last-drain.result in
     let both = opened_apart g.F.Out.Drain.state old mid c.args.b c.args.trace (map g.F.Inp.Source.state ss) all ds drain _ _ _ c.in-Ok.ensures.inputs c.in-Ok.ensures.outputs c.in-Ok-open_all.ensures.opened c.take_last-drain.ensures.all c.take_last-drain.ensures.wanted c.is_some-wanted.ensures in
-    let leaves = with_plan (λ p. RunLeaves g.row.L.Denot g.row.B.Denot g.F.Inp.Source.state g.F.Out.Drain.state g.B.PlugBook.lists p ss ds c.args.budget c.in-Ok-run.stopped) (λ p l. map place_plan l.moment.places) _ _ _ c.in-Ok-prepare.ensures.blueprint c.in-Ok-run.ensures.leaves in
+    let leaves = with_plan (λ p. RunLeaves g.row.L.Denot g.row.B.Denot g.F.Inp.Source.state g.F.Out.Drain.state g.B.PlugBook.lists p ss ds c.args.budget c.in-Ok-run.stopped) (λ p l. map place_plan l.moment.places) (λ p l. map place_types l.moment.places) _ _ _ _ c.in-Ok-prepare.ensures.blueprint c.in-Ok-run.ensures.leaves in
     none_open ss all ds drain _ _ _ _ c.in-Ok-open_all.ensures.handles c.take_last-drain.ensures.all (c.close.ensures.all old c.args.b c.args.trace c.args.budget ss ds c.requires.runs c.requires.apart both.0 both.1 leaves.0) c.close.ensures.handles
 
 pub returns-in-Err-Unmade-clause-no_memory : goal.returns-in-Err-Unmade-clause-no_memory

@@ -84,4 +84,5 @@ returns-clause-filled g c =
         each = λ k x at. island_is homes self.count ws b.wires.items ns nodes self.split p.split same self.lanes.items c.deref.result.now c.whole_seats.result.items parts (laws.places nodes cut) p.lanes_are c.deref.ensures.value c.whole_seats.ensures k x (islands.each k x at);
       },
       c.fill_all-nodes.ensures.plans,
+      c.fill_all-nodes.ensures.types,
     )

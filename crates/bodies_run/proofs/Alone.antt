@@ -17,7 +17,7 @@ use Rattle.bodies_run.specs.Leaving.{AreLeft, of_lists}
 use Rattle.bodies_run.proofs.Leaving.{become_many}
 use Rattle.stream_model.specs.Linear.{Book}
 
-module _ {S D L B : Type 0} (sources : S → SourceState) (drains : D → DrainState) (book : Book) (g : Graph) (a : Account (IslandNode S D L B)) (places : List (Seated S D L B)) (nodes : List (IslandNode S D L B)) (left : AreLeft places a nodes) where
+module _ {S D L H B : Type 0} (sources : S → SourceState) (drains : D → DrainState) (book : Book) (g : Graph) (a : Account (IslandNode S D L H B)) (places : List (Seated S D L H B)) (nodes : List (IslandNode S D L H B)) (left : AreLeft places a nodes) where
   pub run_alone : length places ≡ length g.nodes → IsRun sources drains book g a → IsRun sources drains book g (of_lists a left.firsts nodes)
   run_alone many run = record {
     joined = run.joined;

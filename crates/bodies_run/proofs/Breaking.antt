@@ -28,16 +28,16 @@ use Rattle.bodies_run.specs.Leaving.{account_in, AreLeft}
 use Rattle.bodies_run.proofs.Leaving.{are_made, nodes_back, others_back, are_left, kept_many, kept_back}
 use Rattle.stream_model.specs.Linear.{Book}
 
-module _ {S D L B : Type 0} (sources : S → SourceState) (drains : D → DrainState) (book : Book) (begun now : List (Body S D L B)) (broke : WholeOrBroken (BodyKeeps sources drains book) BodyGoes (BodyBreaks sources drains book) begun now) (then : List (Body S D L B))
+module _ {S D L H B : Type 0} (sources : S → SourceState) (drains : D → DrainState) (book : Book) (begun now : List (Body S D L H B)) (broke : WholeOrBroken (BodyKeeps sources drains book) BodyGoes (BodyBreaks sources drains book) begun now) (then : List (Body S D L H B))
     (l : AreLastOf sources drains book begun now then) where
-  pub broken_kept : (homes : List ℕ) (count : ℕ) (b : Blueprint) (last ends broken later : List (IslandNode S D L B)) → AreBroughtBack homes count (blueprint_wires b) (λ k. (net_of then k).nodes) last ends
+  pub broken_kept : (homes : List ℕ) (count : ℕ) (b : Blueprint) (last ends broken later : List (IslandNode S D L H B)) → AreBroughtBack homes count (blueprint_wires b) (λ k. (net_of then k).nodes) last ends
       → AreBroughtBack homes count (blueprint_wires b) (λ k. (net_of now k).nodes) broken later → AllKept (KeepsNode sources drains) last broken
   broken_kept homes count b last ends broken later r s =
       kept_back (KeepsNode sources drains) homes count (blueprint_wires b) (λ (k : ℕ). (net_of then k).nodes) (λ (k : ℕ). (net_of now k).nodes) last ends broken later (last_kept sources drains book begun now broke then l) r s
 
-  module _ (b : Blueprint) (homes : List ℕ) (count : ℕ) (nodes : List (Seated S D L B)) (crossings : List Crossing) (m : AreBodiesOf sources drains book (graph_of b) homes count (blueprint_wires b) nodes crossings begun) where
-    pub broken_back : ((last : List (IslandNode S D L B)) × ((ends : List (IslandNode S D L B)) × AreBroughtBack homes count (blueprint_wires b) (λ k. (net_of then k).nodes) last ends))
-        × ((broken : List (IslandNode S D L B)) × ((ends : List (IslandNode S D L B)) × AreBroughtBack homes count (blueprint_wires b) (λ k. (net_of now k).nodes) broken ends))
+  module _ (b : Blueprint) (homes : List ℕ) (count : ℕ) (nodes : List (Seated S D L H B)) (crossings : List Crossing) (m : AreBodiesOf sources drains book (graph_of b) homes count (blueprint_wires b) nodes crossings begun) where
+    pub broken_back : ((last : List (IslandNode S D L H B)) × ((ends : List (IslandNode S D L H B)) × AreBroughtBack homes count (blueprint_wires b) (λ k. (net_of then k).nodes) last ends))
+        × ((broken : List (IslandNode S D L H B)) × ((ends : List (IslandNode S D L H B)) × AreBroughtBack homes count (blueprint_wires b) (λ k. (net_of now k).nodes) broken ends))
     broken_back =
         let nets = last_nets sources drains book begun now broke then l (graph_of b) homes count (blueprint_wires b) nodes crossings m in (
           nodes_back homes count (blueprint_wires b) nodes m.seated (net_of then) nets,
@@ -46,7 +46,7 @@ module _ {S D L B : Type 0} (sources : S → SourceState) (drains : D → DrainS
         )
 
     module _ (all : ℕ → ℕ) where
-      pub broken_left : (last ends : List (IslandNode S D L B)) → AreBroughtBack homes count (blueprint_wires b) (λ k. (net_of then k).nodes) last ends
+      pub broken_left : (last ends : List (IslandNode S D L H B)) → AreBroughtBack homes count (blueprint_wires b) (λ k. (net_of then k).nodes) last ends
           → AreLeft nodes (account_in homes (blueprint_wires b) then all) last
       broken_left last ends r =
           let w = last_began sources drains book begun now broke then l (graph_of b) homes count (blueprint_wires b) nodes crossings m all in

@@ -49,46 +49,46 @@ module _ {X : Type 0} (R : X → X → X → Type 0) where
       (here.0 ∷ rest.0, (ap suc rest.1.0, with_first x y here.0 xs ys rest.0 here.1 rest.1.1))
 
 -- the nets of bodies, of which each node is kept
-kept_nets : {S D L B : Type 0} (keeps : IslandNode S D L B → IslandNode S D L B → Type 0) (then now : List (Body S D L B)) → length then ≡ length now
-    → ((k : ℕ) (c b : Body S D L B) → slice_get then k ≡ Some c → slice_get now k ≡ Some b → AllKept keeps c.island.net.nodes b.island.net.nodes) → (k : ℕ) → AllKept keeps (net_of then k).nodes (net_of now k).nodes
+kept_nets : {S D L H B : Type 0} (keeps : IslandNode S D L H B → IslandNode S D L H B → Type 0) (then now : List (Body S D L H B)) → length then ≡ length now
+    → ((k : ℕ) (c b : Body S D L H B) → slice_get then k ≡ Some c → slice_get now k ≡ Some b → AllKept keeps c.island.net.nodes b.island.net.nodes) → (k : ℕ) → AllKept keeps (net_of then k).nodes (net_of now k).nodes
 kept_nets keeps [] [] e h k = tt
 kept_nets keeps [] (b ∷ bs) e h k = absurd (omega (arith, e))
 kept_nets keeps (c ∷ cs) [] e h k = absurd (omega (arith, e))
 kept_nets keeps (c ∷ cs) (b ∷ bs) e h zero = h 0 c b refl refl
 kept_nets keeps (c ∷ cs) (b ∷ bs) e h (suc k) = kept_nets keeps cs bs (omega (arith, e)) (λ j x y ex ey. h (suc j) x y ex ey) k
 
-module _ {S D L B : Type 0} where
+module _ {S D L H B : Type 0} where
   -- a body that is whole is at a moment between two events, and one that broke off was
-  last_moment : (sources : S → SourceState) (drains : D → DrainState) (book : Book) (a b : Body S D L B) → ((BodyGoes a b) × (BodyKeeps sources drains book b)) ⊎ (BodyBreaks sources drains book a b) → (c : Body S D L B) × IsLastMoment sources drains book a b c
+  last_moment : (sources : S → SourceState) (drains : D → DrainState) (book : Book) (a b : Body S D L H B) → ((BodyGoes a b) × (BodyKeeps sources drains book b)) ⊎ (BodyBreaks sources drains book a b) → (c : Body S D L H B) × IsLastMoment sources drains book a b c
   last_moment sources drains book a b (inl w) =
       (b, record { goes = w.0.island; settled = w.1.laws.laws; stand = w.1.stands.stand; ins = refl; outs = refl; kept = all_kept (KeepsNode sources drains) b.island.net.nodes })
   last_moment sources drains book a b (inr w) =
       (record b { island = w.last }, record { goes = w.island; settled = w.laws; stand = w.stand; ins = refl; outs = refl; kept = w.kept })
 
   -- and the ends of its lanes are of the same lanes
-  same_lanes : (sources : S → SourceState) (drains : D → DrainState) (book : Book) (a b : Body S D L B) → ((BodyGoes a b) × (BodyKeeps sources drains book b)) ⊎ (BodyBreaks sources drains book a b) → SameLanes a.ins.items b.ins.items a.outs.items b.outs.items
+  same_lanes : (sources : S → SourceState) (drains : D → DrainState) (book : Book) (a b : Body S D L H B) → ((BodyGoes a b) × (BodyKeeps sources drains book b)) ⊎ (BodyBreaks sources drains book a b) → SameLanes a.ins.items b.ins.items a.outs.items b.outs.items
   same_lanes sources drains book a b (inl w) = w.0.lanes
   same_lanes sources drains book a b (inr w) = w.lanes
 
-  module _ (sources : S → SourceState) (drains : D → DrainState) (book : Book) (begun now : List (Body S D L B)) (broke : WholeOrBroken (BodyKeeps sources drains book) BodyGoes (BodyBreaks sources drains book) begun now) where
-    pub last : (then : List (Body S D L B)) × AreLastOf sources drains book begun now then
+  module _ (sources : S → SourceState) (drains : D → DrainState) (book : Book) (begun now : List (Body S D L H B)) (broke : WholeOrBroken (BodyKeeps sources drains book) BodyGoes (BodyBreaks sources drains book) begun now) where
+    pub last : (then : List (Body S D L H B)) × AreLastOf sources drains book begun now then
     last =
         let l = chosen (IsLastMoment sources drains book) begun now broke.count (λ k a b ea eb. last_moment sources drains book a b (broke.each k a b ea eb)) in
         (l.0, record { count = l.1.0; each = l.1.1 })
 
-    module _ (then : List (Body S D L B)) (l : AreLastOf sources drains book begun now then) where
+    module _ (then : List (Body S D L H B)) (l : AreLastOf sources drains book begun now then) where
       many : length then ≡ length begun
       many = l.count ∙ broke.count
 
-      moment : (k : ℕ) (b c : Body S D L B) → slice_get now k ≡ Some b → slice_get then k ≡ Some c → (a : Body S D L B) × IsLastMoment sources drains book a b c
+      moment : (k : ℕ) (b c : Body S D L H B) → slice_get now k ≡ Some b → slice_get then k ≡ Some c → (a : Body S D L H B) × IsLastMoment sources drains book a b c
       moment k b c eb ec =
           let a = get_there begun k (subst (λ (n : ℕ). k < n) broke.count (slice_get_within now k b eb)) in
           (a.0, l.each k a.0 b c a.1 eb ec)
 
-      now_at : (k : ℕ) (c : Body S D L B) → slice_get then k ≡ Some c → (b : Body S D L B) × (slice_get now k ≡ Some b)
+      now_at : (k : ℕ) (c : Body S D L H B) → slice_get then k ≡ Some c → (b : Body S D L H B) × (slice_get now k ≡ Some b)
       now_at k c ec = get_there now k (subst (λ (n : ℕ). k < n) l.count (slice_get_within then k c ec))
 
-      then_goes : (k : ℕ) (a c : Body S D L B) → slice_get begun k ≡ Some a → slice_get then k ≡ Some c → Went a c
+      then_goes : (k : ℕ) (a c : Body S D L H B) → slice_get begun k ≡ Some a → slice_get then k ≡ Some c → Went a c
       then_goes k a c ea ec =
           let b = now_at k c ec in
           let is = l.each k a b.0 c ea b.1 ec in
@@ -96,7 +96,7 @@ module _ {S D L B : Type 0} where
           let outs = subst (λ (v : _). SameLanes a.ins.items b.0.ins.items a.outs.items v.items) (sym is.outs) lanes in
           record { island = is.goes; lanes = subst (λ (v : _). SameLanes a.ins.items v.items a.outs.items c.outs.items) (sym is.ins) outs }
 
-      then_stood : (k : ℕ) (c : Body S D L B) → slice_get then k ≡ Some c → Stood sources drains book c
+      then_stood : (k : ℕ) (c : Body S D L H B) → slice_get then k ≡ Some c → Stood sources drains book c
       then_stood k c ec =
           let b = now_at k c ec in
           let m = moment k b.0 c b.1 ec in
@@ -130,14 +130,14 @@ module _ {S D L B : Type 0} where
       pub last_kept : (k : ℕ) → AllKept (KeepsNode sources drains) (net_of then k).nodes (net_of now k).nodes
       last_kept k = kept_nets (KeepsNode sources drains) then now l.count (λ j c b ec eb. let m = moment j b c eb ec in m.1.kept) k
 
-      module _ (g : Graph) (homes : List ℕ) (count : ℕ) (ws : List Edge) (nodes : List (Seated S D L B)) (crossings : List Crossing) (m : AreBodiesOf sources drains book g homes count ws nodes crossings begun) where
+      module _ (g : Graph) (homes : List ℕ) (count : ℕ) (ws : List Edge) (nodes : List (Seated S D L H B)) (crossings : List Crossing) (m : AreBodiesOf sources drains book g homes count ws nodes crossings begun) where
         pub last_cover : Covers g (net_of then) (seats_by_islands homes ws)
         last_cover = nets_cover sources drains book g homes count ws nodes crossings begun m then many then_goes
 
         pub last_nets : AreNets homes ws nodes count (net_of then)
         last_nets = now_nets sources drains book g homes count ws nodes crossings begun m then many then_goes
 
-        pub last_began : (all : ℕ → ℕ) → (firsts : List (IslandNode S D L B)) × (AllBecome nodes firsts × ((k : ℕ) → k < length g.nodes → (joined_account (net_of then) (seats_by_islands homes ws) all).firsts k ≡ slice_get firsts k))
+        pub last_began : (all : ℕ → ℕ) → (firsts : List (IslandNode S D L H B)) × (AllBecome nodes firsts × ((k : ℕ) → k < length g.nodes → (joined_account (net_of then) (seats_by_islands homes ws) all).firsts k ≡ slice_get firsts k))
         last_began = nets_began sources drains book g homes count ws nodes crossings begun m then many then_goes
 
         pub last_owned : Owned g (net_of then) (seats_by_islands homes ws) count

@@ -54,45 +54,45 @@ finds_up (x ∷ xs) = ap (λ (n : ℕ). found_of x + n) (finds_up xs)
 same_wire : (ws : List Edge) (u w : ℕ) (v z : Edge) → slice_get ws u ≡ Some v → slice_get ws w ≡ Some z → w ≡ u → z ≡ v
 same_wire ws u w v z a b e = some_same z v (sym b ∙ (ap (slice_get ws) e ∙ a))
 
-module _ {S D L B : Type 0} where
+module _ {S D L H B : Type 0} where
   -- what a number read off each net is in all
-  by_nets : (F : Net (IslandNode S D L B) → ℕ) (now : List (Body S D L B)) → add_up (λ (b : Body S D L B). F b.island.net) now ≡ sum_below (λ k. F (net_of now k)) (length now)
+  by_nets : (F : Net (IslandNode S D L H B) → ℕ) (now : List (Body S D L H B)) → add_up (λ (b : Body S D L H B). F b.island.net) now ≡ sum_below (λ k. F (net_of now k)) (length now)
   by_nets F [] = refl
   by_nets F (b ∷ bs) =
-      let rest : add_up (λ (b : Body S D L B). F b.island.net) bs ≡ sum_below (λ k. F (net_of bs k)) (length bs) = by_nets F bs in
+      let rest : add_up (λ (b : Body S D L H B). F b.island.net) bs ≡ sum_below (λ k. F (net_of bs k)) (length bs) = by_nets F bs in
       let first : sum_below (λ k. F (net_of (b ∷ bs) k)) (suc (length bs)) ≡ F b.island.net + sum_below (λ k. F (net_of bs k)) (length bs) = sum_first (λ k. F (net_of (b ∷ bs) k)) (length bs) in
       omega (arith, rest, first)
 
   -- what a body took off its lanes and found at them
-  abbrev pub at_lanes : Body S D L B → ℕ
+  abbrev pub at_lanes : Body S D L H B → ℕ
   at_lanes b = all_taken b.ins.items + all_finds b.outs.items
 
-  pub asks_paid : (sources : S → SourceState) (drains : D → DrainState) (book : Book) (now : List (Body S D L B)) → AllOf (BodyKeeps sources drains book) now
-      → sum_below (λ k. all_asks (net_of now k)) (length now) + add_up at_lanes now ≤ sum_by (λ (b : Body S D L B). b.spent) now
+  pub asks_paid : (sources : S → SourceState) (drains : D → DrainState) (book : Book) (now : List (Body S D L H B)) → AllOf (BodyKeeps sources drains book) now
+      → sum_below (λ k. all_asks (net_of now k)) (length now) + add_up at_lanes now ≤ sum_by (λ (b : Body S D L H B). b.spent) now
   asks_paid sources drains book now keep =
-      let spent = by_sum (λ (b : Body S D L B). b.spent) now in
-      let nets : add_up (λ (b : Body S D L B). all_asks b.island.net) now ≡ sum_below (λ k. all_asks (net_of now k)) (length now) = by_nets all_asks now in
-      let both : add_up (λ (b : Body S D L B). all_asks b.island.net + at_lanes b) now ≡ add_up (λ (b : Body S D L B). all_asks b.island.net) now + add_up at_lanes now = add_both (λ (b : Body S D L B). all_asks b.island.net) at_lanes now in
-      let most : add_up (λ (b : Body S D L B). all_asks b.island.net + at_lanes b) now ≤ add_up (λ (b : Body S D L B). b.spent) now = add_le (λ (b : Body S D L B). all_asks b.island.net + at_lanes b) (λ (b : Body S D L B). b.spent) now (λ k b at.
+      let spent = by_sum (λ (b : Body S D L H B). b.spent) now in
+      let nets : add_up (λ (b : Body S D L H B). all_asks b.island.net) now ≡ sum_below (λ k. all_asks (net_of now k)) (length now) = by_nets all_asks now in
+      let both : add_up (λ (b : Body S D L H B). all_asks b.island.net + at_lanes b) now ≡ add_up (λ (b : Body S D L H B). all_asks b.island.net) now + add_up at_lanes now = add_both (λ (b : Body S D L H B). all_asks b.island.net) at_lanes now in
+      let most : add_up (λ (b : Body S D L H B). all_asks b.island.net + at_lanes b) now ≤ add_up (λ (b : Body S D L H B). b.spent) now = add_le (λ (b : Body S D L H B). all_asks b.island.net + at_lanes b) (λ (b : Body S D L H B). b.spent) now (λ k b at.
       let a = (keep k b at).laws.asks in let u = (keep k b at).charged in omega (arith, a, u)) in
       omega (arith, spent, nets, both, most)
 
-  abbrev took_in : ℕ → Body S D L B → ℕ
+  abbrev took_in : ℕ → Body S D L H B → ℕ
   took_in u b = add_up (took_at u) b.ins.items
 
-  abbrev found_in : ℕ → Body S D L B → ℕ
+  abbrev found_in : ℕ → Body S D L H B → ℕ
   found_in u b = add_up (found_at u) b.outs.items
 
   -- what the ends of wire u cost
-  abbrev pub cost_at : List (Body S D L B) → ℕ → ℕ
+  abbrev pub cost_at : List (Body S D L H B) → ℕ → ℕ
   cost_at now u = add_up (took_in u) now + add_up (found_in u) now
 
-  module _ (sources : S → SourceState) (drains : D → DrainState) (book : Book) (g : Graph) (homes : List ℕ) (count : ℕ) (ws : List Edge) (nodes : List (Seated S D L B)) (seated : AreSeated homes count ws nodes) (same : g.wires ≡ ws) (now : List (Body S D L B)) (keep : AllOf (BodyKeeps sources drains book) now)
+  module _ (sources : S → SourceState) (drains : D → DrainState) (book : Book) (g : Graph) (homes : List ℕ) (count : ℕ) (ws : List Edge) (nodes : List (Seated S D L H B)) (seated : AreSeated homes count ws nodes) (same : g.wires ≡ ws) (now : List (Body S D L H B)) (keep : AllOf (BodyKeeps sources drains book) now)
       (crossings : List Crossing) (l : AreLanes homes ws now crossings) where
     -- ---- all that was spent is spread over the lanes
 
-    ins_over : add_up (λ (b : Body S D L B). all_taken b.ins.items) now ≤ over ws (λ u. add_up (took_in u) now) (length ws)
-    ins_over = over_all ws (λ (b : Body S D L B). all_taken b.ins.items) took_in (length ws) now (λ k b at.
+    ins_over : add_up (λ (b : Body S D L H B). all_taken b.ins.items) now ≤ over ws (λ u. add_up (took_in u) now) (length ws)
+    ins_over = over_all ws (λ (b : Body S D L H B). all_taken b.ins.items) took_in (length ws) now (λ k b at.
         let all : add_up took_of b.ins.items ≤ over ws (λ u. took_in u b) (length ws) =
         over_all ws took_of took_at (length ws) b.ins.items (λ j x here.
         let c = l.ins_are k j b x at here in
@@ -100,8 +100,8 @@ module _ {S D L B : Type 0} where
         let is = taken_up b.ins.items in
         omega (arith, all, is))
 
-    outs_over : add_up (λ (b : Body S D L B). all_finds b.outs.items) now ≤ over ws (λ u. add_up (found_in u) now) (length ws)
-    outs_over = over_all ws (λ (b : Body S D L B). all_finds b.outs.items) found_in (length ws) now (λ k b at.
+    outs_over : add_up (λ (b : Body S D L H B). all_finds b.outs.items) now ≤ over ws (λ u. add_up (found_in u) now) (length ws)
+    outs_over = over_all ws (λ (b : Body S D L H B). all_finds b.outs.items) found_in (length ws) now (λ k b at.
         let all : add_up found_of b.outs.items ≤ over ws (λ u. found_in u b) (length ws) =
         over_all ws found_of found_at (length ws) b.outs.items (λ j x here.
         let c = l.outs_are k j b x at here in
@@ -109,13 +109,13 @@ module _ {S D L B : Type 0} where
         let is = finds_up b.outs.items in
         omega (arith, all, is))
 
-    pub spent_over : sum_by (λ (b : Body S D L B). b.spent) now ≤ sum_below (λ k. total_cost (net_of now k)) (length now) + over_lanes g (cost_at now)
+    pub spent_over : sum_by (λ (b : Body S D L H B). b.spent) now ≤ sum_below (λ k. total_cost (net_of now k)) (length now) + over_lanes g (cost_at now)
     spent_over =
-        let spent = by_sum (λ (b : Body S D L B). b.spent) now in
-        let most : add_up (λ (b : Body S D L B). b.spent) now ≤ add_up cost_of now = add_le (λ (b : Body S D L B). b.spent) cost_of now (λ k b at. (keep k b at).paid) in
-        let one : add_up cost_of now ≡ add_up (λ (b : Body S D L B). total_cost b.island.net) now + add_up (λ (b : Body S D L B). all_taken b.ins.items + all_finds b.outs.items) now = add_both (λ (b : Body S D L B). total_cost b.island.net) (λ (b : Body S D L B). all_taken b.ins.items + all_finds b.outs.items) now in
-        let two : add_up (λ (b : Body S D L B). all_taken b.ins.items + all_finds b.outs.items) now ≡ add_up (λ (b : Body S D L B). all_taken b.ins.items) now + add_up (λ (b : Body S D L B). all_finds b.outs.items) now = add_both (λ (b : Body S D L B). all_taken b.ins.items) (λ (b : Body S D L B). all_finds b.outs.items) now in
-        let nets : add_up (λ (b : Body S D L B). total_cost b.island.net) now ≡ sum_below (λ k. total_cost (net_of now k)) (length now) = by_nets total_cost now in
+        let spent = by_sum (λ (b : Body S D L H B). b.spent) now in
+        let most : add_up (λ (b : Body S D L H B). b.spent) now ≤ add_up cost_of now = add_le (λ (b : Body S D L H B). b.spent) cost_of now (λ k b at. (keep k b at).paid) in
+        let one : add_up cost_of now ≡ add_up (λ (b : Body S D L H B). total_cost b.island.net) now + add_up (λ (b : Body S D L H B). all_taken b.ins.items + all_finds b.outs.items) now = add_both (λ (b : Body S D L H B). total_cost b.island.net) (λ (b : Body S D L H B). all_taken b.ins.items + all_finds b.outs.items) now in
+        let two : add_up (λ (b : Body S D L H B). all_taken b.ins.items + all_finds b.outs.items) now ≡ add_up (λ (b : Body S D L H B). all_taken b.ins.items) now + add_up (λ (b : Body S D L H B). all_finds b.outs.items) now = add_both (λ (b : Body S D L H B). all_taken b.ins.items) (λ (b : Body S D L H B). all_finds b.outs.items) now in
+        let nets : add_up (λ (b : Body S D L H B). total_cost b.island.net) now ≡ sum_below (λ k. total_cost (net_of now k)) (length now) = by_nets total_cost now in
         let ins = ins_over in
         let outs = outs_over in
         let both : over ws (cost_at now) (length ws) ≡ over ws (λ u. add_up (took_in u) now) (length ws) + over ws (λ u. add_up (found_in u) now) (length ws) = over_add ws (λ u. add_up (took_in u) now) (λ u. add_up (found_in u) now) (length ws) in
@@ -124,22 +124,22 @@ module _ {S D L B : Type 0} where
 
     -- ---- and what the lanes cost was spent beside the asks
 
-    ins_under : over ws (λ u. add_up (took_in u) now) (length ws) ≤ add_up (λ (b : Body S D L B). all_taken b.ins.items) now
-    ins_under = over_each ws (λ (b : Body S D L B). all_taken b.ins.items) took_in (length ws) now (λ b.
+    ins_under : over ws (λ u. add_up (took_in u) now) (length ws) ≤ add_up (λ (b : Body S D L H B). all_taken b.ins.items) now
+    ins_under = over_each ws (λ (b : Body S D L H B). all_taken b.ins.items) took_in (length ws) now (λ b.
         let all : over ws (λ u. took_in u b) (length ws) ≤ add_up took_of b.ins.items = over_each ws took_of took_at (length ws) b.ins.items (λ x. over_once ws x.wire (took_of x) (length ws)) in
         let is = taken_up b.ins.items in
         omega (arith, all, is))
 
-    outs_under : over ws (λ u. add_up (found_in u) now) (length ws) ≤ add_up (λ (b : Body S D L B). all_finds b.outs.items) now
-    outs_under = over_each ws (λ (b : Body S D L B). all_finds b.outs.items) found_in (length ws) now (λ b.
+    outs_under : over ws (λ u. add_up (found_in u) now) (length ws) ≤ add_up (λ (b : Body S D L H B). all_finds b.outs.items) now
+    outs_under = over_each ws (λ (b : Body S D L H B). all_finds b.outs.items) found_in (length ws) now (λ b.
         let all : over ws (λ u. found_in u b) (length ws) ≤ add_up found_of b.outs.items = over_each ws found_of found_at (length ws) b.outs.items (λ o. over_once ws o.wire (found_of o) (length ws)) in
         let is = finds_up b.outs.items in
         omega (arith, all, is))
 
-    pub spent_under : sum_below (λ k. all_asks (net_of now k)) (length now) + over_lanes g (cost_at now) ≤ sum_by (λ (b : Body S D L B). b.spent) now
+    pub spent_under : sum_below (λ k. all_asks (net_of now k)) (length now) + over_lanes g (cost_at now) ≤ sum_by (λ (b : Body S D L H B). b.spent) now
     spent_under =
         let asks = asks_paid sources drains book now keep in
-        let two : add_up (λ (b : Body S D L B). all_taken b.ins.items + all_finds b.outs.items) now ≡ add_up (λ (b : Body S D L B). all_taken b.ins.items) now + add_up (λ (b : Body S D L B). all_finds b.outs.items) now = add_both (λ (b : Body S D L B). all_taken b.ins.items) (λ (b : Body S D L B). all_finds b.outs.items) now in
+        let two : add_up (λ (b : Body S D L H B). all_taken b.ins.items + all_finds b.outs.items) now ≡ add_up (λ (b : Body S D L H B). all_taken b.ins.items) now + add_up (λ (b : Body S D L H B). all_finds b.outs.items) now = add_both (λ (b : Body S D L H B). all_taken b.ins.items) (λ (b : Body S D L H B). all_finds b.outs.items) now in
         let ins = ins_under in
         let outs = outs_under in
         let both : over ws (cost_at now) (length ws) ≡ over ws (λ u. add_up (took_in u) now) (length ws) + over ws (λ u. add_up (found_in u) now) (length ws) = over_add ws (λ u. add_up (took_in u) now) (λ u. add_up (found_in u) now) (length ws) in

@@ -28,7 +28,7 @@ use Rattle.bodies_run.proofs.Standing.{size, far_is, from_node, to_node, parts, 
 wired_as : (es fs : List WireEnds) (ps qs : List PortLists) (n m w v : ℕ) → fs ≡ es → qs ≡ ps → m ≡ n → v ≡ w → Wired es ps n w → Wired fs qs m v
 wired_as es fs ps qs n m w v a b c d h = subst (λ x. Wired x qs m v) (sym a) (subst (λ x. Wired es x m v) (sym b) (subst (λ x. Wired es ps x v) (sym c) (subst (λ x. Wired es ps n x) (sym d) h)))
 
-pub go_on : {S D L B : Type 0} (homes : List ℕ) (count : ℕ) (ws : List Edge) (nodes : List (Seated S D L B)) (nets later : ℕ → Net (IslandNode S D L B)) → AreNets homes ws nodes count nets → ((k : ℕ) → k < count → NetGoesOn (nets k) (later k)) → AreNets homes ws nodes count later
+pub go_on : {S D L H B : Type 0} (homes : List ℕ) (count : ℕ) (ws : List Edge) (nodes : List (Seated S D L H B)) (nets later : ℕ → Net (IslandNode S D L H B)) → AreNets homes ws nodes count nets → ((k : ℕ) → k < count → NetGoesOn (nets k) (later k)) → AreNets homes ws nodes count later
 go_on homes count ws nodes nets later b on = record {
   become = λ k lt. subst (AllBecome (seats_in homes ws nodes k)) (sym (on k lt).firsts) (b.become k lt);
   ends_are = λ k lt. (on k lt).ends ∙ b.ends_are k lt;
@@ -36,7 +36,7 @@ go_on homes count ws nodes nets later b on = record {
   each_first = λ k lt. ap length (on k lt).firsts ∙ b.each_first k lt ∙ sym (on k lt).nodes;
 }
 
-module _ {S D L B : Type 0} (homes : List ℕ) (count : ℕ) (ws : List Edge) (nodes : List (Seated S D L B)) (nets : ℕ → Net (IslandNode S D L B)) (a : AreSeated homes count ws nodes) (b : AreNets homes ws nodes count nets) where
+module _ {S D L H B : Type 0} (homes : List ℕ) (count : ℕ) (ws : List Edge) (nodes : List (Seated S D L H B)) (nets : ℕ → Net (IslandNode S D L H B)) (a : AreSeated homes count ws nodes) (b : AreNets homes ws nodes count nets) where
   pub firsts_count : (k : ℕ) → k < count → length (nets k).firsts ≡ share_of k (place_homes homes ws)
   firsts_count k lt = become_count (seats_in homes ws nodes k) (nets k).firsts (b.become k lt) ∙ seats_in_count homes count ws nodes a k
 
@@ -71,7 +71,7 @@ module _ {S D L B : Type 0} (homes : List ℕ) (count : ℕ) (ws : List Edge) (n
 
   -- ---- the ports of a node
 
-  module _ (k : ℕ) (s : Seated S D L B) (at : slice_get nodes k ≡ Some s) where
+  module _ (k : ℕ) (s : Seated S D L H B) (at : slice_get nodes k ≡ Some s) where
     within : k < length homes
     within = let lt : k < length nodes = slice_get_within nodes k s at in omega (arith, lt, a.each)
 
@@ -107,7 +107,7 @@ module _ {S D L B : Type 0} (homes : List ℕ) (count : ℕ) (ws : List Edge) (n
         ∙ outputs_by (seats_in homes ws nodes h) r s stands_there ∙ sym (outputs_by nodes k s at)
 
   module _ (g : Graph) (i : IsGraphOf g ws nodes) where
-    seated : (k : ℕ) (n : graph.Node) → slice_get g.nodes k ≡ Some n → (s : Seated S D L B) × (slice_get nodes k ≡ Some s)
+    seated : (k : ℕ) (n : graph.Node) → slice_get g.nodes k ≡ Some n → (s : Seated S D L H B) × (slice_get nodes k ≡ Some s)
     seated k n at = let lt : k < length g.nodes = slice_get_within g.nodes k n at in there nodes k (omega (arith, lt, i.each_node))
 
     wire : (u : ℕ) (v : Edge) → slice_get g.wires u ≡ Some v → slice_get ws u ≡ Some v

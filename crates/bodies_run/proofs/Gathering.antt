@@ -20,7 +20,7 @@ use Rattle.bodies_run.proofs.Becoming.{become_at, all_become, become_first, beco
 use Rattle.bodies_run.proofs.Bringing.{AreBelow, IsWhole, bring, whole_at, whole_one, part, get_first}
 use Rattle.bodies_run.proofs.Standing.{seats, places_count, all_seats, all_below, home_below, place_at, place_rank, seat_at, place_seat}
 
-module _ {S D L B : Type 0} (homes : List ℕ) (count : ℕ) (ws : List Edge) (nodes : List (Seated S D L B)) (a : AreSeated homes count ws nodes) where
+module _ {S D L H B : Type 0} (homes : List ℕ) (count : ℕ) (ws : List Edge) (nodes : List (Seated S D L H B)) (a : AreSeated homes count ws nodes) where
   homes_below : AreBelow count (place_homes homes ws)
   homes_below i lt = All-get_or (λ h. h < count) (place_homes homes ws) i 0 lt (all_below homes count ws nodes a)
 
@@ -68,15 +68,15 @@ mapped homes count ws f lists all ends r = record {
   at = λ k lt. slice_get-map f all k ∙ ap (option_map f) (r.at k lt) ∙ sym (slice_get-map f (lists (slice_index homes k)) (rank_of (place_homes homes ws) k));
 }
 
-module _ {S D L B : Type 0} (homes : List ℕ) (count : ℕ) (ws : List Edge) (nodes : List (Seated S D L B)) (nets : ℕ → Net (IslandNode S D L B)) (a : AreSeated homes count ws nodes) (b : AreNets homes ws nodes count nets) where
-  pub first : (k : ℕ) (s : Seated S D L B) → slice_get nodes k ≡ Some s → (x : IslandNode S D L B) × ((slice_get (nets (slice_index homes k)).firsts (rank_of (place_homes homes ws) k) ≡ Some x) × Becomes s x)
+module _ {S D L H B : Type 0} (homes : List ℕ) (count : ℕ) (ws : List Edge) (nodes : List (Seated S D L H B)) (nets : ℕ → Net (IslandNode S D L H B)) (a : AreSeated homes count ws nodes) (b : AreNets homes ws nodes count nets) where
+  pub first : (k : ℕ) (s : Seated S D L H B) → slice_get nodes k ≡ Some s → (x : IslandNode S D L H B) × ((slice_get (nets (slice_index homes k)).firsts (rank_of (place_homes homes ws) k) ≡ Some x) × Becomes s x)
   first k s at =
       let lt : k < length nodes = slice_get_within nodes k s at in
       let within : k < length homes = omega (arith, lt, a.each) in
       become_at (seats_in homes ws nodes (slice_index homes k)) (nets (slice_index homes k)).firsts (rank_of (place_homes homes ws) k) s (b.become (slice_index homes k) (home_below homes count ws nodes a k within)) (seat_at homes count ws nodes a k s at within)
 
   -- what stands at a place has become what was brought back for it
-  place_becomes : (all ends : List (IslandNode S D L B)) → AreBroughtBack homes count ws (λ k. (nets k).firsts) all ends → (i : ℕ) (s : Seated S D L B) (x : IslandNode S D L B) → slice_get (seats homes count ws nodes a) i ≡ Some s → slice_get (all ++ ends) i ≡ Some x → Becomes s x
+  place_becomes : (all ends : List (IslandNode S D L H B)) → AreBroughtBack homes count ws (λ k. (nets k).firsts) all ends → (i : ℕ) (s : Seated S D L H B) (x : IslandNode S D L H B) → slice_get (seats homes count ws nodes a) i ≡ Some s → slice_get (all ++ ends) i ≡ Some x → Becomes s x
   place_becomes all ends r i s x at is =
       let hs = place_homes homes ws in
       let lt : i < length hs = (let l : i < length (seats homes count ws nodes a) = slice_get_within (seats homes count ws nodes a) i s at in let e = all_seats homes count ws nodes a in omega (arith, l, e)) in
@@ -87,14 +87,14 @@ module _ {S D L B : Type 0} (homes : List ℕ) (count : ℕ) (ws : List Edge) (n
       let same : Some y.0 ≡ Some x = sym there_is ∙ is in
       subst (Becomes s) (some_one same) y.1.1
     where
-      some_one : {z w : IslandNode S D L B} → Some z ≡ Some w → z ≡ w
+      some_one : {z w : IslandNode S D L H B} → Some z ≡ Some w → z ≡ w
       some_one e = cc
 
-  pub become_all : (all ends : List (IslandNode S D L B)) → AreBroughtBack homes count ws (λ k. (nets k).firsts) all ends → AllBecome (whole_seats nodes (lanes_from homes 0 ws)) (all ++ ends)
+  pub become_all : (all ends : List (IslandNode S D L H B)) → AreBroughtBack homes count ws (λ k. (nets k).firsts) all ends → AllBecome (whole_seats nodes (lanes_from homes 0 ws)) (all ++ ends)
   become_all all ends r = all_become (seats homes count ws nodes a) (all ++ ends) ((whole homes count ws nodes a (λ k. (nets k).firsts) all ends r).each ∙ sym (all_seats homes count ws nodes a)) (place_becomes all ends r)
 
-  pub become : (all ends : List (IslandNode S D L B)) → AreBroughtBack homes count ws (λ k. (nets k).firsts) all ends → AllBecome nodes all
+  pub become : (all ends : List (IslandNode S D L H B)) → AreBroughtBack homes count ws (λ k. (nets k).firsts) all ends → AllBecome nodes all
   become all ends r = become_first nodes (map in_seat (lanes_from homes 0 ws) ++ map out_seat (lanes_from homes 0 ws)) all ends (r.each_node ∙ a.each) (become_all all ends r)
 
-  pub become_ends : (all ends : List (IslandNode S D L B)) → AreBroughtBack homes count ws (λ k. (nets k).firsts) all ends → AllBecome (map in_seat (lanes_from homes 0 ws) ++ map out_seat (lanes_from homes 0 ws)) ends
+  pub become_ends : (all ends : List (IslandNode S D L H B)) → AreBroughtBack homes count ws (λ k. (nets k).firsts) all ends → AllBecome (map in_seat (lanes_from homes 0 ws) ++ map out_seat (lanes_from homes 0 ws)) ends
   become_ends all ends r = become_later nodes (map in_seat (lanes_from homes 0 ws) ++ map out_seat (lanes_from homes 0 ws)) all ends (r.each_node ∙ a.each) (become_all all ends r)

@@ -55,19 +55,19 @@ map_there f (z ∷ xs) (y ∷ ys) (suc k) x e at = let t : map f ys ≡ map f xs
 four : (P : ℕ → WireState → WireState → ℕ → Type 0) (s s' n n' : ℕ) (a a' b b' : WireState) → s ≡ s' → a ≡ a' → b ≡ b' → n ≡ n' → P s a b n → P s' a' b' n'
 four P s s' n n' a a' b b' e f g h p = subst (λ (x : ℕ). P x a' b' n') e (subst (λ (x : WireState). P s x b' n') f (subst (λ (x : WireState). P s a x n') g (subst (λ (x : ℕ). P s a b x) h p)))
 
-module _ {S D L B : Type 0} where
-  there_after : (xs ys : List (Body S D L B)) (k : ℕ) (x : Body S D L B) → length ys ≡ length xs → slice_get xs k ≡ Some x → (y : Body S D L B) × (slice_get ys k ≡ Some y)
+module _ {S D L H B : Type 0} where
+  there_after : (xs ys : List (Body S D L H B)) (k : ℕ) (x : Body S D L H B) → length ys ≡ length xs → slice_get xs k ≡ Some x → (y : Body S D L H B) × (slice_get ys k ≡ Some y)
   there_after xs ys k x e at = get_there ys k (subst (λ (n : ℕ). k < n) (sym e) (slice_get_within xs k x at))
 
-  ins_way : (i j : Kept S D L B) (u : ℕ) → j.ins ≡ i.ins → way_in j u ≡ way_in i u
+  ins_way : (i j : Kept S D L H B) (u : ℕ) → j.ins ≡ i.ins → way_in j u ≡ way_in i u
   ins_way i j u e = ap (λ (l : List LanePlace). way_in (record i { ins = l }) u) e
 
-  outs_way : (i j : Kept S D L B) (u : ℕ) → j.outs ≡ i.outs → way_out j u ≡ way_out i u
+  outs_way : (i j : Kept S D L H B) (u : ℕ) → j.outs ≡ i.outs → way_out j u ≡ way_out i u
   outs_way i j u e = ap (λ (l : List LanePlace). way_out (record i { outs = l }) u) e
 
   -- ---- the crossings, once the bodies went on
 
-  module _ (homes : List ℕ) (ws : List Edge) (begun now : List (Body S D L B)) (many : length now ≡ length begun) (goes : (k : ℕ) (a b : Body S D L B) → slice_get begun k ≡ Some a → slice_get now k ≡ Some b → Went a b) where
+  module _ (homes : List ℕ) (ws : List Edge) (begun now : List (Body S D L H B)) (many : length now ≡ length begun) (goes : (k : ℕ) (a b : Body S D L H B) → slice_get begun k ≡ Some a → slice_get now k ≡ Some b → Went a b) where
     crossing_on : (u : ℕ) (v : Edge) (size : ℕ) (c : Crossing) → IsCrossingOf homes ws begun u v size c → IsCrossingOf homes ws now u v size c
     crossing_on u v size c x =
         let a = there_after begun now c.from x.from many x.from_at in
@@ -110,7 +110,7 @@ module _ {S D L B : Type 0} where
 
   -- ---- one lane
 
-  module _ (sources : S → SourceState) (drains : D → DrainState) (book : Book) (homes : List ℕ) (count : ℕ) (ws : List Edge) (nodes : List (Seated S D L B)) (seated : AreSeated homes count ws nodes) (now : List (Body S D L B)) (stood : (k : ℕ) (b : Body S D L B) → slice_get now k ≡ Some b → Stood sources drains book b)
+  module _ (sources : S → SourceState) (drains : D → DrainState) (book : Book) (homes : List ℕ) (count : ℕ) (ws : List Edge) (nodes : List (Seated S D L H B)) (seated : AreSeated homes count ws nodes) (now : List (Body S D L H B)) (stood : (k : ℕ) (b : Body S D L H B) → slice_get now k ≡ Some b → Stood sources drains book b)
       (u : ℕ) (v : Edge) (size : ℕ) (e : slice_get ws u ≡ Some v) (s : v.lane ≡ Some size) (c : Crossing) (x : IsCrossingOf homes ws now u v size c) where
     abbrev near_here : WireState
     near_here = wire_at (net_of now ((seats_by_islands homes ws).near u).island) ((seats_by_islands homes ws).near u).at
@@ -128,10 +128,10 @@ module _ {S D L B : Type 0} where
     far_island = ways.in_island ∙ sym x.to_is
 
     near_cell : cell_out x.from.island u ≡ near_here
-    near_cell = sym (ap (λ (k : ℕ). wire_at (net_of now k) ((seats_by_islands homes ws).near u).at) near_island ∙ (ap (λ (o : Option (Body S D L B)). wire_at (net_in o) ((seats_by_islands homes ws).near u).at) x.from_at ∙ ap (λ (q : ℕ). wire_at x.from.island.net q) x.near_is))
+    near_cell = sym (ap (λ (k : ℕ). wire_at (net_of now k) ((seats_by_islands homes ws).near u).at) near_island ∙ (ap (λ (o : Option (Body S D L H B)). wire_at (net_in o) ((seats_by_islands homes ws).near u).at) x.from_at ∙ ap (λ (q : ℕ). wire_at x.from.island.net q) x.near_is))
 
     far_cell : cell_in x.to.island u ≡ far_here
-    far_cell = sym (ap (λ (k : ℕ). wire_at (net_of now k) ((seats_by_islands homes ws).far u).at) far_island ∙ (ap (λ (o : Option (Body S D L B)). wire_at (net_in o) ((seats_by_islands homes ws).far u).at) x.to_at ∙ ap (λ (q : ℕ). wire_at x.to.island.net q) x.far_is))
+    far_cell = sym (ap (λ (k : ℕ). wire_at (net_of now k) ((seats_by_islands homes ws).far u).at) far_island ∙ (ap (λ (o : Option (Body S D L H B)). wire_at (net_in o) ((seats_by_islands homes ws).far u).at) x.to_at ∙ ap (λ (q : ℕ). wire_at x.to.island.net q) x.far_is))
 
     out_stands : OutputEndStands x.from.island x.out
     out_stands = (stood c.from x.from x.from_at).stand.outs_stand c.out x.out x.out_at
@@ -167,7 +167,7 @@ module _ {S D L B : Type 0} where
           subst (λ (z : Bool). Quiet_by z size near_here far_here n) x.keep_is (four (Quiet_by (keeps_all x.inp.boundary)) (in_size x.inp.boundary.lane) size (asked_in_all x.inp.boundary.lane) n (cell_out x.from.island u) near_here (cell_in x.to.island u) far_here x.size_is near_cell far_cell (sym is) (kept_there.0, quiet))
 
   -- nothing is pending
-  no_queue : (b : Body S D L B) → is_pending b ≡ false → b.island.net.queue ≡ []
+  no_queue : (b : Body S D L H B) → is_pending b ≡ false → b.island.net.queue ≡ []
   no_queue b e = by b.island.net.queue e
     where
       by : (q : List ℕ) → has_some q ≡ false → q ≡ []
@@ -176,7 +176,7 @@ module _ {S D L B : Type 0} where
 
   -- ---- all lanes
 
-  module _ (sources : S → SourceState) (drains : D → DrainState) (book : Book) (g : Graph) (homes : List ℕ) (count : ℕ) (ws : List Edge) (nodes : List (Seated S D L B)) (seated : AreSeated homes count ws nodes) (same : g.wires ≡ ws) (now : List (Body S D L B)) (stood : (k : ℕ) (b : Body S D L B) → slice_get now k ≡ Some b → Stood sources drains book b)
+  module _ (sources : S → SourceState) (drains : D → DrainState) (book : Book) (g : Graph) (homes : List ℕ) (count : ℕ) (ws : List Edge) (nodes : List (Seated S D L H B)) (seated : AreSeated homes count ws nodes) (same : g.wires ≡ ws) (now : List (Body S D L H B)) (stood : (k : ℕ) (b : Body S D L H B) → slice_get now k ≡ Some b → Stood sources drains book b)
       (crossings : List Crossing) (l : AreLanes homes ws now crossings) (all : ℕ → ℕ) (asked_are : AskedAre now crossings all) where
     here : (u : ℕ) (v : Edge) → slice_get g.wires u ≡ Some v → slice_get ws u ≡ Some v
     here u v e = subst (λ (l : List Edge). slice_get l u ≡ Some v) same e
@@ -198,9 +198,9 @@ module _ {S D L B : Type 0} where
         quiet_here sources drains book homes count ws nodes seated now stood u v size (here u v e) s x.1.0 y w.0 (w.1 y.from y.to y.from_at y.to_at) keep
         (no_queue y.from (rest.rings x.1.0.from y.from y.from_at)) (no_queue y.to (rest.rings x.1.0.to y.to y.to_at)) w.2 w.3 (all u) (asked_here x.0 u v size x.1.0 y x.1.1.0)
 
-  pub no_queues : (now : List (Body S D L B)) → ((k : ℕ) (b : Body S D L B) → slice_get now k ≡ Some b → is_pending b ≡ false) → (k : ℕ) → (net_of now k).queue ≡ []
+  pub no_queues : (now : List (Body S D L H B)) → ((k : ℕ) (b : Body S D L H B) → slice_get now k ≡ Some b → is_pending b ≡ false) → (k : ℕ) → (net_of now k).queue ≡ []
   no_queues now none k = by (slice_get now k) (λ b at. no_queue b (none k b at))
     where
-      by : (o : Option (Body S D L B)) → ((b : Body S D L B) → o ≡ Some b → b.island.net.queue ≡ []) → (net_in o).queue ≡ []
+      by : (o : Option (Body S D L H B)) → ((b : Body S D L H B) → o ≡ Some b → b.island.net.queue ≡ []) → (net_in o).queue ≡ []
       by None h = refl
       by (Some b) h = h b refl

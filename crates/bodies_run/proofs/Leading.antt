@@ -15,7 +15,7 @@ use Rattle.island_parts.proofs.Wholes.{node_seat, entry_seat, exit_seat}
 use Rattle.bodies_run.specs.Islands.{place_homes, link_homes, link_place, far_link, seats_in, links_in, AreSeated, IsWayIn, IsWayOut, HasWays, IsNearOf, IsFarOf}
 use Rattle.bodies_run.proofs.Standing.{seats, size, far_is, from_node, to_node, one_island, places_count, same_home, place_seat, link_within, link_to_within, stands, mine_place, entry_number, near_there, far_there}
 
-module _ {S D L B : Type 0} (homes : List ℕ) (count : ℕ) (ws : List Edge) (nodes : List (Seated S D L B)) (a : AreSeated homes count ws nodes) where
+module _ {S D L H B : Type 0} (homes : List ℕ) (count : ℕ) (ws : List Edge) (nodes : List (Seated S D L H B)) (a : AreSeated homes count ws nodes) where
   -- the links of an island, by the number of homes and by that of nodes
   own_at : (k q : ℕ) → slice_get (links_in homes ws nodes k) q ≡ slice_get (own_links (place_homes homes ws) (whole_links (length homes) ws) k) q
   own_at k q = ap (λ n. slice_get (own_links (place_homes homes ws) (whole_links n ws) k) q) (size homes count ws nodes a)
@@ -85,7 +85,7 @@ module _ {S D L B : Type 0} (homes : List ℕ) (count : ℕ) (ws : List Edge) (n
   -- ---- no connection is at two
 
   -- no lane comes in at a node, and none goes out there
-  node_there : (k : ℕ) → k < length homes → (p : Seated S D L B) × ((slice_get nodes k ≡ Some p) × (slice_get (seats homes count ws nodes a) k ≡ Some p))
+  node_there : (k : ℕ) → k < length homes → (p : Seated S D L H B) × ((slice_get nodes k ≡ Some p) × (slice_get (seats homes count ws nodes a) k ≡ Some p))
   node_there k lt =
       let p = there nodes k (omega (arith, lt, a.each)) in
       (p.0, (p.1, node_seat homes ws nodes (length homes) (size homes count ws nodes a) refl (from_node homes count ws nodes a) (to_node homes count ws nodes a) k p.0 p.1))

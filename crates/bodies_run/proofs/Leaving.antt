@@ -22,30 +22,30 @@ use Rattle.bodies_run.proofs.Covering.{nodes_count}
 use Rattle.bodies_run.proofs.Gathering.{back}
 use Rattle.bodies_run.specs.Leaving.{AreLeft}
 
-pub become_many : {S D L B : Type 0} (ps : List (Seated S D L B)) (xs : List (IslandNode S D L B)) → AllBecome ps xs → length ps ≡ length xs
+pub become_many : {S D L H B : Type 0} (ps : List (Seated S D L H B)) (xs : List (IslandNode S D L H B)) → AllBecome ps xs → length ps ≡ length xs
 become_many [] [] h = refl
 become_many [] (x ∷ xs) h = absurd h
 become_many (p ∷ ps) [] h = absurd h
 become_many (p ∷ ps) (x ∷ xs) h = ap suc (become_many ps xs h.1)
 
 -- nodes that began as what stands at a blueprint's places are those of its graph
-pub are_made : {S D L B : Type 0} (sources : S → SourceState) (b : Blueprint) (ss : List S) (ds : List D) (places : List (Seated S D L B)) (firsts : List (IslandNode S D L B)) (a : Account (IslandNode S D L B)) → AreSeats (around_of b) 0 b.nodes.items ss ds places → AllBecome places firsts → All (λ s. (sources s).given ≡ 0) ss
+pub are_made : {S D L H B : Type 0} (sources : S → SourceState) (b : Blueprint) (ss : List S) (ds : List D) (places : List (Seated S D L H B)) (firsts : List (IslandNode S D L H B)) (a : Account (IslandNode S D L H B)) → AreSeats (around_of b) 0 b.nodes.items ss ds places → AllBecome places firsts → All (λ s. (sources s).given ≡ 0) ss
     → ((k : ℕ) → k < length (graph_of b).nodes → a.firsts k ≡ slice_get firsts k) → AllMade (FirstOf sources (chains_of b)) (graph_of b) a
 are_made sources b ss ds places firsts a seats become given at k n first there is =
     (are_firsts sources b ss ds places firsts seats become given).each k n first there (sym (at k (slice_get-below (graph_of b).nodes k n there)) ∙ is)
 
-module _ {S D L B : Type 0} (homes : List ℕ) (count : ℕ) (ws : List Edge) (nodes : List (Seated S D L B)) (seated : AreSeated homes count ws nodes) (nets : ℕ → Net (IslandNode S D L B)) (nets_are : AreNets homes ws nodes count nets) where
+module _ {S D L H B : Type 0} (homes : List ℕ) (count : ℕ) (ws : List Edge) (nodes : List (Seated S D L H B)) (seated : AreSeated homes count ws nodes) (nets : ℕ → Net (IslandNode S D L H B)) (nets_are : AreNets homes ws nodes count nets) where
   -- the nodes of all islands come back into one list
-  pub nodes_back : (last : List (IslandNode S D L B)) × ((ends : List (IslandNode S D L B)) × AreBroughtBack homes count ws (λ k. (nets k).nodes) last ends)
+  pub nodes_back : (last : List (IslandNode S D L H B)) × ((ends : List (IslandNode S D L H B)) × AreBroughtBack homes count ws (λ k. (nets k).nodes) last ends)
   nodes_back = back homes count ws nodes seated (λ (j : ℕ). (nets j).nodes) (λ j lt. nodes_count homes count ws nodes nets seated nets_are j lt)
 
   -- also as others are, where there are as many
-  pub others_back : (others : ℕ → List (IslandNode S D L B)) → ((k : ℕ) → length (others k) ≡ length (nets k).nodes) → (last : List (IslandNode S D L B)) × ((ends : List (IslandNode S D L B)) × AreBroughtBack homes count ws others last ends)
+  pub others_back : (others : ℕ → List (IslandNode S D L H B)) → ((k : ℕ) → length (others k) ≡ length (nets k).nodes) → (last : List (IslandNode S D L H B)) × ((ends : List (IslandNode S D L H B)) × AreBroughtBack homes count ws others last ends)
   others_back others many = back homes count ws nodes seated others (λ j lt. many j ∙ nodes_count homes count ws nodes nets seated nets_are j lt)
 
   -- those of the blueprint are the ones that the nets tell of
-  pub are_left : (all : ℕ → ℕ) (wide : ℕ) → wide ≡ length nodes → (firsts : List (IslandNode S D L B)) → AllBecome nodes firsts → ((k : ℕ) → k < wide → (joined_account nets (seats_by_islands homes ws) all).firsts k ≡ slice_get firsts k)
-      → (last ends : List (IslandNode S D L B)) → AreBroughtBack homes count ws (λ k. (nets k).nodes) last ends → AreLeft nodes (joined_account nets (seats_by_islands homes ws) all) last
+  pub are_left : (all : ℕ → ℕ) (wide : ℕ) → wide ≡ length nodes → (firsts : List (IslandNode S D L H B)) → AllBecome nodes firsts → ((k : ℕ) → k < wide → (joined_account nets (seats_by_islands homes ws) all).firsts k ≡ slice_get firsts k)
+      → (last ends : List (IslandNode S D L H B)) → AreBroughtBack homes count ws (λ k. (nets k).nodes) last ends → AreLeft nodes (joined_account nets (seats_by_islands homes ws) all) last
   are_left all wide each firsts become at last ends r = record {
     firsts = firsts;
     become = become;

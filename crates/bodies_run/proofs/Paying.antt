@@ -25,9 +25,9 @@ use Rattle.bodies_run.proofs.Lanes.{lanes_on}
 use Rattle.bodies_run.proofs.Nets.{Went, went, stood, all_settled, nets_cover, nets_owned}
 use Rattle.stream_model.specs.Linear.{Book}
 
-module _ {S D L B : Type 0} (sources : S → SourceState) (drains : D → DrainState) (book : Book) (g : Graph) (homes : List ℕ) (count : ℕ) (ws : List Edge) (nodes : List (Seated S D L B)) (crossings : List Crossing) (begun now : List (Body S D L B))
+module _ {S D L H B : Type 0} (sources : S → SourceState) (drains : D → DrainState) (book : Book) (g : Graph) (homes : List ℕ) (count : ℕ) (ws : List Edge) (nodes : List (Seated S D L H B)) (crossings : List Crossing) (begun now : List (Body S D L H B))
     (m : AreBodiesOf sources drains book g homes count ws nodes crossings begun) (goes : EachOf BodyGoes begun now) (keep : AllOf (BodyKeeps sources drains book) now) (all : ℕ → ℕ) (asked_are : AskedAre now crossings all) (all_joined : AllJoined BodiesJoined now crossings) where
-  goes_on : (k : ℕ) (a b : Body S D L B) → slice_get begun k ≡ Some a → slice_get now k ≡ Some b → Went a b
+  goes_on : (k : ℕ) (a b : Body S D L H B) → slice_get begun k ≡ Some a → slice_get now k ≡ Some b → Went a b
   goes_on k a b x y = went a b (goes.each k a b x y)
 
   lanes : AreLanes homes ws now crossings
@@ -36,17 +36,17 @@ module _ {S D L B : Type 0} (sources : S → SourceState) (drains : D → DrainS
   cost_there : LanesCost g (net_of now) (seats_by_islands homes ws) all (cost_at now)
   cost_there = lanes_cost sources drains book g homes count ws nodes m.seated m.graph.wires_are now keep crossings lanes all asked_are all_joined
 
-  most : sum_by (λ (b : Body S D L B). b.spent) now ≤ sum_below (λ b. total_cost (net_of now b)) count + over_lanes g (cost_at now)
-  most = subst (λ (n : ℕ). sum_by (λ (b : Body S D L B). b.spent) now ≤ sum_below (λ b. total_cost (net_of now b)) n + over_lanes g (cost_at now)) (goes.count ∙ m.begun_are.many) (spent_over sources drains book g homes count ws nodes m.seated m.graph.wires_are now keep crossings lanes)
+  most : sum_by (λ (b : Body S D L H B). b.spent) now ≤ sum_below (λ b. total_cost (net_of now b)) count + over_lanes g (cost_at now)
+  most = subst (λ (n : ℕ). sum_by (λ (b : Body S D L H B). b.spent) now ≤ sum_below (λ b. total_cost (net_of now b)) n + over_lanes g (cost_at now)) (goes.count ∙ m.begun_are.many) (spent_over sources drains book g homes count ws nodes m.seated m.graph.wires_are now keep crossings lanes)
 
-  least : sum_below (λ b. all_asks (net_of now b)) count + over_lanes g (cost_at now) ≤ sum_by (λ (b : Body S D L B). b.spent) now
-  least = subst (λ (n : ℕ). sum_below (λ b. all_asks (net_of now b)) n + over_lanes g (cost_at now) ≤ sum_by (λ (b : Body S D L B). b.spent) now) (goes.count ∙ m.begun_are.many) (spent_under sources drains book g homes count ws nodes m.seated m.graph.wires_are now keep crossings lanes)
+  least : sum_below (λ b. all_asks (net_of now b)) count + over_lanes g (cost_at now) ≤ sum_by (λ (b : Body S D L H B). b.spent) now
+  least = subst (λ (n : ℕ). sum_below (λ b. all_asks (net_of now b)) n + over_lanes g (cost_at now) ≤ sum_by (λ (b : Body S D L H B). b.spent) now) (goes.count ∙ m.begun_are.many) (spent_under sources drains book g homes count ws nodes m.seated m.graph.wires_are now keep crossings lanes)
 
   pub costs : (cost : ℕ → ℕ)
-      × (LanesCost g (net_of now) (seats_by_islands homes ws) all cost × ((sum_by (λ (b : Body S D L B). b.spent) now ≤ sum_below (λ b. total_cost (net_of now b)) count + over_lanes g cost) × (sum_below (λ b. all_asks (net_of now b)) count + over_lanes g cost ≤ sum_by (λ (b : Body S D L B). b.spent) now)))
+      × (LanesCost g (net_of now) (seats_by_islands homes ws) all cost × ((sum_by (λ (b : Body S D L H B). b.spent) now ≤ sum_below (λ b. total_cost (net_of now b)) count + over_lanes g cost) × (sum_below (λ b. all_asks (net_of now b)) count + over_lanes g cost ≤ sum_by (λ (b : Body S D L H B). b.spent) now)))
   costs = (cost_at now, (cost_there, (most, least)))
 
-  pub paid : sum_by (λ (b : Body S D L B). b.spent) now + length g.wires ≤ count_needed g (picture_counts (joined_account (net_of now) (seats_by_islands homes ws) all) g)
+  pub paid : sum_by (λ (b : Body S D L H B). b.spent) now + length g.wires ≤ count_needed g (picture_counts (joined_account (net_of now) (seats_by_islands homes ws) all) g)
   paid =
       let nets = all_paid node_port_state (node_law sources drains book) node_asking node_moves g (net_of now) (seats_by_islands homes ws) all (cost_at now) count (nets_cover sources drains book g homes count ws nodes crossings begun m now goes.count goes_on)
       (all_settled sources drains book now (λ k b at. stood sources drains book b (keep k b at))) (nets_owned sources drains book g homes count ws nodes crossings begun m now goes.count goes_on) cost_there in

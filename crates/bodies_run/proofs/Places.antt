@@ -10,7 +10,7 @@ use Rattle.interpreter.specs.declared.parts.Seated.{Seated}
 use Rattle.bodies_run.specs.Islands.{seats_by_islands, seats_in, links_in, AreSeated, HasWays}
 use Rattle.bodies_run.proofs.Leading.{has_ways}
 
-module _ {S D L B : Type 0} (homes : List ℕ) (count : ℕ) (ws : List Edge) (nodes : List (Seated S D L B)) (u : ℕ) (v : Edge) (size : ℕ) (i : Kept S D L B) (a : AreSeated homes count ws nodes) (at : slice_get ws u ≡ Some v) (lane : v.lane ≡ Some size) where
+module _ {S D L H B : Type 0} (homes : List ℕ) (count : ℕ) (ws : List Edge) (nodes : List (Seated S D L H B)) (u : ℕ) (v : Edge) (size : ℕ) (i : Kept S D L H B) (a : AreSeated homes count ws nodes) (at : slice_get ws u ≡ Some v) (lane : v.lane ≡ Some size) where
   ways : HasWays homes ws nodes u v
   ways = has_ways homes count ws nodes a u v size at lane
 

@@ -29,12 +29,12 @@ use Rattle.bodies_run.specs.Leaving.{account_in, AreLeft}
 use Rattle.bodies_run.proofs.Leaving.{are_made, nodes_back, are_left}
 use Rattle.stream_model.specs.Linear.{Book}
 
-module _ {S D L B : Type 0} (sources : S → SourceState) (drains : D → DrainState) (book : Book) (b : Blueprint) (homes : List ℕ) (count : ℕ) (nodes : List (Seated S D L B)) (crossings : List Crossing) (begun now : List (Body S D L B))
+module _ {S D L H B : Type 0} (sources : S → SourceState) (drains : D → DrainState) (book : Book) (b : Blueprint) (homes : List ℕ) (count : ℕ) (nodes : List (Seated S D L H B)) (crossings : List Crossing) (begun now : List (Body S D L H B))
     (m : AreBodiesOf sources drains book (graph_of b) homes count (blueprint_wires b) nodes crossings begun) (goes : EachOf BodyGoes begun now) (keep : AllOf (BodyKeeps sources drains book) now) where
-  goes_on : (k : ℕ) (x y : Body S D L B) → slice_get begun k ≡ Some x → slice_get now k ≡ Some y → Went x y
+  goes_on : (k : ℕ) (x y : Body S D L H B) → slice_get begun k ≡ Some x → slice_get now k ≡ Some y → Went x y
   goes_on k x y ex ey = went x y (goes.each k x y ex ey)
 
-  stands : (k : ℕ) (x : Body S D L B) → slice_get now k ≡ Some x → Stood sources drains book x
+  stands : (k : ℕ) (x : Body S D L H B) → slice_get now k ≡ Some x → Stood sources drains book x
   stands k x at = stood sources drains book x (keep k x at)
 
   settled : AllSettled sources drains book now
@@ -43,11 +43,11 @@ module _ {S D L B : Type 0} (sources : S → SourceState) (drains : D → DrainS
   lanes : AreLanes homes (blueprint_wires b) now crossings
   lanes = lanes_on homes (blueprint_wires b) begun now goes.count goes_on crossings m.lanes_are
 
-  pub bodies_back : (last : List (IslandNode S D L B)) × ((ends : List (IslandNode S D L B)) × AreBroughtBack homes count (blueprint_wires b) (λ k. (net_of now k).nodes) last ends)
+  pub bodies_back : (last : List (IslandNode S D L H B)) × ((ends : List (IslandNode S D L H B)) × AreBroughtBack homes count (blueprint_wires b) (λ k. (net_of now k).nodes) last ends)
   bodies_back = nodes_back homes count (blueprint_wires b) nodes m.seated (net_of now) (now_nets sources drains book (graph_of b) homes count (blueprint_wires b) nodes crossings begun m now goes.count goes_on)
 
   module _ (all : ℕ → ℕ) where
-    pub bodies_left : (last ends : List (IslandNode S D L B)) → AreBroughtBack homes count (blueprint_wires b) (λ k. (net_of now k).nodes) last ends → AreLeft nodes (account_in homes (blueprint_wires b) now all) last
+    pub bodies_left : (last ends : List (IslandNode S D L H B)) → AreBroughtBack homes count (blueprint_wires b) (λ k. (net_of now k).nodes) last ends → AreLeft nodes (account_in homes (blueprint_wires b) now all) last
     bodies_left last ends r =
         let w = nets_began sources drains book (graph_of b) homes count (blueprint_wires b) nodes crossings begun m now goes.count goes_on all in
         are_left homes count (blueprint_wires b) nodes m.seated (net_of now) (now_nets sources drains book (graph_of b) homes count (blueprint_wires b) nodes crossings begun m now goes.count goes_on) all _ m.graph.each_node w.0 w.1.0 w.1.1 last ends r

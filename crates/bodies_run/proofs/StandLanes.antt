@@ -38,7 +38,7 @@ use Rattle.run_laws.specs.Quiet.{OutQuiet, InQuiet, MetQuiet, LaneQuiet}
 use Rattle.bodies_run.proofs.StandLeaving.{took_there, there, idle_rest}
 
 -- no wire is queued where no event is left
-sound_rest : {S D L B : Type 0} {sources : S → SourceState} {drains : D → DrainState} {book : Book} (net : Net (IslandNode S D L B)) → Settled node_port_state (node_law sources drains book) node_asking node_moves net → net.queue ≡ [] → (q : ℕ) → q < length net.wires → IsSound (wire_at net q).wire false
+sound_rest : {S D L H B : Type 0} {sources : S → SourceState} {drains : D → DrainState} {book : Book} (net : Net (IslandNode S D L H B)) → Settled node_port_state (node_law sources drains book) node_asking node_moves net → net.queue ≡ [] → (q : ℕ) → q < length net.wires → IsSound (wire_at net q).wire false
 sound_rest net s none q h = subst (λ (l : List ℕ). IsSound (wire_at net q).wire (is_queued l q)) none (s.sound q h)
 
 -- ---- small facts
@@ -56,7 +56,7 @@ false_true b e f = cc
 
 -- ---- the end that sends
 
-module _ {S D L B : Type 0} (sources : S → SourceState) (drains : D → DrainState) (book : Book) (o : LaneOut) (i : Kept S D L B) (u : ℕ) (s : Settled node_port_state (node_law sources drains book) node_asking node_moves i.net) (l : Leaves i u) (serves : Serves o i u) where
+module _ {S D L H B : Type 0} (sources : S → SourceState) (drains : D → DrainState) (book : Book) (o : LaneOut) (i : Kept S D L H B) (u : ℕ) (s : Settled node_port_state (node_law sources drains book) node_asking node_moves i.net) (l : Leaves i u) (serves : Serves o i u) where
   pub out_keeps : OutKeeps (cell_out i u) (out_end o)
   out_keeps =
       let x = there sources drains book i.net s (way_out i u) l.place l.stage in
@@ -90,7 +90,7 @@ module _ {S D L B : Type 0} (sources : S → SourceState) (drains : D → DrainS
 
 -- ---- the end that takes
 
-module _ {S D L B : Type 0} (sources : S → SourceState) (drains : D → DrainState) (book : Book) (b : InputBoundary) (j : Kept S D L B) (u : ℕ) (s : Settled node_port_state (node_law sources drains book) node_asking node_moves j.net) (l : Enters j u) (k : BoundaryKeeps b) (f : Feeds b j u) where
+module _ {S D L H B : Type 0} (sources : S → SourceState) (drains : D → DrainState) (book : Book) (b : InputBoundary) (j : Kept S D L H B) (u : ℕ) (s : Settled node_port_state (node_law sources drains book) node_asking node_moves j.net) (l : Enters j u) (k : BoundaryKeeps b) (f : Feeds b j u) where
   pub in_keeps : InKeeps (keeps_all b) (in_size b.lane) (cell_in j u) (in_end b.lane)
   in_keeps =
       let g = gave_there sources drains book j.net s (way_in j u) l.place l.stage in
@@ -142,7 +142,7 @@ met_quiet o b w h waits item demand = record {
   refused_is = let n : has_cancelled b.lane ≤ saw_cancel o = no_less (saw_cancel o) (has_cancelled b.lane) (λ e. not_true w.demand _ waits.1 demand (inr e)) in let m = h.cancel in omega (arith, m, n);
 }
 
-module _ {S D L B : Type 0} (sources : S → SourceState) (drains : D → DrainState) (book : Book) (o : LaneOut) (b : InputBoundary) (i j : Kept S D L B) (u : ℕ) (s : Settled node_port_state (node_law sources drains book) node_asking node_moves i.net) (t : Settled node_port_state (node_law sources drains book) node_asking node_moves j.net) (l : Leaves i u) (e : Enters j u) (k : BoundaryKeeps b) (h : IsLaneHistory o b.lane) (serves : Serves o i u) (feeds : Feeds b j u) where
+module _ {S D L H B : Type 0} (sources : S → SourceState) (drains : D → DrainState) (book : Book) (o : LaneOut) (b : InputBoundary) (i j : Kept S D L H B) (u : ℕ) (s : Settled node_port_state (node_law sources drains book) node_asking node_moves i.net) (t : Settled node_port_state (node_law sources drains book) node_asking node_moves j.net) (l : Leaves i u) (e : Enters j u) (k : BoundaryKeeps b) (h : IsLaneHistory o b.lane) (serves : Serves o i u) (feeds : Feeds b j u) where
   pub lane_keeps : (k : LaneKeeps (keeps_all b) (in_size b.lane) (cell_out i u) (cell_in j u) (asked_in_all b.lane)) × ((k.out ≡ out_end o) × (k.inp ≡ in_end b.lane))
   lane_keeps = (
     record {

@@ -66,9 +66,9 @@ got_there wires [] i w e = absurd cc
 got_there wires (x ∷ ws) zero w e = ap (λ (k : ℕ). Some (get_or wires k no_wire).wire.got) (some_same x w e)
 got_there wires (x ∷ ws) (suc i) w e = got_there wires ws i w e
 
-module _ {S D L B : Type 0} (sources : S → SourceState) (drains : D → DrainState) (book : Book) where
+module _ {S D L H B : Type 0} (sources : S → SourceState) (drains : D → DrainState) (book : Book) where
   -- the stage's law at port i of it
-  took_by : (x first : IslandNode S D L B) → IsLeaving first → (v : View) (t g : List (List Item)) (i : ℕ) (l : List Item) (y : InView) → slice_get t i ≡ Some l → in_at v i ≡ y → node_law sources drains book first x v t g → Took (node_gone x) (node_waits x) l y
+  took_by : (x first : IslandNode S D L H B) → IsLeaving first → (v : View) (t g : List (List Item)) (i : ℕ) (l : List Item) (y : InView) → slice_get t i ≡ Some l → in_at v i ≡ y → node_law sources drains book first x v t g → Took (node_gone x) (node_waits x) l y
   took_by (node.Leaving x) (node.Leaving f) h v t g i l y at inp law =
       let one = one_item (told law.list law.end) l t i law.took_is at in
       record {
@@ -101,12 +101,12 @@ module _ {S D L B : Type 0} (sources : S → SourceState) (drains : D → DrainS
   took_by x (node.Ignoring f) h v t g i l y at inp law = absurd h
   took_by x (node.Entering f) h v t g i l y at inp law = absurd h
 
-  module _ (net : Net (IslandNode S D L B)) (s : Settled node_port_state (node_law sources drains book) node_asking node_moves net) (q : ℕ) (h : q < length net.wires) (stage : LeavesAt net q) where
+  module _ (net : Net (IslandNode S D L H B)) (s : Settled node_port_state (node_law sources drains book) node_asking node_moves net) (q : ℕ) (h : q < length net.wires) (stage : LeavesAt net q) where
     abbrev to : ℕ
     to = (end_at net.ends q).to
 
     -- what came there is a list and its end, as the stage knows
-    pub took_there : (x : IslandNode S D L B) → slice_get net.nodes to ≡ Some x → Took (node_gone x) (node_waits x) (wire_at net q).wire.got (wire_at net q).wire.inp
+    pub took_there : (x : IslandNode S D L H B) → slice_get net.nodes to ≡ Some x → Took (node_gone x) (node_waits x) (wire_at net q).wire.got (wire_at net q).wire.inp
     took_there x at =
         let first = get_there net.firsts to (rw s.each_first (s.wired.to_within q h)) in
         took_by x first.0 (stage first.0 first.1) (view_of net to) (took net to) (gave net to) (end_at net.ends q).input (wire_at net q).wire.got (wire_at net q).wire.inp
@@ -114,5 +114,5 @@ module _ {S D L B : Type 0} (sources : S → SourceState) (drains : D → DrainS
         (read_at inp_of net.wires (ports_at net to).ins (end_at net.ends q).input q Cancelled (s.wired.to_input q h))
         (s.minded to (s.wired.to_within q h) x first.0 at first.1).law_holds
 
-    pub there : (x : IslandNode S D L B) × (slice_get net.nodes to ≡ Some x)
+    pub there : (x : IslandNode S D L H B) × (slice_get net.nodes to ≡ Some x)
     there = get_there net.nodes to (s.wired.to_within q h)

@@ -35,7 +35,7 @@ input_is many number u (Some s) = refl
 pub far_is : (ws : List Edge) (u : ℕ) (v : Edge) → slice_get ws u ≡ Some v → far_link ws u ≡ into (length ws) (lanes_in (take u ws)) u v.lane
 far_is ws u v at = ap (input_link u (length ws + lanes_in (take u ws))) (lane_is ws u v at) ∙ input_is (length ws) (lanes_in (take u ws)) u v.lane
 
-module _ {S D L B : Type 0} (homes : List ℕ) (count : ℕ) (ws : List Edge) (nodes : List (Seated S D L B)) (a : AreSeated homes count ws nodes) where
+module _ {S D L H B : Type 0} (homes : List ℕ) (count : ℕ) (ws : List Edge) (nodes : List (Seated S D L H B)) (a : AreSeated homes count ws nodes) where
   abbrev pub hs : List ℕ
   hs = place_homes homes ws
 
@@ -45,7 +45,7 @@ module _ {S D L B : Type 0} (homes : List ℕ) (count : ℕ) (ws : List Edge) (n
   abbrev pub lhs : List ℕ
   lhs = link_homes homes ws
 
-  abbrev pub seats : List (Seated S D L B)
+  abbrev pub seats : List (Seated S D L H B)
   seats = whole_seats nodes (lanes_from homes 0 ws)
 
   -- ---- the ends of wires are nodes
@@ -100,7 +100,7 @@ module _ {S D L B : Type 0} (homes : List ℕ) (count : ℕ) (ws : List Edge) (n
   seats_in_count k = share_count hs seats k all_seats
 
   -- what stands at the place of a node
-  pub seat_at : (k : ℕ) (s : Seated S D L B) → slice_get nodes k ≡ Some s → k < length homes → slice_get (of_home hs (slice_index homes k) seats) (rank_of hs k) ≡ Some s
+  pub seat_at : (k : ℕ) (s : Seated S D L H B) → slice_get nodes k ≡ Some s → k < length homes → slice_get (of_home hs (slice_index homes k) seats) (rank_of hs k) ≡ Some s
   seat_at k s at lt =
       ap (slice_get (of_home hs (slice_index homes k) seats)) (place_rank k lt) ∙ share_at hs seats k (slice_index homes k) s (node_seat homes ws nodes (length homes) size refl from_node to_node k s at) (place_at k lt)
 

@@ -49,7 +49,7 @@ seats_by_islands homes ws = record {
 }
 
 -- nodes whose ports these wires join, each in one of so many islands
-pub record AreSeated {S D L B : Type 0} (homes : List ℕ) (count : ℕ) (ws : List Edge) (nodes : List (Seated S D L B)) : Type 0 where
+pub record AreSeated {S D L H B : Type 0} (homes : List ℕ) (count : ℕ) (ws : List Edge) (nodes : List (Seated S D L H B)) : Type 0 where
   pub each : length homes ≡ length nodes
   pub below : All (λ h. h < count) homes
   pub inside : KeepsInside homes ws
@@ -57,15 +57,15 @@ pub record AreSeated {S D L B : Type 0} (homes : List ℕ) (count : ℕ) (ws : L
   pub few : length (whole_links (length nodes) ws) < 2 ^ 32
 
 -- the graph has these wires, and its nodes have the ports of these
-pub record IsGraphOf {S D L B : Type 0} (g : Graph) (ws : List Edge) (nodes : List (Seated S D L B)) : Type 0 where
+pub record IsGraphOf {S D L H B : Type 0} (g : Graph) (ws : List Edge) (nodes : List (Seated S D L H B)) : Type 0 where
   pub wires_are : g.wires ≡ ws
   pub each_node : length g.nodes ≡ length nodes
   pub ins_are : (k : ℕ) (n : graph.Node) → slice_get g.nodes k ≡ Some n → inputs_at nodes k ≡ inputs_of n
   pub outs_are : (k : ℕ) (n : graph.Node) → slice_get g.nodes k ≡ Some n → outputs_at nodes k ≡ outputs_of n
 
-module _ {S D L B : Type 0} (homes : List ℕ) (ws : List Edge) (nodes : List (Seated S D L B)) where
+module _ {S D L H B : Type 0} (homes : List ℕ) (ws : List Edge) (nodes : List (Seated S D L H B)) where
   -- what stands at the places of island k
-  abbrev pub seats_in : ℕ → List (Seated S D L B)
+  abbrev pub seats_in : ℕ → List (Seated S D L H B)
   seats_in k = of_home (place_homes homes ws) k (whole_seats nodes (lanes_from homes 0 ws))
 
   -- the links of island k
@@ -73,7 +73,7 @@ module _ {S D L B : Type 0} (homes : List ℕ) (ws : List Edge) (nodes : List (S
   links_in k = own_links (place_homes homes ws) (whole_links (length nodes) ws) k
 
   -- the nets that the parts of so many islands have become
-  pub record AreNets (count : ℕ) (nets : ℕ → Net (IslandNode S D L B)) : Type 0 where
+  pub record AreNets (count : ℕ) (nets : ℕ → Net (IslandNode S D L H B)) : Type 0 where
     pub become : (k : ℕ) → k < count → AllBecome (seats_in k) (nets k).firsts
     pub ends_are : (k : ℕ) → k < count → (nets k).ends ≡ map ends_of (links_in k)
     pub wired : (k : ℕ) → k < count → Wired (nets k).ends (nets k).ports (length (nets k).nodes) (length (nets k).wires)

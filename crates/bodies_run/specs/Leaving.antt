@@ -11,14 +11,14 @@ use Rattle.island_body.specs.declared.body.Body.{Body}
 use Rattle.bodies_run.specs.Bodies.{net_of}
 
 -- what bodies tell together, where the input ends of the lanes asked for so many elements
-abbrev pub account_in : {S D L B : Type 0} → List ℕ → List Edge → List (Body S D L B) → (ℕ → ℕ) → Account (IslandNode S D L B)
+abbrev pub account_in : {S D L H B : Type 0} → List ℕ → List Edge → List (Body S D L H B) → (ℕ → ℕ) → Account (IslandNode S D L H B)
 account_in homes ws bodies all = joined_account (net_of bodies) (seats_by_islands homes ws) all
 
 -- The account is of these nodes, in the order of the blueprint, and they began as what stands at these places. Beyond them it says
 -- nothing of nodes.
-pub record AreLeft {S D L B : Type 0} (places : List (Seated S D L B)) (account : Account (IslandNode S D L B)) (nodes : List (IslandNode S D L B))
+pub record AreLeft {S D L H B : Type 0} (places : List (Seated S D L H B)) (account : Account (IslandNode S D L H B)) (nodes : List (IslandNode S D L H B))
     : Type 0 where
-  pub firsts : List (IslandNode S D L B)
+  pub firsts : List (IslandNode S D L H B)
   pub become : AllBecome places firsts
   pub first_at : (k : ℕ) → k < length firsts → account.firsts k ≡ slice_get firsts k
   pub node_at : (k : ℕ) → k < length nodes → account.nodes k ≡ slice_get nodes k

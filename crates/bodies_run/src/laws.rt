@@ -35,19 +35,20 @@ ghost use Rattle.materializer.specs.Graphs.{graph_of, around_of};
 ghost use Rattle.materializer.specs.Seats.{AreSeats};
 ghost use Rattle.bodies_run.specs.Leaving.{account_in, AreLeft, of_lists};
 
+use graph_stage::handlers::Handlers;
 use plug_logic::book::PlugBook;
 use plug_logic::logic::Logic;
 use stream_io::outside::{Drain, Source};
 
 /// An island whose lanes come in and go out at its links has the stage of each at the place of its wire's connection: at the output
 /// (`out`), and at the input (`inp`).
-pub fn lanes_lie_at_their_places<S: Source, D: Drain, L: Logic, B: PlugBook>()
-    ensures out { (homes : List ℕ) (count : ℕ) (ws : List Edge) (nodes : List (Seated S D L B)) (u : ℕ) (v : Edge) (size : ℕ) (i : Kept S D L B)
+pub fn lanes_lie_at_their_places<S: Source, D: Drain, L: Logic, H: Handlers, B: PlugBook>()
+    ensures out { (homes : List ℕ) (count : ℕ) (ws : List Edge) (nodes : List (Seated S D L H B)) (u : ℕ) (v : Edge) (size : ℕ) (i : Kept S D L H B)
         → AreSeated homes count ws nodes → slice_get ws u ≡ Some v → v.lane ≡ Some size
         → ((q : ℕ) (l : Link) → slice_get (links_in homes ws nodes (slice_index homes v.from)) q ≡ Some l
         → goes_out (seats_in homes ws nodes (slice_index homes v.from)) l.to ≡ true → LeavesBy i l.wire q)
         → ((seats_by_islands homes ws).near u).at ≡ way_out i u }
-    ensures inp { (homes : List ℕ) (count : ℕ) (ws : List Edge) (nodes : List (Seated S D L B)) (u : ℕ) (v : Edge) (size : ℕ) (i : Kept S D L B)
+    ensures inp { (homes : List ℕ) (count : ℕ) (ws : List Edge) (nodes : List (Seated S D L H B)) (u : ℕ) (v : Edge) (size : ℕ) (i : Kept S D L H B)
         → AreSeated homes count ws nodes → slice_get ws u ≡ Some v → v.lane ≡ Some size
         → ((q : ℕ) (l : Link) → slice_get (links_in homes ws nodes (slice_index homes v.to)) q ≡ Some l
         → comes_in (seats_in homes ws nodes (slice_index homes v.to)) l.from ≡ true → EntersBy i l.wire q)
@@ -57,46 +58,46 @@ pub fn lanes_lie_at_their_places<S: Source, D: Drain, L: Logic, B: PlugBook>()
 /// The nets of the bodies' islands cover the graph of the blueprint (`covers`), and each of their connections is one of a wire's
 /// (`owned`): they are nets of its islands (`nets`), and each net is between two events (`settled`). Their nodes began as what stands at
 /// the nodes of the blueprint (`began`), and their crossings are its lanes (`lanes`).
-pub fn bodies_cover<S: Source, D: Drain, L: Logic, B: PlugBook>()
-    ensures covers { (g : Graph) (homes : List ℕ) (count : ℕ) (ws : List Edge) (nodes : List (Seated S D L B)) (crossings : List Crossing)
-        (begun now : List (Body S D L B)) → AreBodiesOf S.state D.state B.lists g homes count ws nodes crossings begun → EachOf BodyGoes begun now
+pub fn bodies_cover<S: Source, D: Drain, L: Logic, H: Handlers, B: PlugBook>()
+    ensures covers { (g : Graph) (homes : List ℕ) (count : ℕ) (ws : List Edge) (nodes : List (Seated S D L H B)) (crossings : List Crossing)
+        (begun now : List (Body S D L H B)) → AreBodiesOf S.state D.state B.lists g homes count ws nodes crossings begun → EachOf BodyGoes begun now
         → AllOf (BodyKeeps S.state D.state B.lists) now
         → Covers g (net_of now) (seats_by_islands homes ws) }
-    ensures owned { (g : Graph) (homes : List ℕ) (count : ℕ) (ws : List Edge) (nodes : List (Seated S D L B)) (crossings : List Crossing)
-        (begun now : List (Body S D L B)) → AreBodiesOf S.state D.state B.lists g homes count ws nodes crossings begun → EachOf BodyGoes begun now
+    ensures owned { (g : Graph) (homes : List ℕ) (count : ℕ) (ws : List Edge) (nodes : List (Seated S D L H B)) (crossings : List Crossing)
+        (begun now : List (Body S D L H B)) → AreBodiesOf S.state D.state B.lists g homes count ws nodes crossings begun → EachOf BodyGoes begun now
         → AllOf (BodyKeeps S.state D.state B.lists) now
         → Owned g (net_of now) (seats_by_islands homes ws) count }
-    ensures nets { (g : Graph) (homes : List ℕ) (count : ℕ) (ws : List Edge) (nodes : List (Seated S D L B)) (crossings : List Crossing)
-        (begun now : List (Body S D L B)) → AreBodiesOf S.state D.state B.lists g homes count ws nodes crossings begun → EachOf BodyGoes begun now
+    ensures nets { (g : Graph) (homes : List ℕ) (count : ℕ) (ws : List Edge) (nodes : List (Seated S D L H B)) (crossings : List Crossing)
+        (begun now : List (Body S D L H B)) → AreBodiesOf S.state D.state B.lists g homes count ws nodes crossings begun → EachOf BodyGoes begun now
         → AllOf (BodyKeeps S.state D.state B.lists) now
         → AreNets homes ws nodes count (net_of now) }
-    ensures began { (g : Graph) (homes : List ℕ) (count : ℕ) (ws : List Edge) (nodes : List (Seated S D L B)) (crossings : List Crossing)
-        (begun now : List (Body S D L B)) (all : ℕ → ℕ) → AreBodiesOf S.state D.state B.lists g homes count ws nodes crossings begun → EachOf BodyGoes begun now
+    ensures began { (g : Graph) (homes : List ℕ) (count : ℕ) (ws : List Edge) (nodes : List (Seated S D L H B)) (crossings : List Crossing)
+        (begun now : List (Body S D L H B)) (all : ℕ → ℕ) → AreBodiesOf S.state D.state B.lists g homes count ws nodes crossings begun → EachOf BodyGoes begun now
         → AllOf (BodyKeeps S.state D.state B.lists) now
-        → (firsts : List (IslandNode S D L B)) × (AllBecome nodes firsts × ((k : ℕ) → k < length g.nodes
+        → (firsts : List (IslandNode S D L H B)) × (AllBecome nodes firsts × ((k : ℕ) → k < length g.nodes
         → (joined_account (net_of now) (seats_by_islands homes ws) all).firsts k ≡ slice_get firsts k)) }
-    ensures lanes { (g : Graph) (homes : List ℕ) (count : ℕ) (ws : List Edge) (nodes : List (Seated S D L B)) (crossings : List Crossing)
-        (begun now : List (Body S D L B)) → AreBodiesOf S.state D.state B.lists g homes count ws nodes crossings begun → EachOf BodyGoes begun now
+    ensures lanes { (g : Graph) (homes : List ℕ) (count : ℕ) (ws : List Edge) (nodes : List (Seated S D L H B)) (crossings : List Crossing)
+        (begun now : List (Body S D L H B)) → AreBodiesOf S.state D.state B.lists g homes count ws nodes crossings begun → EachOf BodyGoes begun now
         → AllOf (BodyKeeps S.state D.state B.lists) now
         → AreLanes homes ws now crossings }
-    ensures settled { (now : List (Body S D L B)) → AllOf (BodyKeeps S.state D.state B.lists) now → AllSettled S.state D.state B.lists now }
+    ensures settled { (now : List (Body S D L H B)) → AllOf (BodyKeeps S.state D.state B.lists) now → AllSettled S.state D.state B.lists now }
 {}
 
 /// Where the ends of all lanes were brought together, of each lane is kept and known what an account wants, between the connections of
 /// its wire.
-pub fn their_lanes_keep<S: Source, D: Drain, L: Logic, B: PlugBook>()
-    ensures { (g : Graph) (homes : List ℕ) (count : ℕ) (ws : List Edge) (nodes : List (Seated S D L B)) (crossings : List Crossing)
-        (begun now : List (Body S D L B)) (all : ℕ → ℕ) → AreBodiesOf S.state D.state B.lists g homes count ws nodes crossings begun → EachOf BodyGoes begun now
+pub fn their_lanes_keep<S: Source, D: Drain, L: Logic, H: Handlers, B: PlugBook>()
+    ensures { (g : Graph) (homes : List ℕ) (count : ℕ) (ws : List Edge) (nodes : List (Seated S D L H B)) (crossings : List Crossing)
+        (begun now : List (Body S D L H B)) (all : ℕ → ℕ) → AreBodiesOf S.state D.state B.lists g homes count ws nodes crossings begun → EachOf BodyGoes begun now
         → AllOf (BodyKeeps S.state D.state B.lists) now → AskedAre now crossings all → AllJoined BodiesJoined now crossings
         → LanesKeep g (net_of now) (seats_by_islands homes ws) all }
 {}
 
 /// Where no body has an event, no net has one (`queues`), and each lane rests (`lanes`).
-pub fn their_lanes_rest<S: Source, D: Drain, L: Logic, B: PlugBook>()
-    ensures queues { (crossings : List Crossing) (now : List (Body S D L B)) → AtRest is_pending BodiesJoined now crossings → (k : ℕ)
+pub fn their_lanes_rest<S: Source, D: Drain, L: Logic, H: Handlers, B: PlugBook>()
+    ensures queues { (crossings : List Crossing) (now : List (Body S D L H B)) → AtRest is_pending BodiesJoined now crossings → (k : ℕ)
         → (net_of now k).queue ≡ [] }
-    ensures lanes { (g : Graph) (homes : List ℕ) (count : ℕ) (ws : List Edge) (nodes : List (Seated S D L B)) (crossings : List Crossing)
-        (begun now : List (Body S D L B)) (all : ℕ → ℕ) → AreBodiesOf S.state D.state B.lists g homes count ws nodes crossings begun → EachOf BodyGoes begun now
+    ensures lanes { (g : Graph) (homes : List ℕ) (count : ℕ) (ws : List Edge) (nodes : List (Seated S D L H B)) (crossings : List Crossing)
+        (begun now : List (Body S D L H B)) (all : ℕ → ℕ) → AreBodiesOf S.state D.state B.lists g homes count ws nodes crossings begun → EachOf BodyGoes begun now
         → AllOf (BodyKeeps S.state D.state B.lists) now → AskedAre now crossings all → AtRest is_pending BodiesJoined now crossings
         → LanesRest g (net_of now) (seats_by_islands homes ws) all }
 {}
@@ -104,15 +105,15 @@ pub fn their_lanes_rest<S: Source, D: Drain, L: Logic, B: PlugBook>()
 /// What bodies spent: `cost` is what was taken off each lane, with the finds of new demand or a cancel there. What was spent is at most
 /// the events of all nets and these costs, and at least the asks that came to outputs and these costs (`costs`). So all that was spent is
 /// below the count of the blueprint's wires over what they were sent, by one for each wire (`paid`).
-pub fn bodies_are_paid<S: Source, D: Drain, L: Logic, B: PlugBook>()
-    ensures costs { (g : Graph) (homes : List ℕ) (count : ℕ) (ws : List Edge) (nodes : List (Seated S D L B)) (crossings : List Crossing)
-        (begun now : List (Body S D L B)) (all : ℕ → ℕ) → AreBodiesOf S.state D.state B.lists g homes count ws nodes crossings begun → EachOf BodyGoes begun now
+pub fn bodies_are_paid<S: Source, D: Drain, L: Logic, H: Handlers, B: PlugBook>()
+    ensures costs { (g : Graph) (homes : List ℕ) (count : ℕ) (ws : List Edge) (nodes : List (Seated S D L H B)) (crossings : List Crossing)
+        (begun now : List (Body S D L H B)) (all : ℕ → ℕ) → AreBodiesOf S.state D.state B.lists g homes count ws nodes crossings begun → EachOf BodyGoes begun now
         → AllOf (BodyKeeps S.state D.state B.lists) now → AskedAre now crossings all → AllJoined BodiesJoined now crossings
         → (cost : ℕ → ℕ) × (LanesCost g (net_of now) (seats_by_islands homes ws) all cost
         × ((sum_by (λ b. b.spent) now ≤ sum_below (λ b. total_cost (net_of now b)) count + over_lanes g cost)
         × (sum_below (λ b. all_asks (net_of now b)) count + over_lanes g cost ≤ sum_by (λ b. b.spent) now))) }
-    ensures paid { (g : Graph) (homes : List ℕ) (count : ℕ) (ws : List Edge) (nodes : List (Seated S D L B)) (crossings : List Crossing)
-        (begun now : List (Body S D L B)) (all : ℕ → ℕ) → AreBodiesOf S.state D.state B.lists g homes count ws nodes crossings begun → EachOf BodyGoes begun now
+    ensures paid { (g : Graph) (homes : List ℕ) (count : ℕ) (ws : List Edge) (nodes : List (Seated S D L H B)) (crossings : List Crossing)
+        (begun now : List (Body S D L H B)) (all : ℕ → ℕ) → AreBodiesOf S.state D.state B.lists g homes count ws nodes crossings begun → EachOf BodyGoes begun now
         → AllOf (BodyKeeps S.state D.state B.lists) now → AskedAre now crossings all → AllJoined BodiesJoined now crossings
         → sum_by (λ b. b.spent) now + length g.wires ≤ count_needed g (picture_counts (joined_account (net_of now) (seats_by_islands homes ws) all) g) }
 {}
@@ -121,39 +122,39 @@ pub fn bodies_are_paid<S: Source, D: Drain, L: Logic, B: PlugBook>()
 /// (`last`). With all islands as they were then, the nets of the bodies cover the graph of the blueprint (`covers`, `owned`, `nets`, `began`), each
 /// net is between two events (`settled`), and their lanes keep what an account wants (`lanes`). Since then each node has kept what outlives
 /// want of memory (`kept`).
-pub fn broken_bodies_cover<S: Source, D: Drain, L: Logic, B: PlugBook>()
-    ensures last { (begun now : List (Body S D L B)) → WholeOrBroken (BodyKeeps S.state D.state B.lists) BodyGoes (BodyBreaks S.state D.state B.lists) begun now
-        → (then : List (Body S D L B)) × AreLastOf S.state D.state B.lists begun now then }
-    ensures covers { (g : Graph) (homes : List ℕ) (count : ℕ) (ws : List Edge) (nodes : List (Seated S D L B)) (crossings : List Crossing)
-        (begun now then : List (Body S D L B)) → AreBodiesOf S.state D.state B.lists g homes count ws nodes crossings begun
+pub fn broken_bodies_cover<S: Source, D: Drain, L: Logic, H: Handlers, B: PlugBook>()
+    ensures last { (begun now : List (Body S D L H B)) → WholeOrBroken (BodyKeeps S.state D.state B.lists) BodyGoes (BodyBreaks S.state D.state B.lists) begun now
+        → (then : List (Body S D L H B)) × AreLastOf S.state D.state B.lists begun now then }
+    ensures covers { (g : Graph) (homes : List ℕ) (count : ℕ) (ws : List Edge) (nodes : List (Seated S D L H B)) (crossings : List Crossing)
+        (begun now then : List (Body S D L H B)) → AreBodiesOf S.state D.state B.lists g homes count ws nodes crossings begun
         → WholeOrBroken (BodyKeeps S.state D.state B.lists) BodyGoes (BodyBreaks S.state D.state B.lists) begun now
         → AreLastOf S.state D.state B.lists begun now then
         → Covers g (net_of then) (seats_by_islands homes ws) }
-    ensures owned { (g : Graph) (homes : List ℕ) (count : ℕ) (ws : List Edge) (nodes : List (Seated S D L B)) (crossings : List Crossing)
-        (begun now then : List (Body S D L B)) → AreBodiesOf S.state D.state B.lists g homes count ws nodes crossings begun
+    ensures owned { (g : Graph) (homes : List ℕ) (count : ℕ) (ws : List Edge) (nodes : List (Seated S D L H B)) (crossings : List Crossing)
+        (begun now then : List (Body S D L H B)) → AreBodiesOf S.state D.state B.lists g homes count ws nodes crossings begun
         → WholeOrBroken (BodyKeeps S.state D.state B.lists) BodyGoes (BodyBreaks S.state D.state B.lists) begun now
         → AreLastOf S.state D.state B.lists begun now then
         → Owned g (net_of then) (seats_by_islands homes ws) count }
-    ensures nets { (g : Graph) (homes : List ℕ) (count : ℕ) (ws : List Edge) (nodes : List (Seated S D L B)) (crossings : List Crossing)
-        (begun now then : List (Body S D L B)) → AreBodiesOf S.state D.state B.lists g homes count ws nodes crossings begun
+    ensures nets { (g : Graph) (homes : List ℕ) (count : ℕ) (ws : List Edge) (nodes : List (Seated S D L H B)) (crossings : List Crossing)
+        (begun now then : List (Body S D L H B)) → AreBodiesOf S.state D.state B.lists g homes count ws nodes crossings begun
         → WholeOrBroken (BodyKeeps S.state D.state B.lists) BodyGoes (BodyBreaks S.state D.state B.lists) begun now
         → AreLastOf S.state D.state B.lists begun now then
         → AreNets homes ws nodes count (net_of then) }
-    ensures began { (g : Graph) (homes : List ℕ) (count : ℕ) (ws : List Edge) (nodes : List (Seated S D L B)) (crossings : List Crossing)
-        (begun now then : List (Body S D L B)) (all : ℕ → ℕ) → AreBodiesOf S.state D.state B.lists g homes count ws nodes crossings begun
+    ensures began { (g : Graph) (homes : List ℕ) (count : ℕ) (ws : List Edge) (nodes : List (Seated S D L H B)) (crossings : List Crossing)
+        (begun now then : List (Body S D L H B)) (all : ℕ → ℕ) → AreBodiesOf S.state D.state B.lists g homes count ws nodes crossings begun
         → WholeOrBroken (BodyKeeps S.state D.state B.lists) BodyGoes (BodyBreaks S.state D.state B.lists) begun now
         → AreLastOf S.state D.state B.lists begun now then
-        → (firsts : List (IslandNode S D L B)) × (AllBecome nodes firsts × ((k : ℕ) → k < length g.nodes
+        → (firsts : List (IslandNode S D L H B)) × (AllBecome nodes firsts × ((k : ℕ) → k < length g.nodes
         → (joined_account (net_of then) (seats_by_islands homes ws) all).firsts k ≡ slice_get firsts k)) }
-    ensures settled { (begun now then : List (Body S D L B)) → WholeOrBroken (BodyKeeps S.state D.state B.lists) BodyGoes
+    ensures settled { (begun now then : List (Body S D L H B)) → WholeOrBroken (BodyKeeps S.state D.state B.lists) BodyGoes
         (BodyBreaks S.state D.state B.lists) begun now → AreLastOf S.state D.state B.lists begun now then
         → AllSettled S.state D.state B.lists then }
-    ensures lanes { (g : Graph) (homes : List ℕ) (count : ℕ) (ws : List Edge) (nodes : List (Seated S D L B)) (crossings : List Crossing)
-        (begun now then : List (Body S D L B)) (all : ℕ → ℕ) → AreBodiesOf S.state D.state B.lists g homes count ws nodes crossings begun
+    ensures lanes { (g : Graph) (homes : List ℕ) (count : ℕ) (ws : List Edge) (nodes : List (Seated S D L H B)) (crossings : List Crossing)
+        (begun now then : List (Body S D L H B)) (all : ℕ → ℕ) → AreBodiesOf S.state D.state B.lists g homes count ws nodes crossings begun
         → WholeOrBroken (BodyKeeps S.state D.state B.lists) BodyGoes (BodyBreaks S.state D.state B.lists) begun now
         → AreLastOf S.state D.state B.lists begun now then → AskedAre now crossings all → AllJoined BodiesJoined now crossings
         → LanesKeep g (net_of then) (seats_by_islands homes ws) all }
-    ensures kept { (begun now then : List (Body S D L B)) → WholeOrBroken (BodyKeeps S.state D.state B.lists) BodyGoes
+    ensures kept { (begun now then : List (Body S D L H B)) → WholeOrBroken (BodyKeeps S.state D.state B.lists) BodyGoes
         (BodyBreaks S.state D.state B.lists) begun now → AreLastOf S.state D.state B.lists begun now then
         → (k : ℕ) → AllKept (KeepsNode S.state D.state) (net_of then k).nodes (net_of now k).nodes }
 {}
@@ -162,28 +163,28 @@ pub fn broken_bodies_cover<S: Source, D: Drain, L: Logic, B: PlugBook>()
 /// between turns once the ends of all lanes were brought together (`run`). The nodes of their islands come back into one list (`back`), and the
 /// run is of those of the blueprint's nodes (`nodes`). No event is left on any wire where no body has one (`still`). What they spent is
 /// below the count of the blueprint's wires over what they were sent, by one for each wire (`most`).
-pub fn bodies_leave_a_run<S: Source, D: Drain, L: Logic, B: PlugBook>()
-    ensures run { (b : Blueprint) (homes : List ℕ) (count : ℕ) (nodes : List (Seated S D L B)) (crossings : List Crossing) (begun now : List (Body S D L B))
+pub fn bodies_leave_a_run<S: Source, D: Drain, L: Logic, H: Handlers, B: PlugBook>()
+    ensures run { (b : Blueprint) (homes : List ℕ) (count : ℕ) (nodes : List (Seated S D L H B)) (crossings : List Crossing) (begun now : List (Body S D L H B))
         (all : ℕ → ℕ) (heads : HeadLists) (taken : List (List ℕ)) (ss : List S) (ds : List D) → IsFit b heads taken
         → AreSeats (around_of b) 0 b.nodes.items ss ds nodes → All (λ s. (S.state s).given ≡ 0) ss
         → AreBodiesOf S.state D.state B.lists (graph_of b) homes count (blueprint_wires b) nodes crossings begun → EachOf BodyGoes begun now
         → AllOf (BodyKeeps S.state D.state B.lists) now → AskedAre now crossings all → AllJoined BodiesJoined now crossings
         → IsRun S.state D.state B.lists (graph_of b) (account_in homes (blueprint_wires b) now all) }
-    ensures back { (b : Blueprint) (homes : List ℕ) (count : ℕ) (nodes : List (Seated S D L B)) (crossings : List Crossing) (begun now : List (Body S D L B))
+    ensures back { (b : Blueprint) (homes : List ℕ) (count : ℕ) (nodes : List (Seated S D L H B)) (crossings : List Crossing) (begun now : List (Body S D L H B))
         → AreBodiesOf S.state D.state B.lists (graph_of b) homes count (blueprint_wires b) nodes crossings begun → EachOf BodyGoes begun now
         → AllOf (BodyKeeps S.state D.state B.lists) now
-        → (last : List (IslandNode S D L B)) × ((ends : List (IslandNode S D L B))
+        → (last : List (IslandNode S D L H B)) × ((ends : List (IslandNode S D L H B))
         × AreBroughtBack homes count (blueprint_wires b) (λ k. (net_of now k).nodes) last ends) }
-    ensures nodes { (b : Blueprint) (homes : List ℕ) (count : ℕ) (nodes : List (Seated S D L B)) (crossings : List Crossing) (begun now : List (Body S D L B))
-        (all : ℕ → ℕ) (last ends : List (IslandNode S D L B)) → AreBodiesOf S.state D.state B.lists (graph_of b) homes count
+    ensures nodes { (b : Blueprint) (homes : List ℕ) (count : ℕ) (nodes : List (Seated S D L H B)) (crossings : List Crossing) (begun now : List (Body S D L H B))
+        (all : ℕ → ℕ) (last ends : List (IslandNode S D L H B)) → AreBodiesOf S.state D.state B.lists (graph_of b) homes count
         (blueprint_wires b) nodes crossings begun → EachOf BodyGoes begun now → AllOf (BodyKeeps S.state D.state B.lists) now
         → AreBroughtBack homes count (blueprint_wires b) (λ k. (net_of now k).nodes) last ends
         → AreLeft nodes (account_in homes (blueprint_wires b) now all) last }
-    ensures still { (b : Blueprint) (homes : List ℕ) (count : ℕ) (nodes : List (Seated S D L B)) (crossings : List Crossing) (begun now : List (Body S D L B))
+    ensures still { (b : Blueprint) (homes : List ℕ) (count : ℕ) (nodes : List (Seated S D L H B)) (crossings : List Crossing) (begun now : List (Body S D L H B))
         (all : ℕ → ℕ) → AreBodiesOf S.state D.state B.lists (graph_of b) homes count (blueprint_wires b) nodes crossings begun → EachOf BodyGoes begun now
         → AllOf (BodyKeeps S.state D.state B.lists) now → AskedAre now crossings all → AtRest is_pending BodiesJoined now crossings
         → IsStill (graph_of b) (account_in homes (blueprint_wires b) now all) }
-    ensures most { (b : Blueprint) (homes : List ℕ) (count : ℕ) (nodes : List (Seated S D L B)) (crossings : List Crossing) (begun now : List (Body S D L B))
+    ensures most { (b : Blueprint) (homes : List ℕ) (count : ℕ) (nodes : List (Seated S D L H B)) (crossings : List Crossing) (begun now : List (Body S D L H B))
         (all : ℕ → ℕ) → AreBodiesOf S.state D.state B.lists (graph_of b) homes count (blueprint_wires b) nodes crossings begun → EachOf BodyGoes begun now
         → AllOf (BodyKeeps S.state D.state B.lists) now → AskedAre now crossings all → AllJoined BodiesJoined now crossings
         → sum_by (λ b. b.spent) now + length (blueprint_wires b) ≤ count_needed (graph_of b)
@@ -193,31 +194,31 @@ pub fn bodies_leave_a_run<S: Source, D: Drain, L: Logic, B: PlugBook>()
 /// Bodies of which some broke off leave a run too, with their islands as they were at a last moment between two events (`run`). The nodes
 /// of the islands come back into one list, as they were then and as they are (`back`); the run is of those of the blueprint's nodes as
 /// they were then (`nodes`), and since then each has kept what outlives want of memory (`kept`).
-pub fn broken_bodies_leave_a_run<S: Source, D: Drain, L: Logic, B: PlugBook>()
-    ensures run { (b : Blueprint) (homes : List ℕ) (count : ℕ) (nodes : List (Seated S D L B)) (crossings : List Crossing)
-        (begun now then : List (Body S D L B)) (all : ℕ → ℕ) (heads : HeadLists) (taken : List (List ℕ)) (ss : List S) (ds : List D) → IsFit b heads taken
+pub fn broken_bodies_leave_a_run<S: Source, D: Drain, L: Logic, H: Handlers, B: PlugBook>()
+    ensures run { (b : Blueprint) (homes : List ℕ) (count : ℕ) (nodes : List (Seated S D L H B)) (crossings : List Crossing)
+        (begun now then : List (Body S D L H B)) (all : ℕ → ℕ) (heads : HeadLists) (taken : List (List ℕ)) (ss : List S) (ds : List D) → IsFit b heads taken
         → AreSeats (around_of b) 0 b.nodes.items ss ds nodes → All (λ s. (S.state s).given ≡ 0) ss
         → AreBodiesOf S.state D.state B.lists (graph_of b) homes count (blueprint_wires b) nodes crossings begun
         → WholeOrBroken (BodyKeeps S.state D.state B.lists) BodyGoes (BodyBreaks S.state D.state B.lists) begun now
         → AreLastOf S.state D.state B.lists begun now then
         → AskedAre now crossings all → AllJoined BodiesJoined now crossings → IsRun S.state D.state B.lists (graph_of b)
         (account_in homes (blueprint_wires b) then all) }
-    ensures back { (b : Blueprint) (homes : List ℕ) (count : ℕ) (nodes : List (Seated S D L B)) (crossings : List Crossing)
-        (begun now then : List (Body S D L B)) → AreBodiesOf S.state D.state B.lists (graph_of b) homes count (blueprint_wires b) nodes crossings begun
+    ensures back { (b : Blueprint) (homes : List ℕ) (count : ℕ) (nodes : List (Seated S D L H B)) (crossings : List Crossing)
+        (begun now then : List (Body S D L H B)) → AreBodiesOf S.state D.state B.lists (graph_of b) homes count (blueprint_wires b) nodes crossings begun
         → WholeOrBroken (BodyKeeps S.state D.state B.lists) BodyGoes (BodyBreaks S.state D.state B.lists) begun now
         → AreLastOf S.state D.state B.lists begun now then
-        → ((last : List (IslandNode S D L B)) × ((ends : List (IslandNode S D L B))
+        → ((last : List (IslandNode S D L H B)) × ((ends : List (IslandNode S D L H B))
         × AreBroughtBack homes count (blueprint_wires b) (λ k. (net_of then k).nodes) last ends))
-        × ((broken : List (IslandNode S D L B)) × ((ends : List (IslandNode S D L B))
+        × ((broken : List (IslandNode S D L H B)) × ((ends : List (IslandNode S D L H B))
         × AreBroughtBack homes count (blueprint_wires b) (λ k. (net_of now k).nodes) broken ends)) }
-    ensures nodes { (b : Blueprint) (homes : List ℕ) (count : ℕ) (nodes : List (Seated S D L B)) (crossings : List Crossing)
-        (begun now then : List (Body S D L B)) (all : ℕ → ℕ) (last ends : List (IslandNode S D L B))
+    ensures nodes { (b : Blueprint) (homes : List ℕ) (count : ℕ) (nodes : List (Seated S D L H B)) (crossings : List Crossing)
+        (begun now then : List (Body S D L H B)) (all : ℕ → ℕ) (last ends : List (IslandNode S D L H B))
         → AreBodiesOf S.state D.state B.lists (graph_of b) homes count (blueprint_wires b) nodes crossings begun
         → WholeOrBroken (BodyKeeps S.state D.state B.lists) BodyGoes (BodyBreaks S.state D.state B.lists) begun now
         → AreLastOf S.state D.state B.lists begun now then
         → AreBroughtBack homes count (blueprint_wires b) (λ k. (net_of then k).nodes) last ends
         → AreLeft nodes (account_in homes (blueprint_wires b) then all) last }
-    ensures kept { (homes : List ℕ) (count : ℕ) (b : Blueprint) (begun now then : List (Body S D L B)) (last ends broken later : List (IslandNode S D L B))
+    ensures kept { (homes : List ℕ) (count : ℕ) (b : Blueprint) (begun now then : List (Body S D L H B)) (last ends broken later : List (IslandNode S D L H B))
         → WholeOrBroken (BodyKeeps S.state D.state B.lists) BodyGoes (BodyBreaks S.state D.state B.lists) begun now
         → AreLastOf S.state D.state B.lists begun now then
         → AreBroughtBack homes count (blueprint_wires b) (λ k. (net_of then k).nodes) last ends
@@ -227,12 +228,12 @@ pub fn broken_bodies_leave_a_run<S: Source, D: Drain, L: Logic, B: PlugBook>()
 
 /// A run is one too by an account that says nothing beyond the nodes of the blueprint, which holds lists of them (`run`). It is as still
 /// (`still`), and its picture is the same (`counts`).
-pub fn nodes_alone_are_a_run<S: Source, D: Drain, L: Logic, B: PlugBook>()
-    ensures run { (g : Graph) (a : Account (IslandNode S D L B)) (places : List (Seated S D L B)) (nodes : List (IslandNode S D L B))
+pub fn nodes_alone_are_a_run<S: Source, D: Drain, L: Logic, H: Handlers, B: PlugBook>()
+    ensures run { (g : Graph) (a : Account (IslandNode S D L H B)) (places : List (Seated S D L H B)) (nodes : List (IslandNode S D L H B))
         → (left : AreLeft places a nodes) → length places ≡ length g.nodes → IsRun S.state D.state B.lists g a
         → IsRun S.state D.state B.lists g (of_lists a left.firsts nodes) }
-    ensures still { (g : Graph) (a : Account (IslandNode S D L B)) (firsts nodes : List (IslandNode S D L B)) → IsStill g a
+    ensures still { (g : Graph) (a : Account (IslandNode S D L H B)) (firsts nodes : List (IslandNode S D L H B)) → IsStill g a
         → IsStill g (of_lists a firsts nodes) }
-    ensures counts { (g : Graph) (a : Account (IslandNode S D L B)) (firsts nodes : List (IslandNode S D L B))
+    ensures counts { (g : Graph) (a : Account (IslandNode S D L H B)) (firsts nodes : List (IslandNode S D L H B))
         → picture_counts (of_lists a firsts nodes) g ≡ picture_counts a g }
 {}

@@ -11,5 +11,5 @@ last_at : {A : Type 0} (xs : List A) (y : A) → slice_get (xs ++ y ∷ []) (len
 last_at [] y = refl
 last_at (x ∷ xs) y = last_at xs y
 
-pub last_island : {S D L B : Type 0} (b : Blueprint) (ss : List S) (ds : List D) (f : Filled S D L B) (before : List (Parts S D L B × IslandRoom S D L B)) (x : Parts S D L B × IslandRoom S D L B) (h : IsFilled b ss ds f) → f.islands.items ≡ before ++ x ∷ [] → IsIslandOf f.homes.items (blueprint_wires b) f.lanes.items h.nodes (length before) x
+pub last_island : {S D L H B : Type 0} (b : Blueprint) (ss : List S) (ds : List D) (f : Filled S D L H B) (before : List (Parts S D L H B × IslandRoom S D L H B)) (x : Parts S D L H B × IslandRoom S D L H B) (h : IsFilled b ss ds f) → f.islands.items ≡ before ++ x ∷ [] → IsIslandOf f.homes.items (blueprint_wires b) f.lanes.items h.nodes (length before) x
 last_island b ss ds f before x h is = h.each (length before) x (subst (λ xs. slice_get xs (length before) ≡ Some x) (sym is) (last_at before x))

@@ -5,6 +5,7 @@ use crate::blueprints::{node, wire};
 use blue_check::check::check;
 use elem_core::function::MapFn;
 use elem_core::why::NoMemory;
+use graph_stage::rude::Rude;
 use interpreter::island::Island;
 use island_plans::plans::plans_of;
 use materializer::choosers::no_plans;
@@ -60,7 +61,7 @@ fn longest_chase(alloc: Global, source: Kind, stages: u8) -> Result<Option<u32>,
         return Ok(None);
     }
     let free = no_plans(alloc, b.nodes.len())?;
-    let plans = plans_of::<MemSource, MemDrain, Dedup, Shipped>(
+    let plans = plans_of::<MemSource, MemDrain, Dedup, Rude, Shipped>(
         alloc,
         b,
         Vec::new(alloc),

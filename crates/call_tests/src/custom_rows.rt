@@ -11,30 +11,29 @@ use std::test::Fail;
 use std::thread::Threads;
 
 const EVERY: &str =
-    "streams 1\nsource src lines in.txt\nstage e custom every\nsink out lines out.txt\nwire src.0 -> e.0\nwire e.0 -> out.0\n";
+    "streams 1\nsource src lines in.txt\nstage e custom sample\nsink out lines out.txt\nwire src.0 -> e.0\nwire e.0 -> out.0\n";
 
 const EVERY_APART: &str =
-    "streams 1\nsource src lines in.txt\nstage e custom every\nsink out lines out.txt\nwire src.0 -> e.0 async 1\nwire e.0 -> out.0 async 1\n";
+    "streams 1\nsource src lines in.txt\nstage e custom sample\nsink out lines out.txt\nwire src.0 -> e.0 async 1\nwire e.0 -> out.0 async 1\n";
 
 const ROUTED: &str =
-    "streams 1\nsource src range 1 5\nstage r custom router\nsink low lines low.txt\nsink high lines high.txt\nwire src.0 -> r.0\nwire r.0 -> low.0\nwire r.1 -> high.0\n";
+    "streams 1\nsource src range 1 5\nstage r custom sample\nsink low lines low.txt\nsink high lines high.txt\nwire src.0 -> r.0\nwire r.0 -> low.0\nwire r.1 -> high.0\n";
 
 const JOINED: &str =
-    "streams 1\nsource src lines in.txt\nsource none empty text\nstage j custom joined\nsink out lines out.txt\nwire src.0 -> j.0\nwire none.0 -> j.1\nwire j.0 -> out.0\n";
+    "streams 1\nsource src lines in.txt\nsource none empty text\nstage j custom sample\nsink out lines out.txt\nwire src.0 -> j.0\nwire none.0 -> j.1\nwire j.0 -> out.0\n";
 
-/// What the run of a blueprint with one custom stage comes to.
+/// What the run of a blueprint with one custom stage, `sample`, comes to.
 fn run<R: Threads + Wait + Sync>(
     rt: &R,
     alloc: Global,
     text: &str,
-    name: &str,
     ports: (usize, usize),
     numbers: bool,
     stage: Box<dyn Handlers + Send>,
     workers: &str,
 ) -> Result<Came, AllocError> {
     let mut customs: Vec<Custom> = Vec::new(alloc);
-    hire(alloc, &mut customs, name, ports, numbers, stage)?;
+    hire(alloc, &mut customs, "sample", ports, numbers, stage)?;
     call_with(
         rt,
         alloc,
@@ -51,7 +50,7 @@ fn every_second_element_passes(rt: HostRuntime) -> Result<(), Fail> {
     let alloc = rt.alloc();
     for (text, workers) in [(EVERY, "1"), (EVERY_APART, "4"), (EVERY_APART, "64")] {
         let stage = Box::new(alloc, EveryNth::new(2))?;
-        let came = run(&rt, alloc, text, "every", (1, 1), false, stage, workers)?;
+        let came = run(&rt, alloc, text, (1, 1), false, stage, workers)?;
         assert!(rt; came.says("done\nsink out ended 3\n"));
         assert!(rt; came.holds(alloc, "out.txt", "a\nb\nc\n")?);
     }
@@ -62,7 +61,7 @@ fn every_second_element_passes(rt: HostRuntime) -> Result<(), Fail> {
 fn a_router_parts_numbers(rt: HostRuntime) -> Result<(), Fail> {
     let alloc = rt.alloc();
     let stage = Box::new(alloc, Router::new(3))?;
-    let came = run(&rt, alloc, ROUTED, "router", (1, 2), true, stage, "1")?;
+    let came = run(&rt, alloc, ROUTED, (1, 2), true, stage, "1")?;
     assert!(rt; came.says("done\nsink low ended 2\nsink high ended 3\n"));
     assert!(rt; came.holds(alloc, "low.txt", "1\n2\n")?);
     assert!(rt; came.holds(alloc, "high.txt", "3\n4\n5\n")?);
@@ -73,7 +72,7 @@ fn a_router_parts_numbers(rt: HostRuntime) -> Result<(), Fail> {
 fn a_dedup_of_two_inputs_leaves_out_what_repeats(rt: HostRuntime) -> Result<(), Fail> {
     let alloc = rt.alloc();
     let stage = Box::new(alloc, JoinedDedup::new())?;
-    let came = run(&rt, alloc, JOINED, "joined", (2, 1), false, stage, "1")?;
+    let came = run(&rt, alloc, JOINED, (2, 1), false, stage, "1")?;
     assert!(rt; came.says("done\nsink out ended 3\n"));
     assert!(rt; came.holds(alloc, "out.txt", "a\nb\nc\n")?);
     Ok(())

@@ -1,5 +1,6 @@
 // A whole call over a folder and a console that never fail. What other calls come to is told by the cases of the program `rows`.
 use crate::lines::line_of;
+use graph_stage::rude::Rude;
 use plug_logic::book::Shipped;
 use plug_logic::dedup::Dedup;
 use std::test::Fail;
@@ -24,7 +25,7 @@ fn sure_calls_run(rt: HostRuntime) -> Result<(), Fail> {
     }
     let mut folder = SureFolder::new(files, 3);
     let mut console = SureDrain::new(3);
-    let end = run_surely::<HostRuntime, SureDrain, Dedup, Shipped>(
+    let end = run_surely::<HostRuntime, SureDrain, Dedup, Rude, Shipped>(
         &rt,
         alloc,
         &file,

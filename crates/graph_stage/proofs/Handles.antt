@@ -10,18 +10,21 @@ use Rattle.port_core.specs.View.{View, acted, ActsAllowed, acted_all}
 use Rattle.port_core.specs.Call.{Call, starts, pulls, arrives, cancels, CallAllowed, seen, Obeys, Meets}
 use Rattle.port_core.specs.Asking.{PullsStand}
 use Rattle.port_core.specs.declared.view.InView.{InView}
+use Rattle.port_core.specs.declared.view.OutView.{OutView}
 use Rattle.port_core.proofs.Views.{ins_stay}
 use Rattle.graph_stage.specs.declared.sight.InSight.{InSight}
+use Rattle.graph_stage.specs.declared.sight.OutSight.{OutSight}
 use Rattle.stage_core.specs.Histories.{given_all, brought_by, AllEmpty}
 use Rattle.stage_core.specs.Handling.{Starts, Handles}
+use Rattle.stage_core.specs.Rooms.{acts_for, HasRoom}
 use Rattle.graph_stage.specs.declared.ask.Ask.{Ask}
 use Rattle.graph_stage.specs.declared.occasion.Occasion.{Occasion}
 use Rattle.graph_stage.specs.OwnView.{Seen, sees_then, forbidden, acts_of, sees_behind, preceded_by, fails_by, by_code, carried_out}
 use Rattle.graph_stage.specs.Ruled.{occasion_at}
 use Rattle.graph_stage.specs.State.{CustomState, answered_as, RuledAs, IsCallable}
 use Rattle.graph_stage.specs.Calls.{CallMade, IsLater}
-use Rattle.graph_stage.specs.Room.{FewPorts}
-use Rattle.graph_stage.specs.Ports.{SeesIns, Sees}
+use Rattle.graph_stage.specs.Room.{most_acts, FewPorts}
+use Rattle.graph_stage.specs.Ports.{SeesIns, SeesOuts, Sees}
 use Rattle.graph_stage.specs.Laws.{CustomFresh, CustomPortState, CustomLaw}
 use Rattle.graph_stage.proofs.Rooms.{few_input, few_output, few_then, few_closed}
 use Rattle.graph_stage.proofs.Calls.{ports_append, allowed_append, brought_append, given_append, begins_append, called_append}
@@ -46,13 +49,29 @@ few_carried types o s (a ∷ more) f = by (forbidden types o s a) (few_carried t
     by None g = g
     by (Some code) g = few_closed s f
 
--- ---- what is seen has as many inputs as there are
+-- ---- what is seen has as many ports as there are
 
 sees_length : (vs : List InView) (xs : List InSight) → SeesIns vs xs → length vs ≡ length xs
 sees_length [] [] h = refl
 sees_length (v ∷ vs) (x ∷ xs) h = let r = sees_length vs xs h.1 in omega (arith, r)
 sees_length [] (x ∷ xs) h = absurd h
 sees_length (v ∷ vs) [] h = absurd h
+
+sees_outs_length : (vs : List OutView) (ys : List OutSight) → SeesOuts vs ys → length vs ≡ length ys
+sees_outs_length [] [] h = refl
+sees_outs_length (v ∷ vs) (y ∷ ys) h = let r = sees_outs_length vs ys h.1 in omega (arith, r)
+sees_outs_length [] (y ∷ ys) h = absurd h
+sees_outs_length (v ∷ vs) [] h = absurd h
+
+-- so room for two actions for each port that there is is room enough
+room_seen : (v : View) (s : Seen) (n : ℕ) → Sees v s → acts_for v ≤ n → most_acts s ≤ n
+room_seen v s n h r = let i = sees_length v.ins s.ins h.ins in let o = sees_outs_length v.outs s.outs h.outs in omega (arith, i, o, r)
+
+pub room_before : (x : CustomState) (n : ℕ) → HasRoom starts (CustomFresh x) n → most_acts x.sight ≤ n
+room_before x n h = room_seen h.0 x.sight n h.1.1.0.sees h.1.1.1
+
+pub room_at : (call : Call) (x : CustomState) (n : ℕ) → HasRoom call (CustomPortState x) n → most_acts x.sight ≤ n
+room_at call x n h = room_seen h.0 x.sight n h.1.1.0.sees h.1.1.1
 
 ins_acted : (acts : List Act) (v : View) → length (acted_all v acts).ins ≡ length v.ins
 ins_acted [] v = refl

@@ -13,7 +13,7 @@ use Rattle.graph_stage.specs.declared.occasion.Occasion.{Occasion}
 use Rattle.graph_stage.specs.declared.sight.InSight.{InSight}
 use Rattle.graph_stage.specs.declared.sight.OutSight.{OutSight}
 use Rattle.graph_stage.specs.OwnView.{Seen, no_input, no_output, with_input, with_output, closed_in, closed_out, all_closed, end_act, outs_ended, ins_cancelled, ports_ended, refused, pull_code, type_code, push_code, port_code, forbidden, acts_of, sees_behind, own_cause, illegal_cause, Outcome, preceded_by, fails_by, by_code, carried_out}
-use Rattle.graph_stage.specs.Room.{acts_to_come_in, acts_to_come_out, acts_to_come_ins, acts_to_come_outs, acts_to_come, FewPorts, Steps}
+use Rattle.graph_stage.specs.Room.{most_acts, acts_to_come_in, acts_to_come_out, acts_to_come_ins, acts_to_come_outs, acts_to_come, FewPorts, Steps}
 
 -- ---- all ports are closed
 
@@ -261,8 +261,15 @@ outs_most : (ys : List OutSight) → acts_to_come_outs ys ≤ length ys + length
 outs_most [] = omega arith
 outs_most (y ∷ ys) = let a = out_most y.closed y.asked in let r = outs_most ys in omega (arith, a, r)
 
-pub few_left : (s : Seen) → FewPorts s → acts_to_come s ≤ 32
-few_left s f = let a = ins_most s.ins in let b = outs_most s.outs in let i = f.ins in let o = f.outs in omega (arith, a, b, i, o)
+pub most_left : (s : Seen) → acts_to_come s ≤ most_acts s
+most_left s = let a = ins_most s.ins in let b = outs_most s.outs in omega (arith, a, b)
+
+-- and there stay as many ports
+pub room_input : (s : Seen) (i : ℕ) (x : InSight) (n : ℕ) → most_acts s ≤ n → most_acts (with_input s i x) ≤ n
+room_input s i x n h = rw length-set h
+
+pub room_output : (s : Seen) (j : ℕ) (y : OutSight) (n : ℕ) → most_acts s ≤ n → most_acts (with_output s j y) ≤ n
+room_output s j y n h = rw length-set h
 
 pub few_input : (s : Seen) (i : ℕ) (x : InSight) → FewPorts s → FewPorts (with_input s i x)
 few_input s i x f = record { ins = rw length-set f.ins; outs = f.outs }

@@ -1,5 +1,5 @@
--- How many more actions a call can append: two for each port that is open, one where one of them is over.
-use Rattle.std.specs.Prelude.{◌≡◌, ℕ, ◌+◌, ◌≤◌, Bool, true, false, if◌then◌else◌, List, [], ◌∷◌, ◌++◌, length, None, Some}
+-- How many actions a call can append, and how many more: two for each port that is open, one where one of them is over.
+use Rattle.std.specs.Prelude.{◌≡◌, ℕ, ◌+◌, ◌*◌, ◌≤◌, Bool, true, false, if◌then◌else◌, List, [], ◌∷◌, ◌++◌, length, None, Some}
 use Rattle.elem_core.specs.Sort.{Sort}
 use Rattle.port_core.specs.declared.act.Act.{Act}
 use Rattle.graph_stage.specs.declared.ask.Ask.{Ask}
@@ -7,6 +7,10 @@ use Rattle.graph_stage.specs.declared.occasion.Occasion.{Occasion}
 use Rattle.graph_stage.specs.declared.sight.InSight.{InSight}
 use Rattle.graph_stage.specs.declared.sight.OutSight.{OutSight}
 use Rattle.graph_stage.specs.OwnView.{Seen, forbidden, acts_of, sees_behind, fails_by}
+
+-- the most that a call can append: two for each port
+abbrev pub most_acts : Seen → ℕ
+most_acts s = 2 * (length s.ins + length s.outs)
 
 -- at an input, which may be pulled and cancelled
 abbrev pub acts_to_come_in : InSight → ℕ

@@ -2,8 +2,7 @@
 ghost use Rattle.std.specs.Prelude.{◌≡◌, ◌≤◌, ◌++◌, ◌∷◌, [], OnOk};
 ghost use Rattle.elem_core.specs.declared.item.Item.TheVariants as item;
 ghost use Rattle.port_core.specs.Call.{starts, pulls, arrives, cancels};
-ghost use Rattle.stage_core.specs.declared.stage.TheConstants.{MOST_ACTS};
-ghost use Rattle.graph_stage.specs.Room.{FewPorts};
+ghost use Rattle.graph_stage.specs.Room.{most_acts, FewPorts};
 ghost use Rattle.graph_stage.specs.Ruled.{IsReadyForCall, Ruled, outcome_at};
 ghost use Rattle.graph_stage.specs.Standing.{without_taken_back};
 
@@ -49,7 +48,7 @@ impl<H: Handlers> CustomLogic<H> {
     fn settle(&mut self, nth: u64, failure: Option<Cause>, acts: &mut Acts)
         requires few { FewPorts self.old.sight }
         requires empty { acts.old.items ≡ [] }
-        requires room { MOST_ACTS ≤ acts.old.room }
+        requires room { most_acts self.old.sight ≤ acts.old.room }
         ensures acts { acts.new ≡ record acts.old { items = without_taken_back self.new.sight (outcome_at self.old nth failure).acts } }
         ensures sight { self.new.sight ≡ (outcome_at self.old nth failure).sight }
         ensures node { self.new.node ≡ self.old.node }
@@ -82,7 +81,7 @@ impl<H: Handlers> CustomLogic<H> {
     pub fn start(&mut self, alloc: Global, acts: &mut Acts) -> Result<(), NoMemory>
         requires ready { IsReadyForCall self.old }
         requires empty { acts.old.items ≡ [] }
-        requires room { MOST_ACTS ≤ acts.old.room }
+        requires room { most_acts self.old.sight ≤ acts.old.room }
         ensures ruled { OnOk result (Ruled H.does starts self.old self.new acts.new.items) }
         ensures room { OnOk result (acts.new.room ≡ acts.old.room) }
     {
@@ -92,11 +91,11 @@ impl<H: Handlers> CustomLogic<H> {
     }
 
     /// Output `port` was pulled.
-    #[tactic(auto, using(crate::proofs::Rooms::few_output))]
+    #[tactic(auto, using(crate::proofs::Rooms::few_output, crate::proofs::Rooms::room_output))]
     pub fn on_pull(&mut self, alloc: Global, port: u8, acts: &mut Acts) -> Result<(), NoMemory>
         requires ready { IsReadyForCall self.old }
         requires empty { acts.old.items ≡ [] }
-        requires room { MOST_ACTS ≤ acts.old.room }
+        requires room { most_acts self.old.sight ≤ acts.old.room }
         ensures ruled { OnOk result (Ruled H.does (pulls port) self.old self.new acts.new.items) }
         ensures room { OnOk result (acts.new.room ≡ acts.old.room) }
     {
@@ -114,7 +113,7 @@ impl<H: Handlers> CustomLogic<H> {
     }
 
     /// An element came to input `port`.
-    #[tactic(auto, using(crate::proofs::Rooms::few_input))]
+    #[tactic(auto, using(crate::proofs::Rooms::few_input, crate::proofs::Rooms::room_input))]
     pub fn on_push(
         &mut self,
         alloc: Global,
@@ -124,7 +123,7 @@ impl<H: Handlers> CustomLogic<H> {
     ) -> Result<(), NoMemory>
         requires ready { IsReadyForCall self.old }
         requires empty { acts.old.items ≡ [] }
-        requires room { MOST_ACTS ≤ acts.old.room }
+        requires room { most_acts self.old.sight ≤ acts.old.room }
         ensures ruled { OnOk result (Ruled H.does (arrives port (item.Elem e)) self.old self.new acts.new.items) }
         ensures room { OnOk result (acts.new.room ≡ acts.old.room) }
     {
@@ -143,11 +142,11 @@ impl<H: Handlers> CustomLogic<H> {
     }
 
     /// Input `port` has ended.
-    #[tactic(auto, using(crate::proofs::Rooms::few_input))]
+    #[tactic(auto, using(crate::proofs::Rooms::few_input, crate::proofs::Rooms::room_input))]
     pub fn on_finish(&mut self, alloc: Global, port: u8, acts: &mut Acts) -> Result<(), NoMemory>
         requires ready { IsReadyForCall self.old }
         requires empty { acts.old.items ≡ [] }
-        requires room { MOST_ACTS ≤ acts.old.room }
+        requires room { most_acts self.old.sight ≤ acts.old.room }
         ensures ruled { OnOk result (Ruled H.does (arrives port item.Ended) self.old self.new acts.new.items) }
         ensures room { OnOk result (acts.new.room ≡ acts.old.room) }
     {
@@ -165,7 +164,7 @@ impl<H: Handlers> CustomLogic<H> {
     }
 
     /// Input `port` has failed.
-    #[tactic(auto, using(crate::proofs::Rooms::few_input))]
+    #[tactic(auto, using(crate::proofs::Rooms::few_input, crate::proofs::Rooms::room_input))]
     pub fn on_fail(
         &mut self,
         alloc: Global,
@@ -175,7 +174,7 @@ impl<H: Handlers> CustomLogic<H> {
     ) -> Result<(), NoMemory>
         requires ready { IsReadyForCall self.old }
         requires empty { acts.old.items ≡ [] }
-        requires room { MOST_ACTS ≤ acts.old.room }
+        requires room { most_acts self.old.sight ≤ acts.old.room }
         ensures ruled { OnOk result (Ruled H.does (arrives port (item.Failed cause)) self.old self.new acts.new.items) }
         ensures room { OnOk result (acts.new.room ≡ acts.old.room) }
     {
@@ -193,11 +192,11 @@ impl<H: Handlers> CustomLogic<H> {
     }
 
     /// Output `port` was cancelled.
-    #[tactic(auto, using(crate::proofs::Rooms::few_output))]
+    #[tactic(auto, using(crate::proofs::Rooms::few_output, crate::proofs::Rooms::room_output))]
     pub fn on_cancel(&mut self, alloc: Global, port: u8, acts: &mut Acts) -> Result<(), NoMemory>
         requires ready { IsReadyForCall self.old }
         requires empty { acts.old.items ≡ [] }
-        requires room { MOST_ACTS ≤ acts.old.room }
+        requires room { most_acts self.old.sight ≤ acts.old.room }
         ensures ruled { OnOk result (Ruled H.does (cancels port) self.old self.new acts.new.items) }
         ensures room { OnOk result (acts.new.room ≡ acts.old.room) }
     {

@@ -2,9 +2,9 @@
 ghost use Rattle.std.specs.Prelude.{◌≡◌, ◌≤◌, ◌<◌, ◌+◌, false, [], ⊤, length, OnOk, IfOk};
 ghost use Rattle.elem_core.specs.declared.item.Item.TheVariants as item;
 ghost use Rattle.port_core.specs.Call.{starts, pulls, arrives, cancels};
-ghost use Rattle.stage_core.specs.declared.stage.TheConstants.{MOST_ACTS};
 ghost use Rattle.graph_stage.specs.Laws.{CustomFresh, CustomPortState, CustomLaw};
 ghost use Rattle.graph_stage.specs.Making.{unpulled_view};
+ghost use Rattle.graph_stage.specs.Room.{most_acts};
 ghost use Rattle.graph_stage.specs.State.{IsCallable, RuledAs};
 
 use crate::custom::Custom;
@@ -62,7 +62,7 @@ impl<H: Handlers> CustomStage<H> {
     pub fn start(&mut self, alloc: Global, acts: &mut Acts) -> Result<(), NoMemory>
         requires ready { IsCallable self.old }
         requires empty { acts.old.items ≡ [] }
-        requires room { MOST_ACTS ≤ acts.old.room }
+        requires room { most_acts self.old.sight ≤ acts.old.room }
         ensures ruled { OnOk result (RuledAs starts self.old self.new acts.new.items) }
         ensures room { OnOk result (acts.new.room ≡ acts.old.room) }
     {
@@ -74,7 +74,7 @@ impl<H: Handlers> CustomStage<H> {
     pub fn on_pull(&mut self, alloc: Global, port: u8, acts: &mut Acts) -> Result<(), NoMemory>
         requires ready { IsCallable self.old }
         requires empty { acts.old.items ≡ [] }
-        requires room { MOST_ACTS ≤ acts.old.room }
+        requires room { most_acts self.old.sight ≤ acts.old.room }
         ensures ruled { OnOk result (RuledAs (pulls port) self.old self.new acts.new.items) }
         ensures room { OnOk result (acts.new.room ≡ acts.old.room) }
     {
@@ -92,7 +92,7 @@ impl<H: Handlers> CustomStage<H> {
     ) -> Result<(), NoMemory>
         requires ready { IsCallable self.old }
         requires empty { acts.old.items ≡ [] }
-        requires room { MOST_ACTS ≤ acts.old.room }
+        requires room { most_acts self.old.sight ≤ acts.old.room }
         ensures ruled { OnOk result (RuledAs (arrives port (item.Elem e)) self.old self.new acts.new.items) }
         ensures room { OnOk result (acts.new.room ≡ acts.old.room) }
     {
@@ -104,7 +104,7 @@ impl<H: Handlers> CustomStage<H> {
     pub fn on_finish(&mut self, alloc: Global, port: u8, acts: &mut Acts) -> Result<(), NoMemory>
         requires ready { IsCallable self.old }
         requires empty { acts.old.items ≡ [] }
-        requires room { MOST_ACTS ≤ acts.old.room }
+        requires room { most_acts self.old.sight ≤ acts.old.room }
         ensures ruled { OnOk result (RuledAs (arrives port item.Ended) self.old self.new acts.new.items) }
         ensures room { OnOk result (acts.new.room ≡ acts.old.room) }
     {
@@ -122,7 +122,7 @@ impl<H: Handlers> CustomStage<H> {
     ) -> Result<(), NoMemory>
         requires ready { IsCallable self.old }
         requires empty { acts.old.items ≡ [] }
-        requires room { MOST_ACTS ≤ acts.old.room }
+        requires room { most_acts self.old.sight ≤ acts.old.room }
         ensures ruled { OnOk result (RuledAs (arrives port (item.Failed cause)) self.old self.new acts.new.items) }
         ensures room { OnOk result (acts.new.room ≡ acts.old.room) }
     {
@@ -134,7 +134,7 @@ impl<H: Handlers> CustomStage<H> {
     pub fn on_cancel(&mut self, alloc: Global, port: u8, acts: &mut Acts) -> Result<(), NoMemory>
         requires ready { IsCallable self.old }
         requires empty { acts.old.items ≡ [] }
-        requires room { MOST_ACTS ≤ acts.old.room }
+        requires room { most_acts self.old.sight ≤ acts.old.room }
         ensures ruled { OnOk result (RuledAs (cancels port) self.old self.new acts.new.items) }
         ensures room { OnOk result (acts.new.room ≡ acts.old.room) }
     {
@@ -160,6 +160,8 @@ impl<H: Handlers> Stage for CustomStage<H> {
     ghost gone = { λ x. [] };
 
     ghost waits = { λ x. [] };
+
+    ghost late = { λ x. 0 };
 
     #[tactic(auto, using(crate::proofs::Handles::starts_ok))]
     fn start(&mut self, alloc: Global, acts: &mut Acts) -> Result<(), NoMemory> {
@@ -214,6 +216,10 @@ impl<H: Handlers> Stage for CustomStage<H> {
     }
 
     fn is_passive(&self) -> bool {
+        false
+    }
+
+    fn put_off(&mut self) -> bool {
         false
     }
 }

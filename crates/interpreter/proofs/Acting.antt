@@ -81,8 +81,8 @@ wanted_push outlet.Cancelled false e = cc
 
 -- ---- one node
 
-module _ {S D L B : Type 0} (sources : S → SourceState) (drains : D → DrainState) (book : Book) (v : View) (t g : List (List Item)) (a : Act) where
-  entering_does : (x first : IslandNode S D L B) → IsEntering first → ((e f : Entering) → EnteringPortState e v → EnteringLaw f e v t g → MayDo EnteringPortState EnteringLaw e f v t g a)
+module _ {S D L H B : Type 0} (sources : S → SourceState) (drains : D → DrainState) (book : Book) (v : View) (t g : List (List Item)) (a : Act) where
+  entering_does : (x first : IslandNode S D L H B) → IsEntering first → ((e f : Entering) → EnteringPortState e v → EnteringLaw f e v t g → MayDo EnteringPortState EnteringLaw e f v t g a)
       → Minds node_port_state (node_law sources drains book) x first v t g [] → Minds node_port_state (node_law sources drains book) x first v t g (a ∷ [])
   entering_does (node.Entering x) (node.Entering f) h d m = let y = d x f m.port_state_holds m.law_holds in record { allowed = (y.allowed, tt); port_state_holds = y.port_state_holds; law_holds = y.law_holds }
   entering_does (node.Reading x) (node.Entering f) h d m = absurd m.law_holds
@@ -108,7 +108,7 @@ module _ {S D L B : Type 0} (sources : S → SourceState) (drains : D → DrainS
   entering_does x (node.Ignoring f) h d m = absurd h
   entering_does x (node.Leaving f) h d m = absurd h
 
-  leaving_does : (x first : IslandNode S D L B) → IsLeaving first → ((e f : Leaving) → x ≡ node.Leaving e → LeavingPortState e v → LeavingLaw f e v t g → MayDo LeavingPortState LeavingLaw e f v t g a)
+  leaving_does : (x first : IslandNode S D L H B) → IsLeaving first → ((e f : Leaving) → x ≡ node.Leaving e → LeavingPortState e v → LeavingLaw f e v t g → MayDo LeavingPortState LeavingLaw e f v t g a)
       → Minds node_port_state (node_law sources drains book) x first v t g [] → Minds node_port_state (node_law sources drains book) x first v t g (a ∷ [])
   leaving_does (node.Leaving x) (node.Leaving f) h d m = let y = d x f refl m.port_state_holds m.law_holds in record { allowed = (y.allowed, tt); port_state_holds = y.port_state_holds; law_holds = y.law_holds }
   leaving_does (node.Reading x) (node.Leaving f) h d m = absurd m.law_holds
@@ -174,7 +174,7 @@ asks_least false n = omega arith
 pub few_came : (c : WireState) (q : Bool) → IsSound c.wire q → elements c.wire.got ≤ asks_of c
 few_came c q s = let a = few_j s.joint c.wire.sent c.wire.got s.histories in let b = asks_least c.asked (elements c.wire.sent) in omega (arith, a, b)
 
-module _ {S D L B : Type 0} (sources : S → SourceState) (drains : D → DrainState) (book : Book) (net : Net (IslandNode S D L B)) (s : Settled node_port_state (node_law sources drains book) node_asking node_moves net) (q : ℕ) (h : q < length net.wires) where
+module _ {S D L H B : Type 0} (sources : S → SourceState) (drains : D → DrainState) (book : Book) (net : Net (IslandNode S D L H B)) (s : Settled node_port_state (node_law sources drains book) node_asking node_moves net) (q : ℕ) (h : q < length net.wires) where
   abbrev from : ℕ
   from = (end_at net.ends q).from
 
@@ -230,7 +230,7 @@ module _ {S D L B : Type 0} (sources : S → SourceState) (drains : D → DrainS
       (λ z f at r law. leaves_cancel f z (view_of net to) (took net to) (gave net to) r law (end_at net.ends q).input (rw inp_is (open_in _ e)))
       (s.minded to (s.wired.to_within q h) x first xi fi)
 
-  exit_got : (x first : IslandNode S D L B) → IsLeaving first → (v : View) (t g : List (List Item)) (i : ℕ) (l : List Item) → slice_get t i ≡ Some l → Minds node_port_state (node_law sources drains book) x first v t g [] → l ≡ node_gone x ++ node_waits x
+  exit_got : (x first : IslandNode S D L H B) → IsLeaving first → (v : View) (t g : List (List Item)) (i : ℕ) (l : List Item) → slice_get t i ≡ Some l → Minds node_port_state (node_law sources drains book) x first v t g [] → l ≡ node_gone x ++ node_waits x
   exit_got (node.Leaving x) (node.Leaving f) k v t g i l at m = sym (one_item _ l t i m.law_holds.took_is at) ∙ m.law_holds.parts
   exit_got (node.Reading x) (node.Leaving f) k v t g i l at m = absurd m.law_holds
   exit_got (node.Making x) (node.Leaving f) k v t g i l at m = absurd m.law_holds
@@ -255,7 +255,7 @@ module _ {S D L B : Type 0} (sources : S → SourceState) (drains : D → DrainS
   exit_got x (node.Ignoring f) k v t g i l at m = absurd k
   exit_got x (node.Entering f) k v t g i l at m = absurd k
 
-  exit_told : (x first : IslandNode S D L B) → IsLeaving first → (v : View) (t g : List (List Item)) (i : ℕ) (l : List Item) → slice_get t i ≡ Some l → Minds node_port_state (node_law sources drains book) x first v t g [] → (list : List Tree) × ((end : End) × (l ≡ told list end))
+  exit_told : (x first : IslandNode S D L H B) → IsLeaving first → (v : View) (t g : List (List Item)) (i : ℕ) (l : List Item) → slice_get t i ≡ Some l → Minds node_port_state (node_law sources drains book) x first v t g [] → (list : List Tree) × ((end : End) × (l ≡ told list end))
   exit_told (node.Leaving x) (node.Leaving f) k v t g i l at m = (m.law_holds.list, (m.law_holds.end, sym (one_item _ l t i m.law_holds.took_is at)))
   exit_told (node.Reading x) (node.Leaving f) k v t g i l at m = absurd m.law_holds
   exit_told (node.Making x) (node.Leaving f) k v t g i l at m = absurd m.law_holds
@@ -280,7 +280,7 @@ module _ {S D L B : Type 0} (sources : S → SourceState) (drains : D → DrainS
   exit_told x (node.Ignoring f) k v t g i l at m = absurd k
   exit_told x (node.Entering f) k v t g i l at m = absurd k
 
-  pub exit_there : (x : IslandNode S D L B) × (slice_get net.nodes to ≡ Some x)
+  pub exit_there : (x : IslandNode S D L H B) × (slice_get net.nodes to ≡ Some x)
   exit_there = get_there net.nodes to (s.wired.to_within q h)
 
   pub came_told : LeavesAt net q → (list : List Tree) × ((end : End) × ((wire_at net q).wire.got ≡ told list end))
@@ -314,7 +314,7 @@ module _ {S D L B : Type 0} (sources : S → SourceState) (drains : D → DrainS
       get_of (x ∷ ws) zero w e = cc
       get_of (x ∷ ws) (suc i) w e = get_of ws i w e
 
-  abbrev moved : Act → Net (IslandNode S D L B)
+  abbrev moved : Act → Net (IslandNode S D L H B)
   moved a = moved_at net q a
 
   moved_to : (a : Act) (w : ℕ) → w ≡ q → put net w (moved_by a (wire_at net w)) (queues_by a (wire_at net w).wire.conn) ≡ moved a
@@ -333,20 +333,20 @@ module _ {S D L B : Type 0} (sources : S → SourceState) (drains : D → DrainS
   pub cancelled_is : acted net to (Cancel (end_at net.ends q).input) ≡ moved (Cancel 0)
   cancelled_is = moved_to (Cancel 0) _ in_wire
 
-pub clear_both : {S D L B : Type 0} (net : Net (IslandNode S D L B)) (n : ℕ) (r : Bool) (P : Type 0) → n < length net.nodes → P → AtNode net n (λ x. (IsTrue r → node_waits x ≡ []) × (node_waits x ≡ [] → IsTrue r))
+pub clear_both : {S D L H B : Type 0} (net : Net (IslandNode S D L H B)) (n : ℕ) (r : Bool) (P : Type 0) → n < length net.nodes → P → AtNode net n (λ x. (IsTrue r → node_waits x ≡ []) × (node_waits x ≡ [] → IsTrue r))
     → (IsTrue r → P × AtNode net n (λ x. node_waits x ≡ [])) × (P × AtNode net n (λ x. node_waits x ≡ []) → IsTrue r)
 clear_both net n r P h p at =
     let there = get_there net.nodes n h in
     (λ t. (p, λ x xi. (at x xi).0 t), λ b. (at there.0 there.1).1 (b.1 there.0 there.1))
 
-pub clear_one : {S D L B : Type 0} (net : Net (IslandNode S D L B)) (n : ℕ) (r : Bool) → n < length net.nodes → AtNode net n (λ x. (IsTrue r → node_waits x ≡ []) × (node_waits x ≡ [] → IsTrue r))
+pub clear_one : {S D L H B : Type 0} (net : Net (IslandNode S D L H B)) (n : ℕ) (r : Bool) → n < length net.nodes → AtNode net n (λ x. (IsTrue r → node_waits x ≡ []) × (node_waits x ≡ [] → IsTrue r))
     → (IsTrue r → AtNode net n (λ x. node_waits x ≡ [])) × (AtNode net n (λ x. node_waits x ≡ []) → IsTrue r)
 clear_one net n r h at =
     let there = get_there net.nodes n h in
     (λ t x xi. (at x xi).0 t, λ b. (at there.0 there.1).1 (b there.0 there.1))
 
 -- the stage where a lane goes out has nothing to tell when it asks
-asking_free : {S D L B : Type 0} (sources : S → SourceState) (drains : D → DrainState) (book : Book) (x first : IslandNode S D L B) (v w : View) (t g : List (List Item)) → IsLeaving first → node_law sources drains book first x v t g → node_asking x w
+asking_free : {S D L H B : Type 0} (sources : S → SourceState) (drains : D → DrainState) (book : Book) (x first : IslandNode S D L H B) (v w : View) (t g : List (List Item)) → IsLeaving first → node_law sources drains book first x v t g → node_asking x w
 asking_free sources drains book (node.Leaving x) (node.Leaving f) v w t g h law = tt
 asking_free sources drains book (node.Reading x) (node.Leaving f) v w t g h law = absurd law
 asking_free sources drains book (node.Making x) (node.Leaving f) v w t g h law = absurd law
@@ -372,18 +372,18 @@ asking_free sources drains book x (node.Ignoring f) v w t g h law = absurd h
 asking_free sources drains book x (node.Entering f) v w t g h law = absurd h
 
 -- to end an output asks nothing
-pub end_tells : {S D L B : Type 0} (net : Net (IslandNode S D L B)) (n j : ℕ) (cause : Option Cause) → TellsPoked node_asking net n (ends_at j cause)
+pub end_tells : {S D L H B : Type 0} (net : Net (IslandNode S D L H B)) (n j : ℕ) (cause : Option Cause) → TellsPoked node_asking net n (ends_at j cause)
 end_tells net n j None p = absurd p
 end_tells net n j (Some c) p = absurd p
 
-pub leaving_tells : {S D L B : Type 0} (sources : S → SourceState) (drains : D → DrainState) (book : Book) (net : Net (IslandNode S D L B)) → Settled node_port_state (node_law sources drains book) node_asking node_moves net → (q : ℕ) → q < length net.wires → LeavesAt net q → (a : Act)
+pub leaving_tells : {S D L H B : Type 0} (sources : S → SourceState) (drains : D → DrainState) (book : Book) (net : Net (IslandNode S D L H B)) → Settled node_port_state (node_law sources drains book) node_asking node_moves net → (q : ℕ) → q < length net.wires → LeavesAt net q → (a : Act)
     → TellsPoked node_asking net (end_at net.ends q).to a
 leaving_tells sources drains book net s q h stage a p x xi =
     let to = (end_at net.ends q).to in
     let first = get_there net.firsts to (rw s.each_first (s.wired.to_within q h)) in
     asking_free sources drains book x first.0 (view_of net to) _ (took net to) (gave net to) (stage first.0 first.1) (s.minded to (s.wired.to_within q h) x first.0 xi first.1).law_holds
 
-pub came_at : {S D L B : Type 0} (sources : S → SourceState) (drains : D → DrainState) (book : Book) (net : Net (IslandNode S D L B)) (q : ℕ) → Settled node_port_state (node_law sources drains book) node_asking node_moves net → q < length net.wires → LeavesAt net q → ReceivedAt net q
+pub came_at : {S D L H B : Type 0} (sources : S → SourceState) (drains : D → DrainState) (book : Book) (net : Net (IslandNode S D L H B)) (q : ℕ) → Settled node_port_state (node_law sources drains book) node_asking node_moves net → q < length net.wires → LeavesAt net q → ReceivedAt net q
 came_at sources drains book net q s h l = record {
   got = came_there sources drains book net s q h l;
   few = few_came _ _ (s.sound q h);

@@ -16,12 +16,12 @@ use Rattle.interpreter.proofs.Picking.{picks_next}
 use Rattle.interpreter.proofs.Leasts.{least_next, least_last}
 use Rattle.interpreter.proofs.Seating.{seats_next, seats_none}
 
-picks_none : (S D L B : Type 0) (places : List ℕ) → picks_of {S = S} {D = D} {L = L} {B = B} places [] ≡ []
-picks_none S D L B [] = refl
-picks_none S D L B (k ∷ ks) = refl
+picks_none : (S D L H B : Type 0) (places : List ℕ) → picks_of {S = S} {D = D} {L = L} {H = H} {B = B} places [] ≡ []
+picks_none S D L H B [] = refl
+picks_none S D L H B (k ∷ ks) = refl
 
 -- what the nodes that came leave is in the lists, and there is room for the rest
-pub record Gathers {S D L B : Type 0} (nodes : List (IslandNode S D L B)) (places : List ℕ) (start : IslandEnd S D) (rest : List (IslandNode S D L B)) (left place : ℕ) (end : IslandEnd S D) : Type 0 where
+pub record Gathers {S D L H B : Type 0} (nodes : List (IslandNode S D L H B)) (places : List ℕ) (start : IslandEnd S D) (rest : List (IslandNode S D L H B)) (left place : ℕ) (end : IslandEnd S D) : Type 0 where
   pub left_is : left ≡ length rest
   pub sinks : end.sinks.items ++ sinks_of rest ≡ sinks_of nodes
   pub readers : end.readers.items ++ readers_of rest ≡ readers_of nodes
@@ -34,7 +34,7 @@ pub record Gathers {S D L B : Type 0} (nodes : List (IslandNode S D L B)) (place
   pub room : RoomFor end left
 
 -- what one node adds to the lists
-pub record Added {S D L B : Type 0} (was now : IslandEnd S D) (number : ℕ) (x : IslandNode S D L B) : Type 0 where
+pub record Added {S D L H B : Type 0} (was now : IslandEnd S D) (number : ℕ) (x : IslandNode S D L H B) : Type 0 where
   pub sinks : now.sinks.items ≡ was.sinks.items ++ sinks_of (x ∷ [])
   pub picks : map pick_of now.picks.items ≡ map pick_of was.picks.items ++ picks_of (number ∷ []) (x ∷ [])
   pub seats : now.seats.items ≡ was.seats.items ++ seats_of (number ∷ []) (x ∷ [])
@@ -44,8 +44,8 @@ pub record Added {S D L B : Type 0} (was now : IslandEnd S D) (number : ℕ) (x 
   pub wires : now.wires ≡ was.wires
   pub room : (n : ℕ) → RoomFor was (n + 1) → RoomFor now n
 
-module _ {S D L B : Type 0} (nodes : List (IslandNode S D L B)) (places : List ℕ) (start : IslandEnd S D) where
-  pub gathers_first : (rest : List (IslandNode S D L B)) (left m : ℕ) → rest ≡ nodes → left ≡ length rest → m ≡ length nodes → length places ≡ m → start.sinks.items ≡ [] → start.picks.items ≡ [] → start.seats.items ≡ [] → start.readers.items ≡ [] → start.writers.items ≡ [] → start.misfit ≡ None → RoomFor start m → Gathers nodes places start rest left 0 start
+module _ {S D L H B : Type 0} (nodes : List (IslandNode S D L H B)) (places : List ℕ) (start : IslandEnd S D) where
+  pub gathers_first : (rest : List (IslandNode S D L H B)) (left m : ℕ) → rest ≡ nodes → left ≡ length rest → m ≡ length nodes → length places ≡ m → start.sinks.items ≡ [] → start.picks.items ≡ [] → start.seats.items ≡ [] → start.readers.items ≡ [] → start.writers.items ≡ [] → start.misfit ≡ None → RoomFor start m → Gathers nodes places start rest left 0 start
   gathers_first rest left m e l k count sinks picks seats readers writers misfit room =
       let same : left ≡ m = l ∙ ap length e ∙ sym k in
       record {
@@ -61,7 +61,7 @@ module _ {S D L B : Type 0} (nodes : List (IslandNode S D L B)) (places : List �
         room = rw same room;
       }
 
-  pub gathers_next : (rest later : List (IslandNode S D L B)) (left fewer place more number : ℕ) (x : IslandNode S D L B) (was now : IslandEnd S D) → Gathers nodes places start rest left place was → rest ≡ x ∷ later → fewer + 1 ≡ left → more ≡ place + 1 → number ≡ get_or places place 0 → Added was now number x
+  pub gathers_next : (rest later : List (IslandNode S D L H B)) (left fewer place more number : ℕ) (x : IslandNode S D L H B) (was now : IslandEnd S D) → Gathers nodes places start rest left place was → rest ≡ x ∷ later → fewer + 1 ≡ left → more ≡ place + 1 → number ≡ get_or places place 0 → Added was now number x
       → Gathers nodes places start later fewer more now
   gathers_next rest later left fewer place more number x was now g e l p n a =
       let within : place < length places = omega (arith, g.at, l) in
@@ -79,20 +79,20 @@ module _ {S D L B : Type 0} (nodes : List (IslandNode S D L B)) (places : List �
       }
 
   -- all of them
-  pub gathers_last : (rest : List (IslandNode S D L B)) (left place : ℕ) (end : IslandEnd S D) → Gathers nodes places start rest left place end → left ≡ 0
+  pub gathers_last : (rest : List (IslandNode S D L H B)) (left place : ℕ) (end : IslandEnd S D) → Gathers nodes places start rest left place end → left ≡ 0
       → (end.sinks.items ≡ sinks_of nodes) × ((map pick_of end.picks.items ≡ picks_of places nodes) × ((end.seats.items ≡ seats_of places nodes) × ((end.readers.items ≡ readers_of nodes) × ((end.writers.items ≡ writers_of nodes) × ((end.wires ≡ start.wires) × (end.misfit ≡ least_of places nodes))))))
   gathers_last rest left place end g l =
       let none : rest ≡ [] = none_left rest left l g.left_is in
-      let sinks : end.sinks.items ++ sinks_of {S = S} {D = D} {L = L} {B = B} [] ≡ sinks_of nodes = rw none at g.sinks in
-      let readers : end.readers.items ++ readers_of {S = S} {D = D} {L = L} {B = B} [] ≡ readers_of nodes = rw none at g.readers in
-      let writers : end.writers.items ++ writers_of {S = S} {D = D} {L = L} {B = B} [] ≡ writers_of nodes = rw none at g.writers in
-      let picks : map pick_of end.picks.items ++ picks_of {S = S} {D = D} {L = L} {B = B} (drop place places) [] ≡ picks_of places nodes = rw none at g.picks in
-      let seats : end.seats.items ++ seats_of {S = S} {D = D} {L = L} {B = B} (drop place places) [] ≡ seats_of places nodes = rw none at g.seats in (
+      let sinks : end.sinks.items ++ sinks_of {S = S} {D = D} {L = L} {H = H} {B = B} [] ≡ sinks_of nodes = rw none at g.sinks in
+      let readers : end.readers.items ++ readers_of {S = S} {D = D} {L = L} {H = H} {B = B} [] ≡ readers_of nodes = rw none at g.readers in
+      let writers : end.writers.items ++ writers_of {S = S} {D = D} {L = L} {H = H} {B = B} [] ≡ writers_of nodes = rw none at g.writers in
+      let picks : map pick_of end.picks.items ++ picks_of {S = S} {D = D} {L = L} {H = H} {B = B} (drop place places) [] ≡ picks_of places nodes = rw none at g.picks in
+      let seats : end.seats.items ++ seats_of {S = S} {D = D} {L = L} {H = H} {B = B} (drop place places) [] ≡ seats_of places nodes = rw none at g.seats in (
         sym (append-nil _) ∙ sinks,
         (
-          sym (append-nil _) ∙ ap (λ (l : List Pick). map pick_of end.picks.items ++ l) (sym (picks_none S D L B (drop place places))) ∙ picks,
+          sym (append-nil _) ∙ ap (λ (l : List Pick). map pick_of end.picks.items ++ l) (sym (picks_none S D L H B (drop place places))) ∙ picks,
           (
-            sym (append-nil _) ∙ ap (λ (l : List (ℕ × SeatState)). end.seats.items ++ l) (sym (seats_none S D L B (drop place places))) ∙ seats,
+            sym (append-nil _) ∙ ap (λ (l : List (ℕ × SeatState)). end.seats.items ++ l) (sym (seats_none S D L H B (drop place places))) ∙ seats,
             (sym (append-nil _) ∙ readers, (sym (append-nil _) ∙ writers, (g.wires, least_last end.misfit (drop place places) rest (least_of places nodes) none g.misfit))),
           ),
         ),

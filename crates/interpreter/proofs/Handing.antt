@@ -30,7 +30,7 @@ with_write (Read s) rest = rest
 with_write Staged rest = rest
 with_write (Wrote x) rest = cons_option x.drain rest
 
-readers_end : {S D L B : Type 0} (x : IslandNode S D L B) (xs : List (IslandNode S D L B)) → readers_of (x ∷ xs) ≡ with_read (node_end x) (readers_of xs)
+readers_end : {S D L H B : Type 0} (x : IslandNode S D L H B) (xs : List (IslandNode S D L H B)) → readers_of (x ∷ xs) ≡ with_read (node_end x) (readers_of xs)
 readers_end (node.Reading x) xs = refl
 readers_end (node.Making x) xs = refl
 readers_end (node.Linear x) xs = refl
@@ -44,7 +44,7 @@ readers_end (node.Ignoring x) xs = refl
 readers_end (node.Entering x) xs = refl
 readers_end (node.Leaving x) xs = refl
 
-writers_end : {S D L B : Type 0} (x : IslandNode S D L B) (xs : List (IslandNode S D L B)) → writers_of (x ∷ xs) ≡ with_write (node_end x) (writers_of xs)
+writers_end : {S D L H B : Type 0} (x : IslandNode S D L H B) (xs : List (IslandNode S D L H B)) → writers_of (x ∷ xs) ≡ with_write (node_end x) (writers_of xs)
 writers_end (node.Reading x) xs = refl
 writers_end (node.Making x) xs = refl
 writers_end (node.Linear x) xs = refl
@@ -59,7 +59,7 @@ writers_end (node.Entering x) xs = refl
 writers_end (node.Leaving x) xs = refl
 
 -- a source of lines that was not started, or another node
-abbrev IsNew : {S D L B : Type 0} → IslandNode S D L B → Type 0
+abbrev IsNew : {S D L H B : Type 0} → IslandNode S D L H B → Type 0
 IsNew (node.Reading x) = x.phase ≡ New
 IsNew (node.Making x) = ⊤
 IsNew (node.Linear x) = ⊤
@@ -73,7 +73,7 @@ IsNew (node.Ignoring x) = ⊤
 IsNew (node.Entering x) = ⊤
 IsNew (node.Leaving x) = ⊤
 
-becomes_new : {S D L B : Type 0} (k room : ℕ) (w : Work S D L B) (x : IslandNode S D L B) → BecomesOf k room w x → IsNew x
+becomes_new : {S D L H B : Type 0} (k room : ℕ) (w : Work S D L H B) (x : IslandNode S D L H B) → BecomesOf k room w x → IsNew x
 becomes_new k room (work.Reading r) x b = subst IsNew (sym b) refl
 becomes_new k room (work.Making kind) x b = subst IsNew (sym b) tt
 becomes_new k room (work.Linear l) x b = subst IsNew (sym b) tt
@@ -82,39 +82,39 @@ becomes_new k room (work.Sub l) x b = subst IsNew (sym b) tt
 becomes_new k room (work.FanIn l n) x b = subst IsNew (sym b) tt
 becomes_new k room (work.FanOut l n) x b = subst IsNew (sym b) tt
 becomes_new k room (work.Custom l inputs outputs) x b = subst IsNew (sym b) tt
-becomes_new k (work.Writing kind (Some d)) x b = subst IsNew (sym b) tt
+becomes_new k room (work.Writing kind (Some d)) x b = subst IsNew (sym b) tt
 becomes_new k room (work.Writing kind None) x b = subst IsNew (sym b) tt
 becomes_new k room (work.LaneIn u) x b = subst IsNew (sym b) tt
 becomes_new k room (work.LaneOut u) x b = subst IsNew (sym b) tt
 
 -- the handle of a work is that of its node
-source_becomes : {S D L B : Type 0} (k room : ℕ) (w : Work S D L B) (x : IslandNode S D L B) (rest : List S) → BecomesOf k room w x → with_read (node_end x) rest ≡ with_source w rest
-source_becomes k room (work.Reading r) x rest b = ap (λ (y : IslandNode _ _ _ _). with_read (node_end y) rest) b
-source_becomes k room (work.Making kind) x rest b = ap (λ (y : IslandNode _ _ _ _). with_read (node_end y) rest) b
-source_becomes k room (work.Linear l) x rest b = ap (λ (y : IslandNode _ _ _ _). with_read (node_end y) rest) b
-source_becomes k room (work.State l) x rest b = ap (λ (y : IslandNode _ _ _ _). with_read (node_end y) rest) b
-source_becomes k room (work.Sub l) x rest b = ap (λ (y : IslandNode _ _ _ _). with_read (node_end y) rest) b
-source_becomes k room (work.FanIn l n) x rest b = ap (λ (y : IslandNode _ _ _ _). with_read (node_end y) rest) b
-source_becomes k room (work.FanOut l n) x rest b = ap (λ (y : IslandNode _ _ _ _). with_read (node_end y) rest) b
-source_becomes k room (work.Custom l inputs outputs) x rest b = ap (λ (y : IslandNode _ _ _ _). with_read (node_end y) rest) b
-source_becomes k (work.Writing kind (Some d)) x rest b = ap (λ (y : IslandNode _ _ _ _). with_read (node_end y) rest) b
-source_becomes k room (work.Writing kind None) x rest b = ap (λ (y : IslandNode _ _ _ _). with_read (node_end y) rest) b
-source_becomes k room (work.LaneIn u) x rest b = ap (λ (y : IslandNode _ _ _ _). with_read (node_end y) rest) b
-source_becomes k room (work.LaneOut u) x rest b = ap (λ (y : IslandNode _ _ _ _). with_read (node_end y) rest) b
+source_becomes : {S D L H B : Type 0} (k room : ℕ) (w : Work S D L H B) (x : IslandNode S D L H B) (rest : List S) → BecomesOf k room w x → with_read (node_end x) rest ≡ with_source w rest
+source_becomes k room (work.Reading r) x rest b = ap (λ (y : IslandNode _ _ _ _ _). with_read (node_end y) rest) b
+source_becomes k room (work.Making kind) x rest b = ap (λ (y : IslandNode _ _ _ _ _). with_read (node_end y) rest) b
+source_becomes k room (work.Linear l) x rest b = ap (λ (y : IslandNode _ _ _ _ _). with_read (node_end y) rest) b
+source_becomes k room (work.State l) x rest b = ap (λ (y : IslandNode _ _ _ _ _). with_read (node_end y) rest) b
+source_becomes k room (work.Sub l) x rest b = ap (λ (y : IslandNode _ _ _ _ _). with_read (node_end y) rest) b
+source_becomes k room (work.FanIn l n) x rest b = ap (λ (y : IslandNode _ _ _ _ _). with_read (node_end y) rest) b
+source_becomes k room (work.FanOut l n) x rest b = ap (λ (y : IslandNode _ _ _ _ _). with_read (node_end y) rest) b
+source_becomes k room (work.Custom l inputs outputs) x rest b = ap (λ (y : IslandNode _ _ _ _ _). with_read (node_end y) rest) b
+source_becomes k room (work.Writing kind (Some d)) x rest b = ap (λ (y : IslandNode _ _ _ _ _). with_read (node_end y) rest) b
+source_becomes k room (work.Writing kind None) x rest b = ap (λ (y : IslandNode _ _ _ _ _). with_read (node_end y) rest) b
+source_becomes k room (work.LaneIn u) x rest b = ap (λ (y : IslandNode _ _ _ _ _). with_read (node_end y) rest) b
+source_becomes k room (work.LaneOut u) x rest b = ap (λ (y : IslandNode _ _ _ _ _). with_read (node_end y) rest) b
 
-drain_becomes : {S D L B : Type 0} (k room : ℕ) (w : Work S D L B) (x : IslandNode S D L B) (rest : List D) → BecomesOf k room w x → with_write (node_end x) rest ≡ with_drain w rest
-drain_becomes k room (work.Reading r) x rest b = ap (λ (y : IslandNode _ _ _ _). with_write (node_end y) rest) b
-drain_becomes k room (work.Making kind) x rest b = ap (λ (y : IslandNode _ _ _ _). with_write (node_end y) rest) b
-drain_becomes k room (work.Linear l) x rest b = ap (λ (y : IslandNode _ _ _ _). with_write (node_end y) rest) b
-drain_becomes k room (work.State l) x rest b = ap (λ (y : IslandNode _ _ _ _). with_write (node_end y) rest) b
-drain_becomes k room (work.Sub l) x rest b = ap (λ (y : IslandNode _ _ _ _). with_write (node_end y) rest) b
-drain_becomes k room (work.FanIn l n) x rest b = ap (λ (y : IslandNode _ _ _ _). with_write (node_end y) rest) b
-drain_becomes k room (work.FanOut l n) x rest b = ap (λ (y : IslandNode _ _ _ _). with_write (node_end y) rest) b
-drain_becomes k room (work.Custom l inputs outputs) x rest b = ap (λ (y : IslandNode _ _ _ _). with_write (node_end y) rest) b
-drain_becomes k (work.Writing kind (Some d)) x rest b = ap (λ (y : IslandNode _ _ _ _). with_write (node_end y) rest) b
-drain_becomes k room (work.Writing kind None) x rest b = ap (λ (y : IslandNode _ _ _ _). with_write (node_end y) rest) b
-drain_becomes k room (work.LaneIn u) x rest b = ap (λ (y : IslandNode _ _ _ _). with_write (node_end y) rest) b
-drain_becomes k room (work.LaneOut u) x rest b = ap (λ (y : IslandNode _ _ _ _). with_write (node_end y) rest) b
+drain_becomes : {S D L H B : Type 0} (k room : ℕ) (w : Work S D L H B) (x : IslandNode S D L H B) (rest : List D) → BecomesOf k room w x → with_write (node_end x) rest ≡ with_drain w rest
+drain_becomes k room (work.Reading r) x rest b = ap (λ (y : IslandNode _ _ _ _ _). with_write (node_end y) rest) b
+drain_becomes k room (work.Making kind) x rest b = ap (λ (y : IslandNode _ _ _ _ _). with_write (node_end y) rest) b
+drain_becomes k room (work.Linear l) x rest b = ap (λ (y : IslandNode _ _ _ _ _). with_write (node_end y) rest) b
+drain_becomes k room (work.State l) x rest b = ap (λ (y : IslandNode _ _ _ _ _). with_write (node_end y) rest) b
+drain_becomes k room (work.Sub l) x rest b = ap (λ (y : IslandNode _ _ _ _ _). with_write (node_end y) rest) b
+drain_becomes k room (work.FanIn l n) x rest b = ap (λ (y : IslandNode _ _ _ _ _). with_write (node_end y) rest) b
+drain_becomes k room (work.FanOut l n) x rest b = ap (λ (y : IslandNode _ _ _ _ _). with_write (node_end y) rest) b
+drain_becomes k room (work.Custom l inputs outputs) x rest b = ap (λ (y : IslandNode _ _ _ _ _). with_write (node_end y) rest) b
+drain_becomes k room (work.Writing kind (Some d)) x rest b = ap (λ (y : IslandNode _ _ _ _ _). with_write (node_end y) rest) b
+drain_becomes k room (work.Writing kind None) x rest b = ap (λ (y : IslandNode _ _ _ _ _). with_write (node_end y) rest) b
+drain_becomes k room (work.LaneIn u) x rest b = ap (λ (y : IslandNode _ _ _ _ _). with_write (node_end y) rest) b
+drain_becomes k room (work.LaneOut u) x rest b = ap (λ (y : IslandNode _ _ _ _ _). with_write (node_end y) rest) b
 
 module _ {S D : Type 0} (sources : S → SourceState) (drains : D → DrainState) where
   -- a node that leaves no source leaves none later
@@ -157,32 +157,32 @@ module _ {S D : Type 0} (sources : S → SourceState) (drains : D → DrainState
   write_front Staged xs ys e = e
   write_front (Wrote x) xs ys e = option_front x.drain xs ys e
 
-module _ {S D L B : Type 0} (sources : S → SourceState) (drains : D → DrainState) where
-  source_kept : (x y : IslandNode S D L B) (rest : List S) → IsNew x → KeepsNode sources drains x y → map sources (with_read (node_end y) rest) ≡ map sources (with_read (node_end x) rest)
+module _ {S D L H B : Type 0} (sources : S → SourceState) (drains : D → DrainState) where
+  source_kept : (x y : IslandNode S D L H B) (rest : List S) → IsNew x → KeepsNode sources drains x y → map sources (with_read (node_end y) rest) ≡ map sources (with_read (node_end x) rest)
   source_kept (node.Reading x) (node.Reading y) rest n k = ap (λ (s : SourceState). s ∷ map sources rest) (k.first n)
   source_kept (node.Reading x) y rest n k = absurd k.ends
-  source_kept (node.Making x) y rest n k = ap (map sources) (none_read sources drains (node_end {S = S} {D = D} {L = L} {B = B} (node.Making x)) (node_end y) rest (tt {0}) k.ends)
-  source_kept (node.Linear x) y rest n k = ap (map sources) (none_read sources drains (node_end {S = S} {D = D} {L = L} {B = B} (node.Linear x)) (node_end y) rest (tt {0}) k.ends)
-  source_kept (node.State x) y rest n k = ap (map sources) (none_read sources drains (node_end {S = S} {D = D} {L = L} {B = B} (node.State x)) (node_end y) rest (tt {0}) k.ends)
-  source_kept (node.Sub x) y rest n k = ap (map sources) (none_read sources drains (node_end {S = S} {D = D} {L = L} {B = B} (node.Sub x)) (node_end y) rest (tt {0}) k.ends)
-  source_kept (node.FanIn x) y rest n k = ap (map sources) (none_read sources drains (node_end {S = S} {D = D} {L = L} {B = B} (node.FanIn x)) (node_end y) rest (tt {0}) k.ends)
-  source_kept (node.FanOut x) y rest n k = ap (map sources) (none_read sources drains (node_end {S = S} {D = D} {L = L} {B = B} (node.FanOut x)) (node_end y) rest (tt {0}) k.ends)
-  source_kept (node.Custom x) y rest n k = ap (map sources) (none_read sources drains (node_end {S = S} {D = D} {L = L} {B = B} (node.Custom x)) (node_end y) rest (tt {0}) k.ends)
-  source_kept (node.Writing x) y rest n k = ap (map sources) (none_read sources drains (node_end {S = S} {D = D} {L = L} {B = B} (node.Writing x)) (node_end y) rest (tt {0}) k.ends)
-  source_kept (node.Ignoring x) y rest n k = ap (map sources) (none_read sources drains (node_end {S = S} {D = D} {L = L} {B = B} (node.Ignoring x)) (node_end y) rest (tt {0}) k.ends)
-  source_kept (node.Entering x) y rest n k = ap (map sources) (none_read sources drains (node_end {S = S} {D = D} {L = L} {B = B} (node.Entering x)) (node_end y) rest (tt {0}) k.ends)
-  source_kept (node.Leaving x) y rest n k = ap (map sources) (none_read sources drains (node_end {S = S} {D = D} {L = L} {B = B} (node.Leaving x)) (node_end y) rest (tt {0}) k.ends)
+  source_kept (node.Making x) y rest n k = ap (map sources) (none_read sources drains (node_end {S = S} {D = D} {L = L} {H = H} {B = B} (node.Making x)) (node_end y) rest (tt {0}) k.ends)
+  source_kept (node.Linear x) y rest n k = ap (map sources) (none_read sources drains (node_end {S = S} {D = D} {L = L} {H = H} {B = B} (node.Linear x)) (node_end y) rest (tt {0}) k.ends)
+  source_kept (node.State x) y rest n k = ap (map sources) (none_read sources drains (node_end {S = S} {D = D} {L = L} {H = H} {B = B} (node.State x)) (node_end y) rest (tt {0}) k.ends)
+  source_kept (node.Sub x) y rest n k = ap (map sources) (none_read sources drains (node_end {S = S} {D = D} {L = L} {H = H} {B = B} (node.Sub x)) (node_end y) rest (tt {0}) k.ends)
+  source_kept (node.FanIn x) y rest n k = ap (map sources) (none_read sources drains (node_end {S = S} {D = D} {L = L} {H = H} {B = B} (node.FanIn x)) (node_end y) rest (tt {0}) k.ends)
+  source_kept (node.FanOut x) y rest n k = ap (map sources) (none_read sources drains (node_end {S = S} {D = D} {L = L} {H = H} {B = B} (node.FanOut x)) (node_end y) rest (tt {0}) k.ends)
+  source_kept (node.Custom x) y rest n k = ap (map sources) (none_read sources drains (node_end {S = S} {D = D} {L = L} {H = H} {B = B} (node.Custom x)) (node_end y) rest (tt {0}) k.ends)
+  source_kept (node.Writing x) y rest n k = ap (map sources) (none_read sources drains (node_end {S = S} {D = D} {L = L} {H = H} {B = B} (node.Writing x)) (node_end y) rest (tt {0}) k.ends)
+  source_kept (node.Ignoring x) y rest n k = ap (map sources) (none_read sources drains (node_end {S = S} {D = D} {L = L} {H = H} {B = B} (node.Ignoring x)) (node_end y) rest (tt {0}) k.ends)
+  source_kept (node.Entering x) y rest n k = ap (map sources) (none_read sources drains (node_end {S = S} {D = D} {L = L} {H = H} {B = B} (node.Entering x)) (node_end y) rest (tt {0}) k.ends)
+  source_kept (node.Leaving x) y rest n k = ap (map sources) (none_read sources drains (node_end {S = S} {D = D} {L = L} {H = H} {B = B} (node.Leaving x)) (node_end y) rest (tt {0}) k.ends)
 
   -- one node, which is as it was handed in or has kept its handle
-  source_here : (k room : ℕ) (w : Work S D L B) (x y : IslandNode S D L B) (rest : List S) → BecomesOf k room w x → ((y ≡ x) ⊎ KeepsNode sources drains x y) → map sources (with_read (node_end y) rest) ≡ map sources (with_source w rest)
-  source_here k room w x y rest b (inl e) = ap (λ (z : IslandNode S D L B). map sources (with_read (node_end z) rest)) e ∙ ap (map sources) (source_becomes k room w x rest b)
+  source_here : (k room : ℕ) (w : Work S D L H B) (x y : IslandNode S D L H B) (rest : List S) → BecomesOf k room w x → ((y ≡ x) ⊎ KeepsNode sources drains x y) → map sources (with_read (node_end y) rest) ≡ map sources (with_source w rest)
+  source_here k room w x y rest b (inl e) = ap (λ (z : IslandNode S D L H B). map sources (with_read (node_end z) rest)) e ∙ ap (map sources) (source_becomes k room w x rest b)
   source_here k room w x y rest b (inr h) = source_kept x y rest (becomes_new k room w x b) h ∙ ap (map sources) (source_becomes k room w x rest b)
 
-  drain_here : (k room : ℕ) (w : Work S D L B) (x y : IslandNode S D L B) (rest : List D) → BecomesOf k room w x → ((y ≡ x) ⊎ KeepsNode sources drains x y) → map drains (with_write (node_end y) rest) ≡ map drains (with_drain w rest)
-  drain_here k room w x y rest b (inl e) = ap (λ (z : IslandNode S D L B). map drains (with_write (node_end z) rest)) e ∙ ap (map drains) (drain_becomes k room w x rest b)
+  drain_here : (k room : ℕ) (w : Work S D L H B) (x y : IslandNode S D L H B) (rest : List D) → BecomesOf k room w x → ((y ≡ x) ⊎ KeepsNode sources drains x y) → map drains (with_write (node_end y) rest) ≡ map drains (with_drain w rest)
+  drain_here k room w x y rest b (inl e) = ap (λ (z : IslandNode S D L H B). map drains (with_write (node_end z) rest)) e ∙ ap (map drains) (drain_becomes k room w x rest b)
   drain_here k room w x y rest b (inr h) = drain_kept sources drains (node_end x) (node_end y) rest h.ends ∙ ap (map drains) (drain_becomes k room w x rest b)
 
-  pub readers_back : (places : List (Seated S D L B)) (firsts nodes : List (IslandNode S D L B)) → AllBecome places firsts → AllKept (KeepsNode sources drains) firsts nodes → map sources (readers_of nodes) ≡ map sources (sources_in places)
+  pub readers_back : (places : List (Seated S D L H B)) (firsts nodes : List (IslandNode S D L H B)) → AllBecome places firsts → AllKept (KeepsNode sources drains) firsts nodes → map sources (readers_of nodes) ≡ map sources (sources_in places)
   readers_back [] [] [] b k = refl
   readers_back [] [] (y ∷ ys) b k = absurd k
   readers_back [] (x ∷ xs) ys b k = absurd b
@@ -193,7 +193,7 @@ module _ {S D L B : Type 0} (sources : S → SourceState) (drains : D → DrainS
       ∙ read_front sources drains (node_end y) (readers_of ys) (sources_in ss) (readers_back ss xs ys b.1 k.1)
       ∙ source_here s.node s.room s.work x y (sources_in ss) b.0 k.0
 
-  pub writers_back : (places : List (Seated S D L B)) (firsts nodes : List (IslandNode S D L B)) → AllBecome places firsts → AllKept (KeepsNode sources drains) firsts nodes → map drains (writers_of nodes) ≡ map drains (drains_in places)
+  pub writers_back : (places : List (Seated S D L H B)) (firsts nodes : List (IslandNode S D L H B)) → AllBecome places firsts → AllKept (KeepsNode sources drains) firsts nodes → map drains (writers_of nodes) ≡ map drains (drains_in places)
   writers_back [] [] [] b k = refl
   writers_back [] [] (y ∷ ys) b k = absurd k
   writers_back [] (x ∷ xs) ys b k = absurd b
@@ -205,12 +205,12 @@ module _ {S D L B : Type 0} (sources : S → SourceState) (drains : D → DrainS
       ∙ drain_here s.node s.room s.work x y (drains_in ss) b.0 k.0
 
   -- all of them
-  pub hands_back : (places : List (Seated S D L B)) (firsts nodes : List (IslandNode S D L B)) (e : IslandEnd S D) → AllBecome places firsts → AllKept (KeepsNode sources drains) firsts nodes → e.readers.items ≡ readers_of nodes → e.writers.items ≡ writers_of nodes → HandsBack sources drains places e
+  pub hands_back : (places : List (Seated S D L H B)) (firsts nodes : List (IslandNode S D L H B)) (e : IslandEnd S D) → AllBecome places firsts → AllKept (KeepsNode sources drains) firsts nodes → e.readers.items ≡ readers_of nodes → e.writers.items ≡ writers_of nodes → HandsBack sources drains places e
   hands_back places firsts nodes e b k readers writers = record {
     readers = ap (map sources) readers ∙ readers_back places firsts nodes b k;
     writers = ap (map drains) writers ∙ writers_back places firsts nodes b k;
   }
 
   -- before the island is taken apart
-  pub holds_handles : (places : List (Seated S D L B)) (firsts nodes : List (IslandNode S D L B)) → AllBecome places firsts → AllKept (KeepsNode sources drains) firsts nodes → HoldsHandles sources drains places nodes
+  pub holds_handles : (places : List (Seated S D L H B)) (firsts nodes : List (IslandNode S D L H B)) → AllBecome places firsts → AllKept (KeepsNode sources drains) firsts nodes → HoldsHandles sources drains places nodes
   holds_handles places firsts nodes b k = record { readers = readers_back places firsts nodes b k; writers = writers_back places firsts nodes b k }

@@ -41,7 +41,7 @@ use Rattle.interpreter.proofs.Tables.{ins_of_places, outs_of_places}
 some_same : {A : Type 0} (x y : A) → Some x ≡ Some y → x ≡ y
 some_same x y e = cc
 
-pub same_count : {S D L B : Type 0} (places : List (Seated S D L B)) (nodes : List (IslandNode S D L B)) → AllBecome places nodes → length nodes ≡ length places
+pub same_count : {S D L H B : Type 0} (places : List (Seated S D L H B)) (nodes : List (IslandNode S D L H B)) → AllBecome places nodes → length nodes ≡ length places
 same_count [] [] h = refl
 same_count [] (x ∷ xs) h = absurd h
 same_count (s ∷ ss) [] h = absurd h
@@ -52,7 +52,7 @@ new_maker k (kind.Range low high) = refl
 new_maker k (kind.Empty b) = refl
 new_maker k _ = refl
 
-becomes_fresh : {S D L B : Type 0} (k room : ℕ) (w : Work S D L B) (x : IslandNode S D L B) → IsUnused w → BecomesOf k room w x → node_fresh x (record { ins = replicate (work_inputs w) Idle; outs = replicate (work_outputs w) Unpulled })
+becomes_fresh : {S D L H B : Type 0} (k room : ℕ) (w : Work S D L H B) (x : IslandNode S D L H B) → IsUnused w → BecomesOf k room w x → node_fresh x (record { ins = replicate (work_inputs w) Idle; outs = replicate (work_outputs w) Unpulled })
 becomes_fresh k room (Reading r) x u b = rw b (record { phase = refl; drawn = refl; kept = u; port = refl })
 becomes_fresh k room (Making kind) x u b = rw b (record { phase = new_maker k kind; port = refl })
 becomes_fresh k room (Linear l) x u b = rw b u
@@ -61,13 +61,13 @@ becomes_fresh k room (Sub l) x u b = rw b u
 becomes_fresh k room (FanIn l n) x u b = rw b u
 becomes_fresh k room (FanOut l n) x u b = rw b u
 becomes_fresh k room (Custom l n m) x u b = rw b u
-becomes_fresh k (Writing kind (Some d)) x u b = rw b (new_fresh k (writes_of kind) _ d)
+becomes_fresh k room (Writing kind (Some d)) x u b = rw b (new_fresh k (writes_of kind) _ d)
 becomes_fresh k room (Writing kind None) x u b = rw b (record { started = refl; end = refl; port = refl })
 becomes_fresh k room (LaneIn u) x t b = rw b refl
 becomes_fresh k room (LaneOut u) x t b = rw b (record { waits = refl; gone = refl; port = refl })
 
 -- the node at place n
-fresh_at : {S D L B : Type 0} (places : List (Seated S D L B)) (nodes : List (IslandNode S D L B)) (n : ℕ) (x : IslandNode S D L B) → AllUnused places → AllBecome places nodes → slice_get nodes n ≡ Some x
+fresh_at : {S D L H B : Type 0} (places : List (Seated S D L H B)) (nodes : List (IslandNode S D L H B)) (n : ℕ) (x : IslandNode S D L H B) → AllUnused places → AllBecome places nodes → slice_get nodes n ≡ Some x
     → node_fresh x (record { ins = replicate (inputs_at places n) Idle; outs = replicate (outputs_at places n) Unpulled })
 fresh_at [] [] n x u b e = absurd cc
 fresh_at [] (y ∷ ys) n x u b e = absurd b
@@ -75,8 +75,8 @@ fresh_at (s ∷ ss) [] n x u b e = absurd b
 fresh_at (s ∷ ss) (y ∷ ys) zero x u b e = let same : y ≡ x = some_same y x e in becomes_fresh s.node s.room s.work x u.0 (subst (λ z. BecomesOf s.node s.room s.work z) same b.0)
 fresh_at (s ∷ ss) (y ∷ ys) (suc n) x u b e = fresh_at ss ys n x u.1 b.1 e
 
-pub all_fresh : {S D L B : Type 0} (places : List (Seated S D L B)) (nodes : List (IslandNode S D L B)) (ports : List PortLists) → AllUnused places → AllBecome places nodes → IsSized (inputs_at places) (outputs_at places) (length places) ports
-    → (n : ℕ) (x : IslandNode S D L B) → slice_get nodes n ≡ Some x → node_fresh x (first_view (port_at ports n))
+pub all_fresh : {S D L H B : Type 0} (places : List (Seated S D L H B)) (nodes : List (IslandNode S D L H B)) (ports : List PortLists) → AllUnused places → AllBecome places nodes → IsSized (inputs_at places) (outputs_at places) (length places) ports
+    → (n : ℕ) (x : IslandNode S D L H B) → slice_get nodes n ≡ Some x → node_fresh x (first_view (port_at ports n))
 all_fresh places nodes ports u b z n x e =
     let h : n < length places = rw (sym (same_count places nodes b)) (slice_get_within nodes n x e) in
     rw (z.ins_are n h, z.outs_are n h) (fresh_at places nodes n x u b e)
@@ -85,7 +85,7 @@ all_fresh places nodes ports u b z n x e =
 pub ends_many : {X : Type 0} (links : List Link) (ends : List WireEnds) (f : ℕ → X) → ends ≡ map ends_of links → f (length links) ≡ f (length ends)
 ends_many links ends f e = rw e (rw length-map refl)
 
-pub parts_wired : {S D L B : Type 0} (seats : List (Seated S D L B)) (nodes : List (IslandNode S D L B)) (ends : List WireEnds) (rows ports : List PortLists) → AllBecome seats nodes → length rows ≡ length seats → Wired ends ports (length rows) (length ends) → Wired ends ports (length nodes) (length ends)
+pub parts_wired : {S D L H B : Type 0} (seats : List (Seated S D L H B)) (nodes : List (IslandNode S D L H B)) (ends : List WireEnds) (rows ports : List PortLists) → AllBecome seats nodes → length rows ≡ length seats → Wired ends ports (length rows) (length ends) → Wired ends ports (length nodes) (length ends)
 parts_wired seats nodes ends rows ports b e w = rw (same_count seats nodes b) (rw e at w)
 
 -- the counts of the first wires
@@ -114,7 +114,7 @@ counts_all (m ∷ ns) (d ∷ cs) (suc n) e = ap (λ (l : List (ℕ × WireCount)
 pub left_next : {A B : Type 0} (f : List A → List B) → ((x : A) (xs : List A) → f (x ∷ xs) ≡ f (x ∷ []) ++ f xs) → (old new : List A) (x : A) (was now all : List B) → old ≡ x ∷ new → now ≡ was ++ f (x ∷ []) → was ++ f old ≡ all → now ++ f new ≡ all
 left_next f cut old new x was now all e is h = rw is (append_assoc was (f (x ∷ [])) (f new) ∙ ap (λ (l : List _). was ++ l) (sym (cut x new)) ∙ (rw e at h))
 
-pub sinks_cut : {S D L B : Type 0} (x : IslandNode S D L B) (xs : List (IslandNode S D L B)) → sinks_of (x ∷ xs) ≡ sinks_of (x ∷ []) ++ sinks_of xs
+pub sinks_cut : {S D L H B : Type 0} (x : IslandNode S D L H B) (xs : List (IslandNode S D L H B)) → sinks_of (x ∷ xs) ≡ sinks_of (x ∷ []) ++ sinks_of xs
 sinks_cut (node.Reading x) xs = refl
 sinks_cut (node.Making x) xs = refl
 sinks_cut (node.Linear x) xs = refl
@@ -128,7 +128,7 @@ sinks_cut (node.Ignoring x) xs = refl
 sinks_cut (node.Entering x) xs = refl
 sinks_cut (node.Leaving x) xs = refl
 
-pub readers_cut : {S D L B : Type 0} (x : IslandNode S D L B) (xs : List (IslandNode S D L B)) → readers_of (x ∷ xs) ≡ readers_of (x ∷ []) ++ readers_of xs
+pub readers_cut : {S D L H B : Type 0} (x : IslandNode S D L H B) (xs : List (IslandNode S D L H B)) → readers_of (x ∷ xs) ≡ readers_of (x ∷ []) ++ readers_of xs
 readers_cut (node.Reading x) xs = refl
 readers_cut (node.Making x) xs = refl
 readers_cut (node.Linear x) xs = refl
@@ -142,7 +142,7 @@ readers_cut (node.Ignoring x) xs = refl
 readers_cut (node.Entering x) xs = refl
 readers_cut (node.Leaving x) xs = refl
 
-pub writers_cut : {S D L B : Type 0} (x : IslandNode S D L B) (xs : List (IslandNode S D L B)) → writers_of (x ∷ xs) ≡ writers_of (x ∷ []) ++ writers_of xs
+pub writers_cut : {S D L H B : Type 0} (x : IslandNode S D L H B) (xs : List (IslandNode S D L H B)) → writers_of (x ∷ xs) ≡ writers_of (x ∷ []) ++ writers_of xs
 writers_cut (node.Reading x) xs = refl
 writers_cut (node.Making x) xs = refl
 writers_cut (node.Linear x) xs = refl
@@ -157,7 +157,7 @@ writers_cut (node.Entering x) xs = refl
 writers_cut (node.Leaving x) xs = refl
 
 -- an island that was started
-pub keeps_new : {S D L B : Type 0} (sources : S → SourceState) (drains : D → DrainState) (book : Book) (old new : Net (IslandNode S D L B)) → Settled node_port_state (node_law sources drains book) node_asking node_moves new → all_asks new ≤ all_asks old → all_asks old ≡ 0 → IslandKeeps sources drains book new 0
+pub keeps_new : {S D L H B : Type 0} (sources : S → SourceState) (drains : D → DrainState) (book : Book) (old new : Net (IslandNode S D L H B)) → Settled node_port_state (node_law sources drains book) node_asking node_moves new → all_asks new ≤ all_asks old → all_asks old ≡ 0 → IslandKeeps sources drains book new 0
 keeps_new sources drains book old new s h e = record { laws = s; asks = omega (arith, h, e); within = omega arith }
 
 -- the room is for these numbers of nodes and wires
@@ -165,7 +165,7 @@ pub room_as : {S D : Type 0} (room : IslandEnd S D) (nodes wires more_nodes more
 room_as room nodes wires more_nodes more_wires h e f = rw (e, f) h
 
 -- the numbers of places are those of their works
-pub numbers_same : {S D L B : Type 0} (seats : List (Seated S D L B)) → map (λ (p : Place). p.node) (map seat_place seats) ≡ map place_number seats
+pub numbers_same : {S D L H B : Type 0} (seats : List (Seated S D L H B)) → map (λ (p : Place). p.node) (map seat_place seats) ≡ map place_number seats
 numbers_same [] = refl
 numbers_same (s ∷ ss) = ap (λ (l : List ℕ). s.node ∷ l) (numbers_same ss)
 
@@ -179,7 +179,7 @@ no_row (p ∷ ports) zero h = absurd (omega (arith, h))
 no_row (p ∷ ports) (suc n) h = no_row ports n (omega (arith, h))
 
 -- room that is enough at each place is enough for each node there
-pub calls_fit : {S D L B : Type 0} (seats : List (Seated S D L B)) (ports : List PortLists) (room : ℕ) → IsSized (inputs_at seats) (outputs_at seats) (length seats) ports → CallsFit (map seat_place seats) room → HaveRoom ports room
+pub calls_fit : {S D L H B : Type 0} (seats : List (Seated S D L H B)) (ports : List PortLists) (room : ℕ) → IsSized (inputs_at seats) (outputs_at seats) (length seats) ports → CallsFit (map seat_place seats) room → HaveRoom ports room
 calls_fit seats ports room z h n = elim (cases_lt n (length seats)) [
   | inl lt ↦
       let a : 2 * (input_count_at (map seat_place seats) n + output_count_at (map seat_place seats) n) ≤ room = h n in

@@ -164,7 +164,7 @@ module _ (lane : Link → Bool) (links : List Link) where
 
 -- ---- both lists
 
-module _ {S D L B : Type 0} (places : List (Seated S D L B)) (links : List Link) where
+module _ {S D L H B : Type 0} (places : List (Seated S D L H B)) (links : List Link) where
   -- of the first k links, those at which lanes come in are listed
   abbrev pub ListsInsTo : List LanePlace → ℕ → Type 0
   ListsInsTo xs k = Lists (λ (l : Link). comes_in places l.from) links xs k

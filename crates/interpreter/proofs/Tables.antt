@@ -30,12 +30,12 @@ outputs_here (y ∷ ys) zero d h = refl
 outputs_here (y ∷ ys) (suc n) d h = outputs_here ys n d (omega arith)
 
 -- the places of works
-pub ins_of_places : {S D L B : Type 0} (seats : List (Seated S D L B)) (n : ℕ) → input_count_at (map seat_place seats) n ≡ inputs_at seats n
+pub ins_of_places : {S D L H B : Type 0} (seats : List (Seated S D L H B)) (n : ℕ) → input_count_at (map seat_place seats) n ≡ inputs_at seats n
 ins_of_places [] n = refl
 ins_of_places (y ∷ ys) zero = refl
 ins_of_places (y ∷ ys) (suc n) = ins_of_places ys n
 
-pub outs_of_places : {S D L B : Type 0} (seats : List (Seated S D L B)) (n : ℕ) → output_count_at (map seat_place seats) n ≡ outputs_at seats n
+pub outs_of_places : {S D L H B : Type 0} (seats : List (Seated S D L H B)) (n : ℕ) → output_count_at (map seat_place seats) n ≡ outputs_at seats n
 outs_of_places [] n = refl
 outs_of_places (y ∷ ys) zero = refl
 outs_of_places (y ∷ ys) (suc n) = outs_of_places ys n
@@ -156,20 +156,20 @@ module _ (sizes_in sizes_out : ℕ → ℕ) (places : ℕ) (ends : List WireEnds
   }
 
 -- none is seated at first
-pub seat_first : {S D L B : Type 0} (rest places : List (Seated S D L B)) (nodes : List (IslandNode S D L B)) → rest ≡ places → nodes ≡ [] → AllUnused places → AllUnused rest × ((xs : List (IslandNode S D L B)) → AllBecome rest xs → AllBecome places (nodes ++ xs))
+pub seat_first : {S D L H B : Type 0} (rest places : List (Seated S D L H B)) (nodes : List (IslandNode S D L H B)) → rest ≡ places → nodes ≡ [] → AllUnused places → AllUnused rest × ((xs : List (IslandNode S D L H B)) → AllBecome rest xs → AllBecome places (nodes ++ xs))
 seat_first rest places nodes e none unused = (rw e unused, λ xs h. let a : AllBecome places xs = rw e at h in rw none a)
 
 -- the places that are left to seat
-pub seat_next : {S D L B : Type 0} (places rest later : List (Seated S D L B)) (s : Seated S D L B) (nodes more : List (IslandNode S D L B)) (x : IslandNode S D L B) → rest ≡ s ∷ later → AllUnused rest → Becomes s x → more ≡ nodes ++ x ∷ []
-    → ((xs : List (IslandNode S D L B)) → AllBecome rest xs → AllBecome places (nodes ++ xs))
-    → AllUnused later × ((xs : List (IslandNode S D L B)) → AllBecome later xs → AllBecome places (more ++ xs))
+pub seat_next : {S D L H B : Type 0} (places rest later : List (Seated S D L H B)) (s : Seated S D L H B) (nodes more : List (IslandNode S D L H B)) (x : IslandNode S D L H B) → rest ≡ s ∷ later → AllUnused rest → Becomes s x → more ≡ nodes ++ x ∷ []
+    → ((xs : List (IslandNode S D L H B)) → AllBecome rest xs → AllBecome places (nodes ++ xs))
+    → AllUnused later × ((xs : List (IslandNode S D L H B)) → AllBecome later xs → AllBecome places (more ++ xs))
 seat_next places rest later s nodes more x e unused becomes is all =
     let u : AllUnused (s ∷ later) = rw e at unused in
-    let a : (xs : List (IslandNode _ _ _ _)) → AllBecome (s ∷ later) xs → AllBecome places (nodes ++ xs) = rw e at all in
+    let a : (xs : List (IslandNode _ _ _ _ _)) → AllBecome (s ∷ later) xs → AllBecome places (nodes ++ xs) = rw e at all in
     (u.1, λ xs h. rw is (rw (append_assoc nodes (x ∷ []) xs) (a (x ∷ xs) (becomes, h))))
 
-pub seat_last : {S D L B : Type 0} (places rest : List (Seated S D L B)) (nodes : List (IslandNode S D L B)) → rest ≡ [] → ((xs : List (IslandNode S D L B)) → AllBecome rest xs → AllBecome places (nodes ++ xs)) → AllBecome places nodes
-seat_last places rest nodes e all = let a : (xs : List (IslandNode _ _ _ _)) → AllBecome [] xs → AllBecome places (nodes ++ xs) = rw e at all in rw (append-nil nodes) at (a [] tt)
+pub seat_last : {S D L H B : Type 0} (places rest : List (Seated S D L H B)) (nodes : List (IslandNode S D L H B)) → rest ≡ [] → ((xs : List (IslandNode S D L H B)) → AllBecome rest xs → AllBecome places (nodes ++ xs)) → AllBecome places nodes
+seat_last places rest nodes e all = let a : (xs : List (IslandNode _ _ _ _ _)) → AllBecome [] xs → AllBecome places (nodes ++ xs) = rw e at all in rw (append-nil nodes) at (a [] tt)
 
 -- none is left where there are 0
 pub none_left : {A : Type 0} (xs : List A) (n : ℕ) → n ≡ 0 → n ≡ length xs → xs ≡ []
@@ -190,7 +190,7 @@ length_next xs x n e = length-append xs (x ∷ []) ∙ (let h : length xs ≡ n 
 pub sized_self : (ports : List PortLists) → IsSized (ins_in ports) (outs_in ports) (length ports) ports
 sized_self ports = record { count = refl; ins_are = λ n h. refl; outs_are = λ n h. refl }
 
-module _ {S D L B : Type 0} (seats : List (Seated S D L B)) (rows : List PortLists) (sized : IsSized (input_count_at (map seat_place seats)) (output_count_at (map seat_place seats)) (length (map seat_place seats)) rows) where
+module _ {S D L H B : Type 0} (seats : List (Seated S D L H B)) (rows : List PortLists) (sized : IsSized (input_count_at (map seat_place seats)) (output_count_at (map seat_place seats)) (length (map seat_place seats)) rows) where
   count_is : length (map seat_place seats) ≡ length seats
   count_is = length-map seats seat_place
 

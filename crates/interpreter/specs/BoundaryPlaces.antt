@@ -22,12 +22,12 @@ use Rattle.interpreter.specs.declared.wanted.Wanted.{Wanted}
 use Rattle.interpreter.specs.declared.wanted.Wanted.TheVariants as wanted
 
 -- the node is one at which a lane comes in
-abbrev pub IsEntering : {S D L B : Type 0} → IslandNode S D L B → Type 0
+abbrev pub IsEntering : {S D L H B : Type 0} → IslandNode S D L H B → Type 0
 IsEntering (node.Entering x) = ⊤
 IsEntering _ = ⊥
 
 -- the node is one at which a lane goes out
-abbrev pub IsLeaving : {S D L B : Type 0} → IslandNode S D L B → Type 0
+abbrev pub IsLeaving : {S D L H B : Type 0} → IslandNode S D L H B → Type 0
 IsLeaving (node.Leaving x) = ⊤
 IsLeaving _ = ⊥
 
@@ -45,33 +45,33 @@ abbrev pub ends_at : ℕ → Option Cause → Act
 ends_at j None = act.Complete j
 ends_at j (Some c) = act.FailOut j c
 
-module _ {S D L B : Type 0} where
+module _ {S D L H B : Type 0} where
   -- a lane comes in at the node that stands at the output of connection q, as it was handed in
-  abbrev pub EntersAt : Net (IslandNode S D L B) → ℕ → Type 0
-  EntersAt net q = (x : IslandNode S D L B) → slice_get net.firsts (end_at net.ends q).from ≡ Some x → IsEntering x
+  abbrev pub EntersAt : Net (IslandNode S D L H B) → ℕ → Type 0
+  EntersAt net q = (x : IslandNode S D L H B) → slice_get net.firsts (end_at net.ends q).from ≡ Some x → IsEntering x
 
   -- a lane goes out at the node that stands at the input of connection q, as it was handed in
-  abbrev pub LeavesAt : Net (IslandNode S D L B) → ℕ → Type 0
-  LeavesAt net q = (x : IslandNode S D L B) → slice_get net.firsts (end_at net.ends q).to ≡ Some x → IsLeaving x
+  abbrev pub LeavesAt : Net (IslandNode S D L H B) → ℕ → Type 0
+  LeavesAt net q = (x : IslandNode S D L H B) → slice_get net.firsts (end_at net.ends q).to ≡ Some x → IsLeaving x
 
   -- a stage at an end of the connection at place q did this: the connection has changed alone, and stands in the queue where it has an event
-  abbrev pub moved_at : Net (IslandNode S D L B) → ℕ → Act → Net (IslandNode S D L B)
+  abbrev pub moved_at : Net (IslandNode S D L H B) → ℕ → Act → Net (IslandNode S D L H B)
   moved_at net q a = put net q (moved_by a (wire_at net q)) (queues_by a (wire_at net q).wire.conn)
 
   -- the input there is cancelled, where it is open
-  abbrev pub cancelled_at : Net (IslandNode S D L B) → ℕ → Net (IslandNode S D L B)
+  abbrev pub cancelled_at : Net (IslandNode S D L H B) → ℕ → Net (IslandNode S D L H B)
   cancelled_at net q = if input_closed (wire_at net q).wire.inp then net else moved_at net q (act.Cancel 0)
 
   -- the output there ends, where it is open
-  abbrev pub ended_at : Net (IslandNode S D L B) → ℕ → Option Cause → Net (IslandNode S D L B)
+  abbrev pub ended_at : Net (IslandNode S D L H B) → ℕ → Option Cause → Net (IslandNode S D L H B)
   ended_at net q cause = if output_closed (wire_at net q).wire.out then net else moved_at net q (ends_at 0 cause)
 
   -- nothing waits to be handed out where the connection at place q leads
-  abbrev pub IsClearAt : Net (IslandNode S D L B) → ℕ → Type 0
+  abbrev pub IsClearAt : Net (IslandNode S D L H B) → ℕ → Type 0
   IsClearAt net q = AtNode net (end_at net.ends q).to (λ x. node_waits x ≡ [])
 
   -- what came there is what was handed out or dropped, and then what waits: a list and its end; no more came than was asked
-  pub record ReceivedAt (net : Net (IslandNode S D L B)) (q : ℕ) : Type 0 where
+  pub record ReceivedAt (net : Net (IslandNode S D L H B)) (q : ℕ) : Type 0 where
     pub got : AtNode net (end_at net.ends q).to (λ x. (wire_at net q).wire.got ≡ node_gone x ++ node_waits x)
     pub few : elements (wire_at net q).wire.got ≤ asks_of (wire_at net q)
     pub list : List Tree

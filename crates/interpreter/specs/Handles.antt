@@ -11,7 +11,7 @@ use Rattle.nodes.specs.declared.node.IslandNode.{IslandNode}
 use Rattle.interpreter.specs.declared.parts.Work.TheVariants.{Reading, Making, Linear, State, Sub, FanIn, FanOut, Custom, Writing, LaneIn, LaneOut}
 
 -- the source of a reader, in front of others
-abbrev pub with_source : {S D L B : Type 0} → Work S D L B → List S → List S
+abbrev pub with_source : {S D L H B : Type 0} → Work S D L H B → List S → List S
 with_source (Reading r) rest = r.source ∷ rest
 with_source (Making k) rest = rest
 with_source (Linear l) rest = rest
@@ -25,7 +25,7 @@ with_source (LaneIn u) rest = rest
 with_source (LaneOut u) rest = rest
 
 -- the drain of a sink with a file, in front of others
-abbrev pub with_drain : {S D L B : Type 0} → Work S D L B → List D → List D
+abbrev pub with_drain : {S D L H B : Type 0} → Work S D L H B → List D → List D
 with_drain (Reading r) rest = rest
 with_drain (Making k) rest = rest
 with_drain (Linear l) rest = rest
@@ -40,27 +40,27 @@ with_drain (LaneIn u) rest = rest
 with_drain (LaneOut u) rest = rest
 
 -- the sources of all places, in their order
-abbrev pub sources_in : {S D L B : Type 0} → List (Seated S D L B) → List S
+abbrev pub sources_in : {S D L H B : Type 0} → List (Seated S D L H B) → List S
 sources_in [] = []
 sources_in (s ∷ ss) = with_source s.work (sources_in ss)
 
 -- the drains of all places, in their order
-abbrev pub drains_in : {S D L B : Type 0} → List (Seated S D L B) → List D
+abbrev pub drains_in : {S D L H B : Type 0} → List (Seated S D L H B) → List D
 drains_in [] = []
 drains_in (s ∷ ss) = with_drain s.work (drains_in ss)
 
 -- Its handles are those that stand at these places, in their order, each as it was handed in.
-pub record HandsBack {S D L B : Type 0} (sources : S → SourceState) (drains : D → DrainState) (places : List (Seated S D L B)) (e : IslandEnd S D)
+pub record HandsBack {S D L H B : Type 0} (sources : S → SourceState) (drains : D → DrainState) (places : List (Seated S D L H B)) (e : IslandEnd S D)
     : Type 0 where
   pub readers : map sources e.readers.items ≡ map sources (sources_in places)
   pub writers : map drains e.writers.items ≡ map drains (drains_in places)
 
 -- the handles of these nodes are those that stand at these places, in their order, each as it was handed in
-pub record HoldsHandles {S D L B : Type 0} (sources : S → SourceState) (drains : D → DrainState) (places : List (Seated S D L B))
-    (nodes : List (IslandNode S D L B)) : Type 0 where
+pub record HoldsHandles {S D L H B : Type 0} (sources : S → SourceState) (drains : D → DrainState) (places : List (Seated S D L H B))
+    (nodes : List (IslandNode S D L H B)) : Type 0 where
   pub readers : map sources (readers_of nodes) ≡ map sources (sources_in places)
   pub writers : map drains (writers_of nodes) ≡ map drains (drains_in places)
 
 -- an island of these places did not start
-abbrev pub DidNotStart : {S D L B : Type 0} → (S → SourceState) → (D → DrainState) → List (Seated S D L B) → StartEnd S D → Type 0
+abbrev pub DidNotStart : {S D L H B : Type 0} → (S → SourceState) → (D → DrainState) → List (Seated S D L H B) → StartEnd S D → Type 0
 DidNotStart sources drains places (NoMemory e) = HandsBack sources drains places e

@@ -19,8 +19,8 @@ use Rattle.interpreter.specs.declared.ways.LanePlace.{LanePlace}
 -- its nodes and wires, the numbers of its wires and of its nodes in the blueprint, the places of the connections at which lanes come in
 -- and go out, each with the wire that its lane is, the units that it used, and whether a call gave up for want of memory, after which nothing is
 -- known of it
-pub record Kept (S D L B : Type 0) : Type 0 where
-  pub net : Net (IslandNode S D L B)
+pub record Kept (S D L H B : Type 0) : Type 0 where
+  pub net : Net (IslandNode S D L H B)
   pub numbers : List ℕ
   pub places : List ℕ
   pub ins : List LanePlace
@@ -29,7 +29,7 @@ pub record Kept (S D L B : Type 0) : Type 0 where
   pub broken : Bool
 
 -- what an island keeps between two calls
-pub record IslandKeeps {S D L B : Type 0} (sources : S → SourceState) (drains : D → DrainState) (book : Book) (net : Net (IslandNode S D L B)) (used : ℕ)
+pub record IslandKeeps {S D L H B : Type 0} (sources : S → SourceState) (drains : D → DrainState) (book : Book) (net : Net (IslandNode S D L H B)) (used : ℕ)
     : Type 0 where
   pub laws : Settled node_port_state (node_law sources drains book) node_asking node_moves net
   pub asks : all_asks net ≤ used
@@ -45,7 +45,7 @@ counts_of (n ∷ ns) (c ∷ cs) = (n, state_count c) ∷ counts_of ns cs
 counts_of _ _ = []
 
 -- the sinks' ends: node, lines written, how it stands
-abbrev pub sinks_of : {S D L B : Type 0} → List (IslandNode S D L B) → List (ℕ × ℕ × EndState)
+abbrev pub sinks_of : {S D L H B : Type 0} → List (IslandNode S D L H B) → List (ℕ × ℕ × EndState)
 sinks_of [] = []
 sinks_of (node.Reading x ∷ xs) = sinks_of xs
 sinks_of (node.Making x ∷ xs) = sinks_of xs
@@ -61,7 +61,7 @@ sinks_of (node.Entering x ∷ xs) = sinks_of xs
 sinks_of (node.Leaving x ∷ xs) = sinks_of xs
 
 -- the sources of bytes that its readers read
-abbrev pub readers_of : {S D L B : Type 0} → List (IslandNode S D L B) → List S
+abbrev pub readers_of : {S D L H B : Type 0} → List (IslandNode S D L H B) → List S
 readers_of [] = []
 readers_of (node.Reading x ∷ xs) = x.reader.source ∷ readers_of xs
 readers_of (node.Making x ∷ xs) = readers_of xs
@@ -77,7 +77,7 @@ readers_of (node.Entering x ∷ xs) = readers_of xs
 readers_of (node.Leaving x ∷ xs) = readers_of xs
 
 -- the drains that its sinks with a file wrote
-abbrev pub writers_of : {S D L B : Type 0} → List (IslandNode S D L B) → List D
+abbrev pub writers_of : {S D L H B : Type 0} → List (IslandNode S D L H B) → List D
 writers_of [] = []
 writers_of (node.Reading x ∷ xs) = writers_of xs
 writers_of (node.Making x ∷ xs) = writers_of xs

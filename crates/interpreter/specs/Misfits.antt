@@ -25,14 +25,14 @@ found_at k None = None
 found_at k (Some place) = Some (k, place)
 
 -- the least of these nodes, which have these numbers
-abbrev pub least_of : {S D L B : Type 0} → List ℕ → List (IslandNode S D L B) → Option Found
+abbrev pub least_of : {S D L H B : Type 0} → List ℕ → List (IslandNode S D L H B) → Option Found
 least_of (k ∷ ks) (x ∷ xs) = least (found_at k (node_misfit x)) (least_of ks xs)
 least_of _ _ = None
 
 -- node k is among these, which have these numbers, and could not make the move at this place
-pub record FindsMisfit {S D L B : Type 0} (numbers : List ℕ) (nodes : List (IslandNode S D L B)) (k place : ℕ) : Type 0 where
+pub record FindsMisfit {S D L H B : Type 0} (numbers : List ℕ) (nodes : List (IslandNode S D L H B)) (k place : ℕ) : Type 0 where
   pub at : ℕ
-  pub node : IslandNode S D L B
+  pub node : IslandNode S D L H B
   pub number : slice_get numbers at ≡ Some k
   pub there : slice_get nodes at ≡ Some node
   pub found : node_misfit node ≡ Some place

@@ -37,7 +37,7 @@ abbrev pub wire_number : Link → ℕ
 wire_number l = l.wire
 
 -- how many inputs a work has
-abbrev pub work_inputs : {S D L B : Type 0} → Work S D L B → ℕ
+abbrev pub work_inputs : {S D L H B : Type 0} → Work S D L H B → ℕ
 work_inputs (Reading r) = 0
 work_inputs (Making k) = 0
 work_inputs (Linear l) = 1
@@ -51,7 +51,7 @@ work_inputs (LaneIn u) = 0
 work_inputs (LaneOut u) = 1
 
 -- how many outputs a work has
-abbrev pub work_outputs : {S D L B : Type 0} → Work S D L B → ℕ
+abbrev pub work_outputs : {S D L H B : Type 0} → Work S D L H B → ℕ
 work_outputs (Reading r) = 1
 work_outputs (Making k) = 1
 work_outputs (Linear l) = 1
@@ -65,19 +65,19 @@ work_outputs (LaneIn u) = 1
 work_outputs (LaneOut u) = 0
 
 -- the same of the work at place n
-abbrev pub inputs_at : {S D L B : Type 0} → List (Seated S D L B) → ℕ → ℕ
+abbrev pub inputs_at : {S D L H B : Type 0} → List (Seated S D L H B) → ℕ → ℕ
 inputs_at [] n = 0
 inputs_at (x ∷ xs) zero = work_inputs x.work
 inputs_at (x ∷ xs) (suc n) = inputs_at xs n
 
 -- how many outputs the work at place n has; none where there is no place
-abbrev pub outputs_at : {S D L B : Type 0} → List (Seated S D L B) → ℕ → ℕ
+abbrev pub outputs_at : {S D L H B : Type 0} → List (Seated S D L H B) → ℕ → ℕ
 outputs_at [] n = 0
 outputs_at (x ∷ xs) zero = work_outputs x.work
 outputs_at (x ∷ xs) (suc n) = outputs_at xs n
 
 -- what is known of a place before its work holds its handle
-abbrev pub seat_place : {S D L B : Type 0} → Seated S D L B → Place
+abbrev pub seat_place : {S D L H B : Type 0} → Seated S D L H B → Place
 seat_place s = record { node = s.node; inputs = work_inputs s.work; outputs = work_outputs s.work }
 
 -- how many inputs place n has; none where there is no such place
@@ -93,7 +93,7 @@ output_count_at (p ∷ ps) zero = p.outputs
 output_count_at (p ∷ ps) (suc n) = output_count_at ps n
 
 -- a work that did nothing yet: no reader has read, no logic was started, and a sink has a drain exactly where it has a file
-abbrev pub IsUnused : {S D L B : Type 0} → Work S D L B → Type 0
+abbrev pub IsUnused : {S D L H B : Type 0} → Work S D L H B → Type 0
 IsUnused (Reading r) = r.kept ≡ []
 IsUnused (Making k) = IsMaker k
 IsUnused (Linear l) = LinearFresh l (record { ins = Idle ∷ []; outs = Unpulled ∷ [] })
@@ -108,7 +108,7 @@ IsUnused (LaneIn u) = ⊤
 IsUnused (LaneOut u) = ⊤
 
 -- each work did nothing yet
-abbrev pub AllUnused : {S D L B : Type 0} → List (Seated S D L B) → Type 0
+abbrev pub AllUnused : {S D L H B : Type 0} → List (Seated S D L H B) → Type 0
 AllUnused [] = ⊤
 AllUnused (x ∷ xs) = IsUnused x.work × AllUnused xs
 
@@ -126,14 +126,14 @@ pub record IsWiring (ins outs : ℕ → ℕ) (places : ℕ) (ends : List WireEnd
   pub each_input : (n i : ℕ) → n < places → i < ins n → (w : ℕ) × ((w < length ends) × (((end_at ends w).to ≡ n) × ((end_at ends w).input ≡ i)))
 
 -- What an island is made of: works that did nothing yet, and links that join all their ports, each end of a lane in a link of its own.
-pub record AreParts {S D L B : Type 0} (places : List (Seated S D L B)) (links : List Link) : Type 0 where
+pub record AreParts {S D L H B : Type 0} (places : List (Seated S D L H B)) (links : List Link) : Type 0 where
   pub unused : AllUnused places
   pub wiring : IsWiring (inputs_at places) (outputs_at places) (length places) (map ends_of links)
   pub once : IsOnce places links
   pub few : length links < 2 ^ 32
 
 -- the node of a work, with its number, where it may put so many lines together
-abbrev pub BecomesOf : {S D L B : Type 0} → ℕ → ℕ → Work S D L B → IslandNode S D L B → Type 0
+abbrev pub BecomesOf : {S D L H B : Type 0} → ℕ → ℕ → Work S D L H B → IslandNode S D L H B → Type 0
 BecomesOf k room (Reading r) x = x ≡ node.Reading (record { node = k; reader = r; drawn = 0; phase = New })
 BecomesOf k room (Making kind) x = x ≡ node.Making (maker_of k kind)
 BecomesOf k room (Linear l) x = x ≡ node.Linear l
@@ -148,26 +148,26 @@ BecomesOf k room (LaneIn u) x = x ≡ node.Entering (record { wire = u })
 BecomesOf k room (LaneOut u) x = x ≡ node.Leaving (record { wire = u; waits = []; gone = [] })
 
 -- the node that stands at a place
-abbrev pub Becomes : {S D L B : Type 0} → Seated S D L B → IslandNode S D L B → Type 0
+abbrev pub Becomes : {S D L H B : Type 0} → Seated S D L H B → IslandNode S D L H B → Type 0
 Becomes s x = BecomesOf s.node s.room s.work x
 
 -- the nodes that stand at the places, in order
-abbrev pub AllBecome : {S D L B : Type 0} → List (Seated S D L B) → List (IslandNode S D L B) → Type 0
+abbrev pub AllBecome : {S D L H B : Type 0} → List (Seated S D L H B) → List (IslandNode S D L H B) → Type 0
 AllBecome [] [] = ⊤
 AllBecome (s ∷ ss) (x ∷ xs) = Becomes s x × AllBecome ss xs
 AllBecome _ _ = ⊥
 
 -- none of these works has room to put lines together
-abbrev pub NonePutsTogether : {S D L B : Type 0} → List (Seated S D L B) → Type 0
+abbrev pub NonePutsTogether : {S D L H B : Type 0} → List (Seated S D L H B) → Type 0
 NonePutsTogether seats = (k : ℕ) (s : _) → slice_get seats k ≡ Some s → s.room ≤ 1
 
 -- a node that writes lines has room for one alone
-abbrev pub PutsOne : {S D L B : Type 0} → IslandNode S D L B → Type 0
+abbrev pub PutsOne : {S D L H B : Type 0} → IslandNode S D L H B → Type 0
 PutsOne (node.Writing x) = x.gather.room ≡ 1
 PutsOne x = ⊤
 
 -- each of these nodes does
-abbrev pub AllPutOne : {S D L B : Type 0} → List (IslandNode S D L B) → Type 0
+abbrev pub AllPutOne : {S D L H B : Type 0} → List (IslandNode S D L H B) → Type 0
 AllPutOne nodes = (k : ℕ) (x : _) → slice_get nodes k ≡ Some x → PutsOne x
 
 -- the tables of the wires at the ports of each place have a row for each port

@@ -6,7 +6,7 @@ use Rattle.nodes.specs.declared.node.IslandNode.{IslandNode}
 use Rattle.interpreter.specs.declared.parts.Seated.{Seated}
 
 -- the number of the blueprint's node that stands at a place
-abbrev pub place_number : {S D L B : Type 0} → Seated S D L B → ℕ
+abbrev pub place_number : {S D L H B : Type 0} → Seated S D L H B → ℕ
 place_number s = s.node
 
 -- the number of a stage that chooses, and its moves
@@ -23,6 +23,6 @@ with_picks k None rest = rest
 with_picks k (Some moves) rest = (k, moves) ∷ rest
 
 -- the moves of each node whose kind chooses, with its number, in order of nodes
-abbrev pub picks_of : {S D L B : Type 0} → List ℕ → List (IslandNode S D L B) → List Pick
+abbrev pub picks_of : {S D L H B : Type 0} → List ℕ → List (IslandNode S D L H B) → List Pick
 picks_of (k ∷ ks) (x ∷ xs) = with_picks k (node_picks x) (picks_of ks xs)
 picks_of _ _ = []

@@ -39,7 +39,7 @@ abbrev pub CallsFit : List Place → ℕ → Type 0
 CallsFit places room = (n : ℕ) → 2 * (input_count_at places n + output_count_at places n) ≤ room
 
 -- the engine of these places and links, before its nodes are there
-pub record IsBlank {S D L B : Type 0} (blank : Blank S D L B) (places : List Place) (links : List Link) : Type 0 where
+pub record IsBlank {S D L H B : Type 0} (blank : Blank S D L H B) (places : List Place) (links : List Link) : Type 0 where
   pub ends : blank.ends.items ≡ map ends_of links
   pub rows : IsSized (input_count_at places) (output_count_at places) (length places) blank.ports.items
   pub wires : blank.wires.items ≡ replicate (length links) new_cell
@@ -48,7 +48,7 @@ pub record IsBlank {S D L B : Type 0} (blank : Blank S D L B) (places : List Pla
   pub room_for_nodes : length places ≤ vec_capacity blank.nodes
 
 -- the room for an island of these places and links
-pub record IsRoom {S D L B : Type 0} (room : IslandRoom S D L B) (places : List Place) (links : List Link) : Type 0 where
+pub record IsRoom {S D L H B : Type 0} (room : IslandRoom S D L H B) (places : List Place) (links : List Link) : Type 0 where
   pub no_acts : room.acts.items ≡ []
   pub least_room : LEAST_ACTS ≤ room.acts.room
   pub room_for_acts : CallsFit places room.acts.room

@@ -10,6 +10,6 @@ with_seat k None rest = rest
 with_seat k (Some seat) rest = (k, seat) ∷ rest
 
 -- the seat of each valve and trip, with its number, in order of nodes
-abbrev pub seats_of : {S D L B : Type 0} → List ℕ → List (IslandNode S D L B) → List (ℕ × SeatState)
+abbrev pub seats_of : {S D L H B : Type 0} → List ℕ → List (IslandNode S D L H B) → List (ℕ × SeatState)
 seats_of (k ∷ ks) (x ∷ xs) = with_seat k (node_seat x) (seats_of ks xs)
 seats_of _ _ = []

@@ -16,6 +16,7 @@ use elem_core::elem::Elem;
 use elem_core::item::Item;
 use elem_core::why::Cause;
 use fused_net::engine::Engine;
+use graph_stage::handlers::Handlers;
 use nodes::node::IslandNode;
 use plug_logic::book::PlugBook;
 use plug_logic::logic::Logic;
@@ -24,8 +25,8 @@ use stream_io::outside::{Drain, Source};
 
 /// What the stage at the output end of the connection at place `place` was asked, where a lane comes in. It takes no memory.
 /// Rule: Akka Streams 2.6 reference, chapter on asynchronous boundaries.
-pub fn wanted<S: Source, D: Drain, L: Logic, B: PlugBook>(
-    engine: &Engine<IslandNode<S, D, L, B>>,
+pub fn wanted<S: Source, D: Drain, L: Logic, H: Handlers, B: PlugBook>(
+    engine: &Engine<IslandNode<S, D, L, H, B>>,
     place: u32,
 ) -> Wanted
     requires { place < length engine.now.wires }
@@ -42,8 +43,8 @@ pub fn wanted<S: Source, D: Drain, L: Logic, B: PlugBook>(
 }
 
 /// Pushes an element where a lane comes in. It takes no memory and costs no unit.
-pub fn push_in<S: Source, D: Drain, L: Logic, B: PlugBook>(
-    engine: &mut Engine<IslandNode<S, D, L, B>>,
+pub fn push_in<S: Source, D: Drain, L: Logic, H: Handlers, B: PlugBook>(
+    engine: &mut Engine<IslandNode<S, D, L, H, B>>,
     place: u32,
     e: Elem,
 )
@@ -61,8 +62,8 @@ pub fn push_in<S: Source, D: Drain, L: Logic, B: PlugBook>(
 }
 
 /// Completes what comes in there, or fails it; no change where its output is closed. It takes no memory and costs no unit.
-pub fn end_in<S: Source, D: Drain, L: Logic, B: PlugBook>(
-    engine: &mut Engine<IslandNode<S, D, L, B>>,
+pub fn end_in<S: Source, D: Drain, L: Logic, H: Handlers, B: PlugBook>(
+    engine: &mut Engine<IslandNode<S, D, L, H, B>>,
     place: u32,
     cause: Option<Cause>,
 )
@@ -92,8 +93,8 @@ fn end_act(port: u8, cause: Option<Cause>) -> Act
 }
 
 /// Whether nothing waits to be handed out where a lane goes out. It takes no memory.
-pub fn is_clear<S: Source, D: Drain, L: Logic, B: PlugBook>(
-    engine: &Engine<IslandNode<S, D, L, B>>,
+pub fn is_clear<S: Source, D: Drain, L: Logic, H: Handlers, B: PlugBook>(
+    engine: &Engine<IslandNode<S, D, L, H, B>>,
     place: u32,
 ) -> bool
     requires laws { Settled node_port_state (node_law S.state D.state B.lists) node_asking node_moves engine.now }
@@ -106,8 +107,8 @@ pub fn is_clear<S: Source, D: Drain, L: Logic, B: PlugBook>(
 
 /// Whether the stage at the input end may ask, where a lane goes out: its connection lets it, and nothing waits to be handed
 /// out. It takes no memory.
-pub fn can_pull_out<S: Source, D: Drain, L: Logic, B: PlugBook>(
-    engine: &Engine<IslandNode<S, D, L, B>>,
+pub fn can_pull_out<S: Source, D: Drain, L: Logic, H: Handlers, B: PlugBook>(
+    engine: &Engine<IslandNode<S, D, L, H, B>>,
     place: u32,
 ) -> bool
     requires laws { Settled node_port_state (node_law S.state D.state B.lists) node_asking node_moves engine.now }
@@ -119,8 +120,8 @@ pub fn can_pull_out<S: Source, D: Drain, L: Logic, B: PlugBook>(
 }
 
 /// Whether the connection lets the stage at the input end ask, where a lane goes out. It takes no memory.
-pub fn lets_pull_out<S: Source, D: Drain, L: Logic, B: PlugBook>(
-    engine: &Engine<IslandNode<S, D, L, B>>,
+pub fn lets_pull_out<S: Source, D: Drain, L: Logic, H: Handlers, B: PlugBook>(
+    engine: &Engine<IslandNode<S, D, L, H, B>>,
     place: u32,
 ) -> bool
     requires within { place < length engine.now.wires }
@@ -130,8 +131,8 @@ pub fn lets_pull_out<S: Source, D: Drain, L: Logic, B: PlugBook>(
 }
 
 /// Asks there. It takes no memory and costs no unit.
-pub fn pull_out<S: Source, D: Drain, L: Logic, B: PlugBook>(
-    engine: &mut Engine<IslandNode<S, D, L, B>>,
+pub fn pull_out<S: Source, D: Drain, L: Logic, H: Handlers, B: PlugBook>(
+    engine: &mut Engine<IslandNode<S, D, L, H, B>>,
     place: u32,
 )
     requires laws { Settled node_port_state (node_law S.state D.state B.lists) node_asking node_moves engine.old }
@@ -148,8 +149,8 @@ pub fn pull_out<S: Source, D: Drain, L: Logic, B: PlugBook>(
 }
 
 /// Hands out what came where a lane goes out, each element and the end once and in order. It takes no memory and costs no unit.
-pub fn hand_out<S: Source, D: Drain, L: Logic, B: PlugBook>(
-    engine: &mut Engine<IslandNode<S, D, L, B>>,
+pub fn hand_out<S: Source, D: Drain, L: Logic, H: Handlers, B: PlugBook>(
+    engine: &mut Engine<IslandNode<S, D, L, H, B>>,
     place: u32,
 ) -> Option<Item>
     requires laws { Settled node_port_state (node_law S.state D.state B.lists) node_asking node_moves engine.old }
@@ -165,8 +166,8 @@ pub fn hand_out<S: Source, D: Drain, L: Logic, B: PlugBook>(
 }
 
 /// Cancels there, without change where its input is closed. It takes no memory and costs no unit.
-fn cancel<S: Source, D: Drain, L: Logic, B: PlugBook>(
-    engine: &mut Engine<IslandNode<S, D, L, B>>,
+fn cancel<S: Source, D: Drain, L: Logic, H: Handlers, B: PlugBook>(
+    engine: &mut Engine<IslandNode<S, D, L, H, B>>,
     place: u32,
 )
     requires laws { Settled node_port_state (node_law S.state D.state B.lists) node_asking node_moves engine.old }
@@ -186,8 +187,8 @@ fn cancel<S: Source, D: Drain, L: Logic, B: PlugBook>(
 
 /// Cancels there, without change where its input is closed, and drops what waits to be handed out. It takes no memory and costs
 /// no unit.
-pub fn cancel_out<S: Source, D: Drain, L: Logic, B: PlugBook>(
-    engine: &mut Engine<IslandNode<S, D, L, B>>,
+pub fn cancel_out<S: Source, D: Drain, L: Logic, H: Handlers, B: PlugBook>(
+    engine: &mut Engine<IslandNode<S, D, L, H, B>>,
     place: u32,
 )
     requires laws { Settled node_port_state (node_law S.state D.state B.lists) node_asking node_moves engine.old }
@@ -206,8 +207,8 @@ pub fn cancel_out<S: Source, D: Drain, L: Logic, B: PlugBook>(
 }
 
 /// What came where a lane goes out is what was handed out or dropped, and then what waits. The call does nothing.
-pub fn came_to<S: Source, D: Drain, L: Logic, B: PlugBook>(
-    engine: &Engine<IslandNode<S, D, L, B>>,
+pub fn came_to<S: Source, D: Drain, L: Logic, H: Handlers, B: PlugBook>(
+    engine: &Engine<IslandNode<S, D, L, H, B>>,
     place: u32,
 )
     requires laws { Settled node_port_state (node_law S.state D.state B.lists) node_asking node_moves engine.now }

@@ -36,6 +36,7 @@ use elem_core::elem::Elem;
 use elem_core::item::Item;
 use elem_core::why::{Cause, NoMemory};
 use fused_net::engine::{Advance, Engine};
+use graph_stage::handlers::Handlers;
 use nodes::node::{IslandNode, NodeEnd};
 use plug_logic::book::PlugBook;
 use plug_logic::logic::Logic;
@@ -51,8 +52,8 @@ use stream_model::outcome::{EndState, PickList, WireCount};
 
 /// The nodes and wires of one island, and the wires that have an event. After `NoMemory` it is only dropped or taken apart.
 /// Akka calls this an island too, and runs it by a `GraphInterpreterShell`.
-pub struct Island<S: Source, D: Drain, L: Logic, B: PlugBook> {
-    engine: Engine<IslandNode<S, D, L, B>>,
+pub struct Island<S: Source, D: Drain, L: Logic, H: Handlers, B: PlugBook> {
+    engine: Engine<IslandNode<S, D, L, H, B>>,
     acts: Acts,
     numbers: Vec<u32>,
     // The number in the blueprint of each of its nodes.
@@ -68,7 +69,7 @@ pub struct Island<S: Source, D: Drain, L: Logic, B: PlugBook> {
 }
 
 // Dropped by a call, wherever it is dropped: else each crate above proves the drop of each of its parts again.
-impl<S: Source, D: Drain, L: Logic, B: PlugBook> Drop for Island<S, D, L, B> {
+impl<S: Source, D: Drain, L: Logic, H: Handlers, B: PlugBook> Drop for Island<S, D, L, H, B> {
     fn drop(self) {
         let Island {
             engine: _,
@@ -84,7 +85,7 @@ impl<S: Source, D: Drain, L: Logic, B: PlugBook> Drop for Island<S, D, L, B> {
     }
 }
 
-impl<S: Source, D: Drain, L: Logic, B: PlugBook> Model for Island<S, D, L, B> {
+impl<S: Source, D: Drain, L: Logic, H: Handlers, B: PlugBook> Model for Island<S, D, L, H, B> {
     ghost use Rattle.std.specs.Prelude.{◌≡◌, ◌≤◌, [], false, length};
     ghost use Rattle.stage_core.specs.declared.stage.TheConstants.{LEAST_ACTS};
     ghost use Rattle.fused_net.specs.Laws.{HaveRoom};
@@ -92,11 +93,12 @@ impl<S: Source, D: Drain, L: Logic, B: PlugBook> Model for Island<S, D, L, B> {
     ghost use Rattle.interpreter.specs.Room.{HasRoom};
     ghost use Rattle.interpreter.specs.Parts.{AllPutOne};
     ghost use Rattle.std.specs.Coded.{codes};
+    ghost use Rattle.elem_core.specs.Sort.{sort_coded};
     ghost use Rattle.elem_core.specs.TreeCode.{tree_coded};
 
-    ghost Value = { Kept S D L B };
+    ghost Value = { Kept S D L H B };
 
-    ghost coded = { Prim.hlevel (codes, tree_coded) };
+    ghost coded = { Prim.hlevel (codes, sort_coded, tree_coded) };
 
     ghost view = { λ i. record {
       net = i.engine;
@@ -142,14 +144,14 @@ pub enum StartEnd<S: Source, D: Drain> {
     NoMemory(IslandEnd<S, D>),
 }
 
-impl<S: Source, D: Drain, L: Logic, B: PlugBook> Island<S, D, L, B> {
+impl<S: Source, D: Drain, L: Logic, H: Handlers, B: PlugBook> Island<S, D, L, H, B> {
     /// Makes the island of these parts, for which this room was taken, and starts every node. Only a node may want memory then.
     /// On want of memory nothing was read or written, and it hands all handles back as they were handed in.
     pub fn start(
         alloc: Global,
-        parts: Parts<S, D, L, B>,
-        room: IslandRoom<S, D, L, B>,
-    ) -> Result<Island<S, D, L, B>, StartEnd<S, D>>
+        parts: Parts<S, D, L, H, B>,
+        room: IslandRoom<S, D, L, H, B>,
+    ) -> Result<Island<S, D, L, H, B>, StartEnd<S, D>>
         requires parts { AreParts parts.nodes.items parts.links.items }
         requires room { IsRoom room (map seat_place parts.nodes.items) parts.links.items }
         ensures whole { IfOk result (λ i. i.broken ≡ false) }
@@ -545,10 +547,10 @@ impl<S: Source, D: Drain, L: Logic, B: PlugBook> Island<S, D, L, B> {
 }
 
 /// Takes an island apart that is not to be started: its handles come back as they were handed in. It takes no memory.
-pub fn hand_back<S: Source, D: Drain, L: Logic, B: PlugBook>(
+pub fn hand_back<S: Source, D: Drain, L: Logic, H: Handlers, B: PlugBook>(
     alloc: Global,
-    parts: Parts<S, D, L, B>,
-    room: IslandRoom<S, D, L, B>,
+    parts: Parts<S, D, L, H, B>,
+    room: IslandRoom<S, D, L, H, B>,
 ) -> IslandEnd<S, D>
     requires parts { AreParts parts.nodes.items parts.links.items }
     requires room { IsRoom room (map seat_place parts.nodes.items) parts.links.items }
@@ -566,7 +568,9 @@ pub fn hand_back<S: Source, D: Drain, L: Logic, B: PlugBook>(
 }
 
 // Whether one of these may put lines together.
-fn may_gather<S: Source, D: Drain, L: Logic, B: PlugBook>(nodes: &[Seated<S, D, L, B>]) -> bool
+fn may_gather<S: Source, D: Drain, L: Logic, H: Handlers, B: PlugBook>(
+    nodes: &[Seated<S, D, L, H, B>],
+) -> bool
     ensures { result ≡ false → NonePutsTogether nodes.now }
 {
     for n in 0..nodes.len() {
@@ -578,11 +582,11 @@ fn may_gather<S: Source, D: Drain, L: Logic, B: PlugBook>(nodes: &[Seated<S, D, 
 }
 
 // The engine of these parts, of which no node was started. It takes no memory.
-fn assemble<S: Source, D: Drain, L: Logic, B: PlugBook>(
+fn assemble<S: Source, D: Drain, L: Logic, H: Handlers, B: PlugBook>(
     alloc: Global,
-    parts: Parts<S, D, L, B>,
-    blank: Blank<S, D, L, B>,
-) -> Engine<IslandNode<S, D, L, B>>
+    parts: Parts<S, D, L, H, B>,
+    blank: Blank<S, D, L, H, B>,
+) -> Engine<IslandNode<S, D, L, H, B>>
     requires parts { AreParts parts.nodes.items parts.links.items }
     requires blank { IsBlank blank (map seat_place parts.nodes.items) parts.links.items }
     ensures starting { Starting node_port_state (node_law S.state D.state B.lists) node_asking node_moves node_fresh result 0 }
@@ -607,8 +611,8 @@ fn assemble<S: Source, D: Drain, L: Logic, B: PlugBook>(
 }
 
 // Takes an engine apart, into lists that have room for what it leaves.
-fn leave<S: Source, D: Drain, L: Logic, B: PlugBook>(
-    engine: Engine<IslandNode<S, D, L, B>>,
+fn leave<S: Source, D: Drain, L: Logic, H: Handlers, B: PlugBook>(
+    engine: Engine<IslandNode<S, D, L, H, B>>,
     numbers: &[u32],
     places: &[u32],
     end: IslandEnd<S, D>,
@@ -630,8 +634,8 @@ fn leave<S: Source, D: Drain, L: Logic, B: PlugBook>(
 }
 
 // What these nodes leave, of which these are the numbers, into lists that are empty and have room for it.
-fn gather<S: Source, D: Drain, L: Logic, B: PlugBook>(
-    nodes: Vec<IslandNode<S, D, L, B>>,
+fn gather<S: Source, D: Drain, L: Logic, H: Handlers, B: PlugBook>(
+    nodes: Vec<IslandNode<S, D, L, H, B>>,
     places: &[u32],
     end: IslandEnd<S, D>,
 ) -> IslandEnd<S, D>
@@ -699,7 +703,11 @@ impl<S: Source, D: Drain> IslandEnd<S, D> {
     }
 
     // What node `number` leaves, into lists that have room for it.
-    fn add<L: Logic, B: PlugBook>(&mut self, number: u32, node: IslandNode<S, D, L, B>)
+    fn add<L: Logic, H: Handlers, B: PlugBook>(
+        &mut self,
+        number: u32,
+        node: IslandNode<S, D, L, H, B>,
+    )
         requires { RoomFor self.old 1 }
         ensures sinks { self.new.sinks.items ≡ self.old.sinks.items ++ sinks_of (node ∷ []) }
         ensures picks { map pick_of self.new.picks.items ≡ map pick_of self.old.picks.items ++ picks_of (number ∷ []) (node ∷ []) }

@@ -5,14 +5,15 @@ ghost use Rattle.interpreter.specs.Ways.{HasLaneRoom, ListsIns, ListsOuts, Lists
 use crate::parts::{Link, Seated, Work};
 use crate::ways::{LanePlace, Ways};
 use elem_core::why::NoMemory;
+use graph_stage::handlers::Handlers;
 use plug_logic::book::PlugBook;
 use plug_logic::logic::Logic;
 use std::alloc::Global;
 use stream_io::outside::{Drain, Source};
 
 // Whether a lane comes in at a place.
-fn comes_in<S: Source, D: Drain, L: Logic, B: PlugBook>(
-    works: &[Seated<S, D, L, B>],
+fn comes_in<S: Source, D: Drain, L: Logic, H: Handlers, B: PlugBook>(
+    works: &[Seated<S, D, L, H, B>],
     place: u32,
 ) -> bool
     ensures { result ≡ comes_in works.now place }
@@ -24,8 +25,8 @@ fn comes_in<S: Source, D: Drain, L: Logic, B: PlugBook>(
 }
 
 // Whether a lane goes out at a place.
-fn goes_out<S: Source, D: Drain, L: Logic, B: PlugBook>(
-    works: &[Seated<S, D, L, B>],
+fn goes_out<S: Source, D: Drain, L: Logic, H: Handlers, B: PlugBook>(
+    works: &[Seated<S, D, L, H, B>],
     place: u32,
 ) -> bool
     ensures { result ≡ goes_out works.now place }
@@ -48,8 +49,8 @@ fn list_one(lanes: &mut Vec<LanePlace>, lane: LanePlace, is_lane: bool)
 }
 
 // The lanes that come in, into an empty list that has room for them.
-fn list_ins<S: Source, D: Drain, L: Logic, B: PlugBook>(
-    works: &[Seated<S, D, L, B>],
+fn list_ins<S: Source, D: Drain, L: Logic, H: Handlers, B: PlugBook>(
+    works: &[Seated<S, D, L, H, B>],
     links: &[Link],
     lanes: Vec<LanePlace>,
 ) -> Vec<LanePlace>
@@ -71,8 +72,8 @@ fn list_ins<S: Source, D: Drain, L: Logic, B: PlugBook>(
 }
 
 // The lanes that go out, into an empty list that has room for them.
-fn list_outs<S: Source, D: Drain, L: Logic, B: PlugBook>(
-    works: &[Seated<S, D, L, B>],
+fn list_outs<S: Source, D: Drain, L: Logic, H: Handlers, B: PlugBook>(
+    works: &[Seated<S, D, L, H, B>],
     links: &[Link],
     lanes: Vec<LanePlace>,
 ) -> Vec<LanePlace>
@@ -104,9 +105,9 @@ pub(crate) fn no_lanes(alloc: Global, links: &[Link]) -> Result<Ways, NoMemory>
 }
 
 // The lanes of these links, into lists that are empty and have room for them. It takes no memory.
-pub(crate) fn list_lanes<S: Source, D: Drain, L: Logic, B: PlugBook>(
+pub(crate) fn list_lanes<S: Source, D: Drain, L: Logic, H: Handlers, B: PlugBook>(
     ways: Ways,
-    works: &[Seated<S, D, L, B>],
+    works: &[Seated<S, D, L, H, B>],
     links: &[Link],
 ) -> Ways
     requires room { HasLaneRoom ways links.now }

@@ -49,7 +49,7 @@ pub struct Link {
 
 // Choice: docs/DECISIONS.md#work-has-its-ports
 /// What stands at a place of an island. Akka calls this a `GraphStageLogic`, before its `preStart`.
-pub enum Work<S: Source, D: Drain, L: Logic, B: PlugBook> {
+pub enum Work<S: Source, D: Drain, L: Logic, H: Handlers, B: PlugBook> {
     /// A source of the lines that a reader reads.
     Reading(LineReader<S>),
     /// A source of this kind, which has no file.
@@ -65,7 +65,7 @@ pub enum Work<S: Source, D: Drain, L: Logic, B: PlugBook> {
     /// A stage with so many outputs.
     FanOut(OutLogic, u32),
     /// A stage that the caller hands in, with so many inputs and so many outputs.
-    Custom(CustomStage<Box<dyn Handlers + Send>>, u32, u32),
+    Custom(CustomStage<H>, u32, u32),
     /// A sink of this kind, with the drain of its file, if it has one.
     Writing(Kind, Option<D>),
     /// The stage at which the lane that is this wire comes in; the number of its node is not used.
@@ -75,7 +75,7 @@ pub enum Work<S: Source, D: Drain, L: Logic, B: PlugBook> {
 }
 
 // Dropped by a call, wherever it is dropped: else each crate above proves the drop of each of its parts again.
-impl<S: Source, D: Drain, L: Logic, B: PlugBook> Drop for Work<S, D, L, B> {
+impl<S: Source, D: Drain, L: Logic, H: Handlers, B: PlugBook> Drop for Work<S, D, L, H, B> {
     fn drop(self) {
         match self {
             Work::Reading(_) => {}
@@ -93,17 +93,17 @@ impl<S: Source, D: Drain, L: Logic, B: PlugBook> Drop for Work<S, D, L, B> {
 }
 
 /// A work with the number of its node in the blueprint. Akka calls this a `GraphStageLogic`, with its `stageId`.
-pub struct Seated<S: Source, D: Drain, L: Logic, B: PlugBook> {
+pub struct Seated<S: Source, D: Drain, L: Logic, H: Handlers, B: PlugBook> {
     /// The number of its node.
     pub node: u32,
     /// How many lines it may put together, where it is a sink that writes each: one where no lane leads to it.
     pub room: u32,
     /// What it does.
-    pub work: Work<S, D, L, B>,
+    pub work: Work<S, D, L, H, B>,
 }
 
 // Dropped by a call, as its work is.
-impl<S: Source, D: Drain, L: Logic, B: PlugBook> Drop for Seated<S, D, L, B> {
+impl<S: Source, D: Drain, L: Logic, H: Handlers, B: PlugBook> Drop for Seated<S, D, L, H, B> {
     fn drop(self) {
         let Seated {
             node: _,
@@ -115,9 +115,9 @@ impl<S: Source, D: Drain, L: Logic, B: PlugBook> Drop for Seated<S, D, L, B> {
 
 /// The parts of an island. Akka calls these the logics and connections that a `GraphInterpreterShell` is made from.
 #[derive(Drop)]
-pub struct Parts<S: Source, D: Drain, L: Logic, B: PlugBook> {
+pub struct Parts<S: Source, D: Drain, L: Logic, H: Handlers, B: PlugBook> {
     /// What stands at each of its places.
-    pub nodes: Vec<Seated<S, D, L, B>>,
+    pub nodes: Vec<Seated<S, D, L, H, B>>,
     /// Its wires.
     pub links: Vec<Link>,
 }
@@ -133,9 +133,9 @@ pub struct Place {
     pub outputs: u32,
 }
 
-impl<S: Source, D: Drain, L: Logic, B: PlugBook> Work<S, D, L, B> {
+impl<S: Source, D: Drain, L: Logic, H: Handlers, B: PlugBook> Work<S, D, L, H, B> {
     // The node of this number, which did nothing yet, and which may put so many lines together.
-    fn into_node(self, alloc: Global, node: u32, room: u32) -> IslandNode<S, D, L, B>
+    fn into_node(self, alloc: Global, node: u32, room: u32) -> IslandNode<S, D, L, H, B>
         requires { IsUnused self }
         ensures { BecomesOf node room self result }
     {
@@ -163,9 +163,9 @@ impl<S: Source, D: Drain, L: Logic, B: PlugBook> Work<S, D, L, B> {
     }
 }
 
-impl<S: Source, D: Drain, L: Logic, B: PlugBook> Seated<S, D, L, B> {
+impl<S: Source, D: Drain, L: Logic, H: Handlers, B: PlugBook> Seated<S, D, L, H, B> {
     /// The node of a work that did nothing yet.
-    pub fn build(self, alloc: Global) -> IslandNode<S, D, L, B>
+    pub fn build(self, alloc: Global) -> IslandNode<S, D, L, H, B>
         requires { IsUnused self.work }
         ensures { Becomes self result }
     {
@@ -211,11 +211,11 @@ fn written_by(kind: &Kind) -> Writes
 }
 
 /// The nodes of works that did nothing yet, in an empty list that has room for them. It takes no memory.
-pub fn build_all<S: Source, D: Drain, L: Logic, B: PlugBook>(
+pub fn build_all<S: Source, D: Drain, L: Logic, H: Handlers, B: PlugBook>(
     alloc: Global,
-    places: Vec<Seated<S, D, L, B>>,
-    nodes: Vec<IslandNode<S, D, L, B>>,
-) -> Vec<IslandNode<S, D, L, B>>
+    places: Vec<Seated<S, D, L, H, B>>,
+    nodes: Vec<IslandNode<S, D, L, H, B>>,
+) -> Vec<IslandNode<S, D, L, H, B>>
     requires unused { AllUnused places.items }
     requires empty { nodes.items ≡ [] }
     requires room { vec_len places ≤ vec_capacity nodes }

@@ -10,6 +10,7 @@ use crate::ways::Ways;
 use elem_core::why::NoMemory;
 use fused_net::engine::unused_wires;
 use fused_net::net::{Ports, WireEnds};
+use graph_stage::handlers::Handlers;
 use nodes::node::IslandNode;
 use plug_logic::book::PlugBook;
 use plug_logic::logic::Logic;
@@ -22,21 +23,21 @@ use stream_io::outside::{Drain, Source};
 
 /// An engine before its nodes are there: tables with a row for each of their ports, and an empty list that has room for them.
 #[derive(Drop)]
-pub struct Blank<S: Source, D: Drain, L: Logic, B: PlugBook> {
+pub struct Blank<S: Source, D: Drain, L: Logic, H: Handlers, B: PlugBook> {
     pub(crate) ends: Vec<WireEnds>,
     pub(crate) ports: Vec<Ports>,
     pub(crate) wires: Vec<Wire>,
     pub(crate) ring: EventRing,
-    pub(crate) nodes: Vec<IslandNode<S, D, L, B>>,
+    pub(crate) nodes: Vec<IslandNode<S, D, L, H, B>>,
 }
 
 /// All that an island takes of memory but what its nodes themselves need, so that it is made and taken apart without any.
 #[derive(Drop)]
-pub struct IslandRoom<S: Source, D: Drain, L: Logic, B: PlugBook> {
+pub struct IslandRoom<S: Source, D: Drain, L: Logic, H: Handlers, B: PlugBook> {
     pub(crate) acts: Acts,
     pub(crate) numbers: Vec<u32>,
     pub(crate) places: Vec<u32>,
-    pub(crate) blank: Blank<S, D, L, B>,
+    pub(crate) blank: Blank<S, D, L, H, B>,
     pub(crate) ways: Ways,
     pub(crate) end: IslandEnd<S, D>,
 }
@@ -67,8 +68,8 @@ fn room_for_calls(places: &[Place]) -> Option<u32>
     Some(room)
 }
 
-impl<S: Source, D: Drain, L: Logic, B: PlugBook> Blank<S, D, L, B> {
-    fn of(alloc: Global, places: &[Place], links: &[Link]) -> Result<Blank<S, D, L, B>, NoMemory>
+impl<S: Source, D: Drain, L: Logic, H: Handlers, B: PlugBook> Blank<S, D, L, H, B> {
+    fn of(alloc: Global, places: &[Place], links: &[Link]) -> Result<Blank<S, D, L, H, B>, NoMemory>
         requires { length links.now < 2 ^ 32 }
         ensures { IfOk result (λ blank. IsBlank blank places.now links.now) }
     {
@@ -87,13 +88,13 @@ impl<S: Source, D: Drain, L: Logic, B: PlugBook> Blank<S, D, L, B> {
     }
 }
 
-impl<S: Source, D: Drain, L: Logic, B: PlugBook> IslandRoom<S, D, L, B> {
+impl<S: Source, D: Drain, L: Logic, H: Handlers, B: PlugBook> IslandRoom<S, D, L, H, B> {
     /// The room for an island of these places and links.
     pub fn of(
         alloc: Global,
         places: &[Place],
         links: &[Link],
-    ) -> Result<IslandRoom<S, D, L, B>, NoMemory>
+    ) -> Result<IslandRoom<S, D, L, H, B>, NoMemory>
         requires { length links.now < 2 ^ 32 }
         ensures { IfOk result (λ room. IsRoom room places.now links.now) }
     {

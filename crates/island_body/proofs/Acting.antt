@@ -66,9 +66,9 @@ found_none_here outs k x y at t a b ea eb = elim (at_set outs k k x y b at eb) [
   | inr there ↦ absurd (there.0 refl)
 ]
 
-module _ {S D L B : Type 0} where
+module _ {S D L H B : Type 0} where
   -- the input end at place k acted
-  pub in_serves : (b nb : Body S D L B) (k : ℕ) (x y : IslandInput) → slice_get b.ins.items k ≡ Some x → BodyStands b → Beside (way_in b.island x.wire) (in_node b.island x.wire) b.island nb.island → y.wire ≡ x.wire → Feeds y.boundary nb.island y.wire
+  pub in_serves : (b nb : Body S D L H B) (k : ℕ) (x y : IslandInput) → slice_get b.ins.items k ≡ Some x → BodyStands b → Beside (way_in b.island x.wire) (in_node b.island x.wire) b.island nb.island → y.wire ≡ x.wire → Feeds y.boundary nb.island y.wire
       → nb.ins.items ≡ set b.ins.items k y → nb.outs.items ≡ b.outs.items → nb.ways.items ≡ b.ways.items → BodyStands nb
   in_serves b nb k x y at s beside wire feeds ins_is outs_is ways_is =
       let mine : InputEndStands nb.island y = record { enters = subst (λ (u : ℕ). Enters nb.island u) (sym wire) (enters_beside (way_in b.island x.wire) (in_node b.island x.wire) b.island nb.island x.wire beside (s.stand.ins_stand k x at).enters); feeds = feeds } in
@@ -81,7 +81,7 @@ module _ {S D L B : Type 0} where
         table = rw (ins_is, outs_is, ways_is, same) (table_goes b.island nb.island goes (in_wires b.ins.items) (out_wires b.outs.items) b.ways.items s.table);
       }
 
-  pub in_goes : (b nb : Body S D L B) (k : ℕ) (x y : IslandInput) → slice_get b.ins.items k ≡ Some x → IslandGoes b.island nb.island → y.wire ≡ x.wire → IsSameEnd x.boundary y.boundary
+  pub in_goes : (b nb : Body S D L H B) (k : ℕ) (x y : IslandInput) → slice_get b.ins.items k ≡ Some x → IslandGoes b.island nb.island → y.wire ≡ x.wire → IsSameEnd x.boundary y.boundary
       → nb.ins.items ≡ set b.ins.items k y → nb.outs.items ≡ b.outs.items → nb.ways ≡ b.ways → BodyGoes b nb
   in_goes b nb k x y at goes wire same ins_is outs_is ways_is = record {
     island = goes;
@@ -89,13 +89,13 @@ module _ {S D L B : Type 0} where
     ways = ways_is;
   }
 
-  pub in_finishes : (b nb : Body S D L B) (k n m : ℕ) (x y : IslandInput) → slice_get b.ins.items k ≡ Some x → BodyStands b → Beside (way_in b.island x.wire) (in_node b.island x.wire) b.island nb.island → y.wire ≡ x.wire → IsFed y.boundary nb.island y.wire
+  pub in_finishes : (b nb : Body S D L H B) (k n m : ℕ) (x y : IslandInput) → slice_get b.ins.items k ≡ Some x → BodyStands b → Beside (way_in b.island x.wire) (in_node b.island x.wire) b.island nb.island → y.wire ≡ x.wire → IsFed y.boundary nb.island y.wire
       → nb.ins.items ≡ set b.ins.items k y → nb.outs.items ≡ b.outs.items
       → ((z : IslandInput) → slice_get b.ins.items k ≡ Some z → AllServed (Some (way_in b.island z.wire)) n m b.island b.ins.items b.outs.items) → AllServed None n m nb.island nb.ins.items nb.outs.items
   in_finishes b nb k n m x y at s beside wire fed ins_is outs_is h = rw (ins_is, outs_is) (in_done b.island nb.island b.ins.items b.outs.items b.ways.items k x y at s.table s.apart beside wire n m (h x at) fed)
 
   -- the output end at place k acted
-  pub out_serves : (b nb : Body S D L B) (k : ℕ) (x y : OutputBoundary) → slice_get b.outs.items k ≡ Some x → BodyStands b → Beside (way_out b.island x.wire) (out_node b.island x.wire) b.island nb.island → y.wire ≡ x.wire → Serves y.lane nb.island y.wire
+  pub out_serves : (b nb : Body S D L H B) (k : ℕ) (x y : OutputBoundary) → slice_get b.outs.items k ≡ Some x → BodyStands b → Beside (way_out b.island x.wire) (out_node b.island x.wire) b.island nb.island → y.wire ≡ x.wire → Serves y.lane nb.island y.wire
       → nb.ins.items ≡ b.ins.items → nb.outs.items ≡ set b.outs.items k y → nb.ways.items ≡ b.ways.items → BodyStands nb
   out_serves b nb k x y at s beside wire serves ins_is outs_is ways_is =
       let was = s.stand.outs_stand k x at in
@@ -113,7 +113,7 @@ module _ {S D L B : Type 0} where
         table = rw (ins_is, outs_is, ways_is, same) (table_goes b.island nb.island goes (in_wires b.ins.items) (out_wires b.outs.items) b.ways.items s.table);
       }
 
-  pub out_goes : (b nb : Body S D L B) (k : ℕ) (x y : OutputBoundary) → slice_get b.outs.items k ≡ Some x → IslandGoes b.island nb.island → y.wire ≡ x.wire → IsSameOut x.lane y.lane
+  pub out_goes : (b nb : Body S D L H B) (k : ℕ) (x y : OutputBoundary) → slice_get b.outs.items k ≡ Some x → IslandGoes b.island nb.island → y.wire ≡ x.wire → IsSameOut x.lane y.lane
       → nb.ins.items ≡ b.ins.items → nb.outs.items ≡ set b.outs.items k y → nb.ways ≡ b.ways → BodyGoes b nb
   out_goes b nb k x y at goes wire same ins_is outs_is ways_is = record {
     island = goes;
@@ -121,13 +121,13 @@ module _ {S D L B : Type 0} where
     ways = ways_is;
   }
 
-  pub out_finishes : (b nb : Body S D L B) (k n m : ℕ) (x y : OutputBoundary) → slice_get b.outs.items k ≡ Some x → BodyStands b → Beside (way_out b.island x.wire) (out_node b.island x.wire) b.island nb.island → y.wire ≡ x.wire → IsServed y.lane nb.island y.wire
+  pub out_finishes : (b nb : Body S D L H B) (k n m : ℕ) (x y : OutputBoundary) → slice_get b.outs.items k ≡ Some x → BodyStands b → Beside (way_out b.island x.wire) (out_node b.island x.wire) b.island nb.island → y.wire ≡ x.wire → IsServed y.lane nb.island y.wire
       → nb.ins.items ≡ b.ins.items → nb.outs.items ≡ set b.outs.items k y
       → ((z : OutputBoundary) → slice_get b.outs.items k ≡ Some z → AllServed (Some (way_out b.island z.wire)) n m b.island b.ins.items b.outs.items) → AllServed None n m nb.island nb.ins.items nb.outs.items
   out_finishes b nb k n m x y at s beside wire served ins_is outs_is h = rw (ins_is, outs_is) (out_done b.island nb.island b.ins.items b.outs.items b.ways.items k x y at s.table s.apart beside wire n m (h x at) served)
 
   -- the input end at place k looked, and nothing in the island changed
-  pub in_looked : (b nb : Body S D L B) (k : ℕ) (x y : IslandInput) → slice_get b.ins.items k ≡ Some x → BodyStands b → nb.island ≡ b.island → y.wire ≡ x.wire → given y.boundary ≡ given x.boundary → state y.boundary ≡ state x.boundary
+  pub in_looked : (b nb : Body S D L H B) (k : ℕ) (x y : IslandInput) → slice_get b.ins.items k ≡ Some x → BodyStands b → nb.island ≡ b.island → y.wire ≡ x.wire → given y.boundary ≡ given x.boundary → state y.boundary ≡ state x.boundary
       → nb.ins.items ≡ set b.ins.items k y → nb.outs.items ≡ b.outs.items → nb.ways.items ≡ b.ways.items → BodyStands nb
   in_looked b nb k x y at s island_is wire given_is state_is ins_is outs_is ways_is =
       let was = s.stand.ins_stand k x at in
@@ -150,7 +150,7 @@ module _ {S D L B : Type 0} where
       }
 
   -- all others have nothing to do
-  pub looked_but : (i : Kept S D L B) (ins : List IslandInput) (outs : List OutputBoundary) (k : ℕ) (x y : IslandInput) → slice_get ins k ≡ Some x → AllDone i ins outs → (z : IslandInput) → slice_get (set ins k y) k ≡ Some z → AllServed (Some (way_in i z.wire)) (length (set ins k y)) (length outs) i (set ins k y) outs
+  pub looked_but : (i : Kept S D L H B) (ins : List IslandInput) (outs : List OutputBoundary) (k : ℕ) (x y : IslandInput) → slice_get ins k ≡ Some x → AllDone i ins outs → (z : IslandInput) → slice_get (set ins k y) k ≡ Some z → AllServed (Some (way_in i z.wire)) (length (set ins k y)) (length outs) i (set ins k y) outs
   looked_but i ins outs k x y at s z ez =
       let count : length (set ins k y) ≡ length ins = length-set _ _ _ in
       record {
@@ -162,7 +162,7 @@ module _ {S D L B : Type 0} where
       }
 
   -- one that found nothing to take has nothing to do either
-  pub looked_none : (i : Kept S D L B) (ins : List IslandInput) (outs : List OutputBoundary) (k : ℕ) (x y : IslandInput) → slice_get ins k ≡ Some x → y.wire ≡ x.wire → given y.boundary ≡ given x.boundary → state y.boundary ≡ state x.boundary → taken_items y.boundary.lane ≡ taken_items x.boundary.lane → waits y.boundary ≡ waits x.boundary
+  pub looked_none : (i : Kept S D L H B) (ins : List IslandInput) (outs : List OutputBoundary) (k : ℕ) (x y : IslandInput) → slice_get ins k ≡ Some x → y.wire ≡ x.wire → given y.boundary ≡ given x.boundary → state y.boundary ≡ state x.boundary → taken_items y.boundary.lane ≡ taken_items x.boundary.lane → waits y.boundary ≡ waits x.boundary
       → AllDone i ins outs → AllDone i (set ins k y) outs
   looked_none i ins outs k x y at wire given_is state_is taken_is waits_is s =
       let count : length (set ins k y) ≡ length ins = length-set _ _ _ in
@@ -180,7 +180,7 @@ module _ {S D L B : Type 0} where
       }
 
   -- nor has one at which two wait, since not all had been handed on before
-  pub looked_behind : (i : Kept S D L B) (ins : List IslandInput) (outs : List OutputBoundary) (k : ℕ) (x y : IslandInput) → slice_get ins k ≡ Some x → y.wire ≡ x.wire → given y.boundary ≡ given x.boundary → state y.boundary ≡ state x.boundary
+  pub looked_behind : (i : Kept S D L H B) (ins : List IslandInput) (outs : List OutputBoundary) (k : ℕ) (x y : IslandInput) → slice_get ins k ≡ Some x → y.wire ≡ x.wire → given y.boundary ≡ given x.boundary → state y.boundary ≡ state x.boundary
       → (taken_items x.boundary.lane ≡ given x.boundary → length (waits y.boundary) ≤ 1) → ((z : IslandInput) → slice_get (set ins k y) k ≡ Some z → 2 ≤ length (waits z.boundary)) → AllDone i ins outs → AllDone i (set ins k y) outs
   looked_behind i ins outs k x y at wire given_is state_is few two s =
       let count : length (set ins k y) ≡ length ins = length-set _ _ _ in
@@ -204,16 +204,16 @@ module _ {S D L B : Type 0} where
       }
 
   -- as many ends
-  pub done_as : (n m : ℕ) (i : Kept S D L B) (ins : List IslandInput) (outs : List OutputBoundary) → length ins ≡ n → length outs ≡ m → AllServed None n m i ins outs → AllDone i ins outs
+  pub done_as : (n m : ℕ) (i : Kept S D L H B) (ins : List IslandInput) (outs : List OutputBoundary) → length ins ≡ n → length outs ≡ m → AllServed None n m i ins outs → AllDone i ins outs
   done_as n m i ins outs en em s = rw (en, em) s
 
 -- ---- looks at one end after another
 
-module _ {S D L B : Type 0} where
-  pub took_start : (a : Body S D L B) → TookNoneBelow a a 0
+module _ {S D L H B : Type 0} where
+  pub took_start : (a : Body S D L H B) → TookNoneBelow a a 0
   took_start a = record { island = refl; outs = refl; below = λ k x y h ex ey. absurd (omega (arith, h)); above = λ k h. refl }
 
-  pub took_more : (a b c : Body S D L B) (k : ℕ) → TookNoneBelow a b k → TookNoneAt b c k → TookNoneBelow a c (k + 1)
+  pub took_more : (a b c : Body S D L H B) (k : ℕ) → TookNoneBelow a b k → TookNoneAt b c k → TookNoneBelow a c (k + 1)
   took_more a b c k f g = record {
     island = g.island ∙ f.island;
     outs = g.outs ∙ f.outs;
@@ -224,10 +224,10 @@ module _ {S D L B : Type 0} where
     above = λ j h. g.others j (λ e. absurd (omega (arith, e, h))) ∙ f.above j (omega (arith, h));
   }
 
-  pub found_start : (a : Body S D L B) → FoundNoneBelow a a 0
+  pub found_start : (a : Body S D L H B) → FoundNoneBelow a a 0
   found_start a = record { island = refl; ins = refl; below = λ k x y h ex ey. absurd (omega (arith, h)); above = λ k h. refl }
 
-  pub found_more : (a b c : Body S D L B) (k : ℕ) → FoundNoneBelow a b k → FoundNoneAt b c k → FoundNoneBelow a c (k + 1)
+  pub found_more : (a b c : Body S D L H B) (k : ℕ) → FoundNoneBelow a b k → FoundNoneAt b c k → FoundNoneBelow a c (k + 1)
   found_more a b c k f g = record {
     island = g.island ∙ f.island;
     ins = g.ins ∙ f.ins;
@@ -239,17 +239,17 @@ module _ {S D L B : Type 0} where
   }
 
   -- none found anything in a whole turn
-  pub idle_turn : (a b c d : Body S D L B) → TookNoneBelow a b (length a.ins.items) → FoundNoneBelow b c (length b.outs.items) → d.ins ≡ c.ins → d.outs ≡ c.outs → c.island.net.queue ≡ [] → IsIdle a d
+  pub idle_turn : (a b c d : Body S D L H B) → TookNoneBelow a b (length a.ins.items) → FoundNoneBelow b c (length b.outs.items) → d.ins ≡ c.ins → d.outs ≡ c.outs → c.island.net.queue ≡ [] → IsIdle a d
   idle_turn a b c d f g ins_is outs_is rest = record {
-    queue = ap (λ (i : Kept S D L B). i.net.queue) (sym f.island) ∙ (ap (λ (i : Kept S D L B). i.net.queue) (sym g.island) ∙ rest);
+    queue = ap (λ (i : Kept S D L H B). i.net.queue) (sym f.island) ∙ (ap (λ (i : Kept S D L H B). i.net.queue) (sym g.island) ∙ rest);
     ins = λ k x y ex ey. f.below k x y (slice_get_within a.ins.items k x ex) ex (ap (λ (v : _). slice_get v.items k) (sym g.ins) ∙ (ap (λ (v : _). slice_get v.items k) (sym ins_is) ∙ ey));
     outs = λ k x y ex ey. let there : slice_get b.outs.items k ≡ Some x = ap (λ (v : _). slice_get v.items k) f.outs ∙ ex in g.below k x y (slice_get_within b.outs.items k x there) there (ap (λ (v : _). slice_get v.items k) (sym outs_is) ∙ ey);
   }
 
 -- ---- the island ran
 
-module _ {S D L B : Type 0} (sources : S → SourceState) (drains : D → DrainState) (book : Book) where
-  pub ran_stands : (b nb : Body S D L B) → Settled node_port_state (node_law sources drains book) node_asking node_moves b.island.net → Settled node_port_state (node_law sources drains book) node_asking node_moves nb.island.net → IslandGoes b.island nb.island → map node_gone nb.island.net.nodes ≡ map node_gone b.island.net.nodes → StandsStill node_passive b.island.net nb.island.net
+module _ {S D L H B : Type 0} (sources : S → SourceState) (drains : D → DrainState) (book : Book) where
+  pub ran_stands : (b nb : Body S D L H B) → Settled node_port_state (node_law sources drains book) node_asking node_moves b.island.net → Settled node_port_state (node_law sources drains book) node_asking node_moves nb.island.net → IslandGoes b.island nb.island → map node_gone nb.island.net.nodes ≡ map node_gone b.island.net.nodes → StandsStill node_passive b.island.net nb.island.net
       → nb.island.broken ≡ false → nb.ins ≡ b.ins → nb.outs ≡ b.outs → nb.ways ≡ b.ways → BodyStands b → BodyStands nb
   ran_stands b nb before after goes gone still whole ins_is outs_is ways_is s = record {
     whole = whole;
@@ -259,10 +259,10 @@ module _ {S D L B : Type 0} (sources : S → SourceState) (drains : D → DrainS
   }
 
   -- memory was wanting as it ran
-  pub ran_breaks : (b nb : Body S D L B) → Settled node_port_state (node_law sources drains book) node_asking node_moves b.island.net → BreaksAside node_port_state (node_law sources drains book) node_asking node_moves node_gone node_passive (KeepsNode sources drains) b.island.net nb.island.net.nodes
+  pub ran_breaks : (b nb : Body S D L H B) → Settled node_port_state (node_law sources drains book) node_asking node_moves b.island.net → BreaksAside node_port_state (node_law sources drains book) node_asking node_moves node_gone node_passive (KeepsNode sources drains) b.island.net nb.island.net.nodes
       → nb.ins ≡ b.ins → nb.outs ≡ b.outs → BodyStands b → BodyBreaks sources drains book b nb
   ran_breaks b nb before off ins_is outs_is s =
-      let last : Kept S D L B = record b.island { net = off.breaks.last } in
+      let last : Kept S D L H B = record b.island { net = off.breaks.last } in
       let goes : IslandGoes b.island last = record { on = off.breaks.on; ins = refl; outs = refl; numbers = refl; places = refl } in
       record {
         last = last;

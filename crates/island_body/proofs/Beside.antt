@@ -24,11 +24,11 @@ use Rattle.interpreter.specs.Island.{Kept}
 use Rattle.interpreter.specs.Boundary.{way_in, way_out, Enters, Leaves, HandsOut, Drops, with_net}
 use Rattle.island_body.specs.Beside.{Beside, out_node, in_node}
 
-module _ {S D L B : Type 0} where
-  pub beside_same : (q n : ℕ) (i : Kept S D L B) → Beside q n i i
+module _ {S D L H B : Type 0} where
+  pub beside_same : (q n : ℕ) (i : Kept S D L H B) → Beside q n i i
   beside_same q n i = record { cells = λ p ne. refl; nodes = λ k ne. refl; on = goes_same i.net; ins = refl; outs = refl; numbers = refl; places = refl; used = refl; broken = refl }
 
-  pub beside_trans : (q n : ℕ) (a b c : Kept S D L B) → Beside q n a b → Beside q n b c → Beside q n a c
+  pub beside_trans : (q n : ℕ) (a b c : Kept S D L H B) → Beside q n a b → Beside q n b c → Beside q n a c
   beside_trans q n a b c f g = record {
     cells = λ p ne. g.cells p ne ∙ f.cells p ne;
     nodes = λ k ne. g.nodes k ne ∙ f.nodes k ne;
@@ -42,7 +42,7 @@ module _ {S D L B : Type 0} where
   }
 
   -- one connection has changed
-  pub beside_moved : (n : ℕ) (i : Kept S D L B) (q : ℕ) (a : Act) (new : Kept S D L B) → new ≡ with_net i (moved_at i.net q a) → Beside q n i new
+  pub beside_moved : (n : ℕ) (i : Kept S D L H B) (q : ℕ) (a : Act) (new : Kept S D L H B) → new ≡ with_net i (moved_at i.net q a) → Beside q n i new
   beside_moved n i q a new is = rw is (record {
     cells = λ p ne. get_or-set_other i.net.wires q p (moved_by a (wire_at i.net q)) no_wire ne;
     nodes = λ k ne. refl;
@@ -56,7 +56,7 @@ module _ {S D L B : Type 0} where
   })
 
   -- one node has changed
-  pub beside_node : (q : ℕ) (i : Kept S D L B) (n : ℕ) (y : IslandNode S D L B) (new : Kept S D L B) → new ≡ with_net i (with_node i.net n y) → Beside q n i new
+  pub beside_node : (q : ℕ) (i : Kept S D L H B) (n : ℕ) (y : IslandNode S D L H B) (new : Kept S D L H B) → new ≡ with_net i (with_node i.net n y) → Beside q n i new
   beside_node q i n y new is = rw is (record {
     cells = λ p ne. refl;
     nodes = λ k ne. get_set_other i.net.nodes n k y ne;
@@ -69,11 +69,11 @@ module _ {S D L B : Type 0} where
     broken = refl;
   })
 
-  pub beside_hands : (q : ℕ) (i new : Kept S D L B) (u : ℕ) (items : List Item) → HandsOut i u items new → Beside q (out_node i u) i new
+  pub beside_hands : (q : ℕ) (i new : Kept S D L H B) (u : ℕ) (items : List Item) → HandsOut i u items new → Beside q (out_node i u) i new
   beside_hands q i new u items h = beside_node q i (out_node i u) h.hands.next new (h.rest ∙ ap (λ (n : Net _). with_net i n) h.hands.is)
 
   -- the ends stand where they stood
-  pub leaves_beside : (q n : ℕ) (old new : Kept S D L B) (u : ℕ) → Beside q n old new → Leaves old u → Leaves new u
+  pub leaves_beside : (q n : ℕ) (old new : Kept S D L H B) (u : ℕ) → Beside q n old new → Leaves old u → Leaves new u
   leaves_beside q n old new u b l =
       let way : way_out new u ≡ way_out old u = ap (λ (l : List LanePlace). lane_place_of l u) b.outs in
       record {
@@ -82,7 +82,7 @@ module _ {S D L B : Type 0} where
         stage = rw way (λ x at. l.stage x (rw (b.on.firsts, b.on.ends) at at));
       }
 
-  pub enters_beside : (q n : ℕ) (old new : Kept S D L B) (u : ℕ) → Beside q n old new → Enters old u → Enters new u
+  pub enters_beside : (q n : ℕ) (old new : Kept S D L H B) (u : ℕ) → Beside q n old new → Enters old u → Enters new u
   enters_beside q n old new u b l =
       let way : way_in new u ≡ way_in old u = ap (λ (l : List LanePlace). lane_place_of l u) b.ins in
       record {
@@ -91,35 +91,35 @@ module _ {S D L B : Type 0} where
         stage = rw way (λ x at. l.stage x (rw (b.on.firsts, b.on.ends) at at));
       }
 
-  pub way_out_beside : (q n : ℕ) (old new : Kept S D L B) (u : ℕ) → Beside q n old new → way_out new u ≡ way_out old u
+  pub way_out_beside : (q n : ℕ) (old new : Kept S D L H B) (u : ℕ) → Beside q n old new → way_out new u ≡ way_out old u
   way_out_beside q n old new u b = rw b.outs refl
 
-  pub out_node_beside : (q n : ℕ) (old new : Kept S D L B) (u : ℕ) → Beside q n old new → out_node new u ≡ out_node old u
+  pub out_node_beside : (q n : ℕ) (old new : Kept S D L H B) (u : ℕ) → Beside q n old new → out_node new u ≡ out_node old u
   out_node_beside q n old new u b = rw (b.outs, b.on.ends) refl
 
-  pub way_in_beside : (q n : ℕ) (old new : Kept S D L B) (u : ℕ) → Beside q n old new → way_in new u ≡ way_in old u
+  pub way_in_beside : (q n : ℕ) (old new : Kept S D L H B) (u : ℕ) → Beside q n old new → way_in new u ≡ way_in old u
   way_in_beside q n old new u b = rw b.ins refl
 
-  pub in_node_beside : (q n : ℕ) (old new : Kept S D L B) (u : ℕ) → Beside q n old new → in_node new u ≡ in_node old u
+  pub in_node_beside : (q n : ℕ) (old new : Kept S D L H B) (u : ℕ) → Beside q n old new → in_node new u ≡ in_node old u
   in_node_beside q n old new u b = rw (b.ins, b.on.ends) refl
 
   -- a place that was that of a lane's connection still is
-  pub place_out_beside : (q n p : ℕ) (old new : Kept S D L B) (u v : ℕ) → Beside q n old new → v ≡ u → p ≡ way_out old u → p ≡ way_out new v
+  pub place_out_beside : (q n p : ℕ) (old new : Kept S D L H B) (u v : ℕ) → Beside q n old new → v ≡ u → p ≡ way_out old u → p ≡ way_out new v
   place_out_beside q n p old new u v b same e = e ∙ (sym (way_out_beside q n old new u b) ∙ ap (λ (w : ℕ). way_out new w) (sym same))
 
-  pub place_in_beside : (q n p : ℕ) (old new : Kept S D L B) (u v : ℕ) → Beside q n old new → v ≡ u → p ≡ way_in old u → p ≡ way_in new v
+  pub place_in_beside : (q n p : ℕ) (old new : Kept S D L H B) (u v : ℕ) → Beside q n old new → v ≡ u → p ≡ way_in old u → p ≡ way_in new v
   place_in_beside q n p old new u v b same e = e ∙ (sym (way_in_beside q n old new u b) ∙ ap (λ (w : ℕ). way_in new w) (sym same))
 
   -- one call behind another
-  pub beside_next : (u : ℕ) (a b c : Kept S D L B) → Beside (way_out a u) (out_node a u) a b → Beside (way_out b u) (out_node b u) b c → Beside (way_out a u) (out_node a u) a c
+  pub beside_next : (u : ℕ) (a b c : Kept S D L H B) → Beside (way_out a u) (out_node a u) a b → Beside (way_out b u) (out_node b u) b c → Beside (way_out a u) (out_node a u) a c
   beside_next u a b c f g =
       beside_trans (way_out a u) (out_node a u) a b c f (subst (λ (z : ℕ × ℕ). Beside z.0 z.1 b c) (λ i. (way_out_beside (way_out a u) (out_node a u) a b u f i, out_node_beside (way_out a u) (out_node a u) a b u f i)) g)
 
   -- a cancel was handed on
-  pub beside_drops : (i new : Kept S D L B) (u : ℕ) (x : IslandNode S D L B) → slice_get i.net.nodes (out_node i u) ≡ Some x → Drops i u new → Beside (way_out i u) (out_node i u) i new
+  pub beside_drops : (i new : Kept S D L H B) (u : ℕ) (x : IslandNode S D L H B) → slice_get i.net.nodes (out_node i u) ≡ Some x → Drops i u new → Beside (way_out i u) (out_node i u) i new
   beside_drops i new u x at d = by_over (input_closed (wire_at i.net (way_out i u)).wire.inp) refl
     where
-      after : (mid : Net (IslandNode S D L B)) → cancelled_at i.net (way_out i u) ≡ mid → Beside (way_out i u) (out_node i u) i (with_net i mid) → slice_get mid.nodes (out_node i u) ≡ Some x → Beside (way_out i u) (out_node i u) i new
+      after : (mid : Net (IslandNode S D L H B)) → cancelled_at i.net (way_out i u) ≡ mid → Beside (way_out i u) (out_node i u) i (with_net i mid) → slice_get mid.nodes (out_node i u) ≡ Some x → Beside (way_out i u) (out_node i u) i new
       after mid e b there =
           let h = d.drops x (rw e there) in
           let is : new ≡ with_net i (with_node mid (out_node i u) h.next) = d.rest ∙ ap (λ (n : Net _). with_net i n) h.is ∙ ap (λ (n : Net _). with_net i (with_node n (out_node i u) h.next)) e in

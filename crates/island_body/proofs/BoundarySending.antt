@@ -82,9 +82,9 @@ end_new (item.Failed c ∷ a) x h = absurd cc
 some_same : {A : Type 0} (x y : A) → Some x ≡ Some y → x ≡ y
 some_same x y e = cc
 
-module _ {S D L B : Type 0} (o : LaneOut) (i : Kept S D L B) (u : ℕ) (came : ReceivedAt i.net (way_out i u)) (s : Sends o i u) where
+module _ {S D L H B : Type 0} (o : LaneOut) (i : Kept S D L H B) (u : ℕ) (came : ReceivedAt i.net (way_out i u)) (s : Sends o i u) where
   -- an item that was handed out there
-  module _ (new : Kept S D L B) (x : Item) (h : HandsOut i u (x ∷ []) new) where
+  module _ (new : Kept S D L H B) (x : Item) (h : HandsOut i u (x ∷ []) new) where
     got_is : (cell_out i u).wire.got ≡ sent o ++ x ∷ node_waits h.hands.next
     got_is = came.got h.hands.node h.hands.at ∙ ap (λ (l : List Item). l ++ node_waits h.hands.node) (s.gone h.hands.node h.hands.at) ∙ ap (λ (l : List Item). sent o ++ l) h.hands.waits_is
 
@@ -106,7 +106,7 @@ module _ {S D L B : Type 0} (o : LaneOut) (i : Kept S D L B) (u : ℕ) (came : R
     sent_keeps p e f g k =
         let net_is : new ≡ record i { net = with_node i.net (end_at i.net.ends (way_out i u)).to h.hands.next } = h.rest ∙ ap (λ (n : Net _). record i { net = n }) h.hands.is in
         let within = slice_get_within i.net.nodes (end_at i.net.ends (way_out i u)).to h.hands.node h.hands.at in
-        subst (λ (z : Kept S D L B). Sends p z u) (sym net_is) (record {
+        subst (λ (z : Kept S D L H B). Sends p z u) (sym net_is) (record {
           gone = λ y yi.
               let same : h.hands.next ≡ y = some_same h.hands.next y (sym (get_set_same i.net.nodes (end_at i.net.ends (way_out i u)).to h.hands.next within) ∙ yi) in
               ap node_gone (sym same) ∙ h.hands.gone_is ∙ ap (λ (l : List Item). l ++ x ∷ []) (s.gone h.hands.node h.hands.at) ∙ sym e;
@@ -116,7 +116,7 @@ module _ {S D L B : Type 0} (o : LaneOut) (i : Kept S D L B) (u : ℕ) (came : R
         })
 
   -- it asks
-  pub ask_keeps : (sources : S → SourceState) (drains : D → DrainState) (book : Book) → IslandKeeps sources drains book i.net i.used → (new : Kept S D L B) (left : ℕ) → new ≡ with_net i (moved_at i.net (way_out i u) (act.Pull 0)) → Leaves i u → can_pull (cell_out i u).wire.conn ≡ true → IsClearAt i.net (way_out i u) → elements (sent o) + left ≡ seen_count o → left ≢ 0 → Sends o new u
+  pub ask_keeps : (sources : S → SourceState) (drains : D → DrainState) (book : Book) → IslandKeeps sources drains book i.net i.used → (new : Kept S D L H B) (left : ℕ) → new ≡ with_net i (moved_at i.net (way_out i u) (act.Pull 0)) → Leaves i u → can_pull (cell_out i u).wire.conn ≡ true → IsClearAt i.net (way_out i u) → elements (sent o) + left ≡ seen_count o → left ≢ 0 → Sends o new u
   ask_keeps sources drains book k new left is l can clear unused some =
       let c = cell_out i u in
       let there = get_there i.net.nodes (end_at i.net.ends (way_out i u)).to (k.laws.wired.to_within (way_out i u) l.place) in
@@ -124,7 +124,7 @@ module _ {S D L B : Type 0} (o : LaneOut) (i : Kept S D L B) (u : ℕ) (came : R
       let count : elements c.wire.sent ≡ elements (sent o) = ap elements all in
       let asks : wanted (moved_by (act.Pull 0) c) ≡ elements c.wire.sent + 1 = rw can refl in
       let few : wanted (moved_by (act.Pull 0) c) ≤ seen_count o = omega (arith, asks, count, unused, some) in
-      subst (λ (z : Kept S D L B). Sends o z u) (sym is) (record {
+      subst (λ (z : Kept S D L H B). Sends o z u) (sym is) (record {
         gone = s.gone;
         wants = subst (λ (z : WireState). wanted z ≤ seen_count o) (sym (get_or-set_same i.net.wires (way_out i u) (moved_by (act.Pull 0) c) no_wire l.place)) few;
         live = s.live;
@@ -132,7 +132,7 @@ module _ {S D L B : Type 0} (o : LaneOut) (i : Kept S D L B) (u : ℕ) (came : R
       })
 
 -- more is seen asked, and no cancel
-pub look_keeps : {S D L B : Type 0} (o p : LaneOut) (i : Kept S D L B) (u : ℕ) → Sends o i u → sent p ≡ sent o → has_ended p ≡ has_ended o → seen_count o ≤ seen_count p → saw_cancel p ≡ 0 → Sends p i u
+pub look_keeps : {S D L H B : Type 0} (o p : LaneOut) (i : Kept S D L H B) (u : ℕ) → Sends o i u → sent p ≡ sent o → has_ended p ≡ has_ended o → seen_count o ≤ seen_count p → saw_cancel p ≡ 0 → Sends p i u
 look_keeps o p i u s e f g h = let w = s.wants in record {
   gone = λ x at. s.gone x at ∙ sym e;
   wants = omega (arith, w, g);

@@ -106,12 +106,12 @@ shut_unasked true e = cc
 shut_unasked false e = cc
 
 -- an end is handed on by a call of its own
-pub ended_moved : {S D L B : Type 0} (i : Kept S D L B) (q : ℕ) (cause : Option Cause) (new : Kept S D L B) → output_closed (wire_at i.net q).wire.out ≡ false → new ≡ with_net i (ended_at i.net q cause) → new ≡ with_net i (moved_at i.net q (ends_at 0 cause))
+pub ended_moved : {S D L H B : Type 0} (i : Kept S D L H B) (q : ℕ) (cause : Option Cause) (new : Kept S D L H B) → output_closed (wire_at i.net q).wire.out ≡ false → new ≡ with_net i (ended_at i.net q cause) → new ≡ with_net i (moved_at i.net q (ends_at 0 cause))
 ended_moved i q cause new free is = rw free at is
 
-module _ {S D L B : Type 0} (b : InputBoundary) (i : Kept S D L B) (u : ℕ) (x : Item) (new : Kept S D L B) (is : new ≡ with_net i (moved_at i.net (way_in i u) (act_of x))) (h : way_in i u < length i.net.wires) where
+module _ {S D L H B : Type 0} (b : InputBoundary) (i : Kept S D L H B) (u : ℕ) (x : Item) (new : Kept S D L H B) (is : new ≡ with_net i (moved_at i.net (way_in i u) (act_of x))) (h : way_in i u < length i.net.wires) where
   cell_moved : cell_in new u ≡ moved_by (act_of x) (cell_in i u)
-  cell_moved = subst (λ (z : Kept S D L B). cell_in z u ≡ moved_by (act_of x) (cell_in i u)) (sym is) (get_or-set_same i.net.wires (way_in i u) (moved_by (act_of x) (cell_in i u)) no_wire h)
+  cell_moved = subst (λ (z : Kept S D L H B). cell_in z u ≡ moved_by (act_of x) (cell_in i u)) (sym is) (get_or-set_same i.net.wires (way_in i u) (moved_by (act_of x) (cell_in i u)) no_wire h)
 
   out_moved : (cell_in new u).wire.out ≡ cond (ends x) outlet.Closed outlet.Unpulled
   out_moved = ap (λ (c : WireState). c.wire.out) cell_moved ∙ act_out x (cell_in i u)
@@ -135,7 +135,7 @@ module _ {S D L B : Type 0} (b : InputBoundary) (i : Kept S D L B) (u : ℕ) (x 
 
 -- ---- one who has nothing to do
 
-module _ {S D L B : Type 0} (b : InputBoundary) (i : Kept S D L B) (u : ℕ) where
+module _ {S D L H B : Type 0} (b : InputBoundary) (i : Kept S D L H B) (u : ℕ) where
   -- one that hands on no more
   pub fed_over : Feeds b i u → state b ≢ Flowing → IsFed b i u
   fed_over f n = record {
@@ -202,7 +202,7 @@ module _ {S D L B : Type 0} (b : InputBoundary) (i : Kept S D L B) (u : ℕ) whe
   }
 
 -- where nothing was pushed yet, the stage has closed nothing
-pub feeds_begun : {S D L B : Type 0} (sources : S → SourceState) (drains : D → DrainState) (book : Book) (b : InputBoundary) (i : Kept S D L B) (u : ℕ) → Settled node_port_state (node_law sources drains book) node_asking node_moves i.net → Enters i u → (cell_in i u).wire.sent ≡ [] → given b ≡ [] → state b ≡ Flowing → Feeds b i u
+pub feeds_begun : {S D L H B : Type 0} (sources : S → SourceState) (drains : D → DrainState) (book : Book) (b : InputBoundary) (i : Kept S D L H B) (u : ℕ) → Settled node_port_state (node_law sources drains book) node_asking node_moves i.net → Enters i u → (cell_in i u).wire.sent ≡ [] → given b ≡ [] → state b ≡ Flowing → Feeds b i u
 feeds_begun sources drains book b i u s l none nothing flows =
     let g = gave_there sources drains book i.net s (way_in i u) l.place l.stage in
     let open_end : g.end ≡ unended = one_end g.list [] g.end unended (sym g.is ∙ none) in
@@ -240,13 +240,13 @@ asked_by_calls b c k l size calls =
 
 -- ---- one call behind another
 
-pub beside_next : {S D L B : Type 0} (u : ℕ) (a b c : Kept S D L B) → Beside (way_in a u) (in_node a u) a b → Beside (way_in b u) (in_node b u) b c → Beside (way_in a u) (in_node a u) a c
+pub beside_next : {S D L H B : Type 0} (u : ℕ) (a b c : Kept S D L H B) → Beside (way_in a u) (in_node a u) a b → Beside (way_in b u) (in_node b u) b c → Beside (way_in a u) (in_node a u) a c
 beside_next {S = S} {D = D} u a b c f g =
     beside_trans (way_in a u) (in_node a u) a b c f (subst (λ (z : ℕ × ℕ). Beside z.0 z.1 b c) (λ i. (way_in_beside (way_in a u) (in_node a u) a b u f i, in_node_beside (way_in a u) (in_node a u) a b u f i)) g)
 
 -- ---- while another end of a lane acts
 
-module _ {S D L B : Type 0} (b : InputBoundary) (q n : ℕ) (old new : Kept S D L B) (u : ℕ) (s : Beside q n old new) (apart : way_in old u ≢ q) where
+module _ {S D L H B : Type 0} (b : InputBoundary) (q n : ℕ) (old new : Kept S D L H B) (u : ℕ) (s : Beside q n old new) (apart : way_in old u ≢ q) where
   cell_same : cell_in new u ≡ cell_in old u
   cell_same = rw (way_in_beside q n old new u s) (s.cells (way_in old u) apart)
 
@@ -267,7 +267,7 @@ module _ {S D L B : Type 0} (b : InputBoundary) (q n : ℕ) (old new : Kept S D 
 
 -- ---- while the island runs
 
-module _ {S D L B : Type 0} (sources : S → SourceState) (drains : D → DrainState) (book : Book) (b : InputBoundary) (old new : Kept S D L B) (u : ℕ) (before : Settled node_port_state (node_law sources drains book) node_asking node_moves old.net) (l : Enters old u) (ins : new.ins ≡ old.ins) (still : StandsStill node_passive old.net new.net) where
+module _ {S D L H B : Type 0} (sources : S → SourceState) (drains : D → DrainState) (book : Book) (b : InputBoundary) (old new : Kept S D L H B) (u : ℕ) (before : Settled node_port_state (node_law sources drains book) node_asking node_moves old.net) (l : Enters old u) (ins : new.ins ≡ old.ins) (still : StandsStill node_passive old.net new.net) where
   way_same : way_in new u ≡ way_in old u
   way_same = rw ins refl
 

@@ -19,9 +19,9 @@ set_here xs k x y z at e = elim (at_set xs k k x y z at e) [
   | inr there ↦ absurd (there.0 refl)
 ]
 
-module _ {S D L B : Type 0} where
+module _ {S D L H B : Type 0} where
   -- the output end at place k met, and no other end of the body
-  pub out_only : (b nb : Body S D L B) (k : ℕ) (o p : OutputBoundary) → slice_get b.outs.items k ≡ Some o → OutMet o p → nb.island ≡ b.island → nb.ways ≡ b.ways → nb.spent ≡ b.spent → nb.peers ≡ b.peers
+  pub out_only : (b nb : Body S D L H B) (k : ℕ) (o p : OutputBoundary) → slice_get b.outs.items k ≡ Some o → OutMet o p → nb.island ≡ b.island → nb.ways ≡ b.ways → nb.spent ≡ b.spent → nb.peers ≡ b.peers
       → nb.ins ≡ b.ins → nb.outs.items ≡ set b.outs.items k p → OnlyMet b nb
   out_only b nb k o p at m island_is ways_is spent_is peers_is ins_is outs_is = record {
     island = island_is;
@@ -38,7 +38,7 @@ module _ {S D L B : Type 0} where
   }
 
   -- the input end at place k
-  pub in_only : (b nb : Body S D L B) (k : ℕ) (x y : IslandInput) → slice_get b.ins.items k ≡ Some x → InMet x y → nb.island ≡ b.island → nb.ways ≡ b.ways → nb.spent ≡ b.spent → nb.peers ≡ b.peers
+  pub in_only : (b nb : Body S D L H B) (k : ℕ) (x y : IslandInput) → slice_get b.ins.items k ≡ Some x → InMet x y → nb.island ≡ b.island → nb.ways ≡ b.ways → nb.spent ≡ b.spent → nb.peers ≡ b.peers
       → nb.outs ≡ b.outs → nb.ins.items ≡ set b.ins.items k y → OnlyMet b nb
   in_only b nb k x y at m island_is ways_is spent_is peers_is outs_is ins_is = record {
     island = island_is;
@@ -55,14 +55,14 @@ module _ {S D L B : Type 0} where
   }
 
   -- one of each of one body
-  pub both_only : (b nb : Body S D L B) (k j : ℕ) (o p : OutputBoundary) (x y : IslandInput) → slice_get b.outs.items k ≡ Some o → slice_get b.ins.items j ≡ Some x → OutMet o p → InMet x y → nb.island ≡ b.island → nb.ways ≡ b.ways → nb.spent ≡ b.spent → nb.peers ≡ b.peers
+  pub both_only : (b nb : Body S D L H B) (k j : ℕ) (o p : OutputBoundary) (x y : IslandInput) → slice_get b.outs.items k ≡ Some o → slice_get b.ins.items j ≡ Some x → OutMet o p → InMet x y → nb.island ≡ b.island → nb.ways ≡ b.ways → nb.spent ≡ b.spent → nb.peers ≡ b.peers
       → nb.outs.items ≡ set b.outs.items k p → nb.ins.items ≡ set b.ins.items j y → OnlyMet b nb
   both_only b nb k j o p x y at_out at_in m n island_is ways_is spent_is peers_is outs_is ins_is =
-      let mid : Body S D L B = record b { outs = nb.outs } in
+      let mid : Body S D L H B = record b { outs = nb.outs } in
       only_on b mid nb (out_only b mid k o p at_out m refl refl refl refl refl outs_is) (in_only mid nb j x y at_in n island_is ways_is spent_is peers_is refl ins_is)
 
   -- the meeting, from what the ends say of it
-  pub they_meet : (a b na nb : Body S D L B) (k j : ℕ) (o p : OutputBoundary) (x y : IslandInput) (w : Waits) → slice_get a.outs.items k ≡ Some o → slice_get b.ins.items j ≡ Some x
+  pub they_meet : (a b na nb : Body S D L H B) (k j : ℕ) (o p : OutputBoundary) (x y : IslandInput) (w : Waits) → slice_get a.outs.items k ≡ Some o → slice_get b.ins.items j ≡ Some x
       → na.outs.items ≡ set a.outs.items k p → nb.ins.items ≡ set b.ins.items j y → OnlyMet a na → OnlyMet b nb
       → IsLaneHistory p.lane y.boundary.lane → WaitsAre p.lane y.boundary.lane w → AreTold p.lane y.boundary.lane → BodiesMeet a k b j na nb w
   they_meet a b na nb k j o p x y w at_out at_in outs_is ins_is m n history waits told =

@@ -39,16 +39,16 @@ blank_many : (n : ℕ) → length (replicate n Inner) ≡ n
 blank_many zero = refl
 blank_many (suc n) = ap suc (blank_many n)
 
-module _ {S D L B : Type 0} where
+module _ {S D L H B : Type 0} where
   -- the first n input ends and the first m output ends are in the table, and nothing else
-  pub record IsTableTo (n m : ℕ) (i : Kept S D L B) (ins outs : List ℕ) (ways : List Way) : Type 0 where
+  pub record IsTableTo (n m : ℕ) (i : Kept S D L H B) (ins outs : List ℕ) (ways : List Way) : Type 0 where
     pub many : length ways ≡ length i.net.wires
     pub ins_there : (k u : ℕ) → k < n → slice_get ins k ≡ Some u → slice_get ways (way_in i u) ≡ Some (In k)
     pub outs_there : (k u : ℕ) → k < m → slice_get outs k ≡ Some u → slice_get ways (way_out i u) ≡ Some (Out k)
     pub ins_right : (q k : ℕ) → slice_get ways q ≡ Some (In k) → (u : ℕ) × ((slice_get ins k ≡ Some u) × (way_in i u ≡ q))
     pub outs_right : (q k : ℕ) → slice_get ways q ≡ Some (Out k) → (u : ℕ) × ((slice_get outs k ≡ Some u) × (way_out i u ≡ q))
 
-  pub blank_table : (i : Kept S D L B) (ins outs : List ℕ) (ways : List Way) → ways ≡ replicate (length i.net.wires) Inner → IsTableTo 0 0 i ins outs ways
+  pub blank_table : (i : Kept S D L H B) (ins outs : List ℕ) (ways : List Way) → ways ≡ replicate (length i.net.wires) Inner → IsTableTo 0 0 i ins outs ways
   blank_table i ins outs ways e = record {
     many = ap length e ∙ blank_many (length i.net.wires);
     ins_there = λ k u h at. absurd (omega (arith, h));
@@ -57,7 +57,7 @@ module _ {S D L B : Type 0} where
     outs_right = λ q k at. absurd (inner_not_out k (blank_there (length i.net.wires) q (Out k) (ap (λ (l : List Way). slice_get l q) (sym e) ∙ at)));
   }
 
-  pub whole_table : (n m : ℕ) (i : Kept S D L B) (ins outs : List ℕ) (ways : List Way) → n ≡ length ins → m ≡ length outs → IsTableTo n m i ins outs ways → IsTable i ins outs ways
+  pub whole_table : (n m : ℕ) (i : Kept S D L H B) (ins outs : List ℕ) (ways : List Way) → n ≡ length ins → m ≡ length outs → IsTableTo n m i ins outs ways → IsTable i ins outs ways
   whole_table n m i ins outs ways en em t = record {
     many = t.many;
     ins_there = λ k u at. t.ins_there k u (subst (λ (x : ℕ). k < x) (sym en) (slice_get_within ins k u at)) at;
@@ -67,13 +67,13 @@ module _ {S D L B : Type 0} where
   }
 
   -- each connection has one end
-  ins_differ : (i : Kept S D L B) (ins outs : List ℕ) (j k u v : ℕ) → AreApart i ins outs → slice_get ins j ≡ Some u → slice_get ins k ≡ Some v → j ≢ k → way_in i u ≢ way_in i v
+  ins_differ : (i : Kept S D L H B) (ins outs : List ℕ) (j k u v : ℕ) → AreApart i ins outs → slice_get ins j ≡ Some u → slice_get ins k ≡ Some v → j ≢ k → way_in i u ≢ way_in i v
   ins_differ i ins outs j k u v a eu ev ne e = a.ins_apart j k u v eu ev ne (ap (λ (q : ℕ). (end_at i.net.ends q).from) e)
 
-  outs_differ : (i : Kept S D L B) (ins outs : List ℕ) (j k u v : ℕ) → AreApart i ins outs → slice_get outs j ≡ Some u → slice_get outs k ≡ Some v → j ≢ k → way_out i u ≢ way_out i v
+  outs_differ : (i : Kept S D L H B) (ins outs : List ℕ) (j k u v : ℕ) → AreApart i ins outs → slice_get outs j ≡ Some u → slice_get outs k ≡ Some v → j ≢ k → way_out i u ≢ way_out i v
   outs_differ i ins outs j k u v a eu ev ne e = a.outs_apart j k u v eu ev ne (ap (λ (q : ℕ). (end_at i.net.ends q).to) e)
 
-  module _ (i : Kept S D L B) (ins outs : List ℕ) (apart : AreApart i ins outs) (differ : (j k u v : ℕ) → slice_get ins j ≡ Some u → slice_get outs k ≡ Some v → way_in i u ≢ way_out i v) where
+  module _ (i : Kept S D L H B) (ins outs : List ℕ) (apart : AreApart i ins outs) (differ : (j k u v : ℕ) → slice_get ins j ≡ Some u → slice_get outs k ≡ Some v → way_in i u ≢ way_out i v) where
     pub mark_in : (n m : ℕ) (ways : List Way) (u : ℕ) → slice_get ins n ≡ Some u → way_in i u < length ways → IsTableTo n m i ins outs ways → IsTableTo (n + 1) m i ins outs (set ways (way_in i u) (In n))
     mark_in n m ways u at h t = record {
       many = length-set ways (way_in i u) (In n) ∙ t.many;
@@ -117,5 +117,5 @@ module _ {S D L B : Type 0} where
     pub mark_out_at : (n m q : ℕ) (ways : List Way) (u : ℕ) → q ≡ way_out i u → slice_get outs m ≡ Some u → way_out i u < length i.net.wires → IsTableTo n m i ins outs ways → IsTableTo n (m + 1) i ins outs (set ways q (Out m))
     mark_out_at n m q ways u is at h t = subst (λ (p : ℕ). IsTableTo n (m + 1) i ins outs (set ways p (Out m))) (sym is) (mark_out n m ways u at (subst (λ (l : ℕ). way_out i u < l) (sym t.many) h) t)
 
-  pub row_there : (n m q : ℕ) (i : Kept S D L B) (ins outs : List ℕ) (ways : List Way) (p : ℕ) → q ≡ p → p < length i.net.wires → IsTableTo n m i ins outs ways → q < length ways
+  pub row_there : (n m q : ℕ) (i : Kept S D L H B) (ins outs : List ℕ) (ways : List Way) (p : ℕ) → q ≡ p → p < length i.net.wires → IsTableTo n m i ins outs ways → q < length ways
   row_there n m q i ins outs ways p is h t = let many = t.many in omega (arith, is, h, many)

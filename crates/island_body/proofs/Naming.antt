@@ -33,7 +33,7 @@ stands_once (x ∷ xs) d zero (suc j) n e f = let same : x ≡ n = cc in absurd 
 stands_once (x ∷ xs) d (suc i) zero n e f = let same : x ≡ n = cc in absurd (no_both (is_queued xs x) (rw same (queued_at xs i n e)) d.0)
 stands_once (x ∷ xs) d (suc i) (suc j) n e f = ap suc (stands_once xs d.1 i j n e f)
 
-pub names_told : {S D L B : Type 0} (old new : Body S D L B) → Wakes old new → NamesEach (HasTold old new) new.peers.woken.queue
+pub names_told : {S D L H B : Type 0} (old new : Body S D L H B) → Wakes old new → NamesEach (HasTold old new) new.peers.woken.queue
 names_told old new w = record {
   only = λ i n at. w.each n (queued_at new.peers.woken.queue i n at);
   all = λ n told. at_queued new.peers.woken.queue n (w.all n told);

@@ -1,4 +1,4 @@
--- A body may go to another thread where its source, its drain, its plugs and their book may.
+-- A body may go to another thread where its source, its drain, its plugs, the handlers of its custom stages and the book may.
 use denote.Param.Send.{IsSend, sendable, recorded_send, enum_send, struct_send, view_send}
 use denote.Struct.Declared as declared
 use denote.Enum.Declared.{shape}
@@ -7,6 +7,7 @@ use denote.RattleType.{RattleType}
 use Rattle.std.specs.Prelude.{ℕ}
 use Rattle.std.proofs.Crossing.{crosses}
 use Rattle.elem_core.proofs.elem.Elem.TheLaws.TheKnot as knot
+use Rattle.elem_core.proofs.elem_type.ElemType.TheLaws.TheKnot as type_knot
 use Rattle.std.proofs.vec.Vec.TheSendSync as vec
 use Rattle.std.proofs.option.Option.TheSendSync as option
 use Rattle.std.proofs.boxed.Box.TheSendSync as box
@@ -60,6 +61,11 @@ use Rattle.stage_linear.specs.contracts.logic.LinearLogic as linear
 use Rattle.stage_linear.specs.contracts.logic.LinearLogic.TheInside as linear_inside
 use Rattle.stage_in.specs.contracts.logic.InLogic as fan_in
 use Rattle.stage_out.specs.contracts.logic.OutLogic as fan_out
+use Rattle.graph_stage.specs.contracts.stage.CustomStage as custom
+use Rattle.graph_stage.specs.contracts.stage.CustomStage.TheInside as custom_inside
+use Rattle.graph_stage.specs.contracts.logic.CustomLogic as custom_logic
+use Rattle.graph_stage.specs.contracts.asks.Asks as asks
+use Rattle.graph_stage.proofs.sight.Sight.TheSendSync as sight
 use Rattle.nodes.specs.contracts.leaving.Leaving as leaving
 use Rattle.nodes.specs.contracts.entering.Entering as entering
 use Rattle.nodes.specs.contracts.maker.ValueSource as maker
@@ -81,22 +87,23 @@ use Rattle.stream_io.specs.declared.outside.Source as source
 use Rattle.stream_io.specs.declared.outside.Drain as drain
 use Rattle.plug_logic.specs.declared.logic.Logic as logic
 use Rattle.plug_logic.specs.declared.book.PlugBook as plug_book
+use Rattle.graph_stage.specs.declared.handlers.Handlers as handlers
 
 -- what lists, texts, causes and memory keep to
 ruleset plain_rules = (tt, trace.the_send, line.the_send, line.the_sync, line_buf.the_send, line_buf.the_sync, writes.the_field_send, writes.the_send, end_state.the_field_send, end_state.the_send, cause.the_field_send, cause.the_send, why.the_field_send, why.the_send, vec.the_send, option.the_send, option.the_field_send, box.the_send, global.the_send, global.the_field_send, memory.the_send, memory.the_field_send, memory.the_sync, memory.the_field_sync, crosses, knot.crosses, sendable)
 
-plug_send : (L B : RattleType) (l : logic.Ghosts L.Denot) (b : plug_book.Ghosts B.Denot) → IsSend (param 2 L) → IsSend (param 3 B) → IsSend (plug_task.the_row (param 2 L) (param 3 B) l b)
+plug_send : (L B : RattleType) (l : logic.Ghosts L.Denot) (b : plug_book.Ghosts B.Denot) → IsSend (param 2 L) → IsSend (param 4 B) → IsSend (plug_task.the_row (param 2 L) (param 4 B) l b)
 plug_send L B l b p q = search plain_rules depth 60 fits 20000
 
-worker_send : (L B : RattleType) (l : logic.Ghosts L.Denot) (b : plug_book.Ghosts B.Denot) → IsSend (param 2 L) → IsSend (param 3 B) → IsSend (worker.the_field (param 2 L) (param 3 B) l b).row
+worker_send : (L B : RattleType) (l : logic.Ghosts L.Denot) (b : plug_book.Ghosts B.Denot) → IsSend (param 2 L) → IsSend (param 4 B) → IsSend (worker.the_field (param 2 L) (param 4 B) l b).row
 worker_send L B l b p q =
-    let t = worker.the_type (param 2 L) (param 3 B) l b in
+    let t = worker.the_type (param 2 L) (param 4 B) l b in
     enum_send (shape t) ((task_send, tt), ((plug_send L B l b p q, tt), tt))
 
-linear_send : (L B : RattleType) (l : logic.Ghosts L.Denot) (b : plug_book.Ghosts B.Denot) → IsSend (param 2 L) → IsSend (param 3 B) → IsSend (linear.the_row (param 2 L) (param 3 B) l b)
+linear_send : (L B : RattleType) (l : logic.Ghosts L.Denot) (b : plug_book.Ghosts B.Denot) → IsSend (param 2 L) → IsSend (param 4 B) → IsSend (linear.the_row (param 2 L) (param 4 B) l b)
 linear_send L B l b p q =
-    let t = linear_inside.the_type (param 2 L) (param 3 B) l b in
-    view_send (linear_inside.the_row (param 2 L) (param 3 B) l b) _ _ _ _
+    let t = linear_inside.the_type (param 2 L) (param 4 B) l b in
+    view_send (linear_inside.the_row (param 2 L) (param 4 B) l b) _ _ _ _
     (recorded_send (declared.field t).row _ _ t.to_one
     (struct_send (declared.shape t) (
       search plain_rules depth 60 fits 20000,
@@ -216,17 +223,44 @@ reading_send S s p = lines_source.the_send S s p
 writing_send : (D : RattleType) (d : drain.Ghosts D.Denot) → IsSend (param 1 D) → IsSend (writing.the_row (param 1 D) d)
 writing_send D d p = search (plain_rules) depth 60 fits 20000
 
-node_send : (S D L B : RattleType) (s : source.Ghosts S.Denot) (d : drain.Ghosts D.Denot) (l : logic.Ghosts L.Denot) (b : plug_book.Ghosts B.Denot) → IsSend (param 0 S) → IsSend (param 1 D) → IsSend (param 2 L) → IsSend (param 3 B) → IsSend (node.the_row (param 0 S) (param 1 D) (param 2 L) (param 3 B) s d l b)
-node_send S D L B s d l b p q u v =
-    let t = node.the_type (param 0 S) (param 1 D) (param 2 L) (param 3 B) s d l b in
-    recorded_send (node.the_field (param 0 S) (param 1 D) (param 2 L) (param 3 B) s d l b).row _ _ t.to_one
+-- a stage that a caller handed in
+asks_send : IsSend asks.the_row
+asks_send = search plain_rules depth 60 fits 20000
+
+logic_send : (H : RattleType) → IsSend (param 3 H) → IsSend (declared.field (custom_logic.the_type (param 3 H))).row
+logic_send H p =
+    let t = custom_logic.the_type (param 3 H) in
+    struct_send (declared.shape t) (
+      search plain_rules depth 60 fits 20000,
+      (
+        search (type_knot.crosses, plain_rules) depth 60 fits 20000,
+        (
+          p,
+          (
+            search (sight.the_send, plain_rules) depth 60 fits 20000,
+            (search plain_rules depth 60 fits 20000, (asks_send, (search plain_rules depth 60 fits 20000, (search plain_rules depth 60 fits 20000, tt)))),
+          ),
+        ),
+      ),
+    )
+
+custom_send : (H : RattleType) (h : handlers.Ghosts H.Denot) → IsSend (param 3 H) → IsSend (custom.the_row (param 3 H) h)
+custom_send H h p =
+    let t = custom_inside.the_type (param 3 H) h in
+    view_send (custom_inside.the_row (param 3 H) h) _ _ _ _
+    (recorded_send (declared.field t).row _ _ t.to_one (struct_send (declared.shape t) (logic_send H p, tt)))
+
+node_send : (S D L H B : RattleType) (s : source.Ghosts S.Denot) (d : drain.Ghosts D.Denot) (l : logic.Ghosts L.Denot) (h : handlers.Ghosts H.Denot) (b : plug_book.Ghosts B.Denot) → IsSend (param 0 S) → IsSend (param 1 D) → IsSend (param 2 L) → IsSend (param 3 H) → IsSend (param 4 B) → IsSend (node.the_row (param 0 S) (param 1 D) (param 2 L) (param 3 H) (param 4 B) s d l h b)
+node_send S D L H B s d l h b p q u x v =
+    let t = node.the_type (param 0 S) (param 1 D) (param 2 L) (param 3 H) (param 4 B) s d l h b in
+    recorded_send (node.the_field (param 0 S) (param 1 D) (param 2 L) (param 3 H) (param 4 B) s d l h b).row _ _ t.to_one
     (enum_send (shape t) (
       (reading_send (param 0 S) s p, tt),
       (
         (maker_send, tt),
         (
           (linear_send L B l b u v, tt),
-          ((state_send, tt), ((sub_send, tt), ((in_send, tt), ((out_send, tt), ((writing_send D d q, tt), ((ignorer_send, tt), ((entering_send, tt), ((leaving_send, tt), tt)))))))),
+          ((state_send, tt), ((sub_send, tt), ((in_send, tt), ((out_send, tt), ((custom_send H h x, tt), ((writing_send D d q, tt), ((ignorer_send, tt), ((entering_send, tt), ((leaving_send, tt), tt))))))))),
         ),
       ),
     ))
@@ -267,21 +301,21 @@ end_send S D s d p q =
     )
 
 -- what a stage is to a node
-abbrev staged : (S D L B : RattleType) (s : source.Ghosts S.Denot) (d : drain.Ghosts D.Denot) (l : logic.Ghosts L.Denot) (b : plug_book.Ghosts B.Denot) → stage.Ghosts (node.the_row (param 0 S) (param 1 D) (param 2 L) (param 3 B) s d l b).Denot
-staged S D L B s d l b = node_stage.ghosts (param 0 S) (param 1 D) (param 2 L) (param 3 B) s node_stage.no_dict d node_stage.no_dict l node_stage.no_dict b node_stage.no_dict node_stage.no_dict node_stage.no_dict node_stage.no_dict
+abbrev staged : (S D L H B : RattleType) (s : source.Ghosts S.Denot) (d : drain.Ghosts D.Denot) (l : logic.Ghosts L.Denot) (h : handlers.Ghosts H.Denot) (b : plug_book.Ghosts B.Denot) → stage.Ghosts (node.the_row (param 0 S) (param 1 D) (param 2 L) (param 3 H) (param 4 B) s d l h b).Denot
+staged S D L H B s d l h b = node_stage.ghosts (param 0 S) (param 1 D) (param 2 L) (param 3 H) (param 4 B) s node_stage.no_dict d node_stage.no_dict l node_stage.no_dict h node_stage.no_dict b node_stage.no_dict node_stage.no_dict node_stage.no_dict node_stage.no_dict node_stage.no_dict
 
-island_send : (S D L B : RattleType) (s : source.Ghosts S.Denot) (d : drain.Ghosts D.Denot) (l : logic.Ghosts L.Denot) (b : plug_book.Ghosts B.Denot) → IsSend (param 0 S) → IsSend (param 1 D) → IsSend (param 2 L) → IsSend (param 3 B) → IsSend (island.the_row (param 0 S) (param 1 D) (param 2 L) (param 3 B) s d l b)
-island_send S D L B s d l b p q u v =
-    let t = island_inside.the_type (param 0 S) (param 1 D) (param 2 L) (param 3 B) s d l b in
-    view_send (island_inside.the_row (param 0 S) (param 1 D) (param 2 L) (param 3 B) s d l b) _ _ _ _
+island_send : (S D L H B : RattleType) (s : source.Ghosts S.Denot) (d : drain.Ghosts D.Denot) (l : logic.Ghosts L.Denot) (h : handlers.Ghosts H.Denot) (b : plug_book.Ghosts B.Denot) → IsSend (param 0 S) → IsSend (param 1 D) → IsSend (param 2 L) → IsSend (param 3 H) → IsSend (param 4 B) → IsSend (island.the_row (param 0 S) (param 1 D) (param 2 L) (param 3 H) (param 4 B) s d l h b)
+island_send S D L H B s d l h b p q u x v =
+    let t = island_inside.the_type (param 0 S) (param 1 D) (param 2 L) (param 3 H) (param 4 B) s d l h b in
+    view_send (island_inside.the_row (param 0 S) (param 1 D) (param 2 L) (param 3 H) (param 4 B) s d l h b) _ _ _ _
     (recorded_send (declared.field t).row _ _ t.to_one
     (struct_send (declared.shape t) (
-      view_send (engine_inside.the_row (node.the_row (param 0 S) (param 1 D) (param 2 L) (param 3 B) s d l b) (staged S D L B s d l b)) _ _ _ _ (engine_send (node.the_row (param 0 S) (param 1 D) (param 2 L) (param 3 B) s d l b) (staged S D L B s d l b) (node_send S D L B s d l b p q u v)),
+      view_send (engine_inside.the_row (node.the_row (param 0 S) (param 1 D) (param 2 L) (param 3 H) (param 4 B) s d l h b) (staged S D L H B s d l h b)) _ _ _ _ (engine_send (node.the_row (param 0 S) (param 1 D) (param 2 L) (param 3 H) (param 4 B) s d l h b) (staged S D L H B s d l h b) (node_send S D L H B s d l h b p q u x v)),
       (
         search rings depth 60 fits 20000,
         (
           search rings depth 60 fits 20000,
-          (search rings depth 60 fits 20000, (search rings depth 60 fits 20000, (search rings depth 60 fits 20000, (search rings depth 60 fits 20000, (end_send (param 0 S) (param 1 D) s d p q, tt))))),
+          (search rings depth 60 fits 20000, (search rings depth 60 fits 20000, (search rings depth 60 fits 20000, (search rings depth 60 fits 20000, (search rings depth 60 fits 20000, (end_send (param 0 S) (param 1 D) s d p q, tt)))))),
         ),
       ),
     )))
@@ -295,12 +329,12 @@ input_send = search lanes depth 60 fits 20000
 output_send : IsSend output.the_row
 output_send = search lanes depth 60 fits 20000
 
-pub body_send : (S D L B : RattleType) (s : source.Ghosts S.Denot) (d : drain.Ghosts D.Denot) (l : logic.Ghosts L.Denot) (b : plug_book.Ghosts B.Denot) → IsSend (param 0 S) → IsSend (param 1 D) → IsSend (param 2 L) → IsSend (param 3 B) → IsSend (body.the_row (param 0 S) (param 1 D) (param 2 L) (param 3 B) s d l b)
-body_send S D L B s d l b p q u v =
-    let t = body.the_type (param 0 S) (param 1 D) (param 2 L) (param 3 B) s d l b in
+pub body_send : (S D L H B : RattleType) (s : source.Ghosts S.Denot) (d : drain.Ghosts D.Denot) (l : logic.Ghosts L.Denot) (h : handlers.Ghosts H.Denot) (b : plug_book.Ghosts B.Denot) → IsSend (param 0 S) → IsSend (param 1 D) → IsSend (param 2 L) → IsSend (param 3 H) → IsSend (param 4 B) → IsSend (body.the_row (param 0 S) (param 1 D) (param 2 L) (param 3 H) (param 4 B) s d l h b)
+body_send S D L H B s d l h b p q u x v =
+    let t = body.the_type (param 0 S) (param 1 D) (param 2 L) (param 3 H) (param 4 B) s d l h b in
     recorded_send (declared.field t).row _ _ t.to_one
     (struct_send (declared.shape t) (
-      island_send S D L B s d l b p q u v,
+      island_send S D L H B s d l h b p q u x v,
       (
         search (input_send, rings) depth 60 fits 20000,
         (search (output_send, rings) depth 60 fits 20000, (search rings depth 60 fits 20000, (search rings depth 60 fits 20000, (search rings depth 60 fits 20000, tt)))),

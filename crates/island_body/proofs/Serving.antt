@@ -98,22 +98,22 @@ closed_conn w q s e = subst (λ (v : JointPorts). InClosed v.inp) (sym s.is) (cl
 some_same : {A : Type 0} (x y : A) → Some x ≡ Some y → x ≡ y
 some_same x y e = cc
 
-module _ {S D L B : Type 0} where
-  pub waiting_at : (i : Kept S D L B) (u : ℕ) (x : IslandNode S D L B) → slice_get i.net.nodes (out_node i u) ≡ Some x → waiting i u ≡ node_waits x
+module _ {S D L H B : Type 0} where
+  pub waiting_at : (i : Kept S D L H B) (u : ℕ) (x : IslandNode S D L H B) → slice_get i.net.nodes (out_node i u) ≡ Some x → waiting i u ≡ node_waits x
   waiting_at i u x at = ap waits_of at
 
-  pub clear_waits : (i : Kept S D L B) (u : ℕ) → IsClearAt i.net (way_out i u) → waiting i u ≡ []
+  pub clear_waits : (i : Kept S D L H B) (u : ℕ) → IsClearAt i.net (way_out i u) → waiting i u ≡ []
   clear_waits i u clear = by_node (slice_get i.net.nodes (out_node i u)) refl
     where
-      by_node : (o : Option (IslandNode S D L B)) → slice_get i.net.nodes (out_node i u) ≡ o → waiting i u ≡ []
+      by_node : (o : Option (IslandNode S D L H B)) → slice_get i.net.nodes (out_node i u) ≡ o → waiting i u ≡ []
       by_node None e = ap waits_of e
       by_node (Some x) e = ap waits_of e ∙ clear x e
 
-  pub waits_clear : (i : Kept S D L B) (u : ℕ) → waiting i u ≡ [] → IsClearAt i.net (way_out i u)
+  pub waits_clear : (i : Kept S D L H B) (u : ℕ) → waiting i u ≡ [] → IsClearAt i.net (way_out i u)
   waits_clear i u none x at = sym (waiting_at i u x at) ∙ none
 
   -- an item that was handed out waits no longer
-  pub handed_less : (i new : Kept S D L B) (u : ℕ) (x : Item) → HandsOut i u (x ∷ []) new → length (waiting new u) < length (waiting i u)
+  pub handed_less : (i new : Kept S D L H B) (u : ℕ) (x : Item) → HandsOut i u (x ∷ []) new → length (waiting new u) < length (waiting i u)
   handed_less i new u x h =
       let b : Beside (way_out i u) (out_node i u) i new = beside_hands (way_out i u) i new u (x ∷ []) h in
       let net_is : new ≡ with_net i (with_node i.net (out_node i u) h.hands.next) = h.rest ∙ ap (λ (n : Net _). with_net i n) h.hands.is in
@@ -125,7 +125,7 @@ module _ {S D L B : Type 0} where
 
 -- ---- what is kept between two moments
 
-module _ {S D L B : Type 0} (o : LaneOut) (i : Kept S D L B) (u : ℕ) where
+module _ {S D L H B : Type 0} (o : LaneOut) (i : Kept S D L H B) (u : ℕ) where
   -- one that has seen no cancel
   pub serves_live : ReceivedAt i.net (way_out i u) → out_node i u < length i.net.nodes → Sends o i u → ((cell_out i u).wire.inp ≡ Cancelled → ⊥) → Serves o i u
   serves_live came h s live_in =
@@ -140,13 +140,13 @@ module _ {S D L B : Type 0} (o : LaneOut) (i : Kept S D L B) (u : ℕ) where
       }
 
   -- all was sent, and it has asked or not
-  pub serves_asked : ReceivedAt i.net (way_out i u) → out_node i u < length i.net.nodes → Sends o i u → ((cell_out i u).wire.inp ≡ Cancelled → ⊥) → (new : Kept S D L B) → Sends o new u → (cell_out new u).wire.got ≡ (cell_out i u).wire.got → ((cell_out new u).wire.inp ≡ Cancelled → (cell_out i u).wire.inp ≡ Cancelled) → Serves o new u
+  pub serves_asked : ReceivedAt i.net (way_out i u) → out_node i u < length i.net.nodes → Sends o i u → ((cell_out i u).wire.inp ≡ Cancelled → ⊥) → (new : Kept S D L H B) → Sends o new u → (cell_out new u).wire.got ≡ (cell_out i u).wire.got → ((cell_out new u).wire.inp ≡ Cancelled → (cell_out i u).wire.inp ≡ Cancelled) → Serves o new u
   serves_asked came h s none new t got left =
       let r = serves_live came h s none in
       record { part = rw got r.part; wants = t.wants; live = λ z. t; closed = λ c. let l = s.live in cc; left = λ e. absurd (none (left e)) }
 
   -- it has seen more asked, and has asked or not
-  pub serves_found : Serves o i u → saw_cancel o ≡ 0 → (p : LaneOut) (new : Kept S D L B) → sent p ≡ sent o → Sends p new u → (cell_out new u).wire.got ≡ (cell_out i u).wire.got → ((cell_out new u).wire.inp ≡ Cancelled → (cell_out i u).wire.inp ≡ Cancelled) → Serves p new u
+  pub serves_found : Serves o i u → saw_cancel o ≡ 0 → (p : LaneOut) (new : Kept S D L H B) → sent p ≡ sent o → Sends p new u → (cell_out new u).wire.got ≡ (cell_out i u).wire.got → ((cell_out new u).wire.inp ≡ Cancelled → (cell_out i u).wire.inp ≡ Cancelled) → Serves p new u
   serves_found r zero_is p new same t got left = record {
     part = rw (got, same) r.part;
     wants = t.wants;
@@ -173,10 +173,10 @@ module _ {S D L B : Type 0} (o : LaneOut) (i : Kept S D L B) (u : ℕ) where
   over_closed Cancelled e = tt
 
   -- The cancel is handed on: the input is closed, nothing was asked, and what came begins with what was sent.
-  pub cancelled_serves : ReceivedAt i.net (way_out i u) → Sends o i u → Leaves i u → out_node i u < length i.net.nodes → (p : LaneOut) (new : Kept S D L B) → Drops i u new → sent p ≡ sent o → seen_count o ≤ seen_count p → saw_cancel p ≡ 1 → Serves p new u
+  pub cancelled_serves : ReceivedAt i.net (way_out i u) → Sends o i u → Leaves i u → out_node i u < length i.net.nodes → (p : LaneOut) (new : Kept S D L H B) → Drops i u new → sent p ≡ sent o → seen_count o ≤ seen_count p → saw_cancel p ≡ 1 → Serves p new u
   cancelled_serves came s l h p new d same more cancel =
       let q : ℕ = way_out i u in
-      let mid : Net (IslandNode S D L B) = cancelled_at i.net (way_out i u) in
+      let mid : Net (IslandNode S D L H B) = cancelled_at i.net (way_out i u) in
       let x = get_there i.net.nodes (out_node i u) h in
       let parts : (cell_out i u).wire.got ≡ sent o ++ node_waits x.0 = came.got x.0 x.1 ∙ ap (λ (w : List Item). w ++ node_waits x.0) (s.gone x.0 x.1) in
       let c = cell_out i u in
@@ -184,7 +184,7 @@ module _ {S D L B : Type 0} (o : LaneOut) (i : Kept S D L B) (u : ℕ) where
       let at = d.drops x.0 (mid_node x.0 x.1) in
       let new_is : new ≡ with_net i (with_node mid (out_node i u) at.next) = d.rest ∙ ap (λ (n : Net _). with_net i n) at.is in
       let kept = mid_cell l.place in
-      subst (λ (z : Kept S D L B). Serves p z u) (sym new_is) (record {
+      subst (λ (z : Kept S D L H B). Serves p z u) (sym new_is) (record {
         part = subst (λ (g : List Item). IsPrefix (sent p) g) (sym kept.1.0) (subst (λ (g : List Item). IsPrefix (sent p) g) (sym parts) (subst (λ (g : List Item). IsPrefix g (sent o ++ node_waits x.0)) (sym same) (prefix_append (sent o) (node_waits x.0))));
         wants = let k = kept.1.1 in omega (arith, k, w, more);
         live = λ z. cc;
@@ -192,7 +192,7 @@ module _ {S D L B : Type 0} (o : LaneOut) (i : Kept S D L B) (u : ℕ) where
         left = λ z. cancel;
       })
     where
-      mid_node : (x : IslandNode S D L B) → slice_get i.net.nodes (out_node i u) ≡ Some x → slice_get (cancelled_at i.net (way_out i u)).nodes (out_node i u) ≡ Some x
+      mid_node : (x : IslandNode S D L H B) → slice_get i.net.nodes (out_node i u) ≡ Some x → slice_get (cancelled_at i.net (way_out i u)).nodes (out_node i u) ≡ Some x
       mid_node x at = by_over (input_closed (wire_at i.net (way_out i u)).wire.inp) refl
         where
           by_over : (b : Bool) → input_closed (wire_at i.net (way_out i u)).wire.inp ≡ b → slice_get (cancelled_at i.net (way_out i u)).nodes (out_node i u) ≡ Some x
@@ -211,7 +211,7 @@ module _ {S D L B : Type 0} (o : LaneOut) (i : Kept S D L B) (u : ℕ) where
 
 -- ---- while another end of a lane acts
 
-module _ {S D L B : Type 0} (o : LaneOut) (q n : ℕ) (old new : Kept S D L B) (u : ℕ) (b : Beside q n old new) (apart : way_out old u ≢ q) (other : out_node old u ≢ n) where
+module _ {S D L H B : Type 0} (o : LaneOut) (q n : ℕ) (old new : Kept S D L H B) (u : ℕ) (b : Beside q n old new) (apart : way_out old u ≢ q) (other : out_node old u ≢ n) where
   cell_same : cell_out new u ≡ cell_out old u
   cell_same = rw (way_out_beside q n old new u b) (b.cells (way_out old u) apart)
 
@@ -236,7 +236,7 @@ module _ {S D L B : Type 0} (o : LaneOut) (q n : ℕ) (old new : Kept S D L B) (
 -- ---- while the island runs
 
 -- what stands at the end of a lane is passive
-leaving_passive : {S D L B : Type 0} (sources : S → SourceState) (drains : D → DrainState) (book : Book) (x first : IslandNode S D L B) (v : View) (t g : List (List Item)) → IsLeaving first → node_law sources drains book first x v t g → node_passive x ≡ true
+leaving_passive : {S D L H B : Type 0} (sources : S → SourceState) (drains : D → DrainState) (book : Book) (x first : IslandNode S D L H B) (v : View) (t g : List (List Item)) → IsLeaving first → node_law sources drains book first x v t g → node_passive x ≡ true
 leaving_passive sources drains book (node.Leaving x) (node.Leaving f) v t g h law = refl
 leaving_passive sources drains book (node.Reading x) (node.Leaving f) v t g h law = absurd law
 leaving_passive sources drains book (node.Making x) (node.Leaving f) v t g h law = absurd law
@@ -261,7 +261,7 @@ leaving_passive sources drains book x (node.Writing f) v t g h law = absurd h
 leaving_passive sources drains book x (node.Ignoring f) v t g h law = absurd h
 leaving_passive sources drains book x (node.Entering f) v t g h law = absurd h
 
-pub passive_there : {S D L B : Type 0} (sources : S → SourceState) (drains : D → DrainState) (book : Book) (net : Net (IslandNode S D L B)) (q : ℕ) → Settled node_port_state (node_law sources drains book) node_asking node_moves net → q < length net.wires → LeavesAt net q → IsPassiveAt node_passive net (end_at net.ends q).to
+pub passive_there : {S D L H B : Type 0} (sources : S → SourceState) (drains : D → DrainState) (book : Book) (net : Net (IslandNode S D L H B)) (q : ℕ) → Settled node_port_state (node_law sources drains book) node_asking node_moves net → q < length net.wires → LeavesAt net q → IsPassiveAt node_passive net (end_at net.ends q).to
 passive_there sources drains book net q s h stage x at =
     let to = (end_at net.ends q).to in
     let first = get_there net.firsts to (rw s.each_first (s.wired.to_within q h)) in
@@ -274,7 +274,7 @@ map_at f (x ∷ xs) [] n y e at = cc
 map_at f (x ∷ xs) (z ∷ ys) zero y e at = let same : z ≡ y = some_same z y at in let both : f z ≡ f x = cc in (x, (refl, ap f (sym same) ∙ both))
 map_at f (x ∷ xs) (z ∷ ys) (suc n) y e at = let t : map f ys ≡ map f xs = cc in map_at f xs ys n y t at
 
-module _ {S D L B : Type 0} (sources : S → SourceState) (drains : D → DrainState) (book : Book) (o : LaneOut) (old new : Kept S D L B) (u : ℕ) (before : Settled node_port_state (node_law sources drains book) node_asking node_moves old.net) (after : Settled node_port_state (node_law sources drains book) node_asking node_moves new.net)
+module _ {S D L H B : Type 0} (sources : S → SourceState) (drains : D → DrainState) (book : Book) (o : LaneOut) (old new : Kept S D L H B) (u : ℕ) (before : Settled node_port_state (node_law sources drains book) node_asking node_moves old.net) (after : Settled node_port_state (node_law sources drains book) node_asking node_moves new.net)
     (l : Leaves old u) (on : NetGoesOn old.net new.net) (outs : new.outs ≡ old.outs) (gone : map node_gone new.net.nodes ≡ map node_gone old.net.nodes) (still : StandsStill node_passive old.net new.net) where
   here : IsPassiveAt node_passive old.net (out_node old u)
   here = passive_there sources drains book old.net (way_out old u) before l.place l.stage

@@ -45,9 +45,9 @@ sent_there wires [] i w e = absurd cc
 sent_there wires (x ∷ ws) zero w e = ap (λ (k : ℕ). Some (get_or wires k no_wire).wire.sent) (some_same x w e)
 sent_there wires (x ∷ ws) (suc i) w e = sent_there wires ws i w e
 
-module _ {S D L B : Type 0} (sources : S → SourceState) (drains : D → DrainState) (book : Book) where
+module _ {S D L H B : Type 0} (sources : S → SourceState) (drains : D → DrainState) (book : Book) where
   -- the stage's law at port i of it
-  gave_by : (x first : IslandNode S D L B) → IsEntering first → (v : View) (t g : List (List Item)) (i : ℕ) (l : List Item) (y : OutView) → slice_get g i ≡ Some l → out_at v i ≡ y → node_law sources drains book first x v t g → Gave l y
+  gave_by : (x first : IslandNode S D L H B) → IsEntering first → (v : View) (t g : List (List Item)) (i : ℕ) (l : List Item) (y : OutView) → slice_get g i ≡ Some l → out_at v i ≡ y → node_law sources drains book first x v t g → Gave l y
   gave_by (node.Entering x) (node.Entering f) h v t g i l y at out law =
       let one = one_item (told law.list law.end) l g i law.gave_is at in
       record {
@@ -79,7 +79,7 @@ module _ {S D L B : Type 0} (sources : S → SourceState) (drains : D → DrainS
   gave_by x (node.Ignoring f) h v t g i l y at out law = absurd h
   gave_by x (node.Leaving f) h v t g i l y at out law = absurd h
 
-  entering_passive : (x first : IslandNode S D L B) → IsEntering first → (v : View) (t g : List (List Item)) → node_law sources drains book first x v t g → node_passive x ≡ true
+  entering_passive : (x first : IslandNode S D L H B) → IsEntering first → (v : View) (t g : List (List Item)) → node_law sources drains book first x v t g → node_passive x ≡ true
   entering_passive (node.Entering x) (node.Entering f) h v t g law = refl
   entering_passive (node.Leaving x) (node.Entering f) h v t g law = refl
   entering_passive (node.Reading x) (node.Entering f) h v t g law = absurd law
@@ -104,7 +104,7 @@ module _ {S D L B : Type 0} (sources : S → SourceState) (drains : D → DrainS
   entering_passive x (node.Ignoring f) h v t g law = absurd h
   entering_passive x (node.Leaving f) h v t g law = absurd h
 
-  module _ (net : Net (IslandNode S D L B)) (s : Settled node_port_state (node_law sources drains book) node_asking node_moves net) (q : ℕ) (h : q < length net.wires) (stage : EntersAt net q) where
+  module _ (net : Net (IslandNode S D L H B)) (s : Settled node_port_state (node_law sources drains book) node_asking node_moves net) (q : ℕ) (h : q < length net.wires) (stage : EntersAt net q) where
     abbrev from : ℕ
     from = (end_at net.ends q).from
 

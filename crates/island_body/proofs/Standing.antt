@@ -31,13 +31,13 @@ out_is j k e = cc
 in_not_out : (j k : ℕ) → Some (In j) ≡ Some (Out k) → ⊥
 in_not_out j k e = cc
 
-module _ {S D L B : Type 0} where
+module _ {S D L H B : Type 0} where
   -- ---- an island that goes on
 
-  pub goes_of : (q n : ℕ) (old new : Kept S D L B) → Beside q n old new → IslandGoes old new
+  pub goes_of : (q n : ℕ) (old new : Kept S D L H B) → Beside q n old new → IslandGoes old new
   goes_of q n old new b = record { on = b.on; ins = b.ins; outs = b.outs; numbers = b.numbers; places = b.places }
 
-  module _ (old new : Kept S D L B) (g : IslandGoes old new) where
+  module _ (old new : Kept S D L H B) (g : IslandGoes old new) where
     way_in_goes : (u : ℕ) → way_in new u ≡ way_in old u
     way_in_goes u = rw g.ins refl
 
@@ -66,10 +66,10 @@ module _ {S D L B : Type 0} where
       outs_right = λ q k e. let r = t.outs_right q k e in (r.0, (r.1.0, way_out_goes r.0 ∙ r.1.1));
     }
 
-  pub goes_here : (i : Kept S D L B) → IslandGoes i i
+  pub goes_here : (i : Kept S D L H B) → IslandGoes i i
   goes_here i = record { on = record { firsts = refl; ends = refl; ports = refl; nodes = refl; wires = refl }; ins = refl; outs = refl; numbers = refl; places = refl }
 
-  pub goes_then : (a b c : Kept S D L B) → IslandGoes a b → IslandGoes b c → IslandGoes a c
+  pub goes_then : (a b c : Kept S D L H B) → IslandGoes a b → IslandGoes b c → IslandGoes a c
   goes_then a b c f g = record {
     on = record { firsts = g.on.firsts ∙ f.on.firsts; ends = g.on.ends ∙ f.on.ends; ports = g.on.ports ∙ f.on.ports; nodes = g.on.nodes ∙ f.on.nodes; wires = g.on.wires ∙ f.on.wires };
     ins = g.ins ∙ f.ins;
@@ -80,7 +80,7 @@ module _ {S D L B : Type 0} where
 
   -- ---- two ends stand at two connections
 
-  module _ (i : Kept S D L B) (us vs : List ℕ) (ws : List Way) (t : IsTable i us vs ws) where
+  module _ (i : Kept S D L H B) (us vs : List ℕ) (ws : List Way) (t : IsTable i us vs ws) where
     pub ins_ways : (j k u v : ℕ) → slice_get us j ≡ Some u → slice_get us k ≡ Some v → j ≢ k → way_in i u ≢ way_in i v
     ins_ways j k u v eu ev ne e = ne (in_is j k (sym (t.ins_there j u eu) ∙ ap (λ (q : ℕ). slice_get ws q) e ∙ t.ins_there k v ev))
 
@@ -92,7 +92,7 @@ module _ {S D L B : Type 0} where
 
   -- ---- another end acts
 
-  module _ (q n : ℕ) (old new : Kept S D L B) (b : Beside q n old new) where
+  module _ (q n : ℕ) (old new : Kept S D L H B) (b : Beside q n old new) where
     in_stands : (x : IslandInput) → way_in old x.wire ≢ q → InputEndStands old x → InputEndStands new x
     in_stands x apart s = record { enters = enters_beside q n old new x.wire b s.enters; feeds = feeds_beside x.boundary q n old new x.wire b apart s.feeds }
 
@@ -104,7 +104,7 @@ module _ {S D L B : Type 0} where
     }
 
   -- the input end at place k of its list acted
-  module _ (old new : Kept S D L B) (ins : List IslandInput) (outs : List OutputBoundary) (ws : List Way) (k : ℕ) (x y : IslandInput) (at : slice_get ins k ≡ Some x) (table : IsTable old (in_wires ins) (out_wires outs) ws) (apart : AreApart old (in_wires ins) (out_wires outs))
+  module _ (old new : Kept S D L H B) (ins : List IslandInput) (outs : List OutputBoundary) (ws : List Way) (k : ℕ) (x y : IslandInput) (at : slice_get ins k ≡ Some x) (table : IsTable old (in_wires ins) (out_wires outs) ws) (apart : AreApart old (in_wires ins) (out_wires outs))
       (b : Beside (way_in old x.wire) (in_node old x.wire) old new) (wire : y.wire ≡ x.wire) where
     in_wire_at : slice_get (in_wires ins) k ≡ Some x.wire
     in_wire_at = map_at (λ (z : IslandInput). z.wire) ins k x at
@@ -131,7 +131,7 @@ module _ {S D L B : Type 0} where
     }
 
   -- the output end at place k of its list acted
-  module _ (old new : Kept S D L B) (ins : List IslandInput) (outs : List OutputBoundary) (ws : List Way) (k : ℕ) (x y : OutputBoundary) (at : slice_get outs k ≡ Some x) (table : IsTable old (in_wires ins) (out_wires outs) ws) (apart : AreApart old (in_wires ins) (out_wires outs))
+  module _ (old new : Kept S D L H B) (ins : List IslandInput) (outs : List OutputBoundary) (ws : List Way) (k : ℕ) (x y : OutputBoundary) (at : slice_get outs k ≡ Some x) (table : IsTable old (in_wires ins) (out_wires outs) ws) (apart : AreApart old (in_wires ins) (out_wires outs))
       (b : Beside (way_out old x.wire) (out_node old x.wire) old new) (wire : y.wire ≡ x.wire) where
     out_wire_at : slice_get (out_wires outs) k ≡ Some x.wire
     out_wire_at = map_at (λ (z : OutputBoundary). z.wire) outs k x at
@@ -161,11 +161,11 @@ module _ {S D L B : Type 0} where
     }
 
   -- one that is named may have something to do
-  pub served_but : (at : Option ℕ) (n m : ℕ) (i : Kept S D L B) (ins : List IslandInput) (outs : List OutputBoundary) → AllServed None n m i ins outs → AllServed at n m i ins outs
+  pub served_but : (at : Option ℕ) (n m : ℕ) (i : Kept S D L H B) (ins : List IslandInput) (outs : List OutputBoundary) → AllServed None n m i ins outs → AllServed at n m i ins outs
   served_but at n m i ins outs s = record { ins_fed = λ k x h e other. s.ins_fed k x h e tt; outs_served = λ k o h e other. s.outs_served k o h e tt }
 
   -- the next input end may have, and the next output end
-  pub served_next_in : (k m : ℕ) (x : IslandInput) (i : Kept S D L B) (ins : List IslandInput) (outs : List OutputBoundary) → slice_get ins k ≡ Some x → AllServed None k m i ins outs → AllServed (Some (way_in i x.wire)) (k + 1) m i ins outs
+  pub served_next_in : (k m : ℕ) (x : IslandInput) (i : Kept S D L H B) (ins : List IslandInput) (outs : List OutputBoundary) → slice_get ins k ≡ Some x → AllServed None k m i ins outs → AllServed (Some (way_in i x.wire)) (k + 1) m i ins outs
   served_next_in k m x i ins outs at s = record {
     ins_fed = λ j z h e other. elim (same_or_not j k) [
       | inl here ↦ (let same : z ≡ x = some_same z x (sym e ∙ ap (λ (n : ℕ). slice_get ins n) here ∙ at) in absurd (other (ap (λ (w : IslandInput). way_in i w.wire) same)))
@@ -174,7 +174,7 @@ module _ {S D L B : Type 0} where
     outs_served = λ j o h e other. s.outs_served j o h e tt;
   }
 
-  pub served_next_out : (n k : ℕ) (o : OutputBoundary) (i : Kept S D L B) (ins : List IslandInput) (outs : List OutputBoundary) → slice_get outs k ≡ Some o → AllServed None n k i ins outs → AllServed (Some (way_out i o.wire)) n (k + 1) i ins outs
+  pub served_next_out : (n k : ℕ) (o : OutputBoundary) (i : Kept S D L H B) (ins : List IslandInput) (outs : List OutputBoundary) → slice_get outs k ≡ Some o → AllServed None n k i ins outs → AllServed (Some (way_out i o.wire)) n (k + 1) i ins outs
   served_next_out n k o i ins outs at s = record {
     ins_fed = λ j x h e other. s.ins_fed j x h e tt;
     outs_served = λ j z h e other. elim (same_or_not j k) [
@@ -183,11 +183,11 @@ module _ {S D L B : Type 0} where
     ];
   }
 
-  pub served_none : (i : Kept S D L B) (ins : List IslandInput) (outs : List OutputBoundary) → AllServed None 0 0 i ins outs
+  pub served_none : (i : Kept S D L H B) (ins : List IslandInput) (outs : List OutputBoundary) → AllServed None 0 0 i ins outs
   served_none i ins outs = record { ins_fed = λ k x h e other. absurd (omega (arith, h)); outs_served = λ k o h e other. absurd (omega (arith, h)) }
 
   -- no end stands at the connection that is named
-  pub served_inner : (q n m : ℕ) (i : Kept S D L B) (ins : List IslandInput) (outs : List OutputBoundary) (ws : List Way) → IsTable i (in_wires ins) (out_wires outs) ws → slice_get ws q ≡ Some Inner → AllServed (Some q) n m i ins outs → AllServed None n m i ins outs
+  pub served_inner : (q n m : ℕ) (i : Kept S D L H B) (ins : List IslandInput) (outs : List OutputBoundary) (ws : List Way) → IsTable i (in_wires ins) (out_wires outs) ws → slice_get ws q ≡ Some Inner → AllServed (Some q) n m i ins outs → AllServed None n m i ins outs
   served_inner q n m i ins outs ws t at s = record {
     ins_fed = λ k x h e none. s.ins_fed k x h e (λ f. let there = t.ins_there k x.wire (map_at (λ (w : IslandInput). w.wire) ins k x e) in inner_in k (sym at ∙ (ap (λ (p : ℕ). slice_get ws p) (sym f) ∙ there)));
     outs_served = λ k o h e none. s.outs_served k o h e (λ f. let there = t.outs_there k o.wire (map_at (λ (w : OutputBoundary). w.wire) outs k o e) in inner_out k (sym at ∙ (ap (λ (p : ℕ). slice_get ws p) (sym f) ∙ there)));
@@ -200,26 +200,26 @@ module _ {S D L B : Type 0} where
       inner_out k e = cc
 
   -- the end that stands there is the one that the table says
-  pub served_in : (q k n m : ℕ) (i : Kept S D L B) (ins : List IslandInput) (outs : List OutputBoundary) (ws : List Way) → IsTable i (in_wires ins) (out_wires outs) ws → slice_get ws q ≡ Some (In k) → AllServed (Some q) n m i ins outs → (x : IslandInput) → slice_get ins k ≡ Some x → AllServed (Some (way_in i x.wire)) n m i ins outs
+  pub served_in : (q k n m : ℕ) (i : Kept S D L H B) (ins : List IslandInput) (outs : List OutputBoundary) (ws : List Way) → IsTable i (in_wires ins) (out_wires outs) ws → slice_get ws q ≡ Some (In k) → AllServed (Some q) n m i ins outs → (x : IslandInput) → slice_get ins k ≡ Some x → AllServed (Some (way_in i x.wire)) n m i ins outs
   served_in q k n m i ins outs ws t at s x e =
       let r = t.ins_right q k at in
       let same : x.wire ≡ r.0 = some_same x.wire r.0 (sym (map_at (λ (w : IslandInput). w.wire) ins k x e) ∙ r.1.0) in
       subst (λ (p : ℕ). AllServed (Some p) n m i ins outs) (sym (ap (λ (u : ℕ). way_in i u) same ∙ r.1.1)) s
 
-  pub served_out : (q k n m : ℕ) (i : Kept S D L B) (ins : List IslandInput) (outs : List OutputBoundary) (ws : List Way) → IsTable i (in_wires ins) (out_wires outs) ws → slice_get ws q ≡ Some (Out k) → AllServed (Some q) n m i ins outs → (o : OutputBoundary) → slice_get outs k ≡ Some o → AllServed (Some (way_out i o.wire)) n m i ins outs
+  pub served_out : (q k n m : ℕ) (i : Kept S D L H B) (ins : List IslandInput) (outs : List OutputBoundary) (ws : List Way) → IsTable i (in_wires ins) (out_wires outs) ws → slice_get ws q ≡ Some (Out k) → AllServed (Some q) n m i ins outs → (o : OutputBoundary) → slice_get outs k ≡ Some o → AllServed (Some (way_out i o.wire)) n m i ins outs
   served_out q k n m i ins outs ws t at s o e =
       let r = t.outs_right q k at in
       let same : o.wire ≡ r.0 = some_same o.wire r.0 (sym (map_at (λ (w : OutputBoundary). w.wire) outs k o e) ∙ r.1.0) in
       subst (λ (p : ℕ). AllServed (Some p) n m i ins outs) (sym (ap (λ (u : ℕ). way_out i u) same ∙ r.1.1)) s
 
   -- the place of an end's connection is that of its row in the table
-  pub place_in_table : (q k : ℕ) (i : Kept S D L B) (ins : List IslandInput) (outs : List OutputBoundary) (ws : List Way) → IsTable i (in_wires ins) (out_wires outs) ws → slice_get ws q ≡ Some (In k) → (x : IslandInput) → slice_get ins k ≡ Some x → q ≡ way_in i x.wire
+  pub place_in_table : (q k : ℕ) (i : Kept S D L H B) (ins : List IslandInput) (outs : List OutputBoundary) (ws : List Way) → IsTable i (in_wires ins) (out_wires outs) ws → slice_get ws q ≡ Some (In k) → (x : IslandInput) → slice_get ins k ≡ Some x → q ≡ way_in i x.wire
   place_in_table q k i ins outs ws t at x e =
       let r = t.ins_right q k at in
       let same : x.wire ≡ r.0 = some_same x.wire r.0 (sym (map_at (λ (w : IslandInput). w.wire) ins k x e) ∙ r.1.0) in
       sym (ap (λ (u : ℕ). way_in i u) same ∙ r.1.1)
 
-  pub place_out_table : (q k : ℕ) (i : Kept S D L B) (ins : List IslandInput) (outs : List OutputBoundary) (ws : List Way) → IsTable i (in_wires ins) (out_wires outs) ws → slice_get ws q ≡ Some (Out k) → (o : OutputBoundary) → slice_get outs k ≡ Some o → q ≡ way_out i o.wire
+  pub place_out_table : (q k : ℕ) (i : Kept S D L H B) (ins : List IslandInput) (outs : List OutputBoundary) (ws : List Way) → IsTable i (in_wires ins) (out_wires outs) ws → slice_get ws q ≡ Some (Out k) → (o : OutputBoundary) → slice_get outs k ≡ Some o → q ≡ way_out i o.wire
   place_out_table q k i ins outs ws t at o e =
       let r = t.outs_right q k at in
       let same : o.wire ≡ r.0 = some_same o.wire r.0 (sym (map_at (λ (w : OutputBoundary). w.wire) outs k o e) ∙ r.1.0) in
@@ -227,7 +227,7 @@ module _ {S D L B : Type 0} where
 
 -- ---- the island runs
 
-module _ {S D L B : Type 0} (sources : S → SourceState) (drains : D → DrainState) (book : Book) (old new : Kept S D L B) (ins : List IslandInput) (outs : List OutputBoundary) (before : Settled node_port_state (node_law sources drains book) node_asking node_moves old.net) (after : Settled node_port_state (node_law sources drains book) node_asking node_moves new.net)
+module _ {S D L H B : Type 0} (sources : S → SourceState) (drains : D → DrainState) (book : Book) (old new : Kept S D L H B) (ins : List IslandInput) (outs : List OutputBoundary) (before : Settled node_port_state (node_law sources drains book) node_asking node_moves old.net) (after : Settled node_port_state (node_law sources drains book) node_asking node_moves new.net)
     (g : IslandGoes old new) (gone : map node_gone new.net.nodes ≡ map node_gone old.net.nodes) (still : StandsStill node_passive old.net new.net) (s : AllStand old ins outs) where
   enters_goes : (u : ℕ) → Enters old u → Enters new u
   enters_goes u l = record {

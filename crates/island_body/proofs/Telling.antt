@@ -41,10 +41,10 @@ end_before xs ys k y e at = get_there xs k (subst (λ (n : ℕ). k < n) e (slice
 end_after : {A : Type 0} (xs ys : List A) (k : ℕ) (x : A) → length ys ≡ length xs → slice_get xs k ≡ Some x → (y : A) × (slice_get ys k ≡ Some y)
 end_after xs ys k x e at = get_there ys k (subst (λ (n : ℕ). k < n) (sym e) (slice_get_within xs k x at))
 
-module _ {S D L B : Type 0} where
+module _ {S D L H B : Type 0} where
   -- ---- no end tells less
 
-  tells_on : (a b c : Body S D L B) → TellsNoLess a b → TellsNoLess b c → TellsNoLess a c
+  tells_on : (a b c : Body S D L H B) → TellsNoLess a b → TellsNoLess b c → TellsNoLess a c
   tells_on a b c f g = record {
     ins_many = g.ins_many ∙ f.ins_many;
     outs_many = g.outs_many ∙ f.outs_many;
@@ -55,7 +55,7 @@ module _ {S D L B : Type 0} where
   }
 
   -- what was told before is told still
-  has_told_on : (a b c : Body S D L B) (w : ℕ) → TellsNoLess b c → HasTold a b w → HasTold a c w
+  has_told_on : (a b c : Body S D L H B) (w : ℕ) → TellsNoLess b c → HasTold a b w → HasTold a c w
   has_told_on a b c w g t = elim t [
     | inl i ↦ (let z = end_after b.ins.items c.ins.items i.place i.after g.ins_many i.after_at in inl (record {
       place = i.place;
@@ -79,7 +79,7 @@ module _ {S D L B : Type 0} where
 
   -- ---- the same ends
 
-  tells_same : (b c : Body S D L B) → c.ins ≡ b.ins → c.outs ≡ b.outs → c.peers.ins ≡ b.peers.ins → c.peers.outs ≡ b.peers.outs → TellsNoLess b c
+  tells_same : (b c : Body S D L H B) → c.ins ≡ b.ins → c.outs ≡ b.outs → c.peers.ins ≡ b.peers.ins → c.peers.outs ≡ b.peers.outs → TellsNoLess b c
   tells_same b c ins_is outs_is ip op = record {
     ins_many = ap (λ (v : Vec IslandInput _). length v.items) ins_is;
     outs_many = ap (λ (v : Vec OutputBoundary _). length v.items) outs_is;
@@ -90,7 +90,7 @@ module _ {S D L B : Type 0} where
   }
 
   -- an end that is as it was told what it had told
-  in_back : (a b c : Body S D L B) (w : ℕ) → c.ins ≡ b.ins → c.peers.ins ≡ b.peers.ins → ToldIn a c w → ToldIn a b w
+  in_back : (a b c : Body S D L H B) (w : ℕ) → c.ins ≡ b.ins → c.peers.ins ≡ b.peers.ins → ToldIn a c w → ToldIn a b w
   in_back a b c w ins_is ip t = record {
     place = t.place;
     before = t.before;
@@ -101,7 +101,7 @@ module _ {S D L B : Type 0} where
     told = t.told;
   }
 
-  out_back : (a b c : Body S D L B) (w : ℕ) → c.outs ≡ b.outs → c.peers.outs ≡ b.peers.outs → ToldOut a c w → ToldOut a b w
+  out_back : (a b c : Body S D L H B) (w : ℕ) → c.outs ≡ b.outs → c.peers.outs ≡ b.peers.outs → ToldOut a c w → ToldOut a b w
   out_back a b c w outs_is op t = record {
     place = t.place;
     before = t.before;
@@ -112,7 +112,7 @@ module _ {S D L B : Type 0} where
     told = t.told;
   }
 
-  pub wakes_same : (b c : Body S D L B) → c.ins ≡ b.ins → c.outs ≡ b.outs → c.peers ≡ b.peers → WakesOn b c
+  pub wakes_same : (b c : Body S D L H B) → c.ins ≡ b.ins → c.outs ≡ b.outs → c.peers ≡ b.peers → WakesOn b c
   wakes_same b c ins_is outs_is peers_is a w =
       let ip : c.peers.ins ≡ b.peers.ins = ap (λ (p : Peers). p.ins) peers_is in
       let op : c.peers.outs ≡ b.peers.outs = ap (λ (p : Peers). p.outs) peers_is in
@@ -125,14 +125,14 @@ module _ {S D L B : Type 0} where
         all = λ i t. rw q (w.all i (elim t [ inl x ↦ inl (in_back a b c i ins_is ip x) | inr o ↦ inr (out_back a b c i outs_is op o) ]));
       }
 
-  pub wakes_still : (b : Body S D L B) → WakesOn b b
+  pub wakes_still : (b : Body S D L H B) → WakesOn b b
   wakes_still b a w = w
 
-  pub wakes_on : (a b c : Body S D L B) → WakesOn a b → WakesOn b c → WakesOn a c
+  pub wakes_on : (a b c : Body S D L H B) → WakesOn a b → WakesOn b c → WakesOn a c
   wakes_on a b c f g first w = g first (f first w)
 
   -- a turn begins
-  pub wakes_none : (a b : Body S D L B) → b.ins ≡ a.ins → b.outs ≡ a.outs → b.peers.ins ≡ a.peers.ins → b.peers.outs ≡ a.peers.outs → b.peers.woken.queue ≡ [] → Wakes a b
+  pub wakes_none : (a b : Body S D L H B) → b.ins ≡ a.ins → b.outs ≡ a.outs → b.peers.ins ≡ a.peers.ins → b.peers.outs ≡ a.peers.outs → b.peers.woken.queue ≡ [] → Wakes a b
   wakes_none a b ins_is outs_is ip op none = record {
     tells = tells_same a b ins_is outs_is ip op;
     once = rw none tt;
@@ -146,7 +146,7 @@ module _ {S D L B : Type 0} where
   -- ---- one end acts
 
   -- the input end at place k told its other end something, or not
-  pub wakes_in : (b c : Body S D L B) (k : ℕ) (x y : IslandInput) (told : Bool) → slice_get b.ins.items k ≡ Some x → c.ins.items ≡ set b.ins.items k y → c.outs ≡ b.outs → c.peers.ins ≡ b.peers.ins → c.peers.outs ≡ b.peers.outs → Added b.peers.ins.items k told b.peers.woken.queue c.peers.woken.queue
+  pub wakes_in : (b c : Body S D L H B) (k : ℕ) (x y : IslandInput) (told : Bool) → slice_get b.ins.items k ≡ Some x → c.ins.items ≡ set b.ins.items k y → c.outs ≡ b.outs → c.peers.ins ≡ b.peers.ins → c.peers.outs ≡ b.peers.outs → Added b.peers.ins.items k told b.peers.woken.queue c.peers.woken.queue
       → TellsIn x y → (told ≡ true → IsToldBy x y) → (told ≡ false → (ask_calls y.boundary.lane ≡ ask_calls x.boundary.lane) × (has_cancelled y.boundary.lane ≡ has_cancelled x.boundary.lane)) → WakesOn b c
   wakes_in b c k x y told at ins_is outs_is ip op added more says quiet a w = record {
     tells = tells_on a b c w.tells g;
@@ -206,7 +206,7 @@ module _ {S D L B : Type 0} where
       })))
 
   -- the output end at place k sent something, or not
-  pub wakes_out : (b c : Body S D L B) (k : ℕ) (x y : OutputBoundary) (told : Bool) → slice_get b.outs.items k ≡ Some x → c.outs.items ≡ set b.outs.items k y → c.ins ≡ b.ins → c.peers.ins ≡ b.peers.ins → c.peers.outs ≡ b.peers.outs → Added b.peers.outs.items k told b.peers.woken.queue c.peers.woken.queue
+  pub wakes_out : (b c : Body S D L H B) (k : ℕ) (x y : OutputBoundary) (told : Bool) → slice_get b.outs.items k ≡ Some x → c.outs.items ≡ set b.outs.items k y → c.ins ≡ b.ins → c.peers.ins ≡ b.peers.ins → c.peers.outs ≡ b.peers.outs → Added b.peers.outs.items k told b.peers.woken.queue c.peers.woken.queue
       → (told ≡ true → IsSentBy x y) → (told ≡ false → sent y.lane ≡ sent x.lane) → WakesOn b c
   wakes_out b c k x y told at outs_is ins_is ip op added says quiet a w = record {
     tells = tells_on a b c w.tells g;
@@ -270,12 +270,12 @@ module _ {S D L B : Type 0} where
       })))
 
   -- one that only looked
-  pub wakes_looked_in : (b c : Body S D L B) (k : ℕ) (x y : IslandInput) → slice_get b.ins.items k ≡ Some x → c.ins.items ≡ set b.ins.items k y → c.outs ≡ b.outs → c.peers ≡ b.peers → ask_calls y.boundary.lane ≡ ask_calls x.boundary.lane → has_cancelled y.boundary.lane ≡ has_cancelled x.boundary.lane → WakesOn b c
+  pub wakes_looked_in : (b c : Body S D L H B) (k : ℕ) (x y : IslandInput) → slice_get b.ins.items k ≡ Some x → c.ins.items ≡ set b.ins.items k y → c.outs ≡ b.outs → c.peers ≡ b.peers → ask_calls y.boundary.lane ≡ ask_calls x.boundary.lane → has_cancelled y.boundary.lane ≡ has_cancelled x.boundary.lane → WakesOn b c
   wakes_looked_in b c k x y at ins_is outs_is peers_is e f =
       let q : c.peers.woken.queue ≡ b.peers.woken.queue = ap (λ (p : Peers). p.woken.queue) peers_is in
       wakes_in b c k x y false at ins_is outs_is (ap (λ (p : Peers). p.ins) peers_is) (ap (λ (p : Peers). p.outs) peers_is) (rw q (added_none b.peers.ins.items b.peers.woken.queue k false refl)) (record { asks_more = omega (arith, e); cancels = omega (arith, f) }) (λ t. cc) (λ t. (e, f))
 
-  pub wakes_looked_out : (b c : Body S D L B) (k : ℕ) (x y : OutputBoundary) → slice_get b.outs.items k ≡ Some x → c.outs.items ≡ set b.outs.items k y → c.ins ≡ b.ins → c.peers ≡ b.peers → sent y.lane ≡ sent x.lane → WakesOn b c
+  pub wakes_looked_out : (b c : Body S D L H B) (k : ℕ) (x y : OutputBoundary) → slice_get b.outs.items k ≡ Some x → c.outs.items ≡ set b.outs.items k y → c.ins ≡ b.ins → c.peers ≡ b.peers → sent y.lane ≡ sent x.lane → WakesOn b c
   wakes_looked_out b c k x y at outs_is ins_is peers_is e =
       let q : c.peers.woken.queue ≡ b.peers.woken.queue = ap (λ (p : Peers). p.woken.queue) peers_is in
       wakes_out b c k x y false at outs_is ins_is (ap (λ (p : Peers). p.ins) peers_is) (ap (λ (p : Peers). p.outs) peers_is) (rw q (added_none b.peers.outs.items b.peers.woken.queue k false refl)) (λ t. cc) (λ t. e)

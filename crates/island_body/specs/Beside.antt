@@ -8,26 +8,26 @@ use Rattle.fused_net.specs.Laws.{NetGoesOn}
 use Rattle.interpreter.specs.Island.{Kept}
 use Rattle.interpreter.specs.Boundary.{way_in, way_out}
 
-module _ {S D L B : Type 0} where
+module _ {S D L H B : Type 0} where
   -- the place of the stage at which the lane that is wire u goes out
-  abbrev pub out_node : Kept S D L B → ℕ → ℕ
+  abbrev pub out_node : Kept S D L H B → ℕ → ℕ
   out_node i u = (end_at i.net.ends (way_out i u)).to
 
   -- the place of the stage at which the lane that is wire u comes in
-  abbrev pub in_node : Kept S D L B → ℕ → ℕ
+  abbrev pub in_node : Kept S D L H B → ℕ → ℕ
   in_node i u = (end_at i.net.ends (way_in i u)).from
 
   -- what waits at a node to leave the island
-  abbrev pub waits_of : Option (IslandNode S D L B) → List Item
+  abbrev pub waits_of : Option (IslandNode S D L H B) → List Item
   waits_of None = []
   waits_of (Some x) = node_waits x
 
   -- and where the lane that is wire u goes out
-  abbrev pub waiting : Kept S D L B → ℕ → List Item
+  abbrev pub waiting : Kept S D L H B → ℕ → List Item
   waiting i u = waits_of (slice_get i.net.nodes (out_node i u))
 
   -- the island went on, and all its other connections than that at place q, and its other nodes than node n, are as they were
-  pub record Beside (q n : ℕ) (old new : Kept S D L B) : Type 0 where
+  pub record Beside (q n : ℕ) (old new : Kept S D L H B) : Type 0 where
     pub cells : (p : ℕ) → p ≢ q → wire_at new.net p ≡ wire_at old.net p
     pub nodes : (k : ℕ) → k ≢ n → slice_get new.net.nodes k ≡ slice_get old.net.nodes k
     pub on : NetGoesOn old.net new.net

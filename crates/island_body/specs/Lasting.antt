@@ -134,9 +134,9 @@ in_met_on x y z f g = record {
   keep_is = g.keep_is ∙ f.keep_is;
 }
 
-module _ {S D L B : Type 0} where
+module _ {S D L H B : Type 0} where
   -- what stands at an end stands while it only meets
-  feeds_met : (i : Kept S D L B) (x y : IslandInput) → InMet x y → Feeds x.boundary i x.wire → Feeds y.boundary i y.wire
+  feeds_met : (i : Kept S D L H B) (x y : IslandInput) → InMet x y → Feeds x.boundary i x.wire → Feeds y.boundary i y.wire
   feeds_met i x y m f = record {
     given_is = rw (m.wire, m.given_is) f.given_is;
     flowing = λ e. rw m.wire (f.flowing (sym m.state_is ∙ e));
@@ -144,17 +144,17 @@ module _ {S D L B : Type 0} where
     cancelled = λ e. rw m.wire (f.cancelled (sym m.state_is ∙ e));
   }
 
-  in_stands_met : (i : Kept S D L B) (x y : IslandInput) → InMet x y → InputEndStands i x → InputEndStands i y
+  in_stands_met : (i : Kept S D L H B) (x y : IslandInput) → InMet x y → InputEndStands i x → InputEndStands i y
   in_stands_met i x y m s = record { enters = rw m.wire s.enters; feeds = feeds_met i x y m s.feeds }
 
-  fed_met : (i : Kept S D L B) (x y : IslandInput) → InMet x y → IsFed x.boundary i x.wire → IsFed y.boundary i y.wire
+  fed_met : (i : Kept S D L H B) (x y : IslandInput) → InMet x y → IsFed x.boundary i x.wire → IsFed y.boundary i y.wire
   fed_met i x y m f = record {
     given_all = λ e. let g = f.given_all (rw m.wire at e) in rw (m.wire, m.given_is, m.lane.taken) g;
     no_end = λ e w. let g = f.no_end (sym m.state_is ∙ e) (sym m.waits_is ∙ w) in m.lane.taken ∙ g ∙ sym m.given_is;
     refused = λ e t. f.refused (rw m.wire at e) (sym m.state_is ∙ t);
   }
 
-  sends_met : (i : Kept S D L B) (o p : OutputBoundary) → OutMet o p → Sends o.lane i o.wire → Sends p.lane i p.wire
+  sends_met : (i : Kept S D L H B) (o p : OutputBoundary) → OutMet o p → Sends o.lane i o.wire → Sends p.lane i p.wire
   sends_met i o p m s = record {
     gone = rw m.wire (λ x at. s.gone x at ∙ sym m.lane.sent);
     wants = rw (m.wire, m.lane.seen) s.wants;
@@ -162,7 +162,7 @@ module _ {S D L B : Type 0} where
     ended = m.lane.ended ∙ s.ended ∙ ap has_end (sym m.lane.sent);
   }
 
-  serves_met : (i : Kept S D L B) (o p : OutputBoundary) → OutMet o p → Serves o.lane i o.wire → Serves p.lane i p.wire
+  serves_met : (i : Kept S D L H B) (o p : OutputBoundary) → OutMet o p → Serves o.lane i o.wire → Serves p.lane i p.wire
   serves_met i o p m s = record {
     part = rw (m.wire, m.lane.sent) s.part;
     wants = rw (m.wire, m.lane.seen) s.wants;
@@ -171,10 +171,10 @@ module _ {S D L B : Type 0} where
     left = λ e. m.lane.cancel ∙ s.left (rw m.wire at e);
   }
 
-  out_stands_met : (i : Kept S D L B) (o p : OutputBoundary) → OutMet o p → OutputEndStands i o → OutputEndStands i p
+  out_stands_met : (i : Kept S D L H B) (o p : OutputBoundary) → OutMet o p → OutputEndStands i o → OutputEndStands i p
   out_stands_met i o p m s = record { leaves = rw m.wire s.leaves; serves = serves_met i o p m s.serves; only = rw m.wire s.only }
 
-  served_met : (i : Kept S D L B) (o p : OutputBoundary) → OutMet o p → IsServed o.lane i o.wire → IsServed p.lane i p.wire
+  served_met : (i : Kept S D L H B) (o p : OutputBoundary) → OutMet o p → IsServed o.lane i o.wire → IsServed p.lane i p.wire
   served_met i o p m s = record {
     sent_all = λ e. rw m.wire (s.sent_all (sym m.lane.cancel ∙ e));
     used = λ e f. elim (s.used (sym m.lane.cancel ∙ e) (rw m.wire at f)) [
@@ -186,7 +186,7 @@ module _ {S D L B : Type 0} where
   -- ---- bodies that only meet
 
   -- a body that does nothing is one that only met
-  pub only_still : (b : Body S D L B) → OnlyMet b b
+  pub only_still : (b : Body S D L H B) → OnlyMet b b
   only_still b = record {
     island = refl;
     ways = refl;
@@ -199,7 +199,7 @@ module _ {S D L B : Type 0} where
   }
 
   -- a body that only met, and then only met again, only met
-  pub only_on : (a b c : Body S D L B) → OnlyMet a b → OnlyMet b c → OnlyMet a c
+  pub only_on : (a b c : Body S D L H B) → OnlyMet a b → OnlyMet b c → OnlyMet a c
   only_on a b c f g = record {
     island = g.island ∙ f.island;
     ways = g.ways ∙ f.ways;
@@ -213,7 +213,7 @@ module _ {S D L B : Type 0} where
         in in_met_on x m.0 y (f.ins_met k x m.0 ex m.1) (g.ins_met k m.0 y m.1 ey);
   }
 
-  lanes_met : (a c : Body S D L B) → OnlyMet a c → SameLanes a.ins.items c.ins.items a.outs.items c.outs.items
+  lanes_met : (a c : Body S D L H B) → OnlyMet a c → SameLanes a.ins.items c.ins.items a.outs.items c.outs.items
   lanes_met a c m = record {
     ins_wires = maps_same (λ (x : IslandInput). x.wire) a.ins.items c.ins.items m.ins_count (λ k x y ex ey. (m.ins_met k x y ex ey).wire);
     outs_wires = maps_same (λ (o : OutputBoundary). o.wire) a.outs.items c.outs.items m.outs_count (λ k x y ex ey. (m.outs_met k x y ex ey).wire);
@@ -221,26 +221,26 @@ module _ {S D L B : Type 0} where
     outs_same = λ k x y ex ey. (m.outs_met k x y ex ey).lane.same;
   }
 
-  island_still : (i k : Kept S D L B) → k ≡ i → IslandGoes i k
+  island_still : (i k : Kept S D L H B) → k ≡ i → IslandGoes i k
   island_still i k e = record {
     on = record {
-      firsts = ap (λ (z : Kept S D L B). z.net.firsts) e;
-      ends = ap (λ (z : Kept S D L B). z.net.ends) e;
-      ports = ap (λ (z : Kept S D L B). z.net.ports) e;
-      nodes = ap (λ (z : Kept S D L B). length z.net.nodes) e;
-      wires = ap (λ (z : Kept S D L B). length z.net.wires) e;
+      firsts = ap (λ (z : Kept S D L H B). z.net.firsts) e;
+      ends = ap (λ (z : Kept S D L H B). z.net.ends) e;
+      ports = ap (λ (z : Kept S D L H B). z.net.ports) e;
+      nodes = ap (λ (z : Kept S D L H B). length z.net.nodes) e;
+      wires = ap (λ (z : Kept S D L H B). length z.net.wires) e;
     };
-    ins = ap (λ (z : Kept S D L B). z.ins) e;
-    outs = ap (λ (z : Kept S D L B). z.outs) e;
-    numbers = ap (λ (z : Kept S D L B). z.numbers) e;
-    places = ap (λ (z : Kept S D L B). z.places) e;
+    ins = ap (λ (z : Kept S D L H B). z.ins) e;
+    outs = ap (λ (z : Kept S D L H B). z.outs) e;
+    numbers = ap (λ (z : Kept S D L H B). z.numbers) e;
+    places = ap (λ (z : Kept S D L H B). z.places) e;
   }
 
   -- a body that only met went on
-  pub goes_met : (a c : Body S D L B) → OnlyMet a c → BodyGoes a c
+  pub goes_met : (a c : Body S D L H B) → OnlyMet a c → BodyGoes a c
   goes_met a c m = record { island = island_still a.island c.island m.island; lanes = lanes_met a c m; ways = m.ways }
 
-  stand_met : (a c : Body S D L B) (i : Kept S D L B) → OnlyMet a c → AllStand i a.ins.items a.outs.items → AllStand i c.ins.items c.outs.items
+  stand_met : (a c : Body S D L H B) (i : Kept S D L H B) → OnlyMet a c → AllStand i a.ins.items a.outs.items → AllStand i c.ins.items c.outs.items
   stand_met a c i m s = record {
     ins_stand = λ k y e. let x = there_before a.ins.items c.ins.items k y m.ins_count e
         in in_stands_met i x.0 y (m.ins_met k x.0 y x.1 e) (s.ins_stand k x.0 x.1);
@@ -248,7 +248,7 @@ module _ {S D L B : Type 0} where
         in out_stands_met i o.0 p (m.outs_met k o.0 p o.1 e) (s.outs_stand k o.0 o.1);
   }
 
-  done_met : (a c : Body S D L B) (i : Kept S D L B) → OnlyMet a c → AllDone i a.ins.items a.outs.items → AllDone i c.ins.items c.outs.items
+  done_met : (a c : Body S D L H B) (i : Kept S D L H B) → OnlyMet a c → AllDone i a.ins.items a.outs.items → AllDone i c.ins.items c.outs.items
   done_met a c i m s = record {
     ins_fed = λ k y h e none. let x = there_before a.ins.items c.ins.items k y m.ins_count e
         in fed_met i x.0 y (m.ins_met k x.0 y x.1 e) (s.ins_fed k x.0 (subst (λ (n : ℕ). k < n) m.ins_count h) x.1 tt);
@@ -257,7 +257,7 @@ module _ {S D L B : Type 0} where
   }
 
   -- a body that only met keeps what a body keeps
-  pub keeps_met : (sources : S → SourceState) (drains : D → DrainState) (book : Book) (a c : Body S D L B) → OnlyMet a c → BodyKeeps sources drains book a
+  pub keeps_met : (sources : S → SourceState) (drains : D → DrainState) (book : Book) (a c : Body S D L H B) → OnlyMet a c → BodyKeeps sources drains book a
       → BodyKeeps sources drains book c
   keeps_met sources drains book a c m k =
       let lanes = lanes_met a c m in
@@ -280,20 +280,20 @@ module _ {S D L B : Type 0} where
       }
 
   -- a body that only met has an event pending where it had one
-  pub pending_met : (a b : Body S D L B) → OnlyMet a b → is_pending b ≡ is_pending a
-  pending_met a b m = ap (λ (i : Kept S D L B). is_pending_in i) m.island
+  pub pending_met : (a b : Body S D L H B) → OnlyMet a b → is_pending b ≡ is_pending a
+  pending_met a b m = ap (λ (i : Kept S D L H B). is_pending_in i) m.island
     where
-      is_pending_in : Kept S D L B → Bool
+      is_pending_in : Kept S D L H B → Bool
       is_pending_in i = Rattle.island_body.specs.Keeping.has_some i.net.queue
 
   -- ---- bodies that go on
 
   -- a body that does nothing went on
-  pub goes_still : (b : Body S D L B) → BodyGoes b b
+  pub goes_still : (b : Body S D L H B) → BodyGoes b b
   goes_still b = goes_met b b (only_still b)
 
   -- a body that went on, and then went on from there, went on
-  pub goes_on : (a b c : Body S D L B) → BodyGoes a b → BodyGoes b c → BodyGoes a c
+  pub goes_on : (a b c : Body S D L H B) → BodyGoes a b → BodyGoes b c → BodyGoes a c
   goes_on a b c f g = record {
     island = record {
       on = record {
@@ -313,12 +313,12 @@ module _ {S D L B : Type 0} where
   }
 
   -- two bodies that met both went on and only met, and their ends are joined
-  pub meets_tells : (a b c d : Body S D L B) (o i : ℕ) (w : Waits) → BodiesMeet a o b i c d w
+  pub meets_tells : (a b c d : Body S D L H B) (o i : ℕ) (w : Waits) → BodiesMeet a o b i c d w
       → (BodyGoes a c) × (OnlyMet a c) × (BodyGoes b d) × (OnlyMet b d) × (BodiesJoined c o d i w)
   meets_tells a b c d o i w m = (goes_met a c m.from_met, m.from_met, goes_met b d m.to_met, m.to_met, m.joined)
 
   -- what is known of two ends stands while they only meet
-  pub joined_out : (a b c : Body S D L B) (o i : ℕ) (w : Waits) → OnlyMet a c → BodiesJoined a o b i w → BodiesJoined c o b i w
+  pub joined_out : (a b c : Body S D L H B) (o i : ℕ) (w : Waits) → OnlyMet a c → BodiesJoined a o b i w → BodiesJoined c o b i w
   joined_out a b c o i w m j = record {
     history = λ p x ep ex. let q = there_before a.outs.items c.outs.items o p m.outs_count ep
         in history_stands q.0.lane p.lane x.boundary.lane x.boundary.lane (m.outs_met o q.0 p q.1 ep).lane (in_kept x.boundary.lane) (j.history q.0 x q.1 ex);
@@ -327,7 +327,7 @@ module _ {S D L B : Type 0} where
   }
 
   -- what is known of two ends stands while the body of the input end only meets
-  pub joined_in : (a b d : Body S D L B) (o i : ℕ) (w : Waits) → OnlyMet b d → BodiesJoined a o b i w → BodiesJoined a o d i w
+  pub joined_in : (a b d : Body S D L H B) (o i : ℕ) (w : Waits) → OnlyMet b d → BodiesJoined a o b i w → BodiesJoined a o d i w
   joined_in a b d o i w m j = record {
     history = λ p x ep ex. let y = there_before b.ins.items d.ins.items i x m.ins_count ex
         in history_stands p.lane p.lane y.0.boundary.lane x.boundary.lane (out_kept p.lane) (m.ins_met i y.0 x y.1 ex).lane (j.history p y.0 ep y.1);
@@ -336,7 +336,7 @@ module _ {S D L B : Type 0} where
   }
 
   -- two ends may meet whatever became of their bodies
-  may_lanes_out : (a b c : Body S D L B) (o i : ℕ) → SameLanes a.ins.items c.ins.items a.outs.items c.outs.items → BodiesMayMeet a o b i → BodiesMayMeet c o b i
+  may_lanes_out : (a b c : Body S D L H B) (o i : ℕ) → SameLanes a.ins.items c.ins.items a.outs.items c.outs.items → BodiesMayMeet a o b i → BodiesMayMeet c o b i
   may_lanes_out a b c o i l m =
       let count : length c.outs.items ≡ length a.outs.items = map_count (λ (w : OutputBoundary). w.wire) a.outs.items c.outs.items l.outs_wires in
       record {
@@ -345,7 +345,7 @@ module _ {S D L B : Type 0} where
         one = λ p x ep ex. let q = there_before a.outs.items c.outs.items o p count ep in (l.outs_same o q.0 p q.1 ep).0 ∙ m.one q.0 x q.1 ex;
       }
 
-  may_lanes_in : (a b d : Body S D L B) (o i : ℕ) → SameLanes b.ins.items d.ins.items b.outs.items d.outs.items → BodiesMayMeet a o b i → BodiesMayMeet a o d i
+  may_lanes_in : (a b d : Body S D L H B) (o i : ℕ) → SameLanes b.ins.items d.ins.items b.outs.items d.outs.items → BodiesMayMeet a o b i → BodiesMayMeet a o d i
   may_lanes_in a b d o i l m =
       let count : length d.ins.items ≡ length b.ins.items = map_count (λ (w : IslandInput). w.wire) b.ins.items d.ins.items l.ins_wires in
       record {
@@ -355,30 +355,30 @@ module _ {S D L B : Type 0} where
       }
 
   -- two ends may meet whatever became of the body of the output end, where that went on
-  pub may_goes_out : (a b c : Body S D L B) (o i : ℕ) → BodyGoes a c → BodiesMayMeet a o b i → BodiesMayMeet c o b i
+  pub may_goes_out : (a b c : Body S D L H B) (o i : ℕ) → BodyGoes a c → BodiesMayMeet a o b i → BodiesMayMeet c o b i
   may_goes_out a b c o i g m = may_lanes_out a b c o i g.lanes m
 
   -- two ends may meet whatever became of the body of the input end, where that went on
-  pub may_goes_in : (a b d : Body S D L B) (o i : ℕ) → BodyGoes b d → BodiesMayMeet a o b i → BodiesMayMeet a o d i
+  pub may_goes_in : (a b d : Body S D L H B) (o i : ℕ) → BodyGoes b d → BodiesMayMeet a o b i → BodiesMayMeet a o d i
   may_goes_in a b d o i g m = may_lanes_in a b d o i g.lanes m
 
   -- two ends may meet as before, where the body of the output end only met
-  pub may_stands_out : (a b c : Body S D L B) (o i : ℕ) → OnlyMet a c → BodiesMayMeet a o b i → BodiesMayMeet c o b i
+  pub may_stands_out : (a b c : Body S D L H B) (o i : ℕ) → OnlyMet a c → BodiesMayMeet a o b i → BodiesMayMeet c o b i
   may_stands_out a b c o i g m = may_lanes_out a b c o i (lanes_met a c g) m
 
   -- two ends may meet as before, where the body of the input end only met
-  pub may_stands_in : (a b d : Body S D L B) (o i : ℕ) → OnlyMet b d → BodiesMayMeet a o b i → BodiesMayMeet a o d i
+  pub may_stands_in : (a b d : Body S D L H B) (o i : ℕ) → OnlyMet b d → BodiesMayMeet a o b i → BodiesMayMeet a o d i
   may_stands_in a b d o i g m = may_lanes_in a b d o i (lanes_met b d g) m
 
   module _ (sources : S → SourceState) (drains : D → DrainState) (book : Book) where
-    pub may_breaks_out : (a b c : Body S D L B) (o i : ℕ) → BodyBreaks sources drains book a c → BodiesMayMeet a o b i → BodiesMayMeet c o b i
+    pub may_breaks_out : (a b c : Body S D L H B) (o i : ℕ) → BodyBreaks sources drains book a c → BodiesMayMeet a o b i → BodiesMayMeet c o b i
     may_breaks_out a b c o i g m = may_lanes_out a b c o i g.lanes m
 
-    pub may_breaks_in : (a b d : Body S D L B) (o i : ℕ) → BodyBreaks sources drains book b d → BodiesMayMeet a o b i → BodiesMayMeet a o d i
+    pub may_breaks_in : (a b d : Body S D L H B) (o i : ℕ) → BodyBreaks sources drains book b d → BodiesMayMeet a o b i → BodiesMayMeet a o d i
     may_breaks_in a b d o i g m = may_lanes_in a b d o i g.lanes m
 
     -- a body that broke off, and met behind it
-    pub breaks_met : (a b c : Body S D L B) → BodyBreaks sources drains book a b → OnlyMet b c → BodyBreaks sources drains book a c
+    pub breaks_met : (a b c : Body S D L H B) → BodyBreaks sources drains book a b → OnlyMet b c → BodyBreaks sources drains book a c
     breaks_met a b c k m = record {
       last = k.last;
       island = k.island;
@@ -389,7 +389,7 @@ module _ {S D L B : Type 0} where
     }
 
     -- one that went on, and then broke off
-    pub goes_breaks : (a b c : Body S D L B) → BodyGoes a b → BodyBreaks sources drains book b c → BodyBreaks sources drains book a c
+    pub goes_breaks : (a b c : Body S D L H B) → BodyGoes a b → BodyBreaks sources drains book b c → BodyBreaks sources drains book a c
     goes_breaks a b c g k = record {
       last = k.last;
       island = record {

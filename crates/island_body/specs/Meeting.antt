@@ -23,9 +23,9 @@ pub record InMet (x y : IslandInput) : Type 0 where
   pub state_is : state y.boundary ≡ state x.boundary
   pub keep_is : keeps_all y.boundary ≡ keeps_all x.boundary
 
-module _ {S D L B : Type 0} where
+module _ {S D L H B : Type 0} where
   -- a body that only met
-  pub record OnlyMet (old new : Body S D L B) : Type 0 where
+  pub record OnlyMet (old new : Body S D L H B) : Type 0 where
     pub island : new.island ≡ old.island
     pub ways : new.ways ≡ old.ways
     pub spent : new.spent ≡ old.spent
@@ -36,21 +36,21 @@ module _ {S D L B : Type 0} where
     pub ins_met : (k : ℕ) (x y : IslandInput) → slice_get old.ins.items k ≡ Some x → slice_get new.ins.items k ≡ Some y → InMet x y
 
   -- the two ends are there, and are of one lane
-  pub record BodiesMayMeet (from : Body S D L B) (out : ℕ) (to : Body S D L B) (inp : ℕ) : Type 0 where
+  pub record BodiesMayMeet (from : Body S D L H B) (out : ℕ) (to : Body S D L H B) (inp : ℕ) : Type 0 where
     pub out_there : out < length from.outs.items
     pub inp_there : inp < length to.ins.items
     pub one : (o : OutputBoundary) (x : IslandInput) → slice_get from.outs.items out ≡ Some o → slice_get to.ins.items inp ≡ Some x
         → AreOneLane o.lane x.boundary.lane
 
   -- they were brought together: what is known of both lists and numbers, and what waits at each
-  pub record BodiesJoined (from : Body S D L B) (out : ℕ) (to : Body S D L B) (inp : ℕ) (w : Waits) : Type 0 where
+  pub record BodiesJoined (from : Body S D L H B) (out : ℕ) (to : Body S D L H B) (inp : ℕ) (w : Waits) : Type 0 where
     pub history : (o : OutputBoundary) (x : IslandInput) → slice_get from.outs.items out ≡ Some o → slice_get to.ins.items inp ≡ Some x
         → IsLaneHistory o.lane x.boundary.lane
     pub waits_are : (o : OutputBoundary) (x : IslandInput) → slice_get from.outs.items out ≡ Some o → slice_get to.ins.items inp ≡ Some x
         → WaitsAre o.lane x.boundary.lane w
 
   -- This meeting did it: each end was told what the other did, and nothing else changed.
-  pub record BodiesMeet (from : Body S D L B) (out : ℕ) (to : Body S D L B) (inp : ℕ) (from' to' : Body S D L B) (w : Waits) : Type 0 where
+  pub record BodiesMeet (from : Body S D L H B) (out : ℕ) (to : Body S D L H B) (inp : ℕ) (from' to' : Body S D L H B) (w : Waits) : Type 0 where
     pub from_met : OnlyMet from from'
     pub to_met : OnlyMet to to'
     pub joined : BodiesJoined from' out to' inp w

@@ -49,55 +49,55 @@ pub record KeepsSeen (o p : OutputBoundary) : Type 0 where
   pub seen_is : seen_count p.lane ≡ seen_count o.lane
   pub cancel_is : saw_cancel p.lane ≡ saw_cancel o.lane
 
-module _ {S D L B : Type 0} where
+module _ {S D L H B : Type 0} where
   -- looks at its first input ends, as many as n, found nothing, and nothing else changed
-  pub record TookNoneBelow (old new : Body S D L B) (n : ℕ) : Type 0 where
+  pub record TookNoneBelow (old new : Body S D L H B) (n : ℕ) : Type 0 where
     pub island : new.island ≡ old.island
     pub outs : new.outs ≡ old.outs
     pub below : (k : ℕ) (x y : IslandInput) → k < n → slice_get old.ins.items k ≡ Some x → slice_get new.ins.items k ≡ Some y → TookNone x y
     pub above : (k : ℕ) → n ≤ k → slice_get new.ins.items k ≡ slice_get old.ins.items k
 
   -- the same of that at place k alone
-  pub record TookNoneAt (old new : Body S D L B) (k : ℕ) : Type 0 where
+  pub record TookNoneAt (old new : Body S D L H B) (k : ℕ) : Type 0 where
     pub island : new.island ≡ old.island
     pub outs : new.outs ≡ old.outs
     pub here : (x y : IslandInput) → slice_get old.ins.items k ≡ Some x → slice_get new.ins.items k ≡ Some y → TookNone x y
     pub others : (j : ℕ) → j ≢ k → slice_get new.ins.items j ≡ slice_get old.ins.items j
 
   -- looks at its first output ends, as many as n, found nothing, and nothing else changed
-  pub record FoundNoneBelow (old new : Body S D L B) (n : ℕ) : Type 0 where
+  pub record FoundNoneBelow (old new : Body S D L H B) (n : ℕ) : Type 0 where
     pub island : new.island ≡ old.island
     pub ins : new.ins ≡ old.ins
     pub below : (k : ℕ) (o p : OutputBoundary) → k < n → slice_get old.outs.items k ≡ Some o → slice_get new.outs.items k ≡ Some p → FoundNone o p
     pub above : (k : ℕ) → n ≤ k → slice_get new.outs.items k ≡ slice_get old.outs.items k
 
   -- the output end at place k found nothing, and no other end was touched
-  pub record FoundNoneAt (old new : Body S D L B) (k : ℕ) : Type 0 where
+  pub record FoundNoneAt (old new : Body S D L H B) (k : ℕ) : Type 0 where
     pub island : new.island ≡ old.island
     pub ins : new.ins ≡ old.ins
     pub here : (o p : OutputBoundary) → slice_get old.outs.items k ≡ Some o → slice_get new.outs.items k ≡ Some p → FoundNone o p
     pub others : (j : ℕ) → j ≢ k → slice_get new.outs.items j ≡ slice_get old.outs.items j
 
   -- the input end at place k looked and acted, and no other end
-  pub record OnlyIn (old new : Body S D L B) (k : ℕ) : Type 0 where
+  pub record OnlyIn (old new : Body S D L H B) (k : ℕ) : Type 0 where
     pub outs : new.outs ≡ old.outs
     pub told : (x y : IslandInput) → slice_get old.ins.items k ≡ Some x → slice_get new.ins.items k ≡ Some y
         → told_sent y.boundary.lane ≡ told_sent x.boundary.lane
     pub others : (j : ℕ) → j ≢ k → slice_get new.ins.items j ≡ slice_get old.ins.items j
 
   -- the same of the output end
-  pub record OnlyOut (old new : Body S D L B) (k : ℕ) : Type 0 where
+  pub record OnlyOut (old new : Body S D L H B) (k : ℕ) : Type 0 where
     pub ins : new.ins ≡ old.ins
     pub others : (j : ℕ) → j ≢ k → slice_get new.outs.items j ≡ slice_get old.outs.items j
 
   -- what was found at its ends stands
-  pub record KeepsLooks (old new : Body S D L B) : Type 0 where
+  pub record KeepsLooks (old new : Body S D L H B) : Type 0 where
     pub ins : (k : ℕ) (x y : IslandInput) → slice_get old.ins.items k ≡ Some x → slice_get new.ins.items k ≡ Some y → KeepsFound x y
     pub outs : (k : ℕ) (o p : OutputBoundary) → slice_get old.outs.items k ≡ Some o → slice_get new.outs.items k ≡ Some p → KeepsSeen o p
 
   -- A turn that ended before its limit: no event is in the ring of its island, at its last look at each lane nothing was left to take
   -- and all was seen, and what it found there is handled: no end of a lane has anything to do.
-  pub record HasLooked (old new : Body S D L B) : Type 0 where
+  pub record HasLooked (old new : Body S D L H B) : Type 0 where
     pub ring : new.island.net.queue ≡ []
     pub ins : (k : ℕ) → LeftNoneAt old.ins.items new.ins.items k
     pub outs : (k : ℕ) → SawAllAt old.outs.items new.outs.items k

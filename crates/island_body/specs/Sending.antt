@@ -23,7 +23,7 @@ has_end (item.Failed c ∷ l) = true
 
 -- An output end that has seen no cancel, at the connection where its lane goes out: all that left the island there was sent,
 -- and no more was asked there than the end has seen asked.
-pub record Sends {S D L B : Type 0} (o : LaneOut) (i : Kept S D L B) (u : ℕ) : Type 0 where
+pub record Sends {S D L H B : Type 0} (o : LaneOut) (i : Kept S D L H B) (u : ℕ) : Type 0 where
   pub gone : AtNode i.net (end_at i.net.ends (way_out i u)).to (λ x. node_gone x ≡ sent o)
   pub wants : wanted (cell_out i u) ≤ seen_count o
   pub live : saw_cancel o ≡ 0

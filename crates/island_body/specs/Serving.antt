@@ -12,14 +12,14 @@ use Rattle.interpreter.specs.Boundary.{cell_out}
 use Rattle.island_body.specs.Sending.{Sends}
 use Rattle.island_body.specs.Beside.{waiting}
 
-module _ {S D L B : Type 0} where
+module _ {S D L H B : Type 0} where
   -- the stage there asks for nothing: all demand that was seen is used, or its connection was completed and the end is on its way
-  abbrev pub MayNotAsk : LaneOut → Kept S D L B → ℕ → Type 0
+  abbrev pub MayNotAsk : LaneOut → Kept S D L H B → ℕ → Type 0
   MayNotAsk o i u = (cell_out i u).wire.inp ≡ Idle → (seen_count o ≤ elements (sent o)) ⊎ ((cell_out i u).wire.conn.out_closed ≡ true)
 
   -- What was sent is a first part of what came; no more was asked than was seen asked. One that has seen no cancel has sent all that
   -- left the island there; one that has seen it has closed its connection, which none other cancels.
-  pub record Serves (o : LaneOut) (i : Kept S D L B) (u : ℕ) : Type 0 where
+  pub record Serves (o : LaneOut) (i : Kept S D L H B) (u : ℕ) : Type 0 where
     pub part : IsPrefix (sent o) (cell_out i u).wire.got
     pub wants : wanted (cell_out i u) ≤ seen_count o
     pub live : saw_cancel o ≡ 0 → Sends o i u
@@ -27,6 +27,6 @@ module _ {S D L B : Type 0} where
     pub left : (cell_out i u).wire.inp ≡ Cancelled → saw_cancel o ≡ 1
 
   -- nothing waits to be sent, and nothing more may be asked for
-  pub record IsServed (o : LaneOut) (i : Kept S D L B) (u : ℕ) : Type 0 where
+  pub record IsServed (o : LaneOut) (i : Kept S D L H B) (u : ℕ) : Type 0 where
     pub sent_all : saw_cancel o ≡ 0 → waiting i u ≡ []
     pub used : saw_cancel o ≡ 0 → MayNotAsk o i u

@@ -23,9 +23,9 @@ IsToldBy x y = (ask_calls x.boundary.lane < ask_calls y.boundary.lane) ⊎ (has_
 abbrev pub IsSentBy : OutputBoundary → OutputBoundary → Type 0
 IsSentBy o p = length (sent o.lane) < length (sent p.lane)
 
-module _ {S D L B : Type 0} where
+module _ {S D L H B : Type 0} where
   -- no end has told its other end less than before, and the islands there are the same
-  pub record TellsNoLess (old new : Body S D L B) : Type 0 where
+  pub record TellsNoLess (old new : Body S D L H B) : Type 0 where
     pub ins_many : length new.ins.items ≡ length old.ins.items
     pub outs_many : length new.outs.items ≡ length old.outs.items
     pub ins : (k : ℕ) (x y : IslandInput) → slice_get old.ins.items k ≡ Some x → slice_get new.ins.items k ≡ Some y → TellsIn x y
@@ -34,7 +34,7 @@ module _ {S D L B : Type 0} where
     pub out_peers : new.peers.outs ≡ old.peers.outs
 
   -- an input end at whose other end this island is asked for more or cancelled
-  pub record ToldIn (old new : Body S D L B) (island : ℕ) : Type 0 where
+  pub record ToldIn (old new : Body S D L H B) (island : ℕ) : Type 0 where
     pub place : ℕ
     pub before : IslandInput
     pub after : IslandInput
@@ -44,7 +44,7 @@ module _ {S D L B : Type 0} where
     pub told : IsToldBy before after
 
   -- an output end at whose other end this island is sent something
-  pub record ToldOut (old new : Body S D L B) (island : ℕ) : Type 0 where
+  pub record ToldOut (old new : Body S D L H B) (island : ℕ) : Type 0 where
     pub place : ℕ
     pub before : OutputBoundary
     pub after : OutputBoundary
@@ -54,16 +54,16 @@ module _ {S D L B : Type 0} where
     pub told : IsSentBy before after
 
   -- one of its ends told that island something
-  abbrev pub HasTold : Body S D L B → Body S D L B → ℕ → Type 0
+  abbrev pub HasTold : Body S D L H B → Body S D L H B → ℕ → Type 0
   HasTold old new island = ToldIn old new island ⊎ ToldOut old new island
 
   -- the islands that are to be woken are those which were told something since, each once
-  pub record Wakes (old new : Body S D L B) : Type 0 where
+  pub record Wakes (old new : Body S D L H B) : Type 0 where
     pub tells : TellsNoLess old new
     pub once : Distinct new.peers.woken.queue
     pub each : (island : ℕ) → is_queued new.peers.woken.queue island ≡ true → HasTold old new island
     pub all : (island : ℕ) → HasTold old new island → is_queued new.peers.woken.queue island ≡ true
 
   -- whatever was told since some moment before, the islands that are to be woken for it are those still
-  abbrev pub WakesOn : Body S D L B → Body S D L B → Type 0
-  WakesOn old new = (first : Body S D L B) → Wakes first old → Wakes first new
+  abbrev pub WakesOn : Body S D L H B → Body S D L H B → Type 0
+  WakesOn old new = (first : Body S D L H B) → Wakes first old → Wakes first new

@@ -127,9 +127,9 @@ demand_found p q i w history told_is waits demand none = by_cancel (saw_cancel p
         let all = history.closed one in
         elim (waits.1.0 demand) [ inl d ↦ omega (arith, d, all) | inr d ↦ omega (arith, d, one, once) ]
 
-module _ {S D L B : Type 0} where
+module _ {S D L H B : Type 0} where
   -- an item that waits is taken by the next turn
-  pub idle_item : (a b c d e : Body S D L B) (o i : ℕ) (w : Waits) → BodiesMayMeet a o b i → BodiesMeet a o b i c d w → IsTrue w.item → BodyGoes d e
+  pub idle_item : (a b c d e : Body S D L H B) (o i : ℕ) (w : Waits) → BodiesMayMeet a o b i → BodiesMeet a o b i c d w → IsTrue w.item → BodyGoes d e
       → IsIdle d e → ⊥
   idle_item a b c d e o i w may m item g idle =
       let p = get_there c.outs.items o (subst (λ (n : ℕ). o < n) (sym m.from_met.outs_count) may.out_there) in
@@ -139,7 +139,7 @@ module _ {S D L B : Type 0} where
       (idle.ins i x.0 y.0 x.1 y.1)
 
   -- and demand that waits is found by it, or a cancel
-  pub idle_demand : (a b c d e : Body S D L B) (o i : ℕ) (w : Waits) → BodiesMayMeet a o b i → BodiesMeet a o b i c d w → IsTrue w.demand → BodyGoes c e
+  pub idle_demand : (a b c d e : Body S D L H B) (o i : ℕ) (w : Waits) → BodiesMayMeet a o b i → BodiesMeet a o b i c d w → IsTrue w.demand → BodyGoes c e
       → IsIdle c e → ⊥
   idle_demand a b c d e o i w may m demand g idle =
       let p = get_there c.outs.items o (subst (λ (n : ℕ). o < n) (sym m.from_met.outs_count) may.out_there) in
@@ -149,5 +149,5 @@ module _ {S D L B : Type 0} where
       (idle.outs o p.0 q.0 p.1 q.1)
 
   -- an event that is pending is handled by it
-  pub idle_event : (a b : Body S D L B) → is_pending a ≡ true → IsIdle a b → ⊥
+  pub idle_event : (a b : Body S D L H B) → is_pending a ≡ true → IsIdle a b → ⊥
   idle_event a b pending idle = let e : is_pending a ≡ false = ap has_some idle.queue in cc

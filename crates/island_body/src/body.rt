@@ -27,6 +27,7 @@ use crate::table::mark;
 use crate::way::Way;
 use elem_core::why::NoMemory;
 use fused_net::engine::Advance;
+use graph_stage::handlers::Handlers;
 use interpreter::island::{Island, IslandEnd};
 use plug_logic::book::PlugBook;
 use plug_logic::logic::Logic;
@@ -34,8 +35,8 @@ use std::alloc::{AllocError, Global};
 use stream_io::outside::{Drain, Source};
 
 /// An island with the ends of its lanes. Rule: Akka Streams 2.6 reference, chapter on asynchronous boundaries.
-pub struct Body<S: Source, D: Drain, L: Logic, B: PlugBook> {
-    pub(crate) island: Island<S, D, L, B>,
+pub struct Body<S: Source, D: Drain, L: Logic, H: Handlers, B: PlugBook> {
+    pub(crate) island: Island<S, D, L, H, B>,
     // Those that take, and those that send, each in the order of their wires.
     pub(crate) ins: Vec<IslandInput>,
     pub(crate) outs: Vec<OutputBoundary>,
@@ -48,7 +49,7 @@ pub struct Body<S: Source, D: Drain, L: Logic, B: PlugBook> {
 }
 
 // Dropped by a call, wherever it is dropped: else each crate above proves the drop of each of its parts again.
-impl<S: Source, D: Drain, L: Logic, B: PlugBook> Drop for Body<S, D, L, B> {
+impl<S: Source, D: Drain, L: Logic, H: Handlers, B: PlugBook> Drop for Body<S, D, L, H, B> {
     fn drop(self) {
         let Body {
             island: _,
@@ -61,12 +62,12 @@ impl<S: Source, D: Drain, L: Logic, B: PlugBook> Drop for Body<S, D, L, B> {
     }
 }
 
-impl<S: Source, D: Drain, L: Logic, B: PlugBook> Body<S, D, L, B> {
+impl<S: Source, D: Drain, L: Logic, H: Handlers, B: PlugBook> Body<S, D, L, H, B> {
     /// The body of an island that has started, with the ends of its lanes, each list in the order of their wires. `ways` is a blank
     /// table with a row for each connection of the island, and `peers` the island at the other end of each. Each end does what it has
     /// to do at the start: what is asked for is asked for, and what has ended has ended. It takes no memory, and no unit.
     pub fn new(
-        island: Island<S, D, L, B>,
+        island: Island<S, D, L, H, B>,
         ways: Vec<Way>,
         ins: Vec<IslandInput>,
         outs: Vec<OutputBoundary>,

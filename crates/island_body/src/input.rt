@@ -15,6 +15,7 @@ ghost use Rattle.island_body.specs.Beside.{Beside, in_node};
 ghost use Rattle.island_body.specs.Feeding.{act_of, Feeds, IsFed};
 
 use elem_core::item::Item;
+use graph_stage::handlers::Handlers;
 use interpreter::island::Island;
 use interpreter::wanted::Wanted;
 use lane_core::boundary::InputBoundary;
@@ -91,9 +92,9 @@ impl IslandInput {
     // Hands on the first element that waits, to a stage that is asked. True comes exactly where the lane was asked for more. `place`
     // is the place of the lane's connection, here and in what is below.
     #[inline(always)]
-    fn hand_on<S: Source, D: Drain, L: Logic, B: PlugBook>(
+    fn hand_on<S: Source, D: Drain, L: Logic, H: Handlers, B: PlugBook>(
         &mut self,
-        island: &mut Island<S, D, L, B>,
+        island: &mut Island<S, D, L, H, B>,
         place: u32,
     ) -> bool
         requires whole { island.old.broken ≡ false }
@@ -127,9 +128,9 @@ impl IslandInput {
 
     // Hands on the end that waits behind no element. Then nothing is left to do where nothing was but this.
     #[inline(never)]
-    fn hand_on_end<S: Source, D: Drain, L: Logic, B: PlugBook>(
+    fn hand_on_end<S: Source, D: Drain, L: Logic, H: Handlers, B: PlugBook>(
         &mut self,
-        island: &mut Island<S, D, L, B>,
+        island: &mut Island<S, D, L, H, B>,
         place: u32,
     )
         requires whole { island.old.broken ≡ false }
@@ -155,9 +156,9 @@ impl IslandInput {
 
     // The same where such an end waits, and else nothing: then nothing is left to do where the stage was given all that it asked for.
     #[inline(always)]
-    fn hand_on_last<S: Source, D: Drain, L: Logic, B: PlugBook>(
+    fn hand_on_last<S: Source, D: Drain, L: Logic, H: Handlers, B: PlugBook>(
         &mut self,
-        island: &mut Island<S, D, L, B>,
+        island: &mut Island<S, D, L, H, B>,
         place: u32,
     )
         requires whole { island.old.broken ≡ false }
@@ -185,9 +186,9 @@ impl IslandInput {
     /// it is not. A cancel of its connection cancels the lane. Then nothing is left to do before something comes off the lane, or
     /// to the stage. True comes exactly where the lane was asked for more or cancelled, so that the other end has to be woken.
     /// `place` is the place of the lane's connection. It takes no memory.
-    pub fn serve<S: Source, D: Drain, L: Logic, B: PlugBook>(
+    pub fn serve<S: Source, D: Drain, L: Logic, H: Handlers, B: PlugBook>(
         &mut self,
-        island: &mut Island<S, D, L, B>,
+        island: &mut Island<S, D, L, H, B>,
         place: u32,
     ) -> bool
         requires whole { island.old.broken ≡ false }
@@ -217,9 +218,9 @@ impl IslandInput {
     }
 
     // The same, of which the count of what was asked is told by the calls that asked.
-    fn serve_now<S: Source, D: Drain, L: Logic, B: PlugBook>(
+    fn serve_now<S: Source, D: Drain, L: Logic, H: Handlers, B: PlugBook>(
         &mut self,
-        island: &mut Island<S, D, L, B>,
+        island: &mut Island<S, D, L, H, B>,
         place: u32,
     ) -> bool
         requires whole { island.old.broken ≡ false }
@@ -265,8 +266,8 @@ impl IslandInput {
 }
 
 // The stage at which the lane that is wire `wire` comes in ends its output, as the lane did.
-fn give_end<S: Source, D: Drain, L: Logic, B: PlugBook>(
-    island: &mut Island<S, D, L, B>,
+fn give_end<S: Source, D: Drain, L: Logic, H: Handlers, B: PlugBook>(
+    island: &mut Island<S, D, L, H, B>,
     wire: u32,
     place: u32,
     end: Item,

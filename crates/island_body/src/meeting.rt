@@ -9,6 +9,7 @@ ghost use Rattle.std.specs.Prelude.{◌≡◌, refl};
 use crate::body::Body;
 use dispatcher::waking::Waking;
 use elem_core::why::NoMemory;
+use graph_stage::handlers::Handlers;
 use lane_core::pairs::Meet;
 use lane_core::room::Waits;
 use lane_core::turning::Turning;
@@ -17,7 +18,7 @@ use plug_logic::logic::Logic;
 use std::alloc::{AllocError, Global};
 use stream_io::outside::{Drain, Source};
 
-impl<S: Source, D: Drain, L: Logic, B: PlugBook> Meet for Body<S, D, L, B> {
+impl<S: Source, D: Drain, L: Logic, H: Handlers, B: PlugBook> Meet for Body<S, D, L, H, B> {
     ghost may_meet = { BodiesMayMeet };
 
     ghost met = { BodiesMeet };
@@ -25,7 +26,7 @@ impl<S: Source, D: Drain, L: Logic, B: PlugBook> Meet for Body<S, D, L, B> {
     fn meet_other(
         &mut self,
         out: usize,
-        other: &mut Body<S, D, L, B>,
+        other: &mut Body<S, D, L, H, B>,
         inp: usize,
     ) -> Result<Waits, AllocError> {
         let waits = other.ins[inp].boundary.meet(&mut self.outs[out].lane)?;
@@ -38,7 +39,7 @@ impl<S: Source, D: Drain, L: Logic, B: PlugBook> Meet for Body<S, D, L, B> {
     }
 }
 
-impl<S: Source, D: Drain, L: Logic, B: PlugBook> Turning for Body<S, D, L, B> {
+impl<S: Source, D: Drain, L: Logic, H: Handlers, B: PlugBook> Turning for Body<S, D, L, H, B> {
     ghost keeps = { BodyKeeps S.state D.state B.lists };
 
     ghost goes = { BodyGoes };
@@ -112,7 +113,7 @@ impl<S: Source, D: Drain, L: Logic, B: PlugBook> Turning for Body<S, D, L, B> {
     ghost idle_event = { waking.idle_event };
 }
 
-impl<S: Source, D: Drain, L: Logic, B: PlugBook> Waking for Body<S, D, L, B> {
+impl<S: Source, D: Drain, L: Logic, H: Handlers, B: PlugBook> Waking for Body<S, D, L, H, B> {
     ghost informs = { HasTold };
 
     fn wakes(&self) -> &[u32] {

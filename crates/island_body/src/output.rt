@@ -14,6 +14,7 @@ ghost use Rattle.island_body.specs.declared.found.Found.TheVariants as found;
 
 use crate::found::Found;
 use elem_core::item::Item;
+use graph_stage::handlers::Handlers;
 use interpreter::island::Island;
 use lane_core::lane_out::LaneOut;
 use lane_core::room::Room;
@@ -46,9 +47,9 @@ impl OutputBoundary {
     }
 
     /// Looks once at the lane: whether more is asked for than was known, or whether the other end has cancelled. It takes no memory.
-    pub fn look<S: Source, D: Drain, L: Logic, B: PlugBook>(
+    pub fn look<S: Source, D: Drain, L: Logic, H: Handlers, B: PlugBook>(
         &mut self,
-        island: &Island<S, D, L, B>,
+        island: &Island<S, D, L, H, B>,
     ) -> Found
         requires keeps { Sends self.old.lane island.now self.old.wire }
         ensures wire { (self.new.wire ≡ self.old.wire) × IsSameOut self.old.lane self.new.lane }
@@ -91,9 +92,9 @@ impl OutputBoundary {
 
     /// Sends the next item that came to the stage there, if one waits; true comes exactly where one did. `place` is that of the lane's
     /// connection. It takes no memory.
-    pub fn send_one<S: Source, D: Drain, L: Logic, B: PlugBook>(
+    pub fn send_one<S: Source, D: Drain, L: Logic, H: Handlers, B: PlugBook>(
         &mut self,
-        island: &mut Island<S, D, L, B>,
+        island: &mut Island<S, D, L, H, B>,
         place: u32,
     ) -> bool
         requires whole { island.old.broken ≡ false }
@@ -126,9 +127,9 @@ impl OutputBoundary {
     /// Asks the stage there where demand is left and it may be asked; true comes exactly where it did. `place` is that of the lane's
     /// connection. It takes no memory.
     #[inline(always)]
-    pub fn ask<S: Source, D: Drain, L: Logic, B: PlugBook>(
+    pub fn ask<S: Source, D: Drain, L: Logic, H: Handlers, B: PlugBook>(
         &self,
-        island: &mut Island<S, D, L, B>,
+        island: &mut Island<S, D, L, H, B>,
         place: u32,
     ) -> bool
         requires whole { island.old.broken ≡ false }
@@ -155,9 +156,9 @@ impl OutputBoundary {
 
     // The same where nothing waits at the stage there, so that this is not looked at.
     #[inline(always)]
-    fn ask_empty<S: Source, D: Drain, L: Logic, B: PlugBook>(
+    fn ask_empty<S: Source, D: Drain, L: Logic, H: Handlers, B: PlugBook>(
         &self,
-        island: &mut Island<S, D, L, B>,
+        island: &mut Island<S, D, L, H, B>,
         place: u32,
     ) -> bool
         requires whole { island.old.broken ≡ false }
@@ -186,9 +187,9 @@ impl OutputBoundary {
     /// Sends all that waits at the stage there, and asks it where demand is left and it may be asked. Then nothing is left to do before
     /// something comes to the stage, or to this end of the lane. True comes exactly where something was sent, so that the other end
     /// has to be woken. `place` is the place of the lane's connection. It takes no memory.
-    pub fn serve<S: Source, D: Drain, L: Logic, B: PlugBook>(
+    pub fn serve<S: Source, D: Drain, L: Logic, H: Handlers, B: PlugBook>(
         &mut self,
-        island: &mut Island<S, D, L, B>,
+        island: &mut Island<S, D, L, H, B>,
         place: u32,
     ) -> bool
         requires whole { island.old.broken ≡ false }
@@ -219,9 +220,9 @@ impl OutputBoundary {
 
     /// Looks once at the lane, unless a cancel was seen, and does what is found: new demand lets it ask, and a cancel is handed on, which
     /// drops what waits. The lane is looked for first as number `near` of those that go out. It takes no memory.
-    pub fn visit<S: Source, D: Drain, L: Logic, B: PlugBook>(
+    pub fn visit<S: Source, D: Drain, L: Logic, H: Handlers, B: PlugBook>(
         &mut self,
-        island: &mut Island<S, D, L, B>,
+        island: &mut Island<S, D, L, H, B>,
         near: usize,
     ) -> Found
         requires whole { island.old.broken ≡ false }

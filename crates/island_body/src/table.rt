@@ -8,6 +8,7 @@ use crate::input::IslandInput;
 use crate::output::OutputBoundary;
 use crate::way::Way;
 use elem_core::why::NoMemory;
+use graph_stage::handlers::Handlers;
 use interpreter::island::Island;
 use plug_logic::book::PlugBook;
 use plug_logic::logic::Logic;
@@ -25,9 +26,9 @@ pub fn blank_ways(alloc: Global, connections: usize) -> Result<Vec<Way>, NoMemor
 }
 
 // Writes into a blank table where the ends stand.
-pub(crate) fn mark<S: Source, D: Drain, L: Logic, B: PlugBook>(
+pub(crate) fn mark<S: Source, D: Drain, L: Logic, H: Handlers, B: PlugBook>(
     ways: &mut Vec<Way>,
-    island: &Island<S, D, L, B>,
+    island: &Island<S, D, L, H, B>,
     ins: &[IslandInput],
     outs: &[OutputBoundary],
 )

@@ -28,8 +28,8 @@ those_none f (x ∷ more) h = ap (λ o. with_one o (those f more)) (h 0 x refl) 
 pub no_more : {X Y : Type 0} (f : X → Option Y) (xs more : List X) → ((k : ℕ) (x : X) → slice_get more k ≡ Some x → f x ≡ None) → those f (xs ++ more) ≡ those f xs
 no_more f xs more h = those_behind f xs more ∙ (ap (λ t. those f xs ++ t) (those_none f more h) ∙ append-nil (those f xs))
 
-module _ {S D L B : Type 0} where
-  no_sink : (x : IslandNode S D L B) → is_lane_end x ≡ true → sink_of x ≡ None
+module _ {S D L H B : Type 0} where
+  no_sink : (x : IslandNode S D L H B) → is_lane_end x ≡ true → sink_of x ≡ None
   no_sink (node.Reading x) e = refl
   no_sink (node.Making x) e = refl
   no_sink (node.Linear x) e = refl
@@ -43,7 +43,7 @@ module _ {S D L B : Type 0} where
   no_sink (node.Entering x) e = refl
   no_sink (node.Leaving x) e = refl
 
-  no_reader : (x : IslandNode S D L B) → is_lane_end x ≡ true → reader_of x ≡ None
+  no_reader : (x : IslandNode S D L H B) → is_lane_end x ≡ true → reader_of x ≡ None
   no_reader (node.Reading x) e = cc
   no_reader (node.Making x) e = refl
   no_reader (node.Linear x) e = refl
@@ -57,7 +57,7 @@ module _ {S D L B : Type 0} where
   no_reader (node.Entering x) e = refl
   no_reader (node.Leaving x) e = refl
 
-  no_writer : (x : IslandNode S D L B) → is_lane_end x ≡ true → writer_of x ≡ None
+  no_writer : (x : IslandNode S D L H B) → is_lane_end x ≡ true → writer_of x ≡ None
   no_writer (node.Reading x) e = refl
   no_writer (node.Making x) e = refl
   no_writer (node.Linear x) e = refl
@@ -71,7 +71,7 @@ module _ {S D L B : Type 0} where
   no_writer (node.Entering x) e = refl
   no_writer (node.Leaving x) e = refl
 
-  no_picks : (x : IslandNode S D L B) → is_lane_end x ≡ true → node_picks x ≡ None
+  no_picks : (x : IslandNode S D L H B) → is_lane_end x ≡ true → node_picks x ≡ None
   no_picks (node.Reading x) e = refl
   no_picks (node.Making x) e = refl
   no_picks (node.Linear x) e = refl
@@ -85,7 +85,7 @@ module _ {S D L B : Type 0} where
   no_picks (node.Entering x) e = refl
   no_picks (node.Leaving x) e = refl
 
-  no_seat : (x : IslandNode S D L B) → is_lane_end x ≡ true → node_seat x ≡ None
+  no_seat : (x : IslandNode S D L H B) → is_lane_end x ≡ true → node_seat x ≡ None
   no_seat (node.Reading x) e = refl
   no_seat (node.Making x) e = refl
   no_seat (node.Linear x) e = refl
@@ -99,32 +99,32 @@ module _ {S D L B : Type 0} where
   no_seat (node.Entering x) e = refl
   no_seat (node.Leaving x) e = refl
 
-  pub sinks_behind : (nodes more : List (IslandNode S D L B)) → AreLaneEnds more → sinks_of (nodes ++ more) ≡ sinks_of nodes
+  pub sinks_behind : (nodes more : List (IslandNode S D L H B)) → AreLaneEnds more → sinks_of (nodes ++ more) ≡ sinks_of nodes
   sinks_behind nodes more h = sinks_are (nodes ++ more) ∙ (no_more sink_of nodes more (λ k x e. no_sink x (h k x e)) ∙ sym (sinks_are nodes))
 
-  pub readers_behind : (nodes more : List (IslandNode S D L B)) → AreLaneEnds more → readers_of (nodes ++ more) ≡ readers_of nodes
+  pub readers_behind : (nodes more : List (IslandNode S D L H B)) → AreLaneEnds more → readers_of (nodes ++ more) ≡ readers_of nodes
   readers_behind nodes more h = readers_are (nodes ++ more) ∙ (no_more reader_of nodes more (λ k x e. no_reader x (h k x e)) ∙ sym (readers_are nodes))
 
-  pub writers_behind : (nodes more : List (IslandNode S D L B)) → AreLaneEnds more → writers_of (nodes ++ more) ≡ writers_of nodes
+  pub writers_behind : (nodes more : List (IslandNode S D L H B)) → AreLaneEnds more → writers_of (nodes ++ more) ≡ writers_of nodes
   writers_behind nodes more h = writers_are (nodes ++ more) ∙ (no_more writer_of nodes more (λ k x e. no_writer x (h k x e)) ∙ sym (writers_are nodes))
 
-  picks_none : (ms : List ℕ) (more : List (IslandNode S D L B)) → AreLaneEnds more → picks_of ms more ≡ []
+  picks_none : (ms : List ℕ) (more : List (IslandNode S D L H B)) → AreLaneEnds more → picks_of ms more ≡ []
   picks_none [] more h = refl
   picks_none (m ∷ ms) [] h = refl
   picks_none (m ∷ ms) (x ∷ more) h = ap (λ o. with_picks m o (picks_of ms more)) (no_picks x (h 0 x refl)) ∙ picks_none ms more (λ k y e. h (suc k) y e)
 
-  pub picks_behind : (ns ms : List ℕ) (nodes more : List (IslandNode S D L B)) → length ns ≡ length nodes → AreLaneEnds more → picks_of (ns ++ ms) (nodes ++ more) ≡ picks_of ns nodes
+  pub picks_behind : (ns ms : List ℕ) (nodes more : List (IslandNode S D L H B)) → length ns ≡ length nodes → AreLaneEnds more → picks_of (ns ++ ms) (nodes ++ more) ≡ picks_of ns nodes
   picks_behind [] ms [] more e h = picks_none ms more h
   picks_behind [] ms (x ∷ nodes) more e h = absurd (omega (arith, e))
   picks_behind (n ∷ ns) ms [] more e h = absurd (omega (arith, e))
   picks_behind (n ∷ ns) ms (x ∷ nodes) more e h = ap (with_picks n (node_picks x)) (picks_behind ns ms nodes more (omega (arith, e)) h)
 
-  seats_none : (ms : List ℕ) (more : List (IslandNode S D L B)) → AreLaneEnds more → seats_of ms more ≡ []
+  seats_none : (ms : List ℕ) (more : List (IslandNode S D L H B)) → AreLaneEnds more → seats_of ms more ≡ []
   seats_none [] more h = refl
   seats_none (m ∷ ms) [] h = refl
   seats_none (m ∷ ms) (x ∷ more) h = ap (λ o. with_seat m o (seats_of ms more)) (no_seat x (h 0 x refl)) ∙ seats_none ms more (λ k y e. h (suc k) y e)
 
-  pub seats_behind : (ns ms : List ℕ) (nodes more : List (IslandNode S D L B)) → length ns ≡ length nodes → AreLaneEnds more → seats_of (ns ++ ms) (nodes ++ more) ≡ seats_of ns nodes
+  pub seats_behind : (ns ms : List ℕ) (nodes more : List (IslandNode S D L H B)) → length ns ≡ length nodes → AreLaneEnds more → seats_of (ns ++ ms) (nodes ++ more) ≡ seats_of ns nodes
   seats_behind [] ms [] more e h = seats_none ms more h
   seats_behind [] ms (x ∷ nodes) more e h = absurd (omega (arith, e))
   seats_behind (n ∷ ns) ms [] more e h = absurd (omega (arith, e))

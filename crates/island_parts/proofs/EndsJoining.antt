@@ -55,7 +55,7 @@ join_shares {Z = Z} g ends homes ys below each shares hs eh lists el =
     let w : AreWhole homes lists = subst (AreWhole homes) (sym el) (whole (λ (z : Z). z) homes ys (map g ends) under each is) in
     (subst (λ hs. AreWhole hs lists) (sym eh) w, λ r s. sym (map_same r) ∙ gathered (λ (z : Z). z) homes ys (map g ends) under each is r (subst (AreShares homes r) el (subst (λ hs. AreShares hs r lists) eh s)))
 
-module _ {S D L B : Type 0} (w : Whole S D L B) (ends : List (IslandEnd S D)) (a : AreEndsOf w ends) where
+module _ {S D L H B : Type 0} (w : Whole S D L H B) (ends : List (IslandEnd S D)) (a : AreEndsOf w ends) where
   joins : {X Y Z : Type 0} (v : Z → Y) (g : IslandEnd S D → Vec Z Global) (f : X → Option Y) (xs : List X) → length xs ≡ length w.homes → ((k : ℕ) (e : IslandEnd S D) → slice_get ends k ≡ Some e → map v (g e).items ≡ those f (of_home w.homes k xs))
       → (hs : List ℕ) → hs ≡ homes_left f w.homes xs → (lists : List (Vec Z Global)) → lists ≡ map g ends → Joins v hs lists (those f xs)
   joins v g f xs n h hs eh lists el =

@@ -33,26 +33,26 @@ pushed {X = X} P xs new x e each last k y at = by P xs each last k y (sym (ap (�
 
 -- ---- spaces
 
-module _ {S D L B : Type 0} (places : List (Vec Place Global)) (all : List (Vec Link Global)) where
-  pub record Spacing (k : ℕ) (rest : List (Vec Link Global)) (spaces : List (Space S D L B)) : Type 0 where
+module _ {S D L H B : Type 0} (places : List (Vec Place Global)) (all : List (Vec Link Global)) where
+  pub record Spacing (k : ℕ) (rest : List (Vec Link Global)) (spaces : List (Space S D L H B)) : Type 0 where
     pub counted : length spaces ≡ k
     pub left : rest ≡ drop k all
     pub within : k + length rest ≡ length all
-    pub each : (i : ℕ) (s : Space S D L B) → slice_get spaces i ≡ Some s → IsSpace (items_at places i) (items_at all i) s
+    pub each : (i : ℕ) (s : Space S D L H B) → slice_get spaces i ≡ Some s → IsSpace (items_at places i) (items_at all i) s
 
-  pub spacing_first : (spaces : List (Space S D L B)) → spaces ≡ [] → Spacing 0 all spaces
+  pub spacing_first : (spaces : List (Space S D L H B)) → spaces ≡ [] → Spacing 0 all spaces
   spacing_first spaces e = record { counted = ap length e; left = refl; within = omega arith; each = λ i s at. none i s (sym (ap (λ l. slice_get l i) e) ∙ at) }
     where
-      none : (i : ℕ) (s : Space S D L B) → slice_get {X = Space S D L B} [] i ≡ Some s → IsSpace (items_at places i) (items_at all i) s
+      none : (i : ℕ) (s : Space S D L H B) → slice_get {X = Space S D L H B} [] i ≡ Some s → IsSpace (items_at places i) (items_at all i) s
       none i s at = cc
 
-  pub spacing_below : (k : ℕ) (rest later : List (Vec Link Global)) (l : Vec Link Global) (spaces : List (Space S D L B)) → Spacing k rest spaces → rest ≡ l ∷ later → k < length all
+  pub spacing_below : (k : ℕ) (rest later : List (Vec Link Global)) (l : Vec Link Global) (spaces : List (Space S D L H B)) → Spacing k rest spaces → rest ≡ l ∷ later → k < length all
   spacing_below k rest later l spaces s e = let size : length rest ≡ suc (length later) = ap length e in omega (arith, size, s.within)
 
-  pub spacing_list : (k : ℕ) (rest later : List (Vec Link Global)) (l : Vec Link Global) (spaces : List (Space S D L B)) → Spacing k rest spaces → rest ≡ l ∷ later → items_at all k ≡ l.items
+  pub spacing_list : (k : ℕ) (rest later : List (Vec Link Global)) (l : Vec Link Global) (spaces : List (Space S D L H B)) → Spacing k rest spaces → rest ≡ l ∷ later → items_at all k ≡ l.items
   spacing_list k rest later l spaces s e = ap items_in (next_of all k l later (sym s.left ∙ e)).0
 
-  pub spacing_next : (k : ℕ) (rest later : List (Vec Link Global)) (l : Vec Link Global) (p : Vec Place Global) (ps : List Place) (spaces new : List (Space S D L B)) (s : Space S D L B) → Spacing k rest spaces → rest ≡ l ∷ later → k < length places → p ≡ get_or places k p → ps ≡ p.items
+  pub spacing_next : (k : ℕ) (rest later : List (Vec Link Global)) (l : Vec Link Global) (p : Vec Place Global) (ps : List Place) (spaces new : List (Space S D L H B)) (s : Space S D L H B) → Spacing k rest spaces → rest ≡ l ∷ later → k < length places → p ≡ get_or places k p → ps ≡ p.items
       → IsSpace ps l.items s → new ≡ spaces ++ s ∷ [] → Spacing (k + 1) later new
   spacing_next k rest later l p ps spaces new s a e lt is same space more =
       let size : length rest ≡ suc (length later) = ap length e in
@@ -66,20 +66,20 @@ module _ {S D L B : Type 0} (places : List (Vec Place Global)) (all : List (Vec 
         each = pushed (λ i x. IsSpace (items_at places i) (items_at all i) x) spaces new s more a.each (subst (λ i. IsSpace (items_at places i) (items_at all i) s) (sym a.counted) here);
       }
 
-  pub spacing_last : (k : ℕ) (rest : List (Vec Link Global)) (spaces : List (Space S D L B)) → Spacing k rest spaces → rest ≡ [] → AreSpaces places all spaces
+  pub spacing_last : (k : ℕ) (rest : List (Vec Link Global)) (spaces : List (Space S D L H B)) → Spacing k rest spaces → rest ≡ [] → AreSpaces places all spaces
   spacing_last k rest spaces a e = record { many = let none : length rest ≡ 0 = ap length e in omega (arith, a.counted, a.within, none); each = a.each }
 
 -- ---- islands
 
-module _ {S D L B : Type 0} (all_spaces : List (Space S D L B)) (lists : List (Vec (Seated S D L B) Global)) where
-  pub record Parting (rest : List (Vec (Seated S D L B) Global)) (spaces : List (Space S D L B)) (islands : List (Parts S D L B × IslandRoom S D L B)) : Type 0 where
+module _ {S D L H B : Type 0} (all_spaces : List (Space S D L H B)) (lists : List (Vec (Seated S D L H B) Global)) where
+  pub record Parting (rest : List (Vec (Seated S D L H B) Global)) (spaces : List (Space S D L H B)) (islands : List (Parts S D L H B × IslandRoom S D L H B)) : Type 0 where
     pub left : rest ≡ drop (length islands) lists
     pub spaces_left : spaces ≡ drop (length islands) all_spaces
     pub within : length islands + length rest ≡ length lists
     pub spaces_within : length rest ≡ length spaces
-    pub each : (k : ℕ) (x : Parts S D L B × IslandRoom S D L B) → slice_get islands k ≡ Some x → IsPart lists all_spaces k x
+    pub each : (k : ℕ) (x : Parts S D L H B × IslandRoom S D L H B) → slice_get islands k ≡ Some x → IsPart lists all_spaces k x
 
-  pub parting_first : (rest : List (Vec (Seated S D L B) Global)) (spaces : List (Space S D L B)) (islands : List (Parts S D L B × IslandRoom S D L B)) → rest ≡ lists → spaces ≡ all_spaces → length lists ≡ length all_spaces → islands ≡ [] → Parting rest spaces islands
+  pub parting_first : (rest : List (Vec (Seated S D L H B) Global)) (spaces : List (Space S D L H B)) (islands : List (Parts S D L H B × IslandRoom S D L H B)) → rest ≡ lists → spaces ≡ all_spaces → length lists ≡ length all_spaces → islands ≡ [] → Parting rest spaces islands
   parting_first rest spaces islands a b c e = record {
     left = a ∙ ap (λ m. drop m lists) (sym none);
     spaces_left = b ∙ ap (λ m. drop m all_spaces) (sym none);
@@ -91,10 +91,10 @@ module _ {S D L B : Type 0} (all_spaces : List (Space S D L B)) (lists : List (V
       none : length islands ≡ 0
       none = ap length e
 
-      nothing : (k : ℕ) (x : Parts S D L B × IslandRoom S D L B) → slice_get {X = Parts S D L B × IslandRoom S D L B} [] k ≡ Some x → IsPart lists all_spaces k x
+      nothing : (k : ℕ) (x : Parts S D L H B × IslandRoom S D L H B) → slice_get {X = Parts S D L H B × IslandRoom S D L H B} [] k ≡ Some x → IsPart lists all_spaces k x
       nothing k x at = cc
 
-  pub parting_next : (rest later : List (Vec (Seated S D L B) Global)) (nodes : Vec (Seated S D L B) Global) (spaces fewer : List (Space S D L B)) (s : Space S D L B) (islands new : List (Parts S D L B × IslandRoom S D L B)) (x : Parts S D L B × IslandRoom S D L B) → Parting rest spaces islands → rest ≡ nodes ∷ later
+  pub parting_next : (rest later : List (Vec (Seated S D L H B) Global)) (nodes : Vec (Seated S D L H B) Global) (spaces fewer : List (Space S D L H B)) (s : Space S D L H B) (islands new : List (Parts S D L H B × IslandRoom S D L H B)) (x : Parts S D L H B × IslandRoom S D L H B) → Parting rest spaces islands → rest ≡ nodes ∷ later
       → spaces ≡ s ∷ fewer → new ≡ islands ++ x ∷ [] → x.0.nodes.items ≡ nodes.items → x.0.links.items ≡ s.links.items → x.1 ≡ s.room → Parting later fewer new
   parting_next rest later nodes spaces fewer s islands new x a e f more here links room =
       let next = next_of lists (length islands) nodes later (sym a.left ∙ e) in
@@ -110,14 +110,14 @@ module _ {S D L B : Type 0} (all_spaces : List (Space S D L B)) (lists : List (V
         each = pushed (IsPart lists all_spaces) islands new x more a.each (record { nodes_are = here ∙ sym (ap items_in next.0); space = s; space_at = space.0; links_are = links; room_is = room });
       }
 
-  pub parting_some : (rest later : List (Vec (Seated S D L B) Global)) (nodes : Vec (Seated S D L B) Global) (spaces : List (Space S D L B)) (islands : List (Parts S D L B × IslandRoom S D L B)) → Parting rest spaces islands → rest ≡ nodes ∷ later → 0 < length spaces
+  pub parting_some : (rest later : List (Vec (Seated S D L H B) Global)) (nodes : Vec (Seated S D L H B) Global) (spaces : List (Space S D L H B)) (islands : List (Parts S D L H B × IslandRoom S D L H B)) → Parting rest spaces islands → rest ≡ nodes ∷ later → 0 < length spaces
   parting_some rest later nodes spaces islands a e = let size : length rest ≡ suc (length later) = ap length e in omega (arith, size, a.spaces_within)
 
-  pub parting_last : (rest : List (Vec (Seated S D L B) Global)) (spaces : List (Space S D L B)) (islands : List (Parts S D L B × IslandRoom S D L B)) → length lists ≡ length all_spaces → Parting rest spaces islands → rest ≡ [] → AreJoined lists all_spaces islands
+  pub parting_last : (rest : List (Vec (Seated S D L H B) Global)) (spaces : List (Space S D L H B)) (islands : List (Parts S D L H B × IslandRoom S D L H B)) → length lists ≡ length all_spaces → Parting rest spaces islands → rest ≡ [] → AreJoined lists all_spaces islands
   parting_last rest spaces islands many a e = record { many = let none : length rest ≡ 0 = ap length e in omega (arith, a.within, none, many); each = a.each }
 
 -- the islands of a split by the shares of what stands at all places
-pub islands_are : {S D L B : Type 0} (split : Split S D L B) (homes : List ℕ) (seats : List (Seated S D L B)) (lists : List (Vec (Seated S D L B) Global)) (islands : List (Parts S D L B × IslandRoom S D L B)) → homes ≡ split.homes.items → AreShares homes seats lists → AreJoined lists split.spaces.items islands → AreIslands split seats islands
+pub islands_are : {S D L H B : Type 0} (split : Split S D L H B) (homes : List ℕ) (seats : List (Seated S D L H B)) (lists : List (Vec (Seated S D L H B) Global)) (islands : List (Parts S D L H B × IslandRoom S D L H B)) → homes ≡ split.homes.items → AreShares homes seats lists → AreJoined lists split.spaces.items islands → AreIslands split seats islands
 islands_are split homes seats lists islands same shares a = record {
   many = a.many;
   each = λ k x at.

@@ -1,6 +1,7 @@
 pub mod Cutting
 pub mod Wiring
 pub mod Restricting
+pub mod Seating
 pub mod Wholes
 pub mod Joining
 pub mod Splitting

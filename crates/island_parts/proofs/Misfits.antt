@@ -28,7 +28,7 @@ mapped f [] i y e = absurd cc
 mapped f (x ∷ xs) zero y e = (x, (refl, let same : f x ≡ y = cc in same))
 mapped f (x ∷ xs) (suc i) y e = mapped f xs i y e
 
-module _ {S D L B : Type 0} (homes numbers : List ℕ) (nodes : List (IslandNode S D L B)) (numbers_each : length numbers ≡ length homes) (nodes_each : length nodes ≡ length homes) where
+module _ {S D L H B : Type 0} (homes numbers : List ℕ) (nodes : List (IslandNode S D L H B)) (numbers_each : length numbers ≡ length homes) (nodes_each : length nodes ≡ length homes) where
   -- what is found in an island
   abbrev pub InIsland : ℕ → ℕ → ℕ → Type 0
   InIsland h k i = FindsMisfit (of_home homes h numbers) (of_home homes h nodes) k i
@@ -53,7 +53,7 @@ module _ {S D L B : Type 0} (homes numbers : List ℕ) (nodes : List (IslandNode
         ),
       )
 
-module _ {S D L B : Type 0} (w : Whole S D L B) (ends : List (IslandEnd S D)) (a : AreEndsOf w ends) where
+module _ {S D L H B : Type 0} (w : Whole S D L H B) (ends : List (IslandEnd S D)) (a : AreEndsOf w ends) where
   abbrev pub misfits : List (Option Found)
   misfits = map (λ (e : IslandEnd S D). e.misfit) ends
 
@@ -72,7 +72,7 @@ module _ {S D L B : Type 0} (w : Whole S D L B) (ends : List (IslandEnd S D)) (a
 
 -- ---- nodes behind others, which could make all of their moves
 
-module _ {S D L B : Type 0} (xs more : List (IslandNode S D L B)) (bare : (k : ℕ) (x : IslandNode S D L B) → slice_get more k ≡ Some x → node_misfit x ≡ None) where
+module _ {S D L H B : Type 0} (xs more : List (IslandNode S D L H B)) (bare : (k : ℕ) (x : IslandNode S D L H B) → slice_get more k ≡ Some x → node_misfit x ≡ None) where
   first_of : {A : Type 0} (ys zs : List A) (i : ℕ) (x : A) → i < length ys → slice_get (ys ++ zs) i ≡ Some x → slice_get ys i ≡ Some x
   first_of [] zs i x l e = absurd (omega (arith, l))
   first_of (a ∷ ys) zs zero x l e = e
@@ -86,7 +86,7 @@ module _ {S D L B : Type 0} (xs more : List (IslandNode S D L B)) (bare : (k : �
   none_some : {A : Type 0} {x : A} → None ≡ Some x → ⊥
   none_some e = cc
 
-  found_first : (ys : List (IslandNode S D L B)) (i : ℕ) (x : IslandNode S D L B) (place : ℕ) → slice_get (ys ++ more) i ≡ Some x → node_misfit x ≡ Some place → i < length ys
+  found_first : (ys : List (IslandNode S D L H B)) (i : ℕ) (x : IslandNode S D L H B) (place : ℕ) → slice_get (ys ++ more) i ≡ Some x → node_misfit x ≡ Some place → i < length ys
   found_first [] i x place e found = absurd (none_some (sym (bare i x e) ∙ found))
   found_first (y ∷ ys) zero x place e found = omega arith
   found_first (y ∷ ys) (suc i) x place e found = let l = found_first ys i x place e found in omega (arith, l)

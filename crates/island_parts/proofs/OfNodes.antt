@@ -12,8 +12,8 @@ use Rattle.scatter.specs.Shares.{of_home}
 use Rattle.island_parts.specs.Ends.{with_home, homes_left, sink_of, reader_of, writer_of}
 use Rattle.island_parts.proofs.Leaving.{with_one, those}
 
-module _ {S D L B : Type 0} where
-  pub sinks_are : (xs : List (IslandNode S D L B)) → sinks_of xs ≡ those sink_of xs
+module _ {S D L H B : Type 0} where
+  pub sinks_are : (xs : List (IslandNode S D L H B)) → sinks_of xs ≡ those sink_of xs
   sinks_are [] = refl
   sinks_are (node.Reading x ∷ xs) = sinks_are xs
   sinks_are (node.Making x ∷ xs) = sinks_are xs
@@ -28,7 +28,7 @@ module _ {S D L B : Type 0} where
   sinks_are (node.Entering x ∷ xs) = sinks_are xs
   sinks_are (node.Leaving x ∷ xs) = sinks_are xs
 
-  pub readers_are : (xs : List (IslandNode S D L B)) → readers_of xs ≡ those reader_of xs
+  pub readers_are : (xs : List (IslandNode S D L H B)) → readers_of xs ≡ those reader_of xs
   readers_are [] = refl
   readers_are (node.Reading x ∷ xs) = ap (λ t. x.reader.source ∷ t) (readers_are xs)
   readers_are (node.Making x ∷ xs) = readers_are xs
@@ -43,7 +43,7 @@ module _ {S D L B : Type 0} where
   readers_are (node.Entering x ∷ xs) = readers_are xs
   readers_are (node.Leaving x ∷ xs) = readers_are xs
 
-  pub writers_are : (xs : List (IslandNode S D L B)) → writers_of xs ≡ those writer_of xs
+  pub writers_are : (xs : List (IslandNode S D L H B)) → writers_of xs ≡ those writer_of xs
   writers_are [] = refl
   writers_are (node.Reading x ∷ xs) = writers_are xs
   writers_are (node.Making x ∷ xs) = writers_are xs
@@ -67,7 +67,7 @@ abbrev pub pick_in : Option (List ℕ) → ℕ → Option Pick
 pick_in None n = None
 pick_in (Some moves) n = Some (n, moves)
 
-abbrev pub pick_at : {S D L B : Type 0} → ℕ × IslandNode S D L B → Option Pick
+abbrev pub pick_at : {S D L H B : Type 0} → ℕ × IslandNode S D L H B → Option Pick
 pick_at p = pick_in (node_picks p.1) p.0
 
 -- the same of its seat
@@ -75,7 +75,7 @@ abbrev pub seat_in : Option SeatState → ℕ → Option (ℕ × SeatState)
 seat_in None n = None
 seat_in (Some seat) n = Some (n, seat)
 
-abbrev pub seat_at : {S D L B : Type 0} → ℕ × IslandNode S D L B → Option (ℕ × SeatState)
+abbrev pub seat_at : {S D L H B : Type 0} → ℕ × IslandNode S D L H B → Option (ℕ × SeatState)
 seat_at p = seat_in (node_seat p.1) p.0
 
 with_is : (o : Option (List ℕ)) (n : ℕ) (ps qs : List Pick) → ps ≡ qs → with_picks n o ps ≡ with_one (pick_in o n) qs
@@ -94,26 +94,26 @@ seat_home_is : (o : Option SeatState) (n h : ℕ) (hs gs : List ℕ) → hs ≡ 
 seat_home_is None n h hs gs e = e
 seat_home_is (Some seat) n h hs gs e = ap (λ t. h ∷ t) e
 
-module _ {S D L B : Type 0} where
-  pub picks_are : (ns : List ℕ) (xs : List (IslandNode S D L B)) → picks_of ns xs ≡ those pick_at (numbered ns xs)
+module _ {S D L H B : Type 0} where
+  pub picks_are : (ns : List ℕ) (xs : List (IslandNode S D L H B)) → picks_of ns xs ≡ those pick_at (numbered ns xs)
   picks_are [] [] = refl
   picks_are [] (x ∷ xs) = refl
   picks_are (n ∷ ns) [] = refl
   picks_are (n ∷ ns) (x ∷ xs) = with_is (node_picks x) n (picks_of ns xs) (those pick_at (numbered ns xs)) (picks_are ns xs)
 
-  pub pick_homes : (hs ns : List ℕ) (xs : List (IslandNode S D L B)) → length ns ≡ length hs → length xs ≡ length hs → homes_left node_picks hs xs ≡ homes_left pick_at hs (numbered ns xs)
+  pub pick_homes : (hs ns : List ℕ) (xs : List (IslandNode S D L H B)) → length ns ≡ length hs → length xs ≡ length hs → homes_left node_picks hs xs ≡ homes_left pick_at hs (numbered ns xs)
   pick_homes [] ns xs d e = refl
   pick_homes (h ∷ hs) ns [] d e = absurd (omega (arith, e))
   pick_homes (h ∷ hs) [] (x ∷ xs) d e = absurd (omega (arith, d))
   pick_homes (h ∷ hs) (n ∷ ns) (x ∷ xs) d e = home_is (node_picks x) n h (homes_left node_picks hs xs) (homes_left pick_at hs (numbered ns xs)) (pick_homes hs ns xs (omega (arith, d)) (omega (arith, e)))
 
-  pub seats_are : (ns : List ℕ) (xs : List (IslandNode S D L B)) → seats_of ns xs ≡ those seat_at (numbered ns xs)
+  pub seats_are : (ns : List ℕ) (xs : List (IslandNode S D L H B)) → seats_of ns xs ≡ those seat_at (numbered ns xs)
   seats_are [] [] = refl
   seats_are [] (x ∷ xs) = refl
   seats_are (n ∷ ns) [] = refl
   seats_are (n ∷ ns) (x ∷ xs) = with_seat_is (node_seat x) n (seats_of ns xs) (those seat_at (numbered ns xs)) (seats_are ns xs)
 
-  pub seat_homes : (hs ns : List ℕ) (xs : List (IslandNode S D L B)) → length ns ≡ length hs → length xs ≡ length hs → homes_left node_seat hs xs ≡ homes_left seat_at hs (numbered ns xs)
+  pub seat_homes : (hs ns : List ℕ) (xs : List (IslandNode S D L H B)) → length ns ≡ length hs → length xs ≡ length hs → homes_left node_seat hs xs ≡ homes_left seat_at hs (numbered ns xs)
   seat_homes [] ns xs d e = refl
   seat_homes (h ∷ hs) ns [] d e = absurd (omega (arith, e))
   seat_homes (h ∷ hs) [] (x ∷ xs) d e = absurd (omega (arith, d))

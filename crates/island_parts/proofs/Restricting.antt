@@ -229,7 +229,7 @@ module _ (homes : List ℕ) (links : List Link) (k : ℕ) where
       }
 
     -- the ends of lanes stand apart in an island, where they do in all
-    module _ {S D L B : Type 0} (places : List (Seated S D L B)) (long : length places ≡ length homes) where
+    module _ {S D L H B : Type 0} (places : List (Seated S D L H B)) (long : length places ≡ length homes) where
       pub seat_of : (i : ℕ) → slice_get homes i ≡ Some k → slice_get (of_home homes k places) (share_of k (take i homes)) ≡ slice_get places i
       seat_of i home =
           let lt : i < length homes = slice_get_within homes i k home in
@@ -259,8 +259,8 @@ module _ (homes : List ℕ) (links : List Link) (k : ℕ) where
 
 -- ---- the parts of an island
 
-module _ {S D L B : Type 0} where
-  pub unused_mine : (hs : List ℕ) (k : ℕ) (places : List (Seated S D L B)) → AllUnused places → AllUnused (of_home hs k places)
+module _ {S D L H B : Type 0} where
+  pub unused_mine : (hs : List ℕ) (k : ℕ) (places : List (Seated S D L H B)) → AllUnused places → AllUnused (of_home hs k places)
   unused_mine [] k places a = tt
   unused_mine (h ∷ hs) k [] a = tt
   unused_mine (h ∷ hs) k (p ∷ ps) a =
@@ -269,17 +269,17 @@ module _ {S D L B : Type 0} where
       (λ (f : (h == k) ≡ false). subst AllUnused (sym (elsewhere h k hs p ps f)) (unused_mine hs k ps a.1))
       (cases_Bool (h == k))
 
-  pub inputs_by : (places : List (Seated S D L B)) (i : ℕ) (p : Seated S D L B) → slice_get places i ≡ Some p → inputs_at places i ≡ work_inputs p.work
+  pub inputs_by : (places : List (Seated S D L H B)) (i : ℕ) (p : Seated S D L H B) → slice_get places i ≡ Some p → inputs_at places i ≡ work_inputs p.work
   inputs_by [] i p at = absurd cc
-  inputs_by (x ∷ xs) zero p at = let same : x ≡ p = cc in ap (λ (z : Seated S D L B). work_inputs z.work) same
+  inputs_by (x ∷ xs) zero p at = let same : x ≡ p = cc in ap (λ (z : Seated S D L H B). work_inputs z.work) same
   inputs_by (x ∷ xs) (suc i) p at = inputs_by xs i p at
 
-  pub outputs_by : (places : List (Seated S D L B)) (i : ℕ) (p : Seated S D L B) → slice_get places i ≡ Some p → outputs_at places i ≡ work_outputs p.work
+  pub outputs_by : (places : List (Seated S D L H B)) (i : ℕ) (p : Seated S D L H B) → slice_get places i ≡ Some p → outputs_at places i ≡ work_outputs p.work
   outputs_by [] i p at = absurd cc
-  outputs_by (x ∷ xs) zero p at = let same : x ≡ p = cc in ap (λ (z : Seated S D L B). work_outputs z.work) same
+  outputs_by (x ∷ xs) zero p at = let same : x ≡ p = cc in ap (λ (z : Seated S D L H B). work_outputs z.work) same
   outputs_by (x ∷ xs) (suc i) p at = outputs_by xs i p at
 
-  pub island_parts : (homes : List ℕ) (links : List Link) (k : ℕ) (places : List (Seated S D L B)) → length places ≡ length homes → AllUnused places → IsWiring (inputs_at places) (outputs_at places) (length places) (map ends_of links)
+  pub island_parts : (homes : List ℕ) (links : List Link) (k : ℕ) (places : List (Seated S D L H B)) → length places ≡ length homes → AllUnused places → IsWiring (inputs_at places) (outputs_at places) (length places) (map ends_of links)
       → ((p : ℕ) (l : Link) → slice_get links p ≡ Some l → slice_index homes l.from ≡ slice_index homes l.to) → IsOnce places links → length links < 2 ^ 32 → AreParts (of_home homes k places) (mine homes links k)
   island_parts homes links k places long unused wiring same once few =
       let all : IsWiring (inputs_at places) (outputs_at places) (length homes) (map ends_of links) = subst (λ n. IsWiring (inputs_at places) (outputs_at places) n (map ends_of links)) long wiring in

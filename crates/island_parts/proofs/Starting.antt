@@ -97,24 +97,24 @@ none_more (x ∷ xs) n h e = absurd (differ (h (omega (arith, e))))
     differ : false ≡ true → ⊥
     differ d = cc
 
-module _ {S D L B : Type 0} where
+module _ {S D L H B : Type 0} where
   -- the next of some that can start, and those behind it
-  pub next_can : (rest later : List (Parts S D L B × IslandRoom S D L B)) (x : Parts S D L B × IslandRoom S D L B) → CanAllStart rest → rest ≡ x ∷ later → CanStart x
+  pub next_can : (rest later : List (Parts S D L H B × IslandRoom S D L H B)) (x : Parts S D L H B × IslandRoom S D L H B) → CanAllStart rest → rest ≡ x ∷ later → CanStart x
   next_can rest later x can e = can 0 x (ap (λ l. slice_get l 0) e)
 
-  pub later_can : (rest later : List (Parts S D L B × IslandRoom S D L B)) (x : Parts S D L B × IslandRoom S D L B) → CanAllStart rest → rest ≡ x ∷ later → CanAllStart later
+  pub later_can : (rest later : List (Parts S D L H B × IslandRoom S D L H B)) (x : Parts S D L H B × IslandRoom S D L H B) → CanAllStart rest → rest ≡ x ∷ later → CanAllStart later
   later_can rest later x can e = λ k y at. can (suc k) y (ap (λ l. slice_get l (suc k)) e ∙ at)
 
   module _ (sources : S → SourceState) (drains : D → DrainState) (book : Book) where
-    abbrev pub Started : Parts S D L B × IslandRoom S D L B → Kept S D L B → Type 0
+    abbrev pub Started : Parts S D L H B × IslandRoom S D L H B → Kept S D L H B → Type 0
     Started x i = HasStarted sources drains book x.0 i
 
     -- what an island that had started leaves has its handles as they were handed in
-    started_gives : (x : Parts S D L B × IslandRoom S D L B) (i : Kept S D L B) (e : IslandEnd S D) → HasStarted sources drains book x.0 i → IslandLeaves i e → GivesBack sources drains x e
+    started_gives : (x : Parts S D L H B × IslandRoom S D L H B) (i : Kept S D L H B) (e : IslandEnd S D) → HasStarted sources drains book x.0 i → IslandLeaves i e → GivesBack sources drains x e
     started_gives x i e s l = record { readers = ap (map sources) l.readers ∙ s.handles.readers; writers = ap (map drains) l.writers ∙ s.handles.writers }
 
     -- so all do, where the islands before one have started and that one has not
-    pub all_apart : (all rest later : List (Parts S D L B × IslandRoom S D L B)) (x : Parts S D L B × IslandRoom S D L B) (started : List (Kept S D L B)) (end : IslandEnd S D) (ends : List (IslandEnd S D)) → Going Started all [] rest started → rest ≡ x ∷ later → GivesBack sources drains x end
+    pub all_apart : (all rest later : List (Parts S D L H B × IslandRoom S D L H B)) (x : Parts S D L H B × IslandRoom S D L H B) (started : List (Kept S D L H B)) (end : IslandEnd S D) (ends : List (IslandEnd S D)) → Going Started all [] rest started → rest ≡ x ∷ later → GivesBack sources drains x end
         → TakenApart sources drains started end later ends → AllGiveBack sources drains all ends
     all_apart all rest later x started end ends g e h t =
         let r = GivesBack sources drains in
@@ -126,7 +126,7 @@ module _ {S D L B : Type 0} where
 
   module _ (sources : S → SourceState) (drains : D → DrainState) where
     -- an end between two others
-    pub apart_of : (started : List (Kept S D L B)) (end : IslandEnd S D) (rest : List (Parts S D L B × IslandRoom S D L B)) (none one two ends : List (IslandEnd S D)) → none ≡ [] → Appends IslandLeaves started none one → two ≡ one ++ end ∷ [] → Appends (GivesBack sources drains) rest two ends
+    pub apart_of : (started : List (Kept S D L H B)) (end : IslandEnd S D) (rest : List (Parts S D L H B × IslandRoom S D L H B)) (none one two ends : List (IslandEnd S D)) → none ≡ [] → Appends IslandLeaves started none one → two ≡ one ++ end ∷ [] → Appends (GivesBack sources drains) rest two ends
         → TakenApart sources drains started end rest ends
     apart_of started end rest none one two ends e a f b = record {
       front = a.more;

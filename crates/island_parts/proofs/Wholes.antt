@@ -44,33 +44,33 @@ module _ {X : Type 0} {Y : Type 0} (first : List Y) (f g : X → Y) (xs : List X
       get_right first (map f xs ++ map g xs) i (length xs + j) (omega (arith, e)) ∙ get_right (map f xs) (map g xs) (length xs + j) j (omega (arith, c)) ∙ slice_get-map g xs j ∙ ap (option_map g) at
 
 -- the places before the nodes hold their handles
-pub places_whole : {S D L B : Type 0} (nodes : List (Seated S D L B)) (lanes : List LanePlan) → map seat_place (whole_seats nodes lanes) ≡ whole_places (map seat_place nodes) lanes
-places_whole {S = S} {D = D} {L = L} {B = B} nodes lanes = map_both nodes (map in_seat lanes ++ map out_seat lanes) ∙ ap (λ l. map seat_place nodes ++ l) (map_both (map in_seat lanes) (map out_seat lanes) ∙ ap (λ l. l ++ map seat_place (map (out_seat {S = S} {D = D} {L = L} {B = B}) lanes)) (ins lanes) ∙ ap (λ l. map in_place lanes ++ l) (outs lanes))
+pub places_whole : {S D L H B : Type 0} (nodes : List (Seated S D L H B)) (lanes : List LanePlan) → map seat_place (whole_seats nodes lanes) ≡ whole_places (map seat_place nodes) lanes
+places_whole {S = S} {D = D} {L = L} {H = H} {B = B} nodes lanes = map_both nodes (map in_seat lanes ++ map out_seat lanes) ∙ ap (λ l. map seat_place nodes ++ l) (map_both (map in_seat lanes) (map out_seat lanes) ∙ ap (λ l. l ++ map seat_place (map (out_seat {S = S} {D = D} {L = L} {H = H} {B = B}) lanes)) (ins lanes) ∙ ap (λ l. map in_place lanes ++ l) (outs lanes))
   where
-    map_both : (xs ys : List (Seated S D L B)) → map seat_place (xs ++ ys) ≡ map seat_place xs ++ map seat_place ys
+    map_both : (xs ys : List (Seated S D L H B)) → map seat_place (xs ++ ys) ≡ map seat_place xs ++ map seat_place ys
     map_both [] ys = refl
     map_both (x ∷ xs) ys = ap (λ l. seat_place x ∷ l) (map_both xs ys)
 
-    ins : (ls : List LanePlan) → map seat_place (map (in_seat {S = S} {D = D} {L = L} {B = B}) ls) ≡ map in_place ls
+    ins : (ls : List LanePlan) → map seat_place (map (in_seat {S = S} {D = D} {L = L} {H = H} {B = B}) ls) ≡ map in_place ls
     ins [] = refl
     ins (l ∷ ls) = ap (λ r. in_place l ∷ r) (ins ls)
 
-    outs : (ls : List LanePlan) → map seat_place (map (out_seat {S = S} {D = D} {L = L} {B = B}) ls) ≡ map out_place ls
+    outs : (ls : List LanePlan) → map seat_place (map (out_seat {S = S} {D = D} {L = L} {H = H} {B = B}) ls) ≡ map out_place ls
     outs [] = refl
     outs (l ∷ ls) = ap (λ r. out_place l ∷ r) (outs ls)
 
-pub unused_whole : {S D L B : Type 0} (nodes : List (Seated S D L B)) (lanes : List LanePlan) → AllUnused nodes → AllUnused (whole_seats nodes lanes)
-unused_whole {S = S} {D = D} {L = L} {B = B} nodes lanes a = unused_both nodes (map in_seat lanes ++ map out_seat lanes) a (unused_both (map in_seat lanes) (map out_seat lanes) (ins lanes) (outs lanes))
+pub unused_whole : {S D L H B : Type 0} (nodes : List (Seated S D L H B)) (lanes : List LanePlan) → AllUnused nodes → AllUnused (whole_seats nodes lanes)
+unused_whole {S = S} {D = D} {L = L} {H = H} {B = B} nodes lanes a = unused_both nodes (map in_seat lanes ++ map out_seat lanes) a (unused_both (map in_seat lanes) (map out_seat lanes) (ins lanes) (outs lanes))
   where
-    unused_both : (xs ys : List (Seated S D L B)) → AllUnused xs → AllUnused ys → AllUnused (xs ++ ys)
+    unused_both : (xs ys : List (Seated S D L H B)) → AllUnused xs → AllUnused ys → AllUnused (xs ++ ys)
     unused_both [] ys a b = b
     unused_both (x ∷ xs) ys a b = (a.0, unused_both xs ys a.1 b)
 
-    ins : (ls : List LanePlan) → AllUnused (map (in_seat {S = S} {D = D} {L = L} {B = B}) ls)
+    ins : (ls : List LanePlan) → AllUnused (map (in_seat {S = S} {D = D} {L = L} {H = H} {B = B}) ls)
     ins [] = tt
     ins (l ∷ ls) = (tt, ins ls)
 
-    outs : (ls : List LanePlan) → AllUnused (map (out_seat {S = S} {D = D} {L = L} {B = B}) ls)
+    outs : (ls : List LanePlan) → AllUnused (map (out_seat {S = S} {D = D} {L = L} {H = H} {B = B}) ls)
     outs [] = tt
     outs (l ∷ ls) = (tt, outs ls)
 
@@ -110,9 +110,9 @@ module _ (homes : List ℕ) (ws : List Edge) (n : ℕ) (each_home : length homes
   pub exit_home : (k j : ℕ) (x : IsLane ws j) → k ≡ n + lanes_in ws + j → slice_index all_homes k ≡ slice_index homes x.wire.from
   exit_home k j x e = get_or_from_slice_get all_homes k _ 0 (three_third homes (λ (l : LanePlan). l.to) (λ (l : LanePlan). l.from) lanes k j _ (omega (arith, e, each_home, many)) (plan_at j x))
 
-module _ {S D L B : Type 0} (homes : List ℕ) (ws : List Edge) (nodes : List (Seated S D L B)) (n : ℕ) (size : length nodes ≡ n) (each_home : length homes ≡ n)
+module _ {S D L H B : Type 0} (homes : List ℕ) (ws : List Edge) (nodes : List (Seated S D L H B)) (n : ℕ) (size : length nodes ≡ n) (each_home : length homes ≡ n)
     (from_node : (i : ℕ) (v : Edge) → slice_get ws i ≡ Some v → v.from < n) (to_node : (i : ℕ) (v : Edge) → slice_get ws i ≡ Some v → v.to < n) where
-  abbrev seats : List (Seated S D L B)
+  abbrev seats : List (Seated S D L H B)
   seats = whole_seats nodes (lanes_from homes 0 ws)
 
   pub seats_count : length seats ≡ n + lanes_in ws + lanes_in ws
@@ -120,7 +120,7 @@ module _ {S D L B : Type 0} (homes : List ℕ) (ws : List Edge) (nodes : List (S
 
   -- ---- what stands where
 
-  pub node_seat : (k : ℕ) (p : Seated S D L B) → slice_get nodes k ≡ Some p → slice_get seats k ≡ Some p
+  pub node_seat : (k : ℕ) (p : Seated S D L H B) → slice_get nodes k ≡ Some p → slice_get seats k ≡ Some p
   node_seat k p at = three_first nodes in_seat out_seat (lanes_from homes 0 ws) k p at
 
   pub entry_seat : (k j : ℕ) (l : LanePlan) → k ≡ n + j → slice_get (lanes_from homes 0 ws) j ≡ Some l → slice_get seats k ≡ Some (in_seat l)
@@ -177,7 +177,7 @@ module _ {S D L B : Type 0} (homes : List ℕ) (ws : List Edge) (nodes : List (S
         entry_home homes ws n each_home l.from e.j e.lane from ∙ sym (ap (slice_index (whole_homes homes (lanes_from homes 0 ws))) to ∙ node_home homes ws n each_home e.lane.wire.to (to_node e.lane.at e.lane.wire e.lane.is)))
         (out_side n ws p l at)
 
-    module _ (no_ends : (k : ℕ) (p : Seated S D L B) → slice_get nodes k ≡ Some p → (is_lane_in p.work ≡ false) × (is_lane_out p.work ≡ false)) where
+    module _ (no_ends : (k : ℕ) (p : Seated S D L H B) → slice_get nodes k ≡ Some p → (is_lane_in p.work ≡ false) × (is_lane_out p.work ≡ false)) where
       no_entry : (k : ℕ) → k < n → comes_in seats k ≡ true → ⊥
       no_entry k lt t =
           let p = there nodes k (omega (arith, lt, size)) in

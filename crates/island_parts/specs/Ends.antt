@@ -30,7 +30,7 @@ leaves_something None = false
 leaves_something (Some y) = true
 
 -- the node, the count and the end of a sink; none of any other node
-abbrev pub sink_of : {S D L B : Type 0} → IslandNode S D L B → Option (ℕ × ℕ × EndState)
+abbrev pub sink_of : {S D L H B : Type 0} → IslandNode S D L H B → Option (ℕ × ℕ × EndState)
 sink_of (node.Reading x) = None
 sink_of (node.Making x) = None
 sink_of (node.Linear x) = None
@@ -45,7 +45,7 @@ sink_of (node.Entering x) = None
 sink_of (node.Leaving x) = None
 
 -- the source that a node leaves, where it is a source of lines
-abbrev pub reader_of : {S D L B : Type 0} → IslandNode S D L B → Option S
+abbrev pub reader_of : {S D L H B : Type 0} → IslandNode S D L H B → Option S
 reader_of (node.Reading x) = Some x.reader.source
 reader_of (node.Making x) = None
 reader_of (node.Linear x) = None
@@ -60,7 +60,7 @@ reader_of (node.Entering x) = None
 reader_of (node.Leaving x) = None
 
 -- the drain that a node leaves, where it is a sink that has a file
-abbrev pub writer_of : {S D L B : Type 0} → IslandNode S D L B → Option D
+abbrev pub writer_of : {S D L H B : Type 0} → IslandNode S D L H B → Option D
 writer_of (node.Reading x) = None
 writer_of (node.Making x) = None
 writer_of (node.Linear x) = None
@@ -75,7 +75,7 @@ writer_of (node.Entering x) = None
 writer_of (node.Leaving x) = None
 
 -- a stage at an end of a lane
-abbrev pub is_lane_end : {S D L B : Type 0} → IslandNode S D L B → Bool
+abbrev pub is_lane_end : {S D L H B : Type 0} → IslandNode S D L H B → Bool
 is_lane_end (node.Reading x) = false
 is_lane_end (node.Making x) = false
 is_lane_end (node.Linear x) = false
@@ -90,20 +90,20 @@ is_lane_end (node.Entering x) = true
 is_lane_end (node.Leaving x) = true
 
 -- each of these nodes is a stage at an end of a lane
-abbrev pub AreLaneEnds : {S D L B : Type 0} → List (IslandNode S D L B) → Type 0
-AreLaneEnds nodes = (k : ℕ) (x : IslandNode _ _ _ _) → slice_get nodes k ≡ Some x → is_lane_end x ≡ true
+abbrev pub AreLaneEnds : {S D L H B : Type 0} → List (IslandNode S D L H B) → Type 0
+AreLaneEnds nodes = (k : ℕ) (x : IslandNode _ _ _ _ _) → slice_get nodes k ≡ Some x → is_lane_end x ≡ true
 
 -- the nodes of all islands in order, with the island and the number of each: those of the blueprint, and behind them the ends of lanes;
 -- and the counts at the outputs of all wires in order, with the island of each
-pub record Whole (S D L B : Type 0) : Type 0 where
+pub record Whole (S D L H B : Type 0) : Type 0 where
   pub homes : List ℕ
-  pub nodes : List (IslandNode S D L B)
+  pub nodes : List (IslandNode S D L H B)
   pub numbers : List ℕ
   pub wire_homes : List ℕ
   pub counts : List (ℕ × WireCount)
 
 -- The end of island k: what its nodes leave, and the counts of its wires, those at the inputs of lanes last.
-pub record IsEndOf {S D L B : Type 0} (w : Whole S D L B) (k : ℕ) (e : IslandEnd S D) : Type 0 where
+pub record IsEndOf {S D L H B : Type 0} (w : Whole S D L H B) (k : ℕ) (e : IslandEnd S D) : Type 0 where
   pub sinks : e.sinks.items ≡ sinks_of (of_home w.homes k w.nodes)
   pub picks : map pick_of e.picks.items ≡ picks_of (of_home w.homes k w.numbers) (of_home w.homes k w.nodes)
   pub misfit : e.misfit ≡ least_of (of_home w.homes k w.numbers) (of_home w.homes k w.nodes)
@@ -114,7 +114,7 @@ pub record IsEndOf {S D L B : Type 0} (w : Whole S D L B) (k : ℕ) (e : IslandE
   pub wires : e.wires.items ≡ of_home w.wire_homes k w.counts ++ fars
 
 -- the ends of all islands
-pub record AreEndsOf {S D L B : Type 0} (w : Whole S D L B) (ends : List (IslandEnd S D)) : Type 0 where
+pub record AreEndsOf {S D L H B : Type 0} (w : Whole S D L H B) (ends : List (IslandEnd S D)) : Type 0 where
   pub below : All (λ h. h < length ends) w.homes
   pub wires_below : All (λ h. h < length ends) w.wire_homes
   pub nodes_each : length w.nodes ≡ length w.homes
@@ -123,7 +123,7 @@ pub record AreEndsOf {S D L B : Type 0} (w : Whole S D L B) (ends : List (Island
   pub each : (k : ℕ) (e : IslandEnd S D) → slice_get ends k ≡ Some e → IsEndOf w k e
 
 -- these are the homes of what is left
-pub record AreHomesOf {S D L B : Type 0} (w : Whole S D L B) (homes : EndHomes) : Type 0 where
+pub record AreHomesOf {S D L H B : Type 0} (w : Whole S D L H B) (homes : EndHomes) : Type 0 where
   pub sinks : homes.sinks.items ≡ homes_left sink_of w.homes w.nodes
   pub wires : homes.wires.items ≡ w.wire_homes
   pub picks : homes.picks.items ≡ homes_left node_picks w.homes w.nodes
@@ -132,7 +132,7 @@ pub record AreHomesOf {S D L B : Type 0} (w : Whole S D L B) (homes : EndHomes) 
   pub writers : homes.writers.items ≡ homes_left writer_of w.homes w.nodes
 
 -- all that the islands leave in one end
-pub record IsWholeEnd {S D L B : Type 0} (w : Whole S D L B) (e : IslandEnd S D) : Type 0 where
+pub record IsWholeEnd {S D L H B : Type 0} (w : Whole S D L H B) (e : IslandEnd S D) : Type 0 where
   pub sinks : e.sinks.items ≡ sinks_of w.nodes
   pub wires : e.wires.items ≡ w.counts
   pub picks : map pick_of e.picks.items ≡ picks_of w.numbers w.nodes

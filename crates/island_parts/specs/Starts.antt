@@ -26,25 +26,25 @@ pub record Appends {X Y : Type 0} (r : X → Y → Type 0) (xs : List X) (old ne
   pub new_is : new ≡ old ++ more
   pub are : AreOf r xs more
 
-module _ {S D L B : Type 0} where
+module _ {S D L H B : Type 0} where
   -- the parts of an island, and room for it
-  pub record CanStart (x : Parts S D L B × IslandRoom S D L B) : Type 0 where
+  pub record CanStart (x : Parts S D L H B × IslandRoom S D L H B) : Type 0 where
     pub parts : AreParts x.0.nodes.items x.0.links.items
     pub room : IsRoom x.1 (map seat_place x.0.nodes.items) x.0.links.items
 
   -- each of these islands can start
-  abbrev pub CanAllStart : List (Parts S D L B × IslandRoom S D L B) → Type 0
-  CanAllStart islands = (k : ℕ) (x : Parts S D L B × IslandRoom S D L B) → slice_get islands k ≡ Some x → CanStart x
+  abbrev pub CanAllStart : List (Parts S D L H B × IslandRoom S D L H B) → Type 0
+  CanAllStart islands = (k : ℕ) (x : Parts S D L H B × IslandRoom S D L H B) → slice_get islands k ≡ Some x → CanStart x
 
   -- what an island leaves has the handles of its nodes
-  pub record IslandLeaves (i : Kept S D L B) (e : IslandEnd S D) : Type 0 where
+  pub record IslandLeaves (i : Kept S D L H B) (e : IslandEnd S D) : Type 0 where
     pub readers : e.readers.items ≡ readers_of i.net.nodes
     pub writers : e.writers.items ≡ writers_of i.net.nodes
 
   module _ (sources : S → SourceState) (drains : D → DrainState) (book : Book) where
     -- An island of these parts has started: it keeps its laws, no unit was used, its nodes began as what stands at its places, and hold
     -- their handles as they were handed in; its connections are its links, and where lanes come in and go out nothing has passed.
-    pub record HasStarted (parts : Parts S D L B) (i : Kept S D L B) : Type 0 where
+    pub record HasStarted (parts : Parts S D L H B) (i : Kept S D L H B) : Type 0 where
       pub whole : i.broken ≡ false
       pub unused : i.used ≡ 0
       pub laws : IslandKeeps sources drains book i.net 0
@@ -59,20 +59,20 @@ module _ {S D L B : Type 0} where
       pub handles : HoldsHandles sources drains parts.nodes.items i.net.nodes
 
     -- each of these islands has started
-    abbrev pub AllStarted : List (Parts S D L B × IslandRoom S D L B) → List (Kept S D L B) → Type 0
-    AllStarted islands started = AreOf (λ (x : Parts S D L B × IslandRoom S D L B). HasStarted x.0) islands started
+    abbrev pub AllStarted : List (Parts S D L H B × IslandRoom S D L H B) → List (Kept S D L H B) → Type 0
+    AllStarted islands started = AreOf (λ (x : Parts S D L H B × IslandRoom S D L H B). HasStarted x.0) islands started
 
   module _ (sources : S → SourceState) (drains : D → DrainState) where
     -- an island was taken apart, and hands its handles back as they were handed in
-    abbrev pub GivesBack : Parts S D L B × IslandRoom S D L B → IslandEnd S D → Type 0
+    abbrev pub GivesBack : Parts S D L H B × IslandRoom S D L H B → IslandEnd S D → Type 0
     GivesBack x e = HandsBack sources drains x.0.nodes.items e
 
     -- each of these islands hands its handles back as they were handed in
-    abbrev pub AllGiveBack : List (Parts S D L B × IslandRoom S D L B) → List (IslandEnd S D) → Type 0
+    abbrev pub AllGiveBack : List (Parts S D L H B × IslandRoom S D L H B) → List (IslandEnd S D) → Type 0
     AllGiveBack islands ends = AreOf GivesBack islands ends
 
     -- what these islands leave that had started, then this, and then what those leave that were not to be started
-    pub record TakenApart (started : List (Kept S D L B)) (end : IslandEnd S D) (rest : List (Parts S D L B × IslandRoom S D L B)) (ends : List (IslandEnd S D))
+    pub record TakenApart (started : List (Kept S D L H B)) (end : IslandEnd S D) (rest : List (Parts S D L H B × IslandRoom S D L H B)) (ends : List (IslandEnd S D))
         : Type 0 where
       pub front : List (IslandEnd S D)
       pub behind : List (IslandEnd S D)

@@ -49,15 +49,15 @@ abbrev pub whole_links : ℕ → List Edge → List Link
 whole_links n ws = nears_from (n + lanes_in ws) 0 ws ++ fars_from n 0 ws
 
 -- the stage at which a lane comes in
-abbrev pub in_seat : {S D L B : Type 0} → LanePlan → Seated S D L B
+abbrev pub in_seat : {S D L H B : Type 0} → LanePlan → Seated S D L H B
 in_seat l = record { node = 0; room = 1; work = LaneIn l.wire }
 
 -- the stage at which a lane goes out
-abbrev pub out_seat : {S D L B : Type 0} → LanePlan → Seated S D L B
+abbrev pub out_seat : {S D L H B : Type 0} → LanePlan → Seated S D L H B
 out_seat l = record { node = 0; room = 1; work = LaneOut l.wire }
 
 -- what stands at all places: the nodes, behind them where lanes come in, and behind these where they go out
-abbrev pub whole_seats : {S D L B : Type 0} → List (Seated S D L B) → List LanePlan → List (Seated S D L B)
+abbrev pub whole_seats : {S D L H B : Type 0} → List (Seated S D L H B) → List LanePlan → List (Seated S D L H B)
 whole_seats nodes lanes = nodes ++ (map in_seat lanes ++ map out_seat lanes)
 
 -- the place at which a lane comes in
@@ -101,8 +101,8 @@ pub record KeepsInside (homes : List ℕ) (ws : List Edge) : Type 0 where
   pub inside : (i : ℕ) (w : Edge) → slice_get ws i ≡ Some w → w.lane ≡ None → slice_index homes w.from ≡ slice_index homes w.to
 
 -- places of nodes, at which no lane comes in or goes out, whose ports these wires join, each wire a wire of the blueprint
-pub record AreNodes {S D L B : Type 0} (ws : List Edge) (nodes : List (Seated S D L B)) : Type 0 where
-  pub no_ends : (k : ℕ) (p : Seated S D L B) → slice_get nodes k ≡ Some p → (is_lane_in p.work ≡ false) × (is_lane_out p.work ≡ false)
+pub record AreNodes {S D L H B : Type 0} (ws : List Edge) (nodes : List (Seated S D L H B)) : Type 0 where
+  pub no_ends : (k : ℕ) (p : Seated S D L H B) → slice_get nodes k ≡ Some p → (is_lane_in p.work ≡ false) × (is_lane_out p.work ≡ false)
   pub unused : AllUnused nodes
   pub ends : List WireEnds
   pub wiring : IsWiring (inputs_at nodes) (outputs_at nodes) (length nodes) ends

@@ -7,19 +7,20 @@ ghost use Rattle.nodes.specs.declared.node.IslandNode.{IslandNode};
 ghost use Rattle.scatter.specs.Shares.{of_home, share_of};
 ghost use Rattle.island_parts.specs.Ends.{homes_left, leaves_something, AreLaneEnds};
 
+use graph_stage::handlers::Handlers;
 use plug_logic::book::PlugBook;
 use plug_logic::logic::Logic;
 use stream_io::outside::{Drain, Source};
 
 /// The stages at the ends of lanes leave nothing: what all places of islands leave is what the blueprint's nodes leave, which stand
 /// before them.
-pub fn lane_ends_leave_nothing<S: Source, D: Drain, L: Logic, B: PlugBook>()
-    ensures sinks { (nodes more : List (IslandNode S D L B)) → AreLaneEnds more → sinks_of (nodes ++ more) ≡ sinks_of nodes }
-    ensures readers { (nodes more : List (IslandNode S D L B)) → AreLaneEnds more → readers_of (nodes ++ more) ≡ readers_of nodes }
-    ensures writers { (nodes more : List (IslandNode S D L B)) → AreLaneEnds more → writers_of (nodes ++ more) ≡ writers_of nodes }
-    ensures picks { (numbers others : List ℕ) (nodes more : List (IslandNode S D L B)) → length numbers ≡ length nodes → AreLaneEnds more
+pub fn lane_ends_leave_nothing<S: Source, D: Drain, L: Logic, H: Handlers, B: PlugBook>()
+    ensures sinks { (nodes more : List (IslandNode S D L H B)) → AreLaneEnds more → sinks_of (nodes ++ more) ≡ sinks_of nodes }
+    ensures readers { (nodes more : List (IslandNode S D L H B)) → AreLaneEnds more → readers_of (nodes ++ more) ≡ readers_of nodes }
+    ensures writers { (nodes more : List (IslandNode S D L H B)) → AreLaneEnds more → writers_of (nodes ++ more) ≡ writers_of nodes }
+    ensures picks { (numbers others : List ℕ) (nodes more : List (IslandNode S D L H B)) → length numbers ≡ length nodes → AreLaneEnds more
         → picks_of (numbers ++ others) (nodes ++ more) ≡ picks_of numbers nodes }
-    ensures seats { (numbers others : List ℕ) (nodes more : List (IslandNode S D L B)) → length numbers ≡ length nodes → AreLaneEnds more
+    ensures seats { (numbers others : List ℕ) (nodes more : List (IslandNode S D L H B)) → length numbers ≡ length nodes → AreLaneEnds more
         → seats_of (numbers ++ others) (nodes ++ more) ≡ seats_of numbers nodes }
 {}
 

@@ -5,6 +5,7 @@ ghost use Rattle.island_parts.specs.Room.{IsRoomForEnds};
 
 use crate::lists::{cut, sort};
 use crate::room::{EndHomes, EndRoom};
+use graph_stage::handlers::Handlers;
 use interpreter::island::IslandEnd;
 use plug_logic::book::PlugBook;
 use plug_logic::logic::Logic;
@@ -13,14 +14,14 @@ use stream_io::outside::{Drain, Source};
 
 /// Brings the ends of all islands, in their order, back into one: each list is in order of the blueprint's nodes, and the counts
 /// are those at the outputs of its wires, in their order. It takes no memory.
-pub fn join_ends<S: Source, D: Drain, L: Logic, B: PlugBook>(
+pub fn join_ends<S: Source, D: Drain, L: Logic, H: Handlers, B: PlugBook>(
     ends: Vec<IslandEnd<S, D>>,
     homes: &EndHomes,
     room: EndRoom<S, D>,
 ) -> IslandEnd<S, D>
     requires room { IsRoomForEnds homes.now (vec_len ends) room }
-    requires ends { (w : Whole S D L B) × (AreEndsOf w ends.items) × (AreHomesOf w homes.now) }
-    ensures { (w : Whole S D L B) → AreEndsOf w ends.items → AreHomesOf w homes.now → IsWholeEnd w result }
+    requires ends { (w : Whole S D L H B) × (AreEndsOf w ends.items) × (AreHomesOf w homes.now) }
+    ensures { (w : Whole S D L H B) → AreEndsOf w ends.items → AreHomesOf w homes.now → IsWholeEnd w result }
 {
     let EndRoom { counts, lists, end } = room;
     let mut lists = sort(ends, lists);

@@ -10,6 +10,7 @@ use crate::whole::{whole_homes, whole_places};
 use blue_check::plan::LanePlan;
 use blue_names::links::NumberedWire as WireLink;
 use elem_core::why::NoMemory;
+use graph_stage::handlers::Handlers;
 use interpreter::parts::{Parts, Place, Seated};
 use interpreter::room::IslandRoom;
 use plug_logic::book::PlugBook;
@@ -20,18 +21,18 @@ use std::alloc::{AllocError, Global};
 use stream_io::outside::{Drain, Source};
 
 /// All that the islands of a blueprint take of memory before they start, but what their nodes need.
-pub struct Split<S: Source, D: Drain, L: Logic, B: PlugBook> {
+pub struct Split<S: Source, D: Drain, L: Logic, H: Handlers, B: PlugBook> {
     // The island of each place: of the nodes, of those where lanes come in, of those where they go out.
     pub(crate) homes: Vec<usize>,
     // They are empty, and have room for the places of each island.
-    pub(crate) lists: Vec<Vec<Seated<S, D, L, B>>>,
-    pub(crate) spaces: Vec<Space<S, D, L, B>>,
+    pub(crate) lists: Vec<Vec<Seated<S, D, L, H, B>>>,
+    pub(crate) spaces: Vec<Space<S, D, L, H, B>>,
     // It is empty, and has room for all islands.
-    pub(crate) islands: Vec<(Parts<S, D, L, B>, IslandRoom<S, D, L, B>)>,
+    pub(crate) islands: Vec<(Parts<S, D, L, H, B>, IslandRoom<S, D, L, H, B>)>,
 }
 
 // Dropped by a call, wherever it is dropped: else each of its lists is let go on each way out of a function that holds it.
-impl<S: Source, D: Drain, L: Logic, B: PlugBook> Drop for Split<S, D, L, B> {
+impl<S: Source, D: Drain, L: Logic, H: Handlers, B: PlugBook> Drop for Split<S, D, L, H, B> {
     fn drop(self) {
         let Split {
             homes: _,
@@ -53,14 +54,14 @@ fn sum(a: usize, b: usize) -> Result<usize, NoMemory>
 }
 
 /// The islands of these nodes, of which each has one of so many homes, where these wires join them, and these of them have a lane.
-pub fn split_of<S: Source, D: Drain, L: Logic, B: PlugBook>(
+pub fn split_of<S: Source, D: Drain, L: Logic, H: Handlers, B: PlugBook>(
     alloc: Global,
     nodes: Vec<Place>,
     wires: &[WireLink],
     homes: Vec<usize>,
     count: usize,
     lanes: &[LanePlan],
-) -> Result<Split<S, D, L, B>, NoMemory>
+) -> Result<Split<S, D, L, H, B>, NoMemory>
     requires each { vec_len homes ≡ vec_len nodes }
     requires below { All (λ h. h < count) homes.items }
     requires ports { All (λ w. (w.output < 2 ^ 8) × (w.input < 2 ^ 8)) wires.now }
@@ -90,11 +91,11 @@ pub fn split_of<S: Source, D: Drain, L: Logic, B: PlugBook>(
 }
 
 /// The parts and the rooms of islands, in order, into an empty list that has room for them.
-fn join_lists<S: Source, D: Drain, L: Logic, B: PlugBook>(
-    lists: Vec<Vec<Seated<S, D, L, B>>>,
-    spaces: Vec<Space<S, D, L, B>>,
-    islands: Vec<(Parts<S, D, L, B>, IslandRoom<S, D, L, B>)>,
-) -> Vec<(Parts<S, D, L, B>, IslandRoom<S, D, L, B>)>
+fn join_lists<S: Source, D: Drain, L: Logic, H: Handlers, B: PlugBook>(
+    lists: Vec<Vec<Seated<S, D, L, H, B>>>,
+    spaces: Vec<Space<S, D, L, H, B>>,
+    islands: Vec<(Parts<S, D, L, H, B>, IslandRoom<S, D, L, H, B>)>,
+) -> Vec<(Parts<S, D, L, H, B>, IslandRoom<S, D, L, H, B>)>
     requires many { vec_len lists ≡ vec_len spaces }
     requires empty { islands.items ≡ [] }
     requires room { vec_len lists ≤ vec_capacity islands }
@@ -108,13 +109,13 @@ fn join_lists<S: Source, D: Drain, L: Logic, B: PlugBook>(
     islands
 }
 
-impl<S: Source, D: Drain, L: Logic, B: PlugBook> Split<S, D, L, B> {
+impl<S: Source, D: Drain, L: Logic, H: Handlers, B: PlugBook> Split<S, D, L, H, B> {
     /// The parts and the room of each island, in order, once all places are there, those of nodes first, then those where lanes come
     /// in, then those where they go out. It takes no memory.
     pub fn join(
         self,
-        seats: Vec<Seated<S, D, L, B>>,
-    ) -> Vec<(Parts<S, D, L, B>, IslandRoom<S, D, L, B>)>
+        seats: Vec<Seated<S, D, L, H, B>>,
+    ) -> Vec<(Parts<S, D, L, H, B>, IslandRoom<S, D, L, H, B>)>
         requires ready { IsReady (vec_len self.lists) self }
         requires each { vec_len seats ≡ vec_len self.homes }
         ensures { AreIslands self seats.items result.items }

@@ -3,6 +3,7 @@ ghost use Rattle.std.specs.Prelude.{◌≡◌, ◌≤◌, ◌+◌, [], length, I
 ghost use Rattle.std.specs.Vec.Iter.{into_iter_items, into_iter_len};
 ghost use Rattle.island_parts.specs.Starts.{CanStart, CanAllStart, HasStarted, AllStarted, GivesBack, AllGiveBack, IslandLeaves, Appends, TakenApart};
 
+use graph_stage::handlers::Handlers;
 use interpreter::island::{Island, IslandEnd, StartEnd, hand_back};
 use interpreter::parts::Parts;
 use interpreter::room::IslandRoom;
@@ -15,12 +16,12 @@ use stream_io::outside::{Drain, Source};
 /// Starts the islands of these parts, in order, each in the room that was taken for it. Where memory was wanting all are taken apart,
 /// those that had started and those that had not: what each leaves stands in order, with its handles as they were handed in. `started`
 /// and `ends` are empty and have room for all islands, so only a node may want memory.
-pub fn start_all<S: Source, D: Drain, L: Logic, B: PlugBook>(
+pub fn start_all<S: Source, D: Drain, L: Logic, H: Handlers, B: PlugBook>(
     alloc: Global,
-    islands: Vec<(Parts<S, D, L, B>, IslandRoom<S, D, L, B>)>,
-    started: Vec<Island<S, D, L, B>>,
+    islands: Vec<(Parts<S, D, L, H, B>, IslandRoom<S, D, L, H, B>)>,
+    started: Vec<Island<S, D, L, H, B>>,
     ends: Vec<IslandEnd<S, D>>,
-) -> Result<Vec<Island<S, D, L, B>>, Vec<IslandEnd<S, D>>>
+) -> Result<Vec<Island<S, D, L, H, B>>, Vec<IslandEnd<S, D>>>
     requires can { CanAllStart islands.items }
     requires none_started { started.items ≡ [] }
     requires room_to_start { vec_len islands ≤ vec_capacity started }
@@ -41,10 +42,10 @@ pub fn start_all<S: Source, D: Drain, L: Logic, B: PlugBook>(
 }
 
 // One island, which gives its handles back where it did not start.
-fn start_one<S: Source, D: Drain, L: Logic, B: PlugBook>(
+fn start_one<S: Source, D: Drain, L: Logic, H: Handlers, B: PlugBook>(
     alloc: Global,
-    island: (Parts<S, D, L, B>, IslandRoom<S, D, L, B>),
-) -> Result<Island<S, D, L, B>, IslandEnd<S, D>>
+    island: (Parts<S, D, L, H, B>, IslandRoom<S, D, L, H, B>),
+) -> Result<Island<S, D, L, H, B>, IslandEnd<S, D>>
     requires { CanStart island }
     ensures started { IfOk result (HasStarted S.state D.state B.lists island.0) }
     ensures ended { IfErr result (GivesBack S.state D.state island) }
@@ -57,11 +58,11 @@ fn start_one<S: Source, D: Drain, L: Logic, B: PlugBook>(
 }
 
 // What all leave: the islands that had started, the one that did not, and those behind it.
-fn take_apart<S: Source, D: Drain, L: Logic, B: PlugBook>(
+fn take_apart<S: Source, D: Drain, L: Logic, H: Handlers, B: PlugBook>(
     alloc: Global,
-    started: Vec<Island<S, D, L, B>>,
+    started: Vec<Island<S, D, L, H, B>>,
     end: IslandEnd<S, D>,
-    rest: IntoIter<(Parts<S, D, L, B>, IslandRoom<S, D, L, B>), Global>,
+    rest: IntoIter<(Parts<S, D, L, H, B>, IslandRoom<S, D, L, H, B>), Global>,
     ends: Vec<IslandEnd<S, D>>,
 ) -> Vec<IslandEnd<S, D>>
     requires can { CanAllStart (into_iter_items rest) }
@@ -78,8 +79,8 @@ fn take_apart<S: Source, D: Drain, L: Logic, B: PlugBook>(
 }
 
 // What each of these islands leaves goes behind what others left.
-fn finish_all<S: Source, D: Drain, L: Logic, B: PlugBook>(
-    islands: Vec<Island<S, D, L, B>>,
+fn finish_all<S: Source, D: Drain, L: Logic, H: Handlers, B: PlugBook>(
+    islands: Vec<Island<S, D, L, H, B>>,
     ends: &mut Vec<IslandEnd<S, D>>,
 )
     requires room { vec_len ends.old + vec_len islands ≤ vec_capacity ends.old }
@@ -93,7 +94,9 @@ fn finish_all<S: Source, D: Drain, L: Logic, B: PlugBook>(
 }
 
 // What an island leaves.
-fn finish<S: Source, D: Drain, L: Logic, B: PlugBook>(island: Island<S, D, L, B>) -> IslandEnd<S, D>
+fn finish<S: Source, D: Drain, L: Logic, H: Handlers, B: PlugBook>(
+    island: Island<S, D, L, H, B>,
+) -> IslandEnd<S, D>
     ensures { IslandLeaves island result }
 {
     match island.finish() {
@@ -103,9 +106,9 @@ fn finish<S: Source, D: Drain, L: Logic, B: PlugBook>(island: Island<S, D, L, B>
 }
 
 // The same of islands that are not to be started.
-fn hand_all_back<S: Source, D: Drain, L: Logic, B: PlugBook>(
+fn hand_all_back<S: Source, D: Drain, L: Logic, H: Handlers, B: PlugBook>(
     alloc: Global,
-    islands: IntoIter<(Parts<S, D, L, B>, IslandRoom<S, D, L, B>), Global>,
+    islands: IntoIter<(Parts<S, D, L, H, B>, IslandRoom<S, D, L, H, B>), Global>,
     ends: &mut Vec<IslandEnd<S, D>>,
 )
     requires can { CanAllStart (into_iter_items islands) }
@@ -120,9 +123,9 @@ fn hand_all_back<S: Source, D: Drain, L: Logic, B: PlugBook>(
 }
 
 // One of them.
-fn hand_one_back<S: Source, D: Drain, L: Logic, B: PlugBook>(
+fn hand_one_back<S: Source, D: Drain, L: Logic, H: Handlers, B: PlugBook>(
     alloc: Global,
-    island: (Parts<S, D, L, B>, IslandRoom<S, D, L, B>),
+    island: (Parts<S, D, L, H, B>, IslandRoom<S, D, L, H, B>),
 ) -> IslandEnd<S, D>
     requires { CanStart island }
     ensures { GivesBack S.state D.state island result }

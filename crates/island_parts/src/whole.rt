@@ -4,6 +4,7 @@ ghost use Rattle.island_parts.specs.Whole.{in_place, out_place, whole_homes, who
 
 use blue_check::plan::LanePlan;
 use elem_core::why::NoMemory;
+use graph_stage::handlers::Handlers;
 use interpreter::parts::{Place, Seated, Work};
 use plug_logic::book::PlugBook;
 use plug_logic::logic::Logic;
@@ -60,10 +61,10 @@ pub fn whole_places(nodes: Vec<Place>, lanes: &[LanePlan]) -> Result<Vec<Place>,
 }
 
 /// The same with what stands there, in a list that has room for them. It takes no memory.
-pub fn whole_seats<S: Source, D: Drain, L: Logic, B: PlugBook>(
-    nodes: Vec<Seated<S, D, L, B>>,
+pub fn whole_seats<S: Source, D: Drain, L: Logic, H: Handlers, B: PlugBook>(
+    nodes: Vec<Seated<S, D, L, H, B>>,
     lanes: &[LanePlan],
-) -> Vec<Seated<S, D, L, B>>
+) -> Vec<Seated<S, D, L, H, B>>
     requires room { vec_len nodes + length lanes.now + length lanes.now ≤ vec_capacity nodes }
     ensures { result.items ≡ whole_seats nodes.items lanes.now }
 {

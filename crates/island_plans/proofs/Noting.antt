@@ -31,10 +31,10 @@ at_place [] n d h = absurd (omega (arith, h))
 at_place (x ∷ xs) zero d h = refl
 at_place (x ∷ xs) (suc n) d h = at_place xs n d (omega (arith, h))
 
-module _ {S D L B : Type 0} (bodies : List (Body S D L B)) where
+module _ {S D L H B : Type 0} (bodies : List (Body S D L H B)) where
   -- what the input end of a crossing has asked for
   abbrev pub Asks : Crossing → ℕ → Type 0
-  Asks c a = (b : Body S D L B) (x : IslandInput) → slice_get bodies c.to ≡ Some b → slice_get b.ins.items c.inp ≡ Some x → a ≡ asked_in_all x.boundary.lane
+  Asks c a = (b : Body S D L H B) (x : IslandInput) → slice_get bodies c.to ≡ Some b → slice_get b.ins.items c.inp ≡ Some x → a ≡ asked_in_all x.boundary.lane
 
   module _ (crossings : List Crossing) where
     -- so much was asked for at the crossing of a place

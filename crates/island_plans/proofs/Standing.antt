@@ -55,9 +55,9 @@ pub places_count : (ws : List WireDecl) (k : ℕ) (ns : List Node) → length (p
 places_count ws k [] = refl
 places_count ws k (n ∷ ns) = ap suc (places_count ws (k + 1) ns)
 
-module _ {S D L B : Type 0} where
+module _ {S D L H B : Type 0} where
   -- a node of a blueprint is no end of a lane
-  no_end : (around : Around) (k : ℕ) (n : Node) (ss : List S) (ds : List D) (w : Work S D L B) → IsWork around k n ss ds w → (is_lane_in w ≡ false) × (is_lane_out w ≡ false)
+  no_end : (around : Around) (k : ℕ) (n : Node) (ss : List S) (ds : List D) (w : Work S D L H B) → IsWork around k n ss ds w → (is_lane_in w ≡ false) × (is_lane_out w ≡ false)
   no_end around k n ss ds (work.Reading r) is = (refl, refl)
   no_end around k n ss ds (work.Making shape) is = (refl, refl)
   no_end around k n ss ds (work.Linear l) is = (refl, refl)
@@ -71,17 +71,17 @@ module _ {S D L B : Type 0} where
   no_end around k n ss ds (work.Writing shape (Some d)) is = (refl, refl)
   no_end around k n ss ds (work.Writing shape None) is = (refl, refl)
 
-  no_ends : (around : Around) (k : ℕ) (ns : List Node) (ss : List S) (ds : List D) (ps : List (Seated S D L B)) (j : ℕ) (p : Seated S D L B) → AreSeats around k ns ss ds ps → slice_get ps j ≡ Some p → (is_lane_in p.work ≡ false) × (is_lane_out p.work ≡ false)
+  no_ends : (around : Around) (k : ℕ) (ns : List Node) (ss : List S) (ds : List D) (ps : List (Seated S D L H B)) (j : ℕ) (p : Seated S D L H B) → AreSeats around k ns ss ds ps → slice_get ps j ≡ Some p → (is_lane_in p.work ≡ false) × (is_lane_out p.work ≡ false)
   no_ends around k [] ss ds [] j p a at = absurd cc
   no_ends around k [] ss ds (q ∷ ps) j p a at = absurd a
   no_ends around k (n ∷ ns) ss ds [] j p a at = absurd a
   no_ends around k (n ∷ ns) ss ds (q ∷ ps) zero p a at =
       let e : q ≡ p = cc in
-      subst (λ (x : Seated S D L B). (is_lane_in x.work ≡ false) × (is_lane_out x.work ≡ false)) e (no_end around k n ss ds q.work a.1.0)
+      subst (λ (x : Seated S D L H B). (is_lane_in x.work ≡ false) × (is_lane_out x.work ≡ false)) e (no_end around k n ss ds q.work a.1.0)
   no_ends around k (n ∷ ns) ss ds (q ∷ ps) (suc j) p a at = no_ends around (k + 1) ns _ _ ps j p a.1.1 at
 
   -- the wires of a blueprint join every port of its nodes
-  pub are_nodes : (b : Blueprint) (ss : List S) (ds : List D) (nodes : List (Seated S D L B)) → CanRun b → AreSeats (around_of b) 0 b.nodes.items ss ds nodes → AreNodes (blueprint_wires b) nodes
+  pub are_nodes : (b : Blueprint) (ss : List S) (ds : List D) (nodes : List (Seated S D L H B)) → CanRun b → AreSeats (around_of b) 0 b.nodes.items ss ds nodes → AreNodes (blueprint_wires b) nodes
   are_nodes b ss ds nodes r a =
       let ws = blueprint_wires b in
       record {

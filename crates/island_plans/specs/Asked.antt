@@ -15,21 +15,21 @@ AreWithin count lanes = (n : ℕ) (l : LanePlan) → slice_get lanes n ≡ Some 
 abbrev pub with_demand : WireCount → ℕ → WireCount
 with_demand c all = record { sent = c.sent; asked = nat_le (suc c.sent) all; shut = c.shut }
 
-module _ {S D L B : Type 0} where
+module _ {S D L H B : Type 0} where
   -- the input end of this crossing is there
-  pub record LiesThere (bodies : List (Body S D L B)) (c : Crossing) : Type 0 where
-    pub body : Body S D L B
+  pub record LiesThere (bodies : List (Body S D L H B)) (c : Crossing) : Type 0 where
+    pub body : Body S D L H B
     pub body_at : slice_get bodies c.to ≡ Some body
     pub inp_there : c.inp < length body.ins.items
 
   -- the input end of each of these crossings is there
-  abbrev pub LieThere : List (Body S D L B) → List Crossing → Type 0
+  abbrev pub LieThere : List (Body S D L H B) → List Crossing → Type 0
   LieThere bodies crossings = (n : ℕ) (c : Crossing) → slice_get crossings n ≡ Some c → LiesThere bodies c
 
   -- of each crossing how many elements the input end there has asked for in all
-  pub record AreAsked (bodies : List (Body S D L B)) (crossings : List Crossing) (all : List ℕ) : Type 0 where
+  pub record AreAsked (bodies : List (Body S D L H B)) (crossings : List Crossing) (all : List ℕ) : Type 0 where
     pub many : length all ≡ length crossings
-    pub each : (n : ℕ) (c : Crossing) (b : Body S D L B) (x : IslandInput) → slice_get crossings n ≡ Some c → slice_get bodies c.to ≡ Some b
+    pub each : (n : ℕ) (c : Crossing) (b : Body S D L H B) (x : IslandInput) → slice_get crossings n ≡ Some c → slice_get bodies c.to ≡ Some b
         → slice_get b.ins.items c.inp ≡ Some x → slice_get all n ≡ Some (asked_in_all x.boundary.lane)
 
 -- The count of each lane says whether more was asked in all than was sent, where so much was asked of the lanes; all else is as before.

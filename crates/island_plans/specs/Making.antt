@@ -36,9 +36,9 @@ pub record AreBlank (homes : List ℕ) (count : ℕ) (tables : List (Vec Way Glo
   pub many : length tables ≡ count
   pub each : (k : ℕ) (t : Vec Way Global) → slice_get tables k ≡ Some t → t.items ≡ replicate (share_of k homes) Inner
 
-module _ {S D L B : Type 0} where
+module _ {S D L H B : Type 0} where
   -- There is all memory for the bodies of so many islands, and for their ends: `wires` are the islands in which wires begin.
-  pub record IsRoomForBodies (wires : List ℕ) (lanes : List LanePlan) (count : ℕ) (r : BodyRoom S D L B) : Type 0 where
+  pub record IsRoomForBodies (wires : List ℕ) (lanes : List LanePlan) (count : ℕ) (r : BodyRoom S D L H B) : Type 0 where
     pub blank : AreBlank (way_homes wires lanes) count r.tables.items
     pub peers : ArePeers lanes count r.peers.items
     pub no_bodies : r.bodies.items ≡ []
@@ -48,16 +48,16 @@ module _ {S D L B : Type 0} where
 
   -- Islands that have started, of each the ends of its lanes, which stand there, a blank table with a row for each of its
   -- connections, and the island at the other end of each lane.
-  pub record CanAllBegin (islands : List (Kept S D L B)) (ins : List (Vec IslandInput Global)) (outs : List (Vec OutputBoundary Global))
+  pub record CanAllBegin (islands : List (Kept S D L H B)) (ins : List (Vec IslandInput Global)) (outs : List (Vec OutputBoundary Global))
       (tables : List (Vec Way Global)) (peers : List Peers) : Type 0 where
     pub ins_many : length ins ≡ length islands
     pub outs_many : length outs ≡ length islands
     pub tables_many : length tables ≡ length islands
-    pub begin : (k : ℕ) (i : Kept S D L B) (x : Vec IslandInput Global) (o : Vec OutputBoundary Global) → slice_get islands k ≡ Some i
+    pub begin : (k : ℕ) (i : Kept S D L H B) (x : Vec IslandInput Global) (o : Vec OutputBoundary Global) → slice_get islands k ≡ Some i
         → slice_get ins k ≡ Some x → slice_get outs k ≡ Some o → BodyBegins i x.items o.items
     pub few_ins : (k : ℕ) (x : Vec IslandInput Global) → slice_get ins k ≡ Some x → length x.items ≤ 4294967295
     pub few_outs : (k : ℕ) (o : Vec OutputBoundary Global) → slice_get outs k ≡ Some o → length o.items ≤ 4294967295
-    pub blank : (k : ℕ) (i : Kept S D L B) (t : Vec Way Global) → slice_get islands k ≡ Some i → slice_get tables k ≡ Some t
+    pub blank : (k : ℕ) (i : Kept S D L H B) (t : Vec Way Global) → slice_get islands k ≡ Some i → slice_get tables k ≡ Some t
         → t.items ≡ replicate (length i.net.wires) Inner
     pub peers_many : length peers ≡ length islands
     pub in_peers : (k : ℕ) (x : Vec IslandInput Global) (p : Peers) → slice_get ins k ≡ Some x → slice_get peers k ≡ Some p
@@ -68,21 +68,21 @@ module _ {S D L B : Type 0} where
   module _ (sources : S → SourceState) (drains : D → DrainState) (book : Book) where
     -- The body of this island with the ends of these lanes: it keeps what bodies keep, its island went on from this one, its lanes
     -- are these, and no unit was spent.
-    pub record IsBodyOf (i : Kept S D L B) (ins : List IslandInput) (outs : List OutputBoundary) (b : Body S D L B) : Type 0 where
+    pub record IsBodyOf (i : Kept S D L H B) (ins : List IslandInput) (outs : List OutputBoundary) (b : Body S D L H B) : Type 0 where
       pub keeps : BodyKeeps sources drains book b
       pub goes : IslandGoes i b.island
       pub lanes : SameLanes ins b.ins.items outs b.outs.items
       pub unspent : b.spent ≡ 0
 
     -- the bodies of these islands, in their order
-    pub record AreAllBodies (islands : List (Kept S D L B)) (ins : List (Vec IslandInput Global)) (outs : List (Vec OutputBoundary Global))
-        (bodies : List (Body S D L B)) : Type 0 where
+    pub record AreAllBodies (islands : List (Kept S D L H B)) (ins : List (Vec IslandInput Global)) (outs : List (Vec OutputBoundary Global))
+        (bodies : List (Body S D L H B)) : Type 0 where
       pub many : length bodies ≡ length islands
-      pub each : (k : ℕ) (i : Kept S D L B) (x : Vec IslandInput Global) (o : Vec OutputBoundary Global) (b : Body S D L B) → slice_get islands k ≡ Some i
+      pub each : (k : ℕ) (i : Kept S D L H B) (x : Vec IslandInput Global) (o : Vec OutputBoundary Global) (b : Body S D L H B) → slice_get islands k ≡ Some i
           → slice_get ins k ≡ Some x → slice_get outs k ≡ Some o → slice_get bodies k ≡ Some b → IsBodyOf i x.items o.items b
 
   -- what the island of a body leaves
-  pub record IsEndOfBody (b : Body S D L B) (e : IslandEnd S D) : Type 0 where
+  pub record IsEndOfBody (b : Body S D L H B) (e : IslandEnd S D) : Type 0 where
     pub sinks : e.sinks.items ≡ sinks_of b.island.net.nodes
     pub wires : e.wires.items ≡ counts_of b.island.numbers b.island.net.wires
     pub picks : map pick_of e.picks.items ≡ picks_of b.island.places b.island.net.nodes
@@ -92,6 +92,6 @@ module _ {S D L B : Type 0} where
     pub writers : e.writers.items ≡ writers_of b.island.net.nodes
 
   -- and what those of all leave, in their order
-  pub record AreEndsOfBodies (bodies : List (Body S D L B)) (ends : List (IslandEnd S D)) : Type 0 where
+  pub record AreEndsOfBodies (bodies : List (Body S D L H B)) (ends : List (IslandEnd S D)) : Type 0 where
     pub many : length ends ≡ length bodies
-    pub each : (k : ℕ) (b : Body S D L B) (e : IslandEnd S D) → slice_get bodies k ≡ Some b → slice_get ends k ≡ Some e → IsEndOfBody b e
+    pub each : (k : ℕ) (b : Body S D L H B) (e : IslandEnd S D) → slice_get bodies k ≡ Some b → slice_get ends k ≡ Some e → IsEndOfBody b e

@@ -23,5 +23,5 @@ pub record ArePeers (lanes : List LanePlan) (count : ℕ) (peers : List Peers) :
       (map (λ (l : LanePlan). l.to) lanes)
 
 -- each body has these
-pub record HavePeers {S D L B : Type 0} (peers : List Peers) (bodies : List (Body S D L B)) : Type 0 where
-  pub each : (k : ℕ) (p : Peers) (b : Body S D L B) → slice_get peers k ≡ Some p → slice_get bodies k ≡ Some b → (b.peers.ins ≡ p.ins) × (b.peers.outs ≡ p.outs)
+pub record HavePeers {S D L H B : Type 0} (peers : List Peers) (bodies : List (Body S D L H B)) : Type 0 where
+  pub each : (k : ℕ) (p : Peers) (b : Body S D L H B) → slice_get peers k ≡ Some p → slice_get bodies k ≡ Some b → (b.peers.ins ≡ p.ins) × (b.peers.outs ≡ p.outs)

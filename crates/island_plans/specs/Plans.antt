@@ -30,7 +30,7 @@ use Rattle.island_plans.specs.declared.plans.Plans.{Plans}
 -- the plans of the islands of their blueprint, which can be run: its seats, the memory of all islands, an empty list with room for
 -- its nodes and for both ends of each lane, the lanes, the islands of its nodes and of what their ends list, and the board of its
 -- kill switches, at which its seats are; each seat may put as many lines together as its wire lets
-pub record IsPlans {S D L B : Type 0} (p : Plans S D L B) : Type 0 where
+pub record IsPlans {S D L H B : Type 0} (p : Plans S D L H B) : Type 0 where
   pub runs : CanRun p.blueprint.value
   pub homes_are : AreNumberedHomes (length p.blueprint.value.nodes.items) p.count (blueprint_wires p.blueprint.value) p.homes.items
   pub lanes_are : p.lanes.items ≡ lanes_from p.homes.items 0 (blueprint_wires p.blueprint.value)
@@ -45,16 +45,16 @@ pub record IsPlans {S D L B : Type 0} (p : Plans S D L B) : Type 0 where
   pub room_for_places : vec_len p.seats + length p.lanes.items + length p.lanes.items ≤ vec_capacity p.places
 
 -- of each node the moves that it follows, where it follows some
-abbrev pub led_plans : {S D L B : Type 0} → Plans S D L B → List (Option (List ℕ))
+abbrev pub led_plans : {S D L H B : Type 0} → Plans S D L H B → List (Option (List ℕ))
 led_plans p = map planned_plan p.seats.items
 
 -- of each node the types of its outputs, where it is a custom stage
-abbrev pub made_types : {S D L B : Type 0} → Plans S D L B → List (Option (List Sort))
+abbrev pub made_types : {S D L H B : Type 0} → Plans S D L H B → List (Option (List Sort))
 made_types p = map planned_types p.seats.items
 
 -- the parts and the room of island k of these nodes, which have these homes, where these wires join them and these lanes are cut
-pub record IsIslandOf {S D L B : Type 0} (homes : List ℕ) (ws : List Edge) (lanes : List LanePlan) (nodes : List (Seated S D L B)) (k : ℕ)
-    (x : Parts S D L B × IslandRoom S D L B) : Type 0 where
+pub record IsIslandOf {S D L H B : Type 0} (homes : List ℕ) (ws : List Edge) (lanes : List LanePlan) (nodes : List (Seated S D L H B)) (k : ℕ)
+    (x : Parts S D L H B × IslandRoom S D L H B) : Type 0 where
   pub nodes_are : x.0.nodes.items ≡ of_home (whole_homes homes lanes) k (whole_seats nodes lanes)
   pub links_are : x.0.links.items ≡ own_links (whole_homes homes lanes) (whole_links (length nodes) ws) k
   pub parts : AreParts x.0.nodes.items x.0.links.items
@@ -62,8 +62,8 @@ pub record IsIslandOf {S D L B : Type 0} (homes : List ℕ) (ws : List Edge) (la
 
 -- the islands of a blueprint, whose nodes hold these sources and drains, each in the order of nodes, and their seats at the board of
 -- its kill switches
-pub record IsFilled {S D L B : Type 0} (b : Blueprint) (sources : List S) (drains : List D) (f : Filled S D L B) : Type 0 where
-  pub nodes : List (Seated S D L B)
+pub record IsFilled {S D L H B : Type 0} (b : Blueprint) (sources : List S) (drains : List D) (f : Filled S D L H B) : Type 0 where
+  pub nodes : List (Seated S D L H B)
   pub seats : AreSeats (around_of b) 0 b.nodes.items sources drains nodes
   pub joined : AreNodes (blueprint_wires b) nodes
   pub sources_are : sources_in nodes ≡ sources
@@ -75,5 +75,5 @@ pub record IsFilled {S D L B : Type 0} (b : Blueprint) (sources : List S) (drain
   pub at_switches : AreAtSwitches (map (λ (n : Node). n.kind) b.nodes.items) f.board (map place_seat nodes)
   pub rooms : map place_room nodes ≡ rooms_by (length b.nodes.items) (blueprint_wires b)
   pub many : length f.islands.items ≡ f.count
-  pub each : (k : ℕ) (x : Parts S D L B × IslandRoom S D L B) → slice_get f.islands.items k ≡ Some x
+  pub each : (k : ℕ) (x : Parts S D L H B × IslandRoom S D L H B) → slice_get f.islands.items k ≡ Some x
       → IsIslandOf f.homes.items (blueprint_wires b) f.lanes.items nodes k x

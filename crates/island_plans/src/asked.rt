@@ -7,6 +7,7 @@ ghost use Rattle.island_body.specs.declared.input.IslandInput as inputs;
 ghost use Rattle.island_plans.specs.Asked.{LiesThere, LieThere, AreWithin, AreAsked, AreNoted, with_demand};
 
 use blue_check::plan::LanePlan;
+use graph_stage::handlers::Handlers;
 use island_body::body::Body;
 use lane_core::crossing::Crossing;
 use plug_logic::book::PlugBook;
@@ -16,8 +17,8 @@ use stream_model::outcome::WireCount;
 
 /// Of each lane how many elements its input end has asked for in all: `crossings` says where its two ends lie. `all` is empty and has
 /// room for each: it takes no memory.
-pub fn asked_of<S: Source, D: Drain, L: Logic, B: PlugBook>(
-    bodies: &[Body<S, D, L, B>],
+pub fn asked_of<S: Source, D: Drain, L: Logic, H: Handlers, B: PlugBook>(
+    bodies: &[Body<S, D, L, H, B>],
     crossings: &[Crossing],
     all: Vec<u64>,
 ) -> Vec<u64>
@@ -34,12 +35,12 @@ pub fn asked_of<S: Source, D: Drain, L: Logic, B: PlugBook>(
 }
 
 // How many elements the input end at a crossing has asked for in all.
-fn asked_at<S: Source, D: Drain, L: Logic, B: PlugBook>(
-    bodies: &[Body<S, D, L, B>],
+fn asked_at<S: Source, D: Drain, L: Logic, H: Handlers, B: PlugBook>(
+    bodies: &[Body<S, D, L, H, B>],
     crossing: &Crossing,
 ) -> u64
     requires { LiesThere bodies.now crossing.now }
-    ensures { (b : island.Body S D L B) (x : inputs.IslandInput) → slice_get bodies.now crossing.now.to ≡ Some b
+    ensures { (b : island.Body S D L H B) (x : inputs.IslandInput) → slice_get bodies.now crossing.now.to ≡ Some b
         → slice_get b.ins.items crossing.now.inp ≡ Some x → result ≡ asked_in_all x.boundary.lane }
 {
     bodies[crossing.to as usize].asked(crossing.inp as usize)

@@ -4,6 +4,7 @@ ghost use Rattle.std.specs.Vec.Iter.{into_iter_items, into_iter_len};
 ghost use Rattle.island_plans.specs.Making.{CanAllBegin, AreAllBodies, AreEndsOfBodies};
 ghost use Rattle.island_plans.specs.Peers.{HavePeers};
 
+use graph_stage::handlers::Handlers;
 use interpreter::island::{Island, IslandEnd};
 use island_body::body::Body;
 use island_body::input::IslandInput;
@@ -18,14 +19,14 @@ use stream_io::outside::{Drain, Source};
 
 /// Makes the bodies of these islands, in their order, each with the ends of its lanes, with its blank table, and with the islands at the
 /// other ends of its lanes. Each end has then done what it has to do at the start. `bodies` is empty and has room for all: it takes no memory, and no unit.
-pub fn make_all<S: Source, D: Drain, L: Logic, B: PlugBook>(
-    islands: Vec<Island<S, D, L, B>>,
+pub fn make_all<S: Source, D: Drain, L: Logic, H: Handlers, B: PlugBook>(
+    islands: Vec<Island<S, D, L, H, B>>,
     ins: Vec<Vec<IslandInput>>,
     outs: Vec<Vec<OutputBoundary>>,
     tables: Vec<Vec<Way>>,
     peers: Vec<Peers>,
-    bodies: Vec<Body<S, D, L, B>>,
-) -> Vec<Body<S, D, L, B>>
+    bodies: Vec<Body<S, D, L, H, B>>,
+) -> Vec<Body<S, D, L, H, B>>
     requires begin { CanAllBegin islands.items ins.items outs.items tables.items peers.items }
     requires none_made { bodies.items ≡ [] }
     requires room { vec_len islands ≤ vec_capacity bodies }
@@ -62,8 +63,8 @@ fn first<T>(rest: &mut IntoIter<T, Global>) -> T
 
 /// Takes these bodies apart: what the island of each leaves, in their order. `ends` is empty and has room for all: it takes no memory,
 /// also after a turn that answered `NoMemory`.
-pub fn finish_all<S: Source, D: Drain, L: Logic, B: PlugBook>(
-    bodies: Vec<Body<S, D, L, B>>,
+pub fn finish_all<S: Source, D: Drain, L: Logic, H: Handlers, B: PlugBook>(
+    bodies: Vec<Body<S, D, L, H, B>>,
     ends: Vec<IslandEnd<S, D>>,
 ) -> Vec<IslandEnd<S, D>>
     requires none_ended { ends.items ≡ [] }

@@ -17,6 +17,7 @@ use blue_check::plan::LanePlan;
 use blue_names::links::links_of;
 use elem_core::why::NoMemory;
 use graph_stage::custom::Custom;
+use graph_stage::handlers::Handlers;
 use interpreter::parts::{Parts, Seated};
 use interpreter::room::IslandRoom;
 use island_parts::laws::islands_have_parts;
@@ -36,11 +37,11 @@ use stream_io::outside::{Drain, Source};
 use stream_model::blueprint::Blueprint;
 
 /// The islands of a blueprint, but for their handles: all that they take of memory before its files are opened.
-pub struct Plans<S: Source, D: Drain, L: Logic, B: PlugBook> {
-    seats: Vec<Seat<S, D, L, B>>,
+pub struct Plans<S: Source, D: Drain, L: Logic, H: Handlers, B: PlugBook> {
+    seats: Vec<Seat<S, D, L, H, B>>,
     // It is empty, and has room for what stands at all places: the nodes, and both ends of each lane.
-    places: Vec<Seated<S, D, L, B>>,
-    split: Split<S, D, L, B>,
+    places: Vec<Seated<S, D, L, H, B>>,
+    split: Split<S, D, L, H, B>,
     blueprint: Snapshot<Blueprint>,
     /// The wires that have a lane, in order.
     pub lanes: Vec<LanePlan>,
@@ -55,7 +56,7 @@ pub struct Plans<S: Source, D: Drain, L: Logic, B: PlugBook> {
 }
 
 // Dropped by a call, wherever it is dropped: else each crate above proves the drop of each of its parts again.
-impl<S: Source, D: Drain, L: Logic, B: PlugBook> Drop for Plans<S, D, L, B> {
+impl<S: Source, D: Drain, L: Logic, H: Handlers, B: PlugBook> Drop for Plans<S, D, L, H, B> {
     fn drop(self) {
         let Plans {
             seats: _,
@@ -73,9 +74,9 @@ impl<S: Source, D: Drain, L: Logic, B: PlugBook> Drop for Plans<S, D, L, B> {
 
 /// The islands of a blueprint, whose nodes hold their handles.
 #[derive(Drop)]
-pub struct Filled<S: Source, D: Drain, L: Logic, B: PlugBook> {
+pub struct Filled<S: Source, D: Drain, L: Logic, H: Handlers, B: PlugBook> {
     /// The parts of each island, and the room that it takes.
-    pub islands: Vec<(Parts<S, D, L, B>, IslandRoom<S, D, L, B>)>,
+    pub islands: Vec<(Parts<S, D, L, H, B>, IslandRoom<S, D, L, H, B>)>,
     /// The wires that have a lane, in order.
     pub lanes: Vec<LanePlan>,
     /// The island of each node.
@@ -103,13 +104,13 @@ fn all_places(nodes: usize, lanes: usize) -> Result<usize, NoMemory>
 
 /// The plans of the islands of a blueprint. They take all memory that islands want before their nodes hold their handles; a number
 /// that is out of 32 bits is want of memory. Each node that chooses follows its moves of `plans`, where there are some.
-pub fn plans_of<S: Source, D: Drain, L: Logic, B: PlugBook>(
+pub fn plans_of<S: Source, D: Drain, L: Logic, H: Handlers, B: PlugBook>(
     alloc: Global,
     b: Blueprint,
     plugs: Vec<Plug<L>>,
-    customs: Vec<Custom>,
+    customs: Vec<Custom<H>>,
     plans: Vec<Option<Vec<u32>>>,
-) -> Result<Plans<S, D, L, B>, NoMemory>
+) -> Result<Plans<S, D, L, H, B>, NoMemory>
     requires runs { CanRun b }
     requires has { HasGuests (handed_heads plugs.items customs.items) b.wires.items b.nodes.items }
     requires listed { All (GivesAsListed L.gives B.lists) plugs.items }
@@ -130,7 +131,7 @@ pub fn plans_of<S: Source, D: Drain, L: Logic, B: PlugBook>(
     let own = copy_of(alloc, &homes)?;
     let split = split_of(alloc, nodes, &wires, own, count, &lanes)?;
     let (board, switches) = Board::of(alloc, &b.nodes)?;
-    let handed = hand_out::<L, B>(alloc, &b.nodes, plugs, customs)?;
+    let handed = hand_out::<L, H, B>(alloc, &b.nodes, plugs, customs)?;
     let many = b.nodes.len();
     let rooms = rooms_of(alloc, many, &wires)?;
     let unseated = b.nodes;
@@ -149,11 +150,11 @@ pub fn plans_of<S: Source, D: Drain, L: Logic, B: PlugBook>(
     })
 }
 
-impl<S: Source, D: Drain, L: Logic, B: PlugBook> Plans<S, D, L, B> {
+impl<S: Source, D: Drain, L: Logic, H: Handlers, B: PlugBook> Plans<S, D, L, H, B> {
     /// The parts and the room of each island: the nodes at their places, the ends of lanes at the places behind them, and the links
     /// of the wires, where each lane is cut. In the order of nodes, each source of lines reads the next of `sources`, and each sink
     /// with a file writes the next of `drains`. It takes no memory.
-    pub fn fill(self, alloc: Global, sources: Vec<S>, drains: Vec<D>) -> Filled<S, D, L, B>
+    pub fn fill(self, alloc: Global, sources: Vec<S>, drains: Vec<D>) -> Filled<S, D, L, H, B>
         requires plans { IsPlans self }
         requires sources { vec_len sources ≡ length (inputs_of_nodes self.blueprint.value.nodes.items) }
         requires drains { vec_len drains ≡ length (outputs_of_nodes self.blueprint.value.nodes.items) }
@@ -165,7 +166,7 @@ impl<S: Source, D: Drain, L: Logic, B: PlugBook> Plans<S, D, L, B> {
         ensures ends { result.ends ≡ self.ends }
         ensures board { result.board ≡ self.board }
     {
-        islands_have_parts::<S, D, L, B>();
+        islands_have_parts::<S, D, L, H, B>();
         let Plans {
             seats,
             places,

@@ -6,6 +6,7 @@ ghost use Rattle.island_plans.specs.Making.{way_homes, AreTables, IsRoomForBodie
 use crate::peers::peers_of;
 use blue_check::plan::LanePlan;
 use elem_core::why::NoMemory;
+use graph_stage::handlers::Handlers;
 use interpreter::island::IslandEnd;
 use island_body::body::Body;
 use island_body::peers::Peers;
@@ -19,18 +20,18 @@ use stream_io::outside::{Drain, Source};
 
 /// All that the bodies of islands, and their ends, take of memory.
 #[derive(Drop)]
-pub struct BodyRoom<S: Source, D: Drain, L: Logic, B: PlugBook> {
+pub struct BodyRoom<S: Source, D: Drain, L: Logic, H: Handlers, B: PlugBook> {
     /// Of each island a blank table, with a row for each of its connections.
     pub tables: Vec<Vec<Way>>,
     /// Of each the islands at the other ends of its lanes.
     pub peers: Vec<Peers>,
     /// Empty, with room for the body of each.
-    pub bodies: Vec<Body<S, D, L, B>>,
+    pub bodies: Vec<Body<S, D, L, H, B>>,
     /// Empty, with room for the end of each.
     pub ends: Vec<IslandEnd<S, D>>,
 }
 
-impl<S: Source, D: Drain, L: Logic, B: PlugBook> BodyRoom<S, D, L, B> {
+impl<S: Source, D: Drain, L: Logic, H: Handlers, B: PlugBook> BodyRoom<S, D, L, H, B> {
     /// The room for the bodies of so many islands, and for their ends. `wires` is of each wire the island in which it begins: there is
     /// one connection for each wire, and one more for each lane, in the island that it leads to.
     pub fn of(
@@ -38,7 +39,7 @@ impl<S: Source, D: Drain, L: Logic, B: PlugBook> BodyRoom<S, D, L, B> {
         wires: &[usize],
         lanes: &[LanePlan],
         count: usize,
-    ) -> Result<BodyRoom<S, D, L, B>, NoMemory>
+    ) -> Result<BodyRoom<S, D, L, H, B>, NoMemory>
         requires wires { All (λ h. h < count) wires.now }
         requires lanes { CanAllBeMade count lanes.now }
         ensures { IfOk result (IsRoomForBodies wires.now lanes.now count) }

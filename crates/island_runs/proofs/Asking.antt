@@ -42,7 +42,7 @@ wires_within homes ws n l at = let p = plan_of homes ws n l at in slice_get_with
 
 -- ---- crossings
 
-module _ {S D L B : Type 0} (bodies : List (Body S D L B)) where
+module _ {S D L H B : Type 0} (bodies : List (Body S D L H B)) where
   pub told : (lanes : List LanePlan) (crossings : List Crossing) (all : List ℕ) → length crossings ≡ length lanes → AreRising lanes → AreAligned lanes crossings bodies → AreAsked bodies crossings all → AskedAre bodies crossings (lane_demand lanes all)
   told lanes crossings all many rise aligned asks n c b x ac ab ax =
       let lt : n < length crossings = slice_get_within crossings n c ac in
@@ -50,10 +50,10 @@ module _ {S D L B : Type 0} (bodies : List (Body S D L B)) where
       ap (lane_demand lanes all) (aligned n l.0 c b x l.1 ac ab ax) ∙ found_ask lanes all n l.0 (asked_in_all x.boundary.lane) rise l.1 (asks.each n c b x ac ab ax)
 
   -- at a crossing that is there lies one input end
-  one_there : (c : Crossing) (y : LiesThere bodies c) (x : IslandInput) → slice_get y.body.ins.items c.inp ≡ Some x → (d : Crossing) (b : Body S D L B) (z : IslandInput) → c ≡ d → slice_get bodies d.to ≡ Some b → slice_get b.ins.items d.inp ≡ Some z → x ≡ z
+  one_there : (c : Crossing) (y : LiesThere bodies c) (x : IslandInput) → slice_get y.body.ins.items c.inp ≡ Some x → (d : Crossing) (b : Body S D L H B) (z : IslandInput) → c ≡ d → slice_get bodies d.to ≡ Some b → slice_get b.ins.items d.inp ≡ Some z → x ≡ z
   one_there c y x ax d b z same ab az =
       let body : y.body ≡ b = some_same y.body b (sym y.body_at ∙ (ap (λ (e : Crossing). slice_get bodies e.to) same ∙ ab)) in
-      some_same x z (sym ax ∙ (ap (λ (v : Body S D L B). slice_get v.ins.items c.inp) body ∙ (ap (λ (e : Crossing). slice_get b.ins.items e.inp) same ∙ az)))
+      some_same x z (sym ax ∙ (ap (λ (v : Body S D L H B). slice_get v.ins.items c.inp) body ∙ (ap (λ (e : Crossing). slice_get b.ins.items e.inp) same ∙ az)))
 
   -- ends that are there have asks
   pub some_asks : (crossings : List Crossing) → LieThere bodies crossings → (all : List ℕ) × AreAsked bodies crossings all
@@ -68,6 +68,6 @@ module _ {S D L B : Type 0} (bodies : List (Body S D L B)) where
       (asked_in_all (x.0).boundary.lane ∷ rest.0, record { many = ap suc rest.1.many; each = each_on y x.0 x.1 rest.0 rest.1 })
     where
       each_on : (y : LiesThere bodies c) (x : IslandInput) → slice_get y.body.ins.items c.inp ≡ Some x → (all : List ℕ) → AreAsked bodies cs all
-          → (n : ℕ) (d : Crossing) (b : Body S D L B) (z : IslandInput) → slice_get (c ∷ cs) n ≡ Some d → slice_get bodies d.to ≡ Some b → slice_get b.ins.items d.inp ≡ Some z → slice_get (asked_in_all x.boundary.lane ∷ all) n ≡ Some (asked_in_all z.boundary.lane)
+          → (n : ℕ) (d : Crossing) (b : Body S D L H B) (z : IslandInput) → slice_get (c ∷ cs) n ≡ Some d → slice_get bodies d.to ≡ Some b → slice_get b.ins.items d.inp ≡ Some z → slice_get (asked_in_all x.boundary.lane ∷ all) n ≡ Some (asked_in_all z.boundary.lane)
       each_on y x ax all r zero d b z ad ab az = ap (λ (v : IslandInput). Some (asked_in_all v.boundary.lane)) (one_there c y x ax d b z (some_same c d ad) ab az)
       each_on y x ax all r (suc n) d b z ad ab az = r.each n d b z ad ab az

@@ -19,7 +19,7 @@ use Rattle.island_plans.specs.declared.plans.Filled.{Filled}
 use Rattle.island_runs.proofs.Handles.{source_at, drain_at, sources_are, drains_are, source_share, drain_share, source_homes, drain_homes}
 use Rattle.island_runs.proofs.Sharing.{make_all, same_all}
 
-module _ {S D L B : Type 0} (sources : S → SourceState) (drains : D → DrainState) (b : Blueprint) (ss : List S) (ds : List D) (f : Filled S D L B) (ends : List (IslandEnd S D)) (fl : IsFilled b ss ds f) (gb : AllGiveBack sources drains f.islands.items ends) where
+module _ {S D L H B : Type 0} (sources : S → SourceState) (drains : D → DrainState) (b : Blueprint) (ss : List S) (ds : List D) (f : Filled S D L H B) (ends : List (IslandEnd S D)) (fl : IsFilled b ss ds f) (gb : AllGiveBack sources drains f.islands.items ends) where
   abbrev ns : List Node
   ns = b.nodes.items
 

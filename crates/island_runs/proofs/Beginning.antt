@@ -49,9 +49,9 @@ none_found : (xs : List OutputBoundary) → ((p : ℕ) (o : OutputBoundary) → 
 none_found [] h = refl
 none_found (x ∷ xs) h = let here : finds x.lane ≡ 0 = h 0 x refl in let rest : all_finds xs ≡ 0 = none_found xs (λ p y at. h (suc p) y at) in omega (arith, here, rest)
 
-module _ {S D L B : Type 0} where
+module _ {S D L H B : Type 0} where
   -- an output end at which nothing has passed, where nothing has passed at its stage
-  serves_begun : (l : LanePlan) (o : OutputBoundary) (x : IslandInput) (i : Kept S D L B) → AreEnds l o x → BeginsOut i.net (way_out i o.wire) → Serves o.lane i o.wire
+  serves_begun : (l : LanePlan) (o : OutputBoundary) (x : IslandInput) (i : Kept S D L H B) → AreEnds l o x → BeginsOut i.net (way_out i o.wire) → Serves o.lane i o.wire
   serves_begun l o x i e b = record {
     part = record { rest = (cell_out i o.wire).wire.got; is = ap (λ (z : List _). z ++ (cell_out i o.wire).wire.got) (sym e.none_sent) };
     wants = let none : wanted (cell_out i o.wire) ≡ 0 = b.unasked in omega (arith, none);
@@ -65,7 +65,7 @@ module _ {S D L B : Type 0} where
     left = λ z. absurd (b.stays z);
   }
 
-  module _ (sources : S → SourceState) (drains : D → DrainState) (book : Book) (homes : List ℕ) (count : ℕ) (ws : List Edge) (nodes : List (Seated S D L B)) (k : ℕ) (x : Parts S D L B) (i : Kept S D L B) (e : AllEnds) (a : AreSeated homes count ws nodes)
+  module _ (sources : S → SourceState) (drains : D → DrainState) (book : Book) (homes : List ℕ) (count : ℕ) (ws : List Edge) (nodes : List (Seated S D L H B)) (k : ℕ) (x : Parts S D L H B) (i : Kept S D L H B) (e : AllEnds) (a : AreSeated homes count ws nodes)
       (nodes_are : x.nodes.items ≡ seats_in homes ws nodes k) (links_are : x.links.items ≡ links_in homes ws nodes k) (h : HasStarted sources drains book x i) (all : AreAllEnds (lanes_from homes 0 ws) count e) where
     abbrev ins : List IslandInput
     ins = items_at e.ins.items k

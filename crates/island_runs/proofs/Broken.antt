@@ -53,16 +53,16 @@ kept_at keeps (v ∷ xs) (w ∷ ys) h (suc k) x y ex ey = kept_at keeps xs ys h.
 bare_as : {Y Z : Type 0} (o : Option Y) (p : Option Z) → leaves_something p ≡ leaves_something o → o ≡ None → p ≡ None
 bare_as o p e n = none_left p (e ∙ ap leaves_something n)
 
-module _ {S D L B : Type 0} (sources : S → SourceState) (drains : D → DrainState) (book : Book) (g : Graph) (homes : List ℕ) (count : ℕ) (ws : List Edge) (nodes : List (Seated S D L B)) (crossings : List Crossing) (begun now then : List (Body S D L B)) (broken later : List (IslandNode S D L B))
+module _ {S D L H B : Type 0} (sources : S → SourceState) (drains : D → DrainState) (book : Book) (g : Graph) (homes : List ℕ) (count : ℕ) (ws : List Edge) (nodes : List (Seated S D L H B)) (crossings : List Crossing) (begun now then : List (Body S D L H B)) (broken later : List (IslandNode S D L H B))
     (m : AreBodiesOf sources drains book g homes count ws nodes crossings begun) (broke : WholeOrBroken (BodyKeeps sources drains book) BodyGoes (BodyBreaks sources drains book) begun now) (l : AreLastOf sources drains book begun now then) (r : AreBroughtBack homes count ws (λ k. (net_of now k).nodes) broken later) where
-  abbrev nodes_now : ℕ → List (IslandNode S D L B)
+  abbrev nodes_now : ℕ → List (IslandNode S D L H B)
   nodes_now k = (net_of now k).nodes
 
   nets : AreNets homes ws nodes count (net_of then)
   nets = last_nets sources drains book begun now broke then l g homes count ws nodes crossings m
 
   -- what is left of a node leaves a handle where it left one as it began
-  stays : (k : ℕ) → k < count → (p : ℕ) (first x : IslandNode S D L B) → slice_get (net_of then k).firsts p ≡ Some first → slice_get (nodes_now k) p ≡ Some x → HandlesAs first x
+  stays : (k : ℕ) → k < count → (p : ℕ) (first x : IslandNode S D L H B) → slice_get (net_of then k).firsts p ≡ Some first → slice_get (nodes_now k) p ≡ Some x → HandlesAs first x
   stays k lt p first x ef ex =
       let within : p < length (net_of then k).firsts = slice_get_within (net_of then k).firsts p first ef in
       let y = there (net_of then k).nodes p (subst (λ (n : ℕ). p < n) (nets.each_first k lt) within) in
@@ -70,7 +70,7 @@ module _ {S D L B : Type 0} (sources : S → SourceState) (drains : D → DrainS
       handles_both first y.0 x a.handles (kept_stays sources drains y.0 x (kept_at (KeepsNode sources drains) (net_of then k).nodes (nodes_now k) (last_kept sources drains book begun now broke then l k) p y.0 x y.1 ex))
 
   module _ (ns : List blue.Node) (ss : List S) (ds : List D) (around : Around) (seats : AreSeats around 0 ns ss ds nodes) (e : EndHomes) (ends_are : AreEndHomes homes ns ws e) (ends : List (IslandEnd S D)) (are : AreEndsOfBodies now ends) where
-    by_kind : (k : ℕ) (n : blue.Node) (x : IslandNode S D L B) → slice_get ns k ≡ Some n → slice_get broken k ≡ Some x → HandlesBy n.kind x
+    by_kind : (k : ℕ) (n : blue.Node) (x : IslandNode S D L H B) → slice_get ns k ≡ Some n → slice_get broken k ≡ Some x → HandlesBy n.kind x
     by_kind k n x en ex =
         let lt : k < length ns = slice_get_within ns k n en in
         let s = there nodes k (subst (λ (j : ℕ). k < j) (sym (seats_count around 0 ns ss ds nodes seats)) lt) in
@@ -109,12 +109,12 @@ module _ {S D L B : Type 0} (sources : S → SourceState) (drains : D → DrainS
     }
 
     -- the body of an end, and its nodes
-    body_of : (k : ℕ) (x : IslandEnd S D) → slice_get ends k ≡ Some x → (b : Body S D L B) × ((slice_get now k ≡ Some b) × (b.island.net.nodes ≡ of_home (place_homes homes ws) k (broken ++ later)))
+    body_of : (k : ℕ) (x : IslandEnd S D) → slice_get ends k ≡ Some x → (b : Body S D L H B) × ((slice_get now k ≡ Some b) × (b.island.net.nodes ≡ of_home (place_homes homes ws) k (broken ++ later)))
     body_of k x at =
         let lt : k < count = subst (λ (n : ℕ). k < n) many (slice_get_within ends k x at) in
         let b = get_there now k (subst (λ (n : ℕ). k < n) (sym (broke.count ∙ m.begun_are.many)) lt) in
-        let net : net_of now k ≡ b.0.island.net = ap (λ (o : Option (Body S D L B)). net_in o) b.1 in
-        (b.0, (b.1, sym (r.shares k lt ∙ ap (λ (t : Net (IslandNode S D L B)). t.nodes) net)))
+        let net : net_of now k ≡ b.0.island.net = ap (λ (o : Option (Body S D L H B)). net_in o) b.1 in
+        (b.0, (b.1, sym (r.shares k lt ∙ ap (λ (t : Net (IslandNode S D L H B)). t.nodes) net)))
 
     pub are_handles : AreHandlesOf e (readers_of broken) (writers_of broken) ends
     are_handles = record {

@@ -28,7 +28,7 @@ use Rattle.island_plans.proofs.LaneRooms.{room_of_wire, rooms_many}
 -- ---- rooms
 
 -- the room of a sink is that of its place
-work_room : {S D L B : Type 0} (k room : ℕ) (w : Work S D L B) (f : Sink D) → BecomesOf k room w (node.Writing f) → f.gather.room ≡ sink_room f.writes room
+work_room : {S D L H B : Type 0} (k room : ℕ) (w : Work S D L H B) (f : Sink D) → BecomesOf k room w (node.Writing f) → f.gather.room ≡ sink_room f.writes room
 work_room k room (work.Writing shape (Some d)) f is = let same : f ≡ new_sink k (writes_of shape) room d = cc in subst (λ (x : Sink _). x.gather.room ≡ sink_room x.writes room) (sym same) refl
 work_room k room (work.Writing shape None) f is = cc
 work_room k room (work.Reading r) f is = cc
@@ -38,21 +38,22 @@ work_room k room (work.State l) f is = cc
 work_room k room (work.Sub l) f is = cc
 work_room k room (work.FanIn l n) f is = cc
 work_room k room (work.FanOut l n) f is = cc
+work_room k room (work.Custom l n m) f is = cc
 work_room k room (work.LaneIn u) f is = cc
 work_room k room (work.LaneOut u) f is = cc
 
-first_room : {S D L B : Type 0} (places : List (Seated S D L B)) (firsts : List (IslandNode S D L B)) (k : ℕ) (f : Sink D) → AllBecome places firsts → slice_get firsts k ≡ Some (node.Writing f)
+first_room : {S D L H B : Type 0} (places : List (Seated S D L H B)) (firsts : List (IslandNode S D L H B)) (k : ℕ) (f : Sink D) → AllBecome places firsts → slice_get firsts k ≡ Some (node.Writing f)
     → (r : ℕ) × ((slice_get (map place_room places) k ≡ Some r) × (f.gather.room ≡ sink_room f.writes r))
 first_room [] [] k f all at = cc
 first_room [] (x ∷ xs) k f all at = absurd all
 first_room (p ∷ ps) [] k f all at = absurd all
-first_room (p ∷ ps) (x ∷ xs) zero f all at = let same : x ≡ node.Writing f = cc in (p.room, (refl, work_room p.node p.room p.work f (subst (λ (y : IslandNode _ _ _ _). BecomesOf p.node p.room p.work y) same all.0)))
+first_room (p ∷ ps) (x ∷ xs) zero f all at = let same : x ≡ node.Writing f = cc in (p.room, (refl, work_room p.node p.room p.work f (subst (λ (y : IslandNode _ _ _ _ _). BecomesOf p.node p.room p.work y) same all.0)))
 first_room (p ∷ ps) (x ∷ xs) (suc k) f all at = first_room ps xs k f all.1 at
 
 some_same : (x y : ℕ) → Some x ≡ Some y → x ≡ y
 some_same x y e = cc
 
-pub rooms_are : {S D L B : Type 0} (places : List (Seated S D L B)) (firsts : List (IslandNode S D L B)) (many : ℕ) (ws : List Edge) → AllBecome places firsts → map place_room places ≡ rooms_by many ws
+pub rooms_are : {S D L H B : Type 0} (places : List (Seated S D L H B)) (firsts : List (IslandNode S D L H B)) (many : ℕ) (ws : List Edge) → AllBecome places firsts → map place_room places ≡ rooms_by many ws
     → (k u : ℕ) (v : Edge) (f : Sink D) → slice_get firsts k ≡ Some (node.Writing f) → slice_get ws u ≡ Some v → v.to ≡ k → ((j : ℕ) (x : Edge) → slice_get ws j ≡ Some x → x.to ≡ k → j ≡ u) → f.gather.room ≡ sink_room f.writes (gather_of v.lane)
 rooms_are places firsts many ws all rooms k u v f at wire to one =
     let r = first_room places firsts k f all at in
@@ -63,11 +64,11 @@ rooms_are places firsts many ws all rooms k u v f at wire to one =
 
 -- ---- lines that were put off
 
-net_late : {S D L B : Type 0} (o : Option (Body S D L B)) → ((b : Body S D L B) → o ≡ Some b → NoneLateIn b) → NoneLate (net_in o).nodes
+net_late : {S D L H B : Type 0} (o : Option (Body S D L H B)) → ((b : Body S D L H B) → o ≡ Some b → NoneLateIn b) → NoneLate (net_in o).nodes
 net_late None each k x at = cc
 net_late (Some b) each k x at = each b refl k x at
 
 -- where no event is left none has put lines off
-pub none_late_in : {S D L B : Type 0} (sources : S → SourceState) (drains : D → DrainState) (book : Book) (now : List (Body S D L B)) (lanes : List Crossing) → AllOf (BodyKeeps sources drains book) now → AtRest is_pending BodiesJoined now lanes
+pub none_late_in : {S D L H B : Type 0} (sources : S → SourceState) (drains : D → DrainState) (book : Book) (now : List (Body S D L H B)) (lanes : List Crossing) → AllOf (BodyKeeps sources drains book) now → AtRest is_pending BodiesJoined now lanes
     → (h at : ℕ) (f : Sink D) → slice_get (net_of now h).nodes at ≡ Some (node.Writing f) → sink_late f ≡ 0
 none_late_in sources drains book now lanes all rest h at f is = net_late (slice_get now h) (λ b there. (all h b there).calm (rest.rings h b there)) at (node.Writing f) is

@@ -40,7 +40,7 @@ cancelled_state Flowing h = absurd (omega (arith, h))
 cancelled_state Closed h = absurd (omega (arith, h))
 cancelled_state Cancelled h = refl
 
-module _ {S D L B : Type 0} (sources : S → SourceState) (drains : D → DrainState) (book : Book) (b : Blueprint) (homes : List ℕ) (count : ℕ) (nodes : List (Seated S D L B)) (crossings : List Crossing) (begun now : List (Body S D L B))
+module _ {S D L H B : Type 0} (sources : S → SourceState) (drains : D → DrainState) (book : Book) (b : Blueprint) (homes : List ℕ) (count : ℕ) (nodes : List (Seated S D L H B)) (crossings : List Crossing) (begun now : List (Body S D L H B))
     (m : AreBodiesOf sources drains book (graph_of b) homes count (blueprint_wires b) nodes crossings begun) (goes : EachOf BodyGoes begun now) (keep : AllOf (BodyKeeps sources drains book) now) (joined : AllJoined BodiesJoined now crossings) (all : ℕ → ℕ) where
   abbrev ws : List Edge
   ws = blueprint_wires b
@@ -63,12 +63,12 @@ module _ {S D L B : Type 0} (sources : S → SourceState) (drains : D → DrainS
     near_cell : (account_in homes ws now all).near u ≡ cell_out x.from.island u
     near_cell =
         let island : ((seats_by_islands homes ws).near u).island ≡ c.from = ways.out_island ∙ sym x.from_is in
-        ap (λ (k : ℕ). wire_at (net_of now k) near_at) island ∙ (ap (λ (o : Option (Body S D L B)). wire_at (net_in o) near_at) x.from_at ∙ ap (λ (q : ℕ). wire_at x.from.island.net q) x.near_is)
+        ap (λ (k : ℕ). wire_at (net_of now k) near_at) island ∙ (ap (λ (o : Option (Body S D L H B)). wire_at (net_in o) near_at) x.from_at ∙ ap (λ (q : ℕ). wire_at x.from.island.net q) x.near_is)
 
     far_cell : (account_in homes ws now all).far u ≡ cell_in x.to.island u
     far_cell =
         let island : ((seats_by_islands homes ws).far u).island ≡ c.to = ways.in_island ∙ sym x.to_is in
-        ap (λ (k : ℕ). wire_at (net_of now k) far_at) island ∙ (ap (λ (o : Option (Body S D L B)). wire_at (net_in o) far_at) x.to_at ∙ ap (λ (q : ℕ). wire_at x.to.island.net q) x.far_is)
+        ap (λ (k : ℕ). wire_at (net_of now k) far_at) island ∙ (ap (λ (o : Option (Body S D L H B)). wire_at (net_in o) far_at) x.to_at ∙ ap (λ (q : ℕ). wire_at x.to.island.net q) x.far_is)
 
     out_stands : OutputEndStands x.from.island x.out
     out_stands = (keep c.from x.from x.from_at).stands.stand.outs_stand c.out x.out x.out_at

@@ -189,11 +189,11 @@ wire_there (w ∷ ws) (suc n) lt = wire_there ws n (omega (arith, lt))
 
 -- ---- islands whose nodes hold their handles
 
-module _ {S D L B : Type 0} where
-  pub few : (p : Plans S D L B) → IsPlans p → HasFewLinks p.blueprint.value
+module _ {S D L H B : Type 0} where
+  pub few : (p : Plans S D L H B) → IsPlans p → HasFewLinks p.blueprint.value
   few p is = subst (λ (n : ℕ). length (whole_links n (blueprint_wires p.blueprint.value)) < 2 ^ 32) (places_count p.blueprint.value.wires.items 0 p.blueprint.value.nodes.items) is.split.few
 
-  module _ (b : Blueprint) (ss : List S) (ds : List D) (f : Filled S D L B) (is : IsFilled b ss ds f) where
+  module _ (b : Blueprint) (ss : List S) (ds : List D) (f : Filled S D L H B) (is : IsFilled b ss ds f) where
     node_count : length is.nodes ≡ length b.nodes.items
     node_count = seats_count (around_of b) 0 b.nodes.items ss ds is.nodes is.seats
 
@@ -218,7 +218,7 @@ module _ {S D L B : Type 0} where
           (seats_ports (around_of b) 0 b.nodes.items ss ds is.nodes k m.0 is.seats m.1.0).1 ∙ ap (λ (x : graph.Node). outputs_of x) m.1.1;
     }
 
-    pub parts_are : (k : ℕ) (x : Parts S D L B × IslandRoom S D L B) → slice_get f.islands.items k ≡ Some x → ArePartsOf f.homes.items (blueprint_wires b) is.nodes k x.0
+    pub parts_are : (k : ℕ) (x : Parts S D L H B × IslandRoom S D L H B) → slice_get f.islands.items k ≡ Some x → ArePartsOf f.homes.items (blueprint_wires b) is.nodes k x.0
     parts_are k x here =
         let i = is.each k x here in
         record {
@@ -227,11 +227,11 @@ module _ {S D L B : Type 0} where
         }
 
   -- plans of islands have the lanes of their blueprint
-  pub lanes_rise : (p : Plans S D L B) → IsPlans p → AreRising p.lanes.items
+  pub lanes_rise : (p : Plans S D L H B) → IsPlans p → AreRising p.lanes.items
   lanes_rise p is = subst AreRising (sym is.lanes_are) (λ m n l k lt at bt. rising p.homes.items 0 (blueprint_wires p.blueprint.value) m n l k lt at bt)
 
   -- each wire begins in an island
-  pub wires_begin : (p : Plans S D L B) → IsPlans p → All (λ h. h < p.count) p.ends.wires.items
+  pub wires_begin : (p : Plans S D L H B) → IsPlans p → All (λ h. h < p.count) p.ends.wires.items
   wires_begin p is =
       let b = p.blueprint.value in
       let homes = p.homes.items in
@@ -248,7 +248,7 @@ module _ {S D L B : Type 0} where
       let here : slice_get p.ends.wires.items i ≡ Some (wire_home homes w.0) = ap (λ (hs : List ℕ). slice_get hs i) is.ends_are.wires_are ∙ slice_get-map (wire_home homes) ws i ∙ ap (option_map (wire_home homes)) w.1 in
       subst (λ (h : ℕ). h < p.count) (sym (get_or_from_slice_get p.ends.wires.items i (wire_home homes w.0) 0 here)) below)
 
-  pub lanes_made : (p : Plans S D L B) → IsPlans p → CanAllBeMade p.count p.lanes.items
+  pub lanes_made : (p : Plans S D L H B) → IsPlans p → CanAllBeMade p.count p.lanes.items
   lanes_made p is = λ n l here.
       let b = p.blueprint.value in
       let homes = p.homes.items in

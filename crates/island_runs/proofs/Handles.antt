@@ -71,9 +71,9 @@ none_of : (o : Option (List ℕ)) → ((name : List ℕ) → o ≡ Some name →
 none_of None h = refl
 none_of (Some name) h = absurd (h name refl)
 
-module _ {S D L B : Type 0} where
+module _ {S D L H B : Type 0} where
   -- the source of a work, and its drain
-  abbrev source_of : Work S D L B → Option S
+  abbrev source_of : Work S D L H B → Option S
   source_of (work.Reading r) = Some r.source
   source_of (work.Making shape) = None
   source_of (work.Linear l) = None
@@ -86,7 +86,7 @@ module _ {S D L B : Type 0} where
   source_of (work.LaneIn u) = None
   source_of (work.LaneOut u) = None
 
-  abbrev drain_of : Work S D L B → Option D
+  abbrev drain_of : Work S D L H B → Option D
   drain_of (work.Reading r) = None
   drain_of (work.Making shape) = None
   drain_of (work.Linear l) = None
@@ -99,13 +99,13 @@ module _ {S D L B : Type 0} where
   drain_of (work.LaneIn u) = None
   drain_of (work.LaneOut u) = None
 
-  abbrev pub source_at : Seated S D L B → Option S
+  abbrev pub source_at : Seated S D L H B → Option S
   source_at p = source_of p.work
 
-  abbrev pub drain_at : Seated S D L B → Option D
+  abbrev pub drain_at : Seated S D L H B → Option D
   drain_at p = drain_of p.work
 
-  source_first : (w : Work S D L B) (rest : List S) → with_source w rest ≡ with_one (source_of w) rest
+  source_first : (w : Work S D L H B) (rest : List S) → with_source w rest ≡ with_one (source_of w) rest
   source_first (work.Reading r) rest = refl
   source_first (work.Making shape) rest = refl
   source_first (work.Linear l) rest = refl
@@ -118,7 +118,7 @@ module _ {S D L B : Type 0} where
   source_first (work.LaneIn u) rest = refl
   source_first (work.LaneOut u) rest = refl
 
-  drain_first : (w : Work S D L B) (rest : List D) → with_drain w rest ≡ with_one (drain_of w) rest
+  drain_first : (w : Work S D L H B) (rest : List D) → with_drain w rest ≡ with_one (drain_of w) rest
   drain_first (work.Reading r) rest = refl
   drain_first (work.Making shape) rest = refl
   drain_first (work.Linear l) rest = refl
@@ -133,30 +133,30 @@ module _ {S D L B : Type 0} where
   drain_first (work.LaneOut u) rest = refl
 
   -- the handles of places are what they leave
-  pub sources_are : (ps : List (Seated S D L B)) → sources_in ps ≡ those source_at ps
+  pub sources_are : (ps : List (Seated S D L H B)) → sources_in ps ≡ those source_at ps
   sources_are [] = refl
   sources_are (p ∷ ps) = source_first p.work (sources_in ps) ∙ ap (with_one (source_of p.work)) (sources_are ps)
 
-  pub drains_are : (ps : List (Seated S D L B)) → drains_in ps ≡ those drain_at ps
+  pub drains_are : (ps : List (Seated S D L H B)) → drains_in ps ≡ those drain_at ps
   drains_are [] = refl
   drains_are (p ∷ ps) = drain_first p.work (drains_in ps) ∙ ap (with_one (drain_of p.work)) (drains_are ps)
 
   -- ---- the places of an island
 
-  no_source : (lanes : List LanePlan) (k : ℕ) (p : Seated S D L B) → slice_get (map in_seat lanes ++ map out_seat lanes) k ≡ Some p → source_at p ≡ None
+  no_source : (lanes : List LanePlan) (k : ℕ) (p : Seated S D L H B) → slice_get (map in_seat lanes ++ map out_seat lanes) k ≡ Some p → source_at p ≡ None
   no_source lanes = none_both source_at (map in_seat lanes) (map out_seat lanes) (none_mapped source_at in_seat (λ l. refl) lanes) (none_mapped source_at out_seat (λ l. refl) lanes)
 
-  no_drain : (lanes : List LanePlan) (k : ℕ) (p : Seated S D L B) → slice_get (map in_seat lanes ++ map out_seat lanes) k ≡ Some p → drain_at p ≡ None
+  no_drain : (lanes : List LanePlan) (k : ℕ) (p : Seated S D L H B) → slice_get (map in_seat lanes ++ map out_seat lanes) k ≡ Some p → drain_at p ≡ None
   no_drain lanes = none_both drain_at (map in_seat lanes) (map out_seat lanes) (none_mapped drain_at in_seat (λ l. refl) lanes) (none_mapped drain_at out_seat (λ l. refl) lanes)
 
   -- its handles are the shares of those of the nodes
-  pub source_share : (homes : List ℕ) (lanes : List LanePlan) (nodes : List (Seated S D L B)) → length nodes ≡ length homes → (k : ℕ) → sources_in (of_home (whole_homes homes lanes) k (whole_seats nodes lanes)) ≡ of_home (homes_left source_at homes nodes) k (sources_in nodes)
+  pub source_share : (homes : List ℕ) (lanes : List LanePlan) (nodes : List (Seated S D L H B)) → length nodes ≡ length homes → (k : ℕ) → sources_in (of_home (whole_homes homes lanes) k (whole_seats nodes lanes)) ≡ of_home (homes_left source_at homes nodes) k (sources_in nodes)
   source_share homes lanes nodes each k =
       sources_are (of_home (whole_homes homes lanes) k (whole_seats nodes lanes))
       ∙ share_left source_at homes (map (λ (l : LanePlan). l.to) lanes ++ map (λ (l : LanePlan). l.from) lanes) nodes (map in_seat lanes ++ map out_seat lanes) each (no_source lanes) k
       ∙ ap (of_home (homes_left source_at homes nodes) k) (sym (sources_are nodes))
 
-  pub drain_share : (homes : List ℕ) (lanes : List LanePlan) (nodes : List (Seated S D L B)) → length nodes ≡ length homes → (k : ℕ) → drains_in (of_home (whole_homes homes lanes) k (whole_seats nodes lanes)) ≡ of_home (homes_left drain_at homes nodes) k (drains_in nodes)
+  pub drain_share : (homes : List ℕ) (lanes : List LanePlan) (nodes : List (Seated S D L H B)) → length nodes ≡ length homes → (k : ℕ) → drains_in (of_home (whole_homes homes lanes) k (whole_seats nodes lanes)) ≡ of_home (homes_left drain_at homes nodes) k (drains_in nodes)
   drain_share homes lanes nodes each k =
       drains_are (of_home (whole_homes homes lanes) k (whole_seats nodes lanes))
       ∙ share_left drain_at homes (map (λ (l : LanePlan). l.to) lanes ++ map (λ (l : LanePlan). l.from) lanes) nodes (map in_seat lanes ++ map out_seat lanes) each (no_drain lanes) k
@@ -165,7 +165,7 @@ module _ {S D L B : Type 0} where
   -- ---- the homes of handles
 
   -- a node has a source where it is a source of lines, and a drain where it is a sink with a file
-  reads_if : (around : Around) (k : ℕ) (n : Node) (ss : List S) (ds : List D) (w : Work S D L B) → IsWork around k n ss ds w → leaves_in Readers n ≡ leaves_something (source_of w)
+  reads_if : (around : Around) (k : ℕ) (n : Node) (ss : List S) (ds : List D) (w : Work S D L H B) → IsWork around k n ss ds w → leaves_in Readers n ≡ leaves_something (source_of w)
   reads_if around k n ss ds (work.Reading r) is = handle_some (source_file n.kind) ss r.source is.source
   reads_if around k n ss ds (work.Making shape) is = no_input IsMaker (λ _ i. i) n.kind is.is_maker
   reads_if around k n ss ds (work.Linear l) is = no_input IsLinear (λ _ i. i) n.kind is.is_linear
@@ -179,7 +179,7 @@ module _ {S D L B : Type 0} where
   reads_if around k n ss ds (work.Writing shape (Some d)) is = no_input IsFileSink (λ _ i. i) n.kind is.is_sink
   reads_if around k n ss ds (work.Writing shape None) is = ap (λ q. is_some (source_file q)) is.is_ignore
 
-  writes_if : (around : Around) (k : ℕ) (n : Node) (ss : List S) (ds : List D) (w : Work S D L B) → IsWork around k n ss ds w → leaves_in Writers n ≡ leaves_something (drain_of w)
+  writes_if : (around : Around) (k : ℕ) (n : Node) (ss : List S) (ds : List D) (w : Work S D L H B) → IsWork around k n ss ds w → leaves_in Writers n ≡ leaves_something (drain_of w)
   writes_if around k n ss ds (work.Reading r) is = let l = reads_lines n.kind ss r.source is.source in ap (λ q. is_some (output_of q)) l.1
   writes_if around k n ss ds (work.Making shape) is = none_of _ (λ name e. maker_no_file n.kind name is.is_maker e)
   writes_if around k n ss ds (work.Linear l) is = none_of _ (λ name e. linear_no_file n.kind name is.is_linear e)
@@ -195,7 +195,7 @@ module _ {S D L B : Type 0} where
 
   -- so what is told of the nodes of a blueprint holds of their places
   -- the homes of the nodes that leave an item in a list are those of their places
-  homes_of : {Y : Type 0} (list : EndList) (f : Seated S D L B → Option Y) (around : Around) → ((k : ℕ) (n : Node) (ss : List S) (ds : List D) (p : Seated S D L B) → IsWork around k n ss ds p.work → leaves_in list n ≡ leaves_something (f p)) → (k : ℕ) (ns : List Node) (ss : List S) (ds : List D) (ps : List (Seated S D L B)) (homes : List ℕ) → AreSeats around k ns ss ds ps
+  homes_of : {Y : Type 0} (list : EndList) (f : Seated S D L H B → Option Y) (around : Around) → ((k : ℕ) (n : Node) (ss : List S) (ds : List D) (p : Seated S D L H B) → IsWork around k n ss ds p.work → leaves_in list n ≡ leaves_something (f p)) → (k : ℕ) (ns : List Node) (ss : List S) (ds : List D) (ps : List (Seated S D L H B)) (homes : List ℕ) → AreSeats around k ns ss ds ps
       → homes_in list ns homes ≡ homes_left f homes ps
   homes_of list f around each k [] ss ds [] homes a = sym (none_left f homes)
   homes_of list f around each k [] ss ds (p ∷ ps) homes a = absurd a
@@ -203,8 +203,8 @@ module _ {S D L B : Type 0} where
   homes_of list f around each k (n ∷ ns) ss ds (p ∷ ps) [] a = refl
   homes_of list f around each k (n ∷ ns) ss ds (p ∷ ps) (h ∷ homes) a = sym (one_home (f p) (leaves_in list n) h (homes_left f homes ps) (homes_in list ns homes) (each k n ss ds p a.1.0) (sym (homes_of list f around each (k + 1) ns _ _ ps homes a.1.1)))
 
-  pub source_homes : (around : Around) (k : ℕ) (ns : List Node) (ss : List S) (ds : List D) (ps : List (Seated S D L B)) (homes : List ℕ) → AreSeats around k ns ss ds ps → homes_in Readers ns homes ≡ homes_left source_at homes ps
+  pub source_homes : (around : Around) (k : ℕ) (ns : List Node) (ss : List S) (ds : List D) (ps : List (Seated S D L H B)) (homes : List ℕ) → AreSeats around k ns ss ds ps → homes_in Readers ns homes ≡ homes_left source_at homes ps
   source_homes around = homes_of Readers source_at around (λ k n ss ds p. reads_if around k n ss ds p.work)
 
-  pub drain_homes : (around : Around) (k : ℕ) (ns : List Node) (ss : List S) (ds : List D) (ps : List (Seated S D L B)) (homes : List ℕ) → AreSeats around k ns ss ds ps → homes_in Writers ns homes ≡ homes_left drain_at homes ps
+  pub drain_homes : (around : Around) (k : ℕ) (ns : List Node) (ss : List S) (ds : List D) (ps : List (Seated S D L H B)) (homes : List ℕ) → AreSeats around k ns ss ds ps → homes_in Writers ns homes ≡ homes_left drain_at homes ps
   drain_homes around = homes_of Writers drain_at around (λ k n ss ds p. writes_if around k n ss ds p.work)

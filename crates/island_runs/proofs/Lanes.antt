@@ -111,13 +111,13 @@ module _ (homes : List ℕ) (ws : List Edge) (count : ℕ) (e : AllEnds) (a : Ar
 
 -- ---- where they come in and go out
 
-module _ {S D L B : Type 0} (sources : S → SourceState) (drains : D → DrainState) (book : Book) (homes : List ℕ) (count : ℕ) (ws : List Edge) (nodes : List (Seated S D L B)) (k : ℕ) (x : Parts S D L B) (i : Kept S D L B) (a : AreSeated homes count ws nodes)
+module _ {S D L H B : Type 0} (sources : S → SourceState) (drains : D → DrainState) (book : Book) (homes : List ℕ) (count : ℕ) (ws : List Edge) (nodes : List (Seated S D L H B)) (k : ℕ) (x : Parts S D L H B) (i : Kept S D L H B) (a : AreSeated homes count ws nodes)
     (nodes_are : x.nodes.items ≡ seats_in homes ws nodes k) (links_are : x.links.items ≡ links_in homes ws nodes k) (h : HasStarted sources drains book x i) where
   pub its_parts : AreParts x.nodes.items x.links.items
   its_parts =
       let here : AreParts (seats_in homes ws nodes k) (links_in homes ws nodes k) = subst (λ (n : ℕ). AreParts (seats_in homes ws nodes k) (own_links (place_homes homes ws) (whole_links n ws) k)) (sym (size homes count ws nodes a)) (parts homes count ws nodes a k) in
       let links : AreParts (seats_in homes ws nodes k) x.links.items = subst (AreParts (seats_in homes ws nodes k)) (sym links_are) here in
-      subst (λ (ps : List (Seated S D L B)). AreParts ps x.links.items) (sym nodes_are) links
+      subst (λ (ps : List (Seated S D L H B)). AreParts ps x.links.items) (sym nodes_are) links
 
   pub comes_at : (u : ℕ) → ComesInto homes ws k u → ComesAt x.nodes.items x.links.items i u ((seats_by_islands homes ws).far u).at
   comes_at u c =
@@ -126,7 +126,7 @@ module _ {S D L B : Type 0} (sources : S → SourceState) (drains : D → DrainS
       let q : ℕ = ((seats_by_islands homes ws).far u).at in
       let island : ((seats_by_islands homes ws).far u).island ≡ k = w.in_island ∙ c.home in
       let at : slice_get x.links.items q ≡ Some o.link = ap (λ (z : List Link). slice_get z q) links_are ∙ (ap (λ (z : ℕ). slice_get (links_in homes ws nodes z) q) (sym island) ∙ o.at) in
-      let comes : comes_in x.nodes.items o.link.from ≡ true = ap (λ (z : List (Seated S D L B)). comes_in z o.link.from) nodes_are ∙ (ap (λ (z : ℕ). comes_in (seats_in homes ws nodes z) o.link.from) (sym island) ∙ o.comes) in
+      let comes : comes_in x.nodes.items o.link.from ≡ true = ap (λ (z : List (Seated S D L H B)). comes_in z o.link.from) nodes_are ∙ (ap (λ (z : ℕ). comes_in (seats_in homes ws nodes z) o.link.from) (sym island) ∙ o.comes) in
       let by = h.enters q o.link at comes in
       let way : way_in i u ≡ q = ap (way_in i) (sym o.wire) ∙ by.1 in
       record {
@@ -146,7 +146,7 @@ module _ {S D L B : Type 0} (sources : S → SourceState) (drains : D → DrainS
       let q : ℕ = ((seats_by_islands homes ws).near u).at in
       let island : ((seats_by_islands homes ws).near u).island ≡ k = w.out_island ∙ c.home in
       let at : slice_get x.links.items q ≡ Some o.link = ap (λ (z : List Link). slice_get z q) links_are ∙ (ap (λ (z : ℕ). slice_get (links_in homes ws nodes z) q) (sym island) ∙ o.at) in
-      let goes : goes_out x.nodes.items o.link.to ≡ true = ap (λ (z : List (Seated S D L B)). goes_out z o.link.to) nodes_are ∙ (ap (λ (z : ℕ). goes_out (seats_in homes ws nodes z) o.link.to) (sym island) ∙ o.goes) in
+      let goes : goes_out x.nodes.items o.link.to ≡ true = ap (λ (z : List (Seated S D L H B)). goes_out z o.link.to) nodes_are ∙ (ap (λ (z : ℕ). goes_out (seats_in homes ws nodes z) o.link.to) (sym island) ∙ o.goes) in
       let by = h.leaves q o.link at goes in
       let way : way_out i u ≡ q = ap (way_out i) (sym o.wire) ∙ by.1 in
       record {
@@ -163,5 +163,5 @@ module _ {S D L B : Type 0} (sources : S → SourceState) (drains : D → DrainS
   pub not_out : (q : ℕ) (l : Link) → slice_get x.links.items q ≡ Some l → comes_in x.nodes.items l.from ≡ true → goes_out x.nodes.items l.to ≡ false
   not_out q l at comes =
       let there_at : slice_get (links_in homes ws nodes k) q ≡ Some l = ap (λ (z : List Link). slice_get z q) (sym links_are) ∙ at in
-      let there_comes : comes_in (seats_in homes ws nodes k) l.from ≡ true = ap (λ (z : List (Seated S D L B)). comes_in z l.from) (sym nodes_are) ∙ comes in
-      ap (λ (z : List (Seated S D L B)). goes_out z l.to) nodes_are ∙ apart homes count ws nodes a k q l there_at there_comes
+      let there_comes : comes_in (seats_in homes ws nodes k) l.from ≡ true = ap (λ (z : List (Seated S D L H B)). comes_in z l.from) (sym nodes_are) ∙ comes in
+      ap (λ (z : List (Seated S D L H B)). goes_out z l.to) nodes_are ∙ apart homes count ws nodes a k q l there_at there_comes

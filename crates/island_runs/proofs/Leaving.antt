@@ -66,12 +66,12 @@ use Rattle.island_parts.specs.Ends.{leaves_something, sink_of, reader_of, writer
 use Rattle.stream_model.specs.Linear.{Book}
 
 -- a node leaves a handle where another does
-pub record HandlesAs {S D L B : Type 0} (x y : IslandNode S D L B) : Type 0 where
+pub record HandlesAs {S D L H B : Type 0} (x y : IslandNode S D L H B) : Type 0 where
   pub readers : leaves_something (reader_of y) ≡ leaves_something (reader_of x)
   pub writers : leaves_something (writer_of y) ≡ leaves_something (writer_of x)
 
 -- and so of all that it leaves
-pub record LeavesAs {S D L B : Type 0} (x y : IslandNode S D L B) : Type 0 where
+pub record LeavesAs {S D L H B : Type 0} (x y : IslandNode S D L H B) : Type 0 where
   pub sinks : leaves_something (sink_of y) ≡ leaves_something (sink_of x)
   pub picks : leaves_something (node_picks y) ≡ leaves_something (node_picks x)
   pub seats : leaves_something (node_seat y) ≡ leaves_something (node_seat x)
@@ -79,35 +79,35 @@ pub record LeavesAs {S D L B : Type 0} (x y : IslandNode S D L B) : Type 0 where
   pub ends : is_lane_end y ≡ is_lane_end x
 
 -- it leaves a handle where its kind has a file
-pub record HandlesBy {S D L B : Type 0} (shape : Kind) (x : IslandNode S D L B) : Type 0 where
+pub record HandlesBy {S D L H B : Type 0} (shape : Kind) (x : IslandNode S D L H B) : Type 0 where
   pub readers : leaves_something (reader_of x) ≡ is_some (source_file shape)
   pub writers : leaves_something (writer_of x) ≡ is_some (output_of shape)
 
 -- and all that its kind says
-pub record LeavesBy {S D L B : Type 0} (shape : Kind) (x : IslandNode S D L B) : Type 0 where
+pub record LeavesBy {S D L H B : Type 0} (shape : Kind) (x : IslandNode S D L H B) : Type 0 where
   pub sinks : leaves_something (sink_of x) ≡ is_sink shape
   pub picks : leaves_something (node_picks x) ≡ picks shape
   pub seats : leaves_something (node_seat x) ≡ is_some (switch_of shape)
   pub handles : HandlesBy shape x
 
-pub handles_on : {S D L B : Type 0} (shape : Kind) (x y : IslandNode S D L B) → HandlesBy shape x → HandlesAs x y → HandlesBy shape y
+pub handles_on : {S D L H B : Type 0} (shape : Kind) (x y : IslandNode S D L H B) → HandlesBy shape x → HandlesAs x y → HandlesBy shape y
 handles_on shape x y b s = record { readers = s.readers ∙ b.readers; writers = s.writers ∙ b.writers }
 
-pub leaves_on : {S D L B : Type 0} (shape : Kind) (x y : IslandNode S D L B) → LeavesBy shape x → LeavesAs x y → LeavesBy shape y
+pub leaves_on : {S D L H B : Type 0} (shape : Kind) (x y : IslandNode S D L H B) → LeavesBy shape x → LeavesAs x y → LeavesBy shape y
 leaves_on shape x y b s = record { sinks = s.sinks ∙ b.sinks; picks = s.picks ∙ b.picks; seats = s.seats ∙ b.seats; handles = handles_on shape x y b.handles s.handles }
 
-pub handles_both : {S D L B : Type 0} (x y z : IslandNode S D L B) → HandlesAs x y → HandlesAs y z → HandlesAs x z
+pub handles_both : {S D L H B : Type 0} (x y z : IslandNode S D L H B) → HandlesAs x y → HandlesAs y z → HandlesAs x z
 handles_both x y z a b = record { readers = b.readers ∙ a.readers; writers = b.writers ∙ a.writers }
 
 -- it leaves nothing
-pub record IsBare {S D L B : Type 0} (x : IslandNode S D L B) : Type 0 where
+pub record IsBare {S D L H B : Type 0} (x : IslandNode S D L H B) : Type 0 where
   pub sinks : sink_of x ≡ None
   pub picks : node_picks x ≡ None
   pub seats : node_seat x ≡ None
   pub readers : reader_of x ≡ None
   pub writers : writer_of x ≡ None
 
-pub lane_bare : {S D L B : Type 0} (x : IslandNode S D L B) → is_lane_end x ≡ true → IsBare x
+pub lane_bare : {S D L H B : Type 0} (x : IslandNode S D L H B) → is_lane_end x ≡ true → IsBare x
 lane_bare (node.Entering x) e = record { sinks = refl; picks = refl; seats = refl; readers = refl; writers = refl }
 lane_bare (node.Leaving x) e = record { sinks = refl; picks = refl; seats = refl; readers = refl; writers = refl }
 lane_bare _ e = absurd cc
@@ -147,9 +147,9 @@ out_stays (Machines f) (Machines x) v took gave law = refl
 out_stays (Balances f) (Balances x) v took gave law = refl
 out_stays f x v took gave law = absurd law
 
-module _ {S D L B : Type 0} (sources : S → SourceState) (drains : D → DrainState) (book : Book) where
+module _ {S D L H B : Type 0} (sources : S → SourceState) (drains : D → DrainState) (book : Book) where
   -- a node stays of its kind
-  pub law_stays : (f x : IslandNode S D L B) (v : View) (took gave : List (List Item)) → node_law sources drains book f x v took gave → LeavesAs f x
+  pub law_stays : (f x : IslandNode S D L H B) (v : View) (took gave : List (List Item)) → node_law sources drains book f x v took gave → LeavesAs f x
   law_stays (node.Reading f) (node.Reading x) v took gave law = record { sinks = refl; picks = refl; seats = refl; handles = record { readers = refl; writers = refl }; ends = refl }
   law_stays (node.Making f) (node.Making x) v took gave law = record { sinks = refl; picks = refl; seats = refl; handles = record { readers = refl; writers = refl }; ends = refl }
   law_stays (node.Linear f) (node.Linear x) v took gave law = record { sinks = refl; picks = refl; seats = refl; handles = record { readers = refl; writers = refl }; ends = refl }
@@ -177,8 +177,8 @@ writes_in (Read s) = false
 writes_in Staged = false
 writes_in (Wrote e) = is_some e.drain
 
-module _ {S D L B : Type 0} where
-  reader_end : (x : IslandNode S D L B) → leaves_something (reader_of x) ≡ reads_in (node_end x)
+module _ {S D L H B : Type 0} where
+  reader_end : (x : IslandNode S D L H B) → leaves_something (reader_of x) ≡ reads_in (node_end x)
   reader_end (node.Reading x) = refl
   reader_end (node.Making x) = refl
   reader_end (node.Linear x) = refl
@@ -192,7 +192,7 @@ module _ {S D L B : Type 0} where
   reader_end (node.Entering x) = refl
   reader_end (node.Leaving x) = refl
 
-  writer_end : (x : IslandNode S D L B) → leaves_something (writer_of x) ≡ writes_in (node_end x)
+  writer_end : (x : IslandNode S D L H B) → leaves_something (writer_of x) ≡ writes_in (node_end x)
   writer_end (node.Reading x) = refl
   writer_end (node.Making x) = refl
   writer_end (node.Linear x) = refl
@@ -225,10 +225,10 @@ module _ {S D : Type 0} (sources : S → SourceState) (drains : D → DrainState
   end_writes (Wrote x) (Wrote y) k = drain_kept x.drain y.drain k
   end_writes e f k = absurd k
 
-module _ {S D L B : Type 0} (sources : S → SourceState) (drains : D → DrainState) where
+module _ {S D L H B : Type 0} (sources : S → SourceState) (drains : D → DrainState) where
   -- the handles of a node outlive it
-  pub kept_stays : (x y : IslandNode S D L B) → (y ≡ x) ⊎ KeepsNode sources drains x y → HandlesAs x y
-  kept_stays x y (inl e) = record { readers = ap (λ (z : IslandNode S D L B). leaves_something (reader_of z)) e; writers = ap (λ (z : IslandNode S D L B). leaves_something (writer_of z)) e }
+  pub kept_stays : (x y : IslandNode S D L H B) → (y ≡ x) ⊎ KeepsNode sources drains x y → HandlesAs x y
+  kept_stays x y (inl e) = record { readers = ap (λ (z : IslandNode S D L H B). leaves_something (reader_of z)) e; writers = ap (λ (z : IslandNode S D L H B). leaves_something (writer_of z)) e }
   kept_stays x y (inr k) = record {
     readers = reader_end y ∙ (end_reads sources drains (node_end x) (node_end y) k.ends ∙ sym (reader_end x));
     writers = writer_end y ∙ (end_writes sources drains (node_end x) (node_end y) k.ends ∙ sym (writer_end x));
@@ -469,11 +469,11 @@ state_seats k shape d (state.Tripping f) b = sym (trip_seated k shape d f b)
 
 -- ---- a node as it begins
 
-module _ {S D L B : Type 0} where
-  inner : (shape : Kind) (x : IslandNode S D L B) → leaves_something (sink_of x) ≡ false → leaves_something (reader_of x) ≡ false → leaves_something (writer_of x) ≡ false → leaves_something (node_picks x) ≡ picks shape → leaves_something (node_seat x) ≡ is_some (switch_of shape) → IsPlain shape → LeavesBy shape x
+module _ {S D L H B : Type 0} where
+  inner : (shape : Kind) (x : IslandNode S D L H B) → leaves_something (sink_of x) ≡ false → leaves_something (reader_of x) ≡ false → leaves_something (writer_of x) ≡ false → leaves_something (node_picks x) ≡ picks shape → leaves_something (node_seat x) ≡ is_some (switch_of shape) → IsPlain shape → LeavesBy shape x
   inner shape x s r w p t is = record { sinks = s ∙ sym is.sinks; picks = p; seats = t; handles = record { readers = r ∙ sym is.reads; writers = w ∙ sym is.writes } }
 
-  reading_leaves : (shape : Kind) (name : List ℕ) (y : Lines S) → shape ≡ kind.Lines name → LeavesBy {S = S} {D = D} {L = L} {B = B} shape (node.Reading y)
+  reading_leaves : (shape : Kind) (name : List ℕ) (y : Lines S) → shape ≡ kind.Lines name → LeavesBy {S = S} {D = D} {L = L} {H = H} {B = B} shape (node.Reading y)
   reading_leaves shape name y e = record {
     sinks = sym (ap is_sink e);
     picks = sym (ap picks e);
@@ -481,7 +481,7 @@ module _ {S D L B : Type 0} where
     handles = record { readers = sym (ap (λ (t : Kind). is_some (source_file t)) e); writers = sym (ap (λ (t : Kind). is_some (output_of t)) e) };
   }
 
-  custom_leaves : (shape : Kind) (name : List ℕ) (y : CustomState) → shape ≡ kind.Custom name → LeavesBy {S = S} {D = D} {L = L} {B = B} shape (node.Custom y)
+  custom_leaves : (shape : Kind) (name : List ℕ) (y : CustomState) → shape ≡ kind.Custom name → LeavesBy {S = S} {D = D} {L = L} {H = H} {B = B} shape (node.Custom y)
   custom_leaves shape name y e = record {
     sinks = sym (ap is_sink e);
     picks = sym (ap picks e);
@@ -489,7 +489,7 @@ module _ {S D L B : Type 0} where
     handles = record { readers = sym (ap (λ (t : Kind). is_some (source_file t)) e); writers = sym (ap (λ (t : Kind). is_some (output_of t)) e) };
   }
 
-  ignoring_leaves : (shape : Kind) (y : Ignorer) → shape ≡ kind.Ignore → LeavesBy {S = S} {D = D} {L = L} {B = B} shape (node.Ignoring y)
+  ignoring_leaves : (shape : Kind) (y : Ignorer) → shape ≡ kind.Ignore → LeavesBy {S = S} {D = D} {L = L} {H = H} {B = B} shape (node.Ignoring y)
   ignoring_leaves shape y e = record {
     sinks = sym (ap is_sink e);
     picks = sym (ap picks e);
@@ -497,34 +497,34 @@ module _ {S D L B : Type 0} where
     handles = record { readers = sym (ap (λ (t : Kind). is_some (source_file t)) e); writers = sym (ap (λ (t : Kind). is_some (output_of t)) e) };
   }
 
-  writing_leaves : (shape : Kind) (y : Sink D) → IsFileSink shape → LeavesBy {S = S} {D = D} {L = L} {B = B} shape (node.Writing y)
+  writing_leaves : (shape : Kind) (y : Sink D) → IsFileSink shape → LeavesBy {S = S} {D = D} {L = L} {H = H} {B = B} shape (node.Writing y)
   writing_leaves shape y is = let f = file_sink shape is in record { sinks = sym f.sinks; picks = sym f.picked; seats = sym f.shut; handles = record { readers = sym f.reads; writers = sym f.writes } }
 
-  work_leaves : (around : Around) (k m room : ℕ) (n : blue.Node) (ss : List S) (ds : List D) (w : Work S D L B) (x : IslandNode S D L B) → IsWork around k n ss ds w → BecomesOf m room w x → LeavesBy n.kind x
-  work_leaves around k m room n ss ds (work.Reading r) x is b = let l = reads_lines n.kind ss r.source is.source in subst (λ (y : IslandNode S D L B). LeavesBy n.kind y) (sym b) (reading_leaves n.kind l.0 _ l.1)
-  work_leaves around k m room n ss ds (work.Making shape) x is b = let p = maker_plain n.kind is.is_maker in subst (λ (y : IslandNode S D L B). LeavesBy n.kind y) (sym b) (inner n.kind (node.Making (maker_of m shape)) refl refl refl (sym p.1) (sym (maker_unseated n.kind is.is_maker)) p.0)
-  work_leaves around k m room n ss ds (work.Linear l) x is b = let p = linear_plain n.kind is.is_linear in subst (λ (y : IslandNode S D L B). LeavesBy n.kind y) (sym b) (inner n.kind (node.Linear l) refl refl refl (sym p.1) (sym (linear_unseated n.kind is.is_linear)) p.0)
+  work_leaves : (around : Around) (k m room : ℕ) (n : blue.Node) (ss : List S) (ds : List D) (w : Work S D L H B) (x : IslandNode S D L H B) → IsWork around k n ss ds w → BecomesOf m room w x → LeavesBy n.kind x
+  work_leaves around k m room n ss ds (work.Reading r) x is b = let l = reads_lines n.kind ss r.source is.source in subst (λ (y : IslandNode S D L H B). LeavesBy n.kind y) (sym b) (reading_leaves n.kind l.0 _ l.1)
+  work_leaves around k m room n ss ds (work.Making shape) x is b = let p = maker_plain n.kind is.is_maker in subst (λ (y : IslandNode S D L H B). LeavesBy n.kind y) (sym b) (inner n.kind (node.Making (maker_of m shape)) refl refl refl (sym p.1) (sym (maker_unseated n.kind is.is_maker)) p.0)
+  work_leaves around k m room n ss ds (work.Linear l) x is b = let p = linear_plain n.kind is.is_linear in subst (λ (y : IslandNode S D L H B). LeavesBy n.kind y) (sym b) (inner n.kind (node.Linear l) refl refl refl (sym p.1) (sym (linear_unseated n.kind is.is_linear)) p.0)
   work_leaves around k m room n ss ds (work.State l) x is b =
-      subst (λ (y : IslandNode S D L B). LeavesBy n.kind y) (sym b) (inner n.kind (node.State l) refl refl refl (state_chooses k n.kind n.decider l is.begins.as_kind) (state_seats k n.kind n.decider l is.begins.as_kind) (state_plain n.kind is.is_state))
+      subst (λ (y : IslandNode S D L H B). LeavesBy n.kind y) (sym b) (inner n.kind (node.State l) refl refl refl (state_chooses k n.kind n.decider l is.begins.as_kind) (state_seats k n.kind n.decider l is.begins.as_kind) (state_plain n.kind is.is_state))
   work_leaves around k m room n ss ds (work.Sub l) x is b =
-      subst (λ (y : IslandNode S D L B). LeavesBy n.kind y) (sym b) (inner n.kind (node.Sub l) refl refl refl (sub_chooses k n.kind l.logic.chain l.logic is.begins.as_kind) (sym (sub_unseated n.kind is.is_sub)) (sub_plain n.kind is.is_sub))
+      subst (λ (y : IslandNode S D L H B). LeavesBy n.kind y) (sym b) (inner n.kind (node.Sub l) refl refl refl (sub_chooses k n.kind l.logic.chain l.logic is.begins.as_kind) (sym (sub_unseated n.kind is.is_sub)) (sub_plain n.kind is.is_sub))
   work_leaves around k m room n ss ds (work.FanIn l inputs) x is b =
-      subst (λ (y : IslandNode S D L B). LeavesBy n.kind y) (sym b) (inner n.kind (node.FanIn l) refl refl refl (fan_in_chooses n.kind l is.begins.takes) (sym (fan_in_unseated n.kind is.is_in)) (fan_in_plain n.kind is.is_in))
+      subst (λ (y : IslandNode S D L H B). LeavesBy n.kind y) (sym b) (inner n.kind (node.FanIn l) refl refl refl (fan_in_chooses n.kind l is.begins.takes) (sym (fan_in_unseated n.kind is.is_in)) (fan_in_plain n.kind is.is_in))
   work_leaves around k m room n ss ds (work.FanOut l outputs) x is b =
-      subst (λ (y : IslandNode S D L B). LeavesBy n.kind y) (sym b) (inner n.kind (node.FanOut l) refl refl refl (fan_out_chooses k n.kind l is.begins.as_kind) (sym (fan_out_unseated n.kind is.is_out)) (fan_out_plain n.kind is.is_out))
-  work_leaves around k m room n ss ds (work.Custom l inputs outputs) x is b = subst (λ (y : IslandNode S D L B). LeavesBy n.kind y) (sym b) (custom_leaves n.kind is.0.is_custom.0 l is.0.is_custom.1)
+      subst (λ (y : IslandNode S D L H B). LeavesBy n.kind y) (sym b) (inner n.kind (node.FanOut l) refl refl refl (fan_out_chooses k n.kind l is.begins.as_kind) (sym (fan_out_unseated n.kind is.is_out)) (fan_out_plain n.kind is.is_out))
+  work_leaves around k m room n ss ds (work.Custom l inputs outputs) x is b = subst (λ (y : IslandNode S D L H B). LeavesBy n.kind y) (sym b) (custom_leaves n.kind is.0.is_custom.0 l is.0.is_custom.1)
   work_leaves around k m room n ss ds (work.LaneIn u) x is b = absurd is
   work_leaves around k m room n ss ds (work.LaneOut u) x is b = absurd is
-  work_leaves around k m room n ss ds (work.Writing shape (Some d)) x is b = subst (λ (y : IslandNode S D L B). LeavesBy n.kind y) (sym b) (writing_leaves n.kind _ is.is_sink)
-  work_leaves around k m room n ss ds (work.Writing shape None) x is b = subst (λ (y : IslandNode S D L B). LeavesBy n.kind y) (sym b) (ignoring_leaves n.kind _ is.is_ignore)
+  work_leaves around k m room n ss ds (work.Writing shape (Some d)) x is b = subst (λ (y : IslandNode S D L H B). LeavesBy n.kind y) (sym b) (writing_leaves n.kind _ is.is_sink)
+  work_leaves around k m room n ss ds (work.Writing shape None) x is b = subst (λ (y : IslandNode S D L H B). LeavesBy n.kind y) (sym b) (ignoring_leaves n.kind _ is.is_ignore)
 
   -- a node that began as what was handed in for node j leaves what the kind of that says
-  pub seat_leaves : (around : Around) (k : ℕ) (ns : List blue.Node) (ss : List S) (ds : List D) (ps : List (Seated S D L B)) (j : ℕ) (n : blue.Node) (p : Seated S D L B) (x : IslandNode S D L B)
+  pub seat_leaves : (around : Around) (k : ℕ) (ns : List blue.Node) (ss : List S) (ds : List D) (ps : List (Seated S D L H B)) (j : ℕ) (n : blue.Node) (p : Seated S D L H B) (x : IslandNode S D L H B)
       → AreSeats around k ns ss ds ps → slice_get ns j ≡ Some n → slice_get ps j ≡ Some p → Becomes p x → LeavesBy n.kind x
   seat_leaves around k [] ss ds ps j n p x a en ep b = absurd cc
   seat_leaves around k (m ∷ ns) ss ds [] j n p x a en ep b = absurd a
   seat_leaves around k (m ∷ ns) ss ds (q ∷ ps) zero n p x a en ep b =
       let e : m ≡ n = cc in
       let f : q ≡ p = cc in
-      subst (λ (z : blue.Node). LeavesBy z.kind x) e (work_leaves around k q.node q.room m ss ds q.work x a.1.0 (subst (λ (z : Seated S D L B). Becomes z x) (sym f) b))
+      subst (λ (z : blue.Node). LeavesBy z.kind x) e (work_leaves around k q.node q.room m ss ds q.work x a.1.0 (subst (λ (z : Seated S D L H B). Becomes z x) (sym f) b))
   seat_leaves around k (m ∷ ns) ss ds (q ∷ ps) (suc j) n p x a en ep b = seat_leaves around (k + 1) ns _ _ ps j n p x a.1.1 en ep b

@@ -35,15 +35,15 @@ use Rattle.island_runs.proofs.Lists.{same_at, same_many, list_there}
 use Rattle.island_runs.proofs.Starting.{is_started, its_ends, started_many}
 use Rattle.stream_model.specs.Linear.{Book}
 
-module _ {S D L B : Type 0} (sources : S → SourceState) (drains : D → DrainState) (book : Book) (plans : List LanePlan) (count : ℕ) (started : List (Kept S D L B)) (many : length started ≡ count) (e : AllEnds) (ends : AreAllEnds plans count e)
-    (bodies : List (Body S D L B)) (made : AreAllBodies sources drains book started e.ins.items e.outs.items bodies) where
+module _ {S D L H B : Type 0} (sources : S → SourceState) (drains : D → DrainState) (book : Book) (plans : List LanePlan) (count : ℕ) (started : List (Kept S D L H B)) (many : length started ≡ count) (e : AllEnds) (ends : AreAllEnds plans count e)
+    (bodies : List (Body S D L H B)) (made : AreAllBodies sources drains book started e.ins.items e.outs.items bodies) where
   -- what the body at a place was made of
-  pub record IsMade (k : ℕ) (b : Body S D L B) : Type 0 where
-    pub island : Kept S D L B
+  pub record IsMade (k : ℕ) (b : Body S D L H B) : Type 0 where
+    pub island : Kept S D L H B
     pub at : slice_get started k ≡ Some island
     pub is : IsBodyOf sources drains book island (items_at e.ins.items k) (items_at e.outs.items k) b
 
-  pub is_made : (k : ℕ) (b : Body S D L B) → slice_get bodies k ≡ Some b → IsMade k b
+  pub is_made : (k : ℕ) (b : Body S D L H B) → slice_get bodies k ≡ Some b → IsMade k b
   is_made k b at =
       let lt : k < length bodies = slice_get_within bodies k b at in
       let i = there started k (omega (arith, lt, made.many)) in
@@ -53,7 +53,7 @@ module _ {S D L B : Type 0} (sources : S → SourceState) (drains : D → DrainS
       let taking = subst (λ (l : List IslandInput). IsBodyOf sources drains book i.0 l (o.0).items b) (sym (ap items_in x.1)) own in
       record { island = i.0; at = i.1; is = subst (λ (l : List OutputBoundary). IsBodyOf sources drains book i.0 (items_at e.ins.items k) l b) (sym (ap items_in o.1)) taking }
 
-  pub unspent : AllOf (λ (b : Body S D L B). b.spent ≡ 0) bodies
+  pub unspent : AllOf (λ (b : Body S D L H B). b.spent ≡ 0) bodies
   unspent k b at = (is_made k b at).is.unspent
 
   pub aligned : AreAligned plans e.crossings.items bodies
@@ -63,7 +63,7 @@ module _ {S D L B : Type 0} (sources : S → SourceState) (drains : D → DrainS
       same_at (λ (y : IslandInput). y.wire) (items_at e.ins.items c.to) b.ins.items c.inp j.inp x m.is.lanes.ins_wires j.inp_at inp ∙ j.ends.in_wire
 
   -- the two ends at a crossing are of one lane
-  may_meet : (c : Crossing) (l : LanePlan) → LaneJoins e l c → (a b : Body S D L B) → slice_get bodies c.from ≡ Some a → slice_get bodies c.to ≡ Some b → BodiesMayMeet a c.out b c.inp
+  may_meet : (c : Crossing) (l : LanePlan) → LaneJoins e l c → (a b : Body S D L H B) → slice_get bodies c.from ≡ Some a → slice_get bodies c.to ≡ Some b → BodiesMayMeet a c.out b c.inp
   may_meet c l j a b from to =
       let m = is_made c.from a from in
       let n = is_made c.to b to in
@@ -86,8 +86,8 @@ module _ {S D L B : Type 0} (sources : S → SourceState) (drains : D → DrainS
       let to = list_there e.ins.items c.to c.inp j.inp j.inp_at in
       record { from_there = omega (arith, from, ends.outs_many, many, made.many); to_there = omega (arith, to, ends.ins_many, many, made.many); may = may_meet c l.0 j }
 
-module _ {S D L B : Type 0} (sources : S → SourceState) (drains : D → DrainState) (book : Book) (b : Blueprint) (ss : List S) (ds : List D) (f : Filled S D L B) (filled : IsFilled b ss ds f) (started : List (Kept S D L B)) (all : AllStarted sources drains book f.islands.items started)
-    (e : AllEnds) (ends : AreAllEnds f.lanes.items f.count e) (bodies : List (Body S D L B)) (made : AreAllBodies sources drains book started e.ins.items e.outs.items bodies) where
+module _ {S D L H B : Type 0} (sources : S → SourceState) (drains : D → DrainState) (book : Book) (b : Blueprint) (ss : List S) (ds : List D) (f : Filled S D L H B) (filled : IsFilled b ss ds f) (started : List (Kept S D L H B)) (all : AllStarted sources drains book f.islands.items started)
+    (e : AllEnds) (ends : AreAllEnds f.lanes.items f.count e) (bodies : List (Body S D L H B)) (made : AreAllBodies sources drains book started e.ins.items e.outs.items bodies) where
   abbrev many : length started ≡ f.count
   many = started_many sources drains book b ss ds f filled started all
 

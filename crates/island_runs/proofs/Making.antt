@@ -34,14 +34,14 @@ map_there f (z ∷ xs) [] k x e at = absurd cc
 map_there f (z ∷ xs) (y ∷ ys) zero x e at = let here : f y ≡ f z = cc in let same : z ≡ x = cc in (y, (refl, here ∙ ap f same))
 map_there f (z ∷ xs) (y ∷ ys) (suc k) x e at = let t : map f ys ≡ map f xs = cc in map_there f xs ys k x t at
 
-module _ {S D L B : Type 0} where
-  in_goes : (old new : Kept S D L B) (g : IslandGoes old new) (u : ℕ) → way_in new u ≡ way_in old u
+module _ {S D L H B : Type 0} where
+  in_goes : (old new : Kept S D L H B) (g : IslandGoes old new) (u : ℕ) → way_in new u ≡ way_in old u
   in_goes old new g u = rw g.ins refl
 
-  out_goes : (old new : Kept S D L B) (g : IslandGoes old new) (u : ℕ) → way_out new u ≡ way_out old u
+  out_goes : (old new : Kept S D L H B) (g : IslandGoes old new) (u : ℕ) → way_out new u ≡ way_out old u
   out_goes old new g u = rw g.outs refl
 
-  module _ (sources : S → SourceState) (drains : D → DrainState) (book : Book) (homes : List ℕ) (count : ℕ) (ws : List Edge) (nodes : List (Seated S D L B)) (e : AllEnds) (bodies : List (Body S D L B)) (a : AreSeated homes count ws nodes)
+  module _ (sources : S → SourceState) (drains : D → DrainState) (book : Book) (homes : List ℕ) (count : ℕ) (ws : List Edge) (nodes : List (Seated S D L H B)) (e : AllEnds) (bodies : List (Body S D L H B)) (a : AreSeated homes count ws nodes)
       (all : AreAllEnds (lanes_from homes 0 ws) count e) (made : AreMadeOf sources drains book homes ws nodes count e bodies) where
     pub begun : AreBegun sources drains book homes count ws nodes bodies
     begun = record {
@@ -49,7 +49,7 @@ module _ {S D L B : Type 0} where
       keep = λ k b at. (made.each k b at).keeps;
       become = λ k b at.
           let m = made.each k b at in
-          subst (AllBecome (seats_in homes ws nodes k)) (sym m.goes.on.firsts) (subst (λ (ps : List (Seated S D L B)). AllBecome ps m.island.net.firsts) m.parts_are.nodes_are m.started.firsts);
+          subst (AllBecome (seats_in homes ws nodes k)) (sym m.goes.on.firsts) (subst (λ (ps : List (Seated S D L H B)). AllBecome ps m.island.net.firsts) m.parts_are.nodes_are m.started.firsts);
       ends_are = λ k b at.
           let m = made.each k b at in
           m.goes.on.ends ∙ (m.started.ends ∙ ap (map ends_of) m.parts_are.links_are);
@@ -67,7 +67,7 @@ module _ {S D L B : Type 0} where
       plan_at : slice_get (lanes_from homes 0 ws) j ≡ Some plan
       plan_at = lane_get homes 0 ws u v size at lane
 
-      body_at : (k : ℕ) → k < count → (b : Body S D L B) × (slice_get bodies k ≡ Some b)
+      body_at : (k : ℕ) → k < count → (b : Body S D L H B) × (slice_get bodies k ≡ Some b)
       body_at k lt = there bodies k (omega (arith, lt, made.many))
 
       crossing : (c : Crossing) → LaneJoins e plan c → IsCrossingOf homes ws bodies u v size c

@@ -37,7 +37,7 @@ each_both P (x ∷ xs) ys a b zero y e = a 0 y e
 each_both P (x ∷ xs) ys a b (suc k) y e = each_both P xs ys (λ j z f. a (suc j) z f) b k y e
 
 -- the nodes of a blueprint have their own numbers
-pub seat_numbers : {S D L B : Type 0} (around : Around) (k : ℕ) (ns : List blue.Node) (ss : List S) (ds : List D) (ps : List (Seated S D L B)) → AreSeats around k ns ss ds ps → map place_number ps ≡ count_from k (length ps)
+pub seat_numbers : {S D L H B : Type 0} (around : Around) (k : ℕ) (ns : List blue.Node) (ss : List S) (ds : List D) (ps : List (Seated S D L H B)) → AreSeats around k ns ss ds ps → map place_number ps ≡ count_from k (length ps)
 seat_numbers around k [] ss ds [] a = refl
 seat_numbers around k [] ss ds (p ∷ ps) a = absurd a
 seat_numbers around k (n ∷ ns) ss ds [] a = absurd a

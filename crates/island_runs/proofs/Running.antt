@@ -41,10 +41,10 @@ twice_not : (more : Bool) → more ≡ not (not more)
 twice_not true = refl
 twice_not false = refl
 
-module _ {S D L B : Type 0} (sources : S → SourceState) (drains : D → DrainState) (book : Book) (b : Blueprint) (ss : List S) (ds : List D) (begun now : List (Body S D L B)) (lanes crossings lent : List Crossing) (r : Remains S D)
+module _ {S D L H B : Type 0} (sources : S → SourceState) (drains : D → DrainState) (book : Book) (b : Blueprint) (ss : List S) (ds : List D) (begun now : List (Body S D L H B)) (lanes crossings lent : List Crossing) (r : Remains S D)
     (h : HaveBegun sources drains book b ss ds begun crossings r) (ran_on : lanes ≡ crossings) (same : lent ≡ crossings) (joined : AllJoined BodiesJoined now lanes) where
   -- they ran over the crossings that were lent
-  pub have_run : (budget used : ℕ) (more : Bool) → AllOf (BodyKeeps sources drains book) now → EachOf BodyGoes begun now → used ≡ sum_by (λ (x : Body S D L B). x.spent) now → used ≤ budget
+  pub have_run : (budget used : ℕ) (more : Bool) → AllOf (BodyKeeps sources drains book) now → EachOf BodyGoes begun now → used ≡ sum_by (λ (x : Body S D L H B). x.spent) now → used ≤ budget
       → (more ≡ false → AtRest is_pending BodiesJoined now lanes) → (more ≡ true → used ≡ budget) → (run : HaveRun sources drains book b ss ds begun now lent r budget used (not more)) × (run.began.nodes ≡ h.nodes)
   have_run budget used more keep went spent within rest all =
       subst (λ (cs : List Crossing). (run : HaveRun sources drains book b ss ds begun now cs r budget used (not more)) × (run.began.nodes ≡ h.nodes)) (sym same) (

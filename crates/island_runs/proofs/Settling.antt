@@ -31,6 +31,7 @@ use Rattle.run_laws.specs.Runs.{IsRun}
 use Rattle.run_laws.specs.Telling.{seat_at, AreSettled}
 use Rattle.stream_model.specs.declared.blueprint.Blueprint.{Blueprint}
 use Rattle.stream_model.specs.declared.blueprint.Node as blue
+use Rattle.stream_model.specs.declared.blueprint.WireDecl.{WireDecl}
 use Rattle.materializer.specs.Graphs.{graph_of, graph_node}
 use Rattle.materializer.specs.Seats.{place_seat}
 use Rattle.stage_switch.specs.Settling.{kinds_of, AllSettled}
@@ -63,7 +64,7 @@ state_stays k shape d (state.Obeying f) (state.Obeying x) v took gave b law = (v
 state_stays k shape d (state.Tripping f) (state.Tripping x) v took gave b law = law.trip.one ∙ law.switch ∙ sym (trip_unused k shape d f b)
 state_stays k shape d first now v took gave b law = absurd law
 
-node_stays : {S D L B : Type 0} (sources : S → SourceState) (drains : D → DrainState) (book : Book) (chains : List graph.Chain) (k : ℕ) (n : graph.Node) (first now : IslandNode S D L B) (v : View) (took gave : List (List Item)) → FirstOf sources chains k n first → node_law sources drains book first now v took gave → SeatStays (node_seat first) (node_seat now)
+node_stays : {S D L H B : Type 0} (sources : S → SourceState) (drains : D → DrainState) (book : Book) (chains : List graph.Chain) (k : ℕ) (n : graph.Node) (first now : IslandNode S D L H B) (v : View) (took gave : List (List Item)) → FirstOf sources chains k n first → node_law sources drains book first now v took gave → SeatStays (node_seat first) (node_seat now)
 node_stays sources drains book chains k n (node.Reading f) (node.Reading x) v took gave made law = tt
 node_stays sources drains book chains k n (node.Making f) (node.Making x) v took gave made law = tt
 node_stays sources drains book chains k n (node.Linear f) (node.Linear x) v took gave made law = tt
@@ -79,7 +80,7 @@ node_stays sources drains book chains k n (node.Leaving f) x v took gave made la
 node_stays sources drains book chains k n first now v took gave made law = absurd law
 
 -- the node that stands at a place has the seat that was handed in for it
-work_seat : {S D L B : Type 0} (k room : ℕ) (w : Work S D L B) (x : IslandNode S D L B) → BecomesOf k room w x → place_seat (record { node = k; room = room; work = w }) ≡ node_seat x
+work_seat : {S D L H B : Type 0} (k room : ℕ) (w : Work S D L H B) (x : IslandNode S D L H B) → BecomesOf k room w x → place_seat (record { node = k; room = room; work = w }) ≡ node_seat x
 work_seat k room (work.Reading r) x is = sym (ap node_seat is)
 work_seat k room (work.Making shape) x is = sym (ap node_seat is)
 work_seat k room (work.Linear l) x is = sym (ap node_seat is)
@@ -88,12 +89,12 @@ work_seat k room (work.Sub l) x is = sym (ap node_seat is)
 work_seat k room (work.FanIn l n) x is = sym (ap node_seat is)
 work_seat k room (work.FanOut l n) x is = sym (ap node_seat is)
 work_seat k room (work.Custom l n m) x is = sym (ap node_seat is)
-work_seat k (work.Writing shape (Some d)) x is = sym (ap node_seat is)
+work_seat k room (work.Writing shape (Some d)) x is = sym (ap node_seat is)
 work_seat k room (work.Writing shape None) x is = sym (ap node_seat is)
 work_seat k room (work.LaneIn u) x is = sym (ap node_seat is)
 work_seat k room (work.LaneOut u) x is = sym (ap node_seat is)
 
-places_seats : {S D L B : Type 0} (places : List (Seated S D L B)) (firsts : List (IslandNode S D L B)) → AllBecome places firsts → map place_seat places ≡ map node_seat firsts
+places_seats : {S D L H B : Type 0} (places : List (Seated S D L H B)) (firsts : List (IslandNode S D L H B)) → AllBecome places firsts → map place_seat places ≡ map node_seat firsts
 places_seats [] [] all = refl
 places_seats [] (x ∷ xs) all = absurd all
 places_seats (p ∷ ps) [] all = absurd all
@@ -128,7 +129,7 @@ beside (x ∷ xs) [] k z e at = absurd (omega (arith, e))
 beside (x ∷ xs) (y ∷ ys) zero z e at = (y, refl)
 beside (x ∷ xs) (y ∷ ys) (suc k) z e at = beside xs ys k z (omega (arith, e)) at
 
-module _ {S D L B : Type 0} (sources : S → SourceState) (drains : D → DrainState) (book : Book) (b : Blueprint) (board : Board) (places : List (Seated S D L B)) (firsts last : List (IslandNode S D L B)) (a : Account (IslandNode S D L B))
+module _ {S D L H B : Type 0} (sources : S → SourceState) (drains : D → DrainState) (book : Book) (b : Blueprint) (board : Board) (places : List (Seated S D L H B)) (firsts last : List (IslandNode S D L H B)) (a : Account (IslandNode S D L H B))
     (become : AllBecome places firsts) (first_at : (k : ℕ) → a.firsts k ≡ slice_get firsts k) (node_at : (k : ℕ) → a.nodes k ≡ slice_get last k) (as_many : length last ≡ length firsts) (run : IsRun sources drains book (graph_of b) a)
     (at : AreAtSwitches (map (λ (n : blue.Node). n.kind) b.nodes.items) board (map place_seat places)) where
   kept_at : (k : ℕ) (shape : Kind) (s : Option SeatState) → slice_get (map (λ (n : blue.Node). n.kind) b.nodes.items) k ≡ Some shape → slice_get (map node_seat last) k ≡ Some s → IsSeatAt (switch_of shape) (switch_at board k) s
@@ -142,7 +143,7 @@ module _ {S D L B : Type 0} (sources : S → SourceState) (drains : D → DrainS
       let first_is : keeps.first ≡ f.0 = let e : Some keeps.first ≡ Some f.0 = sym keeps.first_at ∙ first_at k ∙ f.1 in cc in
       let now_is : keeps.now ≡ x.0 = let e : Some keeps.now ≡ Some x.0 = sym keeps.now_at ∙ node_at k ∙ x.1.0 in cc in
       let began : IsSeatAt (switch_of shape) (switch_at board k) (node_seat keeps.first) =
-      at.each k shape (node_seat keeps.first) kind_here (ap (λ (xs : List (Option SeatState)). slice_get xs k) (places_seats places firsts become) ∙ mapped_there node_seat firsts k f.0 f.1 ∙ ap (λ (z : IslandNode S D L B). Some (node_seat z)) (sym first_is)) in
+      at.each k shape (node_seat keeps.first) kind_here (ap (λ (xs : List (Option SeatState)). slice_get xs k) (places_seats places firsts become) ∙ mapped_there node_seat firsts k f.0 f.1 ∙ ap (λ (z : IslandNode S D L H B). Some (node_seat z)) (sym first_is)) in
       subst (IsSeatAt (switch_of shape) (switch_at board k)) (ap node_seat now_is ∙ x.1.1) (at_switch (switch_of shape) (switch_at board k) (node_seat keeps.first) (node_seat keeps.now) stays began)
 
   pub kept_seats : AreAtSwitches (map (λ (n : blue.Node). n.kind) b.nodes.items) board (map node_seat last)
@@ -157,11 +158,11 @@ with_seat_in : (k : ℕ) (o : Option SeatState) (os : List (Option SeatState)) (
 with_seat_in k None os rest e = e
 with_seat_in k (Some s) os rest e = ap (λ (xs : List (ℕ × SeatState)). (k, s) ∷ xs) e
 
-pub seats_numbered : {S D L B : Type 0} (k : ℕ) (xs : List (IslandNode S D L B)) → seats_of (count_from k (length xs)) xs ≡ numbered_from k (map node_seat xs)
+pub seats_numbered : {S D L H B : Type 0} (k : ℕ) (xs : List (IslandNode S D L H B)) → seats_of (count_from k (length xs)) xs ≡ numbered_from k (map node_seat xs)
 seats_numbered k [] = refl
 seats_numbered k (x ∷ xs) = with_seat_in k (node_seat x) (map node_seat xs) (seats_of (count_from (k + 1) (length xs)) xs) (seats_numbered (k + 1) xs)
 
-seat_there : {S D L B : Type 0} (xs : List (IslandNode S D L B)) (k : ℕ) → seat_in (map node_seat xs) k ≡ seat_at (slice_get xs k)
+seat_there : {S D L H B : Type 0} (xs : List (IslandNode S D L H B)) (k : ℕ) → seat_in (map node_seat xs) k ≡ seat_at (slice_get xs k)
 seat_there [] k = refl
 seat_there (x ∷ xs) zero = refl
 seat_there (x ∷ xs) (suc k) = seat_there xs k
@@ -187,10 +188,10 @@ same_settled kinds others f h same each all = λ k shape name here at_name.
       ),
     )
 
-kinds_same : (ns : List blue.Node) → map (λ (n : blue.Node). n.kind) ns ≡ map (λ (n : graph.Node). n.kind) (map (graph_node b.wires.items) ns)
-kinds_same [] = refl
-kinds_same (n ∷ ns) = ap (λ (ks : List Kind). n.kind ∷ ks) (kinds_same ns)
+kinds_same : (ws : List WireDecl) (ns : List blue.Node) → map (λ (n : blue.Node). n.kind) ns ≡ map (λ (n : graph.Node). n.kind) (map (graph_node ws) ns)
+kinds_same ws [] = refl
+kinds_same ws (n ∷ ns) = ap (λ (ks : List Kind). n.kind ∷ ks) (kinds_same ws ns)
 
-pub settled_run : {S D L B : Type 0} (b : Blueprint) (last : List (IslandNode S D L B)) (a : Account (IslandNode S D L B)) → ((k : ℕ) → a.nodes k ≡ slice_get last k) → AllSettled (map (λ (n : blue.Node). n.kind) b.nodes.items) (seat_in (map node_seat last)) → AreSettled (graph_of b) a
+pub settled_run : {S D L H B : Type 0} (b : Blueprint) (last : List (IslandNode S D L H B)) (a : Account (IslandNode S D L H B)) → ((k : ℕ) → a.nodes k ≡ slice_get last k) → AllSettled (map (λ (n : blue.Node). n.kind) b.nodes.items) (seat_in (map node_seat last)) → AreSettled (graph_of b) a
 settled_run b last a node_at all =
-    same_settled (map (λ (n : blue.Node). n.kind) b.nodes.items) (kinds_of (graph_of b)) (seat_in (map node_seat last)) (λ (k : ℕ). seat_at (a.nodes k)) (kinds_same b.nodes.items) (λ (k : ℕ). seat_there last k ∙ ap seat_at (sym (node_at k))) all
+    same_settled (map (λ (n : blue.Node). n.kind) b.nodes.items) (kinds_of (graph_of b)) (seat_in (map node_seat last)) (λ (k : ℕ). seat_at (a.nodes k)) (kinds_same b.wires.items b.nodes.items) (λ (k : ℕ). seat_there last k ∙ ap seat_at (sym (node_at k))) all

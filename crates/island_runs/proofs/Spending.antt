@@ -84,12 +84,12 @@ taken_paid a cost u (v ∷ vs) h =
 ranks_apart : (hs : List ℕ) (i j : ℕ) → i < length hs → j < length hs → slice_index hs i ≡ slice_index hs j → rank_of hs i ≡ rank_of hs j → i ≡ j
 ranks_apart hs i j a b home rank = rank_one hs i j (slice_index hs j) (home_at hs i (slice_index hs j) a home) (home_at hs j (slice_index hs j) b refl) (sym (rank_is hs i (slice_index hs j) home) ∙ (rank ∙ rank_is hs j (slice_index hs j) refl))
 
-module _ {S D L B : Type 0} (sources : S → SourceState) (drains : D → DrainState) (book : Book) (g : Graph) (homes : List ℕ) (count : ℕ) (ws : List Edge) (nodes : List (Seated S D L B)) (crossings : List Crossing) (begun now : List (Body S D L B))
+module _ {S D L H B : Type 0} (sources : S → SourceState) (drains : D → DrainState) (book : Book) (g : Graph) (homes : List ℕ) (count : ℕ) (ws : List Edge) (nodes : List (Seated S D L H B)) (crossings : List Crossing) (begun now : List (Body S D L H B))
     (m : AreBodiesOf sources drains book g homes count ws nodes crossings begun) (goes : EachOf BodyGoes begun now) (keep : AllOf (BodyKeeps sources drains book) now) (all : ℕ → ℕ) (asked_are : AskedAre now crossings all) (all_joined : AllJoined BodiesJoined now crossings) where
-  goes_on : (k : ℕ) (a b : Body S D L B) → slice_get begun k ≡ Some a → slice_get now k ≡ Some b → Went a b
+  goes_on : (k : ℕ) (a b : Body S D L H B) → slice_get begun k ≡ Some a → slice_get now k ≡ Some b → Went a b
   goes_on k a b x y = went a b (goes.each k a b x y)
 
-  abbrev account : Account (IslandNode S D L B)
+  abbrev account : Account (IslandNode S D L H B)
   account = joined_account (net_of now) (seats_by_islands homes ws) all
 
   abbrev asks_at : ℕ → ℕ → ℕ
@@ -137,7 +137,7 @@ module _ {S D L B : Type 0} (sources : S → SourceState) (drains : D → DrainS
       sum_le (λ k. if_lane (lane_at g.wires k) (cost (0 + k))) (λ k. if_lane (lane_at g.wires k) (cost k)) (length g.wires) (λ k lt. let none : 0 + k ≡ k = omega arith in let is : if_lane (lane_at g.wires k) (cost (0 + k)) ≡ if_lane (lane_at g.wires k) (cost k) = ap (λ j. if_lane (lane_at g.wires k) (cost j)) none in omega (arith, is)) in
       omega (arith, most, same)
 
-  pub spent : all_sent (picture_counts account g) + taken_off g.wires (picture_counts account g) ≤ sum_by (λ (b : Body S D L B). b.spent) now
+  pub spent : all_sent (picture_counts account g) + taken_off g.wires (picture_counts account g) ≤ sum_by (λ (b : Body S D L H B). b.spent) now
   spent =
       let sent = subst (λ (vs : List Edge). all_sent (counts_from account 0 vs) ≤ sum_below (λ u. asks_at (link_place homes ws u).island (link_place homes ws u).at) (length ws)) (sym m.graph.wires_are) sent_placed in
       let c = costs sources drains book g homes count ws nodes crossings begun now m goes keep all asked_are all_joined in

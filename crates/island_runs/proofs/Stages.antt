@@ -35,10 +35,10 @@ no_items : {X : Type 0} (xs : List X) → length xs ≡ 0 → xs ≡ []
 no_items [] e = refl
 no_items (x ∷ xs) e = absurd (omega (arith, e))
 
-module _ {S D L B : Type 0} where
+module _ {S D L H B : Type 0} where
   -- ---- where a lane comes in, and where one goes out
 
-  out_work : (w : Work S D L B) → is_lane_out w ≡ true → (work_inputs w ≡ 1) × (work_outputs w ≡ 0)
+  out_work : (w : Work S D L H B) → is_lane_out w ≡ true → (work_inputs w ≡ 1) × (work_outputs w ≡ 0)
   out_work (Reading r) e = absurd cc
   out_work (Making k) e = absurd cc
   out_work (Linear l) e = absurd cc
@@ -51,7 +51,7 @@ module _ {S D L B : Type 0} where
   out_work (LaneIn u) e = absurd cc
   out_work (LaneOut u) e = (refl, refl)
 
-  in_work : (w : Work S D L B) → is_lane_in w ≡ true → work_outputs w ≡ 1
+  in_work : (w : Work S D L H B) → is_lane_in w ≡ true → work_outputs w ≡ 1
   in_work (Reading r) e = absurd cc
   in_work (Making k) e = absurd cc
   in_work (Linear l) e = absurd cc
@@ -64,7 +64,7 @@ module _ {S D L B : Type 0} where
   in_work (LaneIn u) e = refl
   in_work (LaneOut u) e = absurd cc
 
-  not_both : (w : Work S D L B) → is_lane_in w ≡ true → is_lane_out w ≡ true → ⊥
+  not_both : (w : Work S D L H B) → is_lane_in w ≡ true → is_lane_out w ≡ true → ⊥
   not_both (Reading r) e f = cc
   not_both (Making k) e f = cc
   not_both (Linear l) e f = cc
@@ -77,24 +77,24 @@ module _ {S D L B : Type 0} where
   not_both (LaneIn u) e f = cc
   not_both (LaneOut u) e f = cc
 
-  out_place : (ps : List (Seated S D L B)) (n : ℕ) → goes_out ps n ≡ true → (inputs_at ps n ≡ 1) × (outputs_at ps n ≡ 0)
+  out_place : (ps : List (Seated S D L H B)) (n : ℕ) → goes_out ps n ≡ true → (inputs_at ps n ≡ 1) × (outputs_at ps n ≡ 0)
   out_place [] n e = absurd cc
   out_place (p ∷ ps) zero e = out_work p.work e
   out_place (p ∷ ps) (suc n) e = out_place ps n e
 
-  in_place : (ps : List (Seated S D L B)) (n : ℕ) → comes_in ps n ≡ true → outputs_at ps n ≡ 1
+  in_place : (ps : List (Seated S D L H B)) (n : ℕ) → comes_in ps n ≡ true → outputs_at ps n ≡ 1
   in_place [] n e = absurd cc
   in_place (p ∷ ps) zero e = in_work p.work e
   in_place (p ∷ ps) (suc n) e = in_place ps n e
 
-  one_place : (ps : List (Seated S D L B)) (n : ℕ) → comes_in ps n ≡ true → goes_out ps n ≡ true → ⊥
+  one_place : (ps : List (Seated S D L H B)) (n : ℕ) → comes_in ps n ≡ true → goes_out ps n ≡ true → ⊥
   one_place [] n e f = cc
   one_place (p ∷ ps) zero e f = not_both p.work e f
   one_place (p ∷ ps) (suc n) e f = one_place ps n e f
 
   -- ---- the lane that is wire u comes in, or goes out, at link q of these
 
-  pub record ComesAt (ps : List (Seated S D L B)) (ls : List Link) (i : Kept S D L B) (u q : ℕ) : Type 0 where
+  pub record ComesAt (ps : List (Seated S D L H B)) (ls : List Link) (i : Kept S D L H B) (u q : ℕ) : Type 0 where
     pub link : Link
     pub at : slice_get ls q ≡ Some link
     pub number : link.wire ≡ u
@@ -103,7 +103,7 @@ module _ {S D L B : Type 0} where
     pub way : way_in i u ≡ q
     pub begins : (cell_in i u).wire.sent ≡ []
 
-  pub record GoesAt (ps : List (Seated S D L B)) (ls : List Link) (i : Kept S D L B) (u q : ℕ) : Type 0 where
+  pub record GoesAt (ps : List (Seated S D L H B)) (ls : List Link) (i : Kept S D L H B) (u q : ℕ) : Type 0 where
     pub link : Link
     pub at : slice_get ls q ≡ Some link
     pub number : link.wire ≡ u
@@ -112,7 +112,7 @@ module _ {S D L B : Type 0} where
     pub way : way_out i u ≡ q
     pub begins : BeginsOut i.net (way_out i u)
 
-  module _ (sources : S → SourceState) (drains : D → DrainState) (book : Book) (ps : List (Seated S D L B)) (ls : List Link) (i : Kept S D L B) (parts : AreParts ps ls) (settled : Settled node_port_state (node_law sources drains book) node_asking node_moves i.net) (become : AllBecome ps i.net.firsts)
+  module _ (sources : S → SourceState) (drains : D → DrainState) (book : Book) (ps : List (Seated S D L H B)) (ls : List Link) (i : Kept S D L H B) (parts : AreParts ps ls) (settled : Settled node_port_state (node_law sources drains book) node_asking node_moves i.net) (become : AllBecome ps i.net.firsts)
       (ends : i.net.ends ≡ map ends_of ls) where
     end_is : (q : ℕ) (l : Link) → slice_get ls q ≡ Some l → end_at i.net.ends q ≡ ends_of l
     end_is q l at = ap (λ (es : List WireEnds). end_at es q) ends ∙ end_get ls q l at

@@ -38,14 +38,14 @@ use Rattle.island_plans.specs.Peers.{ArePeers}
 use Rattle.island_plans.specs.Making.{way_homes, AreBlank, CanAllBegin}
 use Rattle.island_runs.proofs.Ways.{connections}
 
-module _ {S D L B : Type 0} (sources : S → SourceState) (drains : D → DrainState) (book : Book) (b : Blueprint) (ss : List S) (ds : List D) (f : Filled S D L B) (filled : IsFilled b ss ds f) (started : List (Kept S D L B)) (all : AllStarted sources drains book f.islands.items started) where
+module _ {S D L H B : Type 0} (sources : S → SourceState) (drains : D → DrainState) (book : Book) (b : Blueprint) (ss : List S) (ds : List D) (f : Filled S D L H B) (filled : IsFilled b ss ds f) (started : List (Kept S D L H B)) (all : AllStarted sources drains book f.islands.items started) where
   -- island k had these parts, and has started
-  pub record IsStarted (k : ℕ) (i : Kept S D L B) : Type 0 where
-    pub parts : Parts S D L B
+  pub record IsStarted (k : ℕ) (i : Kept S D L H B) : Type 0 where
+    pub parts : Parts S D L H B
     pub parts_are : ArePartsOf f.homes.items (blueprint_wires b) filled.nodes k parts
     pub started_is : HasStarted sources drains book parts i
 
-  pub is_started : (k : ℕ) (i : Kept S D L B) → slice_get started k ≡ Some i → IsStarted k i
+  pub is_started : (k : ℕ) (i : Kept S D L H B) → slice_get started k ≡ Some i → IsStarted k i
   is_started k i at =
       let lt = slice_get_within started k i at in
       let x = there f.islands.items k (omega (arith, lt, all.many)) in
@@ -72,7 +72,7 @@ module _ {S D L B : Type 0} (sources : S → SourceState) (drains : D → DrainS
         let less : length (whole_links n ws) < 4294967296 = few in
         omega (arith, many, whole, less)
 
-    begin : (k : ℕ) (i : Kept S D L B) (x : Vec IslandInput Global) (o : Vec OutputBoundary Global) → slice_get started k ≡ Some i → slice_get e.ins.items k ≡ Some x → slice_get e.outs.items k ≡ Some o → BodyBegins i x.items o.items
+    begin : (k : ℕ) (i : Kept S D L H B) (x : Vec IslandInput Global) (o : Vec OutputBoundary Global) → slice_get started k ≡ Some i → slice_get e.ins.items k ≡ Some x → slice_get e.outs.items k ≡ Some o → BodyBegins i x.items o.items
     begin k i x o at ins outs =
         let s = is_started k i at in
         let own : BodyBegins i (items_at e.ins.items k) (items_at e.outs.items k) =
@@ -80,7 +80,7 @@ module _ {S D L B : Type 0} (sources : S → SourceState) (drains : D → DrainS
         let taking : BodyBegins i x.items (items_at e.outs.items k) = subst (λ (l : List IslandInput). BodyBegins i l (items_at e.outs.items k)) (ap items_in ins) own in
         subst (λ (l : List OutputBoundary). BodyBegins i x.items l) (ap items_in outs) taking
 
-    blank_at : (k : ℕ) (i : Kept S D L B) (t : Vec Way Global) → slice_get started k ≡ Some i → slice_get tables k ≡ Some t → t.items ≡ replicate (length i.net.wires) Inner
+    blank_at : (k : ℕ) (i : Kept S D L H B) (t : Vec Way Global) → slice_get started k ≡ Some i → slice_get tables k ≡ Some t → t.items ≡ replicate (length i.net.wires) Inner
     blank_at k i t at here =
         let s = is_started k i at in
         let ws = blueprint_wires b in

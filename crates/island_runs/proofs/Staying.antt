@@ -21,18 +21,18 @@ use Rattle.stream_model.specs.Linear.{Book}
 same_wire : (x y : IslandInput) (l : LanePlan) → x.wire ≡ y.wire → y.wire ≡ l.wire → x.wire ≡ l.wire
 same_wire x y l same old = same ∙ old
 
-module _ {S D L B : Type 0} where
-  pub went : (begun now : List (Body S D L B)) → EachOf BodyGoes begun now → EachOf HaveSameLanes begun now
+module _ {S D L H B : Type 0} where
+  pub went : (begun now : List (Body S D L H B)) → EachOf BodyGoes begun now → EachOf HaveSameLanes begun now
   went begun now e = record { count = e.count; each = λ k a b old new. (e.each k a b old new).lanes }
 
-  same_lanes : (sources : S → SourceState) (drains : D → DrainState) (book : Book) (a b : Body S D L B) → ((BodyGoes a b) × (BodyKeeps sources drains book b)) ⊎ (BodyBreaks sources drains book a b) → HaveSameLanes a b
+  same_lanes : (sources : S → SourceState) (drains : D → DrainState) (book : Book) (a b : Body S D L H B) → ((BodyGoes a b) × (BodyKeeps sources drains book b)) ⊎ (BodyBreaks sources drains book a b) → HaveSameLanes a b
   same_lanes sources drains book a b (inl whole) = whole.0.lanes
   same_lanes sources drains book a b (inr broken) = broken.lanes
 
-  pub broke : (sources : S → SourceState) (drains : D → DrainState) (book : Book) (begun now : List (Body S D L B)) → WholeOrBroken (BodyKeeps sources drains book) BodyGoes (BodyBreaks sources drains book) begun now → EachOf HaveSameLanes begun now
+  pub broke : (sources : S → SourceState) (drains : D → DrainState) (book : Book) (begun now : List (Body S D L H B)) → WholeOrBroken (BodyKeeps sources drains book) BodyGoes (BodyBreaks sources drains book) begun now → EachOf HaveSameLanes begun now
   broke sources drains book begun now e = record { count = e.count; each = λ k a b old new. same_lanes sources drains book a b (e.each k a b old new) }
 
-  module _ (begun now : List (Body S D L B)) (e : EachOf HaveSameLanes begun now) where
+  module _ (begun now : List (Body S D L H B)) (e : EachOf HaveSameLanes begun now) where
     pub still_aligned : (lanes : List LanePlan) (crossings : List Crossing) → AreAligned lanes crossings begun → AreAligned lanes crossings now
     still_aligned lanes crossings old n l c b x lane crossing body inp =
         let lt : c.to < length now = slice_get_within now c.to b body in

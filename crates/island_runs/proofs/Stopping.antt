@@ -46,13 +46,13 @@ is_so : (t : Bool) → IsTrue t → t ≡ true
 is_so t h = cc
 
 -- the seats that nodes leave, by their numbers
-pub left_seats : {S D L B : Type 0} (ws : List Edge) (near : ℕ → WireState) (last : List (IslandNode S D L B)) (e : IslandEnd S D) → IsLeftBy ws near last e → e.seats.items ≡ numbered_from 0 (map node_seat last)
+pub left_seats : {S D L H B : Type 0} (ws : List Edge) (near : ℕ → WireState) (last : List (IslandNode S D L H B)) (e : IslandEnd S D) → IsLeftBy ws near last e → e.seats.items ≡ numbered_from 0 (map node_seat last)
 left_seats ws near last e l = l.seats ∙ seats_numbered 0 last
 
-module _ {S D L B : Type 0} (sources : S → SourceState) (drains : D → DrainState) (book : Book) (b : Blueprint) (ss : List S) (ds : List D) (nodes : List (Seated S D L B)) (seats : AreSeats (around_of b) 0 b.nodes.items ss ds nodes) (many : length nodes ≡ length (graph_of b).nodes)
-    (acc : Account (IslandNode S D L B)) (last : List (IslandNode S D L B)) (left : AreLeft nodes acc last) (run : IsRun sources drains book (graph_of b) acc) where
+module _ {S D L H B : Type 0} (sources : S → SourceState) (drains : D → DrainState) (book : Book) (b : Blueprint) (ss : List S) (ds : List D) (nodes : List (Seated S D L H B)) (seats : AreSeats (around_of b) 0 b.nodes.items ss ds nodes) (many : length nodes ≡ length (graph_of b).nodes)
+    (acc : Account (IslandNode S D L H B)) (last : List (IslandNode S D L H B)) (left : AreLeft nodes acc last) (run : IsRun sources drains book (graph_of b) acc) where
   -- the account of the nodes alone
-  abbrev alone : Account (IslandNode S D L B)
+  abbrev alone : Account (IslandNode S D L H B)
   alone = of_lists acc left.firsts last
 
   same : picture_counts alone (graph_of b) ≡ picture_counts acc (graph_of b)
@@ -74,7 +74,7 @@ module _ {S D L B : Type 0} (sources : S → SourceState) (drains : D → DrainS
   -- bodies that were taken apart between two events, where the seats that their nodes left were settled
   pub leaves : (budget : ℕ) (s : Stopped S D) (e : IslandEnd S D) (near : ℕ → WireState) → (s.at_rest ≡ true → IsStill (graph_of b) acc) → map place_room nodes ≡ rooms_by (length b.nodes.items) (blueprint_wires b) → (s.at_rest ≡ true → (k : ℕ) (f : Sink D) → acc.nodes k ≡ Some (Writing f) → sink_late f ≡ 0) → CancelsCross (graph_of b) acc → IsLeftBy (blueprint_wires b) near last e → s.end ≡ record e { seats = s.end.seats }
       → AllSettled (map (λ (n : blue.Node). n.kind) b.nodes.items) (seat_in (map node_seat last)) → s.wires.items ≡ picture_counts acc (graph_of b) → s.used ≤ budget → (s.at_rest ≡ false → s.used ≡ budget)
-      → all_sent (picture_counts acc (graph_of b)) + taken_off (blueprint_wires b) (picture_counts acc (graph_of b)) ≤ s.used → s.used + length (blueprint_wires b) ≤ count_needed (graph_of b) (picture_counts acc (graph_of b)) → (l : RunLeaves L B sources drains book b ss ds budget s) × (l.moment.places ≡ nodes)
+      → all_sent (picture_counts acc (graph_of b)) + taken_off (blueprint_wires b) (picture_counts acc (graph_of b)) ≤ s.used → s.used + length (blueprint_wires b) ≤ count_needed (graph_of b) (picture_counts acc (graph_of b)) → (l : RunLeaves L H B sources drains book b ss ds budget s) × (l.moment.places ≡ nodes)
   unfolding moment
   leaves budget s e near still rooms calm cancels l same_end settled wires within spent least most = (
     record {
@@ -105,7 +105,7 @@ module _ {S D L B : Type 0} (sources : S → SourceState) (drains : D → DrainS
   kept board at = kept_seats sources drains book b board nodes left.firsts last alone left.become (λ (k : ℕ). refl) (λ (k : ℕ). refl) left.as_many moment.run at
 
   -- and such as those of which some broke off in a turn
-  pub broken : (e : IslandEnd S D) (later : List (IslandNode S D L B)) → AllKept (KeepsNode sources drains) last later → e.readers.items ≡ readers_of later → e.writers.items ≡ writers_of later → LeavesBroken L B sources drains book b ss ds e
+  pub broken : (e : IslandEnd S D) (later : List (IslandNode S D L H B)) → AllKept (KeepsNode sources drains) last later → e.readers.items ≡ readers_of later → e.writers.items ≡ writers_of later → LeavesBroken L H B sources drains book b ss ds e
   broken e later kept readers writers = record {
     account = alone;
     last = last;

@@ -48,7 +48,7 @@ module _ (homes hs : List ℕ) where
           let later = rest (suc place) (λ j l here. let one_more : suc place + j ≡ place + suc j = omega arith in ap (slice_index hs) one_more ∙ at (suc j) l here) in
           ap (λ h. h ∷ map (link_home hs) (fars_from (suc place) (u + 1) ws)) first ∙ ap (λ l. slice_index homes w.to ∷ l) later
 
-module _ {S D L B : Type 0} (homes : List ℕ) (count : ℕ) (ws : List Edge) (nodes : List (Seated S D L B)) (a : AreSeated homes count ws nodes) where
+module _ {S D L H B : Type 0} (homes : List ℕ) (count : ℕ) (ws : List Edge) (nodes : List (Seated S D L H B)) (a : AreSeated homes count ws nodes) where
   -- the islands of all links
   pub homes_of_links : link_homes homes ws ≡ way_homes (map (wire_home homes) ws) (lanes_from homes 0 ws)
   homes_of_links =
@@ -60,7 +60,7 @@ module _ {S D L B : Type 0} (homes : List ℕ) (count : ℕ) (ws : List Edge) (n
       (far_homes homes hs n 0 ws (λ j l at. get_or_from_slice_get hs (n + j) l.to 0 (three_second homes (λ (p : LanePlan). p.to) (λ (p : LanePlan). p.from) (lanes_from homes 0 ws) (n + j) j l refl at))))
 
   -- an island that has started has as many connections as there are of its own
-  pub connections : (sources : S → SourceState) (drains : D → DrainState) (book : Book) (k : ℕ) (x : Parts S D L B) (i : Kept S D L B) → ArePartsOf homes ws nodes k x → HasStarted sources drains book x i → length i.net.wires ≡ share_of k (way_homes (map (wire_home homes) ws) (lanes_from homes 0 ws))
+  pub connections : (sources : S → SourceState) (drains : D → DrainState) (book : Book) (k : ℕ) (x : Parts S D L H B) (i : Kept S D L H B) → ArePartsOf homes ws nodes k x → HasStarted sources drains book x i → length i.net.wires ≡ share_of k (way_homes (map (wire_home homes) ws) (lanes_from homes 0 ws))
   connections sources drains book k x i p h =
       let wires : length i.net.ends ≡ length i.net.wires = h.laws.laws.wired.each_wire in
       let ends : length i.net.ends ≡ length x.links.items = ap length h.ends ∙ length-map x.links.items ends_of in

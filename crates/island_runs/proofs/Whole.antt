@@ -58,7 +58,7 @@ use Rattle.island_runs.proofs.Wires.{wires_are, told_many}
 use Rattle.stream_model.specs.Linear.{Book}
 
 -- a stage at an end of a lane chooses nothing
-bare_misfit : {S D L B : Type 0} (x : IslandNode S D L B) → is_lane_end x ≡ true → node_misfit x ≡ None
+bare_misfit : {S D L H B : Type 0} (x : IslandNode S D L H B) → is_lane_end x ≡ true → node_misfit x ≡ None
 bare_misfit (node.Entering x) e = refl
 bare_misfit (node.Leaving x) e = refl
 bare_misfit (node.Reading x) e = absurd cc
@@ -73,20 +73,20 @@ bare_misfit (node.Writing x) e = absurd cc
 bare_misfit (node.Ignoring x) e = absurd cc
 
 -- a node of a settled net leaves what it left as it began
-pub settled_stays : {S D L B : Type 0} (sources : S → SourceState) (drains : D → DrainState) (book : Book) (bodies : List (Body S D L B)) → AllSettled sources drains book bodies → (k p : ℕ) (first x : IslandNode S D L B) → slice_get (net_of bodies k).firsts p ≡ Some first → slice_get (net_of bodies k).nodes p ≡ Some x → LeavesAs first x
+pub settled_stays : {S D L H B : Type 0} (sources : S → SourceState) (drains : D → DrainState) (book : Book) (bodies : List (Body S D L H B)) → AllSettled sources drains book bodies → (k p : ℕ) (first x : IslandNode S D L H B) → slice_get (net_of bodies k).firsts p ≡ Some first → slice_get (net_of bodies k).nodes p ≡ Some x → LeavesAs first x
 settled_stays sources drains book bodies settled k p first x ef ex =
     let net = net_of bodies k in
     let m = (settled k).minded p (slice_get_within net.nodes p x ex) x first ex ef in
     law_stays sources drains book first x (view_of net p) (took net p) (gave net p) m.law_holds
 
 -- the homes of a list, of nodes that leave what their kinds say and of others behind them
-pub list_homes : {S D L B Y : Type 0} (list : EndList) (f : IslandNode S D L B → Option Y) (ns : List blue.Node) (homes others : List ℕ) (last more : List (IslandNode S D L B)) → length last ≡ length homes → length last ≡ length ns
-    → ((k : ℕ) (n : blue.Node) (x : IslandNode S D L B) → slice_get ns k ≡ Some n → slice_get last k ≡ Some x → leaves_something (f x) ≡ leaves_in list n) → ((k : ℕ) (x : IslandNode S D L B) → slice_get more k ≡ Some x → f x ≡ None) → homes_in list ns homes ≡ homes_left f (homes ++ others) (last ++ more)
+pub list_homes : {S D L H B Y : Type 0} (list : EndList) (f : IslandNode S D L H B → Option Y) (ns : List blue.Node) (homes others : List ℕ) (last more : List (IslandNode S D L H B)) → length last ≡ length homes → length last ≡ length ns
+    → ((k : ℕ) (n : blue.Node) (x : IslandNode S D L H B) → slice_get ns k ≡ Some n → slice_get last k ≡ Some x → leaves_something (f x) ≡ leaves_in list n) → ((k : ℕ) (x : IslandNode S D L H B) → slice_get more k ≡ Some x → f x ≡ None) → homes_in list ns homes ≡ homes_left f (homes ++ others) (last ++ more)
 list_homes list f ns homes others last more e g h none = homes_kept list f ns homes last g h ∙ sym (homes_behind f homes others last more e none)
 
-module _ {S D L B : Type 0} (sources : S → SourceState) (drains : D → DrainState) (book : Book) (g : Graph) (homes : List ℕ) (count : ℕ) (ws : List Edge) (nodes : List (Seated S D L B)) (crossings : List Crossing) (begun now : List (Body S D L B)) (all : ℕ → ℕ) (last more : List (IslandNode S D L B))
+module _ {S D L H B : Type 0} (sources : S → SourceState) (drains : D → DrainState) (book : Book) (g : Graph) (homes : List ℕ) (count : ℕ) (ws : List Edge) (nodes : List (Seated S D L H B)) (crossings : List Crossing) (begun now : List (Body S D L H B)) (all : ℕ → ℕ) (last more : List (IslandNode S D L H B))
     (m : AreBodiesOf sources drains book g homes count ws nodes crossings begun) (goes : EachOf BodyGoes begun now) (keep : AllOf (BodyKeeps sources drains book) now) (r : AreBroughtBack homes count ws (λ k. (net_of now k).nodes) last more) where
-  goes_on : (k : ℕ) (x y : Body S D L B) → slice_get begun k ≡ Some x → slice_get now k ≡ Some y → Went x y
+  goes_on : (k : ℕ) (x y : Body S D L H B) → slice_get begun k ≡ Some x → slice_get now k ≡ Some y → Went x y
   goes_on k x y ex ey = went x y (goes.each k x y ex ey)
 
   nets : AreNets homes ws nodes count (net_of now)
@@ -95,17 +95,17 @@ module _ {S D L B : Type 0} (sources : S → SourceState) (drains : D → DrainS
   settled : AllSettled sources drains book now
   settled = all_settled sources drains book now (λ k x at. stood sources drains book x (keep k x at))
 
-  abbrev w : Whole S D L B
+  abbrev w : Whole S D L H B
   w = whole_of homes ws nodes (account_in homes ws now all).near last more
 
   -- the islands of the ends of lanes
   abbrev others : List ℕ
   others = map (λ (l : LanePlan). l.to) (lanes_from homes 0 ws) ++ map (λ (l : LanePlan). l.from) (lanes_from homes 0 ws)
 
-  abbrev nodes_now : ℕ → List (IslandNode S D L B)
+  abbrev nodes_now : ℕ → List (IslandNode S D L H B)
   nodes_now k = (net_of now k).nodes
 
-  stays : (k : ℕ) → k < count → (p : ℕ) (first x : IslandNode S D L B) → slice_get (net_of now k).firsts p ≡ Some first → slice_get (nodes_now k) p ≡ Some x → LeavesAs first x
+  stays : (k : ℕ) → k < count → (p : ℕ) (first x : IslandNode S D L H B) → slice_get (net_of now k).firsts p ≡ Some first → slice_get (nodes_now k) p ≡ Some x → LeavesAs first x
   stays k lt p first x ef ex = settled_stays sources drains book now settled k p first x ef ex
 
   -- what stands behind the nodes is at the ends of lanes
@@ -128,20 +128,20 @@ module _ {S D L B : Type 0} (sources : S → SourceState) (drains : D → DrainS
         let i = are.each k b.0 e b.1 at in
         let on = (goes.each k a.0 b.0 a.1 b.1).island in
         let n = numbered k a.0 a.1 in
-        let net : net_of now k ≡ b.0.island.net = ap (λ (o : Option (Body S D L B)). net_in o) b.1 in
-        let share : of_home (place_homes homes ws) k (last ++ more) ≡ b.0.island.net.nodes = r.shares k lt ∙ ap (λ (t : Net (IslandNode S D L B)). t.nodes) net in
+        let net : net_of now k ≡ b.0.island.net = ap (λ (o : Option (Body S D L H B)). net_in o) b.1 in
+        let share : of_home (place_homes homes ws) k (last ++ more) ≡ b.0.island.net.nodes = r.shares k lt ∙ ap (λ (t : Net (IslandNode S D L H B)). t.nodes) net in
         let places : b.0.island.places ≡ of_home (place_homes homes ws) k (map place_number (whole_seats nodes (lanes_from homes 0 ws))) =
         on.places ∙ (n.places ∙ sym (share_map place_number (place_homes homes ws) (whole_seats nodes (lanes_from homes 0 ws)) k)) in
         let wires = wires_are homes count ws nodes m.seated (net_of now) nets k lt in
         record {
           sinks = i.sinks ∙ ap sinks_of (sym share);
-          picks = i.picks ∙ (ap (λ (ns : List ℕ). picks_of ns b.0.island.net.nodes) places ∙ ap (λ (xs : List (IslandNode S D L B)). picks_of (of_home (place_homes homes ws) k (map place_number (whole_seats nodes (lanes_from homes 0 ws)))) xs) (sym share));
-          misfit = i.misfit ∙ (ap (λ (ns : List ℕ). least_of ns b.0.island.net.nodes) places ∙ ap (λ (xs : List (IslandNode S D L B)). least_of (of_home (place_homes homes ws) k (map place_number (whole_seats nodes (lanes_from homes 0 ws)))) xs) (sym share));
-          seats = i.seats ∙ (ap (λ (ns : List ℕ). seats_of ns b.0.island.net.nodes) places ∙ ap (λ (xs : List (IslandNode S D L B)). seats_of (of_home (place_homes homes ws) k (map place_number (whole_seats nodes (lanes_from homes 0 ws)))) xs) (sym share));
+          picks = i.picks ∙ (ap (λ (ns : List ℕ). picks_of ns b.0.island.net.nodes) places ∙ ap (λ (xs : List (IslandNode S D L H B)). picks_of (of_home (place_homes homes ws) k (map place_number (whole_seats nodes (lanes_from homes 0 ws)))) xs) (sym share));
+          misfit = i.misfit ∙ (ap (λ (ns : List ℕ). least_of ns b.0.island.net.nodes) places ∙ ap (λ (xs : List (IslandNode S D L H B)). least_of (of_home (place_homes homes ws) k (map place_number (whole_seats nodes (lanes_from homes 0 ws)))) xs) (sym share));
+          seats = i.seats ∙ (ap (λ (ns : List ℕ). seats_of ns b.0.island.net.nodes) places ∙ ap (λ (xs : List (IslandNode S D L H B)). seats_of (of_home (place_homes homes ws) k (map place_number (whole_seats nodes (lanes_from homes 0 ws)))) xs) (sym share));
           readers = i.readers ∙ ap readers_of (sym share);
           writers = i.writers ∙ ap writers_of (sym share);
           fars = wires.0;
-          wires = i.wires ∙ (ap (λ (ns : List ℕ). counts_of ns b.0.island.net.wires) (on.numbers ∙ n.wires) ∙ (ap (λ (t : Net (IslandNode S D L B)). counts_of (map wire_number (links_in homes ws nodes k)) t.wires) (sym net) ∙ wires.1));
+          wires = i.wires ∙ (ap (λ (ns : List ℕ). counts_of ns b.0.island.net.wires) (on.numbers ∙ n.wires) ∙ (ap (λ (t : Net (IslandNode S D L H B)). counts_of (map wire_number (links_in homes ws nodes k)) t.wires) (sym net) ∙ wires.1));
         }
 
     pub are_ends : AreEndsOf w ends
@@ -157,7 +157,7 @@ module _ {S D L B : Type 0} (sources : S → SourceState) (drains : D → DrainS
   -- ---- the homes of what is left, and all of it in one
 
   module _ (ns : List blue.Node) (ss : List S) (ds : List D) (around : Around) (seats : AreSeats around 0 ns ss ds nodes) where
-    by_kind : (k : ℕ) (n : blue.Node) (x : IslandNode S D L B) → slice_get ns k ≡ Some n → slice_get last k ≡ Some x → LeavesBy n.kind x
+    by_kind : (k : ℕ) (n : blue.Node) (x : IslandNode S D L H B) → slice_get ns k ≡ Some n → slice_get last k ≡ Some x → LeavesBy n.kind x
     by_kind k n x en ex =
         let lt : k < length ns = slice_get_within ns k n en in
         let s = there nodes k (subst (λ (i : ℕ). k < i) (sym (seats_count around 0 ns ss ds nodes seats)) lt) in
@@ -180,12 +180,12 @@ module _ {S D L B : Type 0} (sources : S → SourceState) (drains : D → DrainS
     pub is_left : (x : IslandEnd S D) → IsWholeEnd w x → IsLeftBy ws (account_in homes ws now all).near last x
     is_left x is = record {
       sinks = is.sinks ∙ sinks_behind last more lane_ends;
-      picks = is.picks ∙ (ap (λ (l : List ℕ). picks_of l (last ++ more)) (map_both place_number nodes (ends_at (lanes_from homes 0 ws))) ∙ (picks_behind (map place_number nodes) (map place_number (ends_at {S = S} {D = D} {L = L} {B = B} (lanes_from homes 0 ws))) last more (length-map nodes place_number ∙ sym same) lane_ends
+      picks = is.picks ∙ (ap (λ (l : List ℕ). picks_of l (last ++ more)) (map_both place_number nodes (ends_at (lanes_from homes 0 ws))) ∙ (picks_behind (map place_number nodes) (map place_number (ends_at {S = S} {D = D} {L = L} {H = H} {B = B} (lanes_from homes 0 ws))) last more (length-map nodes place_number ∙ sym same) lane_ends
           ∙ ap (λ (l : List ℕ). picks_of l last) (seat_numbers around 0 ns ss ds nodes seats ∙ ap (count_from 0) (sym same))));
-      misfit = subst (λ (l : List ℕ). IsLeast (FindsMisfit l last) x.misfit) (seat_numbers g.chains 0 ns ss ds nodes seats ∙ ap (count_from 0) (sym same))
-          (least_first last more (λ k y at. bare_misfit y (lane_ends k y at)) (map place_number nodes) (map place_number (ends_at {S = S} {D = D} {L = L} {B = B} (lanes_from homes 0 ws))) x.misfit (length-map nodes place_number ∙ sym same)
+      misfit = subst (λ (l : List ℕ). IsLeast (FindsMisfit l last) x.misfit) (seat_numbers around 0 ns ss ds nodes seats ∙ ap (count_from 0) (sym same))
+          (least_first last more (λ k y at. bare_misfit y (lane_ends k y at)) (map place_number nodes) (map place_number (ends_at {S = S} {D = D} {L = L} {H = H} {B = B} (lanes_from homes 0 ws))) x.misfit (length-map nodes place_number ∙ sym same)
           (subst (λ (l : List ℕ). IsLeast (FindsMisfit l (last ++ more)) x.misfit) (map_both place_number nodes (ends_at (lanes_from homes 0 ws))) is.misfit));
-      seats = is.seats ∙ (ap (λ (l : List ℕ). seats_of l (last ++ more)) (map_both place_number nodes (ends_at (lanes_from homes 0 ws))) ∙ (seats_behind (map place_number nodes) (map place_number (ends_at {S = S} {D = D} {L = L} {B = B} (lanes_from homes 0 ws))) last more (length-map nodes place_number ∙ sym same) lane_ends
+      seats = is.seats ∙ (ap (λ (l : List ℕ). seats_of l (last ++ more)) (map_both place_number nodes (ends_at (lanes_from homes 0 ws))) ∙ (seats_behind (map place_number nodes) (map place_number (ends_at {S = S} {D = D} {L = L} {H = H} {B = B} (lanes_from homes 0 ws))) last more (length-map nodes place_number ∙ sym same) lane_ends
           ∙ ap (λ (l : List ℕ). seats_of l last) (seat_numbers around 0 ns ss ds nodes seats ∙ ap (count_from 0) (sym same))));
       wires = is.wires;
       readers = is.readers ∙ readers_behind last more lane_ends;

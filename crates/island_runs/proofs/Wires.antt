@@ -101,7 +101,7 @@ parted hs gs lhs ms ns all cs ds cells told k e f g a b c d t =
 
 -- ---- the wires of islands
 
-module _ {S D L B : Type 0} (homes : List ℕ) (count : ℕ) (ws : List Edge) (nodes : List (Seated S D L B)) (a : AreSeated homes count ws nodes) (nets : ℕ → Net (IslandNode S D L B)) (b : AreNets homes ws nodes count nets) where
+module _ {S D L H B : Type 0} (homes : List ℕ) (count : ℕ) (ws : List Edge) (nodes : List (Seated S D L H B)) (a : AreSeated homes count ws nodes) (nets : ℕ → Net (IslandNode S D L H B)) (b : AreNets homes ws nodes count nets) where
   abbrev hs : List ℕ
   hs = place_homes homes ws
 

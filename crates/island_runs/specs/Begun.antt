@@ -29,11 +29,11 @@ use Rattle.materializer.specs.Board.{IsBoard, AreAtSwitches}
 use Rattle.island_runs.specs.declared.run.Remains.{Remains}
 use Rattle.stream_model.specs.Linear.{Book}
 
-module _ {S D L B : Type 0} (sources : S → SourceState) (drains : D → DrainState) (book : Book) (b : Blueprint) (ss : List S) (ds : List D) where
+module _ {S D L H B : Type 0} (sources : S → SourceState) (drains : D → DrainState) (book : Book) (b : Blueprint) (ss : List S) (ds : List D) where
   -- These bodies are those of the islands of a blueprint that breaks no rule, over these sources, of which none has handed out a byte,
   -- and these drains: they were made, and used no unit. These are the crossings of its lanes, and `r` has room for all that they leave,
   -- and the switches at which their seats are.
-  pub record HaveBegun (bodies : List (Body S D L B)) (crossings : List Crossing) (r : Remains S D) : Type 0 where
+  pub record HaveBegun (bodies : List (Body S D L H B)) (crossings : List Crossing) (r : Remains S D) : Type 0 where
     pub heads : HeadLists
     pub taken : List (List ℕ)
     pub fit : IsFit b heads taken
@@ -41,11 +41,11 @@ module _ {S D L B : Type 0} (sources : S → SourceState) (drains : D → DrainS
     pub homes : List ℕ
     pub count : ℕ
     pub islands : AreNumberedHomes (length b.nodes.items) count (blueprint_wires b) homes
-    pub nodes : List (Seated S D L B)
+    pub nodes : List (Seated S D L H B)
     pub seats : AreSeats (around_of b) 0 b.nodes.items ss ds nodes
     pub bodies_are : AreBodiesOf sources drains book (graph_of b) homes count (blueprint_wires b) nodes crossings bodies
     pub numbered : AreNumberedBodies homes (blueprint_wires b) nodes bodies
-    pub unspent : AllOf (λ (x : Body S D L B). x.spent ≡ 0) bodies
+    pub unspent : AllOf (λ (x : Body S D L H B). x.spent ≡ 0) bodies
     pub meet : AreCrossings BodiesMayMeet bodies crossings
     pub lanes_are : r.lanes.items ≡ lanes_from homes 0 (blueprint_wires b)
     pub rise : AreRising r.lanes.items
@@ -65,18 +65,18 @@ module _ {S D L B : Type 0} (sources : S → SourceState) (drains : D → DrainS
 
   -- They ran, and these are they now: so many units of a budget were used, and no body has an event where it says so; else all
   -- units were used.
-  pub record HaveRun (begun now : List (Body S D L B)) (crossings : List Crossing) (r : Remains S D) (budget used : ℕ) (at_rest : Bool) : Type 0 where
+  pub record HaveRun (begun now : List (Body S D L H B)) (crossings : List Crossing) (r : Remains S D) (budget used : ℕ) (at_rest : Bool) : Type 0 where
     pub began : HaveBegun begun crossings r
     pub keep : AllOf (BodyKeeps sources drains book) now
     pub went : EachOf BodyGoes begun now
     pub joined : AllJoined BodiesJoined now crossings
-    pub used_is : used ≡ sum_by (λ (x : Body S D L B). x.spent) now
+    pub used_is : used ≡ sum_by (λ (x : Body S D L H B). x.spent) now
     pub within : used ≤ budget
     pub rest : at_rest ≡ true → AtRest is_pending BodiesJoined now crossings
     pub more : at_rest ≡ false → used ≡ budget
 
   -- they ran, and memory was wanting
-  pub record HaveBroken (begun now : List (Body S D L B)) (crossings : List Crossing) (r : Remains S D) : Type 0 where
+  pub record HaveBroken (begun now : List (Body S D L H B)) (crossings : List Crossing) (r : Remains S D) : Type 0 where
     pub began : HaveBegun begun crossings r
     pub joined : AllJoined BodiesJoined now crossings
     pub broke : WholeOrBroken (BodyKeeps sources drains book) BodyGoes (BodyBreaks sources drains book) begun now

@@ -34,11 +34,11 @@ use Rattle.stream_model.specs.Linear.{Book}
 
 -- A moment of the run of a blueprint between two events, by its account: in the order of the blueprint the nodes were handed in as
 -- what stands at these places, over these sources and these drains, and are these now.
-pub record Moment {S D L B : Type 0} (sources : S → SourceState) (drains : D → DrainState) (book : Book) (b : Blueprint) (ss : List S) (ds : List D)
-    (account : Account (IslandNode S D L B)) (nodes : List (IslandNode S D L B)) : Type 0 where
-  pub places : List (Seated S D L B)
+pub record Moment {S D L H B : Type 0} (sources : S → SourceState) (drains : D → DrainState) (book : Book) (b : Blueprint) (ss : List S) (ds : List D)
+    (account : Account (IslandNode S D L H B)) (nodes : List (IslandNode S D L H B)) : Type 0 where
+  pub places : List (Seated S D L H B)
   pub seats : AreSeats (around_of b) 0 b.nodes.items ss ds places
-  pub firsts : List (IslandNode S D L B)
+  pub firsts : List (IslandNode S D L H B)
   pub become : AllBecome places firsts
   pub first_at : (k : ℕ) → account.firsts k ≡ slice_get firsts k
   pub node_at : (k : ℕ) → account.nodes k ≡ slice_get nodes k
@@ -55,10 +55,10 @@ CancelsCross g a = (u : ℕ) (v : Edge) (size : ℕ) → slice_get g.wires u ≡
 -- for as many lines as that lets it put together, and where no event is left none has put lines off.
 -- At least so many were used as elements were pushed and were taken off lanes, and one less at least for each wire than its part of the count over what was
 -- sent.
-pub record RunLeaves {S D : Type 0} (L B : Type 0) (sources : S → SourceState) (drains : D → DrainState) (book : Book) (b : Blueprint) (ss : List S)
+pub record RunLeaves {S D : Type 0} (L H B : Type 0) (sources : S → SourceState) (drains : D → DrainState) (book : Book) (b : Blueprint) (ss : List S)
     (ds : List D) (budget : ℕ) (s : Stopped S D) : Type 0 where
-  pub account : Account (IslandNode S D L B)
-  pub nodes : List (IslandNode S D L B)
+  pub account : Account (IslandNode S D L H B)
+  pub nodes : List (IslandNode S D L H B)
   pub moment : Moment sources drains book b ss ds account nodes
   pub still : IsTrue s.at_rest → IsStill (graph_of b) account
   pub settled : AreSettled (graph_of b) account
@@ -79,12 +79,12 @@ pub record RunLeaves {S D : Type 0} (L B : Type 0) (sources : S → SourceState)
 
 -- The run is one in which memory was wanting, and was taken apart. Since a last moment between two events each of its nodes has kept
 -- what outlives that.
-pub record LeavesBroken {S D : Type 0} (L B : Type 0) (sources : S → SourceState) (drains : D → DrainState) (book : Book) (b : Blueprint) (ss : List S)
+pub record LeavesBroken {S D : Type 0} (L H B : Type 0) (sources : S → SourceState) (drains : D → DrainState) (book : Book) (b : Blueprint) (ss : List S)
     (ds : List D) (e : IslandEnd S D) : Type 0 where
-  pub account : Account (IslandNode S D L B)
-  pub last : List (IslandNode S D L B)
+  pub account : Account (IslandNode S D L H B)
+  pub last : List (IslandNode S D L H B)
   pub moment : Moment sources drains book b ss ds account last
-  pub nodes : List (IslandNode S D L B)
+  pub nodes : List (IslandNode S D L H B)
   pub kept : AllKept (KeepsNode sources drains) last nodes
   pub readers : e.readers.items ≡ readers_of nodes
   pub writers : e.writers.items ≡ writers_of nodes
@@ -95,9 +95,9 @@ pub record HasHandles {S D : Type 0} (sources : S → SourceState) (drains : D �
   pub writers : map drains e.writers.items ≡ map drains ds
 
 -- memory was wanting as the run started, or in it
-abbrev pub LeavesBrokenAs : {S D : Type 0} → (L B : Type 0) → (S → SourceState) → (D → DrainState) → Book → Blueprint → List S → List D → Broken S D → Type 0
-LeavesBrokenAs L B sources drains book b ss ds (Unmade e) = HasHandles sources drains ss ds e
-LeavesBrokenAs L B sources drains book b ss ds (Within e) = LeavesBroken L B sources drains book b ss ds e
+abbrev pub LeavesBrokenAs : {S D : Type 0} → (L H B : Type 0) → (S → SourceState) → (D → DrainState) → Book → Blueprint → List S → List D → Broken S D → Type 0
+LeavesBrokenAs L H B sources drains book b ss ds (Unmade e) = HasHandles sources drains ss ds e
+LeavesBrokenAs L H B sources drains book b ss ds (Within e) = LeavesBroken L H B sources drains book b ss ds e
 
 -- as many handles are in it as these
 pub record HasAsMany {S D : Type 0} (ss : List S) (ds : List D) (e : IslandEnd S D) : Type 0 where

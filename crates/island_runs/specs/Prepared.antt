@@ -8,7 +8,7 @@ use Rattle.island_plans.specs.Plans.{IsPlans}
 use Rattle.island_runs.specs.declared.prepare.Prepared.{Prepared}
 
 -- the plans of the islands of their blueprint, both ends of all lanes, and empty lists with room for all that the run puts there
-pub record IsPrepared {S D L B : Type 0} (p : Prepared S D L B) : Type 0 where
+pub record IsPrepared {S D L H B : Type 0} (p : Prepared S D L H B) : Type 0 where
   pub plans_are : IsPlans p.plans
   pub ends_are : AreAllEnds p.plans.lanes.items p.plans.count p.ends
   pub none_started : p.started.items ≡ []

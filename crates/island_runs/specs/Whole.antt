@@ -19,8 +19,8 @@ use Rattle.bodies_run.specs.Counts.{told_from}
 
 -- the nodes of the blueprint and the ends of its lanes, with the numbers of what was handed in for them, and its wires, which stand so at
 -- their outputs
-abbrev pub whole_of : {S D L B : Type 0} → List ℕ → List Edge → List (Seated S D L B) → (ℕ → WireState) → List (IslandNode S D L B) → List (IslandNode S D L B)
-    → Whole S D L B
+abbrev pub whole_of : {S D L H B : Type 0} → List ℕ → List Edge → List (Seated S D L H B) → (ℕ → WireState) → List (IslandNode S D L H B) → List (IslandNode S D L H B)
+    → Whole S D L H B
 whole_of homes ws nodes near last ends = record {
   homes = place_homes homes ws;
   nodes = last ++ ends;
@@ -30,7 +30,7 @@ whole_of homes ws nodes near last ends = record {
 }
 
 -- this is left by these nodes, in their order, and by wires that stand so at their outputs
-pub record IsLeftBy {S D L B : Type 0} (ws : List Edge) (near : ℕ → WireState) (nodes : List (IslandNode S D L B)) (e : IslandEnd S D) : Type 0 where
+pub record IsLeftBy {S D L H B : Type 0} (ws : List Edge) (near : ℕ → WireState) (nodes : List (IslandNode S D L H B)) (e : IslandEnd S D) : Type 0 where
   pub sinks : e.sinks.items ≡ sinks_of nodes
   pub picks : map pick_of e.picks.items ≡ picks_of (count_from 0 (length nodes)) nodes
   pub misfit : IsLeast (FindsMisfit (count_from 0 (length nodes)) nodes) e.misfit

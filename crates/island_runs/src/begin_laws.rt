@@ -37,25 +37,26 @@ ghost use Rattle.island_plans.specs.Asked.{LieThere};
 ghost use Rattle.island_plans.specs.Making.{way_homes, AreBlank, CanAllBegin, AreAllBodies};
 ghost use Rattle.bodies_run.specs.Begun.{HaveSameLanes, AreNumberedBodies, AreAligned};
 
+use graph_stage::handlers::Handlers;
 use plug_logic::book::PlugBook;
 use plug_logic::logic::Logic;
 use stream_io::outside::{Drain, Source};
 
 /// An island of a blueprint that has started, and those ends of lanes that are its own, as they were made, are fit to be a body: each end
 /// stands at a stage and at a connection of its own, and nothing has passed there.
-pub fn an_island_begins_a_body<S: Source, D: Drain, L: Logic, B: PlugBook>()
-    ensures { (homes : List ℕ) (count : ℕ) (ws : List Edge) (nodes : List (Seated S D L B)) (k : ℕ) (x : Parts S D L B) (i : Kept S D L B) (e : AllEnds)
+pub fn an_island_begins_a_body<S: Source, D: Drain, L: Logic, H: Handlers, B: PlugBook>()
+    ensures { (homes : List ℕ) (count : ℕ) (ws : List Edge) (nodes : List (Seated S D L H B)) (k : ℕ) (x : Parts S D L H B) (i : Kept S D L H B) (e : AllEnds)
         → AreSeated homes count ws nodes → ArePartsOf homes ws nodes k x → HasStarted S.state D.state B.lists x i → AreAllEnds (lanes_from homes 0 ws) count e
         → BodyBegins i (items_at e.ins.items k) (items_at e.outs.items k) }
 {}
 
 /// The bodies that were made of a blueprint's islands and of the ends of all its lanes are its bodies as they begin (`begun`), and the
 /// crossings at which those ends lie are its lanes (`lanes`).
-pub fn made_bodies_are_of_their_blueprint<S: Source, D: Drain, L: Logic, B: PlugBook>()
-    ensures begun { (homes : List ℕ) (count : ℕ) (ws : List Edge) (nodes : List (Seated S D L B)) (e : AllEnds) (bodies : List (Body S D L B))
+pub fn made_bodies_are_of_their_blueprint<S: Source, D: Drain, L: Logic, H: Handlers, B: PlugBook>()
+    ensures begun { (homes : List ℕ) (count : ℕ) (ws : List Edge) (nodes : List (Seated S D L H B)) (e : AllEnds) (bodies : List (Body S D L H B))
         → AreSeated homes count ws nodes → AreAllEnds (lanes_from homes 0 ws) count e → AreMadeOf S.state D.state B.lists homes ws nodes count e bodies
         → AreBegun S.state D.state B.lists homes count ws nodes bodies }
-    ensures lanes { (homes : List ℕ) (count : ℕ) (ws : List Edge) (nodes : List (Seated S D L B)) (e : AllEnds) (bodies : List (Body S D L B))
+    ensures lanes { (homes : List ℕ) (count : ℕ) (ws : List Edge) (nodes : List (Seated S D L H B)) (e : AllEnds) (bodies : List (Body S D L H B))
         → AreSeated homes count ws nodes → AreAllEnds (lanes_from homes 0 ws) count e → AreMadeOf S.state D.state B.lists homes ws nodes count e bodies
         → AreLanes homes ws bodies e.crossings.items }
 {}
@@ -63,24 +64,24 @@ pub fn made_bodies_are_of_their_blueprint<S: Source, D: Drain, L: Logic, B: Plug
 /// Plans of the islands of a blueprint have few links (`few`); each wire begins in one of them (`homes`); both ends of each lane can be
 /// made (`lanes`), and the lanes are in the order of their wires (`rise`). Where links are few, the nodes of its islands that hold their handles are seated (`seated`); they are
 /// those of its graph (`graph`), and its islands have the parts of them (`parts`).
-pub fn filled_islands_are_seated<S: Source, D: Drain, L: Logic, B: PlugBook>()
-    ensures few { (p : Plans S D L B) → IsPlans p → HasFewLinks p.blueprint.value }
-    ensures seated { (b : Blueprint) (ss : List S) (ds : List D) (f : Filled S D L B) → HasFewLinks b → (filled : IsFilled b ss ds f)
+pub fn filled_islands_are_seated<S: Source, D: Drain, L: Logic, H: Handlers, B: PlugBook>()
+    ensures few { (p : Plans S D L H B) → IsPlans p → HasFewLinks p.blueprint.value }
+    ensures seated { (b : Blueprint) (ss : List S) (ds : List D) (f : Filled S D L H B) → HasFewLinks b → (filled : IsFilled b ss ds f)
         → AreSeated f.homes.items f.count (blueprint_wires b) filled.nodes }
-    ensures graph { (b : Blueprint) (ss : List S) (ds : List D) (f : Filled S D L B) → (filled : IsFilled b ss ds f)
+    ensures graph { (b : Blueprint) (ss : List S) (ds : List D) (f : Filled S D L H B) → (filled : IsFilled b ss ds f)
         → IsGraphOf (graph_of b) (blueprint_wires b) filled.nodes }
-    ensures parts { (b : Blueprint) (ss : List S) (ds : List D) (f : Filled S D L B) (k : ℕ) (x : Parts S D L B × IslandRoom S D L B)
+    ensures parts { (b : Blueprint) (ss : List S) (ds : List D) (f : Filled S D L H B) (k : ℕ) (x : Parts S D L H B × IslandRoom S D L H B)
         → (filled : IsFilled b ss ds f) → slice_get f.islands.items k ≡ Some x
         → ArePartsOf f.homes.items (blueprint_wires b) filled.nodes k x.0 }
-    ensures homes { (p : Plans S D L B) → IsPlans p → All (λ h. h < p.count) p.ends.wires.items }
-    ensures lanes { (p : Plans S D L B) → IsPlans p → CanAllBeMade p.count p.lanes.items }
-    ensures rise { (p : Plans S D L B) → IsPlans p → AreRising p.lanes.items }
+    ensures homes { (p : Plans S D L H B) → IsPlans p → All (λ h. h < p.count) p.ends.wires.items }
+    ensures lanes { (p : Plans S D L H B) → IsPlans p → CanAllBeMade p.count p.lanes.items }
+    ensures rise { (p : Plans S D L H B) → IsPlans p → AreRising p.lanes.items }
 {}
 
 /// The islands of a blueprint that have started, the ends of all its lanes, a blank table for each, and the islands at the other ends of
 /// its lanes are fit to be bodies.
-pub fn started_islands_begin_bodies<S: Source, D: Drain, L: Logic, B: PlugBook>()
-    ensures { (b : Blueprint) (ss : List S) (ds : List D) (f : Filled S D L B) (started : List (Kept S D L B)) (e : AllEnds) (tables : List (Vec Way Global))
+pub fn started_islands_begin_bodies<S: Source, D: Drain, L: Logic, H: Handlers, B: PlugBook>()
+    ensures { (b : Blueprint) (ss : List S) (ds : List D) (f : Filled S D L H B) (started : List (Kept S D L H B)) (e : AllEnds) (tables : List (Vec Way Global))
         (peers : List Peers) → HasFewLinks b → IsFilled b ss ds f → AllStarted S.state D.state B.lists f.islands.items started
         → AreAllEnds f.lanes.items f.count e → AreBlank (way_homes f.ends.wires.items f.lanes.items) f.count tables → ArePeers f.lanes.items f.count peers
         → CanAllBegin started e.ins.items e.outs.items tables peers }
@@ -89,34 +90,34 @@ pub fn started_islands_begin_bodies<S: Source, D: Drain, L: Logic, B: PlugBook>(
 /// The bodies that were made of them are the bodies of the blueprint, and the crossings of its lanes lie between them (`are`). None has
 /// spent a unit (`unspent`), and the ends at each crossing may meet (`meet`). Their islands have the numbers of their nodes and wires
 /// (`numbered`), and at the crossing of each lane lies the input end of its wire (`aligned`).
-pub fn made_bodies_begin_their_blueprint<S: Source, D: Drain, L: Logic, B: PlugBook>()
-    ensures are { (b : Blueprint) (ss : List S) (ds : List D) (f : Filled S D L B) (started : List (Kept S D L B)) (e : AllEnds) (bodies : List (Body S D L B))
+pub fn made_bodies_begin_their_blueprint<S: Source, D: Drain, L: Logic, H: Handlers, B: PlugBook>()
+    ensures are { (b : Blueprint) (ss : List S) (ds : List D) (f : Filled S D L H B) (started : List (Kept S D L H B)) (e : AllEnds) (bodies : List (Body S D L H B))
         → HasFewLinks b → (filled : IsFilled b ss ds f) → AllStarted S.state D.state B.lists f.islands.items started
         → AreAllEnds f.lanes.items f.count e → AreAllBodies S.state D.state B.lists started e.ins.items e.outs.items bodies
         → AreBodiesOf S.state D.state B.lists (graph_of b) f.homes.items f.count (blueprint_wires b) filled.nodes e.crossings.items bodies }
-    ensures unspent { (f : Filled S D L B) (started : List (Kept S D L B)) (e : AllEnds) (bodies : List (Body S D L B))
+    ensures unspent { (f : Filled S D L H B) (started : List (Kept S D L H B)) (e : AllEnds) (bodies : List (Body S D L H B))
         → length started ≡ length f.islands.items → length f.islands.items ≡ f.count → AreAllEnds f.lanes.items f.count e
         → AreAllBodies S.state D.state B.lists started e.ins.items e.outs.items bodies → AllOf (λ b. b.spent ≡ 0) bodies }
-    ensures meet { (f : Filled S D L B) (started : List (Kept S D L B)) (e : AllEnds) (bodies : List (Body S D L B)) → length started ≡ length f.islands.items
+    ensures meet { (f : Filled S D L H B) (started : List (Kept S D L H B)) (e : AllEnds) (bodies : List (Body S D L H B)) → length started ≡ length f.islands.items
         → length f.islands.items ≡ f.count → AreAllEnds f.lanes.items f.count e → AreAllBodies S.state D.state B.lists started e.ins.items e.outs.items bodies
         → AreCrossings BodiesMayMeet bodies e.crossings.items }
-    ensures numbered { (b : Blueprint) (ss : List S) (ds : List D) (f : Filled S D L B) (started : List (Kept S D L B)) (e : AllEnds)
-        (bodies : List (Body S D L B)) → (filled : IsFilled b ss ds f) → AllStarted S.state D.state B.lists f.islands.items started
+    ensures numbered { (b : Blueprint) (ss : List S) (ds : List D) (f : Filled S D L H B) (started : List (Kept S D L H B)) (e : AllEnds)
+        (bodies : List (Body S D L H B)) → (filled : IsFilled b ss ds f) → AllStarted S.state D.state B.lists f.islands.items started
         → AreAllEnds f.lanes.items f.count e → AreAllBodies S.state D.state B.lists started e.ins.items e.outs.items bodies
         → AreNumberedBodies f.homes.items (blueprint_wires b) filled.nodes bodies }
-    ensures aligned { (f : Filled S D L B) (started : List (Kept S D L B)) (e : AllEnds) (bodies : List (Body S D L B))
+    ensures aligned { (f : Filled S D L H B) (started : List (Kept S D L H B)) (e : AllEnds) (bodies : List (Body S D L H B))
         → length started ≡ length f.islands.items → length f.islands.items ≡ f.count → AreAllEnds f.lanes.items f.count e
         → AreAllBodies S.state D.state B.lists started e.ins.items e.outs.items bodies → AreAligned f.lanes.items e.crossings.items bodies }
 {}
 
 /// Bodies that go on keep the lanes of their ends (`went`), also where some broke off (`broke`). So at the crossing of each lane still lies
 /// the input end of its wire (`aligned`), and it is there (`lie`).
-pub fn ends_stay_at_their_crossings<S: Source, D: Drain, L: Logic, B: PlugBook>()
-    ensures went { (begun now : List (Body S D L B)) → EachOf BodyGoes begun now → EachOf HaveSameLanes begun now }
-    ensures broke { (begun now : List (Body S D L B)) → WholeOrBroken (BodyKeeps S.state D.state B.lists) BodyGoes
+pub fn ends_stay_at_their_crossings<S: Source, D: Drain, L: Logic, H: Handlers, B: PlugBook>()
+    ensures went { (begun now : List (Body S D L H B)) → EachOf BodyGoes begun now → EachOf HaveSameLanes begun now }
+    ensures broke { (begun now : List (Body S D L H B)) → WholeOrBroken (BodyKeeps S.state D.state B.lists) BodyGoes
         (BodyBreaks S.state D.state B.lists) begun now → EachOf HaveSameLanes begun now }
-    ensures aligned { (lanes : List LanePlan) (crossings : List Crossing) (begun now : List (Body S D L B)) → AreAligned lanes crossings begun
+    ensures aligned { (lanes : List LanePlan) (crossings : List Crossing) (begun now : List (Body S D L H B)) → AreAligned lanes crossings begun
         → EachOf HaveSameLanes begun now → AreAligned lanes crossings now }
-    ensures lie { (crossings : List Crossing) (begun now : List (Body S D L B)) → AreCrossings BodiesMayMeet begun crossings → EachOf HaveSameLanes begun now
+    ensures lie { (crossings : List Crossing) (begun now : List (Body S D L H B)) → AreCrossings BodiesMayMeet begun crossings → EachOf HaveSameLanes begun now
         → LieThere now crossings }
 {}

@@ -36,27 +36,28 @@ ghost use Rattle.island_plans.specs.LaneEnds.{AreRising};
 ghost use Rattle.island_plans.specs.Asked.{LieThere, AreAsked, AreNoted, AreWithin};
 ghost use Rattle.bodies_run.specs.Counts.{told_from, lane_demand, all_sent, taken_off};
 
+use graph_stage::handlers::Handlers;
 use plug_logic::book::PlugBook;
 use plug_logic::logic::Logic;
 use stream_io::outside::{Drain, Source};
 
 /// What the bodies of a blueprint's islands leave is all that its nodes and wires leave, in shares (`ends`), with the homes that were
 /// planned (`homes`); and all of it in one end is left by its nodes and wires (`left`).
-pub fn bodies_leave_what_their_nodes_do<S: Source, D: Drain, L: Logic, B: PlugBook>()
-    ensures ends { (b : Blueprint) (homes : List ℕ) (count : ℕ) (nodes : List (Seated S D L B)) (crossings : List Crossing) (begun now : List (Body S D L B))
-        (all : ℕ → ℕ) (last more : List (IslandNode S D L B)) (ends : List (IslandEnd S D))
+pub fn bodies_leave_what_their_nodes_do<S: Source, D: Drain, L: Logic, H: Handlers, B: PlugBook>()
+    ensures ends { (b : Blueprint) (homes : List ℕ) (count : ℕ) (nodes : List (Seated S D L H B)) (crossings : List Crossing) (begun now : List (Body S D L H B))
+        (all : ℕ → ℕ) (last more : List (IslandNode S D L H B)) (ends : List (IslandEnd S D))
         → AreBodiesOf S.state D.state B.lists (graph_of b) homes count (blueprint_wires b) nodes crossings begun
         → AreNumberedBodies homes (blueprint_wires b) nodes begun → EachOf BodyGoes begun now → AllOf (BodyKeeps S.state D.state B.lists) now
         → AreBroughtBack homes count (blueprint_wires b) (λ k. (net_of now k).nodes) last more → AreEndsOfBodies now ends
         → AreEndsOf (whole_of homes (blueprint_wires b) nodes (account_in homes (blueprint_wires b) now all).near last more) ends }
-    ensures homes { (b : Blueprint) (homes : List ℕ) (count : ℕ) (nodes : List (Seated S D L B)) (crossings : List Crossing) (begun now : List (Body S D L B))
-        (all : ℕ → ℕ) (last more : List (IslandNode S D L B)) (ss : List S) (ds : List D) (e : EndHomes) → AreSeats (around_of b) 0 b.nodes.items ss ds nodes
+    ensures homes { (b : Blueprint) (homes : List ℕ) (count : ℕ) (nodes : List (Seated S D L H B)) (crossings : List Crossing) (begun now : List (Body S D L H B))
+        (all : ℕ → ℕ) (last more : List (IslandNode S D L H B)) (ss : List S) (ds : List D) (e : EndHomes) → AreSeats (around_of b) 0 b.nodes.items ss ds nodes
         → AreBodiesOf S.state D.state B.lists (graph_of b) homes count (blueprint_wires b) nodes crossings begun → EachOf BodyGoes begun now
         → AllOf (BodyKeeps S.state D.state B.lists) now → AreBroughtBack homes count (blueprint_wires b) (λ k. (net_of now k).nodes) last more
         → AreEndHomes homes b.nodes.items (blueprint_wires b) e
         → AreHomesOf (whole_of homes (blueprint_wires b) nodes (account_in homes (blueprint_wires b) now all).near last more) e }
-    ensures left { (b : Blueprint) (homes : List ℕ) (count : ℕ) (nodes : List (Seated S D L B)) (crossings : List Crossing) (begun now : List (Body S D L B))
-        (all : ℕ → ℕ) (last more : List (IslandNode S D L B)) (ss : List S) (ds : List D) (x : IslandEnd S D)
+    ensures left { (b : Blueprint) (homes : List ℕ) (count : ℕ) (nodes : List (Seated S D L H B)) (crossings : List Crossing) (begun now : List (Body S D L H B))
+        (all : ℕ → ℕ) (last more : List (IslandNode S D L H B)) (ss : List S) (ds : List D) (x : IslandEnd S D)
         → AreSeats (around_of b) 0 b.nodes.items ss ds nodes
         → AreBodiesOf S.state D.state B.lists (graph_of b) homes count (blueprint_wires b) nodes crossings begun → EachOf BodyGoes begun now
         → AllOf (BodyKeeps S.state D.state B.lists) now → AreBroughtBack homes count (blueprint_wires b) (λ k. (net_of now k).nodes) last more
@@ -66,9 +67,9 @@ pub fn bodies_leave_what_their_nodes_do<S: Source, D: Drain, L: Logic, B: PlugBo
 
 /// What bodies leave of which some broke off are the handles of the blueprint's nodes, in shares, with the homes that were planned. Rule:
 /// own.
-pub fn broken_bodies_leave_their_handles<S: Source, D: Drain, L: Logic, B: PlugBook>()
-    ensures { (b : Blueprint) (homes : List ℕ) (count : ℕ) (nodes : List (Seated S D L B)) (crossings : List Crossing) (begun now then : List (Body S D L B))
-        (last more broken later : List (IslandNode S D L B)) (ss : List S) (ds : List D) (e : EndHomes) (ends : List (IslandEnd S D))
+pub fn broken_bodies_leave_their_handles<S: Source, D: Drain, L: Logic, H: Handlers, B: PlugBook>()
+    ensures { (b : Blueprint) (homes : List ℕ) (count : ℕ) (nodes : List (Seated S D L H B)) (crossings : List Crossing) (begun now then : List (Body S D L H B))
+        (last more broken later : List (IslandNode S D L H B)) (ss : List S) (ds : List D) (e : EndHomes) (ends : List (IslandEnd S D))
         → AreSeats (around_of b) 0 b.nodes.items ss ds nodes
         → AreBodiesOf S.state D.state B.lists (graph_of b) homes count (blueprint_wires b) nodes crossings begun
         → WholeOrBroken (BodyKeeps S.state D.state B.lists) BodyGoes (BodyBreaks S.state D.state B.lists) begun now
@@ -80,26 +81,26 @@ pub fn broken_bodies_leave_their_handles<S: Source, D: Drain, L: Logic, B: PlugB
 
 /// Where the islands of a blueprint are taken apart as they start, what they hand back are handles in order of the nodes (`are`), each as
 /// it was handed in (`same`).
-pub fn unmade_islands_hand_back<S: Source, D: Drain, L: Logic, B: PlugBook>()
-    ensures are { (b : Blueprint) (ss : List S) (ds : List D) (f : Filled S D L B) (ends : List (IslandEnd S D)) → IsFilled b ss ds f
+pub fn unmade_islands_hand_back<S: Source, D: Drain, L: Logic, H: Handlers, B: PlugBook>()
+    ensures are { (b : Blueprint) (ss : List S) (ds : List D) (f : Filled S D L H B) (ends : List (IslandEnd S D)) → IsFilled b ss ds f
         → AllGiveBack S.state D.state f.islands.items ends → (readers : List S) × ((writers : List D) × AreHandlesOf f.ends readers writers ends) }
-    ensures same { (b : Blueprint) (ss : List S) (ds : List D) (f : Filled S D L B) (ends : List (IslandEnd S D)) (readers : List S) (writers : List D)
+    ensures same { (b : Blueprint) (ss : List S) (ds : List D) (f : Filled S D L H B) (ends : List (IslandEnd S D)) (readers : List S) (writers : List D)
         → IsFilled b ss ds f → AllGiveBack S.state D.state f.islands.items ends → AreHandlesOf f.ends readers writers ends
         → (map S.state readers ≡ map S.state ss) × (map D.state writers ≡ map D.state ds) }
 {}
 
 /// The asks that the input ends of all lanes tell are those of an account (`are`), by the numbers of their wires; ends that are there
 /// have such (`some`). The wires of lanes are within the counts of all wires (`within`).
-pub fn told_asks_are_those_of_lanes<S: Source, D: Drain, L: Logic, B: PlugBook>()
-    ensures are { (lanes : List LanePlan) (crossings : List Crossing) (bodies : List (Body S D L B)) (all : List ℕ) → length crossings ≡ length lanes
+pub fn told_asks_are_those_of_lanes<S: Source, D: Drain, L: Logic, H: Handlers, B: PlugBook>()
+    ensures are { (lanes : List LanePlan) (crossings : List Crossing) (bodies : List (Body S D L H B)) (all : List ℕ) → length crossings ≡ length lanes
         → AreRising lanes → AreAligned lanes crossings bodies → AreAsked bodies crossings all → AskedAre bodies crossings (lane_demand lanes all) }
-    ensures some { (crossings : List Crossing) (bodies : List (Body S D L B)) → LieThere bodies crossings → (all : List ℕ) × AreAsked bodies crossings all }
+    ensures some { (crossings : List Crossing) (bodies : List (Body S D L H B)) → LieThere bodies crossings → (all : List ℕ) × AreAsked bodies crossings all }
     ensures within { (homes : List ℕ) (b : Blueprint) → AreWithin (length (blueprint_wires b)) (lanes_from homes 0 (blueprint_wires b)) }
 {}
 
 /// Where the asks of lanes are noted at what the wires are told to have carried, that is the picture of the account.
-pub fn noted_counts_are_the_picture<S: Source, D: Drain, L: Logic, B: PlugBook>()
-    ensures { (b : Blueprint) (homes : List ℕ) (now : List (Body S D L B)) (all : List ℕ) (counts : List WireCount)
+pub fn noted_counts_are_the_picture<S: Source, D: Drain, L: Logic, H: Handlers, B: PlugBook>()
+    ensures { (b : Blueprint) (homes : List ℕ) (now : List (Body S D L H B)) (all : List ℕ) (counts : List WireCount)
         → length all ≡ length (lanes_from homes 0 (blueprint_wires b))
         → AreNoted all (lanes_from homes 0 (blueprint_wires b)) (map (λ (w : ℕ × WireCount). w.1)
         (told_from (account_in homes (blueprint_wires b) now (lane_demand (lanes_from homes 0 (blueprint_wires b)) all)).near 0 (blueprint_wires b))) counts
@@ -108,8 +109,8 @@ pub fn noted_counts_are_the_picture<S: Source, D: Drain, L: Logic, B: PlugBook>(
 
 /// Each element that was pushed on a wire took a unit that the bodies spent, that of the ask before it, and each that was taken off a
 /// lane another: all that were sent there were, but for as many at most as the lane has places.
-pub fn bodies_spent_what_was_sent<S: Source, D: Drain, L: Logic, B: PlugBook>()
-    ensures { (b : Blueprint) (homes : List ℕ) (count : ℕ) (nodes : List (Seated S D L B)) (crossings : List Crossing) (begun now : List (Body S D L B))
+pub fn bodies_spent_what_was_sent<S: Source, D: Drain, L: Logic, H: Handlers, B: PlugBook>()
+    ensures { (b : Blueprint) (homes : List ℕ) (count : ℕ) (nodes : List (Seated S D L H B)) (crossings : List Crossing) (begun now : List (Body S D L H B))
         (all : ℕ → ℕ) → AreBodiesOf S.state D.state B.lists (graph_of b) homes count (blueprint_wires b) nodes crossings begun → EachOf BodyGoes begun now
         → AllOf (BodyKeeps S.state D.state B.lists) now → AskedAre now crossings all → AllJoined BodiesJoined now crossings
         → all_sent (picture_counts (account_in homes (blueprint_wires b) now all) (graph_of b)) + taken_off (blueprint_wires b)

@@ -11,6 +11,7 @@ ghost use Rattle.materializer.specs.HandedPlugs.{GivesAsListed};
 use crate::begin_laws::filled_islands_are_seated;
 use elem_core::why::NoMemory;
 use graph_stage::custom::Custom;
+use graph_stage::handlers::Handlers;
 use interpreter::island::{Island, IslandEnd};
 use island_parts::room::EndRoom;
 use island_plans::lane_ends::{AllEnds, ends_of};
@@ -28,14 +29,14 @@ use stream_model::outcome::WireCount;
 /// The islands of a blueprint, before its files are opened, with all that their run takes of memory but what their nodes want as they
 /// start and run.
 #[derive(Drop)]
-pub struct Prepared<S: Source, D: Drain, L: Logic, B: PlugBook> {
-    pub(crate) plans: Plans<S, D, L, B>,
+pub struct Prepared<S: Source, D: Drain, L: Logic, H: Handlers, B: PlugBook> {
+    pub(crate) plans: Plans<S, D, L, H, B>,
     pub(crate) ends: AllEnds,
     // Empty, with room for all islands.
-    pub(crate) started: Vec<Island<S, D, L, B>>,
+    pub(crate) started: Vec<Island<S, D, L, H, B>>,
     // Empty, with room for the ends of all, where one does not start.
     pub(crate) unmade: Vec<IslandEnd<S, D>>,
-    pub(crate) bodies: BodyRoom<S, D, L, B>,
+    pub(crate) bodies: BodyRoom<S, D, L, H, B>,
     pub(crate) room: EndRoom<S, D>,
     // Empty, with room for the asks of all lanes.
     pub(crate) asked: Vec<u64>,
@@ -46,13 +47,13 @@ pub struct Prepared<S: Source, D: Drain, L: Logic, B: PlugBook> {
 /// Takes all memory that the run of a blueprint's islands wants before its files are opened, and hands each node that names a plug or a custom
 /// stage its own of `plugs` and `customs`, and each that chooses its moves of `plans`, where there are some. A number that is out of 32 bits is
 /// want of memory.
-pub fn prepare<S: Source, D: Drain, L: Logic, B: PlugBook>(
+pub fn prepare<S: Source, D: Drain, L: Logic, H: Handlers, B: PlugBook>(
     alloc: Global,
     b: Blueprint,
     plugs: Vec<Plug<L>>,
-    customs: Vec<Custom>,
+    customs: Vec<Custom<H>>,
     plans: Vec<Option<Vec<u32>>>,
-) -> Result<Prepared<S, D, L, B>, NoMemory>
+) -> Result<Prepared<S, D, L, H, B>, NoMemory>
     requires runs { CanRun b }
     requires has { HasGuests (handed_heads plugs.items customs.items) b.wires.items b.nodes.items }
     requires listed { All (GivesAsListed L.gives B.lists) plugs.items }
@@ -62,7 +63,7 @@ pub fn prepare<S: Source, D: Drain, L: Logic, B: PlugBook>(
     ensures led { IfOk result (λ p. led_plans p.plans ≡ map moves_of plans.items) }
     ensures types { IfOk result (λ p. made_types p.plans ≡ types_by_heads (handed_heads plugs.items customs.items) b.nodes.items) }
 {
-    filled_islands_are_seated::<S, D, L, B>();
+    filled_islands_are_seated::<S, D, L, H, B>();
     let plans = plans_of(alloc, b, plugs, customs, plans)?;
     let count = plans.count;
     let ends = ends_of(alloc, &plans.lanes, count)?;

@@ -27,6 +27,7 @@ use bodies_run::laws::{
     bodies_leave_a_run, broken_bodies_cover, broken_bodies_leave_a_run, nodes_alone_are_a_run,
 };
 use dispatcher::finish::Finish;
+use graph_stage::handlers::Handlers;
 use interpreter::island::IslandEnd;
 use island_body::body::Body;
 use island_parts::join::{join_ends, join_handles};
@@ -83,19 +84,19 @@ struct Remains<S: Source, D: Drain> {
 
 /// The bodies of a blueprint that were made, and the crossings of its lanes.
 #[derive(Drop)]
-struct Begun<S: Source, D: Drain, L: Logic, B: PlugBook> {
-    bodies: Vec<Body<S, D, L, B>>,
+struct Begun<S: Source, D: Drain, L: Logic, H: Handlers, B: PlugBook> {
+    bodies: Vec<Body<S, D, L, H, B>>,
     crossings: Vec<Crossing>,
     remains: Remains<S, D>,
 }
 
 /// Starts all islands, and makes their bodies.
-fn begin<S: Source, D: Drain, L: Logic, B: PlugBook>(
+fn begin<S: Source, D: Drain, L: Logic, H: Handlers, B: PlugBook>(
     alloc: Global,
-    prepared: Prepared<S, D, L, B>,
+    prepared: Prepared<S, D, L, H, B>,
     sources: Vec<S>,
     drains: Vec<D>,
-) -> Result<Begun<S, D, L, B>, IslandEnd<S, D>>
+) -> Result<Begun<S, D, L, H, B>, IslandEnd<S, D>>
     requires prepared { IsPrepared prepared }
     requires sources { vec_len sources ≡ length (inputs_of_nodes prepared.plans.blueprint.value.nodes.items) }
     requires drains { vec_len drains ≡ length (outputs_of_nodes prepared.plans.blueprint.value.nodes.items) }
@@ -106,10 +107,10 @@ fn begin<S: Source, D: Drain, L: Logic, B: PlugBook>(
         × (map place_plan h.nodes ≡ led_plans prepared.plans) × (map place_types h.nodes ≡ made_types prepared.plans)) }
     ensures unmade { IfErr result (HasHandles S.state D.state sources.items drains.items) }
 {
-    filled_islands_are_seated::<S, D, L, B>();
-    started_islands_begin_bodies::<S, D, L, B>();
-    made_bodies_begin_their_blueprint::<S, D, L, B>();
-    unmade_islands_hand_back::<S, D, L, B>();
+    filled_islands_are_seated::<S, D, L, H, B>();
+    started_islands_begin_bodies::<S, D, L, H, B>();
+    made_bodies_begin_their_blueprint::<S, D, L, H, B>();
+    unmade_islands_hand_back::<S, D, L, H, B>();
     let Prepared {
         plans,
         ends: lane_ends,
@@ -163,29 +164,29 @@ fn counts_of(wires: &[(u32, WireCount)], counts: Vec<WireCount>) -> Vec<WireCoun
 
 // Choice: docs/DECISIONS.md#switches-are-settled-here
 /// Takes bodies apart that ran, and settles the seats of their kill switches.
-fn stop<S: Source, D: Drain, L: Logic, B: PlugBook>(
+fn stop<S: Source, D: Drain, L: Logic, H: Handlers, B: PlugBook>(
     alloc: Global,
-    bodies: Vec<Body<S, D, L, B>>,
+    bodies: Vec<Body<S, D, L, H, B>>,
     crossings: &[Crossing],
     remains: Remains<S, D>,
     used: u32,
     at_rest: bool,
     ran: Ran,
 ) -> Stopped<S, D>
-    requires { (b : plan.Blueprint) × ((ss : List S) × ((ds : List D) × ((begun : List (island.Body S D L B))
+    requires { (b : plan.Blueprint) × ((ss : List S) × ((ds : List D) × ((begun : List (island.Body S D L H B))
         × ((budget : ℕ) × HaveRun S.state D.state B.lists b ss ds begun bodies.items crossings.now remains budget used at_rest)))) }
-    ensures leaves { (b : plan.Blueprint) (ss : List S) (ds : List D) (begun : List (island.Body S D L B)) (budget : ℕ)
+    ensures leaves { (b : plan.Blueprint) (ss : List S) (ds : List D) (begun : List (island.Body S D L H B)) (budget : ℕ)
         → (run : HaveRun S.state D.state B.lists b ss ds begun bodies.items crossings.now remains budget used at_rest)
-        → (l : RunLeaves L B S.state D.state B.lists b ss ds budget result) × (l.moment.places ≡ run.began.nodes) }
+        → (l : RunLeaves L H B S.state D.state B.lists b ss ds budget result) × (l.moment.places ≡ run.began.nodes) }
     ensures same { (result.used ≡ used) × (result.at_rest ≡ at_rest) × (result.ran ≡ ran) }
 {
-    ends_stay_at_their_crossings::<S, D, L, B>();
-    bodies_leave_a_run::<S, D, L, B>();
-    nodes_alone_are_a_run::<S, D, L, B>();
-    bodies_leave_what_their_nodes_do::<S, D, L, B>();
-    told_asks_are_those_of_lanes::<S, D, L, B>();
-    noted_counts_are_the_picture::<S, D, L, B>();
-    bodies_spent_what_was_sent::<S, D, L, B>();
+    ends_stay_at_their_crossings::<S, D, L, H, B>();
+    bodies_leave_a_run::<S, D, L, H, B>();
+    nodes_alone_are_a_run::<S, D, L, H, B>();
+    bodies_leave_what_their_nodes_do::<S, D, L, H, B>();
+    told_asks_are_those_of_lanes::<S, D, L, H, B>();
+    noted_counts_are_the_picture::<S, D, L, H, B>();
+    bodies_spent_what_was_sent::<S, D, L, H, B>();
     let Remains {
         lanes,
         homes,
@@ -197,7 +198,7 @@ fn stop<S: Source, D: Drain, L: Logic, B: PlugBook>(
     } = remains;
     let all = asked_of(&bodies, crossings, asked);
     let ends = finish_all(bodies, ends);
-    let end = join_ends::<S, D, L, B>(ends, &homes, room);
+    let end = join_ends::<S, D, L, H, B>(ends, &homes, room);
     let mut wires = counts_of(&end.wires, counts);
     note_asked(&all, &lanes, &mut wires);
     let IslandEnd {
@@ -229,22 +230,22 @@ fn stop<S: Source, D: Drain, L: Logic, B: PlugBook>(
 
 // Choice: docs/DECISIONS.md#seats-are-dropped
 /// Takes bodies apart of which some may have broken off.
-fn give_up<S: Source, D: Drain, L: Logic, B: PlugBook>(
-    bodies: Vec<Body<S, D, L, B>>,
+fn give_up<S: Source, D: Drain, L: Logic, H: Handlers, B: PlugBook>(
+    bodies: Vec<Body<S, D, L, H, B>>,
     crossings: &[Crossing],
     remains: Remains<S, D>,
 ) -> IslandEnd<S, D>
-    requires { (b : plan.Blueprint) × ((ss : List S) × ((ds : List D) × ((begun : List (island.Body S D L B))
+    requires { (b : plan.Blueprint) × ((ss : List S) × ((ds : List D) × ((begun : List (island.Body S D L H B))
         × HaveBroken S.state D.state B.lists b ss ds begun bodies.items crossings.now remains))) }
-    ensures { (b : plan.Blueprint) (ss : List S) (ds : List D) (begun : List (island.Body S D L B))
-        → HaveBroken S.state D.state B.lists b ss ds begun bodies.items crossings.now remains → LeavesBroken L B S.state D.state B.lists b ss ds result }
+    ensures { (b : plan.Blueprint) (ss : List S) (ds : List D) (begun : List (island.Body S D L H B))
+        → HaveBroken S.state D.state B.lists b ss ds begun bodies.items crossings.now remains → LeavesBroken L H B S.state D.state B.lists b ss ds result }
 {
-    ends_stay_at_their_crossings::<S, D, L, B>();
-    broken_bodies_cover::<S, D, L, B>();
-    broken_bodies_leave_a_run::<S, D, L, B>();
-    nodes_alone_are_a_run::<S, D, L, B>();
-    broken_bodies_leave_their_handles::<S, D, L, B>();
-    told_asks_are_those_of_lanes::<S, D, L, B>();
+    ends_stay_at_their_crossings::<S, D, L, H, B>();
+    broken_bodies_cover::<S, D, L, H, B>();
+    broken_bodies_leave_a_run::<S, D, L, H, B>();
+    nodes_alone_are_a_run::<S, D, L, H, B>();
+    broken_bodies_leave_their_handles::<S, D, L, H, B>();
+    told_asks_are_those_of_lanes::<S, D, L, H, B>();
     let Remains {
         lanes: _,
         homes,
@@ -263,12 +264,13 @@ fn run_bodies<
     S: Source + Send,
     D: Drain + Send,
     L: Logic + Send,
+    H: Handlers + Send,
     B: PlugBook + Send,
     R: Threads + Wait + Sync,
 >(
     rt: &R,
     alloc: Global,
-    begun: Begun<S, D, L, B>,
+    begun: Begun<S, D, L, H, B>,
     workers: u32,
     budget: u32,
 ) -> Result<Stopped<S, D>, IslandEnd<S, D>>
@@ -278,13 +280,13 @@ fn run_bodies<
         × ((ss : List S) × ((ds : List D) × HaveBegun S.state D.state B.lists b ss ds begun.bodies.items begun.crossings.items begun.remains)) }
     ensures leaves { (b : plan.Blueprint) (ss : List S) (ds : List D)
         → (h : HaveBegun S.state D.state B.lists b ss ds begun.bodies.items begun.crossings.items begun.remains)
-        → IfOk result (λ stopped. (l : RunLeaves L B S.state D.state B.lists b ss ds budget stopped) × (l.moment.places ≡ h.nodes)) }
+        → IfOk result (λ stopped. (l : RunLeaves L H B S.state D.state B.lists b ss ds budget stopped) × (l.moment.places ≡ h.nodes)) }
     ensures receipt { (b : plan.Blueprint) (ss : List S) (ds : List D)
         → HaveBegun S.state D.state B.lists b ss ds begun.bodies.items begun.crossings.items begun.remains
         → IfOk result (λ stopped. IsReceipt b workers stopped.used stopped.at_rest stopped.ran) }
     ensures breaks { (b : plan.Blueprint) (ss : List S) (ds : List D)
         → HaveBegun S.state D.state B.lists b ss ds begun.bodies.items begun.crossings.items begun.remains
-        → IfErr result (LeavesBroken L B S.state D.state B.lists b ss ds) }
+        → IfErr result (LeavesBroken L H B S.state D.state B.lists b ss ds) }
 {
     let Begun {
         bodies,
@@ -315,12 +317,13 @@ pub fn run<
     S: Source + Send,
     D: Drain + Send,
     L: Logic + Send,
+    H: Handlers + Send,
     B: PlugBook + Send,
     R: Threads + Wait + Sync,
 >(
     rt: &R,
     alloc: Global,
-    prepared: Prepared<S, D, L, B>,
+    prepared: Prepared<S, D, L, H, B>,
     sources: Vec<S>,
     drains: Vec<D>,
     workers: u32,
@@ -333,11 +336,11 @@ pub fn run<
     requires drains { vec_len drains ≡ length (outputs_of_nodes prepared.plans.blueprint.value.nodes.items) }
     requires unread { All (λ s. (S.state s).given ≡ 0) sources.items }
     ensures leaves { IfOk result
-        (λ stopped. (l : RunLeaves L B S.state D.state B.lists prepared.plans.blueprint.value
+        (λ stopped. (l : RunLeaves L H B S.state D.state B.lists prepared.plans.blueprint.value
         sources.items drains.items budget stopped)
         × (map place_plan l.moment.places ≡ led_plans prepared.plans) × (map place_types l.moment.places ≡ made_types prepared.plans)) }
     ensures receipt { IfOk result (λ stopped. IsReceipt prepared.plans.blueprint.value workers stopped.used stopped.at_rest stopped.ran) }
-    ensures breaks { IfErr result (λ broken. LeavesBrokenAs L B S.state D.state B.lists prepared.plans.blueprint.value sources.items drains.items broken) }
+    ensures breaks { IfErr result (λ broken. LeavesBrokenAs L H B S.state D.state B.lists prepared.plans.blueprint.value sources.items drains.items broken) }
 {
     match begin(alloc, prepared, sources, drains) {
         Ok(begun) => match run_bodies(rt, alloc, begun, workers, budget) {

@@ -42,31 +42,31 @@ one_file o name names m e h = let size : length (cons_option o names) ≡ length
 no_file : (o : Option (List ℕ)) (names : List (List ℕ)) (m : ℕ) → o ≡ None → m ≡ length names → 0 + m ≡ length (cons_option o names)
 no_file o names m e h = let size : length (cons_option o names) ≡ length names = ap (λ p. length (cons_option p names)) e in omega (arith, size, h)
 
-module _ {S D L B : Type 0} where
-  reads_here : (around : Around) (k : ℕ) (n : Node) (q : Planned S D L B) (names : List (List ℕ)) (m : ℕ) → IsLedPlan around k n q → m ≡ length names → reads q + m ≡ length (cons_option (source_file n.kind) names)
+module _ {S D L H B : Type 0} where
+  reads_here : (around : Around) (k : ℕ) (n : Node) (q : Planned S D L H B) (names : List (List ℕ)) (m : ℕ) → IsLedPlan around k n q → m ≡ length names → reads q + m ≡ length (cons_option (source_file n.kind) names)
   reads_here around k n Reads names m p h = one_file (source_file n.kind) p.file names m (ap source_file p.kind_is) h
   reads_here around k n (Writes shape) names m p h = no_file (source_file n.kind) names m (sink_file n.kind p.is_sink).1.1 h
   reads_here around k n (Works w) names m p h = no_file (source_file n.kind) names m p.no_input h
 
-  writes_here : (around : Around) (k : ℕ) (n : Node) (q : Planned S D L B) (names : List (List ℕ)) (m : ℕ) → IsLedPlan around k n q → m ≡ length names → writes q + m ≡ length (cons_option (output_of n.kind) names)
+  writes_here : (around : Around) (k : ℕ) (n : Node) (q : Planned S D L H B) (names : List (List ℕ)) (m : ℕ) → IsLedPlan around k n q → m ≡ length names → writes q + m ≡ length (cons_option (output_of n.kind) names)
   writes_here around k n Reads names m p h = no_file (output_of n.kind) names m (ap output_of p.kind_is) h
   writes_here around k n (Writes shape) names m p h = let f = sink_file n.kind p.is_sink in one_file (output_of n.kind) f.0 names m f.1.0 h
   writes_here around k n (Works w) names m p h = no_file (output_of n.kind) names m p.no_output h
 
-  pub reads_all : (around : Around) (k : ℕ) (ns : List Node) (seats : List (Seat S D L B)) → ArePlanned around k ns seats → reads_in seats ≡ length (inputs_of_nodes ns)
+  pub reads_all : (around : Around) (k : ℕ) (ns : List Node) (seats : List (Seat S D L H B)) → ArePlanned around k ns seats → reads_in seats ≡ length (inputs_of_nodes ns)
   reads_all around k [] [] h = refl
   reads_all around k [] (s ∷ ss) h = absurd h
   reads_all around k (n ∷ ns) [] h = absurd h
   reads_all around k (n ∷ ns) (s ∷ ss) h = reads_here around k n s.planned (inputs_of_nodes ns) (reads_in ss) h.0.planned (reads_all around (k + 1) ns ss h.1)
 
-  pub writes_all : (around : Around) (k : ℕ) (ns : List Node) (seats : List (Seat S D L B)) → ArePlanned around k ns seats → writes_in seats ≡ length (outputs_of_nodes ns)
+  pub writes_all : (around : Around) (k : ℕ) (ns : List Node) (seats : List (Seat S D L H B)) → ArePlanned around k ns seats → writes_in seats ≡ length (outputs_of_nodes ns)
   writes_all around k [] [] h = refl
   writes_all around k [] (s ∷ ss) h = absurd h
   writes_all around k (n ∷ ns) [] h = absurd h
   writes_all around k (n ∷ ns) (s ∷ ss) h = writes_here around k n s.planned (outputs_of_nodes ns) (writes_in ss) h.0.planned (writes_all around (k + 1) ns ss h.1)
 
   -- the places of the works are those of the nodes
-  pub places_same : (around : Around) (k : ℕ) (ns : List Node) (ss : List S) (ds : List D) (ps : List (Seated S D L B)) → AreSeats around k ns ss ds ps → map seat_place ps ≡ places_from around.wires k ns
+  pub places_same : (around : Around) (k : ℕ) (ns : List Node) (ss : List S) (ds : List D) (ps : List (Seated S D L H B)) → AreSeats around k ns ss ds ps → map seat_place ps ≡ places_from around.wires k ns
   places_same around k [] ss ds [] h = refl
   places_same around k [] ss ds (p ∷ ps) h = absurd h
   places_same around k (n ∷ ns) ss ds [] h = absurd h
@@ -99,8 +99,8 @@ none_of : (o : Option (List ℕ)) → ((name : List ℕ) → o ≡ Some name →
 none_of None h = refl
 none_of (Some name) h = absurd (h name refl)
 
-module _ {S D L B : Type 0} where
-  source_in : (around : Around) (k : ℕ) (n : Node) (ss : List S) (ds : List D) (w : Work S D L B) (names : List (List ℕ)) (rest : List S) → IsWork around k n ss ds w → (length (handles_left (source_file n.kind) ss) ≡ length names → rest ≡ handles_left (source_file n.kind) ss) → length ss ≡ length (cons_option (source_file n.kind) names)
+module _ {S D L H B : Type 0} where
+  source_in : (around : Around) (k : ℕ) (n : Node) (ss : List S) (ds : List D) (w : Work S D L H B) (names : List (List ℕ)) (rest : List S) → IsWork around k n ss ds w → (length (handles_left (source_file n.kind) ss) ≡ length names → rest ≡ handles_left (source_file n.kind) ss) → length ss ≡ length (cons_option (source_file n.kind) names)
       → with_source w rest ≡ ss
   source_in around k n ss ds (work.Reading r) names rest is so count = let l = reads_lines n.kind ss r.source is.source in all_next (source_file n.kind) l.0 names ss r.source rest (ap source_file l.1) is.source so count
   source_in around k n ss ds (work.Making shape) names rest is so count = all_left (source_file n.kind) names ss rest (no_input IsMaker (λ _ i. i) n.kind is.is_maker) so count
@@ -115,14 +115,14 @@ module _ {S D L B : Type 0} where
   source_in around k n ss ds (work.Writing shape (Some d)) names rest is so count = all_left (source_file n.kind) names ss rest (no_input IsFileSink (λ _ i. i) n.kind is.is_sink) so count
   source_in around k n ss ds (work.Writing shape None) names rest is so count = all_left (source_file n.kind) names ss rest (ap source_file is.is_ignore) so count
 
-  pub all_sources : (around : Around) (k : ℕ) (ns : List Node) (ss : List S) (ds : List D) (ps : List (Seated S D L B)) → AreSeats around k ns ss ds ps → length ss ≡ length (inputs_of_nodes ns) → sources_in ps ≡ ss
+  pub all_sources : (around : Around) (k : ℕ) (ns : List Node) (ss : List S) (ds : List D) (ps : List (Seated S D L H B)) → AreSeats around k ns ss ds ps → length ss ≡ length (inputs_of_nodes ns) → sources_in ps ≡ ss
   all_sources around k [] [] ds [] h count = refl
   all_sources around k [] (s ∷ ss) ds [] h count = absurd (omega (arith, count))
   all_sources around k [] ss ds (p ∷ ps) h count = absurd h
   all_sources around k (n ∷ ns) ss ds [] h count = absurd h
   all_sources around k (n ∷ ns) ss ds (p ∷ ps) h count = source_in around k n ss ds p.work (inputs_of_nodes ns) (sources_in ps) h.1.0 (λ e. all_sources around (k + 1) ns _ _ ps h.1.1 e) count
 
-  drain_in : (around : Around) (k : ℕ) (n : Node) (ss : List S) (ds : List D) (w : Work S D L B) (names : List (List ℕ)) (rest : List D) → IsWork around k n ss ds w → (length (handles_left (output_of n.kind) ds) ≡ length names → rest ≡ handles_left (output_of n.kind) ds) → length ds ≡ length (cons_option (output_of n.kind) names)
+  drain_in : (around : Around) (k : ℕ) (n : Node) (ss : List S) (ds : List D) (w : Work S D L H B) (names : List (List ℕ)) (rest : List D) → IsWork around k n ss ds w → (length (handles_left (output_of n.kind) ds) ≡ length names → rest ≡ handles_left (output_of n.kind) ds) → length ds ≡ length (cons_option (output_of n.kind) names)
       → with_drain w rest ≡ ds
   drain_in around k n ss ds (work.Reading r) names rest is so count = let l = reads_lines n.kind ss r.source is.source in all_left (output_of n.kind) names ds rest (ap output_of l.1) so count
   drain_in around k n ss ds (work.Making shape) names rest is so count = all_left (output_of n.kind) names ds rest (none_of _ (λ name e. maker_no_file n.kind name is.is_maker e)) so count
@@ -137,7 +137,7 @@ module _ {S D L B : Type 0} where
   drain_in around k n ss ds (work.Writing shape (Some d)) names rest is so count = let f = sink_file n.kind is.is_sink in all_next (output_of n.kind) f.0 names ds d rest f.1.0 is.next so count
   drain_in around k n ss ds (work.Writing shape None) names rest is so count = all_left (output_of n.kind) names ds rest (ap output_of is.is_ignore) so count
 
-  pub all_drains : (around : Around) (k : ℕ) (ns : List Node) (ss : List S) (ds : List D) (ps : List (Seated S D L B)) → AreSeats around k ns ss ds ps → length ds ≡ length (outputs_of_nodes ns) → drains_in ps ≡ ds
+  pub all_drains : (around : Around) (k : ℕ) (ns : List Node) (ss : List S) (ds : List D) (ps : List (Seated S D L H B)) → AreSeats around k ns ss ds ps → length ds ≡ length (outputs_of_nodes ns) → drains_in ps ≡ ds
   all_drains around k [] ss [] [] h count = refl
   all_drains around k [] ss (d ∷ ds) [] h count = absurd (omega (arith, count))
   all_drains around k [] ss ds (p ∷ ps) h count = absurd h

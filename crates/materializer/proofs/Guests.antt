@@ -39,32 +39,33 @@ no_switch (kind.Plug q) e h at = at
 no_switch (kind.Custom q) e h at = at
 no_switch k e h at = absurd (h refl refl)
 
-module _ {L H : Type 0} (gives : L → Gives) (book : Book) where
+module _ {L : Type 0} (H : Type 0) (gives : L → Gives) (book : Book) where
   -- where none is handed a node names neither
-  no_guest_of : (o c : Option (List ℕ)) → IsGuest {L} {H} gives book o c None → (o ≡ None) × (c ≡ None)
+  no_guest_of : (o c : Option (List ℕ)) → IsGuest {L = L} {H = H} gives book o c None → (o ≡ None) × (c ≡ None)
   no_guest_of None None h = (refl, refl)
   no_guest_of None (Some name) h = absurd h
   no_guest_of (Some name) c h = absurd h
 
-  pub no_guest : (k : Kind) → IsGuest {L} {H} gives book (plug_of k) (custom_of k) None → (plug_of k ≡ None) × (custom_of k ≡ None)
+  pub no_guest : (k : Kind) → IsGuest {L = L} {H = H} gives book (plug_of k) (custom_of k) None → (plug_of k ≡ None) × (custom_of k ≡ None)
   no_guest k h = no_guest_of (plug_of k) (custom_of k) h
 
   -- where a plug is handed it is of the name that the node names, and gives what the book lists of it
-  plug_is_of : (o c : Option (List ℕ)) (p : Plug L) → IsGuest {L} {H} gives book o c (Some (guest.Plug p)) → (o ≡ Some p.head.name) × GivesAsListed gives book p
+  plug_is_of : (o c : Option (List ℕ)) (p : Plug L) → IsGuest {L = L} {H = H} gives book o c (Some (guest.Plug p)) → (o ≡ Some p.head.name) × GivesAsListed gives book p
   plug_is_of None None p h = absurd (none_some (sym h))
   plug_is_of None (Some name) p h = absurd h
   plug_is_of (Some name) c p h = (ap Some (sym h.0), h.1)
 
-  pub plug_is : (k : Kind) (p : Plug L) → IsGuest {L} {H} gives book (plug_of k) (custom_of k) (Some (guest.Plug p)) → (k ≡ kind.Plug p.head.name) × GivesAsListed gives book p
+  pub plug_is : (k : Kind) (p : Plug L) → IsGuest {L = L} {H = H} gives book (plug_of k) (custom_of k) (Some (guest.Plug p)) → (k ≡ kind.Plug p.head.name) × GivesAsListed gives book p
   plug_is k p h = let is = plug_is_of (plug_of k) (custom_of k) p h in (names_plug k p.head.name is.0, is.1)
 
+module _ {L H : Type 0} (gives : L → Gives) (book : Book) where
   -- where a custom stage is handed it is of the name that the node names, and its head fits
-  custom_is_of : (o c : Option (List ℕ)) (d : Custom H) → IsGuest {L} {H} gives book o c (Some (guest.Custom d)) → (c ≡ Some d.head.name) × (head_fits (Some (head_shape d.head)) ≡ true)
+  custom_is_of : (o c : Option (List ℕ)) (d : Custom H) → IsGuest {L = L} {H = H} gives book o c (Some (guest.Custom d)) → (c ≡ Some d.head.name) × (head_fits (Some (head_shape d.head)) ≡ true)
   custom_is_of None None d h = absurd (none_some (sym h))
   custom_is_of None (Some name) d h = (ap Some (sym h.named), h.fits)
   custom_is_of (Some name) c d h = absurd h
 
-  pub custom_is : (k : Kind) (d : Custom H) → IsGuest {L} {H} gives book (plug_of k) (custom_of k) (Some (guest.Custom d)) → (k ≡ kind.Custom d.head.name) × (head_fits (Some (head_shape d.head)) ≡ true)
+  pub custom_is : (k : Kind) (d : Custom H) → IsGuest {L = L} {H = H} gives book (plug_of k) (custom_of k) (Some (guest.Custom d)) → (k ≡ kind.Custom d.head.name) × (head_fits (Some (head_shape d.head)) ≡ true)
   custom_is k d h = let is = custom_is_of (plug_of k) (custom_of k) d h in (names_custom k d.head.name is.0, is.1)
 
   -- one that is handed something is at no switch

@@ -42,10 +42,10 @@ handed_later None xs names x name h = record { place = h.place; handle = h.handl
 handed_later (Some file) [] names x name h = let e : None ≡ Some x = h.handle in absurd cc
 handed_later (Some file) (y ∷ xs) names x name h = record { place = suc h.place; handle = h.handle; named = h.named }
 
-module _ {S D L B : Type 0} where
+module _ {S D L H B : Type 0} where
   -- ---- sources
 
-  reader_at : (around : Around) (k room : ℕ) (n : blue.Node) (ss : List S) (ds : List D) (w : Work S D L B) (x : IslandNode S D L B) (names : List (List ℕ)) (name : List ℕ) → IsWork around k n ss ds w → BecomesOf k room w x → n.kind ≡ kind.Lines name
+  reader_at : (around : Around) (k room : ℕ) (n : blue.Node) (ss : List S) (ds : List D) (w : Work S D L H B) (x : IslandNode S D L H B) (names : List (List ℕ)) (name : List ℕ) → IsWork around k n ss ds w → BecomesOf k room w x → n.kind ≡ kind.Lines name
       → (first : Lines S) × ((x ≡ node.Reading first) × ((first.node ≡ k) × Handed ss (cons_option (source_file n.kind) names) first.reader.source name))
   reader_at around k room n ss ds (work.Reading r) x names name is b e = (_, (b, (refl, handed_next (source_file n.kind) ss names r.source name (ap source_file e) is.source)))
   reader_at around k room n ss ds (work.Making shape) x names name is b e = absurd (subst IsMaker e is.is_maker)
@@ -54,20 +54,20 @@ module _ {S D L B : Type 0} where
   reader_at around k room n ss ds (work.Sub l) x names name is b e = absurd (subst IsSub e is.is_sub)
   reader_at around k room n ss ds (work.FanIn l inputs) x names name is b e = absurd (subst IsFanIn e is.is_in)
   reader_at around k room n ss ds (work.FanOut l outputs) x names name is b e = absurd (subst IsOut e is.is_out)
-  reader_at around k n ss ds (work.Custom y inputs outputs) x names name is b e = let same = sym is.0.is_custom.1 ∙ e in absurd cc
+  reader_at around k room n ss ds (work.Custom y inputs outputs) x names name is b e = let same = sym is.0.is_custom.1 ∙ e in absurd cc
   reader_at around k room n ss ds (work.LaneIn u) x names name is b e = absurd is
   reader_at around k room n ss ds (work.LaneOut u) x names name is b e = absurd is
   reader_at around k room n ss ds (work.Writing shape (Some d)) x names name is b e = absurd (subst IsFileSink e is.is_sink)
   reader_at around k room n ss ds (work.Writing shape None) x names name is b e = let no : kind.Lines name ≡ kind.Ignore = sym e ∙ is.is_ignore in absurd cc
 
   -- of the nodes from node k on
-  record ReadsAt (k : ℕ) (names : List (List ℕ)) (ss : List S) (xs : List (IslandNode S D L B)) (j : ℕ) (name : List ℕ) : Type 0 where
+  record ReadsAt (k : ℕ) (names : List (List ℕ)) (ss : List S) (xs : List (IslandNode S D L H B)) (j : ℕ) (name : List ℕ) : Type 0 where
     pub first : Lines S
     pub at : slice_get xs j ≡ Some (node.Reading first)
     pub node : first.node ≡ k + j
     pub handed : Handed ss names first.reader.source name
 
-  reads_at : (around : Around) (k : ℕ) (ns : List blue.Node) (ss : List S) (ds : List D) (ps : List (Seated S D L B)) (xs : List (IslandNode S D L B)) (j : ℕ) (n : blue.Node) (name : List ℕ)
+  reads_at : (around : Around) (k : ℕ) (ns : List blue.Node) (ss : List S) (ds : List D) (ps : List (Seated S D L H B)) (xs : List (IslandNode S D L H B)) (j : ℕ) (n : blue.Node) (name : List ℕ)
       → AreSeats around k ns ss ds ps → AllBecome ps xs → slice_get ns j ≡ Some n → n.kind ≡ kind.Lines name → ReadsAt k (inputs_of_nodes ns) ss xs j name
   reads_at around k [] ss ds ps xs j n name a b at e = absurd cc
   reads_at around k (m ∷ ns) ss ds [] xs j n name a b at e = absurd a
@@ -81,7 +81,7 @@ module _ {S D L B : Type 0} where
       let r = reads_at around (k + 1) ns _ _ ps xs j n name a.1.1 b.1 at e in
       record { first = r.first; at = r.at; node = let same : r.first.node ≡ k + 1 + j = r.node in omega (arith, same); handed = handed_later (source_file m.kind) ss (inputs_of_nodes ns) r.first.reader.source name r.handed }
 
-  pub reads_file : (around : Around) (ns : List blue.Node) (ss : List S) (ds : List D) (ps : List (Seated S D L B)) (xs : List (IslandNode S D L B)) → AreSeats around 0 ns ss ds ps → AllBecome ps xs
+  pub reads_file : (around : Around) (ns : List blue.Node) (ss : List S) (ds : List D) (ps : List (Seated S D L H B)) (xs : List (IslandNode S D L H B)) → AreSeats around 0 ns ss ds ps → AllBecome ps xs
       → (j : ℕ) (n : blue.Node) (name : List ℕ) → slice_get ns j ≡ Some n → n.kind ≡ kind.Lines name → ReadsSourceFile (inputs_of_nodes ns) ss xs j name
   reads_file around ns ss ds ps xs a b j n name at e =
       let r = reads_at around 0 ns ss ds ps xs j n name a b at e in
@@ -89,7 +89,7 @@ module _ {S D L B : Type 0} where
 
   -- ---- sinks with a file
 
-  writer_at : (around : Around) (k room : ℕ) (n : blue.Node) (ss : List S) (ds : List D) (w : Work S D L B) (x : IslandNode S D L B) (names : List (List ℕ)) (name : List ℕ) → IsWork around k n ss ds w → BecomesOf k room w x → output_of n.kind ≡ Some name
+  writer_at : (around : Around) (k room : ℕ) (n : blue.Node) (ss : List S) (ds : List D) (w : Work S D L H B) (x : IslandNode S D L H B) (names : List (List ℕ)) (name : List ℕ) → IsWork around k n ss ds w → BecomesOf k room w x → output_of n.kind ≡ Some name
       → (first : Sink D) × ((x ≡ node.Writing first) × ((first.node ≡ k) × Handed ds (cons_option (output_of n.kind) names) first.drain name))
   writer_at around k room n ss ds (work.Reading r) x names name is b e =
       let l = reads_lines n.kind ss r.source is.source in
@@ -100,19 +100,19 @@ module _ {S D L B : Type 0} where
   writer_at around k room n ss ds (work.Sub l) x names name is b e = absurd (sub_no_file n.kind name is.is_sub e)
   writer_at around k room n ss ds (work.FanIn l inputs) x names name is b e = absurd (fan_in_no_file n.kind name is.is_in e)
   writer_at around k room n ss ds (work.FanOut l outputs) x names name is b e = absurd (fan_out_no_file n.kind name is.is_out e)
-  writer_at around k n ss ds (work.Custom y inputs outputs) x names name is b e = let same = sym (ap output_of is.0.is_custom.1) ∙ e in absurd cc
+  writer_at around k room n ss ds (work.Custom y inputs outputs) x names name is b e = let same = sym (ap output_of is.0.is_custom.1) ∙ e in absurd cc
   writer_at around k room n ss ds (work.LaneIn u) x names name is b e = absurd is
   writer_at around k room n ss ds (work.LaneOut u) x names name is b e = absurd is
   writer_at around k room n ss ds (work.Writing shape (Some d)) x names name is b e = (_, (b, (refl, handed_next (output_of n.kind) ds names d name e is.next)))
   writer_at around k room n ss ds (work.Writing shape None) x names name is b e = let no : output_of kind.Ignore ≡ Some name = sym (ap output_of is.is_ignore) ∙ e in absurd cc
 
-  record WritesAt (k : ℕ) (names : List (List ℕ)) (ds : List D) (xs : List (IslandNode S D L B)) (j : ℕ) (name : List ℕ) : Type 0 where
+  record WritesAt (k : ℕ) (names : List (List ℕ)) (ds : List D) (xs : List (IslandNode S D L H B)) (j : ℕ) (name : List ℕ) : Type 0 where
     pub first : Sink D
     pub at : slice_get xs j ≡ Some (node.Writing first)
     pub node : first.node ≡ k + j
     pub handed : Handed ds names first.drain name
 
-  writes_at : (around : Around) (k : ℕ) (ns : List blue.Node) (ss : List S) (ds : List D) (ps : List (Seated S D L B)) (xs : List (IslandNode S D L B)) (j : ℕ) (n : blue.Node) (name : List ℕ)
+  writes_at : (around : Around) (k : ℕ) (ns : List blue.Node) (ss : List S) (ds : List D) (ps : List (Seated S D L H B)) (xs : List (IslandNode S D L H B)) (j : ℕ) (n : blue.Node) (name : List ℕ)
       → AreSeats around k ns ss ds ps → AllBecome ps xs → slice_get ns j ≡ Some n → output_of n.kind ≡ Some name → WritesAt k (outputs_of_nodes ns) ds xs j name
   writes_at around k [] ss ds ps xs j n name a b at e = absurd cc
   writes_at around k (m ∷ ns) ss ds [] xs j n name a b at e = absurd a
@@ -126,7 +126,7 @@ module _ {S D L B : Type 0} where
       let r = writes_at around (k + 1) ns _ _ ps xs j n name a.1.1 b.1 at e in
       record { first = r.first; at = r.at; node = let same : r.first.node ≡ k + 1 + j = r.node in omega (arith, same); handed = handed_later (output_of m.kind) ds (outputs_of_nodes ns) r.first.drain name r.handed }
 
-  pub writes_file : (around : Around) (ns : List blue.Node) (ss : List S) (ds : List D) (ps : List (Seated S D L B)) (xs : List (IslandNode S D L B)) → AreSeats around 0 ns ss ds ps → AllBecome ps xs
+  pub writes_file : (around : Around) (ns : List blue.Node) (ss : List S) (ds : List D) (ps : List (Seated S D L H B)) (xs : List (IslandNode S D L H B)) → AreSeats around 0 ns ss ds ps → AllBecome ps xs
       → (j : ℕ) (n : blue.Node) (name : List ℕ) → slice_get ns j ≡ Some n → output_of n.kind ≡ Some name → WritesFile (outputs_of_nodes ns) ds xs j name
   writes_file around ns ss ds ps xs a b j n name at e =
       let r = writes_at around 0 ns ss ds ps xs j n name a b at e in
@@ -134,7 +134,7 @@ module _ {S D L B : Type 0} where
 
   -- ---- sinks that keep nothing
 
-  ignorer_at : (around : Around) (k room : ℕ) (n : blue.Node) (ss : List S) (ds : List D) (w : Work S D L B) (x : IslandNode S D L B) → IsWork around k n ss ds w → BecomesOf k room w x → n.kind ≡ kind.Ignore → (first : Ignorer) × ((x ≡ node.Ignoring first) × (first.node ≡ k))
+  ignorer_at : (around : Around) (k room : ℕ) (n : blue.Node) (ss : List S) (ds : List D) (w : Work S D L H B) (x : IslandNode S D L H B) → IsWork around k n ss ds w → BecomesOf k room w x → n.kind ≡ kind.Ignore → (first : Ignorer) × ((x ≡ node.Ignoring first) × (first.node ≡ k))
   ignorer_at around k room n ss ds (work.Reading r) x is b e =
       let l = reads_lines n.kind ss r.source is.source in
       let no : kind.Lines l.0 ≡ kind.Ignore = sym l.1 ∙ e in absurd cc
@@ -144,18 +144,18 @@ module _ {S D L B : Type 0} where
   ignorer_at around k room n ss ds (work.Sub l) x is b e = absurd (subst IsSub e is.is_sub)
   ignorer_at around k room n ss ds (work.FanIn l inputs) x is b e = absurd (subst IsFanIn e is.is_in)
   ignorer_at around k room n ss ds (work.FanOut l outputs) x is b e = absurd (subst IsOut e is.is_out)
-  ignorer_at around k n ss ds (work.Custom y inputs outputs) x is b e = let same = sym is.0.is_custom.1 ∙ e in absurd cc
+  ignorer_at around k room n ss ds (work.Custom y inputs outputs) x is b e = let same = sym is.0.is_custom.1 ∙ e in absurd cc
   ignorer_at around k room n ss ds (work.LaneIn u) x is b e = absurd is
   ignorer_at around k room n ss ds (work.LaneOut u) x is b e = absurd is
   ignorer_at around k room n ss ds (work.Writing shape (Some d)) x is b e = absurd (subst IsFileSink e is.is_sink)
   ignorer_at around k room n ss ds (work.Writing shape None) x is b e = (_, (b, refl))
 
-  record IgnoresAt (k : ℕ) (xs : List (IslandNode S D L B)) (j : ℕ) : Type 0 where
+  record IgnoresAt (k : ℕ) (xs : List (IslandNode S D L H B)) (j : ℕ) : Type 0 where
     pub first : Ignorer
     pub at : slice_get xs j ≡ Some (node.Ignoring first)
     pub node : first.node ≡ k + j
 
-  ignores_at : (around : Around) (k : ℕ) (ns : List blue.Node) (ss : List S) (ds : List D) (ps : List (Seated S D L B)) (xs : List (IslandNode S D L B)) (j : ℕ) (n : blue.Node)
+  ignores_at : (around : Around) (k : ℕ) (ns : List blue.Node) (ss : List S) (ds : List D) (ps : List (Seated S D L H B)) (xs : List (IslandNode S D L H B)) (j : ℕ) (n : blue.Node)
       → AreSeats around k ns ss ds ps → AllBecome ps xs → slice_get ns j ≡ Some n → n.kind ≡ kind.Ignore → IgnoresAt k xs j
   ignores_at around k [] ss ds ps xs j n a b at e = absurd cc
   ignores_at around k (m ∷ ns) ss ds [] xs j n a b at e = absurd a
@@ -169,7 +169,7 @@ module _ {S D L B : Type 0} where
       let r = ignores_at around (k + 1) ns _ _ ps xs j n a.1.1 b.1 at e in
       record { first = r.first; at = r.at; node = let same : r.first.node ≡ k + 1 + j = r.node in omega (arith, same) }
 
-  pub writes_no_file : (around : Around) (ns : List blue.Node) (ss : List S) (ds : List D) (ps : List (Seated S D L B)) (xs : List (IslandNode S D L B)) → AreSeats around 0 ns ss ds ps → AllBecome ps xs
+  pub writes_no_file : (around : Around) (ns : List blue.Node) (ss : List S) (ds : List D) (ps : List (Seated S D L H B)) (xs : List (IslandNode S D L H B)) → AreSeats around 0 ns ss ds ps → AllBecome ps xs
       → (j : ℕ) (n : blue.Node) → slice_get ns j ≡ Some n → n.kind ≡ kind.Ignore → WritesNoFile xs j
   writes_no_file around ns ss ds ps xs a b j n at e =
       let r = ignores_at around 0 ns ss ds ps xs j n a b at e in

@@ -206,19 +206,19 @@ module _ {L : Type 0} (gives : L → Gives) (book : Book) where
 
   -- ---- what a node is handed is its own
 
-  none_is : {H : Type 0} (o c : Option (List ℕ)) (old new : List (Plug L)) (unhired left : List (Custom H)) → IsHandedPlug o old None new → IsHandedCustom c unhired None left → IsGuest {L} {H} gives book o c None
+  none_is : {H : Type 0} (o c : Option (List ℕ)) (old new : List (Plug L)) (unhired left : List (Custom H)) → IsHandedPlug o old None new → IsHandedCustom c unhired None left → IsGuest {L = L} {H = H} gives book o c None
   none_is None None old new unhired left h k = refl
   none_is None (Some name) old new unhired left h k = absurd (none_some k.1.0)
   none_is (Some name) c old new unhired left h k = absurd (none_some h.1.0)
 
-  plug_is : {H : Type 0} (o c : Option (List ℕ)) (old new : List (Plug L)) (p : Plug L) → All (GivesAsListed gives book) old → IsHandedPlug o old (Some p) new → IsGuest {L} {H} gives book o c (Some (guest.Plug p))
-  plug_is None c old new p keep h = absurd (none_some (sym h.0))
-  plug_is (Some name) c old new p keep h =
+  plug_is : (H : Type 0) (o c : Option (List ℕ)) (old new : List (Plug L)) (p : Plug L) → All (GivesAsListed gives book) old → IsHandedPlug o old (Some p) new → IsGuest {L = L} {H = H} gives book o c (Some (guest.Plug p))
+  plug_is H None c old new p keep h = absurd (none_some (sym h.0))
+  plug_is H (Some name) c old new p keep h =
       let t = h.1.1 in
       let same : h.0 ≡ p = same_some h.0 p h.1.0 in
       (ap (λ (q : Plug _). q.head.name) (sym same) ∙ t.named, subst (GivesAsListed gives book) same (at_all (GivesAsListed gives book) old t.at h.0 t.there keep))
 
-  custom_is : {H : Type 0} (n : Node) (o c : Option (List ℕ)) (old new : List (Plug L)) (unhired left : List (Custom H)) (d : Custom H) → HoldsAt Fits unhired n c → IsHandedPlug o old None new → IsHandedCustom c unhired (Some d) left → IsGuest {L} {H} gives book o c (Some (guest.Custom d))
+  custom_is : {H : Type 0} (n : Node) (o c : Option (List ℕ)) (old new : List (Plug L)) (unhired left : List (Custom H)) (d : Custom H) → HoldsAt Fits unhired n c → IsHandedPlug o old None new → IsHandedCustom c unhired (Some d) left → IsGuest {L = L} {H = H} gives book o c (Some (guest.Custom d))
   custom_is n None None old new unhired left d fit h k = absurd (none_some (sym k.0))
   custom_is n None (Some name) old new unhired left d fit h k =
       let t = k.1.1 in
@@ -231,7 +231,7 @@ module _ {L : Type 0} (gives : L → Gives) (book : Book) where
   pub guest_is : {H : Type 0} (n : Node) (nodes : List Node) (old new : List (Plug L)) (unhired left : List (Custom H)) (e : Option (Guest L H)) → IsReady old (n ∷ nodes) → IsReadyToHire unhired (n ∷ nodes)
       → IsHandedGuest n.kind old unhired e new left → IsGuest gives book (plug_of n.kind) (custom_of n.kind) e
   guest_is n nodes old new unhired left None r s h = none_is (plug_of n.kind) (custom_of n.kind) old new unhired left h.0 h.1
-  guest_is n nodes old new unhired left (Some (guest.Plug p)) r s h = plug_is (plug_of n.kind) (custom_of n.kind) old new p r.keep h.0
+  guest_is n nodes old new unhired left (Some (guest.Plug p)) r s h = plug_is _ (plug_of n.kind) (custom_of n.kind) old new p r.keep h.0
   guest_is n nodes old new unhired left (Some (guest.Custom c)) r s h = custom_is n (plug_of n.kind) (custom_of n.kind) old new unhired left c s.fit.0 h.0 h.1
 
   -- ---- all of them
@@ -247,7 +247,7 @@ module _ {L : Type 0} (gives : L → Gives) (book : Book) where
   completes_first nodes none is later h = subst (λ (l : List (Option (Guest L _))). AreGuests gives book (map (λ (m : Node). m.kind) nodes) (l ++ later)) (sym is) h
 
   pub completes_last : {H : Type 0} (nodes behind : List Node) (handed : List (Option (Guest L H))) → Completes nodes behind handed → behind ≡ [] → AreGuests gives book (map (λ n. n.kind) nodes) handed
-  completes_last nodes behind handed c is = subst (λ (l : List (Option (Guest L _))). AreGuests gives book (map (λ (m : Node). m.kind) nodes) l) (append-nil handed) (c [] (subst (λ (l : List Node). AreGuests {L} {_} gives book (map (λ (m : Node). m.kind) l) []) (sym is) tt))
+  completes_last {H} nodes behind handed c is = subst (λ (l : List (Option (Guest L _))). AreGuests gives book (map (λ (m : Node). m.kind) nodes) l) (append-nil handed) (c [] (subst (λ (l : List Node). AreGuests {L = L} {H = H} gives book (map (λ (m : Node). m.kind) l) []) (sym is) tt))
 
   -- at the node of this place
   pub ready_here : (nodes : List Node) (i : ℕ) (n : Node) (left : List (Plug L)) → i < length nodes → n ≡ get_or nodes i n → IsReady left (drop i nodes) → IsReady left (n ∷ drop (i + 1) nodes)
@@ -305,7 +305,7 @@ pub ports_none : {L H : Type 0} (wires : List WireDecl) (nodes : List Node) (non
 ports_none wires nodes none is later h = subst (λ (l : List (Option (Guest _ _))). HaveUsedPorts wires nodes (l ++ later)) (sym is) h
 
 pub ports_last : {L H : Type 0} (wires : List WireDecl) (nodes behind : List Node) (handed : List (Option (Guest L H))) → CompletesPorts wires nodes behind handed → behind ≡ [] → HaveUsedPorts wires nodes handed
-ports_last {L} {H} wires nodes behind handed c is = subst (λ (l : List (Option (Guest L H))). HaveUsedPorts wires nodes l) (append-nil handed) (c [] (subst (λ (l : List Node). HaveUsedPorts {L} {H} wires l []) (sym is) tt))
+ports_last {L} {H} wires nodes behind handed c is = subst (λ (l : List (Option (Guest L H))). HaveUsedPorts wires nodes l) (append-nil handed) (c [] (subst (λ (l : List Node). HaveUsedPorts {L = L} {H = H} wires l []) (sym is) tt))
 
 pub hire_here : {H : Type 0} (nodes : List Node) (i : ℕ) (n : Node) (left : List (Custom H)) → i < length nodes → n ≡ get_or nodes i n → IsReadyToHire left (drop i nodes) → IsReadyToHire left (n ∷ drop (i + 1) nodes)
 hire_here nodes i n left less is r = subst (λ behind. IsReadyToHire left behind) (here nodes i n less is) r

@@ -224,9 +224,9 @@ state_bare kd node d (Machine l) b = refl
 state_bare kd node d (Tripping l) b = refl
 state_bare kd node d l b = absurd b
 
-module _ {S D L B : Type 0} (around : Around) (k : ℕ) (n : Node) where
+module _ {S D L H B : Type 0} (around : Around) (k : ℕ) (n : Node) where
   -- no moves
-  bare_work : (w : Work S D L B) → IsFreeWork around.chains k n.kind n.decider w → work_plan w ≡ None
+  bare_work : (w : Work S D L H B) → IsFreeWork around.chains k n.kind n.decider w → work_plan w ≡ None
   bare_work (work.State l) is = state_bare n.kind k n.decider l is.begins.as_kind
   bare_work (work.FanIn l inputs) is = is.free
   bare_work (work.FanOut l outputs) is = is.free
@@ -237,41 +237,41 @@ module _ {S D L B : Type 0} (around : Around) (k : ℕ) (n : Node) where
   bare_work (work.Writing shape None) is = refl
   bare_work w is = absurd is
 
-  pub bare_plan : (p : Planned S D L B) → IsFreePlan around.chains k n p → plan_of_planned p ≡ None
+  pub bare_plan : (p : Planned S D L H B) → IsFreePlan around.chains k n p → plan_of_planned p ≡ None
   bare_plan Reads is = refl
   bare_plan (Writes shape) is = refl
   bare_plan (Works w) is = bare_work w is
 
   -- no types of a custom stage, where the node is none
-  bare_types : (w : Work S D L B) → IsFreeWork around.chains k n.kind n.decider w → custom_of n.kind ≡ None → work_types w ≡ None
+  bare_types : (w : Work S D L H B) → IsFreeWork around.chains k n.kind n.decider w → custom_of n.kind ≡ None → work_types w ≡ None
   bare_types (work.Custom x inputs outputs) is none = let e : Some is.is_custom.0 ≡ None = sym (ap (λ (q : Kind). custom_of q) is.is_custom.1) ∙ none in absurd cc
   bare_types w is none = refl
 
-  pub no_types : (p : Planned S D L B) → IsFreePlan around.chains k n p → custom_of n.kind ≡ None → types_of_planned p ≡ None
+  pub no_types : (p : Planned S D L H B) → IsFreePlan around.chains k n p → custom_of n.kind ≡ None → types_of_planned p ≡ None
   no_types Reads is none = refl
   no_types (Writes shape) is none = refl
   no_types (Works w) is none = bare_types w is none
 
   -- what is planned is so whatever wires there are
-  pub free_plan : (p : Planned S D L B) → IsPlanned around k n p → IsFreePlan around.chains k n p
+  pub free_plan : (p : Planned S D L H B) → IsPlanned around k n p → IsFreePlan around.chains k n p
   free_plan Reads is = is
   free_plan (Writes shape) is = is
   free_plan (Works w) is = is.work
 
-  led_work : (w : Work S D L B) → IsFreeWork around.chains k n.kind n.decider w → IsLedWork around.chains k n.kind n.decider w
+  led_work : (w : Work S D L H B) → IsFreeWork around.chains k n.kind n.decider w → IsLedWork around.chains k n.kind n.decider w
   led_work (work.State l) is = record { is_state = is.is_state; begins = record { as_kind = led_as n.kind k n.decider l is.begins.as_kind; fresh = is.begins.fresh } }
   led_work (work.Sub l) is = record { is_sub = is.is_sub; begins = is.begins; line = is.line }
   led_work (work.FanIn l inputs) is = record { is_in = is.is_in; begins = is.begins; inputs_are = is.inputs_are }
   led_work (work.FanOut l outputs) is = record { is_out = is.is_out; begins = is.begins; outputs_are = is.outputs_are }
   led_work w is = is
 
-  led_plan : (p : Planned S D L B) → IsPlanned around k n p → IsLedPlan around k n p
+  led_plan : (p : Planned S D L H B) → IsPlanned around k n p → IsLedPlan around k n p
   led_plan Reads is = is
   led_plan (Writes shape) is = is
   led_plan (Works w) is = record { work = led_work w is.work; ports = is.ports; no_input = is.no_input; no_output = is.no_output }
 
   -- some moves
-  work_may : (w : Work S D L B) (moves : List ℕ) → IsFreeWork around.chains k n.kind n.decider w → KindMayFollow n.kind moves → WorkMayFollow moves w
+  work_may : (w : Work S D L H B) (moves : List ℕ) → IsFreeWork around.chains k n.kind n.decider w → KindMayFollow n.kind moves → WorkMayFollow moves w
   work_may (work.State l) moves is may = state_may n.kind k n.decider l moves is.is_state is.begins.as_kind may
   work_may (work.Sub l) moves is may = sub_may n.kind k l.logic.chain l.logic moves is.begins.as_kind may
   work_may (work.FanIn l inputs) moves is may = in_may n.kind k n.decider l moves is.is_in is.begins may
@@ -282,17 +282,17 @@ module _ {S D L B : Type 0} (around : Around) (k : ℕ) (n : Node) where
   work_may (work.Writing shape None) moves is may = absurd (subst (λ (t : Kind). KindMayFollow t moves) is.is_ignore may)
   work_may w moves is may = absurd is
 
-  pub planned_may : (p : Planned S D L B) (moves : List ℕ) → IsFreePlan around.chains k n p → KindMayFollow n.kind moves → PlannedMayFollow moves p
+  pub planned_may : (p : Planned S D L H B) (moves : List ℕ) → IsFreePlan around.chains k n p → KindMayFollow n.kind moves → PlannedMayFollow moves p
   planned_may Reads moves is may = absurd (subst (λ (t : Kind). KindMayFollow t moves) is.kind_is may)
   planned_may (Writes shape) moves is may = absurd (file_sink_free n.kind moves is.is_sink may)
   planned_may (Works w) moves is may = work_may w moves is may
 
   -- what it is handed it may follow
-  pub led_may : (p : Planned S D L B) (moves : Option (Vec ℕ Global)) → IsFreePlan around.chains k n p → PlanFits n.kind (moves_of moves) → IfSome moves (λ m. PlannedMayFollow m.items p × (vec_len m < 2 ^ 32))
+  pub led_may : (p : Planned S D L H B) (moves : Option (Vec ℕ Global)) → IsFreePlan around.chains k n p → PlanFits n.kind (moves_of moves) → IfSome moves (λ m. PlannedMayFollow m.items p × (vec_len m < 2 ^ 32))
   led_may p None is fits = tt
   led_may p (Some m) is fits = (planned_may p m.items is fits.1, subst (λ (many : ℕ). many < 2 ^ 32) (sym m.ok.0) fits.0)
 
-  followed_work : (old new : Work S D L B) (moves : List ℕ) → IsFreeWork around.chains k n.kind n.decider old → WorkFollows moves old new → IsLedWork around.chains k n.kind n.decider new
+  followed_work : (old new : Work S D L H B) (moves : List ℕ) → IsFreeWork around.chains k n.kind n.decider old → WorkFollows moves old new → IsLedWork around.chains k n.kind n.decider new
   followed_work (work.State l) (work.State m) moves is f = record { is_state = is.is_state; begins = record { as_kind = (state_leads n.kind k n.decider l m moves is.begins.as_kind f.0).as_kind; fresh = f.1 } }
   followed_work (work.Sub l) (work.Sub m) moves is f =
       let b = f.0 k n.kind l.logic.chain is.begins in
@@ -307,26 +307,26 @@ module _ {S D L B : Type 0} (around : Around) (k : ℕ) (n : Node) where
   followed_work old new moves is f = absurd f
 
   -- the ports of one that follows moves are those of its kind
-  followed_ports : (old new : Work S D L B) (moves : List ℕ) → WorkFollows moves old new → HasUsedPorts around.wires n new
+  followed_ports : (old new : Work S D L H B) (moves : List ℕ) → WorkFollows moves old new → HasUsedPorts around.wires n new
   followed_ports (work.State l) (work.State m) moves f = tt
   followed_ports (work.Sub l) (work.Sub m) moves f = tt
   followed_ports (work.FanIn l inputs) (work.FanIn m same) moves f = tt
   followed_ports (work.FanOut l outputs) (work.FanOut m same) moves f = tt
   followed_ports old new moves f = absurd f
 
-  pub followed_plan : (old new : Planned S D L B) (moves : Option (List ℕ)) → IsPlanned around k n old → PlannedFollows moves old new → IsLedPlan around k n new
+  pub followed_plan : (old new : Planned S D L H B) (moves : Option (List ℕ)) → IsPlanned around k n old → PlannedFollows moves old new → IsLedPlan around k n new
   followed_plan old new None is f = subst (IsLedPlan around k n) (sym f) (led_plan old is)
   followed_plan (Works old) (Works new) (Some moves) is f = record { work = followed_work old new moves is.work f; ports = followed_ports old new moves f; no_input = is.no_input; no_output = is.no_output }
   followed_plan old new (Some moves) is f = absurd f
 
-  follows_work : (old new : Work S D L B) (moves : List ℕ) → IsFreeWork around.chains k n.kind n.decider old → WorkFollows moves old new → work_plan new ≡ Some moves
+  follows_work : (old new : Work S D L H B) (moves : List ℕ) → IsFreeWork around.chains k n.kind n.decider old → WorkFollows moves old new → work_plan new ≡ Some moves
   follows_work (work.State l) (work.State m) moves is f = (state_leads n.kind k n.decider l m moves is.begins.as_kind f.0).plan
   follows_work (work.Sub l) (work.Sub m) moves is f = f.1
   follows_work (work.FanIn l inputs) (work.FanIn m same) moves is f = f.1.1
   follows_work (work.FanOut l outputs) (work.FanOut m same) moves is f = f.1.1
   follows_work old new moves is f = absurd f
 
-  pub follows_plan : (old new : Planned S D L B) (moves : Option (List ℕ)) → IsFreePlan around.chains k n old → PlannedFollows moves old new → plan_of_planned new ≡ moves
+  pub follows_plan : (old new : Planned S D L H B) (moves : Option (List ℕ)) → IsFreePlan around.chains k n old → PlannedFollows moves old new → plan_of_planned new ≡ moves
   follows_plan old new None is f = ap plan_of_planned f ∙ bare_plan old is
   follows_plan (Works old) (Works new) (Some moves) is f = follows_work old new moves is f
   follows_plan old new (Some moves) is f = absurd f
@@ -338,27 +338,27 @@ state_seat_stays moves (Recovering l) (Recovering m) f = refl
 state_seat_stays moves (Obeying l) (Obeying m) f = ap (λ (x : Valve). Some x.seat) f
 state_seat_stays moves old new f = absurd f
 
-work_seat_stays : {S D L B : Type 0} (moves : List ℕ) (old new : Work S D L B) → WorkFollows moves old new → work_seat new ≡ work_seat old
+work_seat_stays : {S D L H B : Type 0} (moves : List ℕ) (old new : Work S D L H B) → WorkFollows moves old new → work_seat new ≡ work_seat old
 work_seat_stays moves (work.State l) (work.State m) f = state_seat_stays moves l m f.0
 work_seat_stays moves (work.Sub l) (work.Sub m) f = refl
 work_seat_stays moves (work.FanIn l inputs) (work.FanIn m same) f = refl
 work_seat_stays moves (work.FanOut l outputs) (work.FanOut m same) f = refl
 work_seat_stays moves old new f = absurd f
 
-pub seat_stays : {S D L B : Type 0} (moves : Option (List ℕ)) (old new : Planned S D L B) → PlannedFollows moves old new → seat_of_plan new ≡ seat_of_plan old
+pub seat_stays : {S D L H B : Type 0} (moves : Option (List ℕ)) (old new : Planned S D L H B) → PlannedFollows moves old new → seat_of_plan new ≡ seat_of_plan old
 seat_stays None old new f = ap seat_of_plan f
 seat_stays (Some moves) (Works old) (Works new) f = work_seat_stays moves old new f
 seat_stays (Some moves) old new f = absurd f
 
 -- the types of a custom stage stay
-work_types_stay : {S D L B : Type 0} (moves : List ℕ) (old new : Work S D L B) → WorkFollows moves old new → work_types new ≡ work_types old
+work_types_stay : {S D L H B : Type 0} (moves : List ℕ) (old new : Work S D L H B) → WorkFollows moves old new → work_types new ≡ work_types old
 work_types_stay moves (work.State l) (work.State m) f = refl
 work_types_stay moves (work.Sub l) (work.Sub m) f = refl
 work_types_stay moves (work.FanIn l inputs) (work.FanIn m same) f = refl
 work_types_stay moves (work.FanOut l outputs) (work.FanOut m same) f = refl
 work_types_stay moves old new f = absurd f
 
-pub types_stay : {S D L B : Type 0} (moves : Option (List ℕ)) (old new : Planned S D L B) → PlannedFollows moves old new → types_of_planned new ≡ types_of_planned old
+pub types_stay : {S D L H B : Type 0} (moves : Option (List ℕ)) (old new : Planned S D L H B) → PlannedFollows moves old new → types_of_planned new ≡ types_of_planned old
 types_stay None old new f = ap types_of_planned f
 types_stay (Some moves) (Works old) (Works new) f = work_types_stay moves old new f
 types_stay (Some moves) old new f = absurd f

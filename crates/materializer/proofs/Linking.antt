@@ -56,7 +56,7 @@ at_port place port a b n (w ∷ ws) k h =
     record { at = suc r.at; wire = r.wire; is = r.is; number = let e : k ≡ n + 1 + r.at = r.number in omega (arith, e); place_is = r.place_is; port_is = r.port_is })
     (cases_Bool ((place w == a) && (port w == b)))
 
-module _ {S D L B : Type 0} (nodes : List Node) (ws : List Edge) (around : Around) (ss : List S) (ds : List D) (places : List (Seated S D L B))
+module _ {S D L H B : Type 0} (nodes : List Node) (ws : List Edge) (around : Around) (ss : List S) (ds : List D) (places : List (Seated S D L H B))
     (j : IsJoined (record { nodes = map (graph_node around.wires) nodes; wires = ws; chains = around.chains })) (a : AreSeats around 0 nodes ss ds places) where
   abbrev ends : List WireEnds
   ends = map wire_ends ws

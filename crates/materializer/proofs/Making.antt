@@ -4,7 +4,6 @@ use Rattle.std.specs.Prelude.{slice_get}
 use Rattle.std.specs.List.{All}
 use Rattle.std.proofs.lemmas.List.{length-map}
 use Rattle.std.proofs.lemmas.Option.{slice_get_within, get_or_from_slice_get}
-use Rattle.stream_model.specs.Graph as graph
 use Rattle.stream_model.specs.declared.kind.Kind.{Kind}
 use Rattle.stream_model.specs.declared.kind.Kind.TheVariants as kind
 use Rattle.stream_io.specs.State.{SourceState}
@@ -43,8 +42,8 @@ module _ {S : Type 0} (sources : S → SourceState) where
 next_is : {S : Type 0} (k : Kind) (ss : List S) (s : S) (name : List ℕ) → k ≡ kind.Lines name → handle_of (source_file k) ss ≡ Some s → slice_get ss 0 ≡ Some s
 next_is k ss s name e h = sym (ap (λ x. handle_of (source_file x) ss) e) ∙ h
 
-module _ {S D L B : Type 0} (sources : S → SourceState) where
-  work_first : (around : Around) (k room : ℕ) (n : blue.Node) (ss : List S) (ds : List D) (w : Work S D L B) (x : IslandNode S D L B) → IsWork around k n ss ds w → BecomesOf k room w x → NoneGiven sources ss → FirstOf sources around.chains k (graph_node around.wires n) x
+module _ {S D L H B : Type 0} (sources : S → SourceState) where
+  work_first : (around : Around) (k room : ℕ) (n : blue.Node) (ss : List S) (ds : List D) (w : Work S D L H B) (x : IslandNode S D L H B) → IsWork around k n ss ds w → BecomesOf k room w x → NoneGiven sources ss → FirstOf sources around.chains k (graph_node around.wires n) x
   work_first around k room n ss ds (work.Reading r) x is b none =
       let l = reads_lines n.kind ss r.source is.source in
       subst (λ y. FirstOf sources around.chains k (graph_node around.wires n) y) (sym b) (record { name = l.0; kind_is = l.1; node = refl; kept = is.kept; given = none 0 r.source (next_is n.kind ss r.source l.0 l.1 is.source) })
@@ -54,7 +53,7 @@ module _ {S D L B : Type 0} (sources : S → SourceState) where
   work_first around k room n ss ds (work.Sub l) x is b none = subst (λ y. FirstOf sources around.chains k (graph_node around.wires n) y) (sym b) (record { is_sub = is.is_sub; begins = is.begins; line = is.line })
   work_first around k room n ss ds (work.FanIn l inputs) x is b none = subst (λ y. FirstOf sources around.chains k (graph_node around.wires n) y) (sym b) (record { is_in = is.is_in; begins = is.begins })
   work_first around k room n ss ds (work.FanOut l outputs) x is b none = subst (λ y. FirstOf sources around.chains k (graph_node around.wires n) y) (sym b) (record { is_out = is.is_out; begins = is.begins })
-  work_first around k n ss ds (work.Custom y inputs outputs) x is b none =
+  work_first around k room n ss ds (work.Custom y inputs outputs) x is b none =
       subst (λ z. FirstOf sources around.chains k (graph_node around.wires n) z) (sym b) (record {
         name = is.0.is_custom.0;
         kind_is = is.0.is_custom.1;
@@ -66,10 +65,10 @@ module _ {S D L B : Type 0} (sources : S → SourceState) where
   work_first around k room n ss ds (work.Writing shape (Some d)) x is b none = subst (λ y. FirstOf sources around.chains k (graph_node around.wires n) y) (sym b) (record { is_sink = is.is_sink; node = refl; writes = ap writes_of is.shape_is; count = refl; end = refl })
   work_first around k room n ss ds (work.Writing shape None) x is b none = subst (λ y. FirstOf sources around.chains k (graph_node around.wires n) y) (sym b) (record { kind_is = is.is_ignore; node = refl; end = refl })
 
-  seat_first : (around : Around) (k : ℕ) (n : blue.Node) (ss : List S) (ds : List D) (p : Seated S D L B) (x : IslandNode S D L B) → p.node ≡ k → IsWork around k n ss ds p.work → BecomesOf p.node p.room p.work x → NoneGiven sources ss → FirstOf sources around.chains k (graph_node around.wires n) x
+  seat_first : (around : Around) (k : ℕ) (n : blue.Node) (ss : List S) (ds : List D) (p : Seated S D L H B) (x : IslandNode S D L H B) → p.node ≡ k → IsWork around k n ss ds p.work → BecomesOf p.node p.room p.work x → NoneGiven sources ss → FirstOf sources around.chains k (graph_node around.wires n) x
   seat_first around k n ss ds p x e is b none = work_first around k p.room n ss ds p.work x is (subst (λ m. BecomesOf m p.room p.work x) e b) none
 
-  pub seats_first : (around : Around) (k : ℕ) (ns : List blue.Node) (ss : List S) (ds : List D) (ps : List (Seated S D L B)) (xs : List (IslandNode S D L B)) (j : ℕ) (n : blue.Node) (x : IslandNode S D L B)
+  pub seats_first : (around : Around) (k : ℕ) (ns : List blue.Node) (ss : List S) (ds : List D) (ps : List (Seated S D L H B)) (xs : List (IslandNode S D L H B)) (j : ℕ) (n : blue.Node) (x : IslandNode S D L H B)
       → AreSeats around k ns ss ds ps → AllBecome ps xs → NoneGiven sources ss → slice_get ns j ≡ Some n → slice_get xs j ≡ Some x → FirstOf sources around.chains (k + j) (graph_node around.wires n) x
   seats_first around k [] ss ds ps xs j n x a b none at is = absurd cc
   seats_first around k (m ∷ ns) ss ds [] xs j n x a b none at is = absurd a
@@ -88,7 +87,7 @@ module _ {S D L B : Type 0} (sources : S → SourceState) where
 none_given : {S : Type 0} (sources : S → SourceState) (ss : List S) → All (λ s. (sources s).given ≡ 0) ss → NoneGiven sources ss
 none_given sources ss all i s at = subst (λ x. (sources x).given ≡ 0) (get_or_from_slice_get ss i s s at) (all i s (slice_get_within ss i s at))
 
-module _ {S D L B : Type 0} (sources : S → SourceState) (b : Blueprint) (ss : List S) (ds : List D) (places : List (Seated S D L B)) (firsts : List (IslandNode S D L B)) where
+module _ {S D L H B : Type 0} (sources : S → SourceState) (b : Blueprint) (ss : List S) (ds : List D) (places : List (Seated S D L H B)) (firsts : List (IslandNode S D L H B)) where
   pub are_firsts : AreSeats (around_of b) 0 b.nodes.items ss ds places → AllBecome places firsts → All (λ s. (sources s).given ≡ 0) ss → AreFirsts sources (chains_of b) (graph_of b).nodes firsts
   are_firsts a all given = record {
     many = same_count places firsts all ∙ seats_count (around_of b) 0 b.nodes.items ss ds places a ∙ sym (length-map b.nodes.items (graph_node b.wires.items));

@@ -137,10 +137,10 @@ fan_in_no_file k name h e = file_apart IsFanIn (λ _ i. i) (λ _ i. i) (λ _ i. 
 pub fan_out_no_file : (k : Kind) (name : List ℕ) → IsOut k → output_of k ≡ Some name → ⊥
 fan_out_no_file k name h e = file_apart IsOut (λ _ i. i) (λ _ i. i) (λ _ i. i) k name h e
 
-module _ {S D L B : Type 0} where
+module _ {S D L H B : Type 0} where
   -- ---- works
 
-  pub work_ports : (around : Around) (k : ℕ) (n : Node) (ss : List S) (ds : List D) (w : Work S D L B) → IsWork around k n ss ds w
+  pub work_ports : (around : Around) (k : ℕ) (n : Node) (ss : List S) (ds : List D) (w : Work S D L H B) → IsWork around k n ss ds w
       → (work_inputs w ≡ inputs_by (used_ports around.wires n.name) n.kind) × (work_outputs w ≡ outputs_by (used_ports around.wires n.name) n.kind)
   work_ports around k n ss ds (work.Reading r) is =
       let u = used_ports around.wires n.name in
@@ -164,7 +164,7 @@ module _ {S D L B : Type 0} where
       let u = used_ports around.wires n.name in
       (sym (ap (inputs_by u) is.is_ignore), sym (ap (outputs_by u) is.is_ignore))
 
-  work_unused : (around : Around) (k : ℕ) (n : Node) (ss : List S) (ds : List D) (w : Work S D L B) → IsWork around k n ss ds w → IsUnused w
+  work_unused : (around : Around) (k : ℕ) (n : Node) (ss : List S) (ds : List D) (w : Work S D L H B) → IsWork around k n ss ds w → IsUnused w
   work_unused around k n ss ds (work.Reading r) is = is.kept
   work_unused around k n ss ds (work.Making shape) is = subst IsMaker (sym is.shape_is) is.is_maker
   work_unused around k n ss ds (work.Linear l) is = let b = is.begins in record { phase = b.phase; ports = rw b.phase b.ready }
@@ -186,19 +186,19 @@ module _ {S D L B : Type 0} where
 
   -- ---- places
 
-  pub seats_count : (around : Around) (k : ℕ) (ns : List Node) (ss : List S) (ds : List D) (ps : List (Seated S D L B)) → AreSeats around k ns ss ds ps → length ps ≡ length ns
+  pub seats_count : (around : Around) (k : ℕ) (ns : List Node) (ss : List S) (ds : List D) (ps : List (Seated S D L H B)) → AreSeats around k ns ss ds ps → length ps ≡ length ns
   seats_count around k [] ss ds [] a = refl
   seats_count around k [] ss ds (p ∷ ps) a = absurd a
   seats_count around k (n ∷ ns) ss ds [] a = absurd a
   seats_count around k (n ∷ ns) ss ds (p ∷ ps) a = ap suc (seats_count around (k + 1) ns _ _ ps a.1.1)
 
-  pub seats_unused : (around : Around) (k : ℕ) (ns : List Node) (ss : List S) (ds : List D) (ps : List (Seated S D L B)) → AreSeats around k ns ss ds ps → AllUnused ps
+  pub seats_unused : (around : Around) (k : ℕ) (ns : List Node) (ss : List S) (ds : List D) (ps : List (Seated S D L H B)) → AreSeats around k ns ss ds ps → AllUnused ps
   seats_unused around k [] ss ds [] a = tt
   seats_unused around k [] ss ds (p ∷ ps) a = absurd a
   seats_unused around k (n ∷ ns) ss ds [] a = absurd a
   seats_unused around k (n ∷ ns) ss ds (p ∷ ps) a = (work_unused around k n ss ds p.work a.1.0, seats_unused around (k + 1) ns _ _ ps a.1.1)
 
-  pub seats_ports : (around : Around) (k : ℕ) (ns : List Node) (ss : List S) (ds : List D) (ps : List (Seated S D L B)) (j : ℕ) (n : Node) → AreSeats around k ns ss ds ps → slice_get ns j ≡ Some n
+  pub seats_ports : (around : Around) (k : ℕ) (ns : List Node) (ss : List S) (ds : List D) (ps : List (Seated S D L H B)) (j : ℕ) (n : Node) → AreSeats around k ns ss ds ps → slice_get ns j ≡ Some n
       → (inputs_at ps j ≡ inputs_by (used_ports around.wires n.name) n.kind) × (outputs_at ps j ≡ outputs_by (used_ports around.wires n.name) n.kind)
   seats_ports around k [] ss ds ps j n a at = absurd cc
   seats_ports around k (m ∷ ns) ss ds [] j n a at = absurd a

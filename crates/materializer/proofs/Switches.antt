@@ -62,19 +62,23 @@ at_switch_writes_none (TripShutdown name n) e h = refl
 at_switch_writes_none (TripAbort name n) e h = refl
 at_switch_writes_none kind e h = absurd (none_some (sym h))
 
--- what is to stand at the place of a node that is handed something
 -- only a custom stage has ports that its wires have to use
-pub no_custom_ports : {S D L B : Type 0} (wires : List WireDecl) (node : Node) (chains : List graph.Chain) (k : ℕ) (kind : Kind) (d : Decider) (w : Work S D L B) → custom_of kind ≡ None → IsFreeWork chains k kind d w → HasUsedPorts wires node w
+no_custom_ports : {S D L H B : Type 0} (wires : List WireDecl) (node : Node) (chains : List graph.Chain) (k : ℕ) (kind : Kind) (d : Decider) (w : Work S D L H B) → custom_of kind ≡ None → IsFreeWork chains k kind d w → HasUsedPorts wires node w
 no_custom_ports wires node chains k kind d (work.Custom x inputs outputs) own free = absurd (none_some (sym own ∙ ap custom_of free.is_custom.1))
 no_custom_ports wires node chains k kind d w own free = tt
 
-pub plans_at_switch : {S D L B : Type 0} (around : Around) (k : ℕ) (kind : Kind) (d : Decider) (e : SwitchEnd) (w : Work S D L B) → IsHandedAt (switch_of kind) (Some e) → custom_of kind ≡ None → IsFreeWork around.chains k kind d w → (node : Node) → node.kind ≡ kind → node.decider ≡ d → IsPlanned around k node (Works w)
-plans_at_switch around k kind d e w h own free node is same = record {
+-- what is to stand at the place of a node that has no file and names no custom stage
+pub plans_free : {S D L H B : Type 0} (around : Around) (k : ℕ) (kind : Kind) (d : Decider) (w : Work S D L H B) → source_file kind ≡ None → output_of kind ≡ None → custom_of kind ≡ None → IsFreeWork around.chains k kind d w → (node : Node) → node.kind ≡ kind → node.decider ≡ d → IsPlanned around k node (Works w)
+plans_free around k kind d w reads writes own free node is same = record {
   work = subst (λ x. IsFreeWork around.chains k x node.decider w) (sym is) (subst (λ x. IsFreeWork around.chains k kind x w) (sym same) free);
   ports = no_custom_ports around.wires node around.chains k kind d w own free;
-  no_input = ap source_file is ∙ at_switch_reads_none kind e h;
-  no_output = ap output_of is ∙ at_switch_writes_none kind e h;
+  no_input = ap source_file is ∙ reads;
+  no_output = ap output_of is ∙ writes;
 }
+
+-- what is to stand at the place of a node that is handed something
+pub plans_at_switch : {S D L H B : Type 0} (around : Around) (k : ℕ) (kind : Kind) (d : Decider) (e : SwitchEnd) (w : Work S D L H B) → IsHandedAt (switch_of kind) (Some e) → custom_of kind ≡ None → IsFreeWork around.chains k kind d w → (node : Node) → node.kind ≡ kind → node.decider ≡ d → IsPlanned around k node (Works w)
+plans_at_switch around k kind d e w h own free = plans_free around k kind d w (at_switch_reads_none kind e h) (at_switch_writes_none kind e h) own free
 
 -- the first of the nodes that are left
 abbrev pub kinds_of : List Node → List Kind

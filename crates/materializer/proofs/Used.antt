@@ -90,12 +90,12 @@ record IsCalled (name : List ℕ) (from : ℕ) (ns : List Node) : Type 0 where
 
 called_at : (name : List ℕ) (from : ℕ) (ns : List Node) → is_named name (map (λ m. m.name) ns) ≡ true → IsCalled name from ns
 called_at name from [] h = absurd cc
-called_at name from (x ∷ xs) h = by (same_text name x.name) refl h
+called_at name from (x ∷ xs) h = by (same_text name x.name) refl h (called_at name (from + 1) xs)
   where
-    by : (b : Bool) → same_text name x.name ≡ b → (b || is_named name (map (λ (m : Node). m.name) xs)) ≡ true → IsCalled name from (x ∷ xs)
-    by true e i = let z : from ≡ from + 0 = omega arith in record { at = 0; node = x; there = refl; is = sym (name_same name x.name e); number = rw e (ap Some z) }
-    by false e i =
-        let r = called_at name (from + 1) xs i in
+    by : (b : Bool) → same_text name x.name ≡ b → (b || is_named name (map (λ (m : Node). m.name) xs)) ≡ true → (is_named name (map (λ (m : Node). m.name) xs) ≡ true → IsCalled name (from + 1) xs) → IsCalled name from (x ∷ xs)
+    by true e i rest = let z : from ≡ from + 0 = omega arith in record { at = 0; node = x; there = refl; is = sym (name_same name x.name e); number = rw e (ap Some z) }
+    by false e i rest =
+        let r = rest i in
         let z : from + 1 + r.at ≡ from + suc r.at = omega arith in
         record { at = suc r.at; node = r.node; there = r.there; is = r.is; number = rw e (r.number ∙ ap Some z) }
 
@@ -147,15 +147,16 @@ record IsAtPort (place port : Edge → ℕ) (node p from : ℕ) (ws : List Edge)
 
 at_port : (place port : Edge → ℕ) (node p from : ℕ) (ws : List Edge) (i : ℕ) → find_by place port node p from ws ≡ Some i → IsAtPort place port node p from ws i
 at_port place port node p from [] i h = absurd cc
-at_port place port node p from (w ∷ ws) i h = by ((place w == node) && (port w == p)) refl h
+at_port place port node p from (w ∷ ws) i h = by ((place w == node) && (port w == p)) refl h (at_port place port node p (from + 1) ws i)
   where
-    by : (b : Bool) → ((place w == node) && (port w == p)) ≡ b → (if b then Some from else find_by place port node p (from + 1) ws) ≡ Some i → IsAtPort place port node p from (w ∷ ws) i
-    by true e f =
+    by : (b : Bool) → ((place w == node) && (port w == p)) ≡ b → (if b then Some from else find_by place port node p (from + 1) ws) ≡ Some i
+        → (find_by place port node p (from + 1) ws ≡ Some i → IsAtPort place port node p (from + 1) ws i) → IsAtPort place port node p from (w ∷ ws) i
+    by true e f rest =
         let parts = and_parts (place w == node) (port w == p) e in
         let same : from ≡ i = cc in
         record { past = 0; number = omega (arith, same); wire = w; at = refl; leads = eqb-true (place w) node parts.0; joins = eqb-true (port w) p parts.1 }
-    by false e f =
-        let r = at_port place port node p (from + 1) ws i f in
+    by false e f rest =
+        let r = rest f in
         let n = r.number in
         record { past = suc r.past; number = omega (arith, n); wire = r.wire; at = r.at; leads = r.leads; joins = r.joins }
 
@@ -164,11 +165,12 @@ at_port place port node p from (w ∷ ws) i h = by ((place w == node) && (port w
 -- a custom stage that is handed in has a head
 head_there : (name : List ℕ) (cs : List CustomShape) → is_named name (map (λ c. c.name) cs) ≡ true → is_none (named (λ (c : CustomShape). c.name) name cs) ≡ false
 head_there name [] h = absurd cc
-head_there name (c ∷ cs) h = by (same_text name c.name) refl h
+head_there name (c ∷ cs) h = by (same_text name c.name) refl h (head_there name cs)
   where
-    by : (b : Bool) → same_text name c.name ≡ b → (b || is_named name (map (λ (d : CustomShape). d.name) cs)) ≡ true → is_none (if same_text name c.name then Some c else named (λ (d : CustomShape). d.name) name cs) ≡ false
-    by true e i = rw e refl
-    by false e i = rw e (head_there name cs i)
+    by : (b : Bool) → same_text name c.name ≡ b → (b || is_named name (map (λ (d : CustomShape). d.name) cs)) ≡ true
+        → (is_named name (map (λ (d : CustomShape). d.name) cs) ≡ true → is_none (named (λ (d : CustomShape). d.name) name cs) ≡ false) → is_none (if same_text name c.name then Some c else named (λ (d : CustomShape). d.name) name cs) ≡ false
+    by true e i rest = rw e refl
+    by false e i rest = rw e (rest i)
 
 has_head : (heads : HeadLists) (o : Option (List ℕ)) → unknown_plug_at (map (λ c. c.name) heads.customs) o ≡ None → lacks_head o (option_and_then (custom_named heads) o) ≡ false
 has_head heads None h = refl
@@ -254,7 +256,8 @@ module _ (b : Blueprint) (heads : HeadLists) (taken : List (List ℕ)) (fit : Is
   number k n at =
       let switches = behind_claims _ (map called b.switches.items) _ (facts b heads taken fit).named in
       let chains = behind_claims switches.0 (map (λ c. called c.name) b.chains.items) (claims_of_nodes nodes) switches.1 in
-      ap (λ o. unwrap_or o 0) (number_is 0 chains.0 nodes chains.1 k n at)
+      let z : 0 + k ≡ k = omega arith in
+      ap (λ o. unwrap_or o 0) (number_is 0 chains.0 nodes chains.1 k n at) ∙ z
 
   ends : (i : ℕ) (w : WireDecl) → slice_get decls i ≡ Some w → IsCalled w.from 0 nodes × IsCalled w.to 0 nodes
   ends i w at =
@@ -289,7 +292,8 @@ module _ (b : Blueprint) (heads : HeadLists) (taken : List (List ℕ)) (fit : Is
   -- the name at the end of a wire that leads to a node is its own
   end_is : (k : ℕ) (n : Node) (name : List ℕ) → slice_get nodes k ≡ Some n → IsCalled name 0 nodes → node_number name nodes ≡ k → same_text n.name name ≡ true
   end_is k n name at c e =
-      let here : node_number name nodes ≡ c.at = ap (λ o. unwrap_or o 0) c.number in
+      let z : 0 + c.at ≡ c.at = omega arith in
+      let here : node_number name nodes ≡ c.at = ap (λ o. unwrap_or o 0) c.number ∙ z in
       let same : c.node ≡ n = some_same c.node n (sym c.there ∙ ap (slice_get nodes) (sym here ∙ e) ∙ at) in
       same_name n.name name (ap (λ (x : Node). x.name) (sym same) ∙ c.is)
 

@@ -136,7 +136,7 @@ pub record WritesNone (kind shape : Kind) : Type 0 where
   pub is_ignore : kind ≡ Ignore
 
 -- the work of node k of this kind, which has no file, in a blueprint with these chains
-abbrev pub IsFreeWork : {S D L B : Type 0} → List graph.Chain → ℕ → Kind → Decider → Work S D L B → Type 0
+abbrev pub IsFreeWork : {S D L H B : Type 0} → List graph.Chain → ℕ → Kind → Decider → Work S D L H B → Type 0
 IsFreeWork chains k kind d (work.Making shape) = MakesAs kind shape
 IsFreeWork chains k kind d (work.Linear l) = Stages k kind d l
 IsFreeWork chains k kind d (work.State l) = StagesState k kind d l
@@ -148,12 +148,12 @@ IsFreeWork chains k kind d (work.Writing shape None) = WritesNone kind shape
 IsFreeWork chains k kind d _ = ⊥
 
 -- a custom stage has the ports that the wires use at its node
-abbrev pub HasUsedPorts : {S D L B : Type 0} → List WireDecl → Node → Work S D L B → Type 0
+abbrev pub HasUsedPorts : {S D L H B : Type 0} → List WireDecl → Node → Work S D L H B → Type 0
 HasUsedPorts wires n (work.Custom x inputs outputs) = used_ports wires n.name ≡ (inputs, outputs)
 HasUsedPorts wires n _ = ⊤
 
 -- the same, or one that follows moves
-abbrev pub IsLedWork : {S D L B : Type 0} → List graph.Chain → ℕ → Kind → Decider → Work S D L B → Type 0
+abbrev pub IsLedWork : {S D L H B : Type 0} → List graph.Chain → ℕ → Kind → Decider → Work S D L H B → Type 0
 IsLedWork chains k kind d (work.State l) = LeadsState k kind d l
 IsLedWork chains k kind d (work.Sub l) = LeadsSub chains k kind l
 IsLedWork chains k kind d (work.FanIn l inputs) = LeadsIn k kind d l inputs
@@ -161,7 +161,7 @@ IsLedWork chains k kind d (work.FanOut l outputs) = LeadsOut k kind l outputs
 IsLedWork chains k kind d w = IsFreeWork chains k kind d w
 
 -- the moves that a work follows, where it follows some
-abbrev pub work_plan : {S D L B : Type 0} → Work S D L B → Option (List ℕ)
+abbrev pub work_plan : {S D L H B : Type 0} → Work S D L H B → Option (List ℕ)
 work_plan (work.State l) = state_plan l
 work_plan (work.Sub l) = subs.sub_plan l
 work_plan (work.FanIn l inputs) = in_plan l
@@ -169,21 +169,21 @@ work_plan (work.FanOut l outputs) = out_plan l
 work_plan w = None
 
 -- the types of the outputs of a work, where it is a custom stage
-abbrev pub work_types : {S D L B : Type 0} → Work S D L B → Option (List Sort)
+abbrev pub work_types : {S D L H B : Type 0} → Work S D L H B → Option (List Sort)
 work_types (work.Custom x inputs outputs) = Some x.types
 work_types w = None
 
 -- Choice: docs/DECISIONS.md#types-go-along
 -- the types of the outputs of what stands at a place, where it is a custom stage
-abbrev pub place_types : {S D L B : Type 0} → Seated S D L B → Option (List Sort)
+abbrev pub place_types : {S D L H B : Type 0} → Seated S D L H B → Option (List Sort)
 place_types p = work_types p.work
 
 -- the moves that what stands at a place follows
-abbrev pub place_plan : {S D L B : Type 0} → Seated S D L B → Option (List ℕ)
+abbrev pub place_plan : {S D L H B : Type 0} → Seated S D L H B → Option (List ℕ)
 place_plan p = work_plan p.work
 
 -- a new work may follow these moves
-abbrev pub WorkMayFollow : {S D L B : Type 0} → List ℕ → Work S D L B → Type 0
+abbrev pub WorkMayFollow : {S D L H B : Type 0} → List ℕ → Work S D L H B → Type 0
 WorkMayFollow moves (work.State l) = StateMayFollow moves l
 WorkMayFollow moves (work.Sub l) = l.logic.moves ≡ Some []
 WorkMayFollow moves (work.FanIn l inputs) = fan_in.MayFollow moves l
@@ -191,7 +191,7 @@ WorkMayFollow moves (work.FanOut l outputs) = fan_out.OutMayFollow moves l
 WorkMayFollow moves w = ⊥
 
 -- it is the same, but follows these moves
-abbrev pub WorkFollows : {S D L B : Type 0} → List ℕ → Work S D L B → Work S D L B → Type 0
+abbrev pub WorkFollows : {S D L H B : Type 0} → List ℕ → Work S D L H B → Work S D L H B → Type 0
 WorkFollows moves (work.State old) (work.State new) = StateFollows moves old new × state.StateFresh new unpulled_ports
 WorkFollows moves (work.Sub old) (work.Sub new) =
     ((node : ℕ) (kind : Kind) (chain : Line) → led_sub.LedBegins line_rest line_is_open node kind chain old
@@ -204,14 +204,14 @@ WorkFollows moves (work.FanOut old outputs) (work.FanOut new same) =
 WorkFollows moves old new = ⊥
 
 -- the work of node k, where these sources and drains are left, in a blueprint with these chains and wires
-abbrev pub IsWork : {S D L B : Type 0} → Around → ℕ → Node → List S → List D → Work S D L B → Type 0
+abbrev pub IsWork : {S D L H B : Type 0} → Around → ℕ → Node → List S → List D → Work S D L H B → Type 0
 IsWork around k n sources drains (work.Reading r) = ReadsNext n sources r
 IsWork around k n sources drains (work.Writing shape (Some d)) = WritesNext n drains shape d
 IsWork around k n sources drains (work.Custom x inputs outputs) = StagesCustom k n.kind x inputs outputs × (used_ports around.wires n.name ≡ (inputs, outputs))
 IsWork around k n sources drains w = IsLedWork around.chains k n.kind n.decider w
 
 -- these nodes of a blueprint with these chains and wires, of which the first is node k, each at its place; in their order they take the sources and the drains
-abbrev pub AreSeats : {S D L B : Type 0} → Around → ℕ → List Node → List S → List D → List (Seated S D L B) → Type 0
+abbrev pub AreSeats : {S D L H B : Type 0} → Around → ℕ → List Node → List S → List D → List (Seated S D L H B) → Type 0
 AreSeats around k [] sources drains [] = ⊤
 AreSeats around k (n ∷ ns) sources drains (p ∷ ps) =
     (p.node ≡ k) × (IsWork around k n sources drains p.work × AreSeats around (k + 1) ns (handles_left (source_file n.kind) sources)
@@ -219,16 +219,16 @@ AreSeats around k (n ∷ ns) sources drains (p ∷ ps) =
 AreSeats around k _ sources drains _ = ⊥
 
 -- the seat at its switch that a work has, where it is that of a valve or a trip
-abbrev pub work_seat : {S D L B : Type 0} → Work S D L B → Option SeatState
+abbrev pub work_seat : {S D L H B : Type 0} → Work S D L H B → Option SeatState
 work_seat (work.State l) = state_seat l
 work_seat _ = None
 
 -- the seat at its switch that stands at a place, where it is that of a valve or a trip
-abbrev pub place_seat : {S D L B : Type 0} → Seated S D L B → Option SeatState
+abbrev pub place_seat : {S D L H B : Type 0} → Seated S D L H B → Option SeatState
 place_seat p = work_seat p.work
 
 -- how many lines what stands at a place may put together
-abbrev pub place_room : {S D L B : Type 0} → Seated S D L B → ℕ
+abbrev pub place_room : {S D L H B : Type 0} → Seated S D L H B → ℕ
 place_room p = p.room
 
 -- how many lines a sink may put together: behind a lane half as many as it has places, but at least one; and one where there is no lane

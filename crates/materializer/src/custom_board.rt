@@ -7,10 +7,11 @@ ghost use Rattle.materializer.specs.HandedCustoms.{custom_names, custom_place, I
 use blue_names::custom_ports::custom_of;
 use elem_core::line::Line;
 use graph_stage::custom::Custom;
+use graph_stage::handlers::Handlers;
 use stream_model::kind::Kind;
 
 /// The place of the first custom stage of that name.
-fn custom_place(customs: &[Custom], name: &Line) -> Option<usize>
+fn custom_place<H: Handlers>(customs: &[Custom<H>], name: &Line) -> Option<usize>
     ensures { result ≡ custom_place name.now customs.now }
 {
     for (k, custom) in customs.iter().enumerate() {
@@ -22,7 +23,7 @@ fn custom_place(customs: &[Custom], name: &Line) -> Option<usize>
 }
 
 /// Takes a custom stage of that name out of those that are left.
-fn take_custom(customs: &mut Vec<Custom>, name: &Line) -> Custom
+fn take_custom<H: Handlers>(customs: &mut Vec<Custom<H>>, name: &Line) -> Custom<H>
     requires { is_named name.now (custom_names customs.old.items) ≡ true }
     ensures { IsTakenCustom name.now customs.old.items result customs.new.items }
 {
@@ -33,7 +34,10 @@ fn take_custom(customs: &mut Vec<Custom>, name: &Line) -> Custom
 }
 
 /// What a node of this kind is handed out of the custom stages that are left.
-pub(crate) fn hand_custom(kind: &Kind, customs: &mut Vec<Custom>) -> Option<Custom>
+pub(crate) fn hand_custom<H: Handlers>(
+    kind: &Kind,
+    customs: &mut Vec<Custom<H>>,
+) -> Option<Custom<H>>
     requires { unknown_plug_at (custom_names customs.old.items) (custom_of kind.now) ≡ None }
     ensures { IsHandedCustom (custom_of kind.now) customs.old.items result customs.new.items }
 {

@@ -5,6 +5,7 @@ ghost use Rattle.stream_model.specs.Known.{head_shape};
 use elem_core::elem_type::ElemType;
 use elem_core::why::NoMemory;
 use graph_stage::custom::Custom;
+use graph_stage::handlers::Handlers;
 use plug_logic::logic::Logic;
 use plug_logic::plug::Plug;
 use std::alloc::Global;
@@ -37,7 +38,10 @@ fn copies_of(alloc: Global, types: &[ElemType]) -> Result<Vec<ElemType>, NoMemor
 }
 
 /// What blueprints have to know of these custom stages, in their order.
-pub fn custom_heads_of(alloc: Global, customs: &[Custom]) -> Result<Vec<CustomHead>, NoMemory>
+pub fn custom_heads_of<H: Handlers>(
+    alloc: Global,
+    customs: &[Custom<H>],
+) -> Result<Vec<CustomHead>, NoMemory>
     ensures { IfOk result (λ heads. map head_shape heads.items ≡ map (λ c. head_shape c.head) customs.now) }
 {
     let mut heads = Vec::new(alloc);

@@ -17,6 +17,7 @@ ghost use Rattle.materializer.specs.Handed.{ReadsSourceFile, WritesFile, WritesN
 ghost use Rattle.stream_model.specs.Joined.{IsJoined};
 ghost use Rattle.materializer.specs.Seats.{AreSeats};
 
+use graph_stage::handlers::Handlers;
 use plug_logic::book::PlugBook;
 use plug_logic::logic::Logic;
 use stream_io::outside::{Drain, Source};
@@ -31,8 +32,8 @@ pub fn fit_blueprints_are_whole()
 
 /// Where no source has handed out a byte, the nodes at the places of a blueprint, as they are handed in, are those of its graph,
 /// each in its order, whether wires or lanes join them.
-pub fn parts_are_made_of_their_blueprint<S: Source, D: Drain, L: Logic, B: PlugBook>()
-    ensures { (b : Blueprint) (sources : List S) (drains : List D) (places : List (Seated S D L B)) (firsts : List (IslandNode S D L B))
+pub fn parts_are_made_of_their_blueprint<S: Source, D: Drain, L: Logic, H: Handlers, B: PlugBook>()
+    ensures { (b : Blueprint) (sources : List S) (drains : List D) (places : List (Seated S D L H B)) (firsts : List (IslandNode S D L H B))
         → AreSeats (around_of b) 0 b.nodes.items sources drains places
         → AllBecome places firsts → All (λ s. (S.state s).given ≡ 0) sources → AreFirsts S.state (chains_of b) (graph_of b).nodes firsts }
 {}
@@ -40,20 +41,20 @@ pub fn parts_are_made_of_their_blueprint<S: Source, D: Drain, L: Logic, B: PlugB
 /// Each source of lines reads the source that was handed in for its file (`sources`), and each sink of lines writes the drain
 /// that was handed in for its file (`drains`), as every other sink with a file does (`files`). A sink that keeps nothing holds
 /// none (`ignores`).
-pub fn parts_hold_their_files<S: Source, D: Drain, L: Logic, B: PlugBook>()
-    ensures sources { (around : Around) (nodes : List blue.Node) (sources : List S) (drains : List D) (places : List (Seated S D L B))
-        (firsts : List (IslandNode S D L B)) → AreSeats around 0 nodes sources drains places → AllBecome places firsts
+pub fn parts_hold_their_files<S: Source, D: Drain, L: Logic, H: Handlers, B: PlugBook>()
+    ensures sources { (around : Around) (nodes : List blue.Node) (sources : List S) (drains : List D) (places : List (Seated S D L H B))
+        (firsts : List (IslandNode S D L H B)) → AreSeats around 0 nodes sources drains places → AllBecome places firsts
         → (k : ℕ) (n : blue.Node) (name : List ℕ) → slice_get nodes k ≡ Some n → n.kind ≡ kind.Lines name
         → ReadsSourceFile (inputs_of_nodes nodes) sources firsts k name }
-    ensures drains { (around : Around) (nodes : List blue.Node) (sources : List S) (drains : List D) (places : List (Seated S D L B))
-        (firsts : List (IslandNode S D L B)) → AreSeats around 0 nodes sources drains places → AllBecome places firsts
+    ensures drains { (around : Around) (nodes : List blue.Node) (sources : List S) (drains : List D) (places : List (Seated S D L H B))
+        (firsts : List (IslandNode S D L H B)) → AreSeats around 0 nodes sources drains places → AllBecome places firsts
         → (k : ℕ) (n : blue.Node) (name : List ℕ) → slice_get nodes k ≡ Some n → n.kind ≡ kind.ToLines name
         → WritesFile (outputs_of_nodes nodes) drains firsts k name }
-    ensures files { (around : Around) (nodes : List blue.Node) (sources : List S) (drains : List D) (places : List (Seated S D L B))
-        (firsts : List (IslandNode S D L B)) → AreSeats around 0 nodes sources drains places → AllBecome places firsts
+    ensures files { (around : Around) (nodes : List blue.Node) (sources : List S) (drains : List D) (places : List (Seated S D L H B))
+        (firsts : List (IslandNode S D L H B)) → AreSeats around 0 nodes sources drains places → AllBecome places firsts
         → (k : ℕ) (n : blue.Node) (name : List ℕ) → slice_get nodes k ≡ Some n → output_of n.kind ≡ Some name
         → WritesFile (outputs_of_nodes nodes) drains firsts k name }
-    ensures ignores { (around : Around) (nodes : List blue.Node) (sources : List S) (drains : List D) (places : List (Seated S D L B))
-        (firsts : List (IslandNode S D L B)) → AreSeats around 0 nodes sources drains places → AllBecome places firsts
+    ensures ignores { (around : Around) (nodes : List blue.Node) (sources : List S) (drains : List D) (places : List (Seated S D L H B))
+        (firsts : List (IslandNode S D L H B)) → AreSeats around 0 nodes sources drains places → AllBecome places firsts
         → (k : ℕ) (n : blue.Node) → slice_get nodes k ≡ Some n → n.kind ≡ kind.Ignore → WritesNoFile firsts k }
 {}

@@ -14,6 +14,7 @@ use blue_names::claims::plug_of;
 use elem_core::line::Line;
 use elem_core::why::NoMemory;
 use graph_stage::custom::Custom;
+use graph_stage::handlers::Handlers;
 use plug_logic::book::PlugBook;
 use plug_logic::logic::Logic;
 use plug_logic::plug::Plug;
@@ -56,29 +57,32 @@ fn hand<L: Logic>(kind: &Kind, plugs: &mut Vec<Plug<L>>) -> Option<Plug<L>>
 }
 
 /// What a node of this kind is handed of what the caller made.
-fn hand_guest<L: Logic>(
+fn hand_guest<L: Logic, H: Handlers>(
     kind: &Kind,
     plugs: &mut Vec<Plug<L>>,
-    customs: &mut Vec<Custom>,
-) -> Option<Guest<L>>
+    customs: &mut Vec<Custom<H>>,
+) -> Option<Guest<L, H>>
     requires plugs { unknown_plug_at (names_of plugs.old.items) (plug_of kind.now) ≡ None }
     requires customs { unknown_plug_at (custom_names customs.old.items) (custom_of kind.now) ≡ None }
     ensures { IsHandedGuest kind.now plugs.old.items customs.old.items result plugs.new.items customs.new.items }
 {
     match hand(kind, plugs) {
         Some(plug) => Some(Guest::Plug(plug)),
-        None => hand_custom(kind, customs).map(Guest::Custom),
+        None => match hand_custom(kind, customs) {
+            Some(custom) => Some(Guest::Custom(custom)),
+            None => None,
+        },
     }
 }
 
 // Choice: docs/DECISIONS.md#plugs-are-handed-out
 /// Hands each node that names a plug or a custom stage that one, in the order of nodes; what no node names is dropped.
-pub fn hand_out<L: Logic, B: PlugBook>(
+pub fn hand_out<L: Logic, H: Handlers, B: PlugBook>(
     alloc: Global,
     nodes: &[Node],
     plugs: Vec<Plug<L>>,
-    customs: Vec<Custom>,
-) -> Result<Vec<Option<Guest<L>>>, NoMemory>
+    customs: Vec<Custom<H>>,
+) -> Result<Vec<Option<Guest<L, H>>>, NoMemory>
     requires has { (wires : List WireDecl) × HasGuests (handed_heads plugs.items customs.items) wires nodes.now }
     requires keep { All (GivesAsListed L.gives B.lists) plugs.items }
     ensures guests { IfOk result (λ handed. AreGuests L.gives B.lists (map (λ n. n.kind) nodes.now) handed.items) }

@@ -31,6 +31,7 @@ use blue_names::ports::{input_ports, output_ports};
 use elem_core::count::numbered;
 use elem_core::why::{Decider, NoMemory};
 use graph_stage::custom::Custom;
+use graph_stage::handlers::Handlers;
 use graph_stage::stage::CustomStage;
 use interpreter::parts::{Seated, Work};
 use line_chain::line::LineChain;
@@ -52,21 +53,21 @@ use stream_model::kind::Kind;
 
 /// What is to stand at a place, before its handle is there.
 #[derive(Drop)]
-pub enum Planned<S: Source, D: Drain, L: Logic, B: PlugBook> {
+pub enum Planned<S: Source, D: Drain, L: Logic, H: Handlers, B: PlugBook> {
     /// A source of lines.
     Reads,
     /// A sink of this kind, which has a file.
     Writes(Kind),
     /// A work that wants no handle.
-    Works(Work<S, D, L, B>),
+    Works(Work<S, D, L, H, B>),
 }
 
 /// The same, with the number of its node in the blueprint.
 #[derive(Drop)]
-pub struct Seat<S: Source, D: Drain, L: Logic, B: PlugBook> {
+pub struct Seat<S: Source, D: Drain, L: Logic, H: Handlers, B: PlugBook> {
     pub(crate) node: u32,
     pub(crate) room: u32,
-    pub(crate) planned: Planned<S, D, L, B>,
+    pub(crate) planned: Planned<S, D, L, H, B>,
 }
 
 /// The next handle of some.
@@ -82,11 +83,11 @@ pub(crate) fn take_next<T: Drop>(handles: &mut IntoIter<T, Global>) -> T
 }
 
 /// What a linear stage does at node k.
-fn linear_work<S: Source, D: Drain, L: Logic, B: PlugBook>(
+fn linear_work<S: Source, D: Drain, L: Logic, H: Handlers, B: PlugBook>(
     k: u32,
     kind: Kind,
     decider: Decider,
-) -> Result<Work<S, D, L, B>, NoMemory>
+) -> Result<Work<S, D, L, H, B>, NoMemory>
     requires { HasTask kind }
     ensures work { IfOk result (λ w. (chains : List graph.Chain) → IsFreeWork chains k kind decider w) }
     ensures seat { IfOk result (λ w. work_seat w ≡ None) }
@@ -95,13 +96,13 @@ fn linear_work<S: Source, D: Drain, L: Logic, B: PlugBook>(
 }
 
 /// What a stage with state does at node k. A valve and a trip have this of their switch.
-fn state_work<S: Source, D: Drain, L: Logic, B: PlugBook>(
+fn state_work<S: Source, D: Drain, L: Logic, H: Handlers, B: PlugBook>(
     alloc: Global,
     k: u32,
     kind: Kind,
     decider: Decider,
     switch: Option<SwitchEnd>,
-) -> Result<Work<S, D, L, B>, NoMemory>
+) -> Result<Work<S, D, L, H, B>, NoMemory>
     requires kind { IsStateful kind }
     requires handed { IsHandedAt (switch_of kind) switch }
     ensures work { IfOk result (λ w. (chains : List graph.Chain) → IsFreeWork chains k kind decider w) }
@@ -111,13 +112,13 @@ fn state_work<S: Source, D: Drain, L: Logic, B: PlugBook>(
 }
 
 /// What a stage with substreams does at node k: each of them goes through the chain of these that it names.
-fn sub_work<S: Source, D: Drain, L: Logic, B: PlugBook>(
+fn sub_work<S: Source, D: Drain, L: Logic, H: Handlers, B: PlugBook>(
     alloc: Global,
     chains: &[ChainDecl],
     k: u32,
     kind: Kind,
     decider: Decider,
-) -> Result<Work<S, D, L, B>, NoMemory>
+) -> Result<Work<S, D, L, H, B>, NoMemory>
     requires { IsSub kind }
     ensures work { IfOk result (IsFreeWork (map graph_chain chains.now) k kind decider) }
     ensures seat { IfOk result (λ w. work_seat w ≡ None) }
@@ -128,12 +129,12 @@ fn sub_work<S: Source, D: Drain, L: Logic, B: PlugBook>(
 }
 
 /// What a stage with several inputs does at node k.
-fn fan_in_work<S: Source, D: Drain, L: Logic, B: PlugBook>(
+fn fan_in_work<S: Source, D: Drain, L: Logic, H: Handlers, B: PlugBook>(
     alloc: Global,
     k: u32,
     kind: Kind,
     decider: Decider,
-) -> Result<Work<S, D, L, B>, NoMemory>
+) -> Result<Work<S, D, L, H, B>, NoMemory>
     requires { IsFanIn kind }
     ensures work { IfOk result (λ w. (chains : List graph.Chain) → IsFreeWork chains k kind decider w) }
     ensures seat { IfOk result (λ w. work_seat w ≡ None) }
@@ -143,12 +144,12 @@ fn fan_in_work<S: Source, D: Drain, L: Logic, B: PlugBook>(
 }
 
 /// What a stage with several outputs does at node k.
-fn fan_out_work<S: Source, D: Drain, L: Logic, B: PlugBook>(
+fn fan_out_work<S: Source, D: Drain, L: Logic, H: Handlers, B: PlugBook>(
     alloc: Global,
     k: u32,
     kind: Kind,
     decider: Decider,
-) -> Result<Work<S, D, L, B>, NoMemory>
+) -> Result<Work<S, D, L, H, B>, NoMemory>
     requires { IsOut kind }
     ensures work { IfOk result (λ w. (chains : List graph.Chain) → IsFreeWork chains k kind decider w) }
     ensures seat { IfOk result (λ w. work_seat w ≡ None) }
@@ -158,13 +159,13 @@ fn fan_out_work<S: Source, D: Drain, L: Logic, B: PlugBook>(
 }
 
 /// What node k does, where it has no file, is at no switch and names no plug and no custom stage.
-fn free_work<S: Source, D: Drain, L: Logic, B: PlugBook>(
+fn free_work<S: Source, D: Drain, L: Logic, H: Handlers, B: PlugBook>(
     alloc: Global,
     chains: &[ChainDecl],
     k: u32,
     kind: Kind,
     decider: Decider,
-) -> Result<Work<S, D, L, B>, NoMemory>
+) -> Result<Work<S, D, L, H, B>, NoMemory>
     requires sized { sizes_fit kind ≡ true }
     requires no_input { source_file kind ≡ None }
     requires no_output { output_of kind ≡ None }
@@ -205,13 +206,13 @@ fn free_work<S: Source, D: Drain, L: Logic, B: PlugBook>(
 }
 
 /// What stands at the place of node k, which is at no switch and names no plug and no custom stage, and whose handle is not there yet.
-fn free_seat<S: Source, D: Drain, L: Logic, B: PlugBook>(
+fn free_seat<S: Source, D: Drain, L: Logic, H: Handlers, B: PlugBook>(
     alloc: Global,
     chains: &[ChainDecl],
     k: u32,
     kind: Kind,
     decider: Decider,
-) -> Result<Planned<S, D, L, B>, NoMemory>
+) -> Result<Planned<S, D, L, H, B>, NoMemory>
     requires sized { sizes_fit kind ≡ true }
     requires no_switch { switch_of kind ≡ None }
     requires no_plug { plug_of kind ≡ None }
@@ -229,14 +230,14 @@ fn free_seat<S: Source, D: Drain, L: Logic, B: PlugBook>(
 
 /// What is to stand at the place of node k, which names no plug and no custom stage. A valve and a trip have this of their switch.
 #[tactic(auto, using(crate::proofs::Switches::at_no_switch, crate::proofs::Switches::at_switch_keeps))]
-fn unplugged<S: Source, D: Drain, L: Logic, B: PlugBook>(
+fn unplugged<S: Source, D: Drain, L: Logic, H: Handlers, B: PlugBook>(
     alloc: Global,
     chains: &[ChainDecl],
     k: u32,
     kind: Kind,
     decider: Decider,
     switch: Option<SwitchEnd>,
-) -> Result<Planned<S, D, L, B>, NoMemory>
+) -> Result<Planned<S, D, L, H, B>, NoMemory>
     requires sized { sizes_fit kind ≡ true }
     requires handed { IsHandedAt (switch_of kind) switch }
     requires no_plug { plug_of kind ≡ None }
@@ -255,11 +256,11 @@ fn unplugged<S: Source, D: Drain, L: Logic, B: PlugBook>(
 }
 
 /// What is to stand at the place of node k, which names this plug.
-fn plugged<S: Source, D: Drain, L: Logic, B: PlugBook>(
+fn plugged<S: Source, D: Drain, L: Logic, H: Handlers, B: PlugBook>(
     k: u32,
     plug: Plug<L>,
     decider: Decider,
-) -> Planned<S, D, L, B>
+) -> Planned<S, D, L, H, B>
     requires { GivesAsListed L.gives B.lists plug }
     ensures planned { (around : Around) (node : blue.Node) → node.kind ≡ kind.Plug plug.head.name → node.decider ≡ decider
         → IsPlanned around k node result }
@@ -270,11 +271,11 @@ fn plugged<S: Source, D: Drain, L: Logic, B: PlugBook>(
 }
 
 /// What is to stand at the place of node k, which names this custom stage.
-fn hired<S: Source, D: Drain, L: Logic, B: PlugBook>(
+fn hired<S: Source, D: Drain, L: Logic, H: Handlers, B: PlugBook>(
     alloc: Global,
     k: u32,
-    custom: Custom,
-) -> Result<Planned<S, D, L, B>, NoMemory>
+    custom: Custom<H>,
+) -> Result<Planned<S, D, L, H, B>, NoMemory>
     requires { head_fits (Some (head_shape custom.head)) ≡ true }
     ensures planned { IfOk result (λ p. (around : Around) (node : blue.Node) → node.kind ≡ kind.Custom custom.head.name
         → used_ports around.wires node.name ≡ (length custom.head.inputs.items, length custom.head.outputs.items) → IsPlanned around k node p) }
@@ -290,13 +291,13 @@ fn hired<S: Source, D: Drain, L: Logic, B: PlugBook>(
 }
 
 /// What is to stand at the place of node k of this kind, which names a stage that the caller made: this one.
-fn invited<S: Source, D: Drain, L: Logic, B: PlugBook>(
+fn invited<S: Source, D: Drain, L: Logic, H: Handlers, B: PlugBook>(
     alloc: Global,
     k: u32,
     kind: Kind,
     decider: Decider,
-    guest: Guest<L>,
-) -> Result<Planned<S, D, L, B>, NoMemory>
+    guest: Guest<L, H>,
+) -> Result<Planned<S, D, L, H, B>, NoMemory>
     requires { IsGuest L.gives B.lists (plug_of kind) (custom_of kind) (Some guest) }
     ensures planned { IfOk result (λ p. (around : Around) (node : blue.Node) → node.kind ≡ kind → node.decider ≡ decider
         → HasPorts (used_ports around.wires node.name) (Some guest) → IsPlanned around k node p) }
@@ -317,15 +318,15 @@ fn invited<S: Source, D: Drain, L: Logic, B: PlugBook>(
 
 /// What is to stand at the place of node k. A valve and a trip have this of their switch, and a stage that the caller made is this
 /// guest.
-fn stand<S: Source, D: Drain, L: Logic, B: PlugBook>(
+fn stand<S: Source, D: Drain, L: Logic, H: Handlers, B: PlugBook>(
     alloc: Global,
     chains: &[ChainDecl],
     k: u32,
     kind: Kind,
     decider: Decider,
     switch: Option<SwitchEnd>,
-    guest: Option<Guest<L>>,
-) -> Result<Planned<S, D, L, B>, NoMemory>
+    guest: Option<Guest<L, H>>,
+) -> Result<Planned<S, D, L, H, B>, NoMemory>
     requires sized { sizes_fit kind ≡ true }
     requires handed { IsHandedAt (switch_of kind) switch }
     requires guest { IsGuest L.gives B.lists (plug_of kind) (custom_of kind) guest }
@@ -349,7 +350,10 @@ fn stand<S: Source, D: Drain, L: Logic, B: PlugBook>(
 }
 
 /// From now on a work that chooses follows these moves.
-fn follow<S: Source, D: Drain, L: Logic, B: PlugBook>(work: &mut Work<S, D, L, B>, moves: Vec<u32>)
+fn follow<S: Source, D: Drain, L: Logic, H: Handlers, B: PlugBook>(
+    work: &mut Work<S, D, L, H, B>,
+    moves: Vec<u32>,
+)
     requires may { WorkMayFollow moves.items work.old }
     requires few { vec_len moves < 2 ^ 32 }
     ensures { WorkFollows moves.items work.old work.new }
@@ -364,10 +368,10 @@ fn follow<S: Source, D: Drain, L: Logic, B: PlugBook>(work: &mut Work<S, D, L, B
 }
 
 /// What is to stand at a place, which follows these moves, where there are some.
-fn led<S: Source, D: Drain, L: Logic, B: PlugBook>(
-    planned: Planned<S, D, L, B>,
+fn led<S: Source, D: Drain, L: Logic, H: Handlers, B: PlugBook>(
+    planned: Planned<S, D, L, H, B>,
     moves: Option<Vec<u32>>,
-) -> Planned<S, D, L, B>
+) -> Planned<S, D, L, H, B>
     requires { IfSome moves (λ m. PlannedMayFollow m.items planned × (vec_len m < 2 ^ 32)) }
     ensures { PlannedFollows (moves_of moves) planned result }
 {
@@ -383,16 +387,16 @@ fn led<S: Source, D: Drain, L: Logic, B: PlugBook>(
 
 /// What stands at the place of node k, whose handle is not there yet. A valve and a trip have this of their switch, a stage that
 /// the caller made is this guest, and one that chooses follows these moves, where there are some.
-fn plan<S: Source, D: Drain, L: Logic, B: PlugBook>(
+fn plan<S: Source, D: Drain, L: Logic, H: Handlers, B: PlugBook>(
     alloc: Global,
     chains: &[ChainDecl],
     k: u32,
     node: Node,
     room: u32,
     switch: Option<SwitchEnd>,
-    guest: Option<Guest<L>>,
+    guest: Option<Guest<L, H>>,
     moves: Option<Vec<u32>>,
-) -> Result<Seat<S, D, L, B>, NoMemory>
+) -> Result<Seat<S, D, L, H, B>, NoMemory>
     requires sized { sizes_fit node.kind ≡ true }
     requires handed { IsHandedAt (switch_of node.kind) switch }
     requires guest { IsGuest L.gives B.lists (plug_of node.kind) (custom_of node.kind) guest }
@@ -422,15 +426,15 @@ fn plan<S: Source, D: Drain, L: Logic, B: PlugBook>(
 /// trip a seat that gave nothing and knows nothing; and a node that names a plug or a custom stage is handed that. A stage that chooses follows its
 /// moves of `plans`, where there are some. The substreams of a
 /// stage go through the chain of these that it names.
-pub fn seat_all<S: Source, D: Drain, L: Logic, B: PlugBook>(
+pub fn seat_all<S: Source, D: Drain, L: Logic, H: Handlers, B: PlugBook>(
     alloc: Global,
     chains: &[ChainDecl],
     nodes: Vec<Node>,
     rooms: Vec<u32>,
     ends: Vec<Option<SwitchEnd>>,
-    guests: Vec<Option<Guest<L>>>,
+    guests: Vec<Option<Guest<L, H>>>,
     plans: Vec<Option<Vec<u32>>>,
-) -> Result<Vec<Seat<S, D, L, B>>, NoMemory>
+) -> Result<Vec<Seat<S, D, L, H, B>>, NoMemory>
     requires sized { list_all (λ n. sizes_fit n.kind) nodes.items ≡ true }
     requires handed { AreHanded (map (λ n. n.kind) nodes.items) ends.items }
     requires guests { AreGuests L.gives B.lists (map (λ n. n.kind) nodes.items) guests.items }
@@ -461,12 +465,12 @@ pub fn seat_all<S: Source, D: Drain, L: Logic, B: PlugBook>(
 
 // Choice: docs/DECISIONS.md#handles-in-order
 /// The work of a seat: a source of lines reads the next of the sources, a sink with a file writes the next of the drains.
-fn fill<S: Source, D: Drain, L: Logic, B: PlugBook>(
+fn fill<S: Source, D: Drain, L: Logic, H: Handlers, B: PlugBook>(
     alloc: Global,
-    seat: Seat<S, D, L, B>,
+    seat: Seat<S, D, L, H, B>,
     sources: &mut IntoIter<S, Global>,
     drains: &mut IntoIter<D, Global>,
-) -> Seated<S, D, L, B>
+) -> Seated<S, D, L, H, B>
     requires source { reads seat.planned ≤ into_iter_len sources.old }
     requires drain { writes seat.planned ≤ into_iter_len drains.old }
     ensures fills { (around : Around) → Fills around seat (into_iter_items sources.old) (into_iter_items drains.old) result
@@ -493,13 +497,13 @@ fn fill<S: Source, D: Drain, L: Logic, B: PlugBook>(
 
 /// The seats in order, with their handles, into an empty list that has room for them. In their order, each source of lines reads
 /// the next of `sources`, and each sink with a file writes the next of `drains`. It takes no memory.
-pub fn fill_all<S: Source, D: Drain, L: Logic, B: PlugBook>(
+pub fn fill_all<S: Source, D: Drain, L: Logic, H: Handlers, B: PlugBook>(
     alloc: Global,
-    seats: Vec<Seat<S, D, L, B>>,
-    places: Vec<Seated<S, D, L, B>>,
+    seats: Vec<Seat<S, D, L, H, B>>,
+    places: Vec<Seated<S, D, L, H, B>>,
     sources: Vec<S>,
     drains: Vec<D>,
-) -> Vec<Seated<S, D, L, B>>
+) -> Vec<Seated<S, D, L, H, B>>
     requires empty { places.items ≡ [] }
     requires room { vec_len seats ≤ vec_capacity places }
     requires sources { vec_len sources ≡ reads_in seats.items }

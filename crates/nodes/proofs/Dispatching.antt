@@ -64,16 +64,16 @@ asked_lists P (suc p) (x ∷ xs) ys r h = absurd r
 pub asked_is : (P : OutView → Type 0) (p : ℕ) → Meets (pulls p) (λ v. OneOut P v) → p ≡ 0
 asked_is P p m = asked_lists P p m.0.ins m.0.outs m.1.1 m.1.0
 
-module _ {S D : Type 0} (L B : Type 0) (sources : S → SourceState) (drains : D → DrainState) (book : Book) where
+module _ {S D : Type 0} (L H B : Type 0) (sources : S → SourceState) (drains : D → DrainState) (book : Book) where
   -- what a node owes at a call, and at its start
-  abbrev CallOf : Call → IslandNode S D L B → IslandNode S D L B → List Act → Type 0
+  abbrev CallOf : Call → IslandNode S D L H B → IslandNode S D L H B → List Act → Type 0
   CallOf call old new acts = Handles node_port_state (node_law sources drains book) call old new acts
 
-  abbrev StartOf : IslandNode S D L B → IslandNode S D L B → List Act → Type 0
+  abbrev StartOf : IslandNode S D L H B → IslandNode S D L H B → List Act → Type 0
   StartOf old new acts = Starts node_port_state (node_law sources drains book) node_fresh old new acts
 
   -- a sink with a file
-  writing_law : (first : IslandNode S D L B) (old new : Sink D) (v w : View) (took gave more given : List (List Item)) → ((f : Sink D) → SinkLaw drains f old v took gave → SinkLaw drains f new w more given)
+  writing_law : (first : IslandNode S D L H B) (old new : Sink D) (v w : View) (took gave more given : List (List Item)) → ((f : Sink D) → SinkLaw drains f old v took gave → SinkLaw drains f new w more given)
       → node_law sources drains book first (Writing old) v took gave → node_law sources drains book first (Writing new) w more given
   writing_law (Writing f) old new v w took gave more given keeps law = keeps f law
   writing_law (Reading f) old new v w took gave more given keeps law = absurd law
@@ -101,8 +101,8 @@ module _ {S D : Type 0} (L B : Type 0) (sources : S → SourceState) (drains : D
 
   -- what it does outside of its handlers
   pub writing_puts : (b : Bool) (old new : Sink D) → ((new ≡ old) × (b ≡ false)) ⊎ SinkPutsOff drains old (cancel_first b) new
-      → ((◌≡◌ {A = IslandNode S D L B} (Writing new) (Writing old)) × (b ≡ false)) ⊎ PutsOff {N = IslandNode S D L B} node_port_state (node_law sources drains book) node_asking node_moves node_gone node_passive (Writing old) (cancel_first b) (Writing new)
-  writing_puts b old new (inl e) = inl (ap {B = IslandNode S D L B} (λ (x : Sink D). Writing x) e.0, e.1)
+      → ((◌≡◌ {A = IslandNode S D L H B} (Writing new) (Writing old)) × (b ≡ false)) ⊎ PutsOff {N = IslandNode S D L H B} node_port_state (node_law sources drains book) node_asking node_moves node_gone node_passive (Writing old) (cancel_first b) (Writing new)
+  writing_puts b old new (inl e) = inl (ap {B = IslandNode S D L H B} (λ (x : Sink D). Writing x) e.0, e.1)
   writing_puts b old new (inr p) = inr (record {
     allowed = λ first v took gave r law. (writing_first first old v took gave law (λ f l. p.allowed f v took gave r l));
     port_state_holds = λ first v took gave r law. (writing_first first old v took gave law (λ f l. p.port_state_holds f v took gave r l));
@@ -115,7 +115,7 @@ module _ {S D : Type 0} (L B : Type 0) (sources : S → SourceState) (drains : D
   })
     where
       -- it was handed in as a sink
-      writing_first : {P : Type 0} (first : IslandNode S D L B) (x : Sink D) (v : View) (took gave : List (List Item)) → node_law sources drains book first (Writing x) v took gave → ((f : Sink D) → SinkLaw drains f x v took gave → P) → P
+      writing_first : {P : Type 0} (first : IslandNode S D L H B) (x : Sink D) (v : View) (took gave : List (List Item)) → node_law sources drains book first (Writing x) v took gave → ((f : Sink D) → SinkLaw drains f x v took gave → P) → P
       writing_first (Writing f) x v took gave law known = known f law
       writing_first (Reading f) x v took gave law known = absurd law
       writing_first (Making f) x v took gave law known = absurd law
@@ -124,12 +124,13 @@ module _ {S D : Type 0} (L B : Type 0) (sources : S → SourceState) (drains : D
       writing_first (Sub f) x v took gave law known = absurd law
       writing_first (FanIn f) x v took gave law known = absurd law
       writing_first (FanOut f) x v took gave law known = absurd law
+      writing_first (Custom f) x v took gave law known = absurd law
       writing_first (Ignoring f) x v took gave law known = absurd law
       writing_first (node.Entering f) x v took gave law known = absurd law
       writing_first (node.Leaving f) x v took gave law known = absurd law
 
   -- a source of lines
-  reading_law : (first : IslandNode S D L B) (old new : Lines S) (v w : View) (took gave more given : List (List Item)) → ((f : Lines S) → LinesLaw sources f old v took gave → LinesLaw sources f new w more given)
+  reading_law : (first : IslandNode S D L H B) (old new : Lines S) (v w : View) (took gave more given : List (List Item)) → ((f : Lines S) → LinesLaw sources f old v took gave → LinesLaw sources f new w more given)
       → node_law sources drains book first (Reading old) v took gave → node_law sources drains book first (Reading new) w more given
   reading_law (Reading f) old new v w took gave more given keeps law = keeps f law
   reading_law (Writing f) old new v w took gave more given keeps law = absurd law
@@ -160,7 +161,7 @@ module _ {S D : Type 0} (L B : Type 0) (sources : S → SourceState) (drains : D
   reading_asked p old new acts r m h = rw (asked_is (lines_port_state_in old.phase) p m) (on_ok_two r h h (λ a b. reading_at (pulls 0) old new acts a))
 
   -- the stage where a lane goes out
-  leaving_law : (first : IslandNode S D L B) (old new : Leaving) (v w : View) (took gave more given : List (List Item)) → ((f : Leaving) → LeavingLaw f old v took gave → LeavingLaw f new w more given)
+  leaving_law : (first : IslandNode S D L H B) (old new : Leaving) (v w : View) (took gave more given : List (List Item)) → ((f : Leaving) → LeavingLaw f old v took gave → LeavingLaw f new w more given)
       → node_law sources drains book first (node.Leaving old) v took gave → node_law sources drains book first (node.Leaving new) w more given
   leaving_law (node.Leaving f) old new v w took gave more given keeps law = keeps f law
   leaving_law (node.Reading f) old new v w took gave more given keeps law = absurd law

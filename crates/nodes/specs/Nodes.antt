@@ -34,7 +34,7 @@ use Rattle.nodes.specs.Sink.{SinkFresh, sink_port_state, SinkLaw, SinkAsking, si
 use Rattle.nodes.specs.Ignoring.{IgnoreFresh, ignore_port_state, IgnoreLaw}
 
 -- what one that was not started may know of its ports
-abbrev pub node_fresh : {S D L B : Type 0} → IslandNode S D L B → View → Type 0
+abbrev pub node_fresh : {S D L H B : Type 0} → IslandNode S D L H B → View → Type 0
 node_fresh (Reading x) v = LinesFresh x v
 node_fresh (Making x) v = MadeFresh x v
 node_fresh (Linear x) v = LinearFresh x v
@@ -49,7 +49,7 @@ node_fresh (Entering x) v = EnteringFresh x v
 node_fresh (Leaving x) v = LeavingFresh x v
 
 -- what one that was started may know of them between two calls
-abbrev pub node_port_state : {S D L B : Type 0} → IslandNode S D L B → View → Type 0
+abbrev pub node_port_state : {S D L H B : Type 0} → IslandNode S D L H B → View → Type 0
 node_port_state (Reading x) v = lines_port_state x v
 node_port_state (Making x) v = made_port_state x v
 node_port_state (Linear x) v = LinearPortState x v
@@ -64,7 +64,7 @@ node_port_state (Entering x) v = EnteringPortState x v
 node_port_state (Leaving x) v = LeavingPortState x v
 
 -- what holds of the histories of its ports; its kind stays the same
-abbrev pub node_law : {S D L B : Type 0} → (S → SourceState) → (D → DrainState) → Book → IslandNode S D L B → IslandNode S D L B → View → List (List Item)
+abbrev pub node_law : {S D L H B : Type 0} → (S → SourceState) → (D → DrainState) → Book → IslandNode S D L H B → IslandNode S D L H B → View → List (List Item)
     → List (List Item) → Type 0
 node_law sources drains book (Reading first) (Reading x) v took gave = LinesLaw sources first x v took gave
 node_law sources drains book (Making first) (Making x) v took gave = MadeLaw first x v took gave
@@ -81,14 +81,14 @@ node_law sources drains book (Leaving first) (Leaving x) v took gave = LeavingLa
 node_law sources drains book _ _ v took gave = ⊥
 
 -- what it knows of its ports whenever it has just asked: only a stage with several inputs and one with several outputs tell of it, and a sink with a file of itself
-abbrev pub node_asking : {S D L B : Type 0} → IslandNode S D L B → View → Type 0
+abbrev pub node_asking : {S D L H B : Type 0} → IslandNode S D L H B → View → Type 0
 node_asking (FanIn x) v = InAsking x v
 node_asking (FanOut x) v = OutAsking x v
 node_asking (Writing x) v = SinkAsking x
 node_asking x v = ⊤
 
 -- the moves that it has recorded, where it is a stage whose kind chooses
-abbrev pub node_picks : {S D L B : Type 0} → IslandNode S D L B → Option (List ℕ)
+abbrev pub node_picks : {S D L H B : Type 0} → IslandNode S D L H B → Option (List ℕ)
 node_picks (Reading x) = None
 node_picks (Making x) = None
 node_picks (Linear x) = None
@@ -103,7 +103,7 @@ node_picks (Entering x) = None
 node_picks (Leaving x) = None
 
 -- the place of the move that it cannot make, where it found one
-abbrev pub node_misfit : {S D L B : Type 0} → IslandNode S D L B → Option ℕ
+abbrev pub node_misfit : {S D L H B : Type 0} → IslandNode S D L H B → Option ℕ
 node_misfit (Reading x) = None
 node_misfit (Making x) = None
 node_misfit (Linear x) = None
@@ -118,7 +118,7 @@ node_misfit (Entering x) = None
 node_misfit (Leaving x) = None
 
 -- all the moves that it follows, where it follows any
-abbrev pub node_plan : {S D L B : Type 0} → IslandNode S D L B → Option (List ℕ)
+abbrev pub node_plan : {S D L H B : Type 0} → IslandNode S D L H B → Option (List ℕ)
 node_plan (Reading x) = None
 node_plan (Making x) = None
 node_plan (Linear x) = None
@@ -133,11 +133,11 @@ node_plan (Entering x) = None
 node_plan (Leaving x) = None
 
 -- the moves that it has recorded, and none where it does not choose
-abbrev pub node_moves : {S D L B : Type 0} → IslandNode S D L B → List ℕ
+abbrev pub node_moves : {S D L H B : Type 0} → IslandNode S D L H B → List ℕ
 node_moves x = unwrap_or (node_picks x) []
 
 -- the seat that it has at a kill switch, where it is a valve or a trip
-abbrev pub node_seat : {S D L B : Type 0} → IslandNode S D L B → Option SeatState
+abbrev pub node_seat : {S D L H B : Type 0} → IslandNode S D L H B → Option SeatState
 node_seat (Reading x) = None
 node_seat (Making x) = None
 node_seat (Linear x) = None
@@ -152,12 +152,12 @@ node_seat (Entering x) = None
 node_seat (Leaving x) = None
 
 -- it is no linear stage
-abbrev pub IsNotLinear : {S D L B : Type 0} → IslandNode S D L B → Type 0
+abbrev pub IsNotLinear : {S D L H B : Type 0} → IslandNode S D L H B → Type 0
 IsNotLinear (Linear x) = ⊥
 IsNotLinear _ = ⊤
 
 -- what it leaves at the end
-abbrev pub node_end : {S D L B : Type 0} → IslandNode S D L B → NodeEnd S D
+abbrev pub node_end : {S D L H B : Type 0} → IslandNode S D L H B → NodeEnd S D
 node_end (Reading x) = Read x.reader.source
 node_end (Making x) = Staged
 node_end (Linear x) = Staged
@@ -172,37 +172,37 @@ node_end (Entering x) = Staged
 node_end (Leaving x) = Staged
 
 -- one that was not started has not read
-abbrev pub ReadsLater : {S D L B : Type 0} → (S → SourceState) → IslandNode S D L B → IslandNode S D L B → Type 0
+abbrev pub ReadsLater : {S D L H B : Type 0} → (S → SourceState) → IslandNode S D L H B → IslandNode S D L H B → Type 0
 ReadsLater sources (Reading x) (Reading y) = x.phase ≡ New → sources y.reader.source ≡ sources x.reader.source
 ReadsLater sources _ _ = ⊤
 
 -- what of it outlives want of memory: the handle that it would leave, which is as it was handed in where the node was not
 -- started
-pub record KeepsNode {S D L B : Type 0} (sources : S → SourceState) (drains : D → DrainState) (x y : IslandNode S D L B) : Type 0 where
+pub record KeepsNode {S D L H B : Type 0} (sources : S → SourceState) (drains : D → DrainState) (x y : IslandNode S D L H B) : Type 0 where
   pub ends : KeepsEnd sources drains (node_end x) (node_end y)
   pub first : ReadsLater sources x y
 
 -- only where a lane comes in or goes out it acts from outside alone
-abbrev pub node_passive : {S D L B : Type 0} → IslandNode S D L B → Bool
+abbrev pub node_passive : {S D L H B : Type 0} → IslandNode S D L H B → Bool
 node_passive (Entering x) = true
 node_passive (Leaving x) = true
 node_passive x = false
 
 -- what was handed out of the island at a node or dropped there: only where a lane goes out
-abbrev pub node_gone : {S D L B : Type 0} → IslandNode S D L B → List Item
+abbrev pub node_gone : {S D L H B : Type 0} → IslandNode S D L H B → List Item
 node_gone (Leaving x) = x.gone
 node_gone x = []
 
 -- what waits at a node to be handed out of the island: only where a lane goes out
-abbrev pub node_waits : {S D L B : Type 0} → IslandNode S D L B → List Item
+abbrev pub node_waits : {S D L H B : Type 0} → IslandNode S D L H B → List Item
 node_waits (Leaving x) = x.waits
 node_waits x = []
 
 -- how many lines a node has put off while it waits: only a sink that may put several together
-abbrev pub node_late : {S D L B : Type 0} → IslandNode S D L B → ℕ
+abbrev pub node_late : {S D L H B : Type 0} → IslandNode S D L H B → ℕ
 node_late (Writing x) = sink_late x
 node_late x = 0
 
 -- none of these nodes has put lines off
-abbrev pub NoneLate : {S D L B : Type 0} → List (IslandNode S D L B) → Type 0
+abbrev pub NoneLate : {S D L H B : Type 0} → List (IslandNode S D L H B) → Type 0
 NoneLate nodes = (k : ℕ) (x : _) → slice_get nodes k ≡ Some x → node_late x ≡ 0

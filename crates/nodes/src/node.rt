@@ -38,7 +38,7 @@ use stream_io::outside::{Drain, Source};
 
 // Choice: docs/DECISIONS.md#stages-implement-the-trait
 /// A node of an island.
-pub enum IslandNode<S: Source, D: Drain, L: Logic, B: PlugBook> {
+pub enum IslandNode<S: Source, D: Drain, L: Logic, H: Handlers, B: PlugBook> {
     /// A source of the lines of a file.
     Reading(LinesSource<S>),
     /// A source without a file.
@@ -54,7 +54,7 @@ pub enum IslandNode<S: Source, D: Drain, L: Logic, B: PlugBook> {
     /// A stage with several outputs.
     FanOut(OutLogic),
     /// A stage that the caller hands in and that calls its ports itself.
-    Custom(CustomStage<Box<dyn Handlers + Send>>),
+    Custom(CustomStage<H>),
     /// A sink that writes elements into a file.
     Writing(FileSink<D>),
     /// A sink that keeps nothing.
@@ -66,7 +66,7 @@ pub enum IslandNode<S: Source, D: Drain, L: Logic, B: PlugBook> {
 }
 
 // Dropped by a call, wherever it is dropped: else each of its variants is a path of each function that drops it.
-impl<S: Source, D: Drain, L: Logic, B: PlugBook> Drop for IslandNode<S, D, L, B> {
+impl<S: Source, D: Drain, L: Logic, H: Handlers, B: PlugBook> Drop for IslandNode<S, D, L, H, B> {
     fn drop(self) {
         match self {
             IslandNode::Reading(_) => {}
@@ -95,7 +95,7 @@ pub enum NodeEnd<S: Source, D: Drain> {
     Wrote(ClosedSink<D>),
 }
 
-impl<S: Source, D: Drain, L: Logic, B: PlugBook> IslandNode<S, D, L, B> {
+impl<S: Source, D: Drain, L: Logic, H: Handlers, B: PlugBook> IslandNode<S, D, L, H, B> {
     /// What it leaves, the log of its moves where it is a stage whose kind chooses, and its seat where it is a valve or a trip. It
     /// takes no memory.
     pub fn close(self) -> (NodeEnd<S, D>, Option<PickLog>, Option<SwitchSeat>)
@@ -220,7 +220,7 @@ impl<S: Source, D: Drain, L: Logic, B: PlugBook> IslandNode<S, D, L, B> {
     }
 }
 
-impl<S: Source, D: Drain, L: Logic, B: PlugBook> Stage for IslandNode<S, D, L, B> {
+impl<S: Source, D: Drain, L: Logic, H: Handlers, B: PlugBook> Stage for IslandNode<S, D, L, H, B> {
     ghost fresh = { node_fresh };
 
     ghost port_state = { node_port_state };

@@ -83,7 +83,7 @@ drain_end (Read s) = None
 drain_end Staged = None
 drain_end (Wrote x) = x.drain
 
-reader_ends : {S D L B : Type 0} (x : IslandNode S D L B) → reader_in x ≡ read_end (node_end x)
+reader_ends : {S D L H B : Type 0} (x : IslandNode S D L H B) → reader_in x ≡ read_end (node_end x)
 reader_ends (node.Reading x) = refl
 reader_ends (node.Making x) = refl
 reader_ends (node.Linear x) = refl
@@ -97,7 +97,7 @@ reader_ends (node.Ignoring x) = refl
 reader_ends (node.Entering x) = refl
 reader_ends (node.Leaving x) = refl
 
-writer_ends : {S D L B : Type 0} (x : IslandNode S D L B) → writer_in x ≡ drain_end (node_end x)
+writer_ends : {S D L H B : Type 0} (x : IslandNode S D L H B) → writer_in x ≡ drain_end (node_end x)
 writer_ends (node.Reading x) = refl
 writer_ends (node.Making x) = refl
 writer_ends (node.Linear x) = refl
@@ -140,74 +140,74 @@ module _ {S D : Type 0} (sources : S → SourceState) (drains : D → DrainState
   written_named (Wrote x) (Wrote y) k = drains_named x.drain y.drain k
   written_named p q k = absurd k
 
-module _ {S D L B : Type 0} (sources : S → SourceState) (drains : D → DrainState) where
+module _ {S D L H B : Type 0} (sources : S → SourceState) (drains : D → DrainState) where
   -- a node is the same, or it has kept what outlives want of memory
-  abbrev Kept : IslandNode S D L B → IslandNode S D L B → Type 0
+  abbrev Kept : IslandNode S D L H B → IslandNode S D L H B → Type 0
   Kept x y = (y ≡ x) ⊎ KeepsNode sources drains x y
 
   -- its handle has the same name
-  reads_same : (x y : IslandNode S D L B) → Kept x y → option_map (source_name sources) (reader_in y) ≡ option_map (source_name sources) (reader_in x)
-  reads_same x y (inl e) = ap (λ (z : IslandNode S D L B). option_map (source_name sources) (reader_in z)) e
+  reads_same : (x y : IslandNode S D L H B) → Kept x y → option_map (source_name sources) (reader_in y) ≡ option_map (source_name sources) (reader_in x)
+  reads_same x y (inl e) = ap (λ (z : IslandNode S D L H B). option_map (source_name sources) (reader_in z)) e
   reads_same x y (inr k) = ap (option_map (source_name sources)) (reader_ends y) ∙ read_named sources drains (node_end x) (node_end y) k.ends ∙ ap (option_map (source_name sources)) (sym (reader_ends x))
 
-  writes_same : (x y : IslandNode S D L B) → Kept x y → option_map (drain_name drains) (writer_in y) ≡ option_map (drain_name drains) (writer_in x)
-  writes_same x y (inl e) = ap (λ (z : IslandNode S D L B). option_map (drain_name drains) (writer_in z)) e
+  writes_same : (x y : IslandNode S D L H B) → Kept x y → option_map (drain_name drains) (writer_in y) ≡ option_map (drain_name drains) (writer_in x)
+  writes_same x y (inl e) = ap (λ (z : IslandNode S D L H B). option_map (drain_name drains) (writer_in z)) e
   writes_same x y (inr k) = ap (option_map (drain_name drains)) (writer_ends y) ∙ written_named sources drains (node_end x) (node_end y) k.ends ∙ ap (option_map (drain_name drains)) (sym (writer_ends x))
 
   -- a source is still there, as far as it was read
-  reading_by : (x : Lines S) (y : IslandNode S D L B) → KeepsNode sources drains (node.Reading x) y → (z : Lines S) × ((y ≡ node.Reading z) × KeepsSource (sources x.reader.source) (sources z.reader.source))
+  reading_by : (x : Lines S) (y : IslandNode S D L H B) → KeepsNode sources drains (node.Reading x) y → (z : Lines S) × ((y ≡ node.Reading z) × KeepsSource (sources x.reader.source) (sources z.reader.source))
   reading_by x (node.Reading z) k = (z, (refl, k.ends))
   reading_by x y k = absurd k.ends
 
-  reading_kept : (x : Lines S) (y : IslandNode S D L B) → Kept (node.Reading x) y → (z : Lines S) × ((y ≡ node.Reading z) × KeepsSource (sources x.reader.source) (sources z.reader.source))
+  reading_kept : (x : Lines S) (y : IslandNode S D L H B) → Kept (node.Reading x) y → (z : Lines S) × ((y ≡ node.Reading z) × KeepsSource (sources x.reader.source) (sources z.reader.source))
   reading_kept x y (inl e) = (x, (e, keeps_self (sources x.reader.source)))
   reading_kept x y (inr k) = reading_by x y k
 
   -- and a drain has what it had
-  writing_by : (x : Sink D) (y : IslandNode S D L B) → KeepsNode sources drains (node.Writing x) y → (z : Sink D) × ((y ≡ node.Writing z) × (drains z.drain ≡ drains x.drain))
+  writing_by : (x : Sink D) (y : IslandNode S D L H B) → KeepsNode sources drains (node.Writing x) y → (z : Sink D) × ((y ≡ node.Writing z) × (drains z.drain ≡ drains x.drain))
   writing_by x (node.Writing z) k = (z, (refl, k.ends))
   writing_by x y k = absurd k.ends
 
-  writing_kept : (x : Sink D) (y : IslandNode S D L B) → Kept (node.Writing x) y → (z : Sink D) × ((y ≡ node.Writing z) × (drains z.drain ≡ drains x.drain))
+  writing_kept : (x : Sink D) (y : IslandNode S D L H B) → Kept (node.Writing x) y → (z : Sink D) × ((y ≡ node.Writing z) × (drains z.drain ≡ drains x.drain))
   writing_kept x y (inl e) = (x, (e, refl))
   writing_kept x y (inr k) = writing_by x y k
 
   -- the nodes by their places
-  kept_many : (xs ys : List (IslandNode S D L B)) → AllKept (KeepsNode sources drains) xs ys → length xs ≡ length ys
+  kept_many : (xs ys : List (IslandNode S D L H B)) → AllKept (KeepsNode sources drains) xs ys → length xs ≡ length ys
   kept_many [] [] k = refl
   kept_many [] (y ∷ ys) k = absurd k
   kept_many (x ∷ xs) [] k = absurd k
   kept_many (x ∷ xs) (y ∷ ys) k = ap suc (kept_many xs ys k.1)
 
-  kept_at : (xs ys : List (IslandNode S D L B)) (i : ℕ) (x : IslandNode S D L B) → AllKept (KeepsNode sources drains) xs ys → slice_get xs i ≡ Some x → (y : IslandNode S D L B) × ((slice_get ys i ≡ Some y) × Kept x y)
+  kept_at : (xs ys : List (IslandNode S D L H B)) (i : ℕ) (x : IslandNode S D L H B) → AllKept (KeepsNode sources drains) xs ys → slice_get xs i ≡ Some x → (y : IslandNode S D L H B) × ((slice_get ys i ≡ Some y) × Kept x y)
   kept_at [] ys i x k e = absurd cc
   kept_at (z ∷ xs) [] i x k e = absurd k
-  kept_at (z ∷ xs) (y ∷ ys) zero x k e = let same : z ≡ x = cc in (y, (refl, subst (λ (w : IslandNode S D L B). Kept w y) same k.0))
+  kept_at (z ∷ xs) (y ∷ ys) zero x k e = let same : z ≡ x = cc in (y, (refl, subst (λ (w : IslandNode S D L H B). Kept w y) same k.0))
   kept_at (z ∷ xs) (y ∷ ys) (suc i) x k e = kept_at xs ys i x k.1 e
 
-  kept_from : (xs ys : List (IslandNode S D L B)) (i : ℕ) (y : IslandNode S D L B) → AllKept (KeepsNode sources drains) xs ys → slice_get ys i ≡ Some y → (x : IslandNode S D L B) × ((slice_get xs i ≡ Some x) × Kept x y)
+  kept_from : (xs ys : List (IslandNode S D L H B)) (i : ℕ) (y : IslandNode S D L H B) → AllKept (KeepsNode sources drains) xs ys → slice_get ys i ≡ Some y → (x : IslandNode S D L H B) × ((slice_get xs i ≡ Some x) × Kept x y)
   kept_from xs [] i y k e = absurd cc
   kept_from [] (z ∷ ys) i y k e = absurd k
-  kept_from (x ∷ xs) (z ∷ ys) zero y k e = let same : z ≡ y = cc in (x, (refl, subst (λ (w : IslandNode S D L B). Kept x w) same k.0))
+  kept_from (x ∷ xs) (z ∷ ys) zero y k e = let same : z ≡ y = cc in (x, (refl, subst (λ (w : IslandNode S D L H B). Kept x w) same k.0))
   kept_from (x ∷ xs) (z ∷ ys) (suc i) y k e = kept_from xs ys i y k.1 e
 
 -- ---- what the run leaves
 
-module _ {S D L B : Type 0} (sources : S → SourceState) (drains : D → DrainState) (book : Book) (handles : HandleLaws L B sources drains book) (wrote_law : WroteLaw L B sources drains book)
+module _ {S D L H B : Type 0} (sources : S → SourceState) (drains : D → DrainState) (book : Book) (handles : HandleLaws L H B sources drains book) (wrote_law : WroteLaw L H B sources drains book)
     (ranked_law : (b : Blueprint) (heads : HeadLists) (taken : List (List ℕ)) → IsFit b heads taken → (rank : ℕ → ℕ) × IsRanked (graph_of b) rank)
-    (b : Blueprint) (can : CanRun b) (ss : List S) (ds : List D) (e : IslandEnd S D) (l : LeavesBroken L B sources drains book b ss ds e)
+    (b : Blueprint) (can : CanRun b) (ss : List S) (ds : List D) (e : IslandEnd S D) (l : LeavesBroken L H B sources drains book b ss ds e)
     (old mid : FolderState) (trace : Option (List ℕ)) (separate : IsApart b trace) (opens : Opens old mid (inputs_of_nodes b.nodes.items) (outputs_of_nodes b.nodes.items) (option_to_list trace) (map sources ss) (map drains ds)) (new : FolderState)
     (closes : Shuts mid new (option_to_list trace) (map sources e.readers.items) (map drains e.writers.items)) where
   abbrev nodes : List blue.Node
   nodes = b.nodes.items
 
-  abbrev left : Account (IslandNode S D L B)
+  abbrev left : Account (IslandNode S D L H B)
   left = l.account
 
-  abbrev last : List (IslandNode S D L B)
+  abbrev last : List (IslandNode S D L H B)
   last = l.last
 
-  abbrev final : List (IslandNode S D L B)
+  abbrev final : List (IslandNode S D L H B)
   final = l.nodes
 
   abbrev g : Graph
@@ -219,7 +219,7 @@ module _ {S D L B : Type 0} (sources : S → SourceState) (drains : D → DrainS
   run : IsRun sources drains book g left
   run = l.moment.run
 
-  profile : (k : ℕ) (n : blue.Node) (x : IslandNode S D L B) → slice_get nodes k ≡ Some n → slice_get last k ≡ Some x → Profile sources drains k n x
+  profile : (k : ℕ) (n : blue.Node) (x : IslandNode S D L H B) → slice_get nodes k ≡ Some n → slice_get last k ≡ Some x → Profile sources drains k n x
   profile = profiles sources drains book handles b ss ds left last between old mid opens
 
   lone : (n : List ℕ) → Contains (outputs_of_nodes nodes) n → Contains (option_to_list trace) n → ⊥

@@ -352,7 +352,7 @@ out_left (fan_out.Balances l) v p h e = balance_left l.core.live l.log.stuck l v
 no_input : (y : OutView) (p : ℕ) → slice_get (output_only y).ins p ≡ Some Cancelled → ⊥
 no_input y p e = cc
 
-pub closes_outs : {S D L B : Type 0} (x : IslandNode S D L B) (v : View) (p : ℕ) → ((c : CustomState) → x ≡ node.Custom c → ⊥) → node_port_state x v → slice_get v.ins p ≡ Some Cancelled → OutsClosed v.outs
+pub closes_outs : {S D L H B : Type 0} (x : IslandNode S D L H B) (v : View) (p : ℕ) → ((c : CustomState) → x ≡ node.Custom c → ⊥) → node_port_state x v → slice_get v.ins p ≡ Some Cancelled → OutsClosed v.outs
 closes_outs (node.Reading x) v p other h e = source_left (lines_port_state_in x.phase) v.ins v.outs p h e
 closes_outs (node.Making x) v p other h e = source_left (lines_port_state_in x.phase) v.ins v.outs p h e
 closes_outs (node.Linear x) v p other h e = one_left (linear.port_state_in x.phase x.course x.pending x.stage.work x.ready) (linear_left x.phase x.course x.pending x.stage.work x.ready) v.ins v.outs p h.ports e

@@ -178,7 +178,7 @@ sink_free (kind.Last name) h = refl
 sink_free _ h = absurd h
 
 -- a node has chosen exactly where its kind chooses
-pub node_chooses : {S D L B : Type 0} (sources : S → SourceState) (drains : D → DrainState) (book : Book) (wires : List WireDecl) (chains : List graph.Chain) (k : ℕ) (n : blue.Node) (first now : IslandNode S D L B) (v : View) (took gave : List (List Item))
+pub node_chooses : {S D L H B : Type 0} (sources : S → SourceState) (drains : D → DrainState) (book : Book) (wires : List WireDecl) (chains : List graph.Chain) (k : ℕ) (n : blue.Node) (first now : IslandNode S D L H B) (v : View) (took gave : List (List Item))
     → FirstOf sources chains k (graph_node wires n) first → node_law sources drains book first now v took gave → ChoosesAs (picks n.kind) (node_picks now)
 node_chooses sources drains book wires chains k n (node.Reading f) (node.Reading x) v took gave made law = no_choice (picks n.kind) None (ap picks made.kind_is) refl
 node_chooses sources drains book wires chains k n (node.Making f) (node.Making x) v took gave made law = no_choice (picks n.kind) None (maker_free n.kind made.is_maker) refl
@@ -200,8 +200,8 @@ picked_cons : (k j : ℕ) (b : Bool) (o : Option (List ℕ)) (later : List ℕ) 
 picked_cons k j true o later rest h e f = rw h.1 (ap (λ m. m ∷ picked rest) e ∙ ap (λ l. k ∷ l) f)
 picked_cons k j false o later rest h e f = rw h f
 
-pub picked_along : {S D L B : Type 0} (k : ℕ) (ns : List blue.Node) (xs : List (IslandNode S D L B)) → length ns ≡ length xs
-    → ((i : ℕ) (n : blue.Node) (x : IslandNode S D L B) → slice_get ns i ≡ Some n → slice_get xs i ≡ Some x → ChoosesAs (picks n.kind) (node_picks x)) → picked (picks_of (count_from k (length xs)) xs) ≡ pick_places k ns
+pub picked_along : {S D L H B : Type 0} (k : ℕ) (ns : List blue.Node) (xs : List (IslandNode S D L H B)) → length ns ≡ length xs
+    → ((i : ℕ) (n : blue.Node) (x : IslandNode S D L H B) → slice_get ns i ≡ Some n → slice_get xs i ≡ Some x → ChoosesAs (picks n.kind) (node_picks x)) → picked (picks_of (count_from k (length xs)) xs) ≡ pick_places k ns
 picked_along k [] [] e each = refl
 picked_along k [] (x ∷ xs) e each = absurd (omega (arith, e))
 picked_along k (n ∷ ns) [] e each = absurd (omega (arith, e))
@@ -219,8 +219,8 @@ later_told : (j : ℕ) (o : Option (List ℕ)) (rest : List Pick) (w : World) �
 later_told j None rest w h = h
 later_told j (Some m) rest w h = λ i p e. h (suc i) p e
 
-pub told_along : {S D L B : Type 0} (k : ℕ) (xs : List (IslandNode S D L B)) (w : World) → HasPicks (picks_of (count_from k (length xs)) xs) w
-    → (i : ℕ) (x : IslandNode S D L B) (moves : List ℕ) → slice_get xs i ≡ Some x → node_picks x ≡ Some moves → w.moves (k + i) ≡ moves
+pub told_along : {S D L H B : Type 0} (k : ℕ) (xs : List (IslandNode S D L H B)) (w : World) → HasPicks (picks_of (count_from k (length xs)) xs) w
+    → (i : ℕ) (x : IslandNode S D L H B) (moves : List ℕ) → slice_get xs i ≡ Some x → node_picks x ≡ Some moves → w.moves (k + i) ≡ moves
 told_along k [] w has i x moves at is = absurd cc
 told_along k (y ∷ xs) w has zero x moves at is =
     let same : y ≡ x = cc in
@@ -237,8 +237,8 @@ has_cons j k None rest w e f h i p at = h i p at
 has_cons j k (Some m) rest w e f h zero p at = let same : (j, m) ≡ p = cc in subst (λ (q : Pick). w.moves q.0 ≡ q.1) same (ap w.moves e ∙ f)
 has_cons j k (Some m) rest w e f h (suc i) p at = h i p at
 
-pub has_along : {S D L B : Type 0} (k : ℕ) (xs : List (IslandNode S D L B)) (w : World)
-    → ((i : ℕ) (x : IslandNode S D L B) → slice_get xs i ≡ Some x → w.moves (k + i) ≡ node_moves x) → HasPicks (picks_of (count_from k (length xs)) xs) w
+pub has_along : {S D L H B : Type 0} (k : ℕ) (xs : List (IslandNode S D L H B)) (w : World)
+    → ((i : ℕ) (x : IslandNode S D L H B) → slice_get xs i ≡ Some x → w.moves (k + i) ≡ node_moves x) → HasPicks (picks_of (count_from k (length xs)) xs) w
 has_along k [] w each = λ i p at. absurd cc
 has_along k (x ∷ xs) w each =
     let place : k + 0 ≡ k = omega arith in

@@ -175,7 +175,7 @@ draws_told bytes first now items sent none e s = record {
 
 -- ---- how a sink stands at its place
 
-ended_stand : {S D L B : Type 0} (x : IslandNode S D L B) (s : SinkStand) → stand_in x ≡ Some s → sink_ended x ≡ has_ended s.2
+ended_stand : {S D L H B : Type 0} (x : IslandNode S D L H B) (s : SinkStand) → stand_in x ≡ Some s → sink_ended x ≡ has_ended s.2
 ended_stand (node.Writing x) s f = let same : (x.node, x.count, x.end) ≡ s = some_one (x.node, x.count, x.end) s f in ap (λ (t : SinkStand). has_ended t.2) same
 ended_stand (node.Ignoring x) s f = let same : (x.node, 0, x.end) ≡ s = some_one (x.node, 0, x.end) s f in ap (λ (t : SinkStand). has_ended t.2) same
 ended_stand (node.Reading x) s f = absurd cc
@@ -189,7 +189,7 @@ ended_stand (node.Custom x) s f = absurd cc
 ended_stand (node.Entering x) s f = absurd cc
 ended_stand (node.Leaving x) s f = absurd cc
 
-ended_as : {S D L B : Type 0} (o : Option (IslandNode S D L B)) (x : IslandNode S D L B) (s : SinkStand) → o ≡ Some x → stand_in x ≡ Some s → ended_there o ≡ has_ended s.2
+ended_as : {S D L H B : Type 0} (o : Option (IslandNode S D L H B)) (x : IslandNode S D L H B) (s : SinkStand) → o ≡ Some x → stand_in x ≡ Some s → ended_there o ≡ has_ended s.2
 ended_as o x s e f = ap ended_there e ∙ ended_stand x s f
 
 stand_there : (k : ℕ) (b : Bool) (o : Option SinkStand) → StandsAt k b o → b ≡ true → (s : SinkStand) × ((o ≡ Some s) × (s.0 ≡ k))
@@ -232,72 +232,72 @@ none_unended (s ∷ ss) each = neither (is_unended s.2) (list_any (λ (t : SinkS
 
 -- ---- the laws of a run
 
-module _ {S D : Type 0} (L B : Type 0) (sources : S → SourceState) (drains : D → DrainState) (book : Book) where
+module _ {S D : Type 0} (L H B : Type 0) (sources : S → SourceState) (drains : D → DrainState) (book : Book) where
   abbrev pub WroteLaw : Type 0
-  WroteLaw = (g : Graph) (a : Account (IslandNode S D L B)) → IsRun sources drains book g a
+  WroteLaw = (g : Graph) (a : Account (IslandNode S D L H B)) → IsRun sources drains book g a
       → (k : ℕ) (n : graph.Node) (first now : Sink D) → slice_get g.nodes k ≡ Some n → IsSinkAt a k first now → SinkWrote sources drains book g a k n first now
 
   abbrev TookLaw : Type 0
-  TookLaw = (g : Graph) (w : World) (rank : ℕ → ℕ) (a : Account (IslandNode S D L B)) → IsRun sources drains w.book g a → WorldTells sources g w a → IsRanked g rank
+  TookLaw = (g : Graph) (w : World) (rank : ℕ → ℕ) (a : Account (IslandNode S D L H B)) → IsRun sources drains w.book g a → WorldTells sources g w a → IsRanked g rank
       → (k : ℕ) (n : graph.Node) (name : List ℕ) (first now : Sink D) → slice_get g.nodes k ≡ Some n → n.kind ≡ kind.ToLines name → IsSinkAt a k first now → TookList (sink_outlook g w k n) now.end (took g a k n)
 
   abbrev SentLaw : Type 0
-  SentLaw = (g : Graph) (a : Account (IslandNode S D L B)) → IsRun sources drains book g a
+  SentLaw = (g : Graph) (a : Account (IslandNode S D L H B)) → IsRun sources drains book g a
       → (k : ℕ) (n : graph.Node) (name : List ℕ) (first now : Sink D) (u : ℕ) (v : Edge) → slice_get g.nodes k ≡ Some n → n.kind ≡ kind.ToLines name → IsSinkAt a k first now → slice_get g.wires u ≡ Some v → v.to ≡ k
       → SentTo now.gather.room now.end (elements (a.far u).wire.sent) now.count
 
   abbrev RestLaw : Type 0
-  RestLaw = (g : Graph) (a : Account (IslandNode S D L B)) → IsRun sources drains book g a
+  RestLaw = (g : Graph) (a : Account (IslandNode S D L H B)) → IsRun sources drains book g a
       → (k : ℕ) (n : graph.Node) (name : List ℕ) (first now : Sink D) (u : ℕ) (v : Edge) → slice_get g.nodes k ≡ Some n → n.kind ≡ kind.ToLines name → IsSinkAt a k first now → slice_get g.wires u ≡ Some v → v.to ≡ k
       → IsStill g a → now.end ≡ Unended → sink_late now ≡ 0 → elements (a.far u).wire.sent ≡ now.count
 
   abbrev ReadsLaw : Type 0
-  ReadsLaw = (g : Graph) (a : Account (IslandNode S D L B)) → IsRun sources drains book g a
+  ReadsLaw = (g : Graph) (a : Account (IslandNode S D L H B)) → IsRun sources drains book g a
       → (k : ℕ) (n : graph.Node) (first now : Lines S) (u : ℕ) (v : Edge) (bytes : List ℕ) → slice_get g.nodes k ≡ Some n → IsSourceAt a k first now → slice_get g.wires u ≡ Some v → v.from ≡ k
       → (sources first.reader.source).whole ≡ Some bytes → SentLines bytes (sources first.reader.source) (sources now.reader.source) (a.near u).wire.sent
 
   abbrev LawfulLaw : Type 0
-  LawfulLaw = (g : Graph) (w : World) (plans : Plans) (rank : ℕ → ℕ) (a : Account (IslandNode S D L B)) → IsRun sources drains w.book g a → AreSettled g a
+  LawfulLaw = (g : Graph) (w : World) (plans : Plans) (rank : ℕ → ℕ) (a : Account (IslandNode S D L H B)) → IsRun sources drains w.book g a → AreSettled g a
       → WorldTells sources g w a → FollowsPlans plans a → IsRanked g rank → IsLawfulBy g w plans (pictures.picture_counts a g) (composed g w)
 
   abbrev RestsLaw : Type 0
-  RestsLaw = (g : Graph) (w : World) (plans : Plans) (rank : ℕ → ℕ) (a : Account (IslandNode S D L B)) → IsRun sources drains w.book g a → IsStill g a
+  RestsLaw = (g : Graph) (w : World) (plans : Plans) (rank : ℕ → ℕ) (a : Account (IslandNode S D L H B)) → IsRun sources drains w.book g a → IsStill g a
       → WorldTells sources g w a → FollowsPlans plans a → IsRanked g rank → RestsBy g w plans (pictures.picture_counts a g) (composed g w)
 
   abbrev LawfulByLaw : Type 0
-  LawfulByLaw = (g : Graph) (w : World) (plans : Plans) (a : Account (IslandNode S D L B)) (outlook : ℕ → Outlook) → IsRun sources drains w.book g a → AreSettled g a → TellsPicks w a → TellsNoList g w → FollowsPlans plans a
+  LawfulByLaw = (g : Graph) (w : World) (plans : Plans) (a : Account (IslandNode S D L H B)) (outlook : ℕ → Outlook) → IsRun sources drains w.book g a → AreSettled g a → TellsPicks w a → TellsNoList g w → FollowsPlans plans a
       → pictures.AllPass a g outlook → IsLawfulBy g w plans (pictures.picture_counts a g) outlook
 
   abbrev RestsByLaw : Type 0
-  RestsByLaw = (g : Graph) (w : World) (plans : Plans) (a : Account (IslandNode S D L B)) (outlook : ℕ → Outlook) → IsRun sources drains w.book g a → IsStill g a → TellsPicks w a → TellsNoList g w → FollowsPlans plans a
+  RestsByLaw = (g : Graph) (w : World) (plans : Plans) (a : Account (IslandNode S D L H B)) (outlook : ℕ → Outlook) → IsRun sources drains w.book g a → IsStill g a → TellsPicks w a → TellsNoList g w → FollowsPlans plans a
       → pictures.AllAgreeWith a g outlook → RestsBy g w plans (pictures.picture_counts a g) outlook
 
   abbrev MovesLaw : Type 0
-  MovesLaw = (g : Graph) (w : World) (plans : Plans) (rank : ℕ → ℕ) (a : Account (IslandNode S D L B)) → IsRun sources drains w.book g a → AreSettled g a
+  MovesLaw = (g : Graph) (w : World) (plans : Plans) (rank : ℕ → ℕ) (a : Account (IslandNode S D L H B)) → IsRun sources drains w.book g a → AreSettled g a
       → WorldTells sources g w a → FollowsPlans plans a → IsRanked g rank → FitsBy g w plans
 
   abbrev BeginsLaw : Type 0
-  BeginsLaw = (g : Graph) (w : World) (a : Account (IslandNode S D L B)) → IsRun sources drains w.book g a → (k : ℕ) (n : graph.Node) (first now : IslandNode S D L B) (plan : List ℕ)
+  BeginsLaw = (g : Graph) (w : World) (a : Account (IslandNode S D L H B)) → IsRun sources drains w.book g a → (k : ℕ) (n : graph.Node) (first now : IslandNode S D L H B) (plan : List ℕ)
       → slice_get g.nodes k ≡ Some n → a.firsts k ≡ Some first → a.nodes k ≡ Some now → node_plan first ≡ Some plan → IsPrefix (node_moves now) plan × (IsAtOnce n.kind → (node_moves now ≡ []) ⊎ (node_moves now ≡ plan))
 
   abbrev MisfitLaw : Type 0
-  MisfitLaw = (g : Graph) (w : World) (plans : Plans) (a : Account (IslandNode S D L B)) (outlook : ℕ → Outlook) → IsRun sources drains w.book g a → TellsPicks w a → FollowsPlans plans a → pictures.AllAgreeWith a g outlook
-      → (k : ℕ) (n : graph.Node) (now : IslandNode S D L B) (place : ℕ) → slice_get g.nodes k ≡ Some n → a.nodes k ≡ Some now → node_misfit now ≡ Some place → (place ≡ length (node_moves now)) × MisfitsOver g w plans outlook k n
+  MisfitLaw = (g : Graph) (w : World) (plans : Plans) (a : Account (IslandNode S D L H B)) (outlook : ℕ → Outlook) → IsRun sources drains w.book g a → TellsPicks w a → FollowsPlans plans a → pictures.AllAgreeWith a g outlook
+      → (k : ℕ) (n : graph.Node) (now : IslandNode S D L H B) (place : ℕ) → slice_get g.nodes k ≡ Some n → a.nodes k ≡ Some now → node_misfit now ≡ Some place → (place ≡ length (node_moves now)) × MisfitsOver g w plans outlook k n
 
   abbrev ServesLaw : Type 0
-  ServesLaw = (g : Graph) (w : World) (rank : ℕ → ℕ) (a : Account (IslandNode S D L B)) → IsRun sources drains w.book g a → TellsFiles sources g w a → ServesPlans g w a → IsRanked g rank
+  ServesLaw = (g : Graph) (w : World) (rank : ℕ → ℕ) (a : Account (IslandNode S D L H B)) → IsRun sources drains w.book g a → TellsFiles sources g w a → ServesPlans g w a → IsRanked g rank
       → (i : ℕ) → i < length g.wires → AgreesWith (composed g w i) (a.near i).wire.sent
 
   abbrev MatchLaw : Type 0
-  MatchLaw = (g : Graph) (w : World) (a : Account (IslandNode S D L B)) (outlook : ℕ → Outlook) → IsRun sources drains book g a → IsStill g a
+  MatchLaw = (g : Graph) (w : World) (a : Account (IslandNode S D L H B)) (outlook : ℕ → Outlook) → IsRun sources drains book g a → IsStill g a
       → SinksMatch g w (pictures.picture_counts a g) outlook (λ k. ended_there (a.nodes k))
 
   abbrev AgreeLaw : Type 0
-  AgreeLaw = (g : Graph) (w : World) (rank : ℕ → ℕ) (a : Account (IslandNode S D L B)) → IsRun sources drains w.book g a
+  AgreeLaw = (g : Graph) (w : World) (rank : ℕ → ℕ) (a : Account (IslandNode S D L H B)) → IsRun sources drains w.book g a
       → WorldTells sources g w a → IsRanked g rank → (i : ℕ) → i < length g.wires → AgreesWith (composed g w i) (a.near i).wire.sent
 
   abbrev BlameLaw : Type 0
-  BlameLaw = (g : Graph) (w : World) (rank : ℕ → ℕ) (a : Account (IslandNode S D L B)) → IsRun sources drains w.book g a
+  BlameLaw = (g : Graph) (w : World) (rank : ℕ → ℕ) (a : Account (IslandNode S D L H B)) → IsRun sources drains w.book g a
       → WorldTells sources g w a → IsRanked g rank → GivenLeads g w
 
   abbrev TreesLaw : Type 0
@@ -305,7 +305,7 @@ module _ {S D : Type 0} (L B : Type 0) (sources : S → SourceState) (drains : D
       → (i : ℕ) (v : Edge) (n : graph.Node) → slice_get g.wires i ≡ Some v → slice_get g.nodes v.to ≡ Some n → oneway.is_sink n.kind ≡ true → ended v.to ≡ true
 
   abbrev IgnorerThere : Type 0
-  IgnorerThere = (g : Graph) (a : Account (IslandNode S D L B)) → IsRun sources drains book g a
+  IgnorerThere = (g : Graph) (a : Account (IslandNode S D L H B)) → IsRun sources drains book g a
       → (k : ℕ) (n : graph.Node) → slice_get g.nodes k ≡ Some n → n.kind ≡ kind.Ignore → (first : Ignorer) × ((now : Ignorer) × IsIgnorerAt a k first now)
 
   abbrev FitsLaw : Type 0
@@ -313,25 +313,25 @@ module _ {S D : Type 0} (L B : Type 0) (sources : S → SourceState) (drains : D
       → PassesRules heads b.chains.items b.nodes.items g
 
   abbrev TypesLaw : Type 0
-  TypesLaw = (heads : HeadLists) (chains : List ChainDecl) (nodes : List blue.Node) (g : Graph) (w : World) (rank : ℕ → ℕ) (a : Account (IslandNode S D L B)) → IsRun sources drains w.book g a → TellsPicks w a → TellsCustoms g w a
+  TypesLaw = (heads : HeadLists) (chains : List ChainDecl) (nodes : List blue.Node) (g : Graph) (w : World) (rank : ℕ → ℕ) (a : Account (IslandNode S D L H B)) → IsRun sources drains w.book g a → TellsPicks w a → TellsCustoms g w a
       → PassesRules heads chains nodes g → KeepsPlugTypes heads w.book → GivenTyped heads nodes g.wires w → IsRanked g rank
       → (i : ℕ) (v : Edge) → slice_get g.wires i ≡ Some v → SendsItsType heads chains nodes g w i v (a.near i).wire.sent
 
   abbrev GivesLaw : Type 0
-  GivesLaw = (g : Graph) (w : World) (a : Account (IslandNode S D L B)) → IsRun sources drains w.book g a → TellsPicks w a
+  GivesLaw = (g : Graph) (w : World) (a : Account (IslandNode S D L H B)) → IsRun sources drains w.book g a → TellsPicks w a
       → (sent : ℕ → Outlook) (j : ℕ) (v : Edge) (n : graph.Node) → slice_get g.wires j ≡ Some v → slice_get g.nodes v.from ≡ Some n → ((name : List ℕ) → n.kind ≢ kind.Lines name) → ((name : List ℕ) → n.kind ≢ kind.Custom name)
       → ((u : ℕ) (x : Edge) → slice_get g.wires u ≡ Some x → x.to ≡ v.from → AgreesWith (sent u) (a.near u).wire.sent) → AgreesWith (next g w sent j) (a.near j).wire.sent
 
   abbrev TextsLaw : Type 0
-  TextsLaw = (g : Graph) (a : Account (IslandNode S D L B)) → IsRun sources drains book g a
+  TextsLaw = (g : Graph) (a : Account (IslandNode S D L H B)) → IsRun sources drains book g a
       → (u : ℕ) (v : Edge) (n : graph.Node) (name : List ℕ) → slice_get g.wires u ≡ Some v → slice_get g.nodes v.from ≡ Some n → n.kind ≡ kind.Lines name → GivesTexts (a.near u).wire.sent
 
   abbrev CustomsLaw : Type 0
-  CustomsLaw = (g : Graph) (a : Account (IslandNode S D L B)) → IsRun sources drains book g a
+  CustomsLaw = (g : Graph) (a : Account (IslandNode S D L H B)) → IsRun sources drains book g a
       → (u : ℕ) (v : Edge) (n : graph.Node) (name : List ℕ) → slice_get g.wires u ≡ Some v → slice_get g.nodes v.from ≡ Some n → n.kind ≡ kind.Custom name → IsToldList (a.near u).wire.sent
 
   abbrev TypedLaw : Type 0
-  TypedLaw = (g : Graph) (a : Account (IslandNode S D L B)) → IsRun sources drains book g a
+  TypedLaw = (g : Graph) (a : Account (IslandNode S D L H B)) → IsRun sources drains book g a
       → (u : ℕ) (v : Edge) (n : graph.Node) (name : List ℕ) → slice_get g.wires u ≡ Some v → slice_get g.nodes v.from ≡ Some n → n.kind ≡ kind.Custom name
       → (first : CustomState) → a.firsts v.from ≡ Some (node.Custom first) → ItemsTyped (slice_get first.types v.output) (a.near u).wire.sent
 
@@ -364,16 +364,16 @@ module _ {S D : Type 0} (L B : Type 0) (sources : S → SourceState) (drains : D
 
 -- ---- what a run leaves
 
-module _ {S D L B : Type 0} (sources : S → SourceState) (drains : D → DrainState) (book : Book) (handles : HandleLaws L B sources drains book) (laws : RunLaws L B sources drains book) (b : Blueprint) (can : CanRun b) (ss : List S) (ds : List D) (budget : ℕ) (st : Stopped S D) (l : RunLeaves L B sources drains book b ss ds budget st)
+module _ {S D L H B : Type 0} (sources : S → SourceState) (drains : D → DrainState) (book : Book) (handles : HandleLaws L H B sources drains book) (laws : RunLaws L H B sources drains book) (b : Blueprint) (can : CanRun b) (ss : List S) (ds : List D) (budget : ℕ) (st : Stopped S D) (l : RunLeaves L H B sources drains book b ss ds budget st)
     (plans : List (Option (List ℕ))) (led : map place_plan l.moment.places ≡ plans) (old mid : FolderState) (trace : Option (List ℕ)) (separate : IsApart b trace) (opens : Opens old mid (inputs_of_nodes b.nodes.items) (outputs_of_nodes b.nodes.items) (option_to_list trace) (map sources ss) (map drains ds)) (new : FolderState)
     (closes : Shuts mid new (option_to_list trace) (map sources st.end.readers.items) (map drains st.end.writers.items)) where
   abbrev nodes : List blue.Node
   nodes = b.nodes.items
 
-  abbrev left : Account (IslandNode S D L B)
+  abbrev left : Account (IslandNode S D L H B)
   left = l.account
 
-  abbrev last : List (IslandNode S D L B)
+  abbrev last : List (IslandNode S D L H B)
   last = l.nodes
 
   abbrev between : Moment sources drains book b ss ds left last
@@ -394,7 +394,7 @@ module _ {S D L B : Type 0} (sources : S → SourceState) (drains : D → DrainS
   sink_at : (k : ℕ) (file : List ℕ) → IsSinkInto nodes k file → ASink k file
   sink_at = sink_facts sources drains book handles b ss ds left last between old mid opens
 
-  profile : (k : ℕ) (n : blue.Node) (x : IslandNode S D L B) → slice_get nodes k ≡ Some n → slice_get last k ≡ Some x → Profile sources drains k n x
+  profile : (k : ℕ) (n : blue.Node) (x : IslandNode S D L H B) → slice_get nodes k ≡ Some n → slice_get last k ≡ Some x → Profile sources drains k n x
   profile = profiles sources drains book handles b ss ds left last between old mid opens
 
   lone : (n : List ℕ) → Contains (outputs_of_nodes nodes) n → Contains (option_to_list trace) n → ⊥
@@ -463,7 +463,7 @@ module _ {S D L B : Type 0} (sources : S → SourceState) (drains : D → DrainS
     at : slice_get nodes s.0 ≡ Some node
     shape : oneway.is_sink node.kind ≡ true
     ended : ended_there (left.nodes s.0) ≡ has_ended s.2
-    now : IslandNode S D L B
+    now : IslandNode S D L H B
     now_at : left.nodes s.0 ≡ Some now
     stands : stand_in now ≡ Some s
     wire : ℕ
@@ -571,17 +571,17 @@ module _ {S D L B : Type 0} (sources : S → SourceState) (drains : D → DrainS
       let there : slice_get last s.0 ≡ Some from.1.0 = subst (λ j. slice_get last j ≡ Some from.1.0) (sym place) from.1.1.0 in
       let f = sink_at s.0 file (record { node = n; at = here; file_is = shape }) in
       let is : from.1.0 ≡ node.Writing f.now = place_one last s.0 from.1.0 (node.Writing f.now) there f.at in
-      let told : stand_in {S = S} {D = D} {L = L} {B = B} (node.Writing f.now) ≡ Some s = ap stand_in (sym is) ∙ from.1.1.1 in
+      let told : stand_in {S = S} {D = D} {L = L} {H = H} {B = B} (node.Writing f.now) ≡ Some s = ap stand_in (sym is) ∙ from.1.1.1 in
       let same : (f.now.node, f.now.count, f.now.end) ≡ s = some_one (f.now.node, f.now.count, f.now.end) s told in
       (f, sym same ∙ ap (λ (j : ℕ). (j, f.now.count, f.now.end)) f.place)
 
   -- how many lines a sink with a file may put together, by its one wire
-  roomed_at : (k : ℕ) (n : blue.Node) (first : Sink D) (u : ℕ) (v : Edge) → inputs_of n.kind ≡ 1 → slice_get nodes k ≡ Some n → left.firsts k ≡ Some (node.Writing first) → slice_get (blueprint_wires b) u ≡ Some v → v.to ≡ k
+  roomed_at : (k : ℕ) (n : blue.Node) (first : Sink D) (u : ℕ) (v : Edge) → inputs_of (graph_node b.wires.items n) ≡ 1 → slice_get nodes k ≡ Some n → left.firsts k ≡ Some (node.Writing first) → slice_get (blueprint_wires b) u ≡ Some v → v.to ≡ k
       → first.gather.room ≡ sink_room first.writes (gather_of v.lane)
   roomed_at k n first u v one here at wire to =
-      let there = mapped_at graph_node nodes k n here in
-      let found : find_wire k 0 g.wires ≡ Some u = one_input g run.joined k (graph_node n) u v there one wire to in
-      l.roomed k u v first at wire to (λ j x is leads. some_one j u (sym (one_input g run.joined k (graph_node n) j x there one is leads) ∙ found))
+      let there = mapped_at (graph_node b.wires.items) nodes k n here in
+      let found : find_wire k 0 g.wires ≡ Some u = one_input g run.joined k (graph_node b.wires.items n) u v there one wire to in
+      l.roomed k u v first at wire to (λ j x is leads. some_one j u (sym (one_input g run.joined k (graph_node b.wires.items n) j x there one is leads) ∙ found))
 
   -- how the wire of a sink stands, by how the sink does
   sink_stood : (i : ℕ) (s : SinkStand) (u : ℕ) (v : Edge) (c : WireCount) → slice_get st.end.sinks.items i ≡ Some s → slice_get (blueprint_wires b) u ≡ Some v → v.to ≡ s.0 → slice_get st.wires.items u ≡ Some c
@@ -606,7 +606,7 @@ module _ {S D L B : Type 0} (sources : S → SourceState) (drains : D → DrainS
       let found = stand_of i s n file at here (ap output_of shape) in
       let f = found.0 in
       let asked : AskedBy f.now.end v.lane f.now.count (wire_count v.lane (left.near u) (left.asked u)) =
-      sink_asked sources drains book g left run u v wire s.0 (graph_node b.wires.items n) file f.first f.now (mapped_at (graph_node b.wires.items) nodes s.0 n here) shape to f.there (roomed_at s.0 n f.first u v (ap inputs_of shape) here f.there.at_first wire to) l.cancels in
+      sink_asked sources drains book g left run u v wire s.0 (graph_node b.wires.items n) file f.first f.now (mapped_at (graph_node b.wires.items) nodes s.0 n here) shape to f.there (roomed_at s.0 n f.first u v (ap (inputs_by (graph_node b.wires.items n).head) shape) here f.there.at_first wire to) l.cancels in
       subst (λ (t : SinkStand). AskedBy t.2 v.lane t.1 c) (sym found.1) (rw (wire_at u v c wire is) asked)
 
   -- what came to a sink with a file
@@ -630,7 +630,7 @@ module _ {S D L B : Type 0} (sources : S → SourceState) (drains : D → DrainS
       let there = laws.ignorer g left run s.0 (graph_node b.wires.items n) (mapped_at (graph_node b.wires.items) nodes s.0 n here) shape in
       let now = there.1.0 in
       let is : h.now ≡ node.Ignoring now = some_one h.now (node.Ignoring now) (sym h.now_at ∙ there.1.1.at_last) in
-      let told : stand_in {S = S} {D = D} {L = L} {B = B} (node.Ignoring now) ≡ Some s = ap stand_in (sym is) ∙ h.stands in
+      let told : stand_in {S = S} {D = D} {L = L} {H = H} {B = B} (node.Ignoring now) ≡ Some s = ap stand_in (sym is) ∙ h.stands in
       (there.0, (now, (there.1.1, some_one (now.node, 0, now.end) s told)))
 
   -- what came to it
@@ -731,7 +731,7 @@ module _ {S D L B : Type 0} (sources : S → SourceState) (drains : D → DrainS
   }
 
   -- a node of the blueprint, as it is at its place
-  node_there : (k : ℕ) (x : IslandNode S D L B) → slice_get last k ≡ Some x → left.nodes k ≡ Some x
+  node_there : (k : ℕ) (x : IslandNode S D L H B) → slice_get last k ≡ Some x → left.nodes k ≡ Some x
   node_there k x at = between.node_at k ∙ at
 
   -- what the stages that follow moves made of them
@@ -747,7 +747,7 @@ module _ {S D L B : Type 0} (sources : S → SourceState) (drains : D → DrainS
 
   -- one that could not make its next move, by what is told of its cause
   abbrev Told : (ℕ → blue.Node → Type 0) → Type 0
-  Told Cause = (k : ℕ) (n : blue.Node) (x : IslandNode S D L B) (place : ℕ) → slice_get nodes k ≡ Some n → left.nodes k ≡ Some x → node_misfit x ≡ Some place → Cause k n
+  Told Cause = (k : ℕ) (n : blue.Node) (x : IslandNode S D L H B) (place : ℕ) → slice_get nodes k ≡ Some n → left.nodes k ≡ Some x → node_misfit x ≡ Some place → Cause k n
 
   stopped : (Cause : ℕ → blue.Node → Type 0) → Told Cause → (stage place : ℕ) → st.end.misfit ≡ Some (stage, place) → IsMisfit b plans drawn.picks Cause stage place
   stopped Cause causes stage place is =
@@ -762,7 +762,7 @@ module _ {S D L B : Type 0} (sources : S → SourceState) (drains : D → DrainS
       let why = laws.misfit g (unread book moved) (plan_at plans) left (as_passed carried) run told_moves follows all_agree stage (graph_node b.wires.items n.0) f.node place here there f.found in
       let more = misfit_has_more g (unread book moved) (plan_at plans) (as_passed carried) stage (graph_node b.wires.items n.0) why.1 in
       let moves : List ℕ = node_moves f.node in
-      let size : length (moved stage) ≡ length (node_moves f.node) = ap (λ (o : Option (IslandNode S D L B)). length (moves_at o)) there in
+      let size : length (moved stage) ≡ length (node_moves f.node) = ap (λ (o : Option (IslandNode S D L H B)). length (moves_at o)) there in
       let chose = made_along 0 last f.at stage f.node (node_moves f.node) number f.there (misfit_chooses f.node place f.found) in
       let many : place ≡ length (node_moves f.node) = why.0 in
       let longer : length (moved stage) < length more.moves = more.more in
@@ -837,8 +837,8 @@ module _ {S D L B : Type 0} (sources : S → SourceState) (drains : D → DrainS
 
       room_now : n.kind ≡ kind.ToLines file → (u : ℕ) (v : Edge) → slice_get (blueprint_wires b) u ≡ Some v → v.to ≡ k → f.now.gather.room ≡ gather_of v.lane
       room_now shape u v wire to =
-          f.law.room_same ∙ roomed_at k n f.first u v (ap inputs_of shape) at f.there.at_first wire to
-          ∙ ap (λ (m : Writes). sink_room m (gather_of v.lane)) ((run.made k (graph_node n) (node.Writing f.first) at_graph f.there.at_first).writes ∙ ap writes_of shape) ∙ room_each v.lane
+          f.law.room_same ∙ roomed_at k n f.first u v (ap (inputs_by (graph_node b.wires.items n).head) shape) at f.there.at_first wire to
+          ∙ ap (λ (m : Writes). sink_room m (gather_of v.lane)) ((run.made k (graph_node b.wires.items n) (node.Writing f.first) at_graph f.there.at_first).writes ∙ ap writes_of shape) ∙ room_each v.lane
 
       wrote : SinkWrote sources drains book g left k (graph_node b.wires.items n) f.first f.now
       wrote = laws.wrote g left run k (graph_node b.wires.items n) f.first f.now at_graph f.there
@@ -1070,7 +1070,7 @@ module _ {S D L B : Type 0} (sources : S → SourceState) (drains : D → DrainS
         let shape = fault_kind sources drains book handles b ss ds left last between old mid opens from.0 m.0 from.1.0 s m.1 from.1.1.0 from.1.1.1 fault in
         let f = sink_at from.0 shape.0 (record { node = m.0; at = m.1; file_is = shape.1 }) in
         let is : from.1.0 ≡ node.Writing f.now = place_one last from.0 from.1.0 (node.Writing f.now) from.1.1.0 f.at in
-        let told : stand_in {S = S} {D = D} {L = L} {B = B} (node.Writing f.now) ≡ Some s = ap stand_in (sym is) ∙ from.1.1.1 in
+        let told : stand_in {S = S} {D = D} {L = L} {H = H} {B = B} (node.Writing f.now) ≡ Some s = ap stand_in (sym is) ∙ from.1.1.1 in
         let same : (f.now.node, f.now.count, f.now.end) ≡ s = some_one (f.now.node, f.now.count, f.now.end) s told in
         let failed : f.now.end ≡ WriteFault = ap (λ (t : SinkStand). t.2) same ∙ fault in
         let file = filtered_at (λ (n : blue.Node). output_of n.kind) nodes from.0 m.0 shape.0 m.1 shape.1 in

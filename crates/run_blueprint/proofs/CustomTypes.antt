@@ -53,33 +53,33 @@ output_found (Some h) ts p t e out = let same : h.outputs ≡ ts = some_one h.ou
 
 -- ---- places
 
-module _ {S D L B : Type 0} where
-  abbrev as_node : CustomState → IslandNode S D L B
+module _ {S D L H B : Type 0} where
+  abbrev as_node : CustomState → IslandNode S D L H B
   as_node x = node.Custom x
 
   one_custom : (x y : CustomState) → as_node x ≡ as_node y → x ≡ y
   one_custom x y e = cc
 
-  work_keeps : (k : ℕ) (w : Work S D L B) (x : CustomState) → BecomesOf k w (node.Custom x) → work_types w ≡ Some x.types
-  work_keeps k (work.Custom y n m) x h = ap (λ (z : CustomState). Some z.types) (sym (one_custom x y h))
-  work_keeps k (work.Reading r) x h = absurd cc
-  work_keeps k (work.Making shape) x h = absurd cc
-  work_keeps k (work.Linear l) x h = absurd cc
-  work_keeps k (work.State l) x h = absurd cc
-  work_keeps k (work.Sub l) x h = absurd cc
-  work_keeps k (work.FanIn l n) x h = absurd cc
-  work_keeps k (work.FanOut l n) x h = absurd cc
-  work_keeps k (work.Writing shape (Some d)) x h = absurd cc
-  work_keeps k (work.Writing shape None) x h = absurd cc
-  work_keeps k (work.LaneIn u) x h = absurd cc
-  work_keeps k (work.LaneOut u) x h = absurd cc
+  work_keeps : (k room : ℕ) (w : Work S D L H B) (x : CustomState) → BecomesOf k room w (node.Custom x) → work_types w ≡ Some x.types
+  work_keeps k room (work.Custom y n m) x h = ap (λ (z : CustomState). Some z.types) (sym (one_custom x y h))
+  work_keeps k room (work.Reading r) x h = absurd cc
+  work_keeps k room (work.Making shape) x h = absurd cc
+  work_keeps k room (work.Linear l) x h = absurd cc
+  work_keeps k room (work.State l) x h = absurd cc
+  work_keeps k room (work.Sub l) x h = absurd cc
+  work_keeps k room (work.FanIn l n) x h = absurd cc
+  work_keeps k room (work.FanOut l n) x h = absurd cc
+  work_keeps k room (work.Writing shape (Some d)) x h = absurd cc
+  work_keeps k room (work.Writing shape None) x h = absurd cc
+  work_keeps k room (work.LaneIn u) x h = absurd cc
+  work_keeps k room (work.LaneOut u) x h = absurd cc
 
   -- a custom stage has the types of the place at which it began
-  pub types_along : (places : List (Seated S D L B)) (firsts : List (IslandNode S D L B)) → AllBecome places firsts → (k : ℕ) (x : CustomState) → slice_get firsts k ≡ Some (node.Custom x) → slice_get (map place_types places) k ≡ Some (Some x.types)
+  pub types_along : (places : List (Seated S D L H B)) (firsts : List (IslandNode S D L H B)) → AllBecome places firsts → (k : ℕ) (x : CustomState) → slice_get firsts k ≡ Some (node.Custom x) → slice_get (map place_types places) k ≡ Some (Some x.types)
   types_along [] [] h k x at = absurd cc
   types_along [] (y ∷ ys) h k x at = absurd h
   types_along (p ∷ ps) [] h k x at = absurd h
   types_along (p ∷ ps) (y ∷ ys) h zero x at =
       let same : y ≡ as_node x = some_one y (as_node x) at in
-      ap (λ (o : Option (List Sort)). Some o) (work_keeps p.node p.work x (subst (λ (z : IslandNode S D L B). BecomesOf p.node p.work z) same h.0))
+      ap (λ (o : Option (List Sort)). Some o) (work_keeps p.node p.room p.work x (subst (λ (z : IslandNode S D L H B). BecomesOf p.node p.room p.work z) same h.0))
   types_along (p ∷ ps) (y ∷ ys) h (suc k) x at = types_along ps ys h.1 k x at

@@ -45,11 +45,11 @@ use Rattle.stream_model.specs.Linear.{Book}
 abbrev blank : SourceState
 blank = record { name = []; whole = None; given = 0; faults = 0 }
 
-abbrev source_in : {S D L B : Type 0} → (S → SourceState) → Option (IslandNode S D L B) → SourceState
+abbrev source_in : {S D L H B : Type 0} → (S → SourceState) → Option (IslandNode S D L H B) → SourceState
 source_in sources (Some (node.Reading x)) = sources x.reader.source
 source_in sources _ = blank
 
-source_there : {S D L B : Type 0} (sources : S → SourceState) (o : Option (IslandNode S D L B)) (x : Lines S) → o ≡ Some (node.Reading x) → source_in sources o ≡ sources x.reader.source
+source_there : {S D L H B : Type 0} (sources : S → SourceState) (o : Option (IslandNode S D L H B)) (x : Lines S) → o ≡ Some (node.Reading x) → source_in sources o ≡ sources x.reader.source
 source_there sources o x e = rw e refl
 
 one_node : {A : Type 0} {o : Option A} (x y : A) → o ≡ Some x → o ≡ Some y → x ≡ y
@@ -63,17 +63,17 @@ abbrev so_passed : Option (List Item) → Outlook
 so_passed None = nothing
 so_passed (Some h) = passed_so h
 
-abbrev custom_gave : {S D L B : Type 0} → Option graph.Node → Option (IslandNode S D L B) → ℕ → Outlook
+abbrev custom_gave : {S D L H B : Type 0} → Option graph.Node → Option (IslandNode S D L H B) → ℕ → Outlook
 custom_gave (Some n) (Some (node.Custom x)) p = so_passed (slice_get (given_at n x) p)
 custom_gave _ _ p = nothing
 
-custom_there : {S D L B : Type 0} (o : Option graph.Node) (x : Option (IslandNode S D L B)) (n : graph.Node) (c : CustomState) (p : ℕ) (h : List Item) → o ≡ Some n → x ≡ Some (node.Custom c) → slice_get (given_at n c) p ≡ Some h
+custom_there : {S D L H B : Type 0} (o : Option graph.Node) (x : Option (IslandNode S D L H B)) (n : graph.Node) (c : CustomState) (p : ℕ) (h : List Item) → o ≡ Some n → x ≡ Some (node.Custom c) → slice_get (given_at n c) p ≡ Some h
     → custom_gave o x p ≡ passed_so h
-custom_there {S} {D} {L} {B} o x n c p h e f at =
-    ap (λ (z : Option graph.Node). custom_gave z x p) e ∙ ap (λ (z : Option (IslandNode S D L B)). custom_gave (Some n) z p) f ∙ ap so_passed at
+custom_there {S} {D} {L} {H} {B} o x n c p h e f at =
+    ap (λ (z : Option graph.Node). custom_gave z x p) e ∙ ap (λ (z : Option (IslandNode S D L H B)). custom_gave (Some n) z p) f ∙ ap so_passed at
 
 -- it stays the stage of its node
-custom_node : {S D L B : Type 0} (sources : S → SourceState) (drains : D → DrainState) (book : Book) (chains : List graph.Chain) (k : ℕ) (n : graph.Node) (first : IslandNode S D L B) (c : CustomState) (v : View) (took gave : List (List Item))
+custom_node : {S D L H B : Type 0} (sources : S → SourceState) (drains : D → DrainState) (book : Book) (chains : List graph.Chain) (k : ℕ) (n : graph.Node) (first : IslandNode S D L H B) (c : CustomState) (v : View) (took gave : List (List Item))
     → FirstOf sources chains k n first → node_law sources drains book first (node.Custom c) v took gave → c.node ≡ k
 custom_node sources drains book chains k n (node.Custom f) c v took gave made law = (stays f c v took gave law).0 ∙ made.node
 custom_node sources drains book chains k n (node.Entering f) c v took gave made law = absurd made
@@ -81,14 +81,14 @@ custom_node sources drains book chains k n (node.Leaving f) c v took gave made l
 custom_node sources drains book chains k n first c v took gave made law = absurd law
 
 -- a world that has the files as they were read and what custom stages gave tells of each of them
-tells_node : {S D L B : Type 0} (sources : S → SourceState) (w : World) (n : graph.Node) (first now : IslandNode S D L B)
+tells_node : {S D L H B : Type 0} (sources : S → SourceState) (w : World) (n : graph.Node) (first now : IslandNode S D L H B)
     → ((a c : Lines S) (name : List ℕ) → first ≡ node.Reading a → now ≡ node.Reading c → n.kind ≡ kind.Lines name → TellsFile (sources a.reader.source) (sources c.reader.source) (w.file name))
     → ((c : CustomState) → now ≡ node.Custom c → TellsGave w n c) → TellsNode sources w n first now
 tells_node sources w n (node.Reading a) (node.Reading c) tells gave = λ name shape. tells a c name refl refl shape
 tells_node sources w n (node.Custom a) (node.Custom c) tells gave = gave c refl
 tells_node sources w n first now tells gave = tt
 
-abbrev pub drawn_of : {S D L B : Type 0} → (S → SourceState) → Graph → Account (IslandNode S D L B) → List (IslandNode S D L B) → Drawn
+abbrev pub drawn_of : {S D L H B : Type 0} → (S → SourceState) → Graph → Account (IslandNode S D L H B) → List (IslandNode S D L H B) → Drawn
 drawn_of sources g left last = record {
   bytes = λ k. unwrap_or (source_in sources (left.firsts k)).whole [];
   given = λ k. (source_in sources (left.nodes k)).given;
@@ -97,7 +97,7 @@ drawn_of sources g left last = record {
   given_by = λ k p. custom_gave (slice_get g.nodes k) (left.nodes k) p;
 }
 
-module _ {S D L B : Type 0} (sources : S → SourceState) (drains : D → DrainState) (book : Book) (handles : HandleLaws L B sources drains book) (b : Blueprint) (can : CanRun b) (ss : List S) (ds : List D) (left : Account (IslandNode S D L B)) (last : List (IslandNode S D L B)) (l : Moment sources drains book b ss ds left last)
+module _ {S D L H B : Type 0} (sources : S → SourceState) (drains : D → DrainState) (book : Book) (handles : HandleLaws L H B sources drains book) (b : Blueprint) (can : CanRun b) (ss : List S) (ds : List D) (left : Account (IslandNode S D L H B)) (last : List (IslandNode S D L H B)) (l : Moment sources drains book b ss ds left last)
     (old mid : FolderState) {others : List (List ℕ)} (opens : Opens old mid (inputs_of_nodes b.nodes.items) (outputs_of_nodes b.nodes.items) others (map sources ss) (map drains ds)) where
   abbrev nodes : List blue.Node
   nodes = b.nodes.items
@@ -205,7 +205,7 @@ module _ {S D L B : Type 0} (sources : S → SourceState) (drains : D → DrainS
         let now_is : f.now ≡ c = reading_same f.now c now (one_node now (node.Reading f.now) ni f.there.at_last) nc in
         subst (λ (x : Lines S). TellsFile (sources x.reader.source) (sources c.reader.source) (w.file name)) first_is
         (subst (λ (x : Lines S). TellsFile (sources f.first.reader.source) (sources x.reader.source) (w.file name)) now_is (file_told k name f w (has k name place))))
-        (λ c nc. gave_told w gave untold k n c gi (ni ∙ ap (λ (x : IslandNode S D L B). Some x) nc))
+        (λ c nc. gave_told w gave untold k n c gi (ni ∙ ap (λ (x : IslandNode S D L H B). Some x) nc))
 
     world_tells : (w : World) → IsWorldOf book nodes drawn w → WorldTells sources (graph_of b) w left
     world_tells w is = record { files = files_told w is.files is.gave is.untold; picks = picks_told w is.moves }

@@ -47,21 +47,21 @@ pub record IsSinkInto (nodes : List blue.Node) (k : ℕ) (file : List ℕ) : Typ
 
 -- ---- the laws that the crates below give
 
-module _ {S D : Type 0} (L B : Type 0) (sources : S → SourceState) (drains : D → DrainState) (book : Book) where
+module _ {S D : Type 0} (L H B : Type 0) (sources : S → SourceState) (drains : D → DrainState) (book : Book) where
   abbrev pub SourcesLaw : Type 0
-  SourcesLaw = (around : Around) (nodes : List blue.Node) (ss : List S) (ds : List D) (places : List (Seated S D L B)) (firsts : List (IslandNode S D L B)) → AreSeats around 0 nodes ss ds places → AllBecome places firsts
+  SourcesLaw = (around : Around) (nodes : List blue.Node) (ss : List S) (ds : List D) (places : List (Seated S D L H B)) (firsts : List (IslandNode S D L H B)) → AreSeats around 0 nodes ss ds places → AllBecome places firsts
       → (k : ℕ) (n : blue.Node) (name : List ℕ) → slice_get nodes k ≡ Some n → n.kind ≡ kind.Lines name → ReadsSourceFile (inputs_of_nodes nodes) ss firsts k name
 
   abbrev pub DrainsLaw : Type 0
-  DrainsLaw = (around : Around) (nodes : List blue.Node) (ss : List S) (ds : List D) (places : List (Seated S D L B)) (firsts : List (IslandNode S D L B)) → AreSeats around 0 nodes ss ds places → AllBecome places firsts
+  DrainsLaw = (around : Around) (nodes : List blue.Node) (ss : List S) (ds : List D) (places : List (Seated S D L H B)) (firsts : List (IslandNode S D L H B)) → AreSeats around 0 nodes ss ds places → AllBecome places firsts
       → (k : ℕ) (n : blue.Node) (name : List ℕ) → slice_get nodes k ≡ Some n → output_of n.kind ≡ Some name → WritesFile (outputs_of_nodes nodes) ds firsts k name
 
   abbrev pub SourceThere : Type 0
-  SourceThere = (g : Graph) (a : Account (IslandNode S D L B)) → IsRun sources drains book g a
+  SourceThere = (g : Graph) (a : Account (IslandNode S D L H B)) → IsRun sources drains book g a
       → (k : ℕ) (n : graph.Node) (name : List ℕ) → slice_get g.nodes k ≡ Some n → n.kind ≡ kind.Lines name → (first : Lines S) × ((now : Lines S) × IsSourceAt a k first now)
 
   abbrev pub SinkThere : Type 0
-  SinkThere = (g : Graph) (a : Account (IslandNode S D L B)) → IsRun sources drains book g a
+  SinkThere = (g : Graph) (a : Account (IslandNode S D L H B)) → IsRun sources drains book g a
       → (k : ℕ) (n : graph.Node) → slice_get g.nodes k ≡ Some n → IsFileSink n.kind → (first : Sink D) × ((now : Sink D) × IsSinkAt a k first now)
 
   pub record HandleLaws : Type 0 where
@@ -70,21 +70,21 @@ module _ {S D : Type 0} (L B : Type 0) (sources : S → SourceState) (drains : D
     pub source_there : SourceThere
     pub sink_there : SinkThere
 
-pub reading_same : {S D L B : Type 0} (a b : Lines S) (x : IslandNode S D L B) → x ≡ node.Reading a → x ≡ node.Reading b → a ≡ b
+pub reading_same : {S D L H B : Type 0} (a b : Lines S) (x : IslandNode S D L H B) → x ≡ node.Reading a → x ≡ node.Reading b → a ≡ b
 reading_same a b x e f = cc
 
-pub writing_same : {S D L B : Type 0} (a b : Sink D) (x : IslandNode S D L B) → x ≡ node.Writing a → x ≡ node.Writing b → a ≡ b
+pub writing_same : {S D L H B : Type 0} (a b : Sink D) (x : IslandNode S D L H B) → x ≡ node.Writing a → x ≡ node.Writing b → a ≡ b
 writing_same a b x e f = cc
 
 -- ---- there are as many places as nodes, and as many nodes as places
 
-pub seats_many : {S D L B : Type 0} (around : Around) (k : ℕ) (ns : List blue.Node) (ss : List S) (ds : List D) (ps : List (Seated S D L B)) → AreSeats around k ns ss ds ps → length ns ≡ length ps
+pub seats_many : {S D L H B : Type 0} (around : Around) (k : ℕ) (ns : List blue.Node) (ss : List S) (ds : List D) (ps : List (Seated S D L H B)) → AreSeats around k ns ss ds ps → length ns ≡ length ps
 seats_many around k [] ss ds [] h = refl
 seats_many around k [] ss ds (p ∷ ps) h = absurd h
 seats_many around k (n ∷ ns) ss ds [] h = absurd h
 seats_many around k (n ∷ ns) ss ds (p ∷ ps) h = ap suc (seats_many around (k + 1) ns _ _ ps h.1.1)
 
-pub become_many : {S D L B : Type 0} (ps : List (Seated S D L B)) (xs : List (IslandNode S D L B)) → AllBecome ps xs → length ps ≡ length xs
+pub become_many : {S D L H B : Type 0} (ps : List (Seated S D L H B)) (xs : List (IslandNode S D L H B)) → AllBecome ps xs → length ps ≡ length xs
 become_many [] [] h = refl
 become_many [] (x ∷ xs) h = absurd h
 become_many (p ∷ ps) [] h = absurd h
@@ -92,7 +92,7 @@ become_many (p ∷ ps) (x ∷ xs) h = ap suc (become_many ps xs h.1)
 
 -- ---- the handles of a run
 
-module _ {S D L B : Type 0} (sources : S → SourceState) (drains : D → DrainState) (book : Book) (laws : HandleLaws L B sources drains book) (b : Blueprint) (ss : List S) (ds : List D) (left : Account (IslandNode S D L B)) (last : List (IslandNode S D L B)) (l : Moment sources drains book b ss ds left last)
+module _ {S D L H B : Type 0} (sources : S → SourceState) (drains : D → DrainState) (book : Book) (laws : HandleLaws L H B sources drains book) (b : Blueprint) (ss : List S) (ds : List D) (left : Account (IslandNode S D L H B)) (last : List (IslandNode S D L H B)) (l : Moment sources drains book b ss ds left last)
     (old mid : FolderState) {others : List (List ℕ)} (opens : Opens old mid (inputs_of_nodes b.nodes.items) (outputs_of_nodes b.nodes.items) others (map sources ss) (map drains ds)) where
   abbrev pub nodes : List blue.Node
   nodes = b.nodes.items
@@ -102,15 +102,15 @@ module _ {S D L B : Type 0} (sources : S → SourceState) (drains : D → DrainS
   as_many = seats_many (around_of b) 0 nodes ss ds l.places l.seats ∙ become_many l.places l.firsts l.become ∙ sym l.as_many
 
   -- node k, as it was handed in: as the blueprint names it; and its law
-  pub record NodeFacts (k : ℕ) (n : blue.Node) (x : IslandNode S D L B) : Type 0 where
-    pub first : IslandNode S D L B
+  pub record NodeFacts (k : ℕ) (n : blue.Node) (x : IslandNode S D L H B) : Type 0 where
+    pub first : IslandNode S D L H B
     pub made : FirstOf sources (chains_of b) k (graph_node b.wires.items n) first
     pub knew : View
     pub came : List (List Item)
     pub went : List (List Item)
     pub law : node_law sources drains book first x knew came went
 
-  pub node_facts : (k : ℕ) (n : blue.Node) (x : IslandNode S D L B) → slice_get nodes k ≡ Some n → slice_get last k ≡ Some x → NodeFacts k n x
+  pub node_facts : (k : ℕ) (n : blue.Node) (x : IslandNode S D L H B) → slice_get nodes k ≡ Some n → slice_get last k ≡ Some x → NodeFacts k n x
   node_facts k n x at here =
       let there : slice_get (graph_of b).nodes k ≡ Some (graph_node b.wires.items n) = mapped_at (graph_node b.wires.items) nodes k n at in
       let m = l.run.keeps.each_node k (graph_node b.wires.items n) there in
@@ -121,7 +121,7 @@ module _ {S D L B : Type 0} (sources : S → SourceState) (drains : D → DrainS
         knew = knows (graph_of b) left k (graph_node b.wires.items n);
         came = took (graph_of b) left k (graph_node b.wires.items n);
         went = gave (graph_of b) left k (graph_node b.wires.items n);
-        law = subst (λ (y : IslandNode S D L B). node_law sources drains book m.first y (knows (graph_of b) left k (graph_node b.wires.items n)) (took (graph_of b) left k (graph_node b.wires.items n)) (gave (graph_of b) left k (graph_node b.wires.items n))) same m.law_holds;
+        law = subst (λ (y : IslandNode S D L H B). node_law sources drains book m.first y (knows (graph_of b) left k (graph_node b.wires.items n)) (took (graph_of b) left k (graph_node b.wires.items n)) (gave (graph_of b) left k (graph_node b.wires.items n))) same m.law_holds;
       }
 
   -- a source, as it was handed in and now
@@ -202,7 +202,7 @@ module _ {S D L B : Type 0} (sources : S → SourceState) (drains : D → DrainS
       }
 
   -- what each node leaves
-  pub profiles : (k : ℕ) (n : blue.Node) (x : IslandNode S D L B) → slice_get nodes k ≡ Some n → slice_get last k ≡ Some x → Profile sources drains k n x
+  pub profiles : (k : ℕ) (n : blue.Node) (x : IslandNode S D L H B) → slice_get nodes k ≡ Some n → slice_get last k ≡ Some x → Profile sources drains k n x
   profiles k n x at here =
       let f = node_facts k n x at here in
       node_profile sources drains book k n b.wires.items (chains_of b) f.first x f.knew f.came f.went f.made f.law
@@ -216,14 +216,14 @@ module _ {S D L B : Type 0} (sources : S → SourceState) (drains : D → DrainS
       ap (λ (z : Sink D). (drains z.drain).name) (sym same) ∙ facts.law.name ∙ facts.first_named)
 
   -- a node that stands at a failed write is a sink with a file
-  pub fault_kind : (k : ℕ) (n : blue.Node) (x : IslandNode S D L B) (s : SinkStand) → slice_get nodes k ≡ Some n → slice_get last k ≡ Some x → stand_in x ≡ Some s → s.2 ≡ WriteFault → (name : List ℕ) × (output_of n.kind ≡ Some name)
+  pub fault_kind : (k : ℕ) (n : blue.Node) (x : IslandNode S D L H B) (s : SinkStand) → slice_get nodes k ≡ Some n → slice_get last k ≡ Some x → stand_in x ≡ Some s → s.2 ≡ WriteFault → (name : List ℕ) × (output_of n.kind ≡ Some name)
   fault_kind k n x s at here stands fault =
       let f = node_facts k n x at here in
       let y = never_faults sources drains book k n f.first x s f.knew f.came f.went f.law stands fault in
       writing_kind sources drains book k n b.wires.items (chains_of b) f.first x y.0 f.knew f.came f.went f.made f.law y.1
 
   -- and so is one that leaves a drain
-  pub writer_kind : (k : ℕ) (n : blue.Node) (x : IslandNode S D L B) (y : Sink D) → slice_get nodes k ≡ Some n → slice_get last k ≡ Some x → x ≡ node.Writing y → (name : List ℕ) × (output_of n.kind ≡ Some name)
+  pub writer_kind : (k : ℕ) (n : blue.Node) (x : IslandNode S D L H B) (y : Sink D) → slice_get nodes k ≡ Some n → slice_get last k ≡ Some x → x ≡ node.Writing y → (name : List ℕ) × (output_of n.kind ≡ Some name)
   writer_kind k n x y at here is =
       let f = node_facts k n x at here in
       writing_kind sources drains book k n b.wires.items (chains_of b) f.first x y f.knew f.came f.went f.made f.law is

@@ -162,7 +162,7 @@ hub_wire b u v n there hub =
     let lane = hub_lane b.nodes.items w.0 n size in
     (sym (ap (λ (x : Edge). x.lane) w.1.1) ∙ lane.0, sym (ap (λ (x : Edge). x.keep) w.1.1) ∙ lane.1)
 
-module _ {S D L B : Type 0} (sources : S → SourceState) (drains : D → DrainState) (book : Book) (b : Blueprint) (ss : List S) (ds : List D) (a : Account (IslandNode S D L B)) (nodes : List (IslandNode S D L B)) (m : Moment sources drains book b ss ds a nodes) where
+module _ {S D L H B : Type 0} (sources : S → SourceState) (drains : D → DrainState) (book : Book) (b : Blueprint) (ss : List S) (ds : List D) (a : Account (IslandNode S D L H B)) (nodes : List (IslandNode S D L H B)) (m : Moment sources drains book b ss ds a nodes) where
   pub hub_carries : (u : ℕ) (v : Edge) (n : ℕ) → slice_get (blueprint_wires b) u ≡ Some v → hub_size b.nodes.items v.from v.to ≡ Some n → CarriesParty n (a.near u) (a.far u)
   hub_carries u v n there hub =
       let lane = hub_wire b u v n there hub in

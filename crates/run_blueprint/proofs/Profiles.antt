@@ -35,20 +35,20 @@ use Rattle.run_blueprint.specs.Stands.{SinkStand, sink_places, has_ended_at}
 use Rattle.stream_model.specs.Linear.{Book}
 
 -- what a node leaves
-abbrev pub reader_in : {S D L B : Type 0} → IslandNode S D L B → Option S
+abbrev pub reader_in : {S D L H B : Type 0} → IslandNode S D L H B → Option S
 reader_in (node.Reading x) = Some x.reader.source
 reader_in _ = None
 
-abbrev pub writer_in : {S D L B : Type 0} → IslandNode S D L B → Option D
+abbrev pub writer_in : {S D L H B : Type 0} → IslandNode S D L H B → Option D
 writer_in (node.Writing x) = Some x.drain
 writer_in _ = None
 
-abbrev pub stand_in : {S D L B : Type 0} → IslandNode S D L B → Option SinkStand
+abbrev pub stand_in : {S D L H B : Type 0} → IslandNode S D L H B → Option SinkStand
 stand_in (node.Writing x) = Some (x.node, x.count, x.end)
 stand_in (node.Ignoring x) = Some (x.node, 0, x.end)
 stand_in _ = None
 
-pub readers_filtered : {S D L B : Type 0} (xs : List (IslandNode S D L B)) → readers_of xs ≡ filter_map reader_in xs
+pub readers_filtered : {S D L H B : Type 0} (xs : List (IslandNode S D L H B)) → readers_of xs ≡ filter_map reader_in xs
 readers_filtered [] = refl
 readers_filtered (node.Reading x ∷ xs) = ap (λ l. x.reader.source ∷ l) (readers_filtered xs)
 readers_filtered (node.Linear x ∷ xs) = readers_filtered xs
@@ -63,7 +63,7 @@ readers_filtered (node.Entering x ∷ xs) = readers_filtered xs
 readers_filtered (node.Leaving x ∷ xs) = readers_filtered xs
 readers_filtered (node.Ignoring x ∷ xs) = readers_filtered xs
 
-pub writers_filtered : {S D L B : Type 0} (xs : List (IslandNode S D L B)) → writers_of xs ≡ filter_map writer_in xs
+pub writers_filtered : {S D L H B : Type 0} (xs : List (IslandNode S D L H B)) → writers_of xs ≡ filter_map writer_in xs
 writers_filtered [] = refl
 writers_filtered (node.Reading x ∷ xs) = writers_filtered xs
 writers_filtered (node.Linear x ∷ xs) = writers_filtered xs
@@ -78,7 +78,7 @@ writers_filtered (node.Entering x ∷ xs) = writers_filtered xs
 writers_filtered (node.Leaving x ∷ xs) = writers_filtered xs
 writers_filtered (node.Ignoring x ∷ xs) = writers_filtered xs
 
-pub sinks_filtered : {S D L B : Type 0} (xs : List (IslandNode S D L B)) → sinks_of xs ≡ filter_map stand_in xs
+pub sinks_filtered : {S D L H B : Type 0} (xs : List (IslandNode S D L H B)) → sinks_of xs ≡ filter_map stand_in xs
 sinks_filtered [] = refl
 sinks_filtered (node.Reading x ∷ xs) = sinks_filtered xs
 sinks_filtered (node.Linear x ∷ xs) = sinks_filtered xs
@@ -103,7 +103,7 @@ StandsAt k false o = o ≡ None
 
 -- what node k leaves: a reader where its kind reads a file, which the reader names; a drain where its kind writes one; and how
 -- it stands where it is a sink, and where it stands its kind is a sink's
-pub record Profile {S D L B : Type 0} (sources : S → SourceState) (drains : D → DrainState) (k : ℕ) (n : blue.Node) (x : IslandNode S D L B) : Type 0 where
+pub record Profile {S D L H B : Type 0} (sources : S → SourceState) (drains : D → DrainState) (k : ℕ) (n : blue.Node) (x : IslandNode S D L H B) : Type 0 where
   pub input : source_file n.kind ≡ option_map (λ s. (sources s).name) (reader_in x)
   pub output : output_of n.kind ≡ option_map (λ d. (drains d).name) (writer_in x)
   pub stand : StandsAt k (is_sink n) (stand_in x)
@@ -201,8 +201,8 @@ a_sink : (k : ℕ) (b : Bool) (o : Option SinkStand) (s : SinkStand) → b ≡ t
 a_sink k true o s e f g = (s, (f, g))
 a_sink k false o s e f g = absurd cc
 
-module _ {S D L B : Type 0} (sources : S → SourceState) (drains : D → DrainState) (book : Book) (k : ℕ) (n : blue.Node) where
-  reading_profile : (x : Lines S) (name : List ℕ) → n.kind ≡ kind.Lines name → (sources x.reader.source).name ≡ name → Profile {S = S} {D = D} {L = L} {B = B} sources drains k n (node.Reading x)
+module _ {S D L H B : Type 0} (sources : S → SourceState) (drains : D → DrainState) (book : Book) (k : ℕ) (n : blue.Node) where
+  reading_profile : (x : Lines S) (name : List ℕ) → n.kind ≡ kind.Lines name → (sources x.reader.source).name ≡ name → Profile {S = S} {D = D} {L = L} {H = H} {B = B} sources drains k n (node.Reading x)
   reading_profile x name is named = record {
     input = ap source_file is ∙ ap Some (sym named);
     output = ap output_of is;
@@ -210,7 +210,7 @@ module _ {S D L B : Type 0} (sources : S → SourceState) (drains : D → DrainS
     sink = λ s e. absurd cc;
   }
 
-  writing_profile : (x : Sink D) → IsFileSink n.kind → x.node ≡ k → ((name : List ℕ) → output_of n.kind ≡ Some name → (drains x.drain).name ≡ name) → Profile {S = S} {D = D} {L = L} {B = B} sources drains k n (node.Writing x)
+  writing_profile : (x : Sink D) → IsFileSink n.kind → x.node ≡ k → ((name : List ℕ) → output_of n.kind ≡ Some name → (drains x.drain).name ≡ name) → Profile {S = S} {D = D} {L = L} {H = H} {B = B} sources drains k n (node.Writing x)
   writing_profile x is place named =
       let f = file_sink n.kind is in
       record {
@@ -220,7 +220,7 @@ module _ {S D L B : Type 0} (sources : S → SourceState) (drains : D → DrainS
         sink = λ s e. f.sink;
       }
 
-  ignoring_profile : (x : Ignorer) → n.kind ≡ kind.Ignore → x.node ≡ k → Profile {S = S} {D = D} {L = L} {B = B} sources drains k n (node.Ignoring x)
+  ignoring_profile : (x : Ignorer) → n.kind ≡ kind.Ignore → x.node ≡ k → Profile {S = S} {D = D} {L = L} {H = H} {B = B} sources drains k n (node.Ignoring x)
   ignoring_profile x is place = record {
     input = ap source_file is;
     output = ap output_of is;
@@ -228,7 +228,7 @@ module _ {S D L B : Type 0} (sources : S → SourceState) (drains : D → DrainS
     sink = λ s e. ap oneway.is_sink is;
   }
 
-  inner_profile : (x : IslandNode S D L B) → reader_in x ≡ None → writer_in x ≡ None → stand_in x ≡ None → IsInner n.kind → Profile sources drains k n x
+  inner_profile : (x : IslandNode S D L H B) → reader_in x ≡ None → writer_in x ≡ None → stand_in x ≡ None → IsInner n.kind → Profile sources drains k n x
   inner_profile x reads writes stands is = record {
     input = is.input ∙ ap (option_map (λ s. (sources s).name)) (sym reads);
     output = is.output ∙ ap (option_map (λ d. (drains d).name)) (sym writes);
@@ -237,7 +237,7 @@ module _ {S D L B : Type 0} (sources : S → SourceState) (drains : D → DrainS
   }
 
   -- what a node leaves, whatever its kind is, where its source and its drain have the names of their files
-  pub node_profile : (wires : List WireDecl) (chains : List graph.Chain) (first now : IslandNode S D L B) (v : View) (took gave : List (List Item)) → FirstOf sources chains k (graph_node wires n) first → node_law sources drains book first now v took gave
+  pub node_profile : (wires : List WireDecl) (chains : List graph.Chain) (first now : IslandNode S D L H B) (v : View) (took gave : List (List Item)) → FirstOf sources chains k (graph_node wires n) first → node_law sources drains book first now v took gave
       → ((name : List ℕ) (x : Lines S) → n.kind ≡ kind.Lines name → now ≡ node.Reading x → (sources x.reader.source).name ≡ name)
       → ((name : List ℕ) (x : Sink D) → output_of n.kind ≡ Some name → now ≡ node.Writing x → (drains x.drain).name ≡ name)
       → Profile sources drains k n now
@@ -256,7 +256,7 @@ module _ {S D L B : Type 0} (sources : S → SourceState) (drains : D → DrainS
   node_profile wires chains f x v took gave made law reads writes = absurd law
 
   -- a sink with a file is one by its kind
-  pub writing_kind : (wires : List WireDecl) (chains : List graph.Chain) (first now : IslandNode S D L B) (x : Sink D) (v : View) (took gave : List (List Item)) → FirstOf sources chains k (graph_node wires n) first → node_law sources drains book first now v took gave → now ≡ node.Writing x → (name : List ℕ) × (output_of n.kind ≡ Some name)
+  pub writing_kind : (wires : List WireDecl) (chains : List graph.Chain) (first now : IslandNode S D L H B) (x : Sink D) (v : View) (took gave : List (List Item)) → FirstOf sources chains k (graph_node wires n) first → node_law sources drains book first now v took gave → now ≡ node.Writing x → (name : List ℕ) × (output_of n.kind ≡ Some name)
   writing_kind wires chains (node.Writing f) (node.Writing y) x v took gave made law is = let f = file_sink n.kind made.is_sink in (f.name, f.output)
   writing_kind wires chains (node.Reading f) (node.Reading y) x v took gave made law is = absurd cc
   writing_kind wires chains (node.Making f) (node.Making y) x v took gave made law is = absurd cc
@@ -272,7 +272,7 @@ module _ {S D L B : Type 0} (sources : S → SourceState) (drains : D → DrainS
   writing_kind wires chains f y x v took gave made law is = absurd law
 
   -- no write of a sink without a file fails
-  pub never_faults : (first now : IslandNode S D L B) (s : SinkStand) (v : View) (took gave : List (List Item)) → node_law sources drains book first now v took gave → stand_in now ≡ Some s → s.2 ≡ WriteFault → (x : Sink D) × (now ≡ node.Writing x)
+  pub never_faults : (first now : IslandNode S D L H B) (s : SinkStand) (v : View) (took gave : List (List Item)) → node_law sources drains book first now v took gave → stand_in now ≡ Some s → s.2 ≡ WriteFault → (x : Sink D) × (now ≡ node.Writing x)
   never_faults (node.Writing f) (node.Writing y) s v took gave law stands fault = (y, refl)
   never_faults (node.Ignoring f) (node.Ignoring y) s v took gave law stands fault =
       let same : (y.node, 0, y.end) ≡ s = some_one (y.node, 0, y.end) s stands in
@@ -291,7 +291,7 @@ module _ {S D L B : Type 0} (sources : S → SourceState) (drains : D → DrainS
   never_faults f y s v took gave law stands fault = absurd law
 
 -- a node that leaves a drain is a sink with a file
-pub writer_there : {S D L B : Type 0} (name : D → List ℕ) (x : IslandNode S D L B) (n : List ℕ) → Some n ≡ option_map name (writer_in x) → (y : Sink D) × (x ≡ node.Writing y)
+pub writer_there : {S D L H B : Type 0} (name : D → List ℕ) (x : IslandNode S D L H B) (n : List ℕ) → Some n ≡ option_map name (writer_in x) → (y : Sink D) × (x ≡ node.Writing y)
 writer_there name (node.Writing y) n e = (y, refl)
 writer_there name (node.Reading y) n e = absurd cc
 writer_there name (node.Making y) n e = absurd cc
@@ -310,7 +310,7 @@ stand_cons : (k : ℕ) (b : Bool) (o : Option SinkStand) (later : List ℕ) (ss 
 stand_cons k true o later ss h e = rw h.1.0 (ap (λ m. m ∷ map (λ (s : SinkStand). s.0) ss) h.1.1 ∙ ap (λ l. k ∷ l) e)
 stand_cons k false o later ss h e = rw h e
 
-pub stands_along : {S D L B : Type 0} (k : ℕ) (ns : List blue.Node) (xs : List (IslandNode S D L B)) → length ns ≡ length xs → ((i : ℕ) (n : blue.Node) (x : IslandNode S D L B) → slice_get ns i ≡ Some n → slice_get xs i ≡ Some x → StandsAt (k + i) (is_sink n) (stand_in x)) → map (λ (s : SinkStand). s.0) (filter_map stand_in xs) ≡ sink_places k ns
+pub stands_along : {S D L H B : Type 0} (k : ℕ) (ns : List blue.Node) (xs : List (IslandNode S D L H B)) → length ns ≡ length xs → ((i : ℕ) (n : blue.Node) (x : IslandNode S D L H B) → slice_get ns i ≡ Some n → slice_get xs i ≡ Some x → StandsAt (k + i) (is_sink n) (stand_in x)) → map (λ (s : SinkStand). s.0) (filter_map stand_in xs) ≡ sink_places k ns
 stands_along k [] [] e p = refl
 stands_along k [] (x ∷ xs) e p = absurd (omega (arith, e))
 stands_along k (n ∷ ns) [] e p = absurd (omega (arith, e))
@@ -345,8 +345,8 @@ ended_first : (k j : ℕ) (b : Bool) (o : Option SinkStand) (s : SinkStand) (ss 
 ended_first k j b None s ss h e is = absurd cc
 ended_first k j b (Some t) s ss h e is = let same : t ≡ s = cc in take_this t ss j (stand_number k b t h ∙ sym is) ∙ ap (λ (x : SinkStand). has_ended x.2) same
 
-pub ended_along : {S D L B : Type 0} (k : ℕ) (ns : List blue.Node) (xs : List (IslandNode S D L B)) → length ns ≡ length xs → ((i : ℕ) (n : blue.Node) (x : IslandNode S D L B) → slice_get ns i ≡ Some n → slice_get xs i ≡ Some x → StandsAt (k + i) (is_sink n) (stand_in x))
-    → (i j : ℕ) (x : IslandNode S D L B) (s : SinkStand) → j ≡ k + i → slice_get xs i ≡ Some x → stand_in x ≡ Some s → has_ended_at (filter_map stand_in xs) j ≡ has_ended s.2
+pub ended_along : {S D L H B : Type 0} (k : ℕ) (ns : List blue.Node) (xs : List (IslandNode S D L H B)) → length ns ≡ length xs → ((i : ℕ) (n : blue.Node) (x : IslandNode S D L H B) → slice_get ns i ≡ Some n → slice_get xs i ≡ Some x → StandsAt (k + i) (is_sink n) (stand_in x))
+    → (i j : ℕ) (x : IslandNode S D L H B) (s : SinkStand) → j ≡ k + i → slice_get xs i ≡ Some x → stand_in x ≡ Some s → has_ended_at (filter_map stand_in xs) j ≡ has_ended s.2
 ended_along k ns [] e p i j x s is at stands = absurd cc
 ended_along k [] (y ∷ ys) e p i j x s is at stands = absurd (omega (arith, e))
 ended_along k (n ∷ ns) (y ∷ ys) e p zero j x s is at stands =

@@ -38,8 +38,8 @@ none_at (p ∷ ps) h (suc k) = none_at ps h.1 k
 
 -- ---- what the nodes follow
 
-module _ {S D L B : Type 0} where
-  work_follows : (k room : ℕ) (w : Work S D L B) (x : IslandNode S D L B) → BecomesOf k room w x → work_plan w ≡ node_plan x
+module _ {S D L H B : Type 0} where
+  work_follows : (k room : ℕ) (w : Work S D L H B) (x : IslandNode S D L H B) → BecomesOf k room w x → work_plan w ≡ node_plan x
   work_follows k room (work.Reading r) x h = sym (ap node_plan h)
   work_follows k room (work.Making shape) x h = sym (ap node_plan h)
   work_follows k room (work.Linear l) x h = sym (ap node_plan h)
@@ -48,12 +48,12 @@ module _ {S D L B : Type 0} where
   work_follows k room (work.FanIn l n) x h = sym (ap node_plan h)
   work_follows k room (work.FanOut l n) x h = sym (ap node_plan h)
   work_follows k room (work.Custom l n m) x h = sym (ap node_plan h)
-  work_follows k (work.Writing shape (Some d)) x h = sym (ap node_plan h)
+  work_follows k room (work.Writing shape (Some d)) x h = sym (ap node_plan h)
   work_follows k room (work.Writing shape None) x h = sym (ap node_plan h)
   work_follows k room (work.LaneIn u) x h = sym (ap node_plan h)
   work_follows k room (work.LaneOut u) x h = sym (ap node_plan h)
 
-  pub follow_along : (places : List (Seated S D L B)) (firsts : List (IslandNode S D L B)) → AllBecome places firsts → (k : ℕ) (x : IslandNode S D L B) → slice_get firsts k ≡ Some x → plan_at (map place_plan places) k ≡ node_plan x
+  pub follow_along : (places : List (Seated S D L H B)) (firsts : List (IslandNode S D L H B)) → AllBecome places firsts → (k : ℕ) (x : IslandNode S D L H B) → slice_get firsts k ≡ Some x → plan_at (map place_plan places) k ≡ node_plan x
   follow_along [] [] h k x at = absurd (none_some at)
   follow_along [] (y ∷ ys) h k x at = absurd h
   follow_along (p ∷ ps) [] h k x at = absurd h
@@ -69,9 +69,9 @@ count_at q (suc m) zero k at = let same : q ≡ k = cc in omega (arith, same)
 count_at q (suc m) (suc i) k at = let rest = count_at (q + 1) m i k at in omega (arith, rest)
 
 -- one of these nodes, at its place, chose these moves
-pub record Chose {S D L B : Type 0} (q : ℕ) (xs : List (IslandNode S D L B)) (k : ℕ) (moves : List ℕ) : Type 0 where
+pub record Chose {S D L H B : Type 0} (q : ℕ) (xs : List (IslandNode S D L H B)) (k : ℕ) (moves : List ℕ) : Type 0 where
   pub at : ℕ
-  pub node : IslandNode S D L B
+  pub node : IslandNode S D L H B
   pub there : slice_get xs at ≡ Some node
   pub place : k ≡ q + at
   pub picks : node_picks node ≡ Some moves
@@ -84,11 +84,11 @@ first_made : (q : ℕ) (o : Option (List ℕ)) (rest : List Pick) (moves : List 
 first_made q None rest moves k e is = absurd (none_some e)
 first_made q (Some m) rest moves k e is = let same : m ≡ moves = cc in (0, ap (λ (x : ℕ). Some (x, m)) is ∙ ap (λ (l : List ℕ). Some (k, l)) same)
 
-module _ {S D L B : Type 0} where
-  later : (q : ℕ) (y : IslandNode S D L B) (xs : List (IslandNode S D L B)) (k : ℕ) (moves : List ℕ) → Chose (q + 1) xs k moves → Chose q (y ∷ xs) k moves
+module _ {S D L H B : Type 0} where
+  later : (q : ℕ) (y : IslandNode S D L H B) (xs : List (IslandNode S D L H B)) (k : ℕ) (moves : List ℕ) → Chose (q + 1) xs k moves → Chose q (y ∷ xs) k moves
   later q y xs k moves c = record { at = suc c.at; node = c.node; there = c.there; place = let p = c.place in omega (arith, p); picks = c.picks }
 
-  by_first : (q : ℕ) (y : IslandNode S D L B) (xs : List (IslandNode S D L B)) (o : Option (List ℕ)) (rest : List Pick) (i k : ℕ) (moves : List ℕ) → node_picks y ≡ o → ((j : ℕ) → slice_get rest j ≡ Some (k, moves) → Chose q (y ∷ xs) k moves) → slice_get (with_picks q o rest) i ≡ Some (k, moves) → Chose q (y ∷ xs) k moves
+  by_first : (q : ℕ) (y : IslandNode S D L H B) (xs : List (IslandNode S D L H B)) (o : Option (List ℕ)) (rest : List Pick) (i k : ℕ) (moves : List ℕ) → node_picks y ≡ o → ((j : ℕ) → slice_get rest j ≡ Some (k, moves) → Chose q (y ∷ xs) k moves) → slice_get (with_picks q o rest) i ≡ Some (k, moves) → Chose q (y ∷ xs) k moves
   by_first q y xs None rest i k moves e more at = more i at
   by_first q y xs (Some m) rest zero k moves e more at =
       let both = one_pick (q, m) (k, moves) at in
@@ -97,12 +97,12 @@ module _ {S D L B : Type 0} where
       record { at = 0; node = y; there = refl; place = omega (arith, number); picks = e ∙ ap Some same }
   by_first q y xs (Some m) rest (suc i) k moves e more at = more i at
 
-  pub chose_along : (q : ℕ) (xs : List (IslandNode S D L B)) (i k : ℕ) (moves : List ℕ) → slice_get (picks_of (count_from q (length xs)) xs) i ≡ Some (k, moves) → Chose q xs k moves
+  pub chose_along : (q : ℕ) (xs : List (IslandNode S D L H B)) (i k : ℕ) (moves : List ℕ) → slice_get (picks_of (count_from q (length xs)) xs) i ≡ Some (k, moves) → Chose q xs k moves
   chose_along q [] i k moves at = absurd (none_some at)
   chose_along q (y ∷ xs) i k moves at = by_first q y xs (node_picks y) (picks_of (count_from (q + 1) (length xs)) xs) i k moves refl (λ j h. later q y xs k moves (chose_along (q + 1) xs j k moves h)) at
 
   -- it stands among the picks
-  pub made_along : (q : ℕ) (xs : List (IslandNode S D L B)) (i k : ℕ) (x : IslandNode S D L B) (moves : List ℕ) → k ≡ q + i → slice_get xs i ≡ Some x → node_picks x ≡ Some moves → (j : ℕ) × (slice_get (picks_of (count_from q (length xs)) xs) j ≡ Some (k, moves))
+  pub made_along : (q : ℕ) (xs : List (IslandNode S D L H B)) (i k : ℕ) (x : IslandNode S D L H B) (moves : List ℕ) → k ≡ q + i → slice_get xs i ≡ Some x → node_picks x ≡ Some moves → (j : ℕ) × (slice_get (picks_of (count_from q (length xs)) xs) j ≡ Some (k, moves))
   made_along q [] i k x moves is at chose = absurd (none_some at)
   made_along q (y ∷ xs) zero k x moves is at chose = let same : y ≡ x = cc in first_made q (node_picks y) (picks_of (count_from (q + 1) (length xs)) xs) moves k (ap node_picks same ∙ chose) (omega (arith, is))
   made_along q (y ∷ xs) (suc i) k x moves is at chose =
@@ -132,7 +132,7 @@ sub_chooses : (stuck : Bool) (moves : Option (List ℕ)) (place : ℕ) → misfi
 sub_chooses stuck None place e = absurd (none_some e)
 sub_chooses stuck (Some moves) place e = refl
 
-pub misfit_chooses : {S D L B : Type 0} (x : IslandNode S D L B) (place : ℕ) → node_misfit x ≡ Some place → node_picks x ≡ Some (node_moves x)
+pub misfit_chooses : {S D L H B : Type 0} (x : IslandNode S D L H B) (place : ℕ) → node_misfit x ≡ Some place → node_picks x ≡ Some (node_moves x)
 misfit_chooses (node.State x) place e = state_chooses x place e
 misfit_chooses (node.FanIn x) place e = in_chooses x place e
 misfit_chooses (node.FanOut x) place e = out_chooses x place e

@@ -1,5 +1,5 @@
 -- What was sent on the wires of a run is of their types; an island that was made of a graph that passes the rules leaves a run of it.
-use Rattle.std.proofs.Common.{◌≡◌, ℕ, List, Some, sym, subst}
+use Rattle.std.proofs.Common.{◌≡◌, ℕ, true, false, not, List, Some, sym, subst}
 use Rattle.std.specs.Prelude.{slice_get}
 use Rattle.stream_model.specs.Composed.{IsRanked}
 use Rattle.stream_model.specs.Graph.{Graph, Edge}
@@ -47,13 +47,13 @@ rules_join heads chains nodes g passes =
     fits : (k : ℕ) (n : Node) → slice_get nodes k ≡ Some n → head_fits (custom_head heads n.kind) ≡ true
     fits k n at = (and_parts (sizes_fit n.kind) (head_fits (custom_head heads n.kind)) (not_false (node_fits heads n.kind) (not_when _ k (none_here (λ i (m : Node). when (not (node_fits heads m.kind)) i) nodes k n passes.no_wrong at)))).1
 
-module _ {S D L B : Type 0} (sources : S → SourceState) (drains : D → DrainState) (heads : HeadLists) (chains : List ChainDecl) (nodes : List Node) (g : Graph) (w : World) (rank : ℕ → ℕ) where
-  pub run_sends : (a : Account (stage.IslandNode S D L B)) → IsRun sources drains w.book g a → TellsPicks w a → TellsCustoms g w a → PassesRules heads chains nodes g → KeepsPlugTypes heads w.book → GivenTyped heads nodes g.wires w → IsRanked g rank
+module _ {S D L H B : Type 0} (sources : S → SourceState) (drains : D → DrainState) (heads : HeadLists) (chains : List ChainDecl) (nodes : List Node) (g : Graph) (w : World) (rank : ℕ → ℕ) where
+  pub run_sends : (a : Account (stage.IslandNode S D L H B)) → IsRun sources drains w.book g a → TellsPicks w a → TellsCustoms g w a → PassesRules heads chains nodes g → KeepsPlugTypes heads w.book → GivenTyped heads nodes g.wires w → IsRanked g rank
       → (i : ℕ) (v : Edge) → slice_get g.wires i ≡ Some v → SendsItsType heads chains nodes g w i v (a.near i).wire.sent
   run_sends a run chose told passes keeps gave ranked =
       every_wire_sends heads chains nodes g w rank ranked passes keeps gave (λ u. (a.near u).wire.sent) (source_texts sources drains w.book g a run) (given_told sources drains g w a run chose told)
 
-  pub island_sends : (net : Net (stage.IslandNode S D L B)) → Settled node_port_state (node_law sources drains w.book) node_asking node_moves net → Materializes sources g net.firsts net.ends → TellsPicks w (account_of net) → TellsCustoms g w (account_of net)
+  pub island_sends : (net : Net (stage.IslandNode S D L H B)) → Settled node_port_state (node_law sources drains w.book) node_asking node_moves net → Materializes sources g net.firsts net.ends → TellsPicks w (account_of net) → TellsCustoms g w (account_of net)
       → PassesRules heads chains nodes g → KeepsPlugTypes heads w.book → GivenTyped heads nodes g.wires w → IsRanked g rank
       → (i : ℕ) (v : Edge) → slice_get g.wires i ≡ Some v → SendsItsType heads chains nodes g w i v (wire_at net i).wire.sent
   island_sends net settled made chose told passes keeps gave ranked =

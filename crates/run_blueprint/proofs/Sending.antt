@@ -161,7 +161,7 @@ ignore_told WriteFault o m f z l e with_end c a = absurd with_end
 
 -- ---- a wire of a run, and the sink at its input
 
-module _ {S D L B : Type 0} (sources : S → SourceState) (drains : D → DrainState) (book : Book) (g : Graph) (a : Account (IslandNode S D L B)) (run : IsRun sources drains book g a) (u : ℕ) (v : Edge) (at : slice_get g.wires u ≡ Some v) where
+module _ {S D L H B : Type 0} (sources : S → SourceState) (drains : D → DrainState) (book : Book) (g : Graph) (a : Account (IslandNode S D L H B)) (run : IsRun sources drains book g a) (u : ℕ) (v : Edge) (at : slice_get g.wires u ≡ Some v) where
   near_sound : (q : _) × IsSound (a.near u).wire q
   near_sound = run.keeps.near_sound u (slice_get-below g.wires u v at)
 

@@ -25,10 +25,10 @@ use Rattle.run_blueprint.proofs.Apart.{inputs_distinct, outputs_distinct}
 use Rattle.run_blueprint.proofs.Profiles.{reader_in, writer_in, readers_filtered, writers_filtered}
 
 -- these nodes have the names of the files of their nodes in the blueprint, and these are their handles
-pub record TakenApart {S D L B : Type 0} (sources : S → SourceState) (drains : D → DrainState) (b : Blueprint) (final : List (IslandNode S D L B)) (readers : List S) (writers : List D) : Type 0 where
+pub record TakenApart {S D L H B : Type 0} (sources : S → SourceState) (drains : D → DrainState) (b : Blueprint) (final : List (IslandNode S D L H B)) (readers : List S) (writers : List D) : Type 0 where
   pub as_many : length b.nodes.items ≡ length final
-  pub input : (k : ℕ) (n : blue.Node) (x : IslandNode S D L B) → slice_get b.nodes.items k ≡ Some n → slice_get final k ≡ Some x → source_file n.kind ≡ option_map (λ s. (sources s).name) (reader_in x)
-  pub output : (k : ℕ) (n : blue.Node) (x : IslandNode S D L B) → slice_get b.nodes.items k ≡ Some n → slice_get final k ≡ Some x → output_of n.kind ≡ option_map (λ d. (drains d).name) (writer_in x)
+  pub input : (k : ℕ) (n : blue.Node) (x : IslandNode S D L H B) → slice_get b.nodes.items k ≡ Some n → slice_get final k ≡ Some x → source_file n.kind ≡ option_map (λ s. (sources s).name) (reader_in x)
+  pub output : (k : ℕ) (n : blue.Node) (x : IslandNode S D L H B) → slice_get b.nodes.items k ≡ Some n → slice_get final k ≡ Some x → output_of n.kind ≡ option_map (λ d. (drains d).name) (writer_in x)
   pub readers_are : readers ≡ readers_of final
   pub writers_are : writers ≡ writers_of final
 
@@ -36,7 +36,7 @@ pub record TakenApart {S D L B : Type 0} (sources : S → SourceState) (drains :
 many_names : {X Y : Type 0} (f : X → Y) (name : Y → List ℕ) (xs ys : List X) → map name (map f xs) ≡ map name (map f ys) → length xs ≡ length ys
 many_names f name xs ys e = sym (length-map xs f) ∙ sym (length-map (map f xs) name) ∙ ap length e ∙ length-map (map f ys) name ∙ length-map ys f
 
-module _ {S D L B : Type 0} (sources : S → SourceState) (drains : D → DrainState) (b : Blueprint) (final : List (IslandNode S D L B)) (readers : List S) (writers : List D) (apart : TakenApart sources drains b final readers writers) where
+module _ {S D L H B : Type 0} (sources : S → SourceState) (drains : D → DrainState) (b : Blueprint) (final : List (IslandNode S D L H B)) (readers : List S) (writers : List D) (apart : TakenApart sources drains b final readers writers) where
   -- the readers have the names of the inputs, and the drains those of the outputs
   reader_names : source_names (map sources readers) ≡ inputs_of_nodes b.nodes.items
   reader_names =
@@ -57,7 +57,7 @@ module _ {S D L B : Type 0} (sources : S → SourceState) (drains : D → DrainS
   pub writers_many : (ds : List D) → drain_names (map drains ds) ≡ outputs_of_nodes b.nodes.items → length writers ≡ length ds
   writers_many ds e = many_names drains (λ (o : DrainState). o.name) writers ds (writer_names ∙ sym e)
 
-module _ {S D L B : Type 0} (sources : S → SourceState) (drains : D → DrainState) (b : Blueprint) (can : CanRun b) (final : List (IslandNode S D L B)) (readers : List S) (writers : List D) (apart : TakenApart sources drains b final readers writers)
+module _ {S D L H B : Type 0} (sources : S → SourceState) (drains : D → DrainState) (b : Blueprint) (can : CanRun b) (final : List (IslandNode S D L H B)) (readers : List S) (writers : List D) (apart : TakenApart sources drains b final readers writers)
     (old mid : FolderState) (is : List SourceState) (os : List DrainState) {others : List (List ℕ)} (opens : Opens old mid (inputs_of_nodes b.nodes.items) (outputs_of_nodes b.nodes.items) others is os) (new : FolderState) (closes : Shuts mid new others (map sources readers) (map drains writers))
     (lone : (n : List ℕ) → Contains (outputs_of_nodes b.nodes.items) n → Contains others n → ⊥) where
   abbrev nodes : List blue.Node

@@ -91,7 +91,7 @@ ignorer_sees true (Failed c) Finished [] r = refl
 ignorer_sees _ e i [] r = absurd r
 ignorer_sees _ e i (y ∷ outs) r = absurd r
 
-sink_sees : {S D L B : Type 0} (now : IslandNode S D L B) (s : SinkStand) (v : View) (i : InView) → stand_in now ≡ Some s → node_port_state now v → v.ins ≡ i ∷ [] → Sees s.2 i
+sink_sees : {S D L H B : Type 0} (now : IslandNode S D L H B) (s : SinkStand) (v : View) (i : InView) → stand_in now ≡ Some s → node_port_state now v → v.ins ≡ i ∷ [] → Sees s.2 i
 sink_sees (node.Writing x) s v i is r ins =
     let row : OneInOf (sink_port_state_in x.started x.end) (i ∷ []) v.outs = subst (λ (l : List InView). OneInOf (sink_port_state_in x.started x.end) l v.outs) ins r in
     subst (λ (e : EndState). Sees e i) (ap (λ (t : SinkStand). t.2) (some_one (x.node, x.count, x.end) s is)) (writer_sees x.started x.end i v.outs row)
@@ -158,7 +158,7 @@ ignorer_ends true (Failed c) Finished [] is r = refl
 ignorer_ends _ e i [] is r = absurd r
 ignorer_ends _ e i (y ∷ outs) is r = absurd r
 
-ended_sees : {S D L B : Type 0} (sources : S → SourceState) (drains : D → DrainState) (book : Book) (chains : List graph.Chain) (k : ℕ) (n : graph.Node) (first now : IslandNode S D L B) (s : SinkStand) (v : View) (took gave : List (List Item)) (i : InView)
+ended_sees : {S D L H B : Type 0} (sources : S → SourceState) (drains : D → DrainState) (book : Book) (chains : List graph.Chain) (k : ℕ) (n : graph.Node) (first now : IslandNode S D L H B) (s : SinkStand) (v : View) (took gave : List (List Item)) (i : InView)
     → stand_in now ≡ Some s → s.2 ≡ Ended → ((file : List ℕ) → n.kind ≢ kind.Head file) → FirstOf sources chains k n first → node_law sources drains book first now v took gave → node_port_state now v → v.ins ≡ i ∷ [] → i ≡ Finished
 ended_sees sources drains book chains k n (node.Writing f) (node.Writing x) s v took gave i is over other made law r ins =
     let end : x.end ≡ Ended = ap (λ (t : SinkStand). t.2) (some_one (x.node, x.count, x.end) s is) ∙ over in
@@ -257,7 +257,7 @@ lines_written WriteFault y old new wrote n paced s = let lost : n < length wrote
 
 -- ---- a wire of a run
 
-module _ {S D L B : Type 0} (sources : S → SourceState) (drains : D → DrainState) (book : Book) (g : Graph) (a : Account (IslandNode S D L B)) (run : IsRun sources drains book g a) (u : ℕ) (v : Edge) (at : slice_get g.wires u ≡ Some v) where
+module _ {S D L H B : Type 0} (sources : S → SourceState) (drains : D → DrainState) (book : Book) (g : Graph) (a : Account (IslandNode S D L H B)) (run : IsRun sources drains book g a) (u : ℕ) (v : Edge) (at : slice_get g.wires u ≡ Some v) where
   near_sound : (q : _) × IsSound (a.near u).wire q
   near_sound = run.keeps.near_sound u (slice_get-below g.wires u v at)
 
@@ -320,7 +320,7 @@ module _ {S D L B : Type 0} (sources : S → SourceState) (drains : D → DrainS
   lane_asked s is unasked = asks_by v.keep (a.near u) (a.far u) (a.asked u) near_sound.0 far_sound.0 near_sound.1 far_sound.1 v.lane s keeps is unasked
 
   -- the wire of a sink
-  module _ (k : ℕ) (n : graph.Node) (now : IslandNode S D L B) (ni : slice_get g.nodes k ≡ Some n) (one : inputs_of n ≡ 1) (to : v.to ≡ k) (here : a.nodes k ≡ Some now) (cancels : CancelsCross g a) where
+  module _ (k : ℕ) (n : graph.Node) (now : IslandNode S D L H B) (ni : slice_get g.nodes k ≡ Some n) (one : inputs_of n ≡ 1) (to : v.to ≡ k) (here : a.nodes k ≡ Some now) (cancels : CancelsCross g a) where
     found : find_wire k 0 g.wires ≡ Some u
     found = one_input g run.joined k n u v ni one at to
 
@@ -328,7 +328,7 @@ module _ {S D L B : Type 0} (sources : S → SourceState) (drains : D → DrainS
     sees s is =
         let kept = run.keeps.each_node k n ni in
         let same : kept.now ≡ now = some_one kept.now now (sym kept.now_at ∙ here) in
-        let row : node_port_state now (knows g a k n) = subst (λ (x : IslandNode S D L B). node_port_state x (knows g a k n)) same kept.port_state_holds in
+        let row : node_port_state now (knows g a k n) = subst (λ (x : IslandNode S D L H B). node_port_state x (knows g a k n)) same kept.port_state_holds in
         sink_sees now s (knows g a k n) (a.far u).wire.inp is row (read_one g inp_of a.far k (inputs_of n) u one found)
 
     pub sink_shut : (s : SinkStand) → stand_in now ≡ Some s → ShutBy s.2 v.lane (wire_count v.lane (a.near u) (a.asked u)).shut × OverBy s.2 (wire_count v.lane (a.near u) (a.asked u)).shut (end_of_items (a.near u).wire.sent)
@@ -343,8 +343,8 @@ module _ {S D L B : Type 0} (sources : S → SourceState) (drains : D → DrainS
     lane_shut s is over other =
         let kept = run.keeps.each_node k n ni in
         let same : kept.now ≡ now = some_one kept.now now (sym kept.now_at ∙ here) in
-        let row : node_port_state now (knows g a k n) = subst (λ (x : IslandNode S D L B). node_port_state x (knows g a k n)) same kept.port_state_holds in
-        let law : node_law sources drains book kept.first now (knows g a k n) (took g a k n) (gave g a k n) = subst (λ (x : IslandNode S D L B). node_law sources drains book kept.first x (knows g a k n) (took g a k n) (gave g a k n)) same kept.law_holds in
+        let row : node_port_state now (knows g a k n) = subst (λ (x : IslandNode S D L H B). node_port_state x (knows g a k n)) same kept.port_state_holds in
+        let law : node_law sources drains book kept.first now (knows g a k n) (took g a k n) (gave g a k n) = subst (λ (x : IslandNode S D L H B). node_law sources drains book kept.first x (knows g a k n) (took g a k n) (gave g a k n)) same kept.law_holds in
         let finished : (a.far u).wire.inp ≡ Finished = ended_sees sources drains book g.chains k n kept.first now s (knows g a k n) (took g a k n) (gave g a k n) (a.far u).wire.inp is over other (run.made k n kept.first ni kept.first_at) law row (read_one g inp_of a.far k (inputs_of n) u one found) in
         over_there v.keep (a.near u) (a.far u) (a.asked u) near_sound.0 far_sound.0 near_sound.1 far_sound.1 v.lane keeps finished
 

@@ -58,6 +58,7 @@ ghost use Rattle.run_blueprint.specs.Stands.{SinkStand};
 ghost use Rattle.run_blueprint.specs.Types.{HasType, AllTyped, OutlooksTyped, TakesSort};
 ghost use Rattle.run_blueprint.specs.declared.run.RunResult.{RunResult};
 
+use graph_stage::handlers::Handlers;
 use plug_logic::book::PlugBook;
 use plug_logic::logic::Logic;
 use stream_io::outside::{Drain, Source};
@@ -123,13 +124,13 @@ pub fn every_list_is_typed()
 /// What was sent on each wire of such a graph, at any moment of its run, has only elements of the type that is settled for the
 /// wire, whatever the folder tells of its files, where the world tells what the stages chose and what custom stages gave, and its book
 /// what the heads of the run give (`run`); so it is of an island that was made of it (`island`).
-pub fn every_wire_carries_its_type<S: Source, D: Drain, L: Logic, B: PlugBook>()
+pub fn every_wire_carries_its_type<S: Source, D: Drain, L: Logic, H: Handlers, B: PlugBook>()
     ensures run { (heads : HeadLists) (chains : List ChainDecl) (nodes : List Node) (g : Graph) (w : World) (rank : ℕ → ℕ)
-        (a : Account (stage.IslandNode S D L B)) → IsRun S.state D.state w.book g a → TellsPicks w a → TellsCustoms g w a
+        (a : Account (stage.IslandNode S D L H B)) → IsRun S.state D.state w.book g a → TellsPicks w a → TellsCustoms g w a
         → PassesRules heads chains nodes g → KeepsPlugTypes heads w.book → GivenTyped heads nodes g.wires w → IsRanked g rank
         → (i : ℕ) (v : Edge) → slice_get g.wires i ≡ Some v → SendsItsType heads chains nodes g w i v (a.near i).wire.sent }
     ensures island { (heads : HeadLists) (chains : List ChainDecl) (nodes : List Node) (g : Graph) (w : World) (rank : ℕ → ℕ)
-        (net : Net (stage.IslandNode S D L B)) → Settled node_port_state (node_law S.state D.state w.book) node_asking node_moves net
+        (net : Net (stage.IslandNode S D L H B)) → Settled node_port_state (node_law S.state D.state w.book) node_asking node_moves net
         → Materializes S.state g net.firsts net.ends → TellsPicks w (account_of net) → TellsCustoms g w (account_of net) → PassesRules heads chains nodes g
         → KeepsPlugTypes heads w.book → GivenTyped heads nodes g.wires w
         → IsRanked g rank
@@ -152,8 +153,8 @@ pub fn a_shut_wire_carried_all()
 /// What a hub's wire carries, of a producer or to a consumer, at every moment of a run between two events, also at the last one before memory
 /// was wanting: what was taken at its input is in order the first of what was offered at its output, at most as many elements as the hub's
 /// size were offered and not yet brought to the other island, and an end or a failure was taken behind all of them.
-pub fn hubs_carry_each_party<S: Source, D: Drain, L: Logic, B: PlugBook>()
-    ensures { (b : Blueprint) (ss : List S) (ds : List D) (a : Account (stage.IslandNode S D L B)) (nodes : List (stage.IslandNode S D L B))
+pub fn hubs_carry_each_party<S: Source, D: Drain, L: Logic, H: Handlers, B: PlugBook>()
+    ensures { (b : Blueprint) (ss : List S) (ds : List D) (a : Account (stage.IslandNode S D L H B)) (nodes : List (stage.IslandNode S D L H B))
         → Moment S.state D.state B.lists b ss ds a nodes → (u : ℕ) (v : Edge) (size : ℕ) → slice_get (blueprint_wires b) u ≡ Some v
         → hub_size b.nodes.items v.from v.to ≡ Some size → CarriesParty size (a.near u) (a.far u) }
 {}

@@ -27,6 +27,7 @@ use crate::laws::{every_wire_carries_its_type, fit_blueprints_pass_the_rules};
 use elem_core::line::Line;
 use elem_core::why::NoMemory;
 use graph_stage::custom::Custom;
+use graph_stage::handlers::Handlers;
 use interpreter::island::{IslandEnd, SinkStand};
 use island_runs::prepare::prepare;
 use island_runs::ran::Ran;
@@ -152,7 +153,7 @@ fn close_trace<F: Folder>(folder: &mut F, drain: Option<F::Out>)
 }
 
 /// Writes the trace of a run, and closes what it had opened.
-fn close<F: Folder, L: Logic, B: PlugBook>(
+fn close<F: Folder, L: Logic, H: Handlers, B: PlugBook>(
     folder: &mut F,
     stopped: Stopped<F::Inp, F::Out>,
     drain: Option<F::Out>,
@@ -165,7 +166,7 @@ fn close<F: Folder, L: Logic, B: PlugBook>(
         → IsApart b trace → choosers.now ≡ pick_names b.nodes.items
         → Opens old (F.state folder.old) (inputs_of_nodes b.nodes.items) (outputs_of_nodes b.nodes.items) (option_to_list trace) (map F.Inp.state ss)
         (map F.Out.state ds) → OpensAs (F.state folder.old) trace (option_map F.Out.state drain)
-        → (left : RunLeaves L B F.Inp.state F.Out.state B.lists b ss ds budget stopped) → map place_plan left.moment.places ≡ plans
+        → (left : RunLeaves L H B F.Inp.state F.Out.state B.lists b ss ds budget stopped) → map place_plan left.moment.places ≡ plans
         → (heads : HeadLists) → map place_types left.moment.places ≡ types_by_heads heads b.nodes.items
         → Runs B.lists heads old (F.state folder.new) b plans trace budget result }
     ensures handles { F.handles folder.new ≡ F.handles folder.old - (length stopped.end.readers.items + length stopped.end.writers.items + length
@@ -174,27 +175,27 @@ fn close<F: Folder, L: Logic, B: PlugBook>(
         → IsApart b trace
         → Opens old (F.state folder.old) (inputs_of_nodes b.nodes.items) (outputs_of_nodes b.nodes.items) (option_to_list trace) (map F.Inp.state ss)
         (map F.Out.state ds) → OpensAs (F.state folder.old) trace (option_map F.Out.state drain)
-        → RunLeaves L B F.Inp.state F.Out.state B.lists b ss ds budget stopped → HasAsMany ss ds stopped.end }
+        → RunLeaves L H B F.Inp.state F.Out.state B.lists b ss ds budget stopped → HasAsMany ss ds stopped.end }
     ensures same { (result.used ≡ stopped.used) × (result.at_rest ≡ stopped.at_rest) × (result.ran ≡ stopped.ran) }
 {
-    every_wire_agrees::<F::Inp, F::Out, L, B>();
-    customs_blame_themselves::<F::Inp, F::Out, L, B>();
-    every_sink_agrees::<F::Inp, F::Out, L, B>();
-    every_sink_counts_its_lines::<F::Inp, F::Out, L, B>();
-    every_sink_writes::<F::Inp, F::Out, L, B>();
-    every_source_reads_little_ahead::<F::Inp, F::Out, L, B>();
-    every_picture_is_lawful::<F::Inp, F::Out, L, B>();
-    a_picture_without_events_rests::<F::Inp, F::Out, L, B>();
-    every_move_fits::<F::Inp, F::Out, L, B>();
-    every_node_begins_its_plan::<F::Inp, F::Out, L, B>();
-    every_misfit_has_its_cause::<F::Inp, F::Out, L, B>();
-    every_plan_is_served::<F::Inp, F::Out, L, B>();
+    every_wire_agrees::<F::Inp, F::Out, L, H, B>();
+    customs_blame_themselves::<F::Inp, F::Out, L, H, B>();
+    every_sink_agrees::<F::Inp, F::Out, L, H, B>();
+    every_sink_counts_its_lines::<F::Inp, F::Out, L, H, B>();
+    every_sink_writes::<F::Inp, F::Out, L, H, B>();
+    every_source_reads_little_ahead::<F::Inp, F::Out, L, H, B>();
+    every_picture_is_lawful::<F::Inp, F::Out, L, H, B>();
+    a_picture_without_events_rests::<F::Inp, F::Out, L, H, B>();
+    every_move_fits::<F::Inp, F::Out, L, H, B>();
+    every_node_begins_its_plan::<F::Inp, F::Out, L, H, B>();
+    every_misfit_has_its_cause::<F::Inp, F::Out, L, H, B>();
+    every_plan_is_served::<F::Inp, F::Out, L, H, B>();
     polytrees_end();
     fit_blueprints_are_whole();
     fit_blueprints_pass_the_rules();
-    every_wire_carries_its_type::<F::Inp, F::Out, L, B>();
-    every_node_gives_of_what_came::<F::Inp, F::Out, L, B>();
-    parts_hold_their_files::<F::Inp, F::Out, L, B>();
+    every_wire_carries_its_type::<F::Inp, F::Out, L, H, B>();
+    every_node_gives_of_what_came::<F::Inp, F::Out, L, H, B>();
+    parts_hold_their_files::<F::Inp, F::Out, L, H, B>();
     let Stopped {
         end,
         wires,
@@ -227,7 +228,7 @@ fn close_broken<F: Folder>(folder: &mut F, end: IslandEnd<F::Inp, F::Out>)
 }
 
 /// Closes what a run had opened in which memory was wanting. Its trace is not written.
-fn give_up<F: Folder, L: Logic, B: PlugBook>(
+fn give_up<F: Folder, L: Logic, H: Handlers, B: PlugBook>(
     folder: &mut F,
     end: IslandEnd<F::Inp, F::Out>,
     drain: Option<F::Out>,
@@ -235,18 +236,18 @@ fn give_up<F: Folder, L: Logic, B: PlugBook>(
     ensures wants { (old : FolderState) (b : plan.Blueprint) (trace : Option (List ℕ)) (ss : List F.Inp) (ds : List F.Out) → CanRun b → IsApart b trace
         → Opens old (F.state folder.old) (inputs_of_nodes b.nodes.items) (outputs_of_nodes b.nodes.items) (option_to_list trace) (map F.Inp.state ss)
         (map F.Out.state ds) → OpensAs (F.state folder.old) trace (option_map F.Out.state drain)
-        → LeavesBroken L B F.Inp.state F.Out.state B.lists b ss ds end → WantsWithin B.lists old (F.state folder.new) b trace }
+        → LeavesBroken L H B F.Inp.state F.Out.state B.lists b ss ds end → WantsWithin B.lists old (F.state folder.new) b trace }
     ensures handles { F.handles folder.new ≡ F.handles folder.old - (length end.readers.items + length end.writers.items + length (option_to_list drain)) }
     ensures all { (old : FolderState) (b : plan.Blueprint) (trace : Option (List ℕ)) (ss : List F.Inp) (ds : List F.Out) → CanRun b → IsApart b trace
         → Opens old (F.state folder.old) (inputs_of_nodes b.nodes.items) (outputs_of_nodes b.nodes.items) (option_to_list trace) (map F.Inp.state ss)
         (map F.Out.state ds) → OpensAs (F.state folder.old) trace (option_map F.Out.state drain)
-        → LeavesBroken L B F.Inp.state F.Out.state B.lists b ss ds end → HasAsMany ss ds end }
+        → LeavesBroken L H B F.Inp.state F.Out.state B.lists b ss ds end → HasAsMany ss ds end }
 {
-    every_sink_agrees::<F::Inp, F::Out, L, B>();
-    every_sink_writes::<F::Inp, F::Out, L, B>();
-    every_source_reads_little_ahead::<F::Inp, F::Out, L, B>();
+    every_sink_agrees::<F::Inp, F::Out, L, H, B>();
+    every_sink_writes::<F::Inp, F::Out, L, H, B>();
+    every_source_reads_little_ahead::<F::Inp, F::Out, L, H, B>();
     fit_blueprints_are_whole();
-    parts_hold_their_files::<F::Inp, F::Out, L, B>();
+    parts_hold_their_files::<F::Inp, F::Out, L, H, B>();
     close_broken(folder, end);
     close_trace(folder, drain);
 }
@@ -267,7 +268,13 @@ fn close_unmade<F: Folder>(folder: &mut F, end: IslandEnd<F::Inp, F::Out>, drain
 /// `plans`, if there are some; writes the trace, which takes no memory, and closes the files, also where memory is wanting. The trace is
 /// then left empty. But for what its nodes want as they start and run all memory is taken before the first opening. It leaves as many
 /// open handles as there were.
-pub fn run<R: Threads + Wait + Sync, F: Folder, L: Logic + Send, B: PlugBook + Send>(
+pub fn run<
+    R: Threads + Wait + Sync,
+    F: Folder,
+    L: Logic + Send,
+    H: Handlers + Send,
+    B: PlugBook + Send,
+>(
     rt: &R,
     alloc: Global,
     folder: &mut F,
@@ -276,7 +283,7 @@ pub fn run<R: Threads + Wait + Sync, F: Folder, L: Logic + Send, B: PlugBook + S
     workers: u32,
     budget: u32,
     plugs: Vec<Plug<L>>,
-    customs: Vec<Custom>,
+    customs: Vec<Custom<H>>,
     plans: Vec<Option<Vec<u32>>>,
 ) -> Result<RunResult, OpenEnd>
     requires runs { CanRun b }
@@ -306,7 +313,7 @@ pub fn run<R: Threads + Wait + Sync, F: Folder, L: Logic + Send, B: PlugBook + S
         choosers,
         room,
     } = named;
-    let Ok(prepared) = prepare::<F::Inp, F::Out, L, B>(alloc, b, plugs, customs, plans) else {
+    let Ok(prepared) = prepare::<F::Inp, F::Out, L, H, B>(alloc, b, plugs, customs, plans) else {
         return Err(OpenEnd::NoMemory);
     };
     let Opened {
@@ -318,13 +325,13 @@ pub fn run<R: Threads + Wait + Sync, F: Folder, L: Logic + Send, B: PlugBook + S
     };
     let drain = take_last(&mut outputs, wanted);
     match island_runs::run::run(rt, alloc, prepared, inputs, outputs, workers, budget) {
-        Ok(stopped) => Ok(close::<F, L, B>(folder, stopped, drain, &choosers, room)),
+        Ok(stopped) => Ok(close::<F, L, H, B>(folder, stopped, drain, &choosers, room)),
         Err(Broken::Unmade(end)) => {
             close_unmade(folder, end, drain);
             Err(OpenEnd::NoMemory)
         }
         Err(Broken::Within(end)) => {
-            give_up::<F, L, B>(folder, end, drain);
+            give_up::<F, L, H, B>(folder, end, drain);
             Err(OpenEnd::NoMemory)
         }
     }

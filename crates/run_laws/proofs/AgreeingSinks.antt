@@ -92,7 +92,7 @@ not_fan_out (kind.Last name) h i = i
 not_fan_out _ h i = h
 
 -- a node of such a kind is a sink with a file
-sink_cases : {S D L B : Type 0} (sources : S → SourceState) (drains : D → DrainState) (book : Book) (chains : List graph.Chain) (k : ℕ) (n : graph.Node) (first now : IslandNode S D L B) (v : View) (took gave : List (List Item))
+sink_cases : {S D L H B : Type 0} (sources : S → SourceState) (drains : D → DrainState) (book : Book) (chains : List graph.Chain) (k : ℕ) (n : graph.Node) (first now : IslandNode S D L H B) (v : View) (took gave : List (List Item))
     → IsFileSink n.kind → FirstOf sources chains k n first → node_law sources drains book first now v took gave → (a : Sink D) × ((b : Sink D) × ((first ≡ Writing a) × (now ≡ Writing b)))
 sink_cases sources drains book chains k n (Writing first) (Writing now) v took gave is made law = (first, (now, (refl, refl)))
 sink_cases sources drains book chains k n (Reading first) now v took gave is made law = let e : IsFileSink (kind.Lines made.name) = subst IsFileSink made.kind_is is in absurd e
@@ -109,7 +109,7 @@ sink_cases sources drains book chains k n (Leaving first) now v took gave is mad
 sink_cases sources drains book chains k n (Writing first) now v took gave is made law = absurd law
 
 -- and one that keeps nothing
-ignore_cases : {S D L B : Type 0} (sources : S → SourceState) (drains : D → DrainState) (book : Book) (chains : List graph.Chain) (k : ℕ) (n : graph.Node) (first now : IslandNode S D L B) (v : View) (took gave : List (List Item))
+ignore_cases : {S D L H B : Type 0} (sources : S → SourceState) (drains : D → DrainState) (book : Book) (chains : List graph.Chain) (k : ℕ) (n : graph.Node) (first now : IslandNode S D L H B) (v : View) (took gave : List (List Item))
     → n.kind ≡ kind.Ignore → FirstOf sources chains k n first → node_law sources drains book first now v took gave → (a : Ignorer) × ((b : Ignorer) × ((first ≡ Ignoring a) × (now ≡ Ignoring b)))
 ignore_cases sources drains book chains k n (Ignoring first) (Ignoring now) v took gave is made law = (first, (now, (refl, refl)))
 ignore_cases sources drains book chains k n (Reading first) now v took gave is made law = let e : kind.Lines made.name ≡ kind.Ignore = sym made.kind_is ∙ is in absurd cc
@@ -125,9 +125,9 @@ ignore_cases sources drains book chains k n (Entering first) now v took gave is 
 ignore_cases sources drains book chains k n (Leaving first) now v took gave is made law = absurd made
 ignore_cases sources drains book chains k n (Ignoring first) now v took gave is made law = absurd law
 
-module _ {S D L B : Type 0} (sources : S → SourceState) (drains : D → DrainState) (book : Book) (g : Graph) (a : Account (IslandNode S D L B)) (run : IsRun sources drains book g a) where
+module _ {S D L H B : Type 0} (sources : S → SourceState) (drains : D → DrainState) (book : Book) (g : Graph) (a : Account (IslandNode S D L H B)) (run : IsRun sources drains book g a) where
   -- node k, which was handed in as one and is the other now
-  abbrev At : ℕ → graph.Node → IslandNode S D L B → IslandNode S D L B → Type 0
+  abbrev At : ℕ → graph.Node → IslandNode S D L H B → IslandNode S D L H B → Type 0
   At k n first now = KeptAs node_port_state (node_law sources drains book) node_asking node_moves g a k n first now
 
   -- it is there
@@ -135,7 +135,7 @@ module _ {S D L B : Type 0} (sources : S → SourceState) (drains : D → DrainS
   sink_there k n ni is =
       let m = run.keeps.each_node k n ni in
       let c = sink_cases sources drains book g.chains k n m.first m.now (knows g a k n) (took g a k n) (gave g a k n) is (run.made k n m.first ni m.first_at) m.law_holds in
-      (c.0, (c.1.0, record { at_first = m.first_at ∙ ap (λ (y : IslandNode S D L B). Some y) c.1.1.0; at_last = m.now_at ∙ ap (λ (y : IslandNode S D L B). Some y) c.1.1.1 }))
+      (c.0, (c.1.0, record { at_first = m.first_at ∙ ap (λ (y : IslandNode S D L H B). Some y) c.1.1.0; at_last = m.now_at ∙ ap (λ (y : IslandNode S D L H B). Some y) c.1.1.1 }))
 
   sink_at : (k : ℕ) (n : graph.Node) (first now : Sink D) → slice_get g.nodes k ≡ Some n → IsSinkAt a k first now → At k n (Writing first) (Writing now)
   sink_at k n first now ni at = kept_as node_port_state (node_law sources drains book) node_asking node_moves g a run.keeps k n (Writing first) (Writing now) ni at.at_first at.at_last
@@ -148,7 +148,7 @@ module _ {S D L B : Type 0} (sources : S → SourceState) (drains : D → DrainS
   ignorer_there k n ni is =
       let m = run.keeps.each_node k n ni in
       let c = ignore_cases sources drains book g.chains k n m.first m.now (knows g a k n) (took g a k n) (gave g a k n) is (run.made k n m.first ni m.first_at) m.law_holds in
-      (c.0, (c.1.0, record { at_first = m.first_at ∙ ap (λ (y : IslandNode S D L B). Some y) c.1.1.0; at_last = m.now_at ∙ ap (λ (y : IslandNode S D L B). Some y) c.1.1.1 }))
+      (c.0, (c.1.0, record { at_first = m.first_at ∙ ap (λ (y : IslandNode S D L H B). Some y) c.1.1.0; at_last = m.now_at ∙ ap (λ (y : IslandNode S D L H B). Some y) c.1.1.1 }))
 
   ignore_at : (k : ℕ) (n : graph.Node) (first now : Ignorer) → slice_get g.nodes k ≡ Some n → IsIgnorerAt a k first now → At k n (Ignoring first) (Ignoring now)
   ignore_at k n first now ni at = kept_as node_port_state (node_law sources drains book) node_asking node_moves g a run.keeps k n (Ignoring first) (Ignoring now) ni at.at_first at.at_last
@@ -217,8 +217,8 @@ module _ {S D L B : Type 0} (sources : S → SourceState) (drains : D → DrainS
         let one : inputs_of n ≡ 1 = ap (inputs_by n.head) is in
         let asked : 1 ≤ slice_index_or (ins_wanted g a k n) 0 0 = omega (arith, some, same, all, came, least, wants) in
         let e = (sink_at k n first now ni at).asks 0 (omega (arith, one)) asked in
-        let e' = subst (λ (l : List (List Item)). Earlier {N = IslandNode S D L B} node_port_state (node_law sources drains book) node_asking node_moves 0 (Writing first) (Writing now) l [] (ins_wanted g a k n) (outs_wanted g a k n) (outs_shut g a k n)) wire.came
-        (subst (λ (l : List (List Item)). Earlier {N = IslandNode S D L B} node_port_state (node_law sources drains book) node_asking node_moves 0 (Writing first) (Writing now) (took g a k n) l (ins_wanted g a k n) (outs_wanted g a k n) (outs_shut g a k n)) law.gave_is e) in
+        let e' = subst (λ (l : List (List Item)). Earlier {N = IslandNode S D L H B} node_port_state (node_law sources drains book) node_asking node_moves 0 (Writing first) (Writing now) l [] (ins_wanted g a k n) (outs_wanted g a k n) (outs_shut g a k n)) wire.came
+        (subst (λ (l : List (List Item)). Earlier {N = IslandNode S D L H B} node_port_state (node_law sources drains book) node_asking node_moves 0 (Writing first) (Writing now) (took g a k n) l (ins_wanted g a k n) (outs_wanted g a k n) (outs_shut g a k n)) law.gave_is e) in
         elim (few_behind sources drains book first now fault (a.far u).wire.got (ins_wanted g a k n) (outs_wanted g a k n) (outs_shut g a k n) e' law.elems open_got) [
           | inl few ↦ inl (omega (arith, few, least, wants))
           | inr some ↦ let few = some.1 in inr (some.0, omega (arith, few, least, wants))

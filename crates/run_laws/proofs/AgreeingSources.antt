@@ -33,7 +33,7 @@ use Rattle.run_laws.proofs.Readings.{one_port}
 use Rattle.stream_model.specs.Linear.{Book}
 
 -- a node of a source's kind is a source
-source_cases : {S D L B : Type 0} (sources : S → SourceState) (drains : D → DrainState) (book : Book) (chains : List graph.Chain) (k : ℕ) (n : graph.Node) (name : List ℕ) (first now : IslandNode S D L B) (v : View) (took gave : List (List Item))
+source_cases : {S D L H B : Type 0} (sources : S → SourceState) (drains : D → DrainState) (book : Book) (chains : List graph.Chain) (k : ℕ) (n : graph.Node) (name : List ℕ) (first now : IslandNode S D L H B) (v : View) (took gave : List (List Item))
     → n.kind ≡ kind.Lines name → FirstOf sources chains k n first → node_law sources drains book first now v took gave → (a : Lines S) × ((b : Lines S) × ((first ≡ Reading a) × (now ≡ Reading b)))
 source_cases sources drains book chains k n name (Reading first) (Reading now) v took gave is made law = (first, (now, (refl, refl)))
 source_cases sources drains book chains k n name (Making first) now v took gave is made law = let e : IsMaker (kind.Lines name) = subst IsMaker is made.is_maker in absurd e
@@ -49,13 +49,13 @@ source_cases sources drains book chains k n name (Entering first) now v took gav
 source_cases sources drains book chains k n name (Leaving first) now v took gave is made law = absurd made
 source_cases sources drains book chains k n name (Reading first) now v took gave is made law = absurd law
 
-module _ {S D L B : Type 0} (sources : S → SourceState) (drains : D → DrainState) (book : Book) (g : Graph) (a : Account (IslandNode S D L B)) (run : IsRun sources drains book g a) where
+module _ {S D L H B : Type 0} (sources : S → SourceState) (drains : D → DrainState) (book : Book) (g : Graph) (a : Account (IslandNode S D L H B)) (run : IsRun sources drains book g a) where
   -- it is there
   pub source_there : (k : ℕ) (n : graph.Node) (name : List ℕ) → slice_get g.nodes k ≡ Some n → n.kind ≡ kind.Lines name → (first : Lines S) × ((now : Lines S) × IsSourceAt a k first now)
   source_there k n name ni is =
       let m = run.keeps.each_node k n ni in
       let c = source_cases sources drains book g.chains k n name m.first m.now (knows g a k n) (took g a k n) (gave g a k n) is (run.made k n m.first ni m.first_at) m.law_holds in
-      (c.0, (c.1.0, record { at_first = m.first_at ∙ ap (λ (y : IslandNode S D L B). Some y) c.1.1.0; at_last = m.now_at ∙ ap (λ (y : IslandNode S D L B). Some y) c.1.1.1 }))
+      (c.0, (c.1.0, record { at_first = m.first_at ∙ ap (λ (y : IslandNode S D L H B). Some y) c.1.1.0; at_last = m.now_at ∙ ap (λ (y : IslandNode S D L H B). Some y) c.1.1.1 }))
 
   pub every_source : (k : ℕ) (n : graph.Node) (first now : Lines S) (u : ℕ) (v : Edge) (bytes : List ℕ) → slice_get g.nodes k ≡ Some n → IsSourceAt a k first now → slice_get g.wires u ≡ Some v → v.from ≡ k
       → (sources first.reader.source).whole ≡ Some bytes → SentLines bytes (sources first.reader.source) (sources now.reader.source) (a.near u).wire.sent

@@ -23,8 +23,8 @@ use Rattle.run_laws.proofs.LedSubs.{subs_laws}
 use Rattle.run_laws.proofs.Makings.{making_laws}
 use Rattle.run_laws.proofs.Writings.{writing_laws, ignoring_laws}
 
-module _ {S D L B : Type 0} (sources : S → SourceState) (drains : D → DrainState) (g : Graph) (w : World) (k : ℕ) (n : graph.Node) where
-  pub node_laws : (first now : IslandNode S D L B) (v : View) (took gave : List (List Item)) → FirstOf sources g.chains k n first → TellsNode sources w n first now × TellsMoves w k now → length took ≡ inputs_of n → node_law sources drains w.book first now v took gave → RunLaws g w k n took gave
+module _ {S D L H B : Type 0} (sources : S → SourceState) (drains : D → DrainState) (g : Graph) (w : World) (k : ℕ) (n : graph.Node) where
+  pub node_laws : (first now : IslandNode S D L H B) (v : View) (took gave : List (List Item)) → FirstOf sources g.chains k n first → TellsNode sources w n first now × TellsMoves w k now → length took ≡ inputs_of n → node_law sources drains w.book first now v took gave → RunLaws g w k n took gave
   node_laws (Reading first) (Reading now) v took gave made tells many law = reading_laws sources first now v took gave law g w k n made tells.0
   node_laws (Making first) (Making now) v took gave made tells many law = making_laws g w k n first now v took gave made law
   node_laws (Linear first) (Linear now) v took gave made tells many law = stage_laws g w k n first now v took gave made law

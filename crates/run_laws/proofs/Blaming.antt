@@ -40,7 +40,7 @@ use Rattle.run_laws.proofs.CustomRows.{custom_there}
 use Rattle.run_laws.proofs.Customs.{node_is, gave_is}
 use Rattle.run_laws.proofs.OutlookAgreeing.{every_input_of}
 
-abbrev as_custom : {S D L B : Type 0} → CustomState → IslandNode S D L B
+abbrev as_custom : {S D L H B : Type 0} → CustomState → IslandNode S D L H B
 as_custom x = Custom x
 
 -- ---- one history
@@ -104,18 +104,18 @@ all_may c (o ∷ os) (h ∷ hs) may each (inr f) = inr (all_may c os hs may.1 (�
 some_node : {A : Type 0} (x y : A) → Some x ≡ Some y → x ≡ y
 some_node x y e = cc
 
-custom_one : {S D L B : Type 0} (x y : CustomState) → Some (as_custom {S} {D} {L} {B} x) ≡ Some (as_custom y) → x ≡ y
+custom_one : {S D L H B : Type 0} (x y : CustomState) → Some (as_custom {S = S} {D = D} {L = L} {H = H} {B = B} x) ≡ Some (as_custom y) → x ≡ y
 custom_one x y e = cc
 
 -- a node that is a custom stage is of such a kind
-pub law_named : {S D L B : Type 0} (sources : S → SourceState) (drains : D → DrainState) (book : Book) (chains : List graph.Chain) (k : ℕ) (n : graph.Node) (first now : IslandNode S D L B) (v : View) (took gave : List (List Item)) (x : CustomState)
+pub law_named : {S D L H B : Type 0} (sources : S → SourceState) (drains : D → DrainState) (book : Book) (chains : List graph.Chain) (k : ℕ) (n : graph.Node) (first now : IslandNode S D L H B) (v : View) (took gave : List (List Item)) (x : CustomState)
     → now ≡ Custom x → FirstOf sources chains k n first → node_law sources drains book first now v took gave → (name : List ℕ) × (n.kind ≡ kind.Custom name)
 law_named sources drains book chains k n (Custom first) now v took gave x is made law = (made.name, made.kind_is)
 law_named sources drains book chains k n (Entering first) now v took gave x is made law = absurd made
 law_named sources drains book chains k n (Leaving first) now v took gave x is made law = absurd made
-law_named {S} {D} {L} {B} sources drains book chains k n first now v took gave x is made law = other first made (subst (λ (y : IslandNode S D L B). node_law sources drains book first y v took gave) is law)
+law_named {S} {D} {L} {H} {B} sources drains book chains k n first now v took gave x is made law = other first made (subst (λ (y : IslandNode S D L H B). node_law sources drains book first y v took gave) is law)
   where
-    other : (f : IslandNode S D L B) → FirstOf sources chains k n f → node_law sources drains book f (Custom x) v took gave → (name : List ℕ) × (n.kind ≡ kind.Custom name)
+    other : (f : IslandNode S D L H B) → FirstOf sources chains k n f → node_law sources drains book f (Custom x) v took gave → (name : List ℕ) × (n.kind ≡ kind.Custom name)
     other (Custom f) m l = (m.name, m.kind_is)
     other (Entering f) m l = absurd m
     other (Leaving f) m l = absurd m
@@ -125,7 +125,7 @@ untold_named : (c : CustomBook) (k : Kind) → tells_none c k ≡ true → (name
 untold_named c (kind.Custom name) e = (name, refl)
 untold_named c _ e = absurd cc
 
-module _ {S D L B : Type 0} (sources : S → SourceState) (drains : D → DrainState) (g : Graph) (w : World) (a : Account (IslandNode S D L B)) (run : IsRun sources drains w.book g a) (tells : TellsCustoms g w a) where
+module _ {S D L H B : Type 0} (sources : S → SourceState) (drains : D → DrainState) (g : Graph) (w : World) (a : Account (IslandNode S D L H B)) (run : IsRun sources drains w.book g a) (tells : TellsCustoms g w a) where
   -- what the world says of the output of a custom stage from which a wire leads is what was sent there
   module _ (u : ℕ) (v : Edge) (n : graph.Node) (name : List ℕ) (ui : slice_get g.wires u ≡ Some v) (ni : slice_get g.nodes v.from ≡ Some n) (is : n.kind ≡ kind.Custom name) where
     there : (first : CustomState) × ((now : CustomState) × ((a.firsts v.from ≡ Some (Custom first)) × ((a.nodes v.from ≡ Some (Custom now)) × CustomLaw first now (knows g a v.from n) (took g a v.from n) (gave g a v.from n))))
@@ -152,7 +152,7 @@ module _ {S D L B : Type 0} (sources : S → SourceState) (drains : D → DrainS
         ap (λ (m : ℕ). w.given m v.output) (sym is_node) ∙ told_it.given v.output (a.near u).wire.sent (ap (λ (z : List (List Item)). slice_get z v.output) (sym is_given) ∙ sent_port)
 
 -- a world that tells of a run tells what the custom stages gave
-pub files_customs : {S D L B : Type 0} (sources : S → SourceState) (drains : D → DrainState) (g : Graph) (w : World) (a : Account (IslandNode S D L B)) → IsRun sources drains w.book g a → WorldTells sources g w a → TellsCustoms g w a
+pub files_customs : {S D L H B : Type 0} (sources : S → SourceState) (drains : D → DrainState) (g : Graph) (w : World) (a : Account (IslandNode S D L H B)) → IsRun sources drains w.book g a → WorldTells sources g w a → TellsCustoms g w a
 files_customs sources drains g w a run tells k n now ni at =
     let m = run.keeps.each_node k n ni in
     let named = law_named sources drains w.book g.chains k n m.first m.now (knows g a k n) (took g a k n) (gave g a k n) now (some_node m.now (Custom now) (sym m.now_at ∙ at)) (run.made k n m.first ni m.first_at) m.law_holds in
@@ -160,7 +160,7 @@ files_customs sources drains g w a run tells k n now ni at =
     let same : c.1.0 ≡ now = custom_one c.1.0 now (sym c.1.1.1.0 ∙ at) in
     subst (λ (x : CustomState). TellsGave w n x) same (tells.files k n (Custom c.0) (Custom c.1.0) ni c.1.1.0 c.1.1.1.0)
 
-module _ {S D L B : Type 0} (sources : S → SourceState) (drains : D → DrainState) (g : Graph) (w : World) (a : Account (IslandNode S D L B)) (run : IsRun sources drains w.book g a) (tells : WorldTells sources g w a) (rank : ℕ → ℕ) (ranked : IsRanked g rank) where
+module _ {S D L H B : Type 0} (sources : S → SourceState) (drains : D → DrainState) (g : Graph) (w : World) (a : Account (IslandNode S D L H B)) (run : IsRun sources drains w.book g a) (tells : WorldTells sources g w a) (rank : ℕ → ℕ) (ranked : IsRanked g rank) where
   pub customs_lead : GivenLeads g w
   customs_lead u v n c ui ni untold has =
       let named = untold_named w.customs n.kind untold in

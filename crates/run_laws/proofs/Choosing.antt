@@ -8,5 +8,5 @@ use Rattle.nodes.specs.declared.node.IslandNode.{IslandNode}
 use Rattle.run_laws.specs.Account.{Account}
 use Rattle.run_laws.specs.Telling.{moves_at, TellsPicks, chosen_world}
 
-pub chosen_told : {S D L B : Type 0} (book : Book) (file : List ℕ → File) (a : Account (IslandNode S D L B)) → TellsPicks (chosen_world book file a) a
+pub chosen_told : {S D L H B : Type 0} (book : Book) (file : List ℕ → File) (a : Account (IslandNode S D L H B)) → TellsPicks (chosen_world book file a) a
 chosen_told book file a k now at moves picks = ap moves_at at ∙ ap (λ (o : Option (List ℕ)). unwrap_or o []) picks

@@ -52,9 +52,9 @@ module _ (g : Graph) (w : World) (k : ℕ) (name : List ℕ) (d : Decider) where
   rests_untold false e is os = tt
   rests_untold true e is os = absurd cc
 
-module _ (S D L B : Type 0) (sources : S → SourceState) (drains : D → DrainState) (g : Graph) (w : World) (k : ℕ) (n : graph.Node) (untold : (name : List ℕ) → n.kind ≡ kind.Custom name → w.customs.tells name ≡ false) where
+module _ (S D L H B : Type 0) (sources : S → SourceState) (drains : D → DrainState) (g : Graph) (w : World) (k : ℕ) (n : graph.Node) (untold : (name : List ℕ) → n.kind ≡ kind.Custom name → w.customs.tells name ≡ false) where
   pub custom_picture : (first x : CustomState) (is : List InPort) (os : List OutPort) → FirstCustom k n first
-      → PictureLaws {N = IslandNode S D L B} node_port_state (node_law sources drains w.book) node_asking node_moves sink_ended g w k n (Custom first) (Custom x) is os
+      → PictureLaws {N = IslandNode S D L H B} node_port_state (node_law sources drains w.book) node_asking node_moves sink_ended g w k n (Custom first) (Custom x) is os
   custom_picture first x is os f =
       let none = untold f.name f.kind_is in
       record {
@@ -69,14 +69,14 @@ module _ (S D L B : Type 0) (sources : S → SourceState) (drains : D → DrainS
 
 -- ---- in a run
 
-abbrev as_node : {S D L B : Type 0} → CustomState → IslandNode S D L B
+abbrev as_node : {S D L H B : Type 0} → CustomState → IslandNode S D L H B
 as_node x = Custom x
 
-one_custom : {S D L B : Type 0} (x y : CustomState) → as_node {S} {D} {L} {B} x ≡ as_node y → x ≡ y
+one_custom : {S D L H B : Type 0} (x y : CustomState) → as_node {S = S} {D = D} {L = L} {H = H} {B = B} x ≡ as_node y → x ≡ y
 one_custom x y e = cc
 
 -- a node of a custom stage's kind is one
-custom_cases : {S D L B : Type 0} (sources : S → SourceState) (drains : D → DrainState) (book : Book) (chains : List graph.Chain) (k : ℕ) (n : graph.Node) (name : List ℕ) (first now : IslandNode S D L B) (v : View) (took gave : List (List Item))
+custom_cases : {S D L H B : Type 0} (sources : S → SourceState) (drains : D → DrainState) (book : Book) (chains : List graph.Chain) (k : ℕ) (n : graph.Node) (name : List ℕ) (first now : IslandNode S D L H B) (v : View) (took gave : List (List Item))
     → n.kind ≡ kind.Custom name → FirstOf sources chains k n first → node_law sources drains book first now v took gave → (a : CustomState) × ((b : CustomState) × ((first ≡ Custom a) × (now ≡ Custom b)))
 custom_cases sources drains book chains k n name (Custom first) (Custom now) v took gave is made law = (first, (now, (refl, refl)))
 custom_cases sources drains book chains k n name (Reading first) now v took gave is made law = let e : kind.Custom name ≡ kind.Lines made.name = sym is ∙ made.kind_is in absurd cc
@@ -92,7 +92,7 @@ custom_cases sources drains book chains k n name (Entering first) now v took gav
 custom_cases sources drains book chains k n name (Leaving first) now v took gave is made law = absurd made
 custom_cases sources drains book chains k n name (Custom first) now v took gave is made law = absurd law
 
-module _ {S D L B : Type 0} (sources : S → SourceState) (drains : D → DrainState) (book : Book) (g : Graph) (a : Account (IslandNode S D L B)) (run : IsRun sources drains book g a) where
+module _ {S D L H B : Type 0} (sources : S → SourceState) (drains : D → DrainState) (book : Book) (g : Graph) (a : Account (IslandNode S D L H B)) (run : IsRun sources drains book g a) where
   -- it is there, as it was and as it is
   pub custom_there : (k : ℕ) (n : graph.Node) (name : List ℕ) → slice_get g.nodes k ≡ Some n → n.kind ≡ kind.Custom name
       → (first : CustomState) × ((now : CustomState) × ((a.firsts k ≡ Some (Custom first)) × ((a.nodes k ≡ Some (Custom now)) × CustomLaw first now (knows g a k n) (took g a k n) (gave g a k n))))
@@ -100,10 +100,10 @@ module _ {S D L B : Type 0} (sources : S → SourceState) (drains : D → DrainS
       let m = run.keeps.each_node k n ni in
       let c = custom_cases sources drains book g.chains k n name m.first m.now (knows g a k n) (took g a k n) (gave g a k n) is (run.made k n m.first ni m.first_at) m.law_holds in
       let begun : node_law sources drains book (Custom c.0) m.now (knows g a k n) (took g a k n) (gave g a k n) =
-      subst (λ (x : IslandNode S D L B). node_law sources drains book x m.now (knows g a k n) (took g a k n) (gave g a k n)) c.1.1.0 m.law_holds in
+      subst (λ (x : IslandNode S D L H B). node_law sources drains book x m.now (knows g a k n) (took g a k n) (gave g a k n)) c.1.1.0 m.law_holds in
       let law : CustomLaw c.0 c.1.0 (knows g a k n) (took g a k n) (gave g a k n) =
-      subst (λ (x : IslandNode S D L B). node_law sources drains book (Custom c.0) x (knows g a k n) (took g a k n) (gave g a k n)) c.1.1.1 begun in
-      (c.0, (c.1.0, (m.first_at ∙ ap (λ (x : IslandNode S D L B). Some x) c.1.1.0, (m.now_at ∙ ap (λ (x : IslandNode S D L B). Some x) c.1.1.1, law))))
+      subst (λ (x : IslandNode S D L H B). node_law sources drains book (Custom c.0) x (knows g a k n) (took g a k n) (gave g a k n)) c.1.1.1 begun in
+      (c.0, (c.1.0, (m.first_at ∙ ap (λ (x : IslandNode S D L H B). Some x) c.1.1.0, (m.now_at ∙ ap (λ (x : IslandNode S D L H B). Some x) c.1.1.1, law))))
 
   -- what it gave on an output is what was sent on the wire there
   sent_there : (u : ℕ) (v : Edge) (n : graph.Node) → slice_get g.wires u ≡ Some v → slice_get g.nodes v.from ≡ Some n → slice_get (gave g a v.from n) v.output ≡ Some (a.near u).wire.sent
@@ -131,7 +131,7 @@ module _ {S D L B : Type 0} (sources : S → SourceState) (drains : D → DrainS
       subst (λ (x : CustomState). ItemsTyped (slice_get x.types v.output) (a.near u).wire.sent) same typed
 
 -- a world that tells of a run says that none tells a list
-pub no_list : {S D L B : Type 0} (sources : S → SourceState) (drains : D → DrainState) (g : Graph) (w : World) (a : Account (IslandNode S D L B)) → IsRun sources drains w.book g a → WorldTells sources g w a → TellsNoList g w
+pub no_list : {S D L H B : Type 0} (sources : S → SourceState) (drains : D → DrainState) (g : Graph) (w : World) (a : Account (IslandNode S D L H B)) → IsRun sources drains w.book g a → WorldTells sources g w a → TellsNoList g w
 no_list sources drains g w a run tells k n name at is =
     let c = custom_there sources drains w.book g a run k n name at is in
     let told : TellsGave w n c.1.0 = tells.files k n (Custom c.0) (Custom c.1.0) at c.1.1.0 c.1.1.1.0 in

@@ -36,7 +36,7 @@ seen_outs (suc n) (y ∷ ys) s = let r = seen_outs n ys s.1 in omega (arith, r)
 -- a list that stands so agrees with what has passed
 so_agrees : (l : List Tree) (e : End) → Agrees (passed_so (told l e)) l e
 so_agrees l unended = rw (list_of_told l unended) (prefix_refl l)
-so_agrees l ended = rw (list_of_told l ended, standing_told l ended) (tt, refl)
+so_agrees l ended = rw (list_of_told l ended, standing_told l ended) (refl, refl)
 so_agrees l (failed c) = rw (list_of_told l (failed c), standing_told l (failed c)) (prefix_refl l, inl (refl, omega arith))
 
 module _ (g : Graph) (w : World) (k : ℕ) (n : graph.Node) (first now : CustomState) (v : View) (took gave : List (List Item)) (made : FirstCustom k n first) (tells : TellsGave w n now) (law : CustomLaw first now v took gave) where
@@ -56,7 +56,7 @@ module _ (g : Graph) (w : World) (k : ℕ) (n : graph.Node) (first now : CustomS
       let passed = (outputs_pass first now v took gave law).1 p h at in
       let told_so : w.given now.node p ≡ passed_so h = tells.given p h (ap (λ (z : List (List Item)). slice_get z p) (sym gave_is) ∙ at) in
       let same : w.given k p ≡ passed_so h = ap (λ (m : ℕ). w.given m p) (sym node_is) ∙ told_so in
-      let agrees : Agrees (passed_so h) passed.list passed.end = rw passed.is (so_agrees passed.list passed.end) in
+      let agrees : Agrees (passed_so h) passed.list passed.end = subst (λ (z : List Item). Agrees (passed_so z) passed.list passed.end) (sym passed.is) (so_agrees passed.list passed.end) in
       record { list = passed.list; end = passed.end; is = passed.is; agrees = subst (λ (o : Outlook). Agrees o passed.list passed.end) (sym same) agrees }
 
   pub custom_laws : RunLaws g w k n took gave

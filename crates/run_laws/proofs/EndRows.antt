@@ -102,9 +102,9 @@ none_or_some : (n : ℕ) → (n ≤ 1) ⊎ (1 ≤ n)
 none_or_some zero = inl (omega arith)
 none_or_some (suc n) = inr (omega arith)
 
-module _ {S D : Type 0} (L B : Type 0) (sources : S → SourceState) (drains : D → DrainState) (g : Graph) (w : World) (k : ℕ) (n : graph.Node) where
+module _ {S D : Type 0} (L H B : Type 0) (sources : S → SourceState) (drains : D → DrainState) (g : Graph) (w : World) (k : ℕ) (n : graph.Node) where
   -- when it asked nothing had come to it
-  first_moment : (first : Sink D) (x : IslandNode S D L B) (v : View) (took gave : List (List Item)) (t : List Item) → first.writes ≡ First → node_port_state x v → node_law sources drains w.book (Writing first) x v took gave → get_or v.ins 0 Cancelled ≡ Pulled → took ≡ t ∷ [] → t ≡ []
+  first_moment : (first : Sink D) (x : IslandNode S D L H B) (v : View) (took gave : List (List Item)) (t : List Item) → first.writes ≡ First → node_port_state x v → node_law sources drains w.book (Writing first) x v took gave → get_or v.ins 0 Cancelled ≡ Pulled → took ≡ t ∷ [] → t ≡ []
   first_moment first (Writing x) v took gave t is row law waits at =
       let goes : x.end ≡ Unended = waits_open x.started x.end v.ins v.outs waits row in
       let none = none_took x.writes x.node x.kept x.end law.elems law.wrote law.in_end (law.writes_same ∙ is) goes law.writes in
@@ -113,7 +113,7 @@ module _ {S D : Type 0} (L B : Type 0) (sources : S → SourceState) (drains : D
 
   -- so it wanted one element at most
   pub first_wants : (first now : Sink D) (i : InPort) → first.writes ≡ First → InStands i
-      → ((p : ℕ) → 1 ≤ slice_index_or (i.want ∷ []) p 0 → Moments {N = IslandNode S D L B} node_port_state (node_law sources drains w.book) node_asking node_moves (Writing first) (Writing now) (i ∷ []) [] p) → demand i.wire ≤ 1
+      → ((p : ℕ) → 1 ≤ slice_index_or (i.want ∷ []) p 0 → Moments {N = IslandNode S D L H B} node_port_state (node_law sources drains w.book) node_asking node_moves (Writing first) (Writing now) (i ∷ []) [] p) → demand i.wire ≤ 1
   first_wants first now i is s moments = elim (none_or_some i.want) [
     | inl few ↦ let reach = s.reach in omega (arith, few, reach)
     | inr some ↦
@@ -125,7 +125,7 @@ module _ {S D : Type 0} (L B : Type 0) (sources : S → SourceState) (drains : D
         omega (arith, none, reach, one)
   ]
 
-  abbrev Laws : IslandNode S D L B → IslandNode S D L B → List InPort → List OutPort → Type 0
+  abbrev Laws : IslandNode S D L H B → IslandNode S D L H B → List InPort → List OutPort → Type 0
   Laws first x is os = PictureLaws node_port_state (node_law sources drains w.book) node_asking node_moves sink_ended g w k n first x is os
 
   -- ---- a source
@@ -137,7 +137,7 @@ module _ {S D : Type 0} (L B : Type 0) (sources : S → SourceState) (drains : D
   in_row is os rows (inl h) = inl h
   in_row is os rows (inr h) = inr (rows.rests k n.decider is os h)
 
-  pub source_picture : (first x : IslandNode S D L B) (p : Phase) (is : List InPort) (os : List OutPort) → SourceRows g w n.kind → OneOutOf (lines_port_state_in p) (map (λ (i : InPort). i.view) is) (map (λ (o : OutPort). o.view) os) → Laws first x is os
+  pub source_picture : (first x : IslandNode S D L H B) (p : Phase) (is : List InPort) (os : List OutPort) → SourceRows g w n.kind → OneOutOf (lines_port_state_in p) (map (λ (i : InPort). i.view) is) (map (λ (o : OutPort). o.view) os) → Laws first x is os
   source_picture first x p [] (o ∷ []) rows r = record {
     lawful = λ si so m. rows.lawful k n.decider [] (o.wire ∷ []);
     rests = λ si so ri ro. in_row [] (o.wire ∷ []) rows (source_rests o p ro.0 r);
@@ -157,9 +157,9 @@ module _ {S D : Type 0} (L B : Type 0) (sources : S → SourceState) (drains : D
   sink_row i F rows (inl h) = inl (h, tt)
   sink_row i F rows (inr h) = inr (rows.rests k n.decider (i.wire ∷ []) [] h)
 
-  pub sink_picture : (first x : IslandNode S D L B) (F : Type 0) (P : InView → Type 0) (is : List InPort) (os : List OutPort) → SinkRows g w n.kind F → OneInOf P (map (λ (i : InPort). i.view) is) (map (λ (o : OutPort). o.view) os)
+  pub sink_picture : (first x : IslandNode S D L H B) (F : Type 0) (P : InView → Type 0) (is : List InPort) (os : List OutPort) → SinkRows g w n.kind F → OneInOf P (map (λ (i : InPort). i.view) is) (map (λ (o : OutPort). o.view) os)
       → ((v : InView) → P v → ((v ≡ Pulled) × (sink_ended x ≡ false)) ⊎ (InClosed v × (sink_ended x ≡ true)))
-      → ((i : InPort) → is ≡ i ∷ [] → os ≡ [] → InStands i → ((p : ℕ) → 1 ≤ slice_index_or (i.want ∷ []) p 0 → Moments {N = IslandNode S D L B} node_port_state (node_law sources drains w.book) node_asking node_moves first x (i ∷ []) [] p) → F → demand i.wire ≤ 1)
+      → ((i : InPort) → is ≡ i ∷ [] → os ≡ [] → InStands i → ((p : ℕ) → 1 ≤ slice_index_or (i.want ∷ []) p 0 → Moments {N = IslandNode S D L H B} node_port_state (node_law sources drains w.book) node_asking node_moves first x (i ∷ []) [] p) → F → demand i.wire ≤ 1)
       → Laws first x is os
   sink_picture first x F P (i ∷ []) [] rows r ports few = record {
     lawful = λ si so m. rows.lawful k n.decider (i.wire ∷ []) [] (λ f. (few i refl refl si.0 m f, tt));

@@ -30,16 +30,16 @@ in_tells a v h = h
 out_tells : (a : OutLogic) (v : View) → OutAsking a v → OutAsking a v
 out_tells a v h = h
 
-module _ {S D L B : Type 0} (sources : S → SourceState) (drains : D → DrainState) (g : Graph) (w : World) (plans : Plans) (k : ℕ) (n : graph.Node) where
-  abbrev Laws : IslandNode S D L B → IslandNode S D L B → List InPort → List OutPort → Type 0
+module _ {S D L H B : Type 0} (sources : S → SourceState) (drains : D → DrainState) (g : Graph) (w : World) (plans : Plans) (k : ℕ) (n : graph.Node) where
+  abbrev Laws : IslandNode S D L H B → IslandNode S D L H B → List InPort → List OutPort → Type 0
   Laws first x is os = PictureLawsBy node_port_state (node_law sources drains w.book) node_asking node_moves sink_ended g w plans k n first x is os
 
-  in_stands : (first : InLogic) (old : IslandNode S D L B) (v : View) (took gave : List (List Item)) → node_port_state old v → node_law sources drains w.book (FanIn first) old v took gave
+  in_stands : (first : InLogic) (old : IslandNode S D L H B) (v : View) (took gave : List (List Item)) → node_port_state old v → node_law sources drains w.book (FanIn first) old v took gave
       → Stands node_port_state (node_law sources drains w.book) node_asking node_moves in_moves InPortState InLaw InAsking FanIn in_tells first old v took gave
   in_stands first (FanIn l) v took gave r law = record { stage = l; is = refl; port_state_holds = r; law_holds = law; asking_holds = λ a. a; moves_on = λ now on. on }
   in_stands first old v took gave r law = absurd law
 
-  out_stands : (first : OutLogic) (old : IslandNode S D L B) (v : View) (took gave : List (List Item)) → node_port_state old v → node_law sources drains w.book (FanOut first) old v took gave
+  out_stands : (first : OutLogic) (old : IslandNode S D L H B) (v : View) (took gave : List (List Item)) → node_port_state old v → node_law sources drains w.book (FanOut first) old v took gave
       → Stands node_port_state (node_law sources drains w.book) node_asking node_moves out_moves out.port_state OutLaw OutAsking FanOut out_tells first old v took gave
   out_stands first (FanOut l) v took gave r law = record { stage = l; is = refl; port_state_holds = r; law_holds = law; asking_holds = λ a. a; moves_on = λ now on. on }
   out_stands first old v took gave r law = absurd law

@@ -37,8 +37,8 @@ pub sent_wanted : (n : ℕ) (b : Bool) → n ≤ (if b then n + 1 else n)
 sent_wanted n true = omega arith
 sent_wanted n false = omega arith
 
-module _ {S D L B : Type 0} (sources : S → SourceState) (drains : D → DrainState) (book : Book) (first now : Sink D) (fault : now.end ≡ WriteFault) (got : List Item) (ins_want outs_want : List ℕ) (outs_closed : List Bool)
-    (e : Earlier {N = IslandNode S D L B} node_port_state (node_law sources drains book) node_asking node_moves 0 (Writing first) (Writing now) (got ∷ []) [] ins_want outs_want outs_closed) where
+module _ {S D L H B : Type 0} (sources : S → SourceState) (drains : D → DrainState) (book : Book) (first now : Sink D) (fault : now.end ≡ WriteFault) (got : List Item) (ins_want outs_want : List ℕ) (outs_closed : List Bool)
+    (e : Earlier {N = IslandNode S D L H B} node_port_state (node_law sources drains book) node_asking node_moves 0 (Writing first) (Writing now) (got ∷ []) [] ins_want outs_want outs_closed) where
   -- it took an element since its last ask, and no more was asked for; or the write that failed was of lines that it had put off, and the
   -- next line did not fill a round
   pub few_behind : (elems : List Tree) → got ≡ told elems unended → (slice_index_or ins_want 0 0 ≤ elements got) ⊎ ((now.gather.passed + 1 < now.gather.room) × (slice_index_or ins_want 0 0 ≤ elements got + 1))

@@ -55,8 +55,8 @@ subs_hear : (chains : List graph.Chain) (k : ℕ) (n : graph.Node) (first now : 
 subs_hear chains k n first now v took gave made law None e p h at = sub_hears k n first.logic now.logic v took gave made.begins.as_kind (law.unled e).1.1 p h at
 subs_hear chains k n first now v took gave made law (Some l) e p h at = let follows = some_followed first.left l e in ports_hear _ v took gave (own_law chains k n first made follows now v took gave (law.led follows)) p h at
 
-module _ {S D L B : Type 0} (sources : S → SourceState) (drains : D → DrainState) (book : Book) (chains : List graph.Chain) (k : ℕ) (n : graph.Node) where
-  pub node_hears : (first now : IslandNode S D L B) (v : View) (took gave : List (List Item)) → FirstOf sources chains k n first → node_law sources drains book first now v took gave → HearsAll v took
+module _ {S D L H B : Type 0} (sources : S → SourceState) (drains : D → DrainState) (book : Book) (chains : List graph.Chain) (k : ℕ) (n : graph.Node) where
+  pub node_hears : (first now : IslandNode S D L H B) (v : View) (took gave : List (List Item)) → FirstOf sources chains k n first → node_law sources drains book first now v took gave → HearsAll v took
   node_hears (Reading first) (Reading now) v took gave made law p h at = absurd (none_at took p h law.took_is at)
   node_hears (Making first) (Making now) v took gave made law p h at = absurd (none_at took p h law.took_is at)
   node_hears (Linear first) (Linear now) v took gave made law p h at =

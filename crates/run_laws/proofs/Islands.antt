@@ -52,7 +52,7 @@ counts_same a i (v ∷ ws) (c ∷ cells) fused e f =
     rw (is_fused, here, rest) refl
 
 -- any number of islands, with lanes
-module _ {S D L B : Type 0} (sources : S → SourceState) (drains : D → DrainState) (book : Book) (g : Graph) (nets : ℕ → Net (IslandNode S D L B)) (seats : Seats) (asked : ℕ → ℕ) (covers : Covers g nets seats)
+module _ {S D L H B : Type 0} (sources : S → SourceState) (drains : D → DrainState) (book : Book) (g : Graph) (nets : ℕ → Net (IslandNode S D L H B)) (seats : Seats) (asked : ℕ → ℕ) (covers : Covers g nets seats)
     (settled : (b : ℕ) → Settled node_port_state (node_law sources drains book) node_asking node_moves (nets b)) where
   pub all_run : IsJoined g → LanesKeep g nets seats asked → AllMade (FirstOf sources g.chains) g (joined_account nets seats asked) → IsRun sources drains book g (joined_account nets seats asked)
   all_run is_joined lanes made = record {
@@ -65,7 +65,7 @@ module _ {S D L B : Type 0} (sources : S → SourceState) (drains : D → DrainS
   all_rest = all_still node_port_state (node_law sources drains book) node_asking node_moves g nets seats covers asked settled
 
 -- one island, in which no wire is a lane
-module _ {S D L B : Type 0} (sources : S → SourceState) (drains : D → DrainState) (book : Book) (g : Graph) (net : Net (IslandNode S D L B)) (settled : Settled node_port_state (node_law sources drains book) node_asking node_moves net) (made : Materializes sources g net.firsts net.ends) where
+module _ {S D L H B : Type 0} (sources : S → SourceState) (drains : D → DrainState) (book : Book) (g : Graph) (net : Net (IslandNode S D L H B)) (settled : Settled node_port_state (node_law sources drains book) node_asking node_moves net) (made : Materializes sources g net.firsts net.ends) where
   within : (k : ℕ) (n : graph.Node) → slice_get g.nodes k ≡ Some n → k < length net.nodes
   within k n e = let h = slice_get-below g.nodes k n e in let a = settled.each_first in let b = made.nodes in omega (arith, h, a, b)
 

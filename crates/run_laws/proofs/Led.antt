@@ -153,9 +153,9 @@ module _ (g : Graph) (w : World) (plans : Plans) (k : ℕ) (n : graph.Node) wher
 
 -- ---- a stage with state
 
-module _ {S D : Type 0} (L B : Type 0) (sources : S → SourceState) (drains : D → DrainState) (g : Graph) (w : World) (plans : Plans) (k : ℕ) (n : graph.Node) where
+module _ {S D : Type 0} (L H B : Type 0) (sources : S → SourceState) (drains : D → DrainState) (g : Graph) (w : World) (plans : Plans) (k : ℕ) (n : graph.Node) where
   abbrev Tells : StateLogic → StateLogic → List InPort → List OutPort → Type 0
-  Tells first x is os = PictureLawsBy {N = IslandNode S D L B} node_port_state (node_law sources drains w.book) node_asking node_moves sink_ended g w plans k n (node.State first) (node.State x) is os
+  Tells first x is os = PictureLawsBy {N = IslandNode S D L H B} node_port_state (node_law sources drains w.book) node_asking node_moves sink_ended g w plans k n (node.State first) (node.State x) is os
 
   -- what is left of its moves in the picture is what it follows still
   rest_is : (now start : Option (List ℕ)) (moves first : List ℕ) (plan : List ℕ) → plans k ≡ Some plan → plan_of first start ≡ Some plan → plan_of moves now ≡ plan_of first start → w.moves k ≡ moves → left g w plans k ≡ now
@@ -166,24 +166,24 @@ module _ {S D : Type 0} (L B : Type 0) (sources : S → SourceState) (drains : D
   follows_still None moves plan e = cc
   follows_still (Some rest) moves plan e = (rest, refl)
 
-  led_one : (first x : StateLogic) (i : InPort) (o : OutPort) (plan : List ℕ) → plans k ≡ Some plan → FirstState k n first → state_plan first ≡ Some plan → TellsMoves {S = S} {D = D} {L = L} {B = B} w k (node.State x) → StatePortState x (views_of (i ∷ []) (o ∷ []))
+  led_one : (first x : StateLogic) (i : InPort) (o : OutPort) (plan : List ℕ) → plans k ≡ Some plan → FirstState k n first → state_plan first ≡ Some plan → TellsMoves {S = S} {D = D} {L = L} {H = H} {B = B} w k (node.State x) → StatePortState x (views_of (i ∷ []) (o ∷ []))
       → StateLaw first x (views_of (i ∷ []) (o ∷ [])) (i.got ∷ []) (o.sent ∷ []) → Tells first x (i ∷ []) (o ∷ [])
   led_one (Dropping f) (Dropping l) i o plan follows b e tells r law =
       let rest = follows_still l.log.left l.log.moves plan (law.plan ∙ e) in
-      states.drops_led L B sources drains g w k n f l i o b.begins.as_kind (tells l.log.moves refl) r law plans rest.0
+      states.drops_led L H B sources drains g w k n f l i o b.begins.as_kind (tells l.log.moves refl) r law plans rest.0
       (rest_is l.log.left f.log.left l.log.moves f.log.moves plan follows e law.plan (tells l.log.moves refl)) rest.1
   led_one (Recovering f) (Recovering l) i o plan follows b e tells r law =
-      states.recover_led L B sources drains g w k n f l i o b.begins.as_kind (tells l.moves refl) r law plans (rest_is l.left f.left l.moves f.moves plan follows e law.plan (tells l.moves refl))
+      states.recover_led L H B sources drains g w k n f l i o b.begins.as_kind (tells l.moves refl) r law plans (rest_is l.left f.left l.moves f.moves plan follows e law.plan (tells l.moves refl))
   led_one (Obeying f) (Obeying l) i o plan follows b e tells r law =
-      switches.valve_led L B sources drains g w k n f l i o b.begins.as_kind (tells l.moves refl) r law plans (rest_is l.left f.left l.moves f.moves plan follows e law.plan (tells l.moves refl))
+      switches.valve_led L H B sources drains g w k n f l i o b.begins.as_kind (tells l.moves refl) r law plans (rest_is l.left f.left l.moves f.moves plan follows e law.plan (tells l.moves refl))
   led_one (Machine f) x i o plan follows b e tells r law = absurd cc
   led_one (Tripping f) x i o plan follows b e tells r law = absurd cc
   led_one first x i o plan follows b e tells r law = absurd law
 
-  pub led_state : (first x : StateLogic) (is : List InPort) (os : List OutPort) (plan : List ℕ) → plans k ≡ Some plan → FirstState k n first → state_plan first ≡ Some plan → TellsMoves {S = S} {D = D} {L = L} {B = B} w k (node.State x) → StatePortState x (views_of is os)
+  pub led_state : (first x : StateLogic) (is : List InPort) (os : List OutPort) (plan : List ℕ) → plans k ≡ Some plan → FirstState k n first → state_plan first ≡ Some plan → TellsMoves {S = S} {D = D} {L = L} {H = H} {B = B} w k (node.State x) → StatePortState x (views_of is os)
       → StateLaw first x (views_of is os) (gots_of is) (sents_of os) → Tells first x is os
   led_state first x (i ∷ []) (o ∷ []) plan follows b e tells r law = led_one first x i o plan follows b e tells r law
-  led_state first x [] os plan follows b e tells r law = absurd (states.no_input L B sources drains g w k n x os r)
-  led_state first x (i ∷ []) [] plan follows b e tells r law = absurd (states.no_output L B sources drains g w k n x i r)
-  led_state first x (i ∷ []) (o ∷ p ∷ os) plan follows b e tells r law = absurd (states.two_outputs L B sources drains g w k n x i o p os r)
-  led_state first x (i ∷ j ∷ is) os plan follows b e tells r law = absurd (states.two_inputs L B sources drains g w k n x i j is os r)
+  led_state first x [] os plan follows b e tells r law = absurd (states.no_input L H B sources drains g w k n x os r)
+  led_state first x (i ∷ []) [] plan follows b e tells r law = absurd (states.no_output L H B sources drains g w k n x i r)
+  led_state first x (i ∷ []) (o ∷ p ∷ os) plan follows b e tells r law = absurd (states.two_outputs L H B sources drains g w k n x i o p os r)
+  led_state first x (i ∷ j ∷ is) os plan follows b e tells r law = absurd (states.two_inputs L H B sources drains g w k n x i j is os r)

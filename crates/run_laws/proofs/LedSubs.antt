@@ -436,13 +436,13 @@ module _ (g : Graph) (w : World) (k : ℕ) (n : graph.Node) (first : Led Line) (
 
   -- ---- in a picture
 
-  module _ {S D : Type 0} (L B : Type 0) (sources : S → SourceState) (drains : D → DrainState) (plans : Plans) where
+  module _ {S D : Type 0} (L H B : Type 0) (sources : S → SourceState) (drains : D → DrainState) (plans : Plans) where
     record LedNow (v : View) (took gave : List (List Item)) : Type 0 where
       now : Led Line
       port_state_holds : LedPortState line_rest line_is_open now v
       law_holds : LedLaw line_rest line_is_open line_whole first now v took gave
 
-    led_now : (x : IslandNode S D L B) (v : View) (took gave : List (List Item)) → node_port_state x v → node_law sources drains w.book (Sub first) x v took gave → LedNow v took gave
+    led_now : (x : IslandNode S D L H B) (v : View) (took gave : List (List Item)) → node_port_state x v → node_law sources drains w.book (Sub first) x v took gave → LedNow v took gave
     led_now (Sub x) v took gave r law = record { now = x; port_state_holds = r; law_holds = law.led follows }
     led_now x v took gave r law = absurd law
 
@@ -479,7 +479,7 @@ module _ (g : Graph) (w : World) (k : ℕ) (n : graph.Node) (first : Led Line) (
           at_most op.wire.sent (length all_ready) _ (omega (arith, sent, out, few, all))
           (most_given m start i si gone.came.list gone.came.end all_ready unended got_is (took_known now (views_of (i ∷ []) (op ∷ [])) (i.got ∷ []) (op.sent ∷ []) law) all_stand)
 
-      asked_row : InStands i → OutStands op → Moments {N = IslandNode S D L B} node_port_state (node_law sources drains w.book) node_asking node_moves (Sub first) (Sub now) (i ∷ []) (op ∷ []) 0 → 1 ≤ demand i.wire
+      asked_row : InStands i → OutStands op → Moments {N = IslandNode S D L H B} node_port_state (node_law sources drains w.book) node_asking node_moves (Sub first) (Sub now) (i ∷ []) (op ∷ []) 0 → 1 ≤ demand i.wire
           → (is_going (run m start (take (demand i.wire - 1) i.wire.list)).state ≡ true) × (length (run m start (take (demand i.wire - 1) i.wire.list)).gave < wanted op.wire)
       asked_row si so last some =
           let e = last.0 in
@@ -573,7 +573,7 @@ module _ (g : Graph) (w : World) (k : ℕ) (n : graph.Node) (first : Led Line) (
             by_stuck true e h = by_misfit comes (led_stops now (views_of (i ∷ []) (op ∷ [])) (i.got ∷ []) (op.sent ∷ []) law e comes may)
             by_stuck false e h = by_phase now.logic.phase e refl h
 
-      led_picture : PictureLawsBy {N = IslandNode S D L B} node_port_state (node_law sources drains w.book) node_asking node_moves sink_ended g w plans k n (Sub first) (Sub now) (i ∷ []) (op ∷ [])
+      led_picture : PictureLawsBy {N = IslandNode S D L H B} node_port_state (node_law sources drains w.book) node_asking node_moves sink_ended g w plans k n (Sub first) (Sub now) (i ∷ []) (op ∷ [])
       led_picture = record {
         lawful = λ si so last. f.kind.lawful_by g w plans k n.decider (i.wire ∷ []) (op.wire ∷ []) (f.kind.lawful g w k n.decider (i.wire ∷ []) (op.wire ∷ [])
             (lawful_row (given_row si.0 so.0, λ some. asked_row si.0 so.0 (last 0 (reached i si.0 some)) some)) (moves_row so.0));
@@ -582,10 +582,10 @@ module _ (g : Graph) (w : World) (k : ℕ) (n : graph.Node) (first : Led Line) (
       }
 
     abbrev SubTells : Led Line → List InPort → List OutPort → Type 0
-    SubTells now is os = PictureLawsBy {N = IslandNode S D L B} node_port_state (node_law sources drains w.book) node_asking node_moves sink_ended g w plans k n (Sub first) (Sub now) is os
+    SubTells now is os = PictureLawsBy {N = IslandNode S D L H B} node_port_state (node_law sources drains w.book) node_asking node_moves sink_ended g w plans k n (Sub first) (Sub now) is os
 
     pub subs_picture : (now : Led Line) (is : List InPort) (os : List OutPort) → plans k ≡ sub_plan now → ((ms : List ℕ) → now.logic.moves ≡ Some ms → w.moves k ≡ ms) → LedPortState line_rest line_is_open now (views_of is os)
-        → LedLaw line_rest line_is_open line_whole first now (views_of is os) (gots_of is) (sents_of os) → PictureLawsBy {N = IslandNode S D L B} node_port_state (node_law sources drains w.book) node_asking node_moves sink_ended g w plans k n (Sub first) (Sub now) is os
+        → LedLaw line_rest line_is_open line_whole first now (views_of is os) (gots_of is) (sents_of os) → PictureLawsBy {N = IslandNode S D L H B} node_port_state (node_law sources drains w.book) node_asking node_moves sink_ended g w plans k n (Sub first) (Sub now) is os
     subs_picture now is os follows_so told_moves r law = by_ports is os r law (led_state now (views_of is os) law.follows r.ports)
       where
         by_ports : (is : List InPort) (os : List OutPort) → LedPortState line_rest line_is_open now (views_of is os) → LedLaw line_rest line_is_open line_whole first now (views_of is os) (gots_of is) (sents_of os) → OneOneOf (led_in now.stuck now) (views_of is os).ins (views_of is os).outs → SubTells now is os

@@ -74,13 +74,13 @@ moment_of book k n first l v took gave f r law waits =
       waited = λ t g ti gi. linear_waited book k n.kind n.decider first l v took gave t g f.begins law s.0 s.1.1.0 s.1.1.1 waits (o.out ∙ s.1.0) ti gi;
     }
 
-module _ {S D : Type 0} (L B : Type 0) (sources : S → SourceState) (drains : D → DrainState) (g : Graph) (w : World) (k : ℕ) (n : graph.Node) where
+module _ {S D : Type 0} (L H B : Type 0) (sources : S → SourceState) (drains : D → DrainState) (g : Graph) (w : World) (k : ℕ) (n : graph.Node) where
   -- by its kind, which stays the same
-  moment_by : (first : Logic) (x : IslandNode S D L B) (v : View) (took gave : List (List Item)) → FirstLinear k n first → node_port_state x v → node_law sources drains w.book (Linear first) x v took gave → in_at v 0 ≡ Pulled → Moment w.book k n first v took gave
+  moment_by : (first : Logic) (x : IslandNode S D L H B) (v : View) (took gave : List (List Item)) → FirstLinear k n first → node_port_state x v → node_law sources drains w.book (Linear first) x v took gave → in_at v 0 ≡ Pulled → Moment w.book k n first v took gave
   moment_by first (Linear l) v took gave f r law waits = moment_of w.book k n first l v took gave f r law waits
   moment_by first x v took gave f r law waits = absurd law
 
-  abbrev Laws : IslandNode S D L B → IslandNode S D L B → List InPort → List OutPort → Type 0
+  abbrev Laws : IslandNode S D L H B → IslandNode S D L H B → List InPort → List OutPort → Type 0
   Laws first x is os = PictureLaws node_port_state (node_law sources drains w.book) node_asking node_moves sink_ended g w k n first x is os
 
   module _ (first x : Logic) (i : InPort) (o : OutPort) (f : FirstLinear k n first) (r : LinearPortState x (record { ins = i.view ∷ []; outs = o.view ∷ [] }))
@@ -92,7 +92,7 @@ module _ {S D : Type 0} (L B : Type 0) (sources : S → SourceState) (drains : D
     at = law_at (linear w.book first.stage.work) law.start _ (held w.book x) _ i.view _ o.view _ law.took_list i.got law.gave_list o.sent
         (same_start _ _ (sym law.owes ∙ f.begins.owes w.book)) refl refl refl (one_same _ _ (sym law.took_is)) (one_same _ _ (sym law.gave_is)) law.law
 
-    asked_then : InStands i → OutStands o → Moments {N = IslandNode S D L B} node_port_state (node_law sources drains w.book) node_asking node_moves (Linear first) (Linear x) (i ∷ []) (o ∷ []) 0 → 1 ≤ demand i.wire
+    asked_then : InStands i → OutStands o → Moments {N = IslandNode S D L H B} node_port_state (node_law sources drains w.book) node_asking node_moves (Linear first) (Linear x) (i ∷ []) (o ∷ []) 0 → 1 ≤ demand i.wire
         → (is_going (run (linear w.book first.stage.work) (begin_work k n.decider first.stage.work) (take (demand i.wire - 1) i.wire.list)).state ≡ true)
         × (length (run (linear w.book first.stage.work) (begin_work k n.decider first.stage.work) (take (demand i.wire - 1) i.wire.list)).gave < wanted o.wire)
     asked_then si so m some =

@@ -23,9 +23,9 @@ use Rattle.run_laws.specs.Runs.{IsRun}
 use Rattle.run_laws.specs.Telling.{TellsNode, TellsMoves, TellsPicks, TellsGave, TellsCustoms, WorldTells}
 use Rattle.run_laws.proofs.AnyKind.{node_laws}
 
-module _ {S D L B : Type 0} (sources : S → SourceState) (drains : D → DrainState) (g : Graph) (w : World) (a : Account (IslandNode S D L B)) (run : IsRun sources drains w.book g a) (tells : WorldTells sources g w a) (rank : ℕ → ℕ) (ranked : IsRanked g rank) where
+module _ {S D L H B : Type 0} (sources : S → SourceState) (drains : D → DrainState) (g : Graph) (w : World) (a : Account (IslandNode S D L H B)) (run : IsRun sources drains w.book g a) (tells : WorldTells sources g w a) (rank : ℕ → ℕ) (ranked : IsRanked g rank) where
   -- what the world tells of each node
-  told : (k : ℕ) (n : graph.Node) (first now : IslandNode S D L B) → slice_get g.nodes k ≡ Some n → a.firsts k ≡ Some first → a.nodes k ≡ Some now → TellsNode sources w n first now × TellsMoves w k now
+  told : (k : ℕ) (n : graph.Node) (first now : IslandNode S D L H B) → slice_get g.nodes k ≡ Some n → a.firsts k ≡ Some first → a.nodes k ≡ Some now → TellsNode sources w n first now × TellsMoves w k now
   told k n first now e f x = (tells.files k n first now e f x, tells.picks k now x)
 
   pub every_wire_of : (i : ℕ) → i < length g.wires → AgreesWith (composed g w i) (a.near i).wire.sent
@@ -42,23 +42,23 @@ module _ {S D L B : Type 0} (sources : S → SourceState) (drains : D → DrainS
       (λ k n first now v took gave made each many law. node_laws sources drains g w k n first now v took gave made each many law) a run.joined run.keeps run.made told rank ranked
 
 -- what the world tells of a node that is no source of lines and no custom stage
-neither : {S D L B : Type 0} (sources : S → SourceState) (chains : List graph.Chain) (w : World) (k : ℕ) (n : graph.Node) (first now : IslandNode S D L B) → ((name : List ℕ) → n.kind ≢ kind.Lines name) → ((name : List ℕ) → n.kind ≢ kind.Custom name)
+neither : {S D L H B : Type 0} (sources : S → SourceState) (chains : List graph.Chain) (w : World) (k : ℕ) (n : graph.Node) (first now : IslandNode S D L H B) → ((name : List ℕ) → n.kind ≢ kind.Lines name) → ((name : List ℕ) → n.kind ≢ kind.Custom name)
     → FirstOf sources chains k n first → TellsNode sources w n first now
 neither sources chains w k n (Reading first) (Reading now) other hired made = λ name is. absurd (other name is)
 neither sources chains w k n (Custom first) (Custom now) other hired made = absurd (hired made.name made.kind_is)
 neither sources chains w k n _ _ other hired made = tt
 
 -- what it tells of one that is no source of lines, where it tells what a custom stage gave
-no_lines : {S D L B : Type 0} (sources : S → SourceState) (w : World) (n : graph.Node) (first now : IslandNode S D L B) → ((name : List ℕ) → n.kind ≢ kind.Lines name) → ((x : CustomState) → now ≡ Custom x → TellsGave w n x)
+no_lines : {S D L H B : Type 0} (sources : S → SourceState) (w : World) (n : graph.Node) (first now : IslandNode S D L H B) → ((name : List ℕ) → n.kind ≢ kind.Lines name) → ((x : CustomState) → now ≡ Custom x → TellsGave w n x)
     → TellsNode sources w n first now
 no_lines sources w n (Reading first) (Reading now) other gave = λ name is. absurd (other name is)
 no_lines sources w n (Custom first) (Custom now) other gave = gave now refl
 no_lines sources w n _ _ other gave = tt
 
-module _ {S D L B : Type 0} (sources : S → SourceState) (drains : D → DrainState) (g : Graph) (w : World) (a : Account (IslandNode S D L B)) (run : IsRun sources drains w.book g a) (chose : TellsPicks w a) where
+module _ {S D L H B : Type 0} (sources : S → SourceState) (drains : D → DrainState) (g : Graph) (w : World) (a : Account (IslandNode S D L H B)) (run : IsRun sources drains w.book g a) (chose : TellsPicks w a) where
   -- what was sent on a wire from a node of which the world tells, by any outlooks with which what came to it agrees
   given_where : (sent : ℕ → Outlook) (j : ℕ) (v : Edge) (n : graph.Node) → slice_get g.wires j ≡ Some v → slice_get g.nodes v.from ≡ Some n
-      → ((first now : IslandNode S D L B) → a.firsts v.from ≡ Some first → a.nodes v.from ≡ Some now → TellsNode sources w n first now)
+      → ((first now : IslandNode S D L H B) → a.firsts v.from ≡ Some first → a.nodes v.from ≡ Some now → TellsNode sources w n first now)
       → ((u : ℕ) (x : Edge) → slice_get g.wires u ≡ Some x → x.to ≡ v.from → AgreesWith (sent u) (a.near u).wire.sent) → AgreesWith (next g w sent j) (a.near j).wire.sent
   given_where sent j v n vi ni tells b =
       gives_by node_port_state (node_law sources drains w.book) node_asking node_moves (FirstOf sources g.chains) (λ x k m first now. TellsNode sources x m first now × TellsMoves x k now) g w
@@ -74,7 +74,7 @@ module _ {S D L B : Type 0} (sources : S → SourceState) (drains : D → DrainS
   pub given_told : TellsCustoms g w a → (sent : ℕ → Outlook) (j : ℕ) (v : Edge) (n : graph.Node) → slice_get g.wires j ≡ Some v → slice_get g.nodes v.from ≡ Some n → ((name : List ℕ) → n.kind ≢ kind.Lines name)
       → ((u : ℕ) (x : Edge) → slice_get g.wires u ≡ Some x → x.to ≡ v.from → AgreesWith (sent u) (a.near u).wire.sent) → AgreesWith (next g w sent j) (a.near j).wire.sent
   given_told gave sent j v n vi ni other b =
-      given_where sent j v n vi ni (λ first now fi xi. no_lines sources w n first now other (λ x e. gave v.from n x ni (xi ∙ ap (λ (y : IslandNode S D L B). Some y) e))) b
+      given_where sent j v n vi ni (λ first now fi xi. no_lines sources w n first now other (λ x e. gave v.from n x ni (xi ∙ ap (λ (y : IslandNode S D L H B). Some y) e))) b
 
   -- what every node took, by any outlooks with which what was sent agrees
   pub came_of : (outlook : ℕ → Outlook) → AllAgreeWith a g outlook → (k : ℕ) (n : graph.Node) → slice_get g.nodes k ≡ Some n → AllMayPass (ports_of g w outlook k (count_from 0 (inputs_of n))) (took g a k n)

@@ -91,7 +91,7 @@ module _ (w : World) (k : ℕ) (n : graph.Node) (plan : Option (List ℕ)) (v : 
       subst (λ (r : SeatState). SeatTold n.kind (free_moves plan (w.moves k)) Count r) (some_same now.seat s at) here
   state_told first now made follows told law s at = absurd law
 
-  node_told : {S D L B : Type 0} (sources : S → SourceState) (drains : D → DrainState) (book : Book) (chains : List graph.Chain) (first now : IslandNode S D L B) → FirstOf sources chains k n first → plan ≡ node_plan first → TellsMoves w k now → node_law sources drains book first now v took gave
+  node_told : {S D L H B : Type 0} (sources : S → SourceState) (drains : D → DrainState) (book : Book) (chains : List graph.Chain) (first now : IslandNode S D L H B) → FirstOf sources chains k n first → plan ≡ node_plan first → TellsMoves w k now → node_law sources drains book first now v took gave
       → (s : SeatState) → node_seat now ≡ Some s → SeatTold n.kind (free_moves plan (w.moves k)) Count s
   node_told sources drains book chains first (Reading now) made follows told law s at = absurd (no_seat s at)
   node_told sources drains book chains first (Making now) made follows told law s at = absurd (no_seat s at)
@@ -117,7 +117,7 @@ few_heard (o ∷ os) (x ∷ hs) v a h =
     let count : elements x ≡ length t.list = ap elements t.is ∙ elements_told t.list t.end in
     omega (arith, few, count)
 
-module _ {S D L B : Type 0} (g : Graph) (a : Account (IslandNode S D L B)) where
+module _ {S D L H B : Type 0} (g : Graph) (a : Account (IslandNode S D L H B)) where
   abbrev took_by : ℕ → Option graph.Node → ℕ
   took_by k None = 0
   took_by k (Some n) = elements (slice_index_or (took g a k n) 0 [])
@@ -129,7 +129,7 @@ module _ {S D L B : Type 0} (g : Graph) (a : Account (IslandNode S D L B)) where
   pub took_there : (k : ℕ) (n : graph.Node) → slice_get g.nodes k ≡ Some n → took_at k ≡ elements (slice_index_or (took g a k n) 0 [])
   took_there k n e = ap (took_by k) e
 
-module _ {S D L B : Type 0} (sources : S → SourceState) (drains : D → DrainState) (g : Graph) (w : World) (a : Account (IslandNode S D L B)) (run : IsRun sources drains w.book g a) where
+module _ {S D L H B : Type 0} (sources : S → SourceState) (drains : D → DrainState) (g : Graph) (w : World) (a : Account (IslandNode S D L H B)) (run : IsRun sources drains w.book g a) where
   -- all valves of a switch with moves of their own choice show one order, that of a trip of the switch which took its element
   pub shown : (plans : Plans) → FollowsPlans plans a → TellsPicks w a → AreSettled g a → OneOrderShown g (freed plans w) (took_at g a)
   shown plans follows chose settled = shown_by.shown g (freed plans w) (took_at g a) (λ k. seat_at (a.nodes k)) told settled

@@ -33,7 +33,7 @@ use Rattle.run_laws.proofs.PictureOrders.{took_at, took_there, shown, given_ther
 use Rattle.run_laws.proofs.Telling.{agrees_passes}
 use Rattle.stream_model.specs.Linear.{Book}
 
-module _ {S D L B : Type 0} (sources : S → SourceState) (drains : D → DrainState) (g : Graph) (w : World) (a : Account (IslandNode S D L B)) (run : IsRun sources drains w.book g a) where
+module _ {S D L H B : Type 0} (sources : S → SourceState) (drains : D → DrainState) (g : Graph) (w : World) (a : Account (IslandNode S D L H B)) (run : IsRun sources drains w.book g a) where
   hears : (k : ℕ) (n : graph.Node) → slice_get g.nodes k ≡ Some n → HearsAll (knows g a k n) (took g a k n)
   hears k n e = let m = run.keeps.each_node k n e in node_hears sources drains w.book g.chains k n m.first m.now (knows g a k n) (took g a k n) (gave g a k n) (run.made k n m.first e m.first_at) m.law_holds
 
@@ -68,11 +68,11 @@ module _ {S D L B : Type 0} (sources : S → SourceState) (drains : D → DrainS
     matches_by still = all_match node_port_state (node_law sources drains w.book) node_asking node_moves sink_ended (FirstOf sources g.chains) (λ k x. TellsMoves w k x) g w plans a run.joined run.keeps run.made chose hears (λ k n first now is os there at. node_picture sources drains g w plans k n (λ name kind. untold k n name there kind) first now is os (follows k first at)) outlook still (λ k. ended_there (a.nodes k)) (λ k x e. ap ended_there e)
 
 -- what a node follows, where there is one
-abbrev plan_of : {S D L B : Type 0} → Option (IslandNode S D L B) → Option (List ℕ)
+abbrev plan_of : {S D L H B : Type 0} → Option (IslandNode S D L H B) → Option (List ℕ)
 plan_of None = None
 plan_of (Some x) = node_plan x
 
 -- how the sinks match has nothing to do with what a world tells
-pub matches : {S D L B : Type 0} (sources : S → SourceState) (drains : D → DrainState) (book : Book) (g : Graph) (a : Account (IslandNode S D L B)) → IsRun sources drains book g a → (w : World) (outlook : ℕ → Outlook) → IsStill g a
+pub matches : {S D L H B : Type 0} (sources : S → SourceState) (drains : D → DrainState) (book : Book) (g : Graph) (a : Account (IslandNode S D L H B)) → IsRun sources drains book g a → (w : World) (outlook : ℕ → Outlook) → IsStill g a
     → SinksMatch g w (picture_counts a g) outlook (λ k. ended_there (a.nodes k))
 matches sources drains book g a run w outlook still = matches_by sources drains g (chosen_world book w.file a) a run (λ k. plan_of (a.firsts k)) (λ k first at. ap plan_of at) (chosen_told book w.file a) (λ k n name at is. refl) outlook still

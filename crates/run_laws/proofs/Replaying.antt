@@ -26,7 +26,7 @@ use Rattle.run_laws.proofs.Agreeing.{inputs_pass, read_there, list_agrees}
 use Rattle.run_laws.proofs.Reading.{length_ins}
 use Rattle.run_laws.proofs.ServingNodes.{node_serves}
 
-module _ {S D L B : Type 0} (sources : S → SourceState) (drains : D → DrainState) (g : Graph) (w : World) (a : Account (IslandNode S D L B)) (run : IsRun sources drains w.book g a) (files : TellsFiles sources g w a) (serves : ServesPlans g w a) (rank : ℕ → ℕ) (ranked : IsRanked g rank) where
+module _ {S D L H B : Type 0} (sources : S → SourceState) (drains : D → DrainState) (g : Graph) (w : World) (a : Account (IslandNode S D L H B)) (run : IsRun sources drains w.book g a) (files : TellsFiles sources g w a) (serves : ServesPlans g w a) (rank : ℕ → ℕ) (ranked : IsRanked g rank) where
   -- what was sent on a wire, as a list and its end
   abbrev SentSo : ℕ → Type 0
   SentSo u = Agrees (composed g w u) (list_of (a.near u).wire.sent) (end_of_items (a.near u).wire.sent)

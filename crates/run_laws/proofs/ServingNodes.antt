@@ -286,13 +286,13 @@ module _ (g : Graph) (w : World) (k : ℕ) (n : graph.Node) where
     state_serves (Tripping first) now v took gave begins follows out law a = absurd (no_calm follows)
     state_serves first now v took gave begins follows out law a = absurd law
 
-module _ {S D L B : Type 0} (sources : S → SourceState) (drains : D → DrainState) (g : Graph) (w : World) (k : ℕ) (n : graph.Node) where
+module _ {S D L H B : Type 0} (sources : S → SourceState) (drains : D → DrainState) (g : Graph) (w : World) (k : ℕ) (n : graph.Node) where
   -- the world has the moves that it made
-  as_made : (first now : IslandNode S D L B) (v : View) (took gave : List (List Item)) → FirstOf sources g.chains k n first → TellsNode sources w n first now → length took ≡ inputs_of n → node_law sources drains w.book first now v took gave → AllMayPass (inputs g w k n) took
+  as_made : (first now : IslandNode S D L H B) (v : View) (took gave : List (List Item)) → FirstOf sources g.chains k n first → TellsNode sources w n first now → length took ≡ inputs_of n → node_law sources drains w.book first now v took gave → AllMayPass (inputs g w k n) took
       → TellsMoves w k now → GivesSo g w k n gave
   as_made first now v took gave made tells many law a told = (node_laws sources drains g w k n first now v took gave made (tells, told) many law).gives (inputs g w k n) a
 
-  by_plan : (first now : IslandNode S D L B) (v : View) (took gave : List (List Item)) → FirstOf sources g.chains k n first → TellsNode sources w n first now → length took ≡ inputs_of n → node_law sources drains w.book first now v took gave → 0 < outputs_of n → AllMayPass (inputs g w k n) took
+  by_plan : (first now : IslandNode S D L H B) (v : View) (took gave : List (List Item)) → FirstOf sources g.chains k n first → TellsNode sources w n first now → length took ≡ inputs_of n → node_law sources drains w.book first now v took gave → 0 < outputs_of n → AllMayPass (inputs g w k n) took
       → (plan : List ℕ) → node_plan first ≡ Some plan → w.moves k ≡ plan → moves_fit g w k n.kind (inputs g w k n) ≡ true → IsSureAt g w k n → GivesSo g w k n gave
   by_plan (node.State first) (node.State now) v took gave made tells many law out a plan follows is fit sure = state_serves g w k n plan is fit sure first now v took gave made.begins.as_kind follows out law a
   by_plan (node.FanIn first) (node.FanIn now) v took gave made tells many law out a plan follows is fit sure = in_serves g w k n plan is fit sure first now v took gave made.begins.takes follows out law a
@@ -309,7 +309,7 @@ module _ {S D L B : Type 0} (sources : S → SourceState) (drains : D → DrainS
   by_plan first now v took gave made tells many law out a plan follows is fit sure = absurd law
 
   -- it serves the moves that the world has of it, where it chooses
-  pub node_serves : (first now : IslandNode S D L B) (v : View) (took gave : List (List Item)) → FirstOf sources g.chains k n first → TellsNode sources w n first now × ServesMoves g w k n first now → length took ≡ inputs_of n → node_law sources drains w.book first now v took gave → 0 < outputs_of n → AllMayPass (inputs g w k n) took → GivesSo g w k n gave
+  pub node_serves : (first now : IslandNode S D L H B) (v : View) (took gave : List (List Item)) → FirstOf sources g.chains k n first → TellsNode sources w n first now × ServesMoves g w k n first now → length took ≡ inputs_of n → node_law sources drains w.book first now v took gave → 0 < outputs_of n → AllMayPass (inputs g w k n) took → GivesSo g w k n gave
   node_serves first now v took gave made serves many law out a = by (node_picks now) refl
     where
       told : (moves : List ℕ) → node_picks now ≡ Some moves → w.moves k ≡ moves → TellsMoves w k now

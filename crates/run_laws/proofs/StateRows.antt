@@ -216,14 +216,14 @@ waits_busy l x y (over xi yo) e = let no : InClosed Pulled = subst InClosed e xi
 
 -- ---- the node
 
-module _ {S D : Type 0} (L B : Type 0) (sources : S → SourceState) (drains : D → DrainState) (g : Graph) (w : World) (k : ℕ) (n : graph.Node) where
+module _ {S D : Type 0} (L H B : Type 0) (sources : S → SourceState) (drains : D → DrainState) (g : Graph) (w : World) (k : ℕ) (n : graph.Node) where
   -- its kind stays the same
   record StateNow (first : Logic) (v : View) (took gave : List (List Item)) : Type 0 where
     now : Logic
     port_state_holds : MachinePortState now v
     law_holds : MachineLaw first now v took gave
 
-  state_now : (first : Logic) (x : IslandNode S D L B) (v : View) (took gave : List (List Item)) → node_port_state x v → node_law sources drains w.book (node.State (Machine first)) x v took gave → StateNow first v took gave
+  state_now : (first : Logic) (x : IslandNode S D L H B) (v : View) (took gave : List (List Item)) → node_port_state x v → node_law sources drains w.book (node.State (Machine first)) x v took gave → StateNow first v took gave
   state_now first (node.State (Machine x)) v took gave r law = record { now = x; port_state_holds = r; law_holds = law }
   state_now first x v took gave r law = absurd law
 
@@ -235,13 +235,13 @@ module _ {S D : Type 0} (L B : Type 0) (sources : S → SourceState) (drains : D
   buffers_ports m l first x y e some started r =
       buffer_ports m l.phase l.ending l.asked l.pending x y started (subst (λ z. port_state_by z l.phase l.ending l.asked l.pending l.stage.work x y) (e ∙ some) r)
 
-  abbrev Laws : IslandNode S D L B → IslandNode S D L B → List InPort → List OutPort → Type 0
+  abbrev Laws : IslandNode S D L H B → IslandNode S D L H B → List InPort → List OutPort → Type 0
   Laws first x is os = PictureLaws node_port_state (node_law sources drains w.book) node_asking node_moves sink_ended g w k n first x is os
 
   module _ (first x : Logic) (i : InPort) (o : OutPort) (is_machine : IsMachine n.kind) (begins : Begins k n.kind n.decider first) (r : MachinePortState x (record { ins = i.view ∷ []; outs = o.view ∷ [] }))
       (law : MachineLaw first x (record { ins = i.view ∷ []; outs = o.view ∷ [] }) (i.got ∷ []) (o.sent ∷ [])) where
     abbrev LastAsks : Type 0
-    LastAsks = Moments {N = IslandNode S D L B} node_port_state (node_law sources drains w.book) node_asking node_moves (node.State (Machine first)) (node.State (Machine x)) (i ∷ []) (o ∷ []) 0
+    LastAsks = Moments {N = IslandNode S D L H B} node_port_state (node_law sources drains w.book) node_asking node_moves (node.State (Machine first)) (node.State (Machine x)) (i ∷ []) (o ∷ []) 0
 
     abbrev Still : Type 0
     Still = (EachWire IsShut (i.wire ∷ []) × EachWire IsShut (o.wire ∷ [])) ⊎ RowRests g w k n.kind n.decider (i.wire ∷ []) (o.wire ∷ [])
@@ -314,7 +314,7 @@ module _ {S D : Type 0} (L B : Type 0) (sources : S → SourceState) (drains : D
           omega (arith, holds, one, reach, count, room, more)
 
       -- one that asked for nothing asked for no more than that
-      buffers_demand : InStands i → OutStands o → ((p : ℕ) → 1 ≤ slice_index_or (i.want ∷ []) p 0 → Moments {N = IslandNode S D L B} node_port_state (node_law sources drains w.book) node_asking node_moves (node.State (Machine first)) (node.State (Machine x)) (i ∷ []) (o ∷ []) p)
+      buffers_demand : InStands i → OutStands o → ((p : ℕ) → 1 ≤ slice_index_or (i.want ∷ []) p 0 → Moments {N = IslandNode S D L H B} node_port_state (node_law sources drains w.book) node_asking node_moves (node.State (Machine first)) (node.State (Machine x)) (i ∷ []) (o ∷ []) p)
           → (d : ℕ) → d ≡ demand i.wire → d ≤ o.wire.sent + c.room
       buffers_demand si so m zero e = omega arith
       buffers_demand si so m (suc d) e = rw e (buffers_asked si so (m 0 (reached i si (omega (arith, e)))))
@@ -434,7 +434,7 @@ module _ {S D : Type 0} (L B : Type 0) (sources : S → SourceState) (drains : D
       led_stays comes may ri ro true e = inr (stopped comes may e)
       led_stays comes may ri ro false e = goes_on comes e ri ro
 
-      pub drops_led : PictureLawsBy {N = IslandNode S D L B} node_port_state (node_law sources drains w.book) node_asking node_moves sink_ended g w plans k n (node.State (Dropping first)) (node.State (Dropping x)) (i ∷ []) (o ∷ [])
+      pub drops_led : PictureLawsBy {N = IslandNode S D L H B} node_port_state (node_law sources drains w.book) node_asking node_moves sink_ended g w plans k n (node.State (Dropping first)) (node.State (Dropping x)) (i ∷ []) (o ∷ [])
       drops_led = record {
         lawful = λ si so m. own_lawful n.kind drop_kind.kind_is (drops_row si.0 so.0);
         rests = λ comes may si so ri ro. led_stays comes may ri.0 ro.0 x.log.stuck refl;
@@ -455,7 +455,7 @@ module _ {S D : Type 0} (L B : Type 0) (sources : S → SourceState) (drains : D
     port_state_holds : RecoverPortState now v
     law_holds : RecoversAs first now v took gave
 
-  recover_now : (first : Recover) (x : IslandNode S D L B) (v : View) (took gave : List (List Item)) → node_port_state x v → node_law sources drains w.book (node.State (Recovering first)) x v took gave → RecoverNow first v took gave
+  recover_now : (first : Recover) (x : IslandNode S D L H B) (v : View) (took gave : List (List Item)) → node_port_state x v → node_law sources drains w.book (node.State (Recovering first)) x v took gave → RecoverNow first v took gave
   recover_now first (node.State (Recovering x)) v took gave r law = record { now = x; port_state_holds = r; law_holds = law }
   recover_now first x v took gave r law = absurd law
 
@@ -465,7 +465,7 @@ module _ {S D : Type 0} (L B : Type 0) (sources : S → SourceState) (drains : D
     recover_kind = recovers_first k n.kind n.decider first begins
 
     abbrev LastAsk : Type 0
-    LastAsk = Moments {N = IslandNode S D L B} node_port_state (node_law sources drains w.book) node_asking node_moves (node.State (Recovering first)) (node.State (Recovering x)) (i ∷ []) (o ∷ []) 0
+    LastAsk = Moments {N = IslandNode S D L H B} node_port_state (node_law sources drains w.book) node_asking node_moves (node.State (Recovering first)) (node.State (Recovering x)) (i ∷ []) (o ∷ []) 0
 
     -- when it last asked it had given all that came, and was asked for more
     recover_asked : InStands i → OutStands o → LastAsk → demand i.wire ≤ wanted o.wire
@@ -545,7 +545,7 @@ module _ {S D : Type 0} (L B : Type 0) (sources : S → SourceState) (drains : D
       led_row comes may si so ri ro false e =
           moves_on comes (recover_stays first x i o law e si so ri ro (recover_ports x i.view o.view r.started (subst (λ b. recover_in b x i.view o.view) e r.ports).0))
 
-      pub recover_led : PictureLawsBy {N = IslandNode S D L B} node_port_state (node_law sources drains w.book) node_asking node_moves sink_ended g w plans k n (node.State (Recovering first)) (node.State (Recovering x)) (i ∷ []) (o ∷ [])
+      pub recover_led : PictureLawsBy {N = IslandNode S D L H B} node_port_state (node_law sources drains w.book) node_asking node_moves sink_ended g w plans k n (node.State (Recovering first)) (node.State (Recovering x)) (i ∷ []) (o ∷ [])
       recover_led = record {
         lawful = λ si so m. recover_kind.lawful_by g w plans k n.decider (i.wire ∷ []) (o.wire ∷ []) (recover_row si.0 so.0 (λ some. m 0 (reached i si.0 some)));
         rests = λ comes may si so ri ro. led_row comes may si.0 so.0 ri.0 ro.0 x.still refl;
@@ -568,8 +568,8 @@ module _ {S D : Type 0} (L B : Type 0) (sources : S → SourceState) (drains : D
   one_picture_of (Machine first) (Machine x) i o f bare told r law = let b = led_machine n.kind k n.decider first f.begins.as_kind in one_picture first x i o b.0 b.1 r law
   one_picture_of (Dropping first) (Dropping x) i o f bare told r law = drops_picture first x i o f.begins.as_kind (told x.log.moves refl) r law (none_left first.log.moves first.log.left bare)
   one_picture_of (Recovering first) (Recovering x) i o f bare told r law = recover_picture first x i o f.begins.as_kind (told x.moves refl) r law (none_left first.moves first.left bare)
-  one_picture_of (Obeying first) (Obeying x) i o f bare told r law = valve_picture L B sources drains g w k n first x i o f.begins.as_kind (told x.moves refl) r law (none_left first.moves first.left bare)
-  one_picture_of (Tripping first) (Tripping x) i o f bare told r law = trip_picture L B sources drains g w k n first x i o (led_trip n.kind k n.decider first f.begins.as_kind) r law
+  one_picture_of (Obeying first) (Obeying x) i o f bare told r law = valve_picture L H B sources drains g w k n first x i o f.begins.as_kind (told x.moves refl) r law (none_left first.moves first.left bare)
+  one_picture_of (Tripping first) (Tripping x) i o f bare told r law = trip_picture L H B sources drains g w k n first x i o (led_trip n.kind k n.decider first f.begins.as_kind) r law
   one_picture_of first x i o f bare told r law = absurd law
 
   -- it has one input and one output

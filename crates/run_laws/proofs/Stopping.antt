@@ -204,8 +204,8 @@ sub_made chains k n first now v had given plan b law e = (begins_plan (subs.made
     never (kind.RecoverText t) b h = b
     never kd b h = h
 
-module _ {S D L B : Type 0} (sources : S → SourceState) (drains : D → DrainState) where
-  node_made : (w : World) (chains : List graph.Chain) (k : ℕ) (n : graph.Node) (first now : IslandNode S D L B) (v : View) (had given : List (List Item)) (plan : List ℕ) → FirstOf sources chains k n first → node_law sources drains w.book first now v had given
+module _ {S D L H B : Type 0} (sources : S → SourceState) (drains : D → DrainState) where
+  node_made : (w : World) (chains : List graph.Chain) (k : ℕ) (n : graph.Node) (first now : IslandNode S D L H B) (v : View) (had given : List (List Item)) (plan : List ℕ) → FirstOf sources chains k n first → node_law sources drains w.book first now v had given
       → node_plan first ≡ Some plan → Made n.kind (node_moves now) plan
   node_made w chains k n (node.State f) (node.State l) v had given plan b law e = state_made k n f l v had given plan b law e
   node_made w chains k n (node.FanIn f) (node.FanIn l) v had given plan b law e = in_made k n f l v had given plan b.begins law e
@@ -217,13 +217,13 @@ module _ {S D L B : Type 0} (sources : S → SourceState) (drains : D → DrainS
   node_made w chains k n (node.FanOut f) now v had given plan b law e = absurd law
   node_made w chains k n first now v had given plan b law e = absurd (none_some e)
 
-  pub every_stage_begins : (w : World) (g : Graph) (a : Account (IslandNode S D L B)) → IsRun sources drains w.book g a → (k : ℕ) (n : graph.Node) (first now : IslandNode S D L B) (plan : List ℕ) → slice_get g.nodes k ≡ Some n → a.firsts k ≡ Some first → a.nodes k ≡ Some now
+  pub every_stage_begins : (w : World) (g : Graph) (a : Account (IslandNode S D L H B)) → IsRun sources drains w.book g a → (k : ℕ) (n : graph.Node) (first now : IslandNode S D L H B) (plan : List ℕ) → slice_get g.nodes k ≡ Some n → a.firsts k ≡ Some first → a.nodes k ≡ Some now
       → node_plan first ≡ Some plan → IsPrefix (node_moves now) plan × (IsAtOnce n.kind → (node_moves now ≡ []) ⊎ (node_moves now ≡ plan))
   every_stage_begins w g a run k n first now plan at start there follows =
       let m = run.keeps.each_node k n at in
       let was : m.first ≡ first = some_same m.first first (sym m.first_at ∙ start) in
       let is : m.now ≡ now = some_same m.now now (sym m.now_at ∙ there) in
-      subst (λ (x : IslandNode S D L B). Made n.kind (node_moves x) plan) is
+      subst (λ (x : IslandNode S D L H B). Made n.kind (node_moves x) plan) is
       (node_made w g.chains k n m.first m.now (knows g a k n) (took g a k n) (gave g a k n) plan (run.made k n m.first at m.first_at) m.law_holds (ap node_plan was ∙ follows))
 
 -- ---- the cause of a misfit
@@ -353,8 +353,8 @@ module _ (g : Graph) (w : World) (plans : Plans) (k : ℕ) (n : graph.Node) wher
           (subst (λ (x : Option (List ℕ)). SubsCause (yields_of g w k n.kind) k (opening_of f.logic.how) (next_move x) (w.moves k) comes) (sym rest)
           (subst (λ (ms : List ℕ). SubsCause (yields_of g w k n.kind) k (opening_of f.logic.how) (next_move l.left) ms comes) (sym told) (led_stops g w k n f b led l v had given own stuck comes may)))
 
-module _ {S D L B : Type 0} (sources : S → SourceState) (drains : D → DrainState) where
-  node_cause : (g : Graph) (w : World) (plans : Plans) (k : ℕ) (n : graph.Node) (first now : IslandNode S D L B) (v : View) (had given : List (List Item)) (comes : List Outlook) (place : ℕ) → FirstOf sources g.chains k n first → plans k ≡ node_plan first → TellsMoves w k now
+module _ {S D L H B : Type 0} (sources : S → SourceState) (drains : D → DrainState) where
+  node_cause : (g : Graph) (w : World) (plans : Plans) (k : ℕ) (n : graph.Node) (first now : IslandNode S D L H B) (v : View) (had given : List (List Item)) (comes : List Outlook) (place : ℕ) → FirstOf sources g.chains k n first → plans k ≡ node_plan first → TellsMoves w k now
       → node_port_state now v → node_law sources drains w.book first now v had given → AllMayPass comes had → node_misfit now ≡ Some place → (place ≡ length (node_moves now)) × Cause g w plans k n comes
   node_cause g w plans k n (node.State f) (node.State l) v had given comes place b follows tells r law may e = (state_place l e, state_cause g w plans k n f l v had given comes place b follows (state_tells l tells e) r law may e)
     where
@@ -365,7 +365,7 @@ module _ {S D L B : Type 0} (sources : S → SourceState) (drains : D → DrainS
       state_place (Machine x) h = absurd (none_some h)
       state_place (Tripping x) h = absurd (none_some h)
 
-      state_tells : (x : StateLogic) → TellsMoves {S = S} {D = D} {L = L} {B = B} w k (node.State x) → state_misfit x ≡ Some place → w.moves k ≡ state_moves x
+      state_tells : (x : StateLogic) → TellsMoves {S = S} {D = D} {L = L} {H = H} {B = B} w k (node.State x) → state_misfit x ≡ Some place → w.moves k ≡ state_moves x
       state_tells (Dropping x) t h = t x.log.moves refl
       state_tells (Recovering x) t h = t x.moves refl
       state_tells (Obeying x) t h = t x.moves refl
@@ -379,7 +379,7 @@ module _ {S D L B : Type 0} (sources : S → SourceState) (drains : D → DrainS
       in_place (fan_in.Sorting x) h = absurd (none_some h)
       in_place (fan_in.Zipping x) h = absurd (none_some h)
 
-      in_tells : (x : InLogic) → TellsMoves {S = S} {D = D} {L = L} {B = B} w k (node.FanIn x) → in_misfit x ≡ Some place → w.moves k ≡ in_moves x
+      in_tells : (x : InLogic) → TellsMoves {S = S} {D = D} {L = L} {H = H} {B = B} w k (node.FanIn x) → in_misfit x ≡ Some place → w.moves k ≡ in_moves x
       in_tells (fan_in.Merging x) t h = t x.log.moves refl
       in_tells (fan_in.Taking x) t h = absurd (none_some h)
       in_tells (fan_in.Sorting x) t h = absurd (none_some h)
@@ -390,7 +390,7 @@ module _ {S D L B : Type 0} (sources : S → SourceState) (drains : D → DrainS
       out_place (fan_out.Balances x) h = place_is x.log.stuck x.log.moves place h
       out_place (fan_out.Machines x) h = absurd (none_some h)
 
-      out_tells : (x : OutLogic) → TellsMoves {S = S} {D = D} {L = L} {B = B} w k (node.FanOut x) → out_misfit x ≡ Some place → w.moves k ≡ out_moves x
+      out_tells : (x : OutLogic) → TellsMoves {S = S} {D = D} {L = L} {H = H} {B = B} w k (node.FanOut x) → out_misfit x ≡ Some place → w.moves k ≡ out_moves x
       out_tells (fan_out.Balances x) t h = t x.log.moves refl
       out_tells (fan_out.Machines x) t h = absurd (none_some h)
   node_cause g w plans k n (node.Sub f) (node.Sub l) v had given comes place b follows tells r law may e = ((misfit_of l.stuck l.logic.moves place e).1, sub_cause g w plans k n f l v had given comes place b follows tells law may e)
@@ -400,11 +400,11 @@ module _ {S D L B : Type 0} (sources : S → SourceState) (drains : D → DrainS
   node_cause g w plans k n first (node.FanOut l) v had given comes place b follows tells r law may e = absurd law
   node_cause g w plans k n first now v had given comes place b follows tells r law may e = absurd (none_some e)
 
-  pub every_misfit : (g : Graph) (w : World) (plans : Plans) (a : Account (IslandNode S D L B)) (outlook : ℕ → Outlook) → IsRun sources drains w.book g a → TellsPicks w a → FollowsPlans plans a → AllAgreeWith a g outlook
-      → (k : ℕ) (n : graph.Node) (now : IslandNode S D L B) (place : ℕ) → slice_get g.nodes k ≡ Some n → a.nodes k ≡ Some now → node_misfit now ≡ Some place → (place ≡ length (node_moves now)) × MisfitsOver g w plans outlook k n
+  pub every_misfit : (g : Graph) (w : World) (plans : Plans) (a : Account (IslandNode S D L H B)) (outlook : ℕ → Outlook) → IsRun sources drains w.book g a → TellsPicks w a → FollowsPlans plans a → AllAgreeWith a g outlook
+      → (k : ℕ) (n : graph.Node) (now : IslandNode S D L H B) (place : ℕ) → slice_get g.nodes k ≡ Some n → a.nodes k ≡ Some now → node_misfit now ≡ Some place → (place ≡ length (node_moves now)) × MisfitsOver g w plans outlook k n
   every_misfit g w plans a outlook run chose follows agree k n now place at there found =
       let m = run.keeps.each_node k n at in
       let is : m.now ≡ now = some_same m.now now (sym m.now_at ∙ there) in
       let c = node_cause g w plans k n m.first m.now (knows g a k n) (took g a k n) (gave g a k n) _ place (run.made k n m.first at m.first_at) (follows k m.first m.first_at) (chose k m.now m.now_at) m.port_state_holds m.law_holds
       (came_of sources drains g w a run chose outlook agree k n at) (ap node_misfit is ∙ found) in
-      (c.0 ∙ ap (λ (x : IslandNode S D L B). length (node_moves x)) is, c.1)
+      (c.0 ∙ ap (λ (x : IslandNode S D L H B). length (node_moves x)) is, c.1)

@@ -103,18 +103,18 @@ joined_alike yields o start = record {
 
 -- ---- the node
 
-module _ {S D : Type 0} (L B : Type 0) (sources : S → SourceState) (drains : D → DrainState) (g : Graph) (w : World) (k : ℕ) (n : graph.Node) where
+module _ {S D : Type 0} (L H B : Type 0) (sources : S → SourceState) (drains : D → DrainState) (g : Graph) (w : World) (k : ℕ) (n : graph.Node) where
   -- its kind stays the same
   record SubNow (first : Logic Line) (v : View) (took gave : List (List Item)) : Type 0 where
     now : Logic Line
     port_state_holds : SubPortState line_rest line_is_open now v
     law_holds : SubLaw line_rest line_is_open line_whole first now v took gave
 
-  sub_now : (first : Led Line) → first.left ≡ None → (x : IslandNode S D L B) (v : View) (took gave : List (List Item)) → node_port_state x v → node_law sources drains w.book (Sub first) x v took gave → SubNow first.logic v took gave
+  sub_now : (first : Led Line) → first.left ≡ None → (x : IslandNode S D L H B) (v : View) (took gave : List (List Item)) → node_port_state x v → node_law sources drains w.book (Sub first) x v took gave → SubNow first.logic v took gave
   sub_now first plain (Sub x) v took gave r law = let u = law.unled plain in record { now = x.logic; port_state_holds = unled_ports x v u.0 r; law_holds = u.1.1 }
   sub_now first plain x v took gave r law = absurd law
 
-  abbrev Laws : IslandNode S D L B → IslandNode S D L B → List InPort → List OutPort → Type 0
+  abbrev Laws : IslandNode S D L H B → IslandNode S D L H B → List InPort → List OutPort → Type 0
   Laws first x is os = PictureLaws node_port_state (node_law sources drains w.book) node_asking node_moves sink_ended g w k n first x is os
 
   module _ (led : Led Line) (plain : led.left ≡ None) (made : FirstSub g.chains k n led) where
@@ -178,7 +178,7 @@ module _ {S D : Type 0} (L B : Type 0) (sources : S → SourceState) (drains : D
       at : Law m start its.held i.view o.view i.got o.sent
       at = law_at m start _ its.held _ i.view _ o.view _ law.took_list i.got law.gave_list o.sent refl refl refl refl (one_same _ _ (sym law.took_is)) (one_same _ _ (sym law.gave_is)) its.law
 
-      asked_then : InStands i → OutStands o → Moments {N = IslandNode S D L B} node_port_state (node_law sources drains w.book) node_asking node_moves (Sub led) (Sub x) (i ∷ []) (o ∷ []) 0 → 1 ≤ demand i.wire
+      asked_then : InStands i → OutStands o → Moments {N = IslandNode S D L H B} node_port_state (node_law sources drains w.book) node_asking node_moves (Sub led) (Sub x) (i ∷ []) (o ∷ []) 0 → 1 ≤ demand i.wire
           → (is_going (run m start (take (demand i.wire - 1) i.wire.list)).state ≡ true) × (length (run m start (take (demand i.wire - 1) i.wire.list)).gave < wanted o.wire)
       asked_then si so last some =
           let e = last.0 in

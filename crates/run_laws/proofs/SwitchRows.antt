@@ -140,8 +140,8 @@ moved_by (a ∷ []) n i o c s = tt
 moved_by (a ∷ m ∷ []) n i o c s = s ∙ c a m refl
 moved_by (a ∷ m ∷ b ∷ ms) n i o c s = tt
 
-module _ {S D : Type 0} (L B : Type 0) (sources : S → SourceState) (drains : D → DrainState) (g : Graph) (w : World) (k : ℕ) (n : graph.Node) where
-  abbrev Laws : IslandNode S D L B → IslandNode S D L B → List InPort → List OutPort → Type 0
+module _ {S D : Type 0} (L H B : Type 0) (sources : S → SourceState) (drains : D → DrainState) (g : Graph) (w : World) (k : ℕ) (n : graph.Node) where
+  abbrev Laws : IslandNode S D L H B → IslandNode S D L H B → List InPort → List OutPort → Type 0
   Laws first x is os = PictureLaws node_port_state (node_law sources drains w.book) node_asking node_moves sink_ended g w k n first x is os
 
   -- its kind stays the same
@@ -150,7 +150,7 @@ module _ {S D : Type 0} (L B : Type 0) (sources : S → SourceState) (drains : D
     port_state_holds : ValvePortState now v
     law_holds : ValveAs first now v took gave
 
-  valve_now : (first : Valve) (x : IslandNode S D L B) (v : View) (took gave : List (List Item)) → node_port_state x v → node_law sources drains w.book (node.State (Obeying first)) x v took gave → ValveNow first v took gave
+  valve_now : (first : Valve) (x : IslandNode S D L H B) (v : View) (took gave : List (List Item)) → node_port_state x v → node_law sources drains w.book (node.State (Obeying first)) x v took gave → ValveNow first v took gave
   valve_now first (node.State (Obeying x)) v took gave r law = record { now = x; port_state_holds = r; law_holds = law }
   valve_now first x v took gave r law = absurd law
 
@@ -160,7 +160,7 @@ module _ {S D : Type 0} (L B : Type 0) (sources : S → SourceState) (drains : D
     valve_kind = valve_first k n.kind n.decider first begins
 
     abbrev LastAsk : Type 0
-    LastAsk = Moments {N = IslandNode S D L B} node_port_state (node_law sources drains w.book) node_asking node_moves (node.State (Obeying first)) (node.State (Obeying x)) (i ∷ []) (o ∷ []) 0
+    LastAsk = Moments {N = IslandNode S D L H B} node_port_state (node_law sources drains w.book) node_asking node_moves (node.State (Obeying first)) (node.State (Obeying x)) (i ∷ []) (o ∷ []) 0
 
     valve_given : InStands i → OutStands o → o.wire.sent ≤ (if i.wire.shut then length (take i.wire.sent i.wire.list) + 0 else length (take i.wire.sent i.wire.list))
     valve_given si so =
@@ -246,7 +246,7 @@ module _ {S D : Type 0} (L B : Type 0) (sources : S → SourceState) (drains : D
           by (inl h) = inl h
           by (inr h) = inr (own_rests n.kind comes valve_kind.kind_is h)
 
-      pub valve_led : PictureLawsBy {N = IslandNode S D L B} node_port_state (node_law sources drains w.book) node_asking node_moves sink_ended g w plans k n (node.State (Obeying first)) (node.State (Obeying x)) (i ∷ []) (o ∷ [])
+      pub valve_led : PictureLawsBy {N = IslandNode S D L H B} node_port_state (node_law sources drains w.book) node_asking node_moves sink_ended g w plans k n (node.State (Obeying first)) (node.State (Obeying x)) (i ∷ []) (o ∷ [])
       valve_led = record {
         lawful = λ si so m. own_lawful n.kind valve_kind.kind_is (valve_row si.0 so.0 (λ some. m 0 (reached i si.0 some)));
         rests = λ comes may si so ri ro. led_rests comes may si.0 so.0 ri.0 ro.0 x.stuck refl;
@@ -267,7 +267,7 @@ module _ {S D : Type 0} (L B : Type 0) (sources : S → SourceState) (drains : D
     port_state_holds : TripPortState now v
     law_holds : TripAs first now v took gave
 
-  trip_now : (first : Trip) (x : IslandNode S D L B) (v : View) (took gave : List (List Item)) → node_port_state x v → node_law sources drains w.book (node.State (Tripping first)) x v took gave → TripNow first v took gave
+  trip_now : (first : Trip) (x : IslandNode S D L H B) (v : View) (took gave : List (List Item)) → node_port_state x v → node_law sources drains w.book (node.State (Tripping first)) x v took gave → TripNow first v took gave
   trip_now first (node.State (Tripping x)) v took gave r law = record { now = x; port_state_holds = r; law_holds = law }
   trip_now first x v took gave r law = absurd law
 
@@ -297,7 +297,7 @@ module _ {S D : Type 0} (L B : Type 0) (sources : S → SourceState) (drains : D
     passed = trip_at w.book first x _ _ _ i.got o.sent law trip_kind.node refl refl
 
     abbrev LastAsks : Type 0
-    LastAsks = Moments {N = IslandNode S D L B} node_port_state (node_law sources drains w.book) node_asking node_moves (node.State (Tripping first)) (node.State (Tripping x)) (i ∷ []) (o ∷ []) 0
+    LastAsks = Moments {N = IslandNode S D L H B} node_port_state (node_law sources drains w.book) node_asking node_moves (node.State (Tripping first)) (node.State (Tripping x)) (i ∷ []) (o ∷ []) 0
 
     trip_asked : InStands i → OutStands o → LastAsks → 1 ≤ demand i.wire
         → (is_going (run (linear w.book passing) (begin_work k n.decider passing) (take (demand i.wire - 1) i.wire.list)).state ≡ true)

@@ -85,7 +85,7 @@ module _ {D : Type 0} (drains : D → DrainState) (first now : Sink D) (v : View
     stands = its_bytes.stands;
   }
 
-module _ {S D L B : Type 0} (sources : S → SourceState) (drains : D → DrainState) (book : Book) (g : Graph) (a : Account (IslandNode S D L B)) (run : IsRun sources drains book g a) where
+module _ {S D L H B : Type 0} (sources : S → SourceState) (drains : D → DrainState) (book : Book) (g : Graph) (a : Account (IslandNode S D L H B)) (run : IsRun sources drains book g a) where
   -- the run, by the book of a world
   its_run : (w : World) → w.book ≡ book → IsRun sources drains w.book g a
   its_run w same = subst (λ (b : Book). IsRun sources drains b g a) (sym same) run

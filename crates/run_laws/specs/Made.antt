@@ -128,7 +128,7 @@ pub record FirstIgnoring (k : ℕ) (shape : Kind) (x : Ignorer) : Type 0 where
   pub end : x.end ≡ Unended
 
 -- node k of a blueprint with these chains, as it is handed in; the ends of a lane are no nodes of it
-abbrev pub FirstOf : {S D L B : Type 0} → (S → SourceState) → List graph.Chain → ℕ → graph.Node → IslandNode S D L B → Type 0
+abbrev pub FirstOf : {S D L H B : Type 0} → (S → SourceState) → List graph.Chain → ℕ → graph.Node → IslandNode S D L H B → Type 0
 FirstOf sources chains k n (Reading x) = FirstReading sources k n.kind x
 FirstOf sources chains k n (Making x) = FirstMaking k n.kind x
 FirstOf sources chains k n (Linear x) = FirstLinear k n x
@@ -151,9 +151,9 @@ pub record IsFused (v : Edge) (e : WireEnds) : Type 0 where
   pub no_lane : v.lane ≡ None
 
 -- the nodes, as they are handed in, and the wires' ends are those of the blueprint, each at its place
-pub record Materializes {S D L B : Type 0} (sources : S → SourceState) (g : Graph) (firsts : List (IslandNode S D L B)) (ends : List WireEnds) : Type 0 where
+pub record Materializes {S D L H B : Type 0} (sources : S → SourceState) (g : Graph) (firsts : List (IslandNode S D L H B)) (ends : List WireEnds) : Type 0 where
   pub nodes : length firsts ≡ length g.nodes
   pub wires : length ends ≡ length g.wires
-  pub each_node : (k : ℕ) (n : graph.Node) (x : IslandNode S D L B) → slice_get g.nodes k ≡ Some n → slice_get firsts k ≡ Some x
+  pub each_node : (k : ℕ) (n : graph.Node) (x : IslandNode S D L H B) → slice_get g.nodes k ≡ Some n → slice_get firsts k ≡ Some x
       → FirstOf sources g.chains k n x
   pub each_wire : (i : ℕ) (v : Edge) → slice_get g.wires i ≡ Some v → IsFused v (end_at ends i)

@@ -13,7 +13,7 @@ has_ended Unended = false
 has_ended WriteFault = true
 
 -- the node is a sink that has ended
-abbrev pub sink_ended : {S D L B : Type 0} → IslandNode S D L B → Bool
+abbrev pub sink_ended : {S D L H B : Type 0} → IslandNode S D L H B → Bool
 sink_ended (Reading x) = false
 sink_ended (Making x) = false
 sink_ended (Linear x) = false
@@ -28,6 +28,6 @@ sink_ended (Entering x) = false
 sink_ended (Leaving x) = false
 
 -- the same of a node that may be there
-abbrev pub ended_there : {S D L B : Type 0} → Option (IslandNode S D L B) → Bool
+abbrev pub ended_there : {S D L H B : Type 0} → Option (IslandNode S D L H B) → Bool
 ended_there None = false
 ended_there (Some x) = sink_ended x

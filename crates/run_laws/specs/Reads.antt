@@ -16,7 +16,7 @@ use Rattle.nodes.specs.Drawing.{ended_lines}
 use Rattle.nodes.specs.Source.{Lines}
 
 -- a source of lines is node k, as it was handed in and now
-pub record IsSourceAt {S D L B : Type 0} (a : Account (IslandNode S D L B)) (k : ℕ) (first now : Lines S) : Type 0 where
+pub record IsSourceAt {S D L H B : Type 0} (a : Account (IslandNode S D L H B)) (k : ℕ) (first now : Lines S) : Type 0 where
   pub at_first : a.firsts k ≡ Some (Reading first)
   pub at_last : a.nodes k ≡ Some (Reading now)
 

@@ -10,7 +10,7 @@ use Rattle.stream_model.specs.Linear.{Book}
 
 -- The ports of the blueprint are joined; its nodes and wires keep their laws, by this book of plugs; and its nodes were handed in
 -- as it names them.
-pub record IsRun {S D L B : Type 0} (sources : S → SourceState) (drains : D → DrainState) (book : Book) (g : Graph) (a : Account (IslandNode S D L B))
+pub record IsRun {S D L H B : Type 0} (sources : S → SourceState) (drains : D → DrainState) (book : Book) (g : Graph) (a : Account (IslandNode S D L H B))
     : Type 0 where
   pub joined : IsJoined g
   pub keeps : KeepsLaws node_port_state (node_law sources drains book) node_asking node_moves g a

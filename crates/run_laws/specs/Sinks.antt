@@ -58,14 +58,14 @@ SentTo room Unended sent count = (count ≤ sent) × WithinRounds room sent coun
 SentTo room WriteFault sent count = (count + 1 ≤ sent) × WithinRounds room sent count
 
 -- a sink with a file is node k, as it was handed in and now
-pub record IsSinkAt {S D L B : Type 0} (a : Account (IslandNode S D L B)) (k : ℕ) (first now : Sink D) : Type 0 where
+pub record IsSinkAt {S D L H B : Type 0} (a : Account (IslandNode S D L H B)) (k : ℕ) (first now : Sink D) : Type 0 where
   pub at_first : a.firsts k ≡ Some (Writing first)
   pub at_last : a.nodes k ≡ Some (Writing now)
 
 -- What a sink with a file wrote, whether its drain tells what it holds or not: so many whole lines as it counts, and bytes that its
 -- outlook lets it write, by every world of this book of plugs that tells of the files of the sources and of what the stages chose, and by every
 -- one whose moves they serve. A drain that was empty at first, and tells what it holds, holds just those bytes.
-pub record SinkWrote {S D L B : Type 0} (sources : S → SourceState) (drains : D → DrainState) (book : Book) (g : Graph) (a : Account (IslandNode S D L B))
+pub record SinkWrote {S D L H B : Type 0} (sources : S → SourceState) (drains : D → DrainState) (book : Book) (g : Graph) (a : Account (IslandNode S D L H B))
     (k : ℕ) (n : graph.Node) (first now : Sink D) : Type 0 where
   pub written : List ℕ
   pub lines_are : whole_lines (length written) written ≡ now.count
@@ -83,6 +83,6 @@ IgnoreTells o Unended sent = (list : List Tree) × (Agrees o list unended × ((l
 IgnoreTells o WriteFault sent = ⊥
 
 -- a sink that keeps nothing is node k, as it was handed in and now
-pub record IsIgnorerAt {S D L B : Type 0} (a : Account (IslandNode S D L B)) (k : ℕ) (first now : Ignorer) : Type 0 where
+pub record IsIgnorerAt {S D L H B : Type 0} (a : Account (IslandNode S D L H B)) (k : ℕ) (first now : Ignorer) : Type 0 where
   pub at_first : a.firsts k ≡ Some (Ignoring first)
   pub at_last : a.nodes k ≡ Some (Ignoring now)

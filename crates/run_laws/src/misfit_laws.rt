@@ -30,6 +30,7 @@ ghost use Rattle.run_laws.specs.Replayed.{Plans, IsAtOnce, MisfitsOver};
 ghost use Rattle.run_laws.specs.Runs.{IsRun};
 ghost use Rattle.run_laws.specs.Telling.{FollowsPlans, TellsPicks, WorldTells};
 
+use graph_stage::handlers::Handlers;
 use plug_logic::book::PlugBook;
 use plug_logic::logic::Logic;
 use stream_io::outside::{Drain, Source};
@@ -63,22 +64,22 @@ pub fn stages_follow_their_plan()
 {}
 
 /// At any moment of a run the moves that a node made are the first of those that it follows; a valve and a recover made all of them or none.
-pub fn every_node_begins_its_plan<S: Source, D: Drain, L: Logic, B: PlugBook>()
-    ensures { (g : Graph) (w : World) (a : Account (IslandNode S D L B)) → IsRun S.state D.state w.book g a
-        → (k : ℕ) (n : graph.Node) (first now : IslandNode S D L B) (plan : List ℕ) → slice_get g.nodes k ≡ Some n → a.firsts k ≡ Some first
+pub fn every_node_begins_its_plan<S: Source, D: Drain, L: Logic, H: Handlers, B: PlugBook>()
+    ensures { (g : Graph) (w : World) (a : Account (IslandNode S D L H B)) → IsRun S.state D.state w.book g a
+        → (k : ℕ) (n : graph.Node) (first now : IslandNode S D L H B) (plan : List ℕ) → slice_get g.nodes k ≡ Some n → a.firsts k ≡ Some first
         → a.nodes k ≡ Some now → node_plan first ≡ Some plan
         → IsPrefix (node_moves now) plan × (IsAtOnce n.kind → (node_moves now ≡ []) ⊎ (node_moves now ≡ plan)) }
 {}
 
 /// At any moment of a run a node that found a move which it cannot make has the cause of a misfit, and the place of that move is how many it
 /// made: by any outlooks with which what the wires carried agrees (`any`), and by the composed outlooks (`composed`).
-pub fn every_misfit_has_its_cause<S: Source, D: Drain, L: Logic, B: PlugBook>()
-    ensures any { (g : Graph) (w : World) (plans : Plans) (a : Account (IslandNode S D L B)) (outlook : ℕ → Outlook) → IsRun S.state D.state w.book g a
+pub fn every_misfit_has_its_cause<S: Source, D: Drain, L: Logic, H: Handlers, B: PlugBook>()
+    ensures any { (g : Graph) (w : World) (plans : Plans) (a : Account (IslandNode S D L H B)) (outlook : ℕ → Outlook) → IsRun S.state D.state w.book g a
         → TellsPicks w a → FollowsPlans plans a → AllAgreeWith a g outlook
-        → (k : ℕ) (n : graph.Node) (now : IslandNode S D L B) (place : ℕ) → slice_get g.nodes k ≡ Some n → a.nodes k ≡ Some now
+        → (k : ℕ) (n : graph.Node) (now : IslandNode S D L H B) (place : ℕ) → slice_get g.nodes k ≡ Some n → a.nodes k ≡ Some now
         → node_misfit now ≡ Some place → (place ≡ length (node_moves now)) × MisfitsOver g w plans outlook k n }
-    ensures composed { (g : Graph) (w : World) (plans : Plans) (rank : ℕ → ℕ) (a : Account (IslandNode S D L B)) → IsRun S.state D.state w.book g a
+    ensures composed { (g : Graph) (w : World) (plans : Plans) (rank : ℕ → ℕ) (a : Account (IslandNode S D L H B)) → IsRun S.state D.state w.book g a
         → WorldTells S.state g w a → FollowsPlans plans a → IsRanked g rank
-        → (k : ℕ) (n : graph.Node) (now : IslandNode S D L B) (place : ℕ) → slice_get g.nodes k ≡ Some n → a.nodes k ≡ Some now
+        → (k : ℕ) (n : graph.Node) (now : IslandNode S D L H B) (place : ℕ) → slice_get g.nodes k ≡ Some n → a.nodes k ≡ Some now
         → node_misfit now ≡ Some place → (place ≡ length (node_moves now)) × MisfitsOver g w plans (composed g w) k n }
 {}

@@ -17,6 +17,7 @@ ghost use Rattle.run_laws.specs.Runs.{IsRun};
 ghost use Rattle.run_laws.specs.Telling.{AreSettled, FollowsPlans, TellsPicks, TellsNoList, WorldTells};
 ghost use Rattle.run_laws.specs.Picture.{ended_there};
 
+use graph_stage::handlers::Handlers;
 use plug_logic::book::PlugBook;
 use plug_logic::logic::Logic;
 use stream_io::outside::{Drain, Source};
@@ -32,11 +33,11 @@ pub fn what_agrees_passes()
 /// follows no moves was given by a trip. So it is by any outlooks of whose lists the wires carried first parts (`any`), and by the
 /// composed outlooks (`composed`), where the world tells what the stages chose, no custom stage tells a
 /// list, and these are the plans of its nodes.
-pub fn every_picture_is_lawful<S: Source, D: Drain, L: Logic, B: PlugBook>()
-    ensures any { (g : Graph) (w : World) (plans : Plans) (a : Account (IslandNode S D L B)) (outlook : ℕ → Outlook) → IsRun S.state D.state w.book g a
+pub fn every_picture_is_lawful<S: Source, D: Drain, L: Logic, H: Handlers, B: PlugBook>()
+    ensures any { (g : Graph) (w : World) (plans : Plans) (a : Account (IslandNode S D L H B)) (outlook : ℕ → Outlook) → IsRun S.state D.state w.book g a
         → AreSettled g a → TellsPicks w a → TellsNoList g w → FollowsPlans plans a
         → AllPass a g outlook → IsLawfulBy g w plans (picture_counts a g) outlook }
-    ensures composed { (g : Graph) (w : World) (plans : Plans) (rank : ℕ → ℕ) (a : Account (IslandNode S D L B)) → IsRun S.state D.state w.book g a
+    ensures composed { (g : Graph) (w : World) (plans : Plans) (rank : ℕ → ℕ) (a : Account (IslandNode S D L H B)) → IsRun S.state D.state w.book g a
         → AreSettled g a → WorldTells S.state g w a → FollowsPlans plans a → IsRanked g rank
         → IsLawfulBy g w plans (picture_counts a g) (composed g w) }
 {}
@@ -45,20 +46,20 @@ pub fn every_picture_is_lawful<S: Source, D: Drain, L: Logic, B: PlugBook>()
 /// make the next of them. So it is by any outlooks with which what the wires carried agrees (`any`), and by the composed outlooks
 /// (`composed`), where no custom
 /// stage tells a list. A sink's input is shut exactly where the sink has ended (`sinks`).
-pub fn a_picture_without_events_rests<S: Source, D: Drain, L: Logic, B: PlugBook>()
-    ensures any { (g : Graph) (w : World) (plans : Plans) (a : Account (IslandNode S D L B)) (outlook : ℕ → Outlook) → IsRun S.state D.state w.book g a
+pub fn a_picture_without_events_rests<S: Source, D: Drain, L: Logic, H: Handlers, B: PlugBook>()
+    ensures any { (g : Graph) (w : World) (plans : Plans) (a : Account (IslandNode S D L H B)) (outlook : ℕ → Outlook) → IsRun S.state D.state w.book g a
         → IsStill g a → TellsPicks w a → TellsNoList g w → FollowsPlans plans a
         → AllAgreeWith a g outlook → RestsBy g w plans (picture_counts a g) outlook }
-    ensures composed { (g : Graph) (w : World) (plans : Plans) (rank : ℕ → ℕ) (a : Account (IslandNode S D L B)) → IsRun S.state D.state w.book g a
+    ensures composed { (g : Graph) (w : World) (plans : Plans) (rank : ℕ → ℕ) (a : Account (IslandNode S D L H B)) → IsRun S.state D.state w.book g a
         → IsStill g a → WorldTells S.state g w a → FollowsPlans plans a → IsRanked g rank
         → RestsBy g w plans (picture_counts a g) (composed g w) }
-    ensures sinks { (g : Graph) (w : World) (a : Account (IslandNode S D L B)) (outlook : ℕ → Outlook) → IsRun S.state D.state B.lists g a → IsStill g a
+    ensures sinks { (g : Graph) (w : World) (a : Account (IslandNode S D L H B)) (outlook : ℕ → Outlook) → IsRun S.state D.state B.lists g a → IsStill g a
         → SinksMatch g w (picture_counts a g) outlook (λ k. ended_there (a.nodes k)) }
 {}
 
 /// The moves of a run fit: each stage could have made them of what may come in on its inputs, and the orders by which valves
 /// acted that follow no moves were given, where the seats of its switches were settled.
-pub fn every_move_fits<S: Source, D: Drain, L: Logic, B: PlugBook>()
-    ensures { (g : Graph) (w : World) (plans : Plans) (rank : ℕ → ℕ) (a : Account (IslandNode S D L B)) → IsRun S.state D.state w.book g a
+pub fn every_move_fits<S: Source, D: Drain, L: Logic, H: Handlers, B: PlugBook>()
+    ensures { (g : Graph) (w : World) (plans : Plans) (rank : ℕ → ℕ) (a : Account (IslandNode S D L H B)) → IsRun S.state D.state w.book g a
         → AreSettled g a → WorldTells S.state g w a → FollowsPlans plans a → IsRanked g rank → FitsBy g w plans }
 {}

@@ -1,11 +1,14 @@
 -- What is told of a text is told of a call that read it: its answer, and which counts it raised.
-use Rattle.std.proofs.Common.{◌≡◌, ◌≢◌, ℕ, zero, suc, ◌<◌, List, [], ◌∷◌, ◌++◌, ◌⊎◌, inl, inr, refl, sym, ap, ◌∙◌, subst, arith, length}
+use Rattle.std.proofs.Common.{◌≡◌, ◌≢◌, ℕ, zero, suc, ◌<◌, List, [], ◌∷◌, ◌++◌, ◌⊎◌, inl, inr, refl, sym, ap, ◌∙◌, subst, arith, length, map}
 use Rattle.std.specs.Prelude.{slice_index_or, IsTrue, Option, Some, None}
 use Rattle.std.specs.List.{Contains}
 use Rattle.std.specs.Option.{option_to_list}
 use Rattle.stream_io.specs.Counts.{Grew, GrewAtMost}
 use Rattle.stream_io.specs.State.{FolderState}
+use Rattle.stream_model.specs.Known.{CustomShape, head_shape, HeadLists}
 use Rattle.stream_model.specs.declared.blueprint.Blueprint.{Blueprint}
+use Rattle.stream_model.specs.declared.head.CustomHead.{CustomHead}
+use Rattle.stream_model.specs.declared.head.PlugHead.{PlugHead}
 use Rattle.blue_modules.specs.Plain.{plain}
 use Rattle.blue_modules.specs.Text.{PlainText}
 use Rattle.blue_lang.specs.Texts as language
@@ -13,7 +16,10 @@ use Rattle.blue_modules.specs.Fitness.{IsFlat}
 use Rattle.blue_check.specs.Fitness.{IsFit, IsFirstFault}
 use Rattle.blue_check.specs.Meaning.{modules_fault}
 use Rattle.blue_check.specs.declared.fault.CheckFault.{CheckFault}
+use Rattle.graph_stage.specs.declared.custom.Custom.{Custom}
+use Rattle.plug_logic.specs.declared.plug.Plug.{Plug}
 use Rattle.materializer.specs.Files.{inputs_of_nodes}
+use Rattle.materializer.specs.HandedCustoms.{handed_heads}
 use Rattle.stream_io.specs.Quiet.{Quiet}
 use Rattle.run_blueprint.specs.Tracing.{IsApart}
 use Rattle.stream_io.proofs.Counts.{grew_same, quiet_two}
@@ -236,6 +242,13 @@ flat_by s a t f (inr e) blank first = subst (λ x. NotFlat x a t s s) (sym e) (n
 pub flat_told : (plugged : Plugged) (s : FolderState) (a : Answer) (t : PlainText) (taken : List (List ℕ)) (trace replay : Option (List ℕ)) (turns : ℕ) (f : CheckFault) → (a.status ≡ status.Unfit f) ⊎ (a.status ≡ status.NoMemory) → Blank a → modules_fault t ≡ Some f
     → EndedSaid plugged a.status a t taken trace replay turns s s
 flat_told plugged s a t taken trace replay turns f is blank first = inl (flat_by s a t f is blank first)
+
+-- what is so of these heads is so of what is known of the plugs and the custom stages that have them
+pub as_handed : {L H : Type 0} (P : HeadLists → Type 0) (plugs : List (Plug L)) (customs : List (Custom H)) (heads : List PlugHead) (shapes : List CustomHead) → heads ≡ map (λ (p : Plug L). p.head) plugs → map head_shape shapes ≡ map (λ (c : Custom H). head_shape c.head) customs
+    → P (record { plugs = heads; customs = map head_shape shapes }) → P (handed_heads plugs customs)
+as_handed {L} P plugs customs heads shapes same alike holds =
+    subst (λ (l : List CustomShape). P (record { plugs = map (λ (p : Plug L). p.head) plugs; customs = l })) alike
+    (subst (λ (l : List PlugHead). P (record { plugs = l; customs = map head_shape shapes })) same holds)
 
 -- a blueprint that was found fit is the one that was parsed
 pub causes_parsed : (plugged : Plugged) (s : Status) (a : Answer) (b c : Blueprint) (taken : List (List ℕ)) (trace replay : Option (List ℕ)) (turns : ℕ) (old new : FolderState) → IsFit b plugged.heads taken → c ≡ b → CausesChecked plugged s a c trace replay turns old new

@@ -39,6 +39,7 @@ use blue_modules::text::BlueText;
 use elem_core::line::Line;
 use elem_core::why::NoMemory;
 use graph_stage::custom::Custom;
+use graph_stage::handlers::Handlers;
 use interpreter::island::SinkStand;
 use island_runs::ran::Ran;
 use materializer::heads::{custom_heads_of, heads_of};
@@ -232,7 +233,13 @@ fn sinks_to_tell(alloc: Global, b: &Blueprint) -> Result<(Vec<Line>, Vec<SinkEnd
 }
 
 /// Runs a blueprint that can be run.
-fn run_fit<R: Threads + Wait + Sync, F: Folder, L: Logic + Send, B: PlugBook + Send>(
+fn run_fit<
+    R: Threads + Wait + Sync,
+    F: Folder,
+    L: Logic + Send,
+    H: Handlers + Send,
+    B: PlugBook + Send,
+>(
     rt: &R,
     alloc: Global,
     folder: &mut F,
@@ -242,7 +249,7 @@ fn run_fit<R: Threads + Wait + Sync, F: Folder, L: Logic + Send, B: PlugBook + S
     workers: u32,
     turns: u32,
     plugs: Vec<Plug<L>>,
-    customs: Vec<Custom>,
+    customs: Vec<Custom<H>>,
 ) -> CallEnd
     requires runs { CanRun b }
     requires has { HasGuests (handed_heads plugs.items customs.items) b.wires.items b.nodes.items }
@@ -270,7 +277,7 @@ fn run_fit<R: Threads + Wait + Sync, F: Folder, L: Logic + Send, B: PlugBook + S
     let Ok((names, room)) = sinks_to_tell(alloc, &b) else {
         return without_run(alloc, Status::NoMemory);
     };
-    match run::<R, F, L, B>(
+    match run::<R, F, L, H, B>(
         rt, alloc, folder, b, trace, workers, turns, plugs, customs, plans,
     ) {
         Ok(ran) => after_run(alloc, names, room, ran),
@@ -296,7 +303,13 @@ fn without_plans(alloc: Global, end: PlansEnd, replay: Option<Line>) -> CallEnd
 }
 
 /// Runs a blueprint that was checked, once the moves were read that its stages follow.
-fn run_checked<R: Threads + Wait + Sync, F: Folder, L: Logic + Send, B: PlugBook + Send>(
+fn run_checked<
+    R: Threads + Wait + Sync,
+    F: Folder,
+    L: Logic + Send,
+    H: Handlers + Send,
+    B: PlugBook + Send,
+>(
     rt: &R,
     alloc: Global,
     folder: &mut F,
@@ -306,7 +319,7 @@ fn run_checked<R: Threads + Wait + Sync, F: Folder, L: Logic + Send, B: PlugBook
     workers: u32,
     turns: u32,
     plugs: Vec<Plug<L>>,
-    customs: Vec<Custom>,
+    customs: Vec<Custom<H>>,
 ) -> CallEnd
     requires listed { All (GivesAsListed L.gives B.lists) plugs.items }
     requires untold { All (TellsNone B.customs) customs.items }
@@ -338,13 +351,19 @@ fn run_checked<R: Threads + Wait + Sync, F: Folder, L: Logic + Send, B: PlugBook
         Ok(plans) => plans,
         Err(end) => return without_plans(alloc, end, replay),
     };
-    run_fit::<R, F, L, B>(
+    run_fit::<R, F, L, H, B>(
         rt, alloc, folder, b, trace, plans, workers, turns, plugs, customs,
     )
 }
 
 /// Checks a blueprint, where these files are taken, and runs it.
-fn run_parsed<R: Threads + Wait + Sync, F: Folder, L: Logic + Send, B: PlugBook + Send>(
+fn run_parsed<
+    R: Threads + Wait + Sync,
+    F: Folder,
+    L: Logic + Send,
+    H: Handlers + Send,
+    B: PlugBook + Send,
+>(
     rt: &R,
     alloc: Global,
     folder: &mut F,
@@ -355,7 +374,7 @@ fn run_parsed<R: Threads + Wait + Sync, F: Folder, L: Logic + Send, B: PlugBook 
     workers: u32,
     turns: u32,
     plugs: Vec<Plug<L>>,
-    customs: Vec<Custom>,
+    customs: Vec<Custom<H>>,
 ) -> CallEnd
     requires listed { All (GivesAsListed L.gives B.lists) plugs.items }
     requires untold { All (TellsNone B.customs) customs.items }
@@ -386,7 +405,7 @@ fn run_parsed<R: Threads + Wait + Sync, F: Folder, L: Logic + Send, B: PlugBook 
         return without_run(alloc, Status::NoMemory);
     };
     match check(alloc, b, &heads, &shapes, taken) {
-        Ok(checked) => run_checked::<R, F, L, B>(
+        Ok(checked) => run_checked::<R, F, L, H, B>(
             rt, alloc, folder, checked, trace, replay, workers, turns, plugs, customs,
         ),
         Err(CheckEnd::Fault(fault)) => unfit(alloc, fault),
@@ -403,7 +422,13 @@ fn blueprint_of(alloc: Global, text: BlueText) -> Result<Blueprint, CheckEnd>
 }
 
 /// Runs the blueprint of what a text says, where these files are taken.
-fn run_said<R: Threads + Wait + Sync, F: Folder, L: Logic + Send, B: PlugBook + Send>(
+fn run_said<
+    R: Threads + Wait + Sync,
+    F: Folder,
+    L: Logic + Send,
+    H: Handlers + Send,
+    B: PlugBook + Send,
+>(
     rt: &R,
     alloc: Global,
     folder: &mut F,
@@ -414,7 +439,7 @@ fn run_said<R: Threads + Wait + Sync, F: Folder, L: Logic + Send, B: PlugBook + 
     workers: u32,
     turns: u32,
     plugs: Vec<Plug<L>>,
-    customs: Vec<Custom>,
+    customs: Vec<Custom<H>>,
 ) -> CallEnd
     requires listed { All (GivesAsListed L.gives B.lists) plugs.items }
     requires untold { All (TellsNone B.customs) customs.items }
@@ -438,7 +463,7 @@ fn run_said<R: Threads + Wait + Sync, F: Folder, L: Logic + Send, B: PlugBook + 
     ensures handles { F.handles folder.new ≡ F.handles folder.old }
 {
     match blueprint_of(alloc, text) {
-        Ok(b) => run_parsed::<R, F, L, B>(
+        Ok(b) => run_parsed::<R, F, L, H, B>(
             rt, alloc, folder, b, taken, trace, replay, workers, turns, plugs, customs,
         ),
         Err(CheckEnd::Fault(fault)) => unfit(alloc, fault),
@@ -447,7 +472,13 @@ fn run_said<R: Threads + Wait + Sync, F: Folder, L: Logic + Send, B: PlugBook + 
 }
 
 /// Runs the blueprint of a text, where these files are taken.
-fn run_text<R: Threads + Wait + Sync, F: Folder, L: Logic + Send, B: PlugBook + Send>(
+fn run_text<
+    R: Threads + Wait + Sync,
+    F: Folder,
+    L: Logic + Send,
+    H: Handlers + Send,
+    B: PlugBook + Send,
+>(
     rt: &R,
     alloc: Global,
     folder: &mut F,
@@ -458,7 +489,7 @@ fn run_text<R: Threads + Wait + Sync, F: Folder, L: Logic + Send, B: PlugBook + 
     workers: u32,
     turns: u32,
     plugs: Vec<Plug<L>>,
-    customs: Vec<Custom>,
+    customs: Vec<Custom<H>>,
 ) -> CallEnd
     requires listed { All (GivesAsListed L.gives B.lists) plugs.items }
     requires untold { All (TellsNone B.customs) customs.items }
@@ -481,7 +512,7 @@ fn run_text<R: Threads + Wait + Sync, F: Folder, L: Logic + Send, B: PlugBook + 
     ensures handles { F.handles folder.new ≡ F.handles folder.old }
 {
     match parse(alloc, text) {
-        Ok(said) => run_said::<R, F, L, B>(
+        Ok(said) => run_said::<R, F, L, H, B>(
             rt, alloc, folder, said, taken, trace, replay, workers, turns, plugs, customs,
         ),
         Err(ParseEnd::Fault(fault)) => without_run(alloc, Status::Refused(fault)),
@@ -549,7 +580,13 @@ fn names_of(
 }
 
 /// Reads the blueprint of that name's file, and lets so many workers run it by at most so many units; the file of the trace, where one is wanted, is another.
-pub fn run_file<R: Threads + Wait + Sync, F: Folder, L: Logic + Send, B: PlugBook + Send>(
+pub fn run_file<
+    R: Threads + Wait + Sync,
+    F: Folder,
+    L: Logic + Send,
+    H: Handlers + Send,
+    B: PlugBook + Send,
+>(
     rt: &R,
     alloc: Global,
     folder: &mut F,
@@ -559,7 +596,7 @@ pub fn run_file<R: Threads + Wait + Sync, F: Folder, L: Logic + Send, B: PlugBoo
     workers: u32,
     turns: u32,
     plugs: Vec<Plug<L>>,
-    customs: Vec<Custom>,
+    customs: Vec<Custom<H>>,
 ) -> CallEnd
     requires listed { All (GivesAsListed L.gives B.lists) plugs.items }
     requires untold { All (TellsNone B.customs) customs.items }
@@ -594,7 +631,7 @@ pub fn run_file<R: Threads + Wait + Sync, F: Folder, L: Logic + Send, B: PlugBoo
         taken,
     } = names;
     match read_file(alloc, folder, file) {
-        Ok(text) => run_text::<R, F, L, B>(
+        Ok(text) => run_text::<R, F, L, H, B>(
             rt, alloc, folder, &text, &taken, path, moves, workers, turns, plugs, customs,
         ),
         Err(ReadEnd::Missing) => without_run(alloc, Status::Missing(name)),

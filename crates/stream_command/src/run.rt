@@ -22,6 +22,7 @@ ghost use Rattle.stream_command.specs.Asked.{plugged_by};
 use crate::top::{RunEnd, end_before_run, run_file};
 use elem_core::line::Line;
 use graph_stage::custom::Custom;
+use graph_stage::handlers::Handlers;
 use plug_logic::book::PlugBook;
 use plug_logic::logic::Logic;
 use plug_logic::plug::Plug;
@@ -77,21 +78,28 @@ pub fn run_streams<R: Threads + Wait + Sync, F: Folder, C: Drain, B: PlugBook + 
     ensures console { (Puts (C.state console.old) (C.state console.new) (report_of (answer_of result)) × (result.code ≡ code_of result.status))
         ⊎ (PutsPart (C.state console.old) (C.state console.new) (report_of (answer_of result)) × (result.code ≡ 8)) }
 {
-    run_words::<R, F, C, Box<dyn Logic + Send>, B>(
+    run_words::<R, F, C, Box<dyn Logic + Send>, Box<dyn Handlers + Send>, B>(
         rt, alloc, words, folder, console, plugs, customs,
     )
 }
 
 /// Reads the command's words, generates the files that they ask for, reads the blueprint of the file that they name and lets as many workers run it as they say, and writes the report to the console.
 #[tactic(auto, using(crate::proofs::Answering::told_before, crate::proofs::Answering::reads_little, crate::proofs::Answering::completes, crate::proofs::Answering::usage_of, crate::proofs::Answering::gave_up, crate::proofs::Answering::refused, crate::proofs::Answering::as_asked))]
-fn run_words<R: Threads + Wait + Sync, F: Folder, C: Drain, L: Logic + Send, B: PlugBook + Send>(
+fn run_words<
+    R: Threads + Wait + Sync,
+    F: Folder,
+    C: Drain,
+    L: Logic + Send,
+    H: Handlers + Send,
+    B: PlugBook + Send,
+>(
     rt: &R,
     alloc: Global,
     words: &[Line],
     folder: &mut F,
     console: &mut C,
     plugs: Vec<Plug<L>>,
-    customs: Vec<Custom>,
+    customs: Vec<Custom<H>>,
 ) -> RunEnd
     requires listed { All (GivesAsListed L.gives B.lists) plugs.items }
     requires untold { All (TellsNone B.customs) customs.items }
@@ -127,7 +135,7 @@ fn run_words<R: Threads + Wait + Sync, F: Folder, C: Drain, L: Logic + Send, B: 
         ⊎ (PutsPart (C.state console.old) (C.state console.new) (report_of (answer_of result)) × (result.code ≡ 8)) }
 {
     match read_words(alloc, words) {
-        Ok(command) => run_command::<R, F, C, L, B>(
+        Ok(command) => run_command::<R, F, C, L, H, B>(
             rt, alloc, &command, folder, console, plugs, customs,
         ),
         Err(WordsEnd::Usage) => end_before_run(alloc, Status::Usage, console),
@@ -137,14 +145,21 @@ fn run_words<R: Threads + Wait + Sync, F: Folder, C: Drain, L: Logic + Send, B: 
 
 /// Does what a command asks for.
 #[tactic(auto, using(crate::proofs::Answering::file_was_run, crate::proofs::Answering::was_generated))]
-fn run_command<R: Threads + Wait + Sync, F: Folder, C: Drain, L: Logic + Send, B: PlugBook + Send>(
+fn run_command<
+    R: Threads + Wait + Sync,
+    F: Folder,
+    C: Drain,
+    L: Logic + Send,
+    H: Handlers + Send,
+    B: PlugBook + Send,
+>(
     rt: &R,
     alloc: Global,
     command: &Command,
     folder: &mut F,
     console: &mut C,
     plugs: Vec<Plug<L>>,
-    customs: Vec<Custom>,
+    customs: Vec<Custom<H>>,
 ) -> RunEnd
     requires listed { All (GivesAsListed L.gives B.lists) plugs.items }
     requires untold { All (TellsNone B.customs) customs.items }
@@ -160,10 +175,10 @@ fn run_command<R: Threads + Wait + Sync, F: Folder, C: Drain, L: Logic + Send, B
         ⊎ (PutsPart (C.state console.old) (C.state console.new) (report_of (answer_of result)) × (result.code ≡ 8)) }
 {
     match command.generated {
-        Some(n) => run_generated::<R, F, C, L, B>(
+        Some(n) => run_generated::<R, F, C, L, H, B>(
             rt, alloc, n, command, folder, console, plugs, customs,
         ),
-        None => run_command_file::<R, F, C, L, B>(
+        None => run_command_file::<R, F, C, L, H, B>(
             rt, alloc, command, folder, console, plugs, customs,
         ),
     }
@@ -176,6 +191,7 @@ fn run_command_file<
     F: Folder,
     C: Drain,
     L: Logic + Send,
+    H: Handlers + Send,
     B: PlugBook + Send,
 >(
     rt: &R,
@@ -184,7 +200,7 @@ fn run_command_file<
     folder: &mut F,
     console: &mut C,
     plugs: Vec<Plug<L>>,
-    customs: Vec<Custom>,
+    customs: Vec<Custom<H>>,
 ) -> RunEnd
     requires listed { All (GivesAsListed L.gives B.lists) plugs.items }
     requires untold { All (TellsNone B.customs) customs.items }
@@ -201,7 +217,7 @@ fn run_command_file<
     ensures console { (Puts (C.state console.old) (C.state console.new) (report_of (answer_of result)) × (result.code ≡ code_of result.status))
         ⊎ (PutsPart (C.state console.old) (C.state console.new) (report_of (answer_of result)) × (result.code ≡ 8)) }
 {
-    run_file::<R, F, C, L, B>(
+    run_file::<R, F, C, L, H, B>(
         rt,
         alloc,
         &command.file,
@@ -224,6 +240,7 @@ fn run_generated<
     F: Folder,
     C: Drain,
     L: Logic + Send,
+    H: Handlers + Send,
     B: PlugBook + Send,
 >(
     rt: &R,
@@ -233,7 +250,7 @@ fn run_generated<
     folder: &mut F,
     console: &mut C,
     plugs: Vec<Plug<L>>,
-    customs: Vec<Custom>,
+    customs: Vec<Custom<H>>,
 ) -> RunEnd
     requires listed { All (GivesAsListed L.gives B.lists) plugs.items }
     requires untold { All (TellsNone B.customs) customs.items }
@@ -250,7 +267,7 @@ fn run_generated<
         ⊎ (PutsPart (C.state console.old) (C.state console.new) (report_of (answer_of result)) × (result.code ≡ 8)) }
 {
     match generate(alloc, folder, n) {
-        Ok(()) => run_command_file::<R, F, C, L, B>(
+        Ok(()) => run_command_file::<R, F, C, L, H, B>(
             rt, alloc, command, folder, console, plugs, customs,
         ),
         Err(GenerateEnd::Missing(name)) => end_before_run(alloc, Status::Missing(name), console),

@@ -12,6 +12,7 @@ ghost use Rattle.stream_command.specs.Asked.{plugged_by};
 use crate::top::{RunEnd, run_file};
 use elem_core::line::Line;
 use graph_stage::custom::Custom;
+use graph_stage::handlers::Handlers;
 use plug_logic::book::PlugBook;
 use plug_logic::logic::Logic;
 use plug_logic::plug::Plug;
@@ -22,7 +23,13 @@ use stream_io::outside::{Drain, Folder};
 use stream_io::sure::SureFolder;
 
 /// The same over a folder whose counts never rise: it answers as `run_file` does (`told`), and a valid text and inputs give a run, and no write of it failed, or memory was wanting (`runs`). So no answer of a run is hidden behind a fault that did not happen.
-pub fn run_surely<R: Threads + Wait + Sync, C: Drain, L: Logic + Send, B: PlugBook + Send>(
+pub fn run_surely<
+    R: Threads + Wait + Sync,
+    C: Drain,
+    L: Logic + Send,
+    H: Handlers + Send,
+    B: PlugBook + Send,
+>(
     rt: &R,
     alloc: Global,
     file: &Line,
@@ -33,7 +40,7 @@ pub fn run_surely<R: Threads + Wait + Sync, C: Drain, L: Logic + Send, B: PlugBo
     folder: &mut SureFolder,
     console: &mut C,
     plugs: Vec<Plug<L>>,
-    customs: Vec<Custom>,
+    customs: Vec<Custom<H>>,
 ) -> RunEnd
     requires listed { All (GivesAsListed L.gives B.lists) plugs.items }
     requires untold { All (TellsNone B.customs) customs.items }
@@ -48,7 +55,7 @@ pub fn run_surely<R: Threads + Wait + Sync, C: Drain, L: Logic + Send, B: PlugBo
         (option_copied trace.entry) (option_copied replay.entry)
         (⟦<SureFolder as Folder>⟧.state folder.old) → RanWithoutFault result.status }
 {
-    run_file::<R, SureFolder, C, L, B>(
+    run_file::<R, SureFolder, C, L, H, B>(
         rt, alloc, file, trace, replay, workers, turns, folder, console, plugs, customs,
     )
 }

@@ -17,6 +17,7 @@ ghost use Rattle.stream_command.specs.Asked.{plugged_by};
 use crate::answer::{self, CallEnd};
 use elem_core::line::Line;
 use graph_stage::custom::Custom;
+use graph_stage::handlers::Handlers;
 use island_runs::ran::Ran;
 use plan_reader::laws::a_text_has_one_reading;
 use plug_logic::book::PlugBook;
@@ -45,7 +46,14 @@ pub struct RunEnd {
 }
 
 /// Reads the blueprint of the file of that name, lets so many workers, 1 to 64, run it by at most so many units, 4,000,000,000 at most, and writes the report to the console. Where a file for the trace is given, it is opened behind those of the sinks, and what the stages chose is written into it after the run, a line for each stage whose kind chooses, in order of nodes. No source and no sink may name it, nor the blueprint's file. Where a file of moves is given, it is read once the blueprint was checked, no source and no sink may name it, and each stage that chooses makes the moves of its line.
-pub fn run_file<R: Threads + Wait + Sync, F: Folder, C: Drain, L: Logic + Send, B: PlugBook + Send>(
+pub fn run_file<
+    R: Threads + Wait + Sync,
+    F: Folder,
+    C: Drain,
+    L: Logic + Send,
+    H: Handlers + Send,
+    B: PlugBook + Send,
+>(
     rt: &R,
     alloc: Global,
     file: &Line,
@@ -56,7 +64,7 @@ pub fn run_file<R: Threads + Wait + Sync, F: Folder, C: Drain, L: Logic + Send, 
     folder: &mut F,
     console: &mut C,
     plugs: Vec<Plug<L>>,
-    customs: Vec<Custom>,
+    customs: Vec<Custom<H>>,
 ) -> RunEnd
     requires listed { All (GivesAsListed L.gives B.lists) plugs.items }
     requires untold { All (TellsNone B.customs) customs.items }
@@ -110,7 +118,7 @@ pub fn run_file<R: Threads + Wait + Sync, F: Folder, C: Drain, L: Logic + Send, 
         picks,
         used,
         ran,
-    } = answer::run_file::<R, F, L, B>(
+    } = answer::run_file::<R, F, L, H, B>(
         rt, alloc, folder, file, trace, replay, workers, turns, plugs, customs,
     );
     let code = match put_report(console, &status, &detail, &sinks, &picture.wires, used) {

@@ -8,7 +8,7 @@ use Rattle.interpreter.proofs.island.may_gather.Goals as goal
 pub loop-n-preserved : goal.loop-n-preserved
 loop-n-preserved g c =
     let few : c.index-nodes-n.result.room ≤ 1 = search rules in
-    one_next c.args.nodes.now c.loop-n.n c.index-nodes-n.result (slice_get-get_or c.args.nodes.now c.loop-n.n c.index-nodes-n.result c.loop-n-test.true ∙ ap (λ (x : Seated _ _ _ _). Some x) (sym c.index-nodes-n.is)) few c.loop-n.invariant
+    one_next c.args.nodes.now c.loop-n.n c.index-nodes-n.result (slice_get-get_or c.args.nodes.now c.loop-n.n c.index-nodes-n.result c.loop-n-test.true ∙ ap (λ (x : Seated _ _ _ _ _). Some x) (sym c.index-nodes-n.is)) few c.loop-n.invariant
 
 pub returns : goal.returns
 returns g c =

@@ -12,5 +12,5 @@ invariant-loop-seated g l =
     × (goal.iterator-loop-seated g).is_finite l.seated-iterator
     × (into_iter_len l.seated-iterator ≡ length (into_iter_items l.seated-iterator))
     × AllUnused (into_iter_items l.seated-iterator)
-    × ((xs : List (IslandNode _ _ _ _)) → AllBecome (into_iter_items l.seated-iterator) xs → AllBecome l.fn.places.items (l.nodes.items ++ xs))
+    × ((xs : List (IslandNode _ _ _ _ _)) → AllBecome (into_iter_items l.seated-iterator) xs → AllBecome l.fn.places.items (l.nodes.items ++ xs))
     × (vec_len l.nodes + into_iter_len l.seated-iterator ≤ vec_capacity l.nodes)

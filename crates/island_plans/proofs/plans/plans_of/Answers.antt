@@ -87,7 +87,7 @@ seat_all-requires-clause-guests g c = subst (λ (l : List Node). AreGuests g.L.L
 pub seat_all-requires-clause-rooms : goal.seat_all-requires-clause-rooms
 seat_all-requires-clause-rooms g c =
     let rooms = c.in_ok-rooms.rooms in
-    rooms.ok.0 ∙ ap length c.in_ok-rooms.ensures ∙ rooms_many c.len-many.result (wires_of_links c.deref-15.result.now) ∙ c.len-many.ensures
+    rooms.ok.0 ∙ ap length c.in_ok-rooms.ensures ∙ rooms_many c.len-many.result (wires_of_links c.deref-16.result.now) ∙ c.len-many.ensures
 
 pub returns-clause-plans : goal.returns-clause-plans
 returns-clause-plans g c =
@@ -104,7 +104,7 @@ returns-clause-plans g c =
     let same-3 : wires_of_links c.deref-3.result.now ≡ ws = ap wires_of_links c.deref-3.ensures.value ∙ same in
     let same-4 : wires_of_links c.deref-4.result.now ≡ ws = ap wires_of_links c.deref-4.ensures.value ∙ same in
     let same-7 : wires_of_links c.deref-7.result.now ≡ ws = ap wires_of_links c.deref-7.ensures.value ∙ same in
-    let same-11 : wires_of_links c.deref-12.result.now ≡ ws = ap wires_of_links c.deref-12.ensures.value ∙ same in
+    let same-12 : wires_of_links c.deref-12.result.now ≡ ws = ap wires_of_links c.deref-12.ensures.value ∙ same in
     let size : c.len.result ≡ length ns = c.len.ensures ∙ b.nodes.ok.0 in
     let homes_are : AreNumberedHomes (length ns) count ws homes =
     subst (λ (us : List Edge). AreNumberedHomes (length ns) count us homes) same-3
@@ -120,7 +120,7 @@ returns-clause-plans g c =
     c.in_ok-nodes.ensures ∙ ap (λ (l : List WireDecl). places_from l 0 c.deref-9.result.now) c.deref-10.ensures.value ∙ ap (places_from b.wires.items 0) c.deref-9.ensures.value in
     let split : IsSplit homes count ws (places_from b.wires.items 0 ns) c.in_ok-split.split =
     subst (λ (l : List Place). IsSplit homes count ws l c.in_ok-split.split) places
-    (subst (λ (us : List Edge). IsSplit homes count us c.in_ok-nodes.nodes.items c.in_ok-split.split) same-11
+    (subst (λ (us : List Edge). IsSplit homes count us c.in_ok-nodes.nodes.items c.in_ok-split.split) same-12
     (subst (λ (hs : List ℕ). IsSplit hs count (wires_of_links c.deref-12.result.now) c.in_ok-nodes.nodes.items c.in_ok-split.split) own c.in_ok-split.ensures)) in
     let board = c.in_ok-board.board in
     let board_is : IsBoard (map (λ (n : Node). n.kind) ns) board = subst (λ (l : List Node). IsBoard (map (λ (n : Node). n.kind) l) board) c.deref-14.ensures.value c.in_ok-board.ensures.board in
@@ -130,10 +130,10 @@ returns-clause-plans g c =
     subst (λ l. AreAtSwitches (map (λ (n : Node). n.kind) ns) board l) (sym c.in_ok-seats.ensures.seats) switches in
     let ports : HaveUsedPorts b.wires.items ns c.in_ok-handed.handed.items =
     subst (λ (l : List Node). HaveUsedPorts b.wires.items l c.in_ok-handed.handed.items) c.deref-15.ensures.value (c.in_ok-handed.ensures.ports b.wires.items (subst (λ (l : List Node). HasGuests (handed_heads c.args.plugs.items c.args.customs.items) b.wires.items l) (sym c.deref-15.ensures.value) c.requires.has)) in
-    let planned : ArePlanned (around_of b) 0 ns c.in_ok-seats.seats.items = subst (λ (l : List ChainDecl). ArePlanned (record { chains = map graph_chain l; wires = b.wires.items }) 0 ns c.in_ok-seats.seats.items) c.deref-16.ensures.value (c.in_ok-seats.ensures.planned b.wires.items ports) in
-    let same-15 : wires_of_links c.deref-15.result.now ≡ ws = ap wires_of_links c.deref-15.ensures.value ∙ same in
+    let planned : ArePlanned (around_of b) 0 ns c.in_ok-seats.seats.items = subst (λ (l : List ChainDecl). ArePlanned (record { chains = map graph_chain l; wires = b.wires.items }) 0 ns c.in_ok-seats.seats.items) c.deref-17.ensures.value (c.in_ok-seats.ensures.planned b.wires.items ports) in
+    let same-16 : wires_of_links c.deref-16.result.now ≡ ws = ap wires_of_links c.deref-16.ensures.value ∙ same in
     let rooms : c.in_ok-rooms.rooms.items ≡ rooms_by (length ns) ws =
-    c.in_ok-rooms.ensures ∙ ap (λ (n : ℕ). rooms_by n (wires_of_links c.deref-15.result.now)) (c.len-many.ensures ∙ b.nodes.ok.0) ∙ ap (rooms_by (length ns)) same-15 in
+    c.in_ok-rooms.ensures ∙ ap (λ (n : ℕ). rooms_by n (wires_of_links c.deref-16.result.now)) (c.len-many.ensures ∙ b.nodes.ok.0) ∙ ap (rooms_by (length ns)) same-16 in
     let exact : vec_capacity c.in_ok-places.places ≡ c.in_ok-all_places.field-0 = c.in_ok-places.ensures.exact in
     let places_all : c.in_ok-all_places.field-0 ≡ c.len-2.result + c.len-3.result + c.len-3.result = c.in_ok-all_places.ensures in
     record {

@@ -81,4 +81,4 @@ returns-clause-breaks g c = λ b ss ds h.
     (have_broken g.S.Source.state g.D.Drain.state g.B.PlugBook.lists b ss ds c.args.begun.bodies.items c.in-Err.bodies.items c.deref.result.now c.args.begun.crossings.items c.deref-in-Err.result.now c.args.begun.remains h c.deref.ensures.value c.deref-in-Err.ensures.value e.broke_joined e.broke)
 
 pub run-requires-send-B : goal.run-requires-send-B
-run-requires-send-B g c = λ κs lives. param_send 0 _ (arg_send _ no _ (body_send g.row.S g.row.D g.row.L g.row.B g.S.Source g.D.Drain g.L.Logic g.B.PlugBook c.type_bounds.send-S c.type_bounds.send-D c.type_bounds.send-L c.type_bounds.send-B))
+run-requires-send-B g c = λ κs lives. param_send 0 _ (arg_send _ no _ (body_send g.row.S g.row.D g.row.L g.row.H g.row.B g.S.Source g.D.Drain g.L.Logic g.H.Handlers g.B.PlugBook c.type_bounds.send-S c.type_bounds.send-D c.type_bounds.send-L c.type_bounds.send-H c.type_bounds.send-B))

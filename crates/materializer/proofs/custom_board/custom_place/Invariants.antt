@@ -7,4 +7,4 @@ use Rattle.materializer.proofs.custom_board.custom_place.Given as goal
 
 -- none of the custom stages so far
 abbrev pub invariant-loop-k : goal.invariant-loop-k
-invariant-loop-k l = custom_place l.name l.customs ≡ first_from (λ k c. when (same_text l.name c.head.name) k) l.k (drop l.k l.customs)
+invariant-loop-k g l = custom_place l.name l.customs ≡ first_from (λ k c. when (same_text l.name c.head.name) k) l.k (drop l.k l.customs)

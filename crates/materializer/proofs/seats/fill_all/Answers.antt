@@ -24,7 +24,7 @@ loop-seat-init g c =
       omega (arith, none, left, many, c.requires.room),
       refl,
       omega (arith, none, left, many),
-      λ around nodes planned. fills_first nodes _ _ around (into_iter_items r) _ _ _ c.into_iter-unread.ensures.rest c.into_iter-unwritten.ensures.rest c.requires.empty (subst (λ (l : List (Seat _ _ _ _)). ArePlanned around 0 nodes l) (sym all) planned),
+      λ around nodes planned. fills_first nodes _ _ around (into_iter_items r) _ _ _ c.into_iter-unread.ensures.rest c.into_iter-unwritten.ensures.rest c.requires.empty (subst (λ (l : List (Seat _ _ _ _ _)). ArePlanned around 0 nodes l) (sym all) planned),
       ap (λ l. map place_seat l ++ map planned_seat (into_iter_items r)) c.requires.empty ∙ ap (map planned_seat) all,
       ap (λ l. map place_plan l ++ map planned_plan (into_iter_items r)) c.requires.empty ∙ ap (map planned_plan) all,
       ap (λ l. map place_room l ++ map planned_room (into_iter_items r)) c.requires.empty ∙ ap (map planned_room) all,

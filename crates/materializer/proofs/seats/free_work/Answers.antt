@@ -14,9 +14,9 @@ returns-clause-work g c =
     elim c.match-kind.branch as (λ _. IsFreeWork chains c.args.k c.args.kind c.args.decider c.match-kind.result) [
       | in-Range w ↦ search rules
       | in-Ignore w ↦ search rules
-      | in-Grouped+in_ok-state_work-in-Grouped w ↦ subst (λ (x : Work _ _ _ _). IsFreeWork chains c.args.k c.args.kind c.args.decider x) (sym w.result-is) (w.in_ok-state_work-in-Grouped.ensures.work chains)
+      | in-Grouped+in_ok-state_work-in-Grouped w ↦ subst (λ (x : Work _ _ _ _ _). IsFreeWork chains c.args.k c.args.kind c.args.decider x) (sym w.result-is) (w.in_ok-state_work-in-Grouped.ensures.work chains)
       | in-GroupBy+in_ok-sub_work-in-GroupBy w ↦ search rules
-      | in-Merge+in_ok-fan_in_work-in-Merge w ↦ subst (λ (x : Work _ _ _ _). IsFreeWork chains c.args.k c.args.kind c.args.decider x) (sym w.result-is) (w.in_ok-fan_in_work-in-Merge.ensures.work chains)
-      | in-Broadcast+in_ok-fan_out_work-in-Broadcast w ↦ subst (λ (x : Work _ _ _ _). IsFreeWork chains c.args.k c.args.kind c.args.decider x) (sym w.result-is) (w.in_ok-fan_out_work-in-Broadcast.ensures.work chains)
-      | in_default+in_ok-linear_work-in_default w ↦ subst (λ (x : Work _ _ _ _). IsFreeWork chains c.args.k c.args.kind c.args.decider x) (sym w.result-is) (w.in_ok-linear_work-in_default.ensures.work chains)
+      | in-Merge+in_ok-fan_in_work-in-Merge w ↦ subst (λ (x : Work _ _ _ _ _). IsFreeWork chains c.args.k c.args.kind c.args.decider x) (sym w.result-is) (w.in_ok-fan_in_work-in-Merge.ensures.work chains)
+      | in-Broadcast+in_ok-fan_out_work-in-Broadcast w ↦ subst (λ (x : Work _ _ _ _ _). IsFreeWork chains c.args.k c.args.kind c.args.decider x) (sym w.result-is) (w.in_ok-fan_out_work-in-Broadcast.ensures.work chains)
+      | in_default+in_ok-linear_work-in_default w ↦ subst (λ (x : Work _ _ _ _ _). IsFreeWork chains c.args.k c.args.kind c.args.decider x) (sym w.result-is) (w.in_ok-linear_work-in_default.ensures.work chains)
     ]

@@ -83,7 +83,7 @@ returns-in-Ok-run-clause-ran g c =
     let ds = c.take_last-drain.new.drains.items in
     let drain = c.take_last-drain.result in
     let both = opened_apart g.F.Out.Drain.state old mid c.args.b c.args.trace (map g.F.Inp.Source.state ss) all ds drain _ _ _ c.in-Ok.ensures.inputs c.in-Ok.ensures.outputs c.in-Ok-open_all.ensures.opened c.take_last-drain.ensures.all c.take_last-drain.ensures.wanted c.is_some-wanted.ensures in
-    let leaves = with_plan (λ p. RunLeaves g.row.L.Denot g.row.B.Denot g.F.Inp.Source.state g.F.Out.Drain.state g.B.PlugBook.lists p ss ds c.args.budget c.in-Ok-run.stopped) (λ p l. map place_plan l.moment.places) (λ p l. map place_types l.moment.places) _ _ _ _ c.in-Ok-prepare.ensures.blueprint c.in-Ok-run.ensures.leaves in
+    let leaves = with_plan (λ p. RunLeaves g.row.L.Denot g.row.H.Denot g.row.B.Denot g.F.Inp.Source.state g.F.Out.Drain.state g.B.PlugBook.lists p ss ds c.args.budget c.in-Ok-run.stopped) (λ p l. map place_plan l.moment.places) (λ p l. map place_types l.moment.places) _ _ _ _ c.in-Ok-prepare.ensures.blueprint c.in-Ok-run.ensures.leaves in
     c.close.ensures.runs old c.args.b (map moves_of c.args.plans.items) c.args.trace c.args.budget ss ds c.requires.runs c.requires.apart (c.deref.ensures.value ∙ c.in-Ok.ensures.choosers) both.0 both.1 leaves.0 (leaves.1 ∙ c.in-Ok-prepare.ensures.led)
     (handed_heads c.args.plugs.items c.args.customs.items) (leaves.2 ∙ c.in-Ok-prepare.ensures.types)
 
@@ -96,7 +96,7 @@ returns-in-Ok-run-clause-handles g c =
     let ds = c.take_last-drain.new.drains.items in
     let drain = c.take_last-drain.result in
     let both = opened_apart g.F.Out.Drain.state old mid c.args.b c.args.trace (map g.F.Inp.Source.state ss) all ds drain _ _ _ c.in-Ok.ensures.inputs c.in-Ok.ensures.outputs c.in-Ok-open_all.ensures.opened c.take_last-drain.ensures.all c.take_last-drain.ensures.wanted c.is_some-wanted.ensures in
-    let leaves = with_plan (λ p. RunLeaves g.row.L.Denot g.row.B.Denot g.F.Inp.Source.state g.F.Out.Drain.state g.B.PlugBook.lists p ss ds c.args.budget c.in-Ok-run.stopped) (λ p l. map place_plan l.moment.places) (λ p l. map place_types l.moment.places) _ _ _ _ c.in-Ok-prepare.ensures.blueprint c.in-Ok-run.ensures.leaves in
+    let leaves = with_plan (λ p. RunLeaves g.row.L.Denot g.row.H.Denot g.row.B.Denot g.F.Inp.Source.state g.F.Out.Drain.state g.B.PlugBook.lists p ss ds c.args.budget c.in-Ok-run.stopped) (λ p l. map place_plan l.moment.places) (λ p l. map place_types l.moment.places) _ _ _ _ c.in-Ok-prepare.ensures.blueprint c.in-Ok-run.ensures.leaves in
     none_open ss all ds drain _ _ _ _ c.in-Ok-open_all.ensures.handles c.take_last-drain.ensures.all (c.close.ensures.all old c.args.b c.args.trace c.args.budget ss ds c.requires.runs c.requires.apart both.0 both.1 leaves.0) c.close.ensures.handles
 
 pub returns-in-Err-Unmade-clause-no_memory : goal.returns-in-Err-Unmade-clause-no_memory
@@ -110,16 +110,16 @@ returns-in-Err-Unmade-clause-no_memory g c =
     let os = map g.F.Out.Drain.state all in
     let opens = subst (λ names. OpensAll old mid (inputs_of_nodes c.args.b.nodes.items) names is os) c.in-Ok.ensures.outputs
     (subst (λ names. OpensAll old mid names c.in-Ok.named.outputs.items is os) c.in-Ok.ensures.inputs c.in-Ok-open_all.ensures.opened) in
-    let told = subst (λ p. LeavesBrokenAs g.row.L.Denot g.row.B.Denot g.F.Inp.Source.state g.F.Out.Drain.state g.B.PlugBook.lists p ss ds c.in-Err-Unmade.field-0) c.in-Ok-prepare.ensures.blueprint c.in-Err-Unmade.ensures.breaks in
-    let broken = subst (λ x. LeavesBrokenAs g.row.L.Denot g.row.B.Denot g.F.Inp.Source.state g.F.Out.Drain.state g.B.PlugBook.lists c.args.b ss ds x) c.in-Err-Unmade.field-0-is told in
+    let told = subst (λ p. LeavesBrokenAs g.row.L.Denot g.row.H.Denot g.row.B.Denot g.F.Inp.Source.state g.F.Out.Drain.state g.B.PlugBook.lists p ss ds c.in-Err-Unmade.field-0) c.in-Ok-prepare.ensures.blueprint c.in-Err-Unmade.ensures.breaks in
+    let broken = subst (λ x. LeavesBrokenAs g.row.L.Denot g.row.H.Denot g.row.B.Denot g.F.Inp.Source.state g.F.Out.Drain.state g.B.PlugBook.lists c.args.b ss ds x) c.in-Err-Unmade.field-0-is told in
     λ e. inl (unmade g.F.Inp.Source.state g.F.Out.Drain.state old mid _ c.args.b c.args.trace ss all ds c.take_last-drain.result _ opens c.take_last-drain.ensures.all broken c.close_unmade.ensures.closes)
 
 pub returns-in-Err-Unmade-clause-handles : goal.returns-in-Err-Unmade-clause-handles
 returns-in-Err-Unmade-clause-handles g c =
     let ss = c.in-Ok-open_all.opened.inputs.items in
     let ds = c.take_last-drain.new.drains.items in
-    let told = subst (λ p. LeavesBrokenAs g.row.L.Denot g.row.B.Denot g.F.Inp.Source.state g.F.Out.Drain.state g.B.PlugBook.lists p ss ds c.in-Err-Unmade.field-0) c.in-Ok-prepare.ensures.blueprint c.in-Err-Unmade.ensures.breaks in
-    let broken = subst (λ x. LeavesBrokenAs g.row.L.Denot g.row.B.Denot g.F.Inp.Source.state g.F.Out.Drain.state g.B.PlugBook.lists c.args.b ss ds x) c.in-Err-Unmade.field-0-is told in
+    let told = subst (λ p. LeavesBrokenAs g.row.L.Denot g.row.H.Denot g.row.B.Denot g.F.Inp.Source.state g.F.Out.Drain.state g.B.PlugBook.lists p ss ds c.in-Err-Unmade.field-0) c.in-Ok-prepare.ensures.blueprint c.in-Err-Unmade.ensures.breaks in
+    let broken = subst (λ x. LeavesBrokenAs g.row.L.Denot g.row.H.Denot g.row.B.Denot g.F.Inp.Source.state g.F.Out.Drain.state g.B.PlugBook.lists c.args.b ss ds x) c.in-Err-Unmade.field-0-is told in
     none_open ss c.in-Ok-open_all.opened.outputs.items ds c.take_last-drain.result _ _ _ _ c.in-Ok-open_all.ensures.handles c.take_last-drain.ensures.all (closes_unmade g.F.Inp.Source.state g.F.Out.Drain.state ss ds _ broken) c.close_unmade.ensures.handles
 
 pub returns-clause-no_memory : goal.returns-clause-no_memory
@@ -131,8 +131,8 @@ returns-clause-no_memory g c =
     let ds = c.take_last-drain.new.drains.items in
     let drain = c.take_last-drain.result in
     let both = opened_apart g.F.Out.Drain.state old mid c.args.b c.args.trace (map g.F.Inp.Source.state ss) all ds drain _ _ _ c.in-Ok.ensures.inputs c.in-Ok.ensures.outputs c.in-Ok-open_all.ensures.opened c.take_last-drain.ensures.all c.take_last-drain.ensures.wanted c.is_some-wanted.ensures in
-    let told = subst (λ p. LeavesBrokenAs g.row.L.Denot g.row.B.Denot g.F.Inp.Source.state g.F.Out.Drain.state g.B.PlugBook.lists p ss ds c.in-Err-Within.field-0) c.in-Ok-prepare.ensures.blueprint c.in-Err-Within.ensures.breaks in
-    let broken = subst (λ x. LeavesBrokenAs g.row.L.Denot g.row.B.Denot g.F.Inp.Source.state g.F.Out.Drain.state g.B.PlugBook.lists c.args.b ss ds x) c.in-Err-Within.field-0-is told in
+    let told = subst (λ p. LeavesBrokenAs g.row.L.Denot g.row.H.Denot g.row.B.Denot g.F.Inp.Source.state g.F.Out.Drain.state g.B.PlugBook.lists p ss ds c.in-Err-Within.field-0) c.in-Ok-prepare.ensures.blueprint c.in-Err-Within.ensures.breaks in
+    let broken = subst (λ x. LeavesBrokenAs g.row.L.Denot g.row.H.Denot g.row.B.Denot g.F.Inp.Source.state g.F.Out.Drain.state g.B.PlugBook.lists c.args.b ss ds x) c.in-Err-Within.field-0-is told in
     λ e. inr (c.give_up.ensures.wants old c.args.b c.args.trace ss ds c.requires.runs c.requires.apart both.0 both.1 broken)
 
 pub returns-clause-handles : goal.returns-clause-handles
@@ -144,8 +144,8 @@ returns-clause-handles g c =
     let ds = c.take_last-drain.new.drains.items in
     let drain = c.take_last-drain.result in
     let both = opened_apart g.F.Out.Drain.state old mid c.args.b c.args.trace (map g.F.Inp.Source.state ss) all ds drain _ _ _ c.in-Ok.ensures.inputs c.in-Ok.ensures.outputs c.in-Ok-open_all.ensures.opened c.take_last-drain.ensures.all c.take_last-drain.ensures.wanted c.is_some-wanted.ensures in
-    let told = subst (λ p. LeavesBrokenAs g.row.L.Denot g.row.B.Denot g.F.Inp.Source.state g.F.Out.Drain.state g.B.PlugBook.lists p ss ds c.in-Err-Within.field-0) c.in-Ok-prepare.ensures.blueprint c.in-Err-Within.ensures.breaks in
-    let broken = subst (λ x. LeavesBrokenAs g.row.L.Denot g.row.B.Denot g.F.Inp.Source.state g.F.Out.Drain.state g.B.PlugBook.lists c.args.b ss ds x) c.in-Err-Within.field-0-is told in
+    let told = subst (λ p. LeavesBrokenAs g.row.L.Denot g.row.H.Denot g.row.B.Denot g.F.Inp.Source.state g.F.Out.Drain.state g.B.PlugBook.lists p ss ds c.in-Err-Within.field-0) c.in-Ok-prepare.ensures.blueprint c.in-Err-Within.ensures.breaks in
+    let broken = subst (λ x. LeavesBrokenAs g.row.L.Denot g.row.H.Denot g.row.B.Denot g.F.Inp.Source.state g.F.Out.Drain.state g.B.PlugBook.lists c.args.b ss ds x) c.in-Err-Within.field-0-is told in
     none_open ss all ds drain _ _ _ _ c.in-Ok-open_all.ensures.handles c.take_last-drain.ensures.all (c.give_up.ensures.all old c.args.b c.args.trace ss ds c.requires.runs c.requires.apart both.0 both.1 broken) c.give_up.ensures.handles
 
 pub returns-in-Ok-run-clause-receipt : goal.returns-in-Ok-run-clause-receipt

@@ -25,6 +25,21 @@ returns-then-is_err-clause-answers g c =
     let made = c.end_before_run-then-is_err in
     gave_up shipped_plugs (asked_of c.args.words.now) (answer_of made.result) _ made.ensures.status made.ensures.blank
 
+pub returns-in_default-new-2-clause-answers : goal.returns-in_default-new-2-clause-answers
+returns-in_default-new-2-clause-answers g c =
+    let made = c.end_before_run-in_default-new-2 in
+    gave_up shipped_plugs (asked_of c.args.words.now) (answer_of made.result) _ made.ensures.status made.ensures.blank
+
+pub returns-in_default-new-3-clause-answers : goal.returns-in_default-new-3-clause-answers
+returns-in_default-new-3-clause-answers g c =
+    let made = c.end_before_run-in_default-new-3 in
+    gave_up shipped_plugs (asked_of c.args.words.now) (answer_of made.result) _ made.ensures.status made.ensures.blank
+
+pub returns-then-is_err-2-clause-answers : goal.returns-then-is_err-2-clause-answers
+returns-then-is_err-2-clause-answers g c =
+    let made = c.end_before_run-then-is_err-2 in
+    gave_up shipped_plugs (asked_of c.args.words.now) (answer_of made.result) _ made.ensures.status made.ensures.blank
+
 pub returns-clause-complete : goal.returns-clause-complete
 returns-clause-complete g c =
     let old = g.F.Folder.state c.args.folder.now in

@@ -24,7 +24,7 @@ returns-then-not-self-clause-uses g c = uses_none _
 pub returns-then-not-self-clause-all : goal.returns-then-not-self-clause-all
 returns-then-not-self-clause-all g c =
     let off : c.self.inside.gathers ≡ false = search rules in
-    let keeps = c.self.invariant.2 (ap (λ (k : Kept _ _ _ _). k.broken) c.self.view_is ∙ c.requires.whole) in
+    let keeps = c.self.invariant.2 (ap (λ (k : Kept _ _ _ _ _). k.broken) c.self.view_is ∙ c.requires.whole) in
     λ k x at. late_in_island _ _ c.self.view_is (none_late g.S.Source.state g.D.Drain.state g.B.PlugBook.lists _ _ keeps.0 (keeps.4 off)) k x at
 
 pub returns-clause-still : goal.returns-clause-still

@@ -3,4 +3,4 @@ use Rattle.nodes.proofs.node.IslandNode.pull_rest.Goals as goal
 
 pub returns-in-Reading-clause-handles : goal.returns-in-Reading-clause-handles
 returns-in-Reading-clause-handles g c =
-    rw c.in-Reading.is (reading_asked _ _ g.S.Source.state g.D.Drain.state g.B.PlugBook.lists _ _ _ _ _ (rw c.in-Reading.is at c.requires.meets) c.on_pull.ensures.handles)
+    rw c.in-Reading.is (reading_asked _ _ _ g.S.Source.state g.D.Drain.state g.B.PlugBook.lists _ _ _ _ _ (rw c.in-Reading.is at c.requires.meets) c.on_pull.ensures.handles)

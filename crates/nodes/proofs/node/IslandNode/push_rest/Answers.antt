@@ -7,12 +7,12 @@ use Rattle.nodes.proofs.node.IslandNode.push_rest.Goals as goal
 
 pub returns-in-Writing-clause-handles : goal.returns-in-Writing-clause-handles
 returns-in-Writing-clause-handles g c =
-    rw c.in-Writing.is (writing_handles _ _ g.S.Source.state g.D.Drain.state g.B.PlugBook.lists _ _ _ _ _ _ (rw c.in-Writing.is at c.requires.meets) c.on_push-in-Writing.ensures.handles)
+    rw c.in-Writing.is (writing_handles _ _ _ g.S.Source.state g.D.Drain.state g.B.PlugBook.lists _ _ _ _ _ _ (rw c.in-Writing.is at c.requires.meets) c.on_push-in-Writing.ensures.handles)
 
 pub returns-in-Leaving-clause-handles : goal.returns-in-Leaving-clause-handles
 returns-in-Leaving-clause-handles g c =
     let e = c.on_push-in-Leaving.ensures in
-    rw c.in-Leaving.is (leaving_handles _ _ g.S.Source.state g.D.Drain.state g.B.PlugBook.lists _ _ _ _ _ (leaves_got c.on_push-in-Leaving.result c.args.port (item.Elem c.args.e) _ _ _ e.waits (ap (λ a. a.items) e.nothing ∙ c.requires.empty)))
+    rw c.in-Leaving.is (leaving_handles _ _ _ g.S.Source.state g.D.Drain.state g.B.PlugBook.lists _ _ _ _ _ (leaves_got c.on_push-in-Leaving.result c.args.port (item.Elem c.args.e) _ _ _ e.waits (ap (λ a. a.items) e.nothing ∙ c.requires.empty)))
 
 pub returns-in-Writing-clause-pulls : goal.returns-in-Writing-clause-pulls
 returns-in-Writing-clause-pulls g c =

@@ -8,12 +8,12 @@ use Rattle.nodes.proofs.node.IslandNodeStage.start.Goals as goal
 pub returns-in-Entering-clause-starts : goal.returns-in-Entering-clause-starts
 returns-in-Entering-clause-starts g c =
     let e = c.start-in-Entering.ensures in
-    rw c.in-Entering.is (entering_starts _ _ g.S.Source.state g.D.Drain.state g.B.PlugBook.lists _ _ _ _ (starts_entering c.start-in-Entering.result _ _ _ e.same.0 (ap (λ a. a.items) e.same.1 ∙ c.requires.empty)))
+    rw c.in-Entering.is (entering_starts _ _ _ g.S.Source.state g.D.Drain.state g.B.PlugBook.lists _ _ _ _ (starts_entering c.start-in-Entering.result _ _ _ e.same.0 (ap (λ a. a.items) e.same.1 ∙ c.requires.empty)))
 
 pub returns-in-Leaving-clause-starts : goal.returns-in-Leaving-clause-starts
 returns-in-Leaving-clause-starts g c =
     let e = c.start-in-Leaving.ensures in
-    rw c.in-Leaving.is (leaving_starts _ _ g.S.Source.state g.D.Drain.state g.B.PlugBook.lists _ _ _ _ (starts_leaving c.start-in-Leaving.result _ _ _ e.same.0 (ap (λ a. a.items) e.same.1 ∙ c.requires.empty)))
+    rw c.in-Leaving.is (leaving_starts _ _ _ g.S.Source.state g.D.Drain.state g.B.PlugBook.lists _ _ _ _ (starts_leaving c.start-in-Leaving.result _ _ _ e.same.0 (ap (λ a. a.items) e.same.1 ∙ c.requires.empty)))
 
 pub returns-in-Writing-clause-pulls : goal.returns-in-Writing-clause-pulls
 returns-in-Writing-clause-pulls g c =

@@ -56,7 +56,8 @@ use Rattle.run_blueprint.proofs.Shuts.{Shuts}
 use Rattle.run_blueprint.proofs.Traces.{LeftEmpty, listed, unlisted, lone_of, map_taken}
 use Rattle.run_blueprint.proofs.Shutting.{TakenApart, unwritten, read_grew, faults_grew, writes_grew, file_held, other_files, other_reads, other_writes, other_draws, refused, tells_old, readers_many, writers_many}
 use Rattle.run_blueprint.proofs.Drawns.{drawn_of, made_moves, picks_stand, Draws, draws_all, reads_of}
-use Rattle.run_blueprint.proofs.Closing.{WroteLaw, stands_writes}
+use Rattle.run_blueprint.proofs.RunLaws.{WroteLaw}
+use Rattle.run_blueprint.proofs.Closing.{stands_writes}
 use Rattle.stream_model.specs.Linear.{Book}
 
 -- ---- a first part of a text

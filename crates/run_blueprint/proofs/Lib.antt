@@ -40,5 +40,11 @@ pub mod ShutWires
 pub mod Parties
 pub mod HubRows
 pub mod Replays
+pub mod RunLaws
+pub mod EndStands
+pub mod EndLists
+pub mod EndMoves
+pub mod EndPictures
+pub mod EndFiles
 pub mod Closing
 pub mod Breaking

@@ -18,10 +18,11 @@ SOURCE = {"lines": "FILE", "range": "K K", "empty": "BASE", "failed": "BASE"}
 SINK = {"lines": "FILE", "head": "FILE", "last": "FILE", "ignore": ""}
 STEP = {"map": "F", "filter": "P", "filter_not": "P", "take_while": "P", "drop_while": "P", "take": "N64", "drop": "N64", "limit": "N64",
         "grouped": "N32", "map_concat": "X", "fold": "O", "scan": "O", "reduce": "R"}
-STAGE = {**STEP, "buffer": "N32 POLICY", "recover": "MADE", "valve": "NAME", "trip": "NAME ORDER N32", "plug": "NAME",
+STAGE = {**STEP, "buffer": "N32 POLICY", "recover": "MADE", "valve": "NAME", "trip": "NAME ORDER N32", "plug": "NAME", "custom": "NAME",
          "group_by": "N32 F each NAME merge", "split_when": "P each NAME JOIN", "split_after": "P each NAME JOIN", "merge": "N32",
          "concat": "N32", "interleave": "N32 N32", "merge_sorted": "", "zip": "", "broadcast": "N32", "balance": "N32",
          "partition": "N32 F", "unzip": ""}
+CUSTOMS = {"alternate": (1, 2), "rude": (1, 1)}
 HUBS = {"merge_hub": "N32 N32", "broadcast_hub": "N32 N32"}
 SUBSTREAMS = {"group_by", "split_when", "split_after"}
 FIXED = {"each", "merge", "->", "="}
@@ -371,10 +372,12 @@ def flattened(declared):
 
 
 def ports(words):
-    """Returns how many inputs and outputs the node of these words has."""
+    """Returns how many inputs and outputs the node of these words has, or None of a custom stage that is not handed in."""
     if words[0] != "stage":
         return (0, 1) if words[0] == "source" else (1, 0)
     name = words[2]
+    if name == "custom":
+        return CUSTOMS.get(words[3])
     if name in HUBS:
         return (int(words[4]), 1) if name == "merge_hub" else (1, int(words[4]))
     inputs = int(words[3]) if name in ("merge", "concat", "interleave") else 2 if name in ("merge_sorted", "zip") else 1
@@ -399,7 +402,8 @@ def fault_of_names_and_ports(declared):
     used = set()
     for i, words in enumerate(wires):
         (start, output), (end, input_) = ends[2 * i], ends[2 * i + 1]
-        if int(output) >= ports(nodes[start])[1] or int(input_) >= ports(nodes[end])[0]:
+        gives, takes = ports(nodes[start]), ports(nodes[end])
+        if gives and int(output) >= gives[1] or takes and int(input_) >= takes[0]:
             return f"3 wire {i}"
     for i, words in enumerate(wires):
         (start, output), (end, input_) = ends[2 * i], ends[2 * i + 1]
@@ -408,7 +412,7 @@ def fault_of_names_and_ports(declared):
                 return f"4 wire {i}"
             used.add(port)
     for name, words in nodes.items():
-        inputs, outputs = ports(words)
+        inputs, outputs = ports(words) or (0, 0)
         for is_output, count in (False, inputs), (True, outputs):
             for port in range(count):
                 if (name, port, is_output) not in used:

@@ -3,7 +3,7 @@ use Rattle.std.specs.Prelude.{◌≡◌, ℕ, Bool, List, [], unwrap_or}
 use Rattle.stream_model.specs.declared.blueprint.Step as blue
 use Rattle.port_core.specs.ListFunction.{ListFunction, Same}
 use Rattle.stream_model.specs.Graph.{Step}
-use Rattle.stream_model.specs.Linear.{Book, go, work_of, passing}
+use Rattle.stream_model.specs.Linear.{Book, plugs_book, go, work_of, passing}
 use Rattle.stream_model.specs.Node.{chain_of}
 use Rattle.stream_model.specs.Substreams.{Chain}
 use Rattle.step_work.specs.LineChains.{list_function}
@@ -16,7 +16,7 @@ pub record Line : Type 0 where
 
 -- no step of a chain is a plug, so it gives the same by any book; this one has none
 abbrev pub no_plugs : Book
-no_plugs = record { reply = λ name took t. record { gave = []; verdict = go }; closing = λ name took. record { gave = []; verdict = go } }
+no_plugs = plugs_book (λ name took t. record { gave = []; verdict = go }) (λ name took. record { gave = []; verdict = go })
 
 -- what it gives from its start
 abbrev pub line_whole : Line → ListFunction

@@ -30,7 +30,7 @@ module _ (g : Graph) (w : World) (file : List ℕ → File) (alike : AlikeSource
   -- what a node gives
   kind_same : (node : ℕ) (k : Kind) (d : Decider) (is : List Outlook) (p : ℕ) → ((name : List ℕ) → k ≡ Lines name → AlikeFiles (file name) (w.file name)) → node_outlook g other node k d is p ≡ node_outlook g w node k d is p
   kind_same node (Lines name) d is p h = lines_same node (file name) (w.file name) (h name refl)
-  kind_same node (Custom name) d is p h = custom_same node name d is p (w.customs.tells name)
+  kind_same node (Custom name) d is p h = custom_same node name d is p (w.book.tells name)
   kind_same node k d is p h = refl
 
   incoming_same : (sent now : ℕ → Outlook) → ((i : ℕ) → sent i ≡ now i) → (o : Option ℕ) → incoming g other sent o ≡ incoming g w now o

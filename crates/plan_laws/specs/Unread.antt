@@ -17,4 +17,4 @@ AlikeSources g f h = (node : ℕ) (n : Node) (name : List ℕ) → slice_get g.n
 
 -- the world with these files
 abbrev pub with_files : (List ℕ → File) → World → World
-with_files f w = record { book = w.book; customs = w.customs; file = f; moves = w.moves; given = w.given }
+with_files f w = record { book = w.book; file = f; moves = w.moves; given = w.given }

@@ -4,7 +4,7 @@ use Rattle.std.specs.Cmp.Lexicographic.{pointwise}
 use Rattle.std.specs.Ordering.{is_lt}
 use Rattle.elem_core.specs.Tree.{Tree}
 use Rattle.elem_core.specs.Order.{tree_cmp}
-use Rattle.stream_model.specs.Linear.{Book}
+use Rattle.stream_model.specs.Linear.{Book, plugs_book}
 use Rattle.plug_logic.specs.Gives.{Gives}
 use Rattle.plug_logic.specs.Shipped.{reply_with, silent}
 
@@ -28,4 +28,4 @@ own_plug name = if pointwise ◌==◌ name (codes "maximum") then maximum_after 
 
 -- the book of the worked example: what the plug of each name gives
 abbrev pub own_book : Book
-own_book = record { reply = λ name. (own_plug name).reply; closing = λ name. (own_plug name).closing }
+own_book = plugs_book (λ name. (own_plug name).reply) (λ name. (own_plug name).closing)

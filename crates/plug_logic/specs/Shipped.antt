@@ -6,7 +6,7 @@ use Rattle.elem_core.specs.Tree.{Tree}
 use Rattle.elem_core.specs.Order.{tree_cmp}
 use Rattle.elem_core.specs.Values.{sum_step}
 use Rattle.elem_core.specs.declared.why.Why.{Why}
-use Rattle.stream_model.specs.Linear.{Book, Reply, go, fail}
+use Rattle.stream_model.specs.Linear.{Book, plugs_book, Reply, go, fail}
 use Rattle.plug_logic.specs.Gives.{Gives}
 
 -- these outputs, and it goes on
@@ -68,4 +68,4 @@ shipped name = if pointwise ◌==◌ name (codes "dedup") then dedup_after None 
 
 -- the book of the plugs that the program ships: what each gives by its name
 abbrev pub shipped_book : Book
-shipped_book = record { reply = λ name. (shipped name).reply; closing = λ name. (shipped name).closing }
+shipped_book = plugs_book (λ name. (shipped name).reply) (λ name. (shipped name).closing)

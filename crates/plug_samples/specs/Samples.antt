@@ -2,7 +2,7 @@
 use Rattle.std.specs.Prelude.{◌==◌, if◌then◌else◌, ℕ, Bool, true, false, List, [], ◌∷◌, Option, None, Some, codes}
 use Rattle.std.specs.Cmp.Lexicographic.{pointwise}
 use Rattle.elem_core.specs.Tree.{Tree}
-use Rattle.stream_model.specs.Linear.{Book, Reply, finish, fail}
+use Rattle.stream_model.specs.Linear.{Book, plugs_book, Reply, finish, fail}
 use Rattle.plug_logic.specs.Gives.{Gives}
 use Rattle.plug_logic.specs.Shipped.{reply_with, silent, last_behind}
 
@@ -54,4 +54,4 @@ sample name =
 
 -- the book of these plugs: what the plug of each name gives
 abbrev pub sample_book : Book
-sample_book = record { reply = λ name. (sample name).reply; closing = λ name. (sample name).closing }
+sample_book = plugs_book (λ name. (sample name).reply) (λ name. (sample name).closing)

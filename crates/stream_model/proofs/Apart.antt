@@ -5,7 +5,7 @@ use Rattle.elem_core.specs.declared.why.Decider.{Decider}
 use Rattle.stream_model.specs.declared.kind.Policy.TheVariants.{Backpressure}
 use Rattle.stream_model.specs.Outlook.{Outlook}
 use Rattle.stream_model.specs.Graph.{Graph, Node, Edge, find_wire}
-use Rattle.stream_model.specs.Linear.{CustomBook, Role, a_source, a_flow, a_fan_in, a_fan_out, reads_lines, gives_range, gives_nothing, gives_failure, works, trips, plugs_in, buffers, recovers, obeys, groups_by, splits_when, splits_after, merges, gathers, concats, interleaves, merges_sorted, zips, broadcasts, balances, partitions, unzips, customs, sinks, role_of, work_of}
+use Rattle.stream_model.specs.Linear.{Book, Role, a_source, a_flow, a_fan_in, a_fan_out, reads_lines, gives_range, gives_nothing, gives_failure, works, trips, plugs_in, buffers, recovers, obeys, groups_by, splits_when, splits_after, merges, gathers, concats, interleaves, merges_sorted, zips, broadcasts, balances, partitions, unzips, customs, sinks, role_of, work_of}
 use Rattle.stream_model.specs.Node.{World, custom_by, role_outlook, node_outlook, of_work}
 use Rattle.stream_model.specs.Composed.{inputs_of, count_from, incoming, ports_of, given_on, sent_on, next, composed, sink_outlook, IsRanked, received, wire_loss}
 use Rattle.stream_model.specs.Listed.{is_untold, tells_none, Unlisted, begins, goes_on, IsListed, HasLists, AllTell}
@@ -26,7 +26,7 @@ module _ (g : Graph) (w : World) (x : ℕ → ℕ → Outlook) where
   custom_apart node name d is port true h = refl
   custom_apart node name d is port false h = cc
 
-  role_apart : (node : ℕ) (r : Role) (d : Decider) (is : List Outlook) (port : ℕ) → is_untold w.customs r ≡ false → role_outlook g other node r d is port ≡ role_outlook g w node r d is port
+  role_apart : (node : ℕ) (r : Role) (d : Decider) (is : List Outlook) (port : ℕ) → is_untold w.book r ≡ false → role_outlook g other node r d is port ≡ role_outlook g w node r d is port
   role_apart node (a_source (reads_lines name)) d is port h = refl
   role_apart node (a_source (gives_range low high)) d is port h = refl
   role_apart node (a_source (gives_nothing b)) d is port h = refl
@@ -51,7 +51,7 @@ module _ (g : Graph) (w : World) (x : ℕ → ℕ → Outlook) where
   role_apart node (a_fan_out (balances n)) d is port h = refl
   role_apart node (a_fan_out (partitions n f)) d is port h = refl
   role_apart node (a_fan_out unzips) d is port h = refl
-  role_apart node (customs name) d is port h = custom_apart node name d is port (w.customs.tells name) h
+  role_apart node (customs name) d is port h = custom_apart node name d is port (w.book.tells name) h
   role_apart node (sinks file keeps) d is port h = refl
 
   -- ---- the wires
@@ -70,39 +70,39 @@ module _ (g : Graph) (w : World) (x : ℕ → ℕ → Outlook) where
         cc (first, others)
 
   -- a wire with a list, where those with a list that lead to its node are the same
-  next_apart : (a b : ℕ → Outlook) (j : ℕ) (v : Edge) (n : Option Node) → slice_get g.wires j ≡ Some v → slice_get g.nodes v.from ≡ n → IsListed g w.customs j
-      → ((i : ℕ) (u : Edge) → slice_get g.wires i ≡ Some u → u.to ≡ v.from → IsListed g w.customs i → a i ≡ b i) → given_on g other a v.from n v.output ≡ given_on g w b v.from n v.output
+  next_apart : (a b : ℕ → Outlook) (j : ℕ) (v : Edge) (n : Option Node) → slice_get g.wires j ≡ Some v → slice_get g.nodes v.from ≡ n → IsListed g w.book j
+      → ((i : ℕ) (u : Edge) → slice_get g.wires i ≡ Some u → u.to ≡ v.from → IsListed g w.book i → a i ≡ b i) → given_on g other a v.from n v.output ≡ given_on g w b v.from n v.output
   next_apart a b j v None vi ni listed same = refl
   next_apart a b j v (Some n) vi ni listed same =
-      let told : tells_none w.customs n.kind ≡ false = true_or_false (tells_none w.customs n.kind) (λ e. listed (begins j v n vi ni e)) in
+      let told : tells_none w.book n.kind ≡ false = true_or_false (tells_none w.book n.kind) (λ e. listed (begins j v n vi ni e)) in
       let ports = ports_apart a b v.from (λ i u ui to. same i u ui to (λ h. listed (goes_on i j u v ui vi to h))) (count_from 0 (inputs_of n)) in
       ap (λ (is : List Outlook). node_outlook g other v.from n.kind n.decider is v.output) ports
       ∙ role_apart v.from (role_of n.kind) n.decider (ports_of g w b v.from (count_from 0 (inputs_of n))) v.output told
 
   module _ (rank : ℕ → ℕ) (ranked : IsRanked g rank) where
-    apart_below : (k i : ℕ) → i < length g.wires → rank i < k → IsListed g w.customs i → composed g other i ≡ composed g w i
+    apart_below : (k i : ℕ) → i < length g.wires → rank i < k → IsListed g w.book i → composed g other i ≡ composed g w i
     apart_below zero i h r listed = absurd (omega arith)
     apart_below (suc k) i h r listed =
         sym (composed_composes g other rank ranked i h)
         ∙ by_wire (slice_get g.wires i) refl (λ j hj s l. apart_below k j hj s l)
         ∙ composed_composes g w rank ranked i h
       where
-        by_wire : (o : Option Edge) → slice_get g.wires i ≡ o → ((j : ℕ) → j < length g.wires → rank j < k → IsListed g w.customs j → composed g other j ≡ composed g w j) → sent_on g other (composed g other) o ≡ sent_on g w (composed g w) o
+        by_wire : (o : Option Edge) → slice_get g.wires i ≡ o → ((j : ℕ) → j < length g.wires → rank j < k → IsListed g w.book j → composed g other j ≡ composed g w j) → sent_on g other (composed g other) o ≡ sent_on g w (composed g w) o
         by_wire None e below = refl
         by_wire (Some v) e below =
             next_apart (composed g other) (composed g w) i v (slice_get g.nodes v.from) e refl listed
             (λ j u ui to l. below j (slice_get-below g.wires j u ui) (let s = ranked.rises j i u v ui e to in omega (arith, s, r)) l)
 
-    pub wires_apart : (i : ℕ) → i < length g.wires → IsListed g w.customs i → composed g other i ≡ composed g w i
+    pub wires_apart : (i : ℕ) → i < length g.wires → IsListed g w.book i → composed g other i ≡ composed g w i
     wires_apart i h listed = apart_below (suc (rank i)) i h (omega arith) listed
 
-    pub sinks_apart : (k : ℕ) (n : Node) → HasLists g w.customs k → sink_outlook g other k n ≡ sink_outlook g w k n
+    pub sinks_apart : (k : ℕ) (n : Node) → HasLists g w.book k → sink_outlook g other k n ≡ sink_outlook g w k n
     sinks_apart k n lists =
         ap (λ (is : List Outlook). of_work w.book k n.decider (work_of n.kind) is)
         (ports_apart (composed g other) (composed g w) k (λ i v vi to. wires_apart i (slice_get-below g.wires i v vi) (lists i v vi to)) (count_from 0 1))
 
 -- ---- where every custom stage tells a list
 
-pub all_listed : (g : Graph) (c : CustomBook) → AllTell g c → (i : ℕ) → IsListed g c i
+pub all_listed : (g : Graph) (c : Book) → AllTell g c → (i : ℕ) → IsListed g c i
 all_listed g c tell k (begins i v n vi ni e) = let t = tell v.from n ni in cc
 all_listed g c tell k (goes_on i j u v ui vi to h) = all_listed g c tell i h

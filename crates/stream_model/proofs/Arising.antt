@@ -15,7 +15,7 @@ use Rattle.stream_model.specs.Composed.{inputs_of, count_from, incoming, receive
 use Rattle.stream_model.specs.FanIn.{Tagged, reach, reached, reached_all, paired, concat_of, interleave_of, inlets, turns_of, sorted_of, pairs}
 use Rattle.stream_model.specs.Fits.{inputs}
 use Rattle.stream_model.specs.Graph.{Graph, Node, Edge, find_wire, steps_of}
-use Rattle.stream_model.specs.Linear.{Book, Work, Role, a_source, a_flow, a_fan_in, a_fan_out, reads_lines, gives_range, gives_nothing, gives_failure, works, trips, plugs_in, buffers, recovers, obeys, groups_by, splits_when, splits_after, merges, gathers, concats, interleaves, merges_sorted, zips, broadcasts, balances, partitions, unzips, customs, sinks, passing, plugged, numbering, keeping_work, linear, begin_work, role_of, work_of}
+use Rattle.stream_model.specs.Linear.{Book, told_book, Work, Role, a_source, a_flow, a_fan_in, a_fan_out, reads_lines, gives_range, gives_nothing, gives_failure, works, trips, plugs_in, buffers, recovers, obeys, groups_by, splits_when, splits_after, merges, gathers, concats, interleaves, merges_sorted, zips, broadcasts, balances, partitions, unzips, customs, sinks, passing, plugged, numbering, keeping_work, linear, begin_work, role_of, work_of}
 use Rattle.stream_model.specs.Listed.{is_untold, tells_none}
 use Rattle.stream_model.specs.Machine.{Run, Machine, is_going, run, Given, whole, passed, own, fails_of, output}
 use Rattle.stream_model.specs.Node.{World, head_of, second_of, chain_of, custom_by, role_outlook, node_outlook, of_work}
@@ -171,7 +171,7 @@ module _ (P : Cause → Type 0) where
           (kept_have (passed m start o.list) (λ e r is. if_left (is_going (run m start (take (e.low - m.hold) o.list)).state) (record { cause = e.cause; low = length (run m start (take (e.low - m.hold) o.list)).gave }) r is) o.fails come.0)
 
       custom_have : (name : List ℕ) (d : Decider) (os : List Outlook) (port : ℕ) (b : Bool) → AllCauses (custom_by g w node name d (map calm os) port b).fails → AllComing os → AllCauses (custom_by g w node name d os port b).fails
-      custom_have name d os port true h come = linear_have w.customs.lists node d (plugged name []) (plugged name []) os h come
+      custom_have name d os port true h come = linear_have (told_book w.book) node d (plugged name []) (plugged name []) os h come
       custom_have name d os port false h come = h
 
       lane_have : (n : ℕ) (os : List Outlook) → AllComing os → AllCauses (lane_outlook n (head_of os)).fails
@@ -212,7 +212,7 @@ module _ (P : Cause → Type 0) where
           (λ e r is. if_left (nat_le (e.low - 1) (length (w.moves node))) (record { cause = e.cause; low = length (sent_to port (w.moves node) (head_of os).list) }) r is) (head_of os).fails (head_have os come)
       role_have (a_fan_out (partitions n f)) d os port h come = linear_have w.book node Stop (numbering n f port) (numbering n f port) os h come
       role_have (a_fan_out unzips) d os port h come = halves_have (port == 0) (head_of os) (head_have os come)
-      role_have (customs name) d os port h come = custom_have name d os port (w.customs.tells name) h come
+      role_have (customs name) d os port h come = custom_have name d os port (w.book.tells name) h come
       role_have (sinks file keeps) d os port h come = linear_have w.book node d (keeping_work keeps) (keeping_work keeps) os h come
 
 -- ---- each cause by itself
@@ -266,7 +266,7 @@ calm_head (o ∷ os) = refl
 
 module _ (g : Graph) (w : World) where
   -- what a node fails with of its own blames it
-  own_stage : (node : ℕ) (r : Role) (d : Decider) (os : List Outlook) (port : ℕ) (c : Cause) → is_untold w.customs r ≡ false → HasCause c (role_outlook g w node r d (map calm os) port).fails → c.stage ≡ node
+  own_stage : (node : ℕ) (r : Role) (d : Decider) (os : List Outlook) (port : ℕ) (c : Cause) → is_untold w.book r ≡ false → HasCause c (role_outlook g w node r d (map calm os) port).fails → c.stage ≡ node
   own_stage node r d os port c told has =
       stable c.stage node (λ other. blames_other c.stage c (role_outlook g w node r d (map calm os) port).fails
       (role_by node c.stage (λ same. other (sym same)) g w r d (map calm os) port told (calm_not_by c.stage os)) has refl)
@@ -282,12 +282,12 @@ module _ (g : Graph) (w : World) where
   untold_by node name d os port true h = cc
   untold_by node name d os port false h = refl
 
-  untold_gives : (node : ℕ) (r : Role) (d : Decider) (os : List Outlook) (port : ℕ) → is_untold w.customs r ≡ true → role_outlook g w node r d os port ≡ w.given node port
+  untold_gives : (node : ℕ) (r : Role) (d : Decider) (os : List Outlook) (port : ℕ) → is_untold w.book r ≡ true → role_outlook g w node r d os port ≡ w.given node port
   untold_gives node (a_source source) d os port h = cc
   untold_gives node (a_flow flow) d os port h = cc
   untold_gives node (a_fan_in fan) d os port h = cc
   untold_gives node (a_fan_out fan) d os port h = cc
-  untold_gives node (customs name) d os port h = untold_by node name d os port (w.customs.tells name) h
+  untold_gives node (customs name) d os port h = untold_by node name d os port (w.book.tells name) h
   untold_gives node (sinks file keeps) d os port h = cc
 
   -- ---- what comes in came along a wire
@@ -326,7 +326,7 @@ module _ (g : Graph) (w : World) where
           let lower : rank come.wire < rank j = ranked.rises come.wire j come.edge v come.at at come.to in
           comes_on come.wire j come.edge v come.at at come.to (deeper come.wire (omega (arith, lower, low)) (slice_get-below g.wires come.wire come.edge come.at) come.may_come)
 
-      by_told : (v : Edge) (n : Node) → slice_get g.wires j ≡ Some v → slice_get g.nodes v.from ≡ Some n → (b : Bool) → tells_none w.customs n.kind ≡ b
+      by_told : (v : Edge) (n : Node) → slice_get g.wires j ≡ Some v → slice_get g.nodes v.from ≡ Some n → (b : Bool) → tells_none w.book n.kind ≡ b
           → HasCause c (node_outlook g w v.from n.kind n.decider (inputs g w v.from n) v.output).fails → ComesBy g w c j
       by_told v n at node true told h =
           elim (given j v n c at node told (subst (λ (o : Outlook). HasCause c o.fails) (untold_gives v.from (role_of n.kind) n.decider (inputs g w v.from n) v.output told) h)) as (λ _. ComesBy g w c j) [
@@ -344,14 +344,14 @@ module _ (g : Graph) (w : World) where
                 arises j v n at node has (record {
                   blames = own_stage v.from (role_of n.kind) n.decider (inputs g w v.from n) v.output c told its;
                   alone = its;
-                  custom = λ untold. absurd (not_both (tells_none w.customs n.kind) untold told);
+                  custom = λ untold. absurd (not_both (tells_none w.book n.kind) untold told);
                 })
             | inr some ↦ along v at (any_came v.from (count_from 0 (inputs_of n)) c some)
           ]
 
       by_node : (v : Edge) → slice_get g.wires j ≡ Some v → (o : Option Node) → slice_get g.nodes v.from ≡ o → HasCause c (given_on g w (composed g w) v.from o v.output).fails → ComesBy g w c j
       by_node v at None none h = absurd h
-      by_node v at (Some n) node h = by_told v n at node (tells_none w.customs n.kind) refl h
+      by_node v at (Some n) node h = by_told v n at node (tells_none w.book n.kind) refl h
 
       by_wire : (o : Option Edge) → slice_get g.wires j ≡ o → HasCause c (sent_on g w (composed g w) o).fails → ComesBy g w c j
       by_wire None at h = absurd h

@@ -17,7 +17,7 @@ use Rattle.stream_model.specs.Composed.{inputs_of, count_from, incoming, receive
 use Rattle.stream_model.specs.FanIn.{Tagged, reach, reached, reached_all, paired, concat_of, interleave_of, inlets, turns_of, sorted_of, pairs}
 use Rattle.stream_model.specs.FanOut.{left_outlook, right_outlook}
 use Rattle.stream_model.specs.Graph.{Graph, Node, Edge, find_wire, steps_of}
-use Rattle.stream_model.specs.Linear.{Book, Work, Stage, Role, a_source, a_flow, a_fan_in, a_fan_out, Verdict, go, finish, fail, Reaction, gives, ends, blames, breaks, reads_lines, gives_range, gives_nothing, gives_failure, works, trips, plugs_in, buffers, recovers, obeys, groups_by, splits_when, splits_after, merges, gathers, concats, interleaves, merges_sorted, zips, broadcasts, balances, partitions, unzips, customs, sinks, passing, plugged, numbering, taking, grouping, folding, reducing, heading, lasting, decided, reacts, reaction, finish_of, blame_end, keeping_work, linear, begin_work, role_of}
+use Rattle.stream_model.specs.Linear.{Book, told_book, Work, Stage, Role, a_source, a_flow, a_fan_in, a_fan_out, Verdict, go, finish, fail, Reaction, gives, ends, blames, breaks, reads_lines, gives_range, gives_nothing, gives_failure, works, trips, plugs_in, buffers, recovers, obeys, groups_by, splits_when, splits_after, merges, gathers, concats, interleaves, merges_sorted, zips, broadcasts, balances, partitions, unzips, customs, sinks, passing, plugged, numbering, taking, grouping, folding, reducing, heading, lasting, decided, reacts, reaction, finish_of, blame_end, keeping_work, linear, begin_work, role_of}
 use Rattle.stream_model.specs.Machine.{State, going, done, broken, Run, Finish, adds, refuses, Machine, is_going, feed, feed_at, run, finish_at, close_at, close, Given, input_end, whole, passed, own, fails_of, output}
 use Rattle.stream_model.specs.Listed.{is_untold, tells_none, begins, goes_on, IsListed, HasLists}
 use Rattle.stream_model.specs.Node.{World, head_of, second_of, chain_of, custom_by, role_outlook}
@@ -262,11 +262,11 @@ module _ (node s : ℕ) (other : node ≢ s) where
 
     -- a custom stage that tells a list
     custom_told : (name : List ℕ) (d : Decider) (os : List Outlook) (port : ℕ) (b : Bool) → not b ≡ false → AllNotBy s os → AreNotBy s (custom_by g w node name d os port b).fails
-    custom_told name d os port true t h = linear_by w.customs.lists node s d (plugged name []) (plugged name []) (head_of os) other (head_by os h)
+    custom_told name d os port true t h = linear_by (told_book w.book) node s d (plugged name []) (plugged name []) (head_of os) other (head_by os h)
     custom_told name d os port false t h = cc
 
     -- what a node gives blames it, or what came to it, but for a custom stage that tells no list
-    pub role_by : (r : Role) (d : Decider) (os : List Outlook) (port : ℕ) → is_untold w.customs r ≡ false → AllNotBy s os → AreNotBy s (role_outlook g w node r d os port).fails
+    pub role_by : (r : Role) (d : Decider) (os : List Outlook) (port : ℕ) → is_untold w.book r ≡ false → AllNotBy s os → AreNotBy s (role_outlook g w node r d os port).fails
     role_by (a_source (reads_lines name)) d os port t h = lines_by (w.file name)
     role_by (a_source (gives_range low high)) d os port t h = tt
     role_by (a_source (gives_nothing b)) d os port t h = tt
@@ -300,7 +300,7 @@ module _ (node s : ℕ) (other : node ≢ s) where
         (λ e r is. if_left (nat_le (e.low - 1) (length (w.moves node))) (record { cause = e.cause; low = length (sent_to port (w.moves node) (head_of os).list) }) r is) (head_of os).fails (head_by os h)
     role_by (a_fan_out (partitions n f)) d os port t h = linear_by w.book node s Stop (numbering n f port) (numbering n f port) (head_of os) other (head_by os h)
     role_by (a_fan_out unzips) d os port t h = halves_by (port == 0) (head_of os) (head_by os h)
-    role_by (customs name) d os port t h = custom_told name d os port (w.customs.tells name) t h
+    role_by (customs name) d os port t h = custom_told name d os port (w.book.tells name) t h
     role_by (sinks file keeps) d os port t h = linear_by w.book node s d (keeping_work keeps) (keeping_work keeps) (head_of os) other (head_by os h)
 
 -- ---- wires
@@ -326,7 +326,7 @@ module _ (g : Graph) (w : World) (rank : ℕ → ℕ) (ranked : IsRanked g rank)
   ports_by_none node [] each = tt
   ports_by_none node (p ∷ ps) each = (comes_by node p each, ports_by_none node ps each)
 
-  node_by : (x : Edge) → x.from ≢ s → ((i : ℕ) (y : Edge) → slice_get g.wires i ≡ Some y → y.to ≡ x.from → AreNotBy s (composed g w i).fails) → (n : Option Node) → ((m : Node) → n ≡ Some m → tells_none w.customs m.kind ≡ false)
+  node_by : (x : Edge) → x.from ≢ s → ((i : ℕ) (y : Edge) → slice_get g.wires i ≡ Some y → y.to ≡ x.from → AreNotBy s (composed g w i).fails) → (n : Option Node) → ((m : Node) → n ≡ Some m → tells_none w.book m.kind ≡ false)
       → AreNotBy s (given_on g w (composed g w) x.from n x.output).fails
   node_by x other each None told = tt
   node_by x other each (Some n) told =
@@ -336,7 +336,7 @@ module _ (g : Graph) (w : World) (rank : ℕ → ℕ) (ranked : IsRanked g rank)
   sent_by None each = tt
   sent_by (Some x) each = each x refl
 
-  wire_by : (k j : ℕ) → rank j < k → j < length g.wires → Before j → IsListed g w.customs j → AreNotBy s (composed g w j).fails
+  wire_by : (k j : ℕ) → rank j < k → j < length g.wires → Before j → IsListed g w.book j → AreNotBy s (composed g w j).fails
   wire_by zero j low below first listed = absurd (omega (arith, low))
   wire_by (suc k) j low below first listed =
       subst (λ (o : Outlook). AreNotBy s o.fails) (composed_composes g w rank ranked j below)
@@ -347,10 +347,10 @@ module _ (g : Graph) (w : World) (rank : ℕ → ℕ) (ranked : IsRanked g rank)
       let lower : rank i < rank j = ranked.rises i j y x there at to in
       wire_by k i (omega (arith, lower, low)) (slice_get-below g.wires i y there) (λ l z here is. let more : rank j < rank l = first l z here is in omega (arith, lower, more))
       (λ h. listed (goes_on i j y x there at to h))) (slice_get g.nodes x.from)
-      (λ m is. true_or_false (tells_none w.customs m.kind) (λ e. listed (begins j x m at is e)))))
+      (λ m is. true_or_false (tells_none w.book m.kind) (λ e. listed (begins j x m at is e)))))
 
   -- so no failure that comes to a node with lists blames it
-  pub input_by : HasLists g w.customs s → AreNotBy s (incoming g w (composed g w) (find_wire s 0 g.wires)).fails
+  pub input_by : HasLists g w.book s → AreNotBy s (incoming g w (composed g w) (find_wire s 0 g.wires)).fails
   input_by lists =
       comes_by s 0
       (λ i x at to. wire_by (suc (rank i)) i (omega arith) (slice_get-below g.wires i x at) (λ l z here is. ranked.rises i l x z at here (to ∙ sym is)) (lists i x at to))

@@ -268,10 +268,10 @@ module _ (g : Graph) (w : World) (c : Cause) where
         (subst (λ (y : Option Node). LosesNothing c (given_on g w (composed g w) x.from y x.output)) (sym node) h))
 
     -- what comes to the node that the cause names has no failure with that cause
-    comes_not : (node : ℕ) → node ≡ c.stage → HasLists g w.customs node → AreNotBy c.stage (incoming g w (composed g w) (find_wire node 0 g.wires)).fails
+    comes_not : (node : ℕ) → node ≡ c.stage → HasLists g w.book node → AreNotBy c.stage (incoming g w (composed g w) (find_wire node 0 g.wires)).fails
     comes_not node is lists = subst (λ (s : ℕ). AreNotBy s (incoming g w (composed g w) (find_wire node 0 g.wires)).fails) is (input_by g w rank ranked node lists)
 
-    wire_begins : (u : ℕ) (b : BeginsOn g c u) → HasLists g w.customs b.wire.from → LosesNothing c (composed g w u)
+    wire_begins : (u : ℕ) (b : BeginsOn g c u) → HasLists g w.book b.wire.from → LosesNothing c (composed g w u)
     wire_begins u b lists = on_wire u b.wire b.node b.at b.from (role_fails b.node.head b.wire.from (role_of b.node.kind) b.node.decider (composed g w) b.wire.output b.last (comes_not b.wire.from b.named lists))
 
     -- what comes in by a wire on which a failure overtakes nothing
@@ -289,7 +289,7 @@ module _ (g : Graph) (w : World) (c : Cause) where
     way_last u (j ∷ js) node x h = way_last j js node x.1 (goes_last u j x.0 h)
 
     -- no way leads to a node with lists from a wire that has none
-    leads_unlisted : (u : ℕ) (js : List ℕ) (k : ℕ) → LeadsTo g u js k → HasLists g w.customs k → Unlisted g w.customs u → ⊥
+    leads_unlisted : (u : ℕ) (js : List ℕ) (k : ℕ) → LeadsTo g u js k → HasLists g w.book k → Unlisted g w.book u → ⊥
     leads_unlisted u [] k x lists h = let r = found_first (λ v. v.to) (λ v. v.input) k 0 g.wires u x.into in lists u r.wire r.at r.to h
     leads_unlisted u (j ∷ js) k x lists h =
         let r = found_first (λ v. v.to) (λ v. v.input) x.0.wire.from 0 g.wires u x.0.comes.into in
@@ -302,7 +302,7 @@ module _ (g : Graph) (w : World) (c : Cause) where
         let work : work_of n.kind ≡ Some (keeping_work keeps) = ap work_by role in
         subst (λ (y : Option Work). LosesNothing c (of_work w.book k n.decider y (ports_of g w (composed g w) k (count_from 0 1)))) (sym work) h
 
-    reaches_here : (k : ℕ) (n : Node) (file : Option (List ℕ)) (keeps : Keeping) → role_of n.kind ≡ sinks file keeps → HasLists g w.customs k → ReachesLast g c k n → LosesNothing c (sink_outlook g w k n)
+    reaches_here : (k : ℕ) (n : Node) (file : Option (List ℕ)) (keeps : Keeping) → role_of n.kind ≡ sinks file keeps → HasLists g w.book k → ReachesLast g c k n → LosesNothing c (sink_outlook g w k n)
     reaches_here k n file keeps role lists (its_own named last) =
         at_sink k n file keeps role (own_failure (linear w.book (keeping_work keeps)) (begin_work k n.decider (keeping_work keeps)) c refl (incoming g w (composed g w) (find_wire k 0 g.wires)) (comes_not k named lists))
     reaches_here k n file keeps role lists (by_way u js begun leads) =
@@ -310,5 +310,5 @@ module _ (g : Graph) (w : World) (c : Cause) where
         (linear_last w.book c (keeping_work keeps) (begin_work k n.decider (keeping_work keeps)) (incoming g w (composed g w) (find_wire k 0 g.wires)) (kept_not keeps) (way_last u js k leads (wire_begins u begun (λ i v at to h. leads_unlisted u js k leads lists (goes_on i u v begun.wire at begun.at to h)))))
 
 pub reaches_last : (g : Graph) (w : World) (c : Cause) (rank : ℕ → ℕ) → IsRanked g rank → (k : ℕ) (n : Node) (file : Option (List ℕ)) (keeps : Keeping) → role_of n.kind ≡ sinks file keeps
-    → HasLists g w.customs k → ReachesLast g c k n → LosesNothing c (sink_outlook g w k n)
+    → HasLists g w.book k → ReachesLast g c k n → LosesNothing c (sink_outlook g w k n)
 reaches_last g w c rank ranked k n file keeps role lists reaches = reaches_here g w c rank ranked k n file keeps role lists reaches

@@ -138,12 +138,12 @@ module _ (g : Graph) (w : World) where
   has_way node name d true t e = cc
   has_way node name d false t e = cc
 
-  custom_exit : (node : ℕ) (name : List ℕ) (d : Decider) (is os : List SeenWire) → not (w.customs.tells name) ≡ false
-      → custom_rests g w (custom_way w node name d (w.customs.tells name)) is os → Exit is os
-  custom_exit node name d is os t h = some_exit (custom_way w node name d (w.customs.tells name)) is os (has_way node name d (w.customs.tells name) t) h
+  custom_exit : (node : ℕ) (name : List ℕ) (d : Decider) (is os : List SeenWire) → not (w.book.tells name) ≡ false
+      → custom_rests g w (custom_way w node name d (w.book.tells name)) is os → Exit is os
+  custom_exit node name d is os t h = some_exit (custom_way w node name d (w.book.tells name)) is os (has_way node name d (w.book.tells name) t) h
 
   -- each row leads on
-  pub row_exit : (node : ℕ) (k : Kind) (d : Decider) (is os : List SeenWire) → tells_none w.customs k ≡ false → RowRests g w node k d is os → Exit is os
+  pub row_exit : (node : ℕ) (k : Kind) (d : Decider) (is os : List SeenWire) → tells_none w.book k ≡ false → RowRests g w node k d is os → Exit is os
   row_exit node (Lines name) d is os t h = source_exit is os h
   row_exit node (Range low high) d is os t h = source_exit is os h
   row_exit node (Empty b) d is os t h = source_exit is os h

@@ -30,7 +30,7 @@ module _ (g : Graph) (w : World) where
   pub record Arises (k : ℕ) (n : Node) (port : ℕ) (c : Cause) : Type 0 where
     pub blames : c.stage ≡ k
     pub alone : HasCause c (node_outlook g w k n.kind n.decider (map calm (inputs g w k n)) port).fails
-    pub custom : tells_none w.customs n.kind ≡ true → IsCustomWhy c.why
+    pub custom : tells_none w.book n.kind ≡ true → IsCustomWhy c.why
 
   -- a failure may come on a wire into node k
   pub record ComesIn (k : ℕ) (c : Cause) : Type 0 where
@@ -42,7 +42,7 @@ module _ (g : Graph) (w : World) where
 
   -- what custom stages that tell no list failed with on their wires was of their own, or came to them
   abbrev pub GivenLeads : Type 0
-  GivenLeads = (i : ℕ) (v : Edge) (n : Node) (c : Cause) → slice_get g.wires i ≡ Some v → slice_get g.nodes v.from ≡ Some n → tells_none w.customs n.kind ≡ true
+  GivenLeads = (i : ℕ) (v : Edge) (n : Node) (c : Cause) → slice_get g.wires i ≡ Some v → slice_get g.nodes v.from ≡ Some n → tells_none w.book n.kind ≡ true
       → HasCause c (w.given v.from v.output).fails → ((c.stage ≡ v.from) × IsCustomWhy c.why) ⊎ ComesIn v.from c
 
   -- a failure came to wire i: it may come there and arises where the wire begins, or it came to a wire into that node

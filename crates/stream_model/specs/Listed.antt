@@ -2,18 +2,18 @@
 use Rattle.std.specs.Prelude.{◌≡◌, ℕ, not, Bool, true, false, slice_get, Some}
 use Rattle.stream_model.specs.declared.kind.Kind.{Kind}
 use Rattle.stream_model.specs.Graph.{Graph, Node, Edge}
-use Rattle.stream_model.specs.Linear.{CustomBook, Role, customs, role_of}
+use Rattle.stream_model.specs.Linear.{Book, Role, customs, role_of}
 
 -- a custom stage that tells no list
-abbrev pub is_untold : CustomBook → Role → Bool
+abbrev pub is_untold : Book → Role → Bool
 is_untold c (customs name) = not (c.tells name)
 is_untold c r = false
 
 -- the same by its kind
-abbrev pub tells_none : CustomBook → Kind → Bool
+abbrev pub tells_none : Book → Kind → Bool
 tells_none c k = is_untold c (role_of k)
 
-module _ (g : Graph) (c : CustomBook) where
+module _ (g : Graph) (c : Book) where
   -- a directed walk leads to the wire from a custom stage that tells no list
   pub data Unlisted : ℕ → Type 0 where
     begins : (i : ℕ) (v : Edge) (n : Node) → slice_get g.wires i ≡ Some v → slice_get g.nodes v.from ≡ Some n → tells_none c n.kind ≡ true → Unlisted i

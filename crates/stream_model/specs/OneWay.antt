@@ -5,7 +5,7 @@ use Rattle.stream_model.specs.declared.kind.Kind.{Kind}
 use Rattle.elem_core.specs.declared.why.Decider.{Decider}
 use Rattle.stream_model.specs.Outlook.{ended}
 use Rattle.stream_model.specs.Machine.{Machine, Run, run, close, is_going}
-use Rattle.stream_model.specs.Linear.{Book, Work, linear, begin_work, grouping, expanding, folding, scanning, reducing, passing, plugged, Role, a_source, a_flow, a_fan_in, a_fan_out, works, trips, plugs_in, buffers, recovers, obeys, groups_by, splits_when, splits_after, customs, sinks, role_of, Side, at_source, at_stage, at_sink, side_by}
+use Rattle.stream_model.specs.Linear.{Book, told_book, Work, linear, begin_work, grouping, expanding, folding, scanning, reducing, passing, plugged, Role, a_source, a_flow, a_fan_in, a_fan_out, works, trips, plugs_in, buffers, recovers, obeys, groups_by, splits_when, splits_after, customs, sinks, role_of, Side, at_source, at_stage, at_sink, side_by}
 use Rattle.stream_model.specs.Substreams.{Opening, by_key, before, behind, through, substreams, begin_subs}
 use Rattle.stream_model.specs.Graph.{Graph, steps_of}
 use Rattle.stream_model.specs.Node.{World, chain_of}
@@ -62,7 +62,7 @@ of_subs g w node o chain =
 
 -- a custom stage that tells a list is a plug
 abbrev pub custom_way : World → ℕ → List ℕ → Decider → Bool → Option OneWay
-custom_way w node name d true = of_work w.customs.lists node d (Some (plugged name []))
+custom_way w node name d true = of_work (told_book w.book) node d (Some (plugged name []))
 custom_way w node name d false = None
 
 -- the same by its role: the stages with one input and one output, but for buffers; no sink, and no custom stage that tells no list
@@ -79,7 +79,7 @@ one_way_by g w node (a_flow (splits_when p chain j)) d = of_subs g w node (befor
 one_way_by g w node (a_flow (splits_after p chain j)) d = of_subs g w node (behind p) chain
 one_way_by g w node (a_fan_in fan) d = None
 one_way_by g w node (a_fan_out fan) d = None
-one_way_by g w node (customs name) d = custom_way w node name d (w.customs.tells name)
+one_way_by g w node (customs name) d = custom_way w node name d (w.book.tells name)
 one_way_by g w node (sinks file keeps) d = None
 
 -- what a node of this kind gives as numbers, where it is a stage with one input and one output and no buffer; none of a sink

@@ -50,7 +50,7 @@ pub fn moves_are_not_spare()
 
 /// In a polytree whose custom stages all tell lists a picture that rests has every wire shut, so every sink has ended.
 pub fn polytrees_end()
-    ensures { (g : Graph) (w : World) (counts : List WireCount) (outlook : ℕ → Outlook) → IsWired g counts → Rests g w counts outlook → AllTell g w.customs
+    ensures { (g : Graph) (w : World) (counts : List WireCount) (outlook : ℕ → Outlook) → IsWired g counts → Rests g w counts outlook → AllTell g w.book
         → IsPolytree g
         → (ended : ℕ → Bool) → SinksMatch g w counts outlook ended
         → (i : ℕ) (v : Edge) (n : Node) → slice_get g.wires i ≡ Some v → slice_get g.nodes v.to ≡ Some n → is_sink n.kind ≡ true → ended v.to ≡ true }

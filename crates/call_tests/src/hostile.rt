@@ -1,5 +1,6 @@
 // What a custom stage can do that breaks its rules: it fails by the rule, and the sink of another stage has what it had without it.
 ghost use Rattle.std.specs.Prelude.{⊤};
+ghost use Rattle.graph_stage.specs.Told.{no_list};
 
 use crate::plug_calls::{Came, call_with, hire};
 use elem_core::elem::{Elem, Form};
@@ -50,6 +51,8 @@ struct Hostile {
 
 impl Handlers for Hostile {
     ghost does = { λ old heard asks new. ⊤ };
+
+    ghost tells = { λ x. no_list };
 
     fn start(&mut self, _alloc: Global, _sight: &Sight, _asks: &mut Asks) -> Result<(), NoMemory> {
         Ok(())

@@ -3,6 +3,7 @@ use Rattle.std.proofs.Common.{◌≡◌, List, [], ◌∷◌, ◌++◌, refl, su
 use Rattle.elem_core.specs.declared.item.Item.{Item}
 use Rattle.port_core.specs.View.{View, acted_all}
 use Rattle.port_core.specs.Call.{Call, CallAllowed, seen}
+use Rattle.stream_model.specs.Linear.{Book}
 use Rattle.stage_core.specs.Histories.{given_all, brought_by}
 use Rattle.graph_stage.specs.State.{CustomState, RuledAs}
 use Rattle.graph_stage.specs.Calls.{CallMade, IsLater, AllLater, BeginsOnce, ports_behind, CallsAllowed, brought_by_calls, given_by_calls, CalledOn}
@@ -31,7 +32,7 @@ pub begins_append : (calls : List CallMade) (c : CallMade) → BeginsOnce calls 
 begins_append [] c h later = absurd h
 begins_append (b ∷ calls) c h later = (h.0, later_append calls c h.1 later)
 
-pub called_append : (first old : CustomState) (calls : List CallMade) (c : CallMade)
-    → CalledOn first calls old → RuledAs c.call old c.after c.acts → CalledOn first (calls ++ c ∷ []) c.after
-called_append first old [] c h r = (subst (λ (z : CustomState). RuledAs c.call z c.after c.acts) h r, refl)
+pub called_append : {b : Book} (first old : CustomState) (calls : List CallMade) (c : CallMade)
+    → CalledOn b first calls old → RuledAs b c.call old c.after c.acts → CalledOn b first (calls ++ c ∷ []) c.after
+called_append {b} first old [] c h r = (subst (λ (z : CustomState). RuledAs b c.call z c.after c.acts) h r, refl)
 called_append first old (b ∷ calls) c h r = (h.0, called_append b.after old calls c h.1 r)

@@ -11,6 +11,7 @@ use Rattle.port_core.specs.declared.view.InView.{InView}
 use Rattle.port_core.specs.declared.view.InView.TheVariants.{Cancelled}
 use Rattle.port_core.specs.View.{View, IsInOpen, acted_all}
 use Rattle.port_core.specs.Call.{Call, starts, pulls, arrives, cancels, CallAllowed, seen}
+use Rattle.stream_model.specs.Linear.{Book}
 use Rattle.stage_core.specs.Histories.{with_item, given_all, brought_by}
 use Rattle.graph_stage.specs.declared.ask.Ask.{Ask}
 use Rattle.graph_stage.specs.declared.ask.Ask.TheVariants.{Pull, Push, Complete, Cancel, Finish, Fail, Pass}
@@ -187,30 +188,30 @@ module _ (node : ℕ) where
   known_more call took c (inl own) = inl own
   known_more call took c (inr came) = inr (brought_more c call took came)
 
-  ruled_fails : (call : Call) (old new : CustomState) (acts : List Act) (v : View) (took : List (List Item)) → old.node ≡ node → InsPassed v.ins took → CallAllowed call v → RuledAs call old new acts → FailsAs (Known (brought_by call took)) acts
+  ruled_fails : {b : Book} (call : Call) (old new : CustomState) (acts : List Act) (v : View) (took : List (List Item)) → old.node ≡ node → InsPassed v.ins took → CallAllowed call v → RuledAs b call old new acts → FailsAs (Known (brought_by call took)) acts
   ruled_fails call old new acts v took e p may r =
       let P = Known (brought_by call took) in
       subst (λ (z : List Act). FailsAs P z) (sym r.acts_are)
       (fewer_fail P new.sight (answered_as old call r.asks).acts
       (carried_fails P old.types (occasion_at old.node old.taken call) (λ c own. inl (own.0 ∙ e, own.1)) (λ c f. inr (call_failed c call v took p may f)) (sees_then call old.sight) r.asks))
 
-  calls_lead : (x now : CustomState) (calls : List CallMade) (v : View) (took gave : List (List Item)) → x.node ≡ node → Sees v x.sight → CalledOn x calls now → CallsAllowed v calls → AllPassed v took gave
+  calls_lead : (b : Book) (x now : CustomState) (calls : List CallMade) (v : View) (took gave : List (List Item)) → x.node ≡ node → Sees v x.sight → CalledOn b x calls now → CallsAllowed v calls → AllPassed v took gave
       → ((c : Cause) → AnyFailed c gave → Known took c) → (c : Cause) → AnyFailed c (given_by_calls calls gave) → Known (brought_by_calls calls took) c
-  calls_lead x now [] v took gave e sees h may p up c f = up c f
-  calls_lead x now (m ∷ calls) v took gave e sees h may p up c f =
+  calls_lead b x now [] v took gave e sees h may p up c f = up c f
+  calls_lead b x now (m ∷ calls) v took gave e sees h may p up c f =
       let g = goes m.call x m.after m.acts h.0 v may.0 sees in
       let q = acts_passed m.acts (seen m.call v) (brought_by m.call took) gave g.leads.allowed (call_passed m.call v took gave may.0 p) in
       let lead = acts_lead (Known (brought_by m.call took)) m.acts gave (ruled_fails m.call x m.after m.acts v took e p.ins may.0 h.0) (λ d k. known_more m.call took d (up d k)) in
-      calls_lead m.after now calls (acted_all (seen m.call v) m.acts) (brought_by m.call took) (given_all m.acts gave) (h.0.node_stays ∙ e) (sees_on m.call x m.after m.acts h.0 v may.0 sees) h.1 may.1 q lead c f
+      calls_lead b m.after now calls (acted_all (seen m.call v) m.acts) (brought_by m.call took) (given_all m.acts gave) (h.0.node_stays ∙ e) (sees_on m.call x m.after m.acts h.0 v may.0 sees) h.1 may.1 q lead c f
 
 none_failed : (c : Cause) (n : ℕ) → AnyFailed c (replicate n []) → ⊥
 none_failed c zero f = f
 none_failed c (suc n) (inl f) = f
 none_failed c (suc n) (inr f) = none_failed c n f
 
-pub failures_lead : (first now : CustomState) (v : View) (took gave : List (List Item)) → CustomLaw first now v took gave → (c : Cause) → AnyFailed c gave → IsOwnCause first.node c ⊎ AnyFailed c took
-failures_lead first now v took gave l c f =
+pub failures_lead : {b : Book} (first now : CustomState) (v : View) (took gave : List (List Item)) → CustomLaw b first now v took gave → (c : Cause) → AnyFailed c gave → IsOwnCause first.node c ⊎ AnyFailed c took
+failures_lead {b} first now v took gave l c f =
     let led =
-    calls_lead first.node first now l.calls l.begin (replicate (length l.begin.ins) []) (replicate (length l.begin.outs) []) refl l.sees l.called l.allowed (begun l.calls l.begin l.begins l.allowed)
+    calls_lead first.node b first now l.calls l.begin (replicate (length l.begin.ins) []) (replicate (length l.begin.outs) []) refl l.fresh.sees l.called l.allowed (begun l.calls l.begin l.begins l.allowed)
     (λ d k. absurd (none_failed d (length l.begin.outs) k)) c (subst (λ (z : List (List Item)). AnyFailed c z) l.gave_is f) in
     subst (λ (z : List (List Item)). IsOwnCause first.node c ⊎ AnyFailed c z) (sym l.took_is) led

@@ -12,6 +12,7 @@ use Rattle.port_core.specs.Asking.{PullsStand}
 use Rattle.port_core.specs.declared.view.InView.{InView}
 use Rattle.port_core.specs.declared.view.OutView.{OutView}
 use Rattle.port_core.proofs.Views.{ins_stay}
+use Rattle.stream_model.specs.Linear.{Book}
 use Rattle.graph_stage.specs.declared.sight.InSight.{InSight}
 use Rattle.graph_stage.specs.declared.sight.OutSight.{OutSight}
 use Rattle.stage_core.specs.Histories.{given_all, brought_by, AllEmpty}
@@ -83,7 +84,7 @@ empty_is : (hs : List (List Item)) → AllEmpty hs → hs ≡ replicate (length 
 empty_is [] h = refl
 empty_is (x ∷ hs) h = rw (h.0) (ap (λ (z : List (List Item)). [] ∷ z) (empty_is hs h.1))
 
-module _ (call : Call) (old new : CustomState) (acts : List Act) (r : RuledAs call old new acts) where
+module _ {b : Book} (call : Call) (old new : CustomState) (acts : List Act) (r : RuledAs b call old new acts) where
   goes_full : (v : View) → CallAllowed call v → Sees v old.sight → Goes (seen call v) (answered_as old call r.asks).acts new.sight
   goes_full v may sees =
       subst (λ (s : Seen). Goes (seen call v) (answered_as old call r.asks).acts s) (sym r.sight_is)
@@ -113,19 +114,16 @@ module _ (call : Call) (old new : CustomState) (acts : List Act) (r : RuledAs ca
   few f = subst (λ (s : Seen). FewPorts s) (sym r.sight_is) (few_carried old.types (occasion_at old.node old.taken call) (sees_then call old.sight) r.asks (few_heard call old.sight f))
 
   stands : (v : View) → CallAllowed call v → Sees v old.sight → IsCallable old → CustomPortState new (acted_all (seen call v) acts)
-  stands v may sees ready = record { sees = sees_on v may sees; ready = record { few = few ready.few; no_asks = r.no_asks } }
+  stands v may sees ready = record { sees = sees_on v may sees; ready = record { few = few ready.few; no_asks = r.no_asks; running = r.running_is } }
 
-  law_kept : IsLater call → (first : CustomState) (v : View) (took gave : List (List Item)) → CallAllowed call v → CustomLaw first old v took gave
-      → CustomLaw first new (acted_all (seen call v) acts) (brought_by call took) (given_all acts gave)
+  law_kept : IsLater call → (first : CustomState) (v : View) (took gave : List (List Item)) → CallAllowed call v → CustomLaw b first old v took gave
+      → CustomLaw b first new (acted_all (seen call v) acts) (brought_by call took) (given_all acts gave)
   law_kept later first v took gave may l =
       let c : CallMade = record { call = call; acts = acts; after = new } in
       record {
         calls = l.calls ++ c ∷ [];
         begin = l.begin;
-        sees = l.sees;
-        none_taken = l.none_taken;
-        no_calls = l.no_calls;
-        none_done = l.none_done;
+        fresh = l.fresh;
         begins = begins_append l.calls c l.begins later;
         called = called_append first old l.calls c l.called r;
         allowed = allowed_append l.begin l.calls c l.allowed (subst (λ (z : View). CallAllowed call z) l.ports may);
@@ -134,7 +132,7 @@ module _ (call : Call) (old new : CustomState) (acts : List Act) (r : RuledAs ca
         gave_is = ap (λ (z : List (List Item)). given_all acts z) l.gave_is ∙ sym (given_append l.calls c (replicate (length l.begin.outs) []));
       }
 
-  pub handles : IsLater call → Meets call (CustomPortState old) → Handles CustomPortState CustomLaw call old new acts
+  pub handles : IsLater call → Meets call (CustomPortState old) → Handles CustomPortState (CustomLaw b) call old new acts
   handles later meets = record {
     obeys = record {
       allowed = λ v may p. (goes v may p.sees).leads.allowed;
@@ -144,19 +142,16 @@ module _ (call : Call) (old new : CustomState) (acts : List Act) (r : RuledAs ca
     keeps = λ first v took gave may p l. law_kept later first v took gave may l;
   }
 
-module _ (old new : CustomState) (acts : List Act) (r : RuledAs starts old new acts) where
+module _ {b : Book} (old new : CustomState) (acts : List Act) (r : RuledAs b starts old new acts) where
   -- the law of one call, the start
   law_begun : (v : View) (took gave : List (List Item)) → CallAllowed starts v → CustomFresh old v → AllEmpty took → AllEmpty gave → length took ≡ length v.ins → length gave ≡ length v.outs
-      → CustomLaw old new (acted_all v acts) took (given_all acts gave)
+      → CustomLaw b old new (acted_all v acts) took (given_all acts gave)
   law_begun v took gave may p no_took no_gave many_took many_gave =
       let c : CallMade = record { call = starts; acts = acts; after = new } in
       record {
         calls = c ∷ [];
         begin = v;
-        sees = p.sees;
-        none_taken = p.none_taken;
-        no_calls = p.no_calls;
-        none_done = p.none_done;
+        fresh = p;
         begins = (refl, tt);
         called = (r, refl);
         allowed = (may, tt);
@@ -165,7 +160,7 @@ module _ (old new : CustomState) (acts : List Act) (r : RuledAs starts old new a
         gave_is = ap (λ (z : List (List Item)). given_all acts z) (empty_is gave no_gave ∙ ap (λ (n : ℕ). replicate n []) many_gave);
       }
 
-  pub begins : Meets starts (CustomFresh old) → Starts CustomPortState CustomLaw CustomFresh old new acts
+  pub begins : Meets starts (CustomFresh old) → Starts CustomPortState (CustomLaw b) CustomFresh old new acts
   begins meets = record {
     obeys = record {
       allowed = λ v may p. (goes starts old new acts r v may p.sees).leads.allowed;
@@ -175,12 +170,12 @@ module _ (old new : CustomState) (acts : List Act) (r : RuledAs starts old new a
     begins = λ v took gave may p no_took no_gave many_took many_gave. law_begun v took gave may p no_took no_gave many_took many_gave;
   }
 
-pub handles_ok : {T E : Type 0} (call : Call) (old new : CustomState) (acts : List Act) (x : Result T E) → IsLater call
-    → Meets call (CustomPortState old) → OnOk x (RuledAs call old new acts) → OnOk x (Handles CustomPortState CustomLaw call old new acts)
-handles_ok call old new acts (Ok t) later m r = handles call old new acts r later m
-handles_ok call old new acts (Err e) later m r = tt
+pub handles_ok : (b : Book) {T E : Type 0} (call : Call) (old new : CustomState) (acts : List Act) (x : Result T E) → IsLater call
+    → Meets call (CustomPortState old) → OnOk x (RuledAs b call old new acts) → OnOk x (Handles CustomPortState (CustomLaw b) call old new acts)
+handles_ok b call old new acts (Ok t) later m r = handles call old new acts r later m
+handles_ok b call old new acts (Err e) later m r = tt
 
-pub starts_ok : {T E : Type 0} (old new : CustomState) (acts : List Act) (x : Result T E) → Meets starts (CustomFresh old)
-    → OnOk x (RuledAs starts old new acts) → OnOk x (Starts CustomPortState CustomLaw CustomFresh old new acts)
-starts_ok old new acts (Ok t) m r = begins old new acts r m
-starts_ok old new acts (Err e) m r = tt
+pub starts_ok : (b : Book) {T E : Type 0} (old new : CustomState) (acts : List Act) (x : Result T E) → Meets starts (CustomFresh old)
+    → OnOk x (RuledAs b starts old new acts) → OnOk x (Starts CustomPortState (CustomLaw b) CustomFresh old new acts)
+starts_ok b old new acts (Ok t) m r = begins old new acts r m
+starts_ok b old new acts (Err e) m r = tt

@@ -10,3 +10,6 @@ pub mod Failing
 pub mod Making
 pub mod Shown
 pub mod Done
+pub mod Shapes
+pub mod Plugging
+pub mod Telling

@@ -14,6 +14,7 @@ use Rattle.port_core.specs.declared.view.OutView.TheVariants as outlet
 use Rattle.port_core.specs.View.{View, in_at, out_at, IsInOpen, IsOutOpen, ActAllowed, acted, ActsAllowed, acted_all}
 use Rattle.port_core.specs.Call.{Call, starts, pulls, arrives, cancels, AllIdle, AllUnpulled, MayCome, came, CallAllowed, seen}
 use Rattle.stream_model.specs.Outlook.{End, unended, ended, failed}
+use Rattle.stream_model.specs.Linear.{Book}
 use Rattle.stage_core.specs.Held.{told, end_items}
 use Rattle.stage_core.specs.Histories.{given_by, given_all, brought_by}
 use Rattle.stage_core.specs.Law.{TookAs, GaveAs}
@@ -218,29 +219,29 @@ outs_begun : (ys : List OutView) → AllUnpulled ys → OutsPassed ys (replicate
 outs_begun [] h = tt
 outs_begun (y ∷ ys) h = (nothing_out y (subst (λ (z : OutView). GaveAs z unended) (sym h.0) refl), outs_begun ys h.1)
 
-calls_passed : (x now : CustomState) (calls : List CallMade) (v : View) (took gave : List (List Item)) → Sees v x.sight → CalledOn x calls now → CallsAllowed v calls
+calls_passed : (b : Book) (x now : CustomState) (calls : List CallMade) (v : View) (took gave : List (List Item)) → Sees v x.sight → CalledOn b x calls now → CallsAllowed v calls
     → AllPassed v took gave → AllPassed (ports_behind v calls) (brought_by_calls calls took) (given_by_calls calls gave)
-calls_passed x now [] v took gave sees h may p = p
-calls_passed x now (c ∷ calls) v took gave sees h may p =
+calls_passed b x now [] v took gave sees h may p = p
+calls_passed b x now (c ∷ calls) v took gave sees h may p =
     let g = goes c.call x c.after c.acts h.0 v may.0 sees in
     let q = acts_passed c.acts (seen c.call v) (brought_by c.call took) gave g.leads.allowed (call_passed c.call v took gave may.0 p) in
-    calls_passed c.after now calls (acted_all (seen c.call v) c.acts) (brought_by c.call took) (given_all c.acts gave) (sees_on c.call x c.after c.acts h.0 v may.0 sees) h.1 may.1 q
+    calls_passed b c.after now calls (acted_all (seen c.call v) c.acts) (brought_by c.call took) (given_all c.acts gave) (sees_on c.call x c.after c.acts h.0 v may.0 sees) h.1 may.1 q
 
 pub begun : (calls : List CallMade) (v : View) → BeginsOnce calls → CallsAllowed v calls → AllPassed v (replicate (length v.ins) []) (replicate (length v.outs) [])
 begun [] v h may = absurd h
 begun (c ∷ calls) v h may = let idle = subst (λ (z : Call). CallAllowed z v) h.0 may.0 in record { ins = ins_begun v.ins idle.0; outs = outs_begun v.outs idle.1 }
 
-law_passed : (first now : CustomState) (v : View) (took gave : List (List Item)) → CustomLaw first now v took gave → AllPassed v took gave
-law_passed first now v took gave l =
-    let p = calls_passed first now l.calls l.begin (replicate (length l.begin.ins) []) (replicate (length l.begin.outs) []) l.sees l.called l.allowed (begun l.calls l.begin l.begins l.allowed) in
+law_passed : {b : Book} (first now : CustomState) (v : View) (took gave : List (List Item)) → CustomLaw b first now v took gave → AllPassed v took gave
+law_passed {b} first now v took gave l =
+    let p = calls_passed b first now l.calls l.begin (replicate (length l.begin.ins) []) (replicate (length l.begin.outs) []) l.fresh.sees l.called l.allowed (begun l.calls l.begin l.begins l.allowed) in
     let q = subst (λ (z : View). AllPassed z (brought_by_calls l.calls (replicate (length l.begin.ins) [])) (given_by_calls l.calls (replicate (length l.begin.outs) []))) (sym l.ports) p in
     let r = subst (λ (z : List (List Item)). AllPassed v z (given_by_calls l.calls (replicate (length l.begin.outs) []))) (sym l.took_is) q in
     subst (λ (z : List (List Item)). AllPassed v took z) (sym l.gave_is) r
 
-pub inputs_pass : (first now : CustomState) (v : View) (took gave : List (List Item)) → CustomLaw first now v took gave
+pub inputs_pass : {b : Book} (first now : CustomState) (v : View) (took gave : List (List Item)) → CustomLaw b first now v took gave
     → (length took ≡ length v.ins) × ((i : ℕ) (items : List Item) → slice_get took i ≡ Some items → PassedUpTo (TookAs (in_at v i)) items)
 inputs_pass first now v took gave l = let p = law_passed first now v took gave l in (ins_length v.ins took p.ins, λ i items e. at_in v.ins took i items p.ins e)
 
-pub outputs_pass : (first now : CustomState) (v : View) (took gave : List (List Item)) → CustomLaw first now v took gave
+pub outputs_pass : {b : Book} (first now : CustomState) (v : View) (took gave : List (List Item)) → CustomLaw b first now v took gave
     → (length gave ≡ length v.outs) × ((j : ℕ) (items : List Item) → slice_get gave j ≡ Some items → PassedUpTo (GaveAs (out_at v j)) items)
 outputs_pass first now v took gave l = let p = law_passed first now v took gave l in (outs_length v.outs gave p.outs, λ j items e. at_out v.outs gave j items p.outs e)

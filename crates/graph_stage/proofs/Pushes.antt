@@ -10,6 +10,7 @@ use Rattle.port_core.specs.declared.act.Act.{Act}
 use Rattle.port_core.specs.declared.act.Act.TheVariants as act
 use Rattle.port_core.specs.View.{View}
 use Rattle.port_core.specs.Call.{Call}
+use Rattle.stream_model.specs.Linear.{Book}
 use Rattle.stage_core.specs.Histories.{with_item, given_all}
 use Rattle.graph_stage.specs.declared.ask.Ask.{Ask}
 use Rattle.graph_stage.specs.declared.ask.Ask.TheVariants.{Pull, Push, Complete, Cancel, Finish, Fail, Pass}
@@ -139,28 +140,28 @@ typed_at (t ∷ ts) (g ∷ hs) zero h p e = let same : g ≡ h = cc in subst (λ
 typed_at [] (g ∷ hs) (suc j) h p e = typed_at [] hs j h p.1 e
 typed_at (t ∷ ts) (g ∷ hs) (suc j) h p e = typed_at ts hs j h p.1 e
 
-ruled_typed : (call : Call) (old new : CustomState) (acts : List Act) → RuledAs call old new acts → PushesTyped old.types acts
+ruled_typed : {b : Book} (call : Call) (old new : CustomState) (acts : List Act) → RuledAs b call old new acts → PushesTyped old.types acts
 ruled_typed call old new acts r =
     subst (λ (z : List Act). PushesTyped old.types z) (sym r.acts_are)
     (fewer_typed old.types new.sight (answered_as old call r.asks).acts (carried_typed old.types (occasion_at old.node old.taken call) (sees_then call old.sight) r.asks))
 
-calls_typed : (ts : List Sort) (x now : CustomState) (calls : List CallMade) (gave : List (List Item)) → x.types ≡ ts → CalledOn x calls now → OutsTyped ts gave
+calls_typed : (b : Book) (ts : List Sort) (x now : CustomState) (calls : List CallMade) (gave : List (List Item)) → x.types ≡ ts → CalledOn b x calls now → OutsTyped ts gave
     → OutsTyped ts (given_by_calls calls gave)
-calls_typed ts x now [] gave e h p = p
-calls_typed ts x now (c ∷ calls) gave e h p =
+calls_typed b ts x now [] gave e h p = p
+calls_typed b ts x now (c ∷ calls) gave e h p =
     let t = subst (λ (z : List Sort). PushesTyped z c.acts) e (ruled_typed c.call x c.after c.acts h.0) in
-    calls_typed ts c.after now calls (given_all c.acts gave) (h.0.types_stay ∙ e) h.1 (acts_typed ts c.acts gave t p)
+    calls_typed b ts c.after now calls (given_all c.acts gave) (h.0.types_stay ∙ e) h.1 (acts_typed ts c.acts gave t p)
 
-pub gives_typed : (first now : CustomState) (v : View) (took gave : List (List Item)) → CustomLaw first now v took gave
+pub gives_typed : {b : Book} (first now : CustomState) (v : View) (took gave : List (List Item)) → CustomLaw b first now v took gave
     → (j : ℕ) (items : List Item) → slice_get gave j ≡ Some items → ItemsTyped (slice_get first.types j) items
-gives_typed first now v took gave l j items e =
-    let p = calls_typed first.types first now l.calls (replicate (length l.begin.outs) []) refl l.called (none_typed first.types (length l.begin.outs)) in
+gives_typed {b} first now v took gave l j items e =
+    let p = calls_typed b first.types first now l.calls (replicate (length l.begin.outs) []) refl l.called (none_typed first.types (length l.begin.outs)) in
     typed_at first.types gave j items (subst (λ (z : List (List Item)). OutsTyped first.types z) (sym l.gave_is) p) e
 
 -- its node and the types of its outputs
-calls_stay : (x now : CustomState) (calls : List CallMade) → CalledOn x calls now → (now.node ≡ x.node) × (now.types ≡ x.types)
-calls_stay x now [] h = (ap (λ (z : CustomState). z.node) h, ap (λ (z : CustomState). z.types) h)
-calls_stay x now (c ∷ calls) h = let r = calls_stay c.after now calls h.1 in (r.0 ∙ h.0.node_stays, r.1 ∙ h.0.types_stay)
+calls_stay : (b : Book) (x now : CustomState) (calls : List CallMade) → CalledOn b x calls now → (now.node ≡ x.node) × (now.types ≡ x.types)
+calls_stay b x now [] h = (ap (λ (z : CustomState). z.node) h, ap (λ (z : CustomState). z.types) h)
+calls_stay b x now (c ∷ calls) h = let r = calls_stay b c.after now calls h.1 in (r.0 ∙ h.0.node_stays, r.1 ∙ h.0.types_stay)
 
-pub stays : (first now : CustomState) (v : View) (took gave : List (List Item)) → CustomLaw first now v took gave → (now.node ≡ first.node) × (now.types ≡ first.types)
-stays first now v took gave l = calls_stay first now l.calls l.called
+pub stays : {b : Book} (first now : CustomState) (v : View) (took gave : List (List Item)) → CustomLaw b first now v took gave → (now.node ≡ first.node) × (now.types ≡ first.types)
+stays {b} first now v took gave l = calls_stay b first now l.calls l.called

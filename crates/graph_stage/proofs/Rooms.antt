@@ -92,14 +92,14 @@ not_false false h = cc
 pub record MayPull (xs : List InSight) (i : ℕ) : Type 0 where
   pub is : InSight
   pub at : slice_get xs i ≡ Some is
-  pub unasked : is.asked ≡ false
+  pub not_begun : is.asked ≡ false
   pub unclosed : is.closed ≡ false
 
 pub may_pull : (xs : List InSight) (i : ℕ) (x : Option InSight) → slice_get xs i ≡ x → pull_code x ≡ None → MayPull xs i
 may_pull xs i None at e = cc
 may_pull xs i (Some x) at e =
     let k = neither x.asked x.closed (not_refused 1 (x.asked || x.closed) None e).0 in
-    record { is = x; at = at; unasked = k.0; unclosed = k.1 }
+    record { is = x; at = at; not_begun = k.0; unclosed = k.1 }
 
 pub record MayPush (ys : List OutSight) (j : ℕ) : Type 0 where
   pub is : OutSight
@@ -134,7 +134,7 @@ pull_room : (s : Seen) (i : ℕ) → MayPull s.ins i → 1 + acts_to_come (sees_
 pull_room s i m =
     let same = at_in s.ins i m.is m.at in
     let r = set_in s.ins i m.is (record m.is { asked = true }) m.at in
-    let old = in_by m.is false false m.unasked m.unclosed in
+    let old = in_by m.is false false m.not_begun m.unclosed in
     let new = in_by (record m.is { asked = true }) true false refl m.unclosed in
     rw same (omega (arith, r, old, new))
 

@@ -272,9 +272,9 @@ one_goes v a s may h = record { to = acted v a; leads = record { allowed = (may,
 pull_goes : (v : View) (s : Seen) (i : ℕ) → Sees v s → MayPull s.ins i → Goes v (act.Pull i ∷ []) (sees_behind s (Pull i))
 pull_goes v s i h m =
     let same = at_in s.ins i m.is m.at in
-    let unasked : (input_at s i).asked ≡ false = ap (λ (x : InSight). x.asked) same ∙ m.unasked in
+    let not_begun : (input_at s i).asked ≡ false = ap (λ (x : InSight). x.asked) same ∙ m.not_begun in
     let unclosed : (input_at s i).closed ≡ false = ap (λ (x : InSight). x.closed) same ∙ m.unclosed in
-    one_goes v (act.Pull i) _ (idle (in_at v i) (input_at s i) (input v s i h) unasked unclosed) (input_set v s i Pulled _ h (refl, unclosed))
+    one_goes v (act.Pull i) _ (idle (in_at v i) (input_at s i) (input v s i h) not_begun unclosed) (input_set v s i Pulled _ h (refl, unclosed))
 
 push_goes : (v : View) (s : Seen) (j : ℕ) (e : Tree) → Sees v s → MayPush s.outs j → Goes v (act.Push j e ∷ []) (sees_behind s (Push j e))
 push_goes v s j e h m =

@@ -4,6 +4,7 @@ use Rattle.elem_core.specs.declared.item.Item.{Item}
 use Rattle.port_core.specs.declared.act.Act.{Act}
 use Rattle.port_core.specs.View.{View, acted_all}
 use Rattle.port_core.specs.Call.{Call, starts, pulls, arrives, cancels, CallAllowed, seen}
+use Rattle.stream_model.specs.Linear.{Book}
 use Rattle.stage_core.specs.Histories.{given_all, brought_by}
 use Rattle.graph_stage.specs.State.{CustomState, RuledAs}
 
@@ -50,7 +51,7 @@ abbrev pub given_by_calls : List CallMade → List (List Item) → List (List It
 given_by_calls [] gave = gave
 given_by_calls (c ∷ calls) gave = given_by_calls calls (given_all c.acts gave)
 
--- From the first stage on each call was one call of its handler, and the last one left this stage.
-abbrev pub CalledOn : CustomState → List CallMade → CustomState → Type 0
-CalledOn first [] now = now ≡ first
-CalledOn first (c ∷ calls) now = RuledAs c.call first c.after c.acts × CalledOn c.after calls now
+-- From the first stage on each call was one call of its handler, by this book of lists, and the last one left this stage.
+abbrev pub CalledOn : Book → CustomState → List CallMade → CustomState → Type 0
+CalledOn b first [] now = now ≡ first
+CalledOn b first (c ∷ calls) now = RuledAs b c.call first c.after c.acts × CalledOn b c.after calls now

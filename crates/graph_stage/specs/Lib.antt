@@ -11,3 +11,6 @@ pub mod Calls
 pub mod Laws
 pub mod Making
 pub mod Samples
+pub mod Lifted
+pub mod Told
+pub mod Plugged

@@ -26,5 +26,6 @@ pub record IsNewLogic {H : Type 0} (x : CustomLogic H) (v : View) : Type 0 where
   pub sees : Sees v x.sight
   pub ready : IsReadyForCall x
   pub none_taken : x.taken ≡ 0
+  pub none_took : x.took.items ≡ []
   pub no_calls : x.asked.items ≡ []
   pub none_done : x.done.items ≡ []

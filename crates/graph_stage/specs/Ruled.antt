@@ -11,6 +11,7 @@ use Rattle.graph_stage.specs.declared.logic.CustomLogic.{CustomLogic}
 use Rattle.graph_stage.specs.Standing.{without_taken_back}
 use Rattle.graph_stage.specs.OwnView.{Called, sees_then, Outcome, carried_out}
 use Rattle.graph_stage.specs.Room.{FewPorts}
+use Rattle.graph_stage.specs.Told.{ToldList, TellsOn, took_by}
 
 -- how many elements a stage that had taken n has taken with a call
 abbrev pub taken_by : ℕ → Call → ℕ
@@ -44,12 +45,14 @@ module _ {H : Type 0} where
   abbrev pub outcome_at : CustomLogic H → ℕ → Option Cause → Outcome
   outcome_at x nth failure = carried_out x.types.items (record { node = x.node; taken = x.taken; nth = nth; failure = failure }) x.sight x.asks
 
-  -- Its handler was called, once, and asked for these; the actions are those of its asks up to the first that is forbidden, and then those of
-  -- the failure, but for pulls that are taken back. It sees its ports as they are then, has noted what was asked for and what was
-  -- done, has counted what it took, and keeps no ask.
-  pub record Ruled (does : H → Called → List Ask → H → Type 0) (call : Call) (old new : CustomLogic H) (acts : List Act) : Type 0 where
+  -- Its handler was called, once, and asked for these, as what it tells wants; the actions are those of its asks up to the first that is
+  -- forbidden, and then those of the failure, but for pulls that are taken back. It sees its ports as they are then, has noted what was
+  -- asked for and what was done, has counted what it took, and keeps no ask.
+  pub record Ruled (does : H → Called → List Ask → H → Type 0) (tells : H → ToldList) (call : Call) (old new : CustomLogic H)
+      (acts : List Act) : Type 0 where
     pub asks : List Ask
     pub called : does old.handlers (called_by old call) asks new.handlers
+    pub told : TellsOn call (tells old.handlers) asks (tells new.handlers)
     pub asked_is : new.asked.items ≡ old.asked.items ++ asks ∷ []
     pub last : ActList
     pub last_is : last.items ≡ acts
@@ -57,6 +60,8 @@ module _ {H : Type 0} where
     pub acts_are : acts ≡ without_taken_back new.sight (answered old call asks).acts
     pub sight_is : new.sight ≡ (answered old call asks).sight
     pub taken_is : new.taken ≡ taken_by old.taken call
+    pub took_is : new.took.items ≡ took_by old.took.items call
+    pub name_stays : new.name ≡ old.name
     pub node_stays : new.node ≡ old.node
     pub types_stay : new.types.items ≡ old.types.items
     pub no_asks : new.asks ≡ []

@@ -1,5 +1,6 @@
 // One of the two custom stages that the program ships.
 ghost use Rattle.std.specs.Prelude.{⊤};
+ghost use Rattle.graph_stage.specs.Told.{no_list};
 
 use crate::ask::Ask;
 use crate::asks::Asks;
@@ -39,6 +40,8 @@ impl Alternate {
 
 impl Handlers for Alternate {
     ghost does = { λ old heard asks new. ⊤ };
+
+    ghost tells = { λ x. no_list };
 
     fn start(&mut self, _alloc: Global, _sight: &Sight, _asks: &mut Asks) -> Result<(), NoMemory> {
         Ok(())

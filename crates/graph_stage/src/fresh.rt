@@ -50,6 +50,7 @@ impl<H: Handlers> CustomLogic<H> {
         requires ports { 0 < length custom.head.inputs.items + length custom.head.outputs.items }
         ensures fresh { IfOk result (λ x. IsNewLogic x (unpulled_view (length custom.head.inputs.items) (length custom.head.outputs.items))) }
         ensures node { IfOk result (λ x. x.node ≡ stage) }
+        ensures name { IfOk result (λ x. x.name ≡ custom.head.name) }
         ensures types { IfOk result (λ x. x.types.items ≡ custom.head.outputs.items) }
         ensures handlers { IfOk result (λ x. x.handlers ≡ custom.stage) }
     {
@@ -62,15 +63,16 @@ impl<H: Handlers> CustomLogic<H> {
             inputs,
             outputs,
         } = head;
-        let _ = name;
         let ins = quiet_ins(alloc, inputs.len())?;
         let outs = quiet_outs(alloc, outputs.len())?;
         Ok(CustomLogic {
             node: stage,
+            name,
             types: outputs,
             handlers,
             sight: Sight { ins, outs },
             taken: 0,
+            took: Trace::empty(),
             asks: Asks::new(alloc),
             asked: Trace::empty(),
             done: Trace::empty(),

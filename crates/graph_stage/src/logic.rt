@@ -14,6 +14,7 @@ use crate::sight::{InSight, OutSight, Sight};
 use elem_core::count::one_more;
 use elem_core::elem::Elem;
 use elem_core::elem_type::ElemType;
+use elem_core::line::Line;
 use elem_core::trace::Trace;
 use elem_core::why::{Cause, NoMemory};
 use port_core::acts::Acts;
@@ -26,6 +27,8 @@ use std::alloc::Global;
 pub struct CustomLogic<H: Handlers> {
     /// The number of its node.
     pub node: u32,
+    /// The name of its head.
+    pub name: Line,
     /// The types of its outputs.
     pub types: Vec<ElemType>,
     /// What the caller made.
@@ -34,6 +37,8 @@ pub struct CustomLogic<H: Handlers> {
     pub sight: Sight,
     /// How many elements it took on all its inputs.
     pub taken: u64,
+    /// Which, oldest first.
+    pub took: Trace<Elem>,
     // Choice: docs/DECISIONS.md#asks-are-kept
     /// What a handler asks for; between two calls it is empty. It is kept so that a call takes no memory where an earlier one asked as much.
     pub asks: Asks,
@@ -55,6 +60,8 @@ impl<H: Handlers> CustomLogic<H> {
         ensures types { self.new.types ≡ self.old.types }
         ensures handlers { self.new.handlers ≡ self.old.handlers }
         ensures taken { self.new.taken ≡ self.old.taken }
+        ensures took { self.new.took ≡ self.old.took }
+        ensures name { self.new.name ≡ self.old.name }
         ensures asks { self.new.asks ≡ [] }
         ensures asked { self.new.asked.items ≡ self.old.asked.items ++ self.old.asks ∷ [] }
         ensures done { self.new.done.items ≡ self.old.done.items ++ acts.new ∷ [] }
@@ -82,7 +89,7 @@ impl<H: Handlers> CustomLogic<H> {
         requires ready { IsReadyForCall self.old }
         requires empty { acts.old.items ≡ [] }
         requires room { most_acts self.old.sight ≤ acts.old.room }
-        ensures ruled { OnOk result (Ruled H.does starts self.old self.new acts.new.items) }
+        ensures ruled { OnOk result (Ruled H.does H.tells starts self.old self.new acts.new.items) }
         ensures room { OnOk result (acts.new.room ≡ acts.old.room) }
     {
         self.handlers.start(alloc, &self.sight, &mut self.asks)?;
@@ -96,7 +103,7 @@ impl<H: Handlers> CustomLogic<H> {
         requires ready { IsReadyForCall self.old }
         requires empty { acts.old.items ≡ [] }
         requires room { most_acts self.old.sight ≤ acts.old.room }
-        ensures ruled { OnOk result (Ruled H.does (pulls port) self.old self.new acts.new.items) }
+        ensures ruled { OnOk result (Ruled H.does H.tells (pulls port) self.old self.new acts.new.items) }
         ensures room { OnOk result (acts.new.room ≡ acts.old.room) }
     {
         self.sight.set_output(
@@ -124,10 +131,11 @@ impl<H: Handlers> CustomLogic<H> {
         requires ready { IsReadyForCall self.old }
         requires empty { acts.old.items ≡ [] }
         requires room { most_acts self.old.sight ≤ acts.old.room }
-        ensures ruled { OnOk result (Ruled H.does (arrives port (item.Elem e)) self.old self.new acts.new.items) }
+        ensures ruled { OnOk result (Ruled H.does H.tells (arrives port (item.Elem e)) self.old self.new acts.new.items) }
         ensures room { OnOk result (acts.new.room ≡ acts.old.room) }
     {
         self.taken = one_more(self.taken)?;
+        self.took = self.took.and(&e);
         self.sight.set_input(
             port,
             InSight {
@@ -147,7 +155,7 @@ impl<H: Handlers> CustomLogic<H> {
         requires ready { IsReadyForCall self.old }
         requires empty { acts.old.items ≡ [] }
         requires room { most_acts self.old.sight ≤ acts.old.room }
-        ensures ruled { OnOk result (Ruled H.does (arrives port item.Ended) self.old self.new acts.new.items) }
+        ensures ruled { OnOk result (Ruled H.does H.tells (arrives port item.Ended) self.old self.new acts.new.items) }
         ensures room { OnOk result (acts.new.room ≡ acts.old.room) }
     {
         self.sight.set_input(
@@ -175,7 +183,7 @@ impl<H: Handlers> CustomLogic<H> {
         requires ready { IsReadyForCall self.old }
         requires empty { acts.old.items ≡ [] }
         requires room { most_acts self.old.sight ≤ acts.old.room }
-        ensures ruled { OnOk result (Ruled H.does (arrives port (item.Failed cause)) self.old self.new acts.new.items) }
+        ensures ruled { OnOk result (Ruled H.does H.tells (arrives port (item.Failed cause)) self.old self.new acts.new.items) }
         ensures room { OnOk result (acts.new.room ≡ acts.old.room) }
     {
         self.sight.set_input(
@@ -197,7 +205,7 @@ impl<H: Handlers> CustomLogic<H> {
         requires ready { IsReadyForCall self.old }
         requires empty { acts.old.items ≡ [] }
         requires room { most_acts self.old.sight ≤ acts.old.room }
-        ensures ruled { OnOk result (Ruled H.does (cancels port) self.old self.new acts.new.items) }
+        ensures ruled { OnOk result (Ruled H.does H.tells (cancels port) self.old self.new acts.new.items) }
         ensures room { OnOk result (acts.new.room ≡ acts.old.room) }
     {
         self.sight.set_output(

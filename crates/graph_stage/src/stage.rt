@@ -6,6 +6,7 @@ ghost use Rattle.graph_stage.specs.Laws.{CustomFresh, CustomPortState, CustomLaw
 ghost use Rattle.graph_stage.specs.Making.{unpulled_view};
 ghost use Rattle.graph_stage.specs.Room.{most_acts};
 ghost use Rattle.graph_stage.specs.State.{IsCallable, RuledAs};
+ghost use Rattle.graph_stage.specs.Told.{HandedAs};
 
 use crate::custom::Custom;
 use crate::handlers::Handlers;
@@ -13,47 +14,61 @@ use crate::logic::CustomLogic;
 use elem_core::elem::Elem;
 use elem_core::item::Item;
 use elem_core::why::{Cause, NoMemory};
+use plug_logic::book::PlugBook;
 use port_core::acts::Acts;
 use stage_core::stage::Stage;
 use std::alloc::Global;
-use std::marker::Model;
+use std::marker::{Model, PhantomData};
 
 // Choice: docs/DECISIONS.md#handlers-are-hidden
 /// A stage that a caller hands in, as islands hold it. Contracts see all of it but its handlers, and what each call of these asked for:
 /// nothing but a call of the logic notes more, so none can be left out, doubled or changed, and nothing above names what handlers do. Behind
 /// `NoMemory` it is only dropped.
 #[derive(Drop)]
-pub struct CustomStage<H: Handlers> {
+pub struct CustomStage<H: Handlers, B: PlugBook> {
     logic: CustomLogic<H>,
+    // No call of it wanted memory in vain.
+    running: bool,
+    of: PhantomData<B>,
 }
 
-impl<H: Handlers> Model for CustomStage<H> {
+impl<H: Handlers, B: PlugBook> Model for CustomStage<H, B> {
+    ghost use Rattle.std.specs.Prelude.{◌≡◌, true};
     ghost use Rattle.std.specs.Coded.{codes};
     ghost use Rattle.elem_core.specs.Sort.{sort_coded};
     ghost use Rattle.elem_core.specs.TreeCode.{tree_coded};
     ghost use Rattle.graph_stage.specs.State.{CustomState, shown};
+    ghost use Rattle.graph_stage.specs.Told.{telling_by, TellsAs};
 
     ghost Value = { CustomState };
 
     ghost coded = { Prim.hlevel (codes, sort_coded, tree_coded) };
 
-    ghost view = { λ s. shown s.logic };
+    ghost view = { λ s. shown s.logic (telling_by (B.lists.tells s.logic.name) (H.tells s.logic.handlers)) s.running };
+
+    ghost invariant = { λ s. s.running ≡ true
+        → TellsAs (B.lists.tells s.logic.name) B.lists s.logic.name s.logic.types.items s.logic.took.items (H.tells s.logic.handlers) };
 }
 
-impl<H: Handlers> CustomStage<H> {
+impl<H: Handlers, B: PlugBook> CustomStage<H, B> {
     /// The stage of node `stage`, which is this custom stage and was not started. It has at most eight inputs and at most eight outputs, and
     /// at least one port.
     #[tactic(auto, using(crate::proofs::Shown::fresh_ok))]
-    pub fn new(alloc: Global, stage: u32, custom: Custom<H>) -> Result<CustomStage<H>, NoMemory>
+    pub fn new(alloc: Global, stage: u32, custom: Custom<H>) -> Result<CustomStage<H, B>, NoMemory>
         requires inputs { length custom.head.inputs.items ≤ 8 }
         requires outputs { length custom.head.outputs.items ≤ 8 }
         requires ports { 0 < length custom.head.inputs.items + length custom.head.outputs.items }
+        requires told { HandedAs (B.lists.tells custom.head.name) B.lists custom.head.name custom.head.inputs.items custom.head.outputs.items
+            (H.tells custom.stage) }
         ensures fresh { IfOk result (λ x. CustomFresh x (unpulled_view (length custom.head.inputs.items) (length custom.head.outputs.items))) }
         ensures node { IfOk result (λ x. x.node ≡ stage) }
+        ensures name { IfOk result (λ x. x.name ≡ custom.head.name) }
         ensures types { IfOk result (λ x. x.types ≡ custom.head.outputs.items) }
     {
         Ok(CustomStage {
             logic: CustomLogic::new(alloc, stage, custom)?,
+            running: true,
+            of: PhantomData,
         })
     }
 
@@ -63,10 +78,13 @@ impl<H: Handlers> CustomStage<H> {
         requires ready { IsCallable self.old }
         requires empty { acts.old.items ≡ [] }
         requires room { most_acts self.old.sight ≤ acts.old.room }
-        ensures ruled { OnOk result (RuledAs starts self.old self.new acts.new.items) }
+        ensures ruled { OnOk result (RuledAs B.lists starts self.old self.new acts.new.items) }
         ensures room { OnOk result (acts.new.room ≡ acts.old.room) }
     {
-        self.logic.start(alloc, acts)
+        self.running = false;
+        self.logic.start(alloc, acts)?;
+        self.running = true;
+        Ok(())
     }
 
     /// Output `port` was pulled.
@@ -75,10 +93,13 @@ impl<H: Handlers> CustomStage<H> {
         requires ready { IsCallable self.old }
         requires empty { acts.old.items ≡ [] }
         requires room { most_acts self.old.sight ≤ acts.old.room }
-        ensures ruled { OnOk result (RuledAs (pulls port) self.old self.new acts.new.items) }
+        ensures ruled { OnOk result (RuledAs B.lists (pulls port) self.old self.new acts.new.items) }
         ensures room { OnOk result (acts.new.room ≡ acts.old.room) }
     {
-        self.logic.on_pull(alloc, port, acts)
+        self.running = false;
+        self.logic.on_pull(alloc, port, acts)?;
+        self.running = true;
+        Ok(())
     }
 
     /// An element came to input `port`.
@@ -93,10 +114,13 @@ impl<H: Handlers> CustomStage<H> {
         requires ready { IsCallable self.old }
         requires empty { acts.old.items ≡ [] }
         requires room { most_acts self.old.sight ≤ acts.old.room }
-        ensures ruled { OnOk result (RuledAs (arrives port (item.Elem e)) self.old self.new acts.new.items) }
+        ensures ruled { OnOk result (RuledAs B.lists (arrives port (item.Elem e)) self.old self.new acts.new.items) }
         ensures room { OnOk result (acts.new.room ≡ acts.old.room) }
     {
-        self.logic.on_push(alloc, port, e, acts)
+        self.running = false;
+        self.logic.on_push(alloc, port, e, acts)?;
+        self.running = true;
+        Ok(())
     }
 
     /// Input `port` has ended.
@@ -105,10 +129,13 @@ impl<H: Handlers> CustomStage<H> {
         requires ready { IsCallable self.old }
         requires empty { acts.old.items ≡ [] }
         requires room { most_acts self.old.sight ≤ acts.old.room }
-        ensures ruled { OnOk result (RuledAs (arrives port item.Ended) self.old self.new acts.new.items) }
+        ensures ruled { OnOk result (RuledAs B.lists (arrives port item.Ended) self.old self.new acts.new.items) }
         ensures room { OnOk result (acts.new.room ≡ acts.old.room) }
     {
-        self.logic.on_finish(alloc, port, acts)
+        self.running = false;
+        self.logic.on_finish(alloc, port, acts)?;
+        self.running = true;
+        Ok(())
     }
 
     /// Input `port` has failed.
@@ -123,10 +150,13 @@ impl<H: Handlers> CustomStage<H> {
         requires ready { IsCallable self.old }
         requires empty { acts.old.items ≡ [] }
         requires room { most_acts self.old.sight ≤ acts.old.room }
-        ensures ruled { OnOk result (RuledAs (arrives port (item.Failed cause)) self.old self.new acts.new.items) }
+        ensures ruled { OnOk result (RuledAs B.lists (arrives port (item.Failed cause)) self.old self.new acts.new.items) }
         ensures room { OnOk result (acts.new.room ≡ acts.old.room) }
     {
-        self.logic.on_fail(alloc, port, cause, acts)
+        self.running = false;
+        self.logic.on_fail(alloc, port, cause, acts)?;
+        self.running = true;
+        Ok(())
     }
 
     /// Output `port` was cancelled.
@@ -135,19 +165,22 @@ impl<H: Handlers> CustomStage<H> {
         requires ready { IsCallable self.old }
         requires empty { acts.old.items ≡ [] }
         requires room { most_acts self.old.sight ≤ acts.old.room }
-        ensures ruled { OnOk result (RuledAs (cancels port) self.old self.new acts.new.items) }
+        ensures ruled { OnOk result (RuledAs B.lists (cancels port) self.old self.new acts.new.items) }
         ensures room { OnOk result (acts.new.room ≡ acts.old.room) }
     {
-        self.logic.on_cancel(alloc, port, acts)
+        self.running = false;
+        self.logic.on_cancel(alloc, port, acts)?;
+        self.running = true;
+        Ok(())
     }
 }
 
-impl<H: Handlers> Stage for CustomStage<H> {
+impl<H: Handlers, B: PlugBook> Stage for CustomStage<H, B> {
     ghost fresh = { CustomFresh };
 
     ghost port_state = { CustomPortState };
 
-    ghost law = { CustomLaw };
+    ghost law = { CustomLaw B.lists };
 
     ghost asking = { λ x v. ⊤ };
 

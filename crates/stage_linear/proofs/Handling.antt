@@ -33,7 +33,7 @@ use Rattle.stage_linear.proofs.Pushes.{waits, came_turned}
 use Rattle.stage_linear.proofs.Ports.{came_obeys}
 
 -- the law of its output once a call's actions are done
-law_after : (book : Book) (call : Call) (first old new : Logic) (v : View) (acts : List Act) (took gave : List (List Item)) → port_state old v → CallAllowed call v → ActsAllowed (seen call v) acts → Turned book call old acts new → LinearLaw book first old v took gave
+pub law_after : (book : Book) (call : Call) (first old new : Logic) (v : View) (acts : List Act) (took gave : List (List Item)) → port_state old v → CallAllowed call v → ActsAllowed (seen call v) acts → Turned book call old acts new → LinearLaw book first old v took gave
     → LinearLaw book first new (acted_all (seen call v) acts) (histories.brought_by call took) (histories.given_all acts gave)
 law_after book call first old new v acts took gave r h allowed t law = record {
   took_list = law.took_list ++ brought_to 0 call;
@@ -107,7 +107,7 @@ new_ports Closed c k w g x y e r = cc
 at_ports : (m : Machine Stage Tree) (start : Run Stage Tree) (h : Held Stage) (v : View) (x : InView) (y : OutView) → v.ins ≡ x ∷ [] → v.outs ≡ y ∷ [] → Law m start h x y [] [] → Law m start h (in_at v 0) (out_at v 0) [] []
 at_ports m start h v x y a b law = rw (a, b) law
 
-fresh_law : (book : Book) (l : Logic) (v : View) (took gave : List (List Item)) → LinearFresh l v → histories.AllEmpty took → histories.AllEmpty gave → length took ≡ length v.ins → length gave ≡ length v.outs → LinearLaw book l l v took gave
+pub fresh_law : (book : Book) (l : Logic) (v : View) (took gave : List (List Item)) → LinearFresh l v → histories.AllEmpty took → histories.AllEmpty gave → length took ≡ length v.ins → length gave ≡ length v.outs → LinearLaw book l l v took gave
 fresh_law book l v took gave f a b m n =
     let p = fresh_ports (port_state_in l.phase l.course l.pending l.stage.work l.ready) v.ins v.outs took gave f.ports a b m n in
     let s = new_start book l.phase l.course l.pending l.stage f.phase in

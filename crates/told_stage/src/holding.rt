@@ -1,6 +1,5 @@
 ghost use Rattle.std.specs.Prelude.{◌≡◌, [], ◌∷◌, ◌++◌, true, OnOk, IfSome, IfNone, ◌↔◌};
-ghost use Rattle.stage_linear.specs.declared.course.Course.TheVariants as course;
-ghost use Rattle.told_stage.specs.Lifting.{spread_asks, spread_to, leaving_asks, leaving_to, ended_asks, ended_to};
+ghost use Rattle.graph_stage.specs.Lifted.{not_begun, over, may_reply, asked_course, course_behind_end, spread_asks, spread_to, leaving_asks, leaving_to, ended_asks, ended_to};
 
 use elem_core::elem::Elem;
 use elem_core::elems::Elems;
@@ -22,10 +21,10 @@ pub struct Holding {
 impl Model for Holding {
     ghost use Rattle.std.specs.Coded.{codes};
     ghost use Rattle.elem_core.specs.TreeCode.{tree_coded};
+    ghost use Rattle.graph_stage.specs.Lifted.{Telling};
     ghost use Rattle.stage_linear.specs.Pending.{outputs_in};
-    ghost use Rattle.told_stage.specs.Lifting.{Standing};
 
-    ghost Value = { Standing };
+    ghost Value = { Telling };
 
     ghost coded = { Prim.hlevel (codes, tree_coded) };
 
@@ -35,7 +34,7 @@ impl Model for Holding {
 impl Holding {
     /// It holds nothing, and nobody asks it. It takes no memory.
     pub fn new() -> Holding
-        ensures { result ≡ record { pending = []; course = course.Idles } }
+        ensures { result ≡ not_begun }
     {
         Holding {
             pending: None,
@@ -50,11 +49,49 @@ impl Holding {
         self.course
     }
 
+    /// Whether its logic may be called.
+    pub fn may_reply(&self) -> bool
+        ensures { result ≡ may_reply self.now.course }
+    {
+        match self.course {
+            Course::Waits | Course::Idles | Course::Closes => true,
+            Course::Leaves | Course::Ends => false,
+        }
+    }
+
     /// From now on it does this next.
     pub fn turn_to(&mut self, course: Course)
         ensures { self.new ≡ record self.old { course = course } }
     {
         self.course = course;
+    }
+
+    /// Its output was asked, and it holds nothing: it waits for its input.
+    pub fn wait(&mut self)
+        ensures { self.new ≡ record self.old { course = asked_course self.old.course } }
+    {
+        if self.may_reply() {
+            self.course = Course::Waits;
+        }
+    }
+
+    /// Its input has ended, and it still holds something.
+    pub fn end(&mut self)
+        ensures { self.new ≡ record self.old { course = course_behind_end self.old.course } }
+    {
+        self.course = if self.may_reply() {
+            Course::Closes
+        } else {
+            Course::Ends
+        };
+    }
+
+    /// It is done, and drops what it holds. It takes no memory.
+    pub fn stop(&mut self)
+        ensures { self.new ≡ over }
+    {
+        self.pending = None;
+        self.course = Course::Ends;
     }
 
     /// Whether it holds nothing.
@@ -140,6 +177,7 @@ impl Holding {
         let course = self.course;
         self.course = Course::Ends;
         if outputs.is_empty() {
+            self.pending = None;
             return asks.add(Ask::Finish);
         }
         if let Course::Waits = course {

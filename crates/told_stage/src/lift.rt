@@ -1,6 +1,7 @@
-ghost use Rattle.std.specs.Prelude.{◌≡◌, ◌≢◌, ◌++◌, [], OnOk};
+ghost use Rattle.std.specs.Prelude.{◌≡◌, ◌≢◌, ◌++◌, [], ⊤, OnOk};
 ghost use Rattle.stage_linear.specs.declared.course.Course.TheVariants as course;
-ghost use Rattle.told_stage.specs.Lifting.{Lifts, closing_asks, closing_to, behind_last_asks, behind_last_to};
+ghost use Rattle.graph_stage.specs.Lifted.{not_begun, closing_asks, closing_to, behind_last_asks, behind_last_to};
+ghost use Rattle.graph_stage.specs.Told.{list_of, typed_gives};
 
 use crate::holding::Holding;
 use elem_core::elem::Elem;
@@ -33,7 +34,7 @@ impl<L: Logic> Lift<L> {
     pub fn of(input: ElemType, logic: L) -> Lift<L>
         ensures input { result.input ≡ input }
         ensures logic { result.logic ≡ logic }
-        ensures held { result.held ≡ record { pending = []; course = course.Idles } }
+        ensures held { result.held ≡ not_begun }
     {
         Lift {
             input,
@@ -52,7 +53,10 @@ impl<L: Logic> Lift<L> {
         let mut outputs = Elems::new(alloc);
         match self.logic.on_end(alloc, &mut outputs) {
             Verdict::Go | Verdict::Finish => self.held.end_with(outputs, asks),
-            Verdict::Fail(n) => asks.add(Ask::Fail(n)),
+            Verdict::Fail(n) => {
+                self.held.stop();
+                asks.add(Ask::Fail(n))
+            }
             Verdict::NoMemory => Err(AllocError),
         }
     }
@@ -74,7 +78,9 @@ impl<L: Logic> Lift<L> {
 }
 
 impl<L: Logic> Handlers for Lift<L> {
-    ghost does = { λ old heard asks new. Lifts (L.gives old.logic) old.input old.held heard.call asks (L.gives new.logic) new.input new.held };
+    ghost does = { λ old heard asks new. ⊤ };
+
+    ghost tells = { λ l. list_of (typed_gives l.input (L.gives l.logic)) l.held };
 
     fn start(&mut self, _alloc: Global, _sight: &Sight, _asks: &mut Asks) -> Result<(), NoMemory> {
         Ok(())
@@ -88,14 +94,18 @@ impl<L: Logic> Handlers for Lift<L> {
         _sight: &Sight,
         asks: &mut Asks,
     ) -> Result<(), NoMemory> {
-        if !is_of_type(&e, &self.input) {
+        if !self.held.may_reply() || !is_of_type(&e, &self.input) {
+            self.held.stop();
             return asks.add(Ask::Fail(0));
         }
         let mut outputs = self.held.take_all(alloc);
         match self.logic.on_elem(alloc, e, &mut outputs) {
             Verdict::Go => self.held.spread(outputs, asks),
             Verdict::Finish => self.held.leave(outputs, asks),
-            Verdict::Fail(n) => asks.add(Ask::Fail(n)),
+            Verdict::Fail(n) => {
+                self.held.stop();
+                asks.add(Ask::Fail(n))
+            }
             Verdict::NoMemory => Err(AllocError),
         }
     }
@@ -109,7 +119,7 @@ impl<L: Logic> Handlers for Lift<L> {
         asks: &mut Asks,
     ) -> Result<(), NoMemory> {
         let Some(first) = self.held.next() else {
-            self.held.turn_to(Course::Waits);
+            self.held.wait();
             return asks.add(Ask::Pull(0));
         };
         asks.add(Ask::Push(0, first))?;
@@ -126,14 +136,15 @@ impl<L: Logic> Handlers for Lift<L> {
         _sight: &Sight,
         asks: &mut Asks,
     ) -> Result<(), NoMemory> {
-        if self.held.is_empty() {
+        if !self.held.is_empty() {
+            self.held.end();
+            return Ok(());
+        }
+        if self.held.may_reply() {
             return self.close_input(alloc, asks);
         }
-        self.held.turn_to(match self.held.course() {
-            Course::Leaves | Course::Ends => Course::Ends,
-            _ => Course::Closes,
-        });
-        Ok(())
+        self.held.stop();
+        asks.add(Ask::Finish)
     }
 
     // One that is done still gives what it holds.

@@ -2,4 +2,5 @@
 #![tactic(auto)]
 
 pub mod holding;
+pub mod laws;
 pub mod lift;

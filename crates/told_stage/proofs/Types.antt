@@ -1,0 +1,34 @@
+-- What a lifted plug gives, by the types of what comes.
+use Rattle.std.specs.Prelude.{◌&&◌}
+use Rattle.std.proofs.Common.{◌≡◌, Bool, true, false, List, refl, ap, ◌∙◌}
+use Rattle.elem_core.specs.Sort.{Sort}
+use Rattle.elem_core.specs.Tree.{Tree}
+use Rattle.elem_core.specs.Typed.{is_of}
+use Rattle.stream_model.specs.Linear.{Reply}
+use Rattle.plug_logic.specs.Gives.{Gives}
+use Rattle.graph_stage.specs.Told.{AllOfType, GivesTyped, all_of, reply_if, typed_gives}
+use Rattle.told_stage.specs.Lifts.{TurnsInto}
+
+both : (a b : Bool) → (a && b) ≡ true → (a ≡ true) × (b ≡ true)
+both true b h = (refl, h)
+both false b h = cc
+
+together : (a b : Bool) → a ≡ true → b ≡ true → (a && b) ≡ true
+together true b i j = j
+together false b i j = cc
+
+reply_by : (to : Sort) (b : Bool) (r : Reply) → (b ≡ true → AllOfType to r.gave) → AllOfType to (reply_if b r).gave
+reply_by to true r h = h refl
+reply_by to false r h = tt
+
+pub typed : (from to : Sort) (p : Gives) → TurnsInto from to p → GivesTyped (typed_gives from p) to
+typed from to p h = record {
+  reply = λ took t. reply_by to (all_of from took && is_of from t) (p.reply took t) (λ e. let k = both (all_of from took) (is_of from t) e in h.reply took t k.0 k.1);
+  closing = λ took. reply_by to (all_of from took) (p.closing took) (λ e. h.closing took e);
+}
+
+pub same_reply : (from : Sort) (p : Gives) (took : List Tree) (t : Tree) → all_of from took ≡ true → is_of from t ≡ true → (typed_gives from p).reply took t ≡ p.reply took t
+same_reply from p took t i j = ap (λ (b : Bool). reply_if b (p.reply took t)) (together (all_of from took) (is_of from t) i j)
+
+pub same_closing : (from : Sort) (p : Gives) (took : List Tree) → all_of from took ≡ true → (typed_gives from p).closing took ≡ p.closing took
+same_closing from p took i = ap (λ (b : Bool). reply_if b (p.closing took)) i

@@ -65,7 +65,7 @@ pub enum Work<S: Source, D: Drain, L: Logic, H: Handlers, B: PlugBook> {
     /// A stage with so many outputs.
     FanOut(OutLogic, u32),
     /// A stage that the caller hands in, with so many inputs and so many outputs.
-    Custom(CustomStage<H>, u32, u32),
+    Custom(CustomStage<H, B>, u32, u32),
     /// A sink of this kind, with the drain of its file, if it has one.
     Writing(Kind, Option<D>),
     /// The stage at which the lane that is this wire comes in; the number of its node is not used.

@@ -233,22 +233,28 @@ logic_send H p =
     struct_send (declared.shape t) (
       search plain_rules depth 60 fits 20000,
       (
-        search (type_knot.crosses, plain_rules) depth 60 fits 20000,
+        search plain_rules depth 60 fits 20000,
         (
-          p,
+          search (type_knot.crosses, plain_rules) depth 60 fits 20000,
           (
-            search (sight.the_send, plain_rules) depth 60 fits 20000,
-            (search plain_rules depth 60 fits 20000, (asks_send, (search plain_rules depth 60 fits 20000, (search plain_rules depth 60 fits 20000, tt)))),
+            p,
+            (
+              search (sight.the_send, plain_rules) depth 60 fits 20000,
+              (
+                search plain_rules depth 60 fits 20000,
+                (search plain_rules depth 60 fits 20000, (asks_send, (search plain_rules depth 60 fits 20000, (search plain_rules depth 60 fits 20000, tt)))),
+              ),
+            ),
           ),
         ),
       ),
     )
 
-custom_send : (H : RattleType) (h : handlers.Ghosts H.Denot) → IsSend (param 3 H) → IsSend (custom.the_row (param 3 H) h)
-custom_send H h p =
-    let t = custom_inside.the_type (param 3 H) h in
-    view_send (custom_inside.the_row (param 3 H) h) _ _ _ _
-    (recorded_send (declared.field t).row _ _ t.to_one (struct_send (declared.shape t) (logic_send H p, tt)))
+custom_send : (H B : RattleType) (h : handlers.Ghosts H.Denot) (b : plug_book.Ghosts B.Denot) → IsSend (param 3 H) → IsSend (param 4 B) → IsSend (custom.the_row (param 3 H) (param 4 B) h b)
+custom_send H B h b p q =
+    let t = custom_inside.the_type (param 3 H) (param 4 B) h b in
+    view_send (custom_inside.the_row (param 3 H) (param 4 B) h b) _ _ _ _
+    (recorded_send (declared.field t).row _ _ t.to_one (struct_send (declared.shape t) (logic_send H p, (search plain_rules depth 60 fits 20000, (search (q, plain_rules) depth 60 fits 20000, tt)))))
 
 node_send : (S D L H B : RattleType) (s : source.Ghosts S.Denot) (d : drain.Ghosts D.Denot) (l : logic.Ghosts L.Denot) (h : handlers.Ghosts H.Denot) (b : plug_book.Ghosts B.Denot) → IsSend (param 0 S) → IsSend (param 1 D) → IsSend (param 2 L) → IsSend (param 3 H) → IsSend (param 4 B) → IsSend (node.the_row (param 0 S) (param 1 D) (param 2 L) (param 3 H) (param 4 B) s d l h b)
 node_send S D L H B s d l h b p q u x v =
@@ -260,7 +266,7 @@ node_send S D L H B s d l h b p q u x v =
         (maker_send, tt),
         (
           (linear_send L B l b u v, tt),
-          ((state_send, tt), ((sub_send, tt), ((in_send, tt), ((out_send, tt), ((custom_send H h x, tt), ((writing_send D d q, tt), ((ignorer_send, tt), ((entering_send, tt), ((leaving_send, tt), tt))))))))),
+          ((state_send, tt), ((sub_send, tt), ((in_send, tt), ((out_send, tt), ((custom_send H B h b x v, tt), ((writing_send D d q, tt), ((ignorer_send, tt), ((entering_send, tt), ((leaving_send, tt), tt))))))))),
         ),
       ),
     ))

@@ -54,7 +54,7 @@ pub enum IslandNode<S: Source, D: Drain, L: Logic, H: Handlers, B: PlugBook> {
     /// A stage with several outputs.
     FanOut(OutLogic),
     /// A stage that the caller hands in and that calls its ports itself.
-    Custom(CustomStage<H>),
+    Custom(CustomStage<H, B>),
     /// A sink that writes elements into a file.
     Writing(FileSink<D>),
     /// A sink that keeps nothing.

@@ -1,5 +1,5 @@
 -- What a node of any kind gives of its law for a picture. A kind more is one line more.
-use Rattle.std.proofs.Common.{◌≡◌, ◌∙◌, ℕ, false, List, Option, None, Some, map, refl, sym, ap, subst}
+use Rattle.std.proofs.Common.{◌≡◌, ◌∙◌, ℕ, List, Option, None, Some, map, refl, sym, ap, subst}
 use Rattle.port_core.specs.View.{View}
 use Rattle.stream_io.specs.State.{SourceState, DrainState}
 use Rattle.stream_model.specs.declared.kind.Kind.{Kind}
@@ -37,7 +37,7 @@ use Rattle.run_laws.proofs.SubRows.{sub_picture}
 use Rattle.run_laws.proofs.LedSubs.{some_followed, subs_picture}
 use Rattle.run_laws.proofs.PictureStages.{sink_ports, ignore_ports}
 
-module _ {S D L H B : Type 0} (sources : S → SourceState) (drains : D → DrainState) (g : Graph) (w : World) (plans : Plans) (k : ℕ) (n : graph.Node) (untold : (name : List ℕ) → n.kind ≡ kind.Custom name → w.customs.tells name ≡ false) where
+module _ {S D L H B : Type 0} (sources : S → SourceState) (drains : D → DrainState) (g : Graph) (w : World) (plans : Plans) (k : ℕ) (n : graph.Node) where
   abbrev Own : IslandNode S D L H B → IslandNode S D L H B → List InPort → List OutPort → Type 0
   Own first x is os = PictureLaws node_port_state (node_law sources drains w.book) node_asking node_moves sink_ended g w k n first x is os
 
@@ -76,7 +76,7 @@ module _ {S D L H B : Type 0} (sources : S → SourceState) (drains : D → Drai
   node_picture (Sub first) (Sub x) is os same f t r law = subs_by_plan first x is os first.left refl same f t r law
   node_picture (FanIn first) (FanIn x) is os same f t r law = fan_in_picture sources drains g w plans k n first x is os (in_by_plan g w plans k n first x is os f.begins t same r law)
   node_picture (FanOut first) (FanOut x) is os same f t r law = fan_out_picture sources drains g w plans k n first x is os (out_by_plan g w plans k n first x is os f.begins t same r law)
-  node_picture (Custom first) (Custom x) is os same f t r law = own (Custom first) (Custom x) is os same (custom_picture S D L H B sources drains g w k n untold first x is os f)
+  node_picture (Custom first) (Custom x) is os same f t r law = own (Custom first) (Custom x) is os same (custom_picture S D L H B sources drains g w k n first x is os f law)
   node_picture (Writing first) (Writing x) is os same f t r law =
       own (Writing first) (Writing x) is os same (sink_picture L H B sources drains g w k n (Writing first) (Writing x) (writes_of n.kind ≡ First) (sink_port_state_in x.started x.end) is os (file_sink_rows g w n.kind f.is_sink) r (sink_ports x.started x.end)
       (λ i ii oo s m is_first. first_wants L H B sources drains g w k n first x i (f.writes ∙ is_first) s m))

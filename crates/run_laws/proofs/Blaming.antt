@@ -20,7 +20,7 @@ use Rattle.stream_model.specs.Blame.{HasCause, IsCustomWhy, ComesIn, GivenLeads}
 use Rattle.stream_model.specs.Composed.{inputs_of, count_from, ports_of, composed, IsRanked}
 use Rattle.stream_model.specs.Graph.{Graph, Edge}
 use Rattle.stream_model.specs.Graph as graph
-use Rattle.stream_model.specs.Linear.{Book, CustomBook}
+use Rattle.stream_model.specs.Linear.{Book}
 use Rattle.stream_model.specs.Listed.{tells_none}
 use Rattle.stream_model.specs.Node.{World}
 use Rattle.stream_model.specs.Outlook.{Outlook, Entry, End, unended, ended, failed, Agrees, Allows}
@@ -121,14 +121,14 @@ law_named {S} {D} {L} {H} {B} sources drains book chains k n first now v took ga
     other (Leaving f) m l = absurd m
     other f m l = absurd l
 
-untold_named : (c : CustomBook) (k : Kind) → tells_none c k ≡ true → (name : List ℕ) × (k ≡ kind.Custom name)
+untold_named : (c : Book) (k : Kind) → tells_none c k ≡ true → (name : List ℕ) × (k ≡ kind.Custom name)
 untold_named c (kind.Custom name) e = (name, refl)
 untold_named c _ e = absurd cc
 
 module _ {S D L H B : Type 0} (sources : S → SourceState) (drains : D → DrainState) (g : Graph) (w : World) (a : Account (IslandNode S D L H B)) (run : IsRun sources drains w.book g a) (tells : TellsCustoms g w a) where
   -- what the world says of the output of a custom stage from which a wire leads is what was sent there
   module _ (u : ℕ) (v : Edge) (n : graph.Node) (name : List ℕ) (ui : slice_get g.wires u ≡ Some v) (ni : slice_get g.nodes v.from ≡ Some n) (is : n.kind ≡ kind.Custom name) where
-    there : (first : CustomState) × ((now : CustomState) × ((a.firsts v.from ≡ Some (Custom first)) × ((a.nodes v.from ≡ Some (Custom now)) × CustomLaw first now (knows g a v.from n) (took g a v.from n) (gave g a v.from n))))
+    there : (first : CustomState) × ((now : CustomState) × ((a.firsts v.from ≡ Some (Custom first)) × ((a.nodes v.from ≡ Some (Custom now)) × CustomLaw w.book first now (knows g a v.from n) (took g a v.from n) (gave g a v.from n))))
     there = custom_there sources drains w.book g a run v.from n name ni is
 
     made : FirstCustom v.from n there.0
@@ -145,11 +145,11 @@ module _ {S D L H B : Type 0} (sources : S → SourceState) (drains : D → Drai
         let within : v.output < outputs_of n = rw same at s.2 in
         read_there g sent_of a.near v.from 0 (outputs_of n) v.output u within (rw none s.3)
 
-    pub custom_gives : w.given v.from v.output ≡ passed_so (a.near u).wire.sent
-    custom_gives =
+    pub custom_gives : tells_none w.book n.kind ≡ true → w.given v.from v.output ≡ passed_so (a.near u).wire.sent
+    custom_gives untold =
         let is_given = gave_is g w v.from n there.0 there.1.0 (knows g a v.from n) (took g a v.from n) (gave g a v.from n) made told_it there.1.1.1.1 in
         let is_node = node_is g w v.from n there.0 there.1.0 (knows g a v.from n) (took g a v.from n) (gave g a v.from n) made told_it there.1.1.1.1 in
-        ap (λ (m : ℕ). w.given m v.output) (sym is_node) ∙ told_it.given v.output (a.near u).wire.sent (ap (λ (z : List (List Item)). slice_get z v.output) (sym is_given) ∙ sent_port)
+        ap (λ (m : ℕ). w.given m v.output) (sym is_node) ∙ told_it.given untold v.output (a.near u).wire.sent (ap (λ (z : List (List Item)). slice_get z v.output) (sym is_given) ∙ sent_port)
 
 -- a world that tells of a run tells what the custom stages gave
 pub files_customs : {S D L H B : Type 0} (sources : S → SourceState) (drains : D → DrainState) (g : Graph) (w : World) (a : Account (IslandNode S D L H B)) → IsRun sources drains w.book g a → WorldTells sources g w a → TellsCustoms g w a
@@ -163,7 +163,7 @@ files_customs sources drains g w a run tells k n now ni at =
 module _ {S D L H B : Type 0} (sources : S → SourceState) (drains : D → DrainState) (g : Graph) (w : World) (a : Account (IslandNode S D L H B)) (run : IsRun sources drains w.book g a) (tells : WorldTells sources g w a) (rank : ℕ → ℕ) (ranked : IsRanked g rank) where
   pub customs_lead : GivenLeads g w
   customs_lead u v n c ui ni untold has =
-      let named = untold_named w.customs n.kind untold in
+      let named = untold_named w.book n.kind untold in
       let name = named.0 in
       let customs = files_customs sources drains g w a run tells in
       let it = there sources drains g w a run customs u v n name ui ni named.1 in
@@ -172,7 +172,7 @@ module _ {S D L H B : Type 0} (sources : S → SourceState) (drains : D → Drai
       let law = it.1.1.1.1 in
       let begun : FirstCustom v.from n first = run.made v.from n (Custom first) ni it.1.1.0 in
       let port = sent_port sources drains g w a run customs u v n name ui ni named.1 in
-      let outlook = custom_gives sources drains g w a run customs u v n name ui ni named.1 in
+      let outlook = custom_gives sources drains g w a run customs u v n name ui ni named.1 untold in
       let sent : HasFailed c (a.near u).wire.sent = passed_failed c (a.near u).wire.sent (subst (λ (o : Outlook). HasCause c o.fails) outlook has) in
       elim (failures_lead first now (knows g a v.from n) (took g a v.from n) (gave g a v.from n) law c (at_failed c (gave g a v.from n) v.output (a.near u).wire.sent port sent)) as (λ _. ((c.stage ≡ v.from) × IsCustomWhy c.why) ⊎ ComesIn g w v.from c) [
         | inl own ↦ inl (own.0 ∙ begun.node, own.1)

@@ -42,6 +42,7 @@ pub mod Stages
 pub mod States
 pub mod Writings
 pub mod Makings
+pub mod ToldCustoms
 pub mod Customs
 pub mod AnyKind
 pub mod ServingNodes

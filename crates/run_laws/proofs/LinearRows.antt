@@ -1,4 +1,4 @@
--- What a linear stage gives of its law for a picture.
+-- What a linear stage gives of its law for a picture, and any node that is one.
 use Rattle.std.proofs.Common.{◌≡◌, ◌⊎◌, inl, inr, ℕ, ◌-◌, ◌<◌, ◌≤◌, Bool, true, Some, if◌then◌else◌, List, [], ◌∷◌, length, take, map, refl, sym, ap, ◌∙◌, subst, arith}
 use Rattle.elem_core.specs.declared.item.Item.{Item}
 use Rattle.port_core.specs.View.{View, in_at, out_at}
@@ -61,11 +61,11 @@ waits_busy l x y (free xi yo) e = cc
 waits_busy l x y (over xi yo) e = let no : InClosed Pulled = subst InClosed e xi in absurd no
 
 -- a linear stage as it stood when it last asked at its input
-record Moment (book : Book) (k : ℕ) (n : graph.Node) (first : Logic) (v : View) (took gave : List (List Item)) : Type 0 where
-  asked : out_at v 0 ≡ Available
-  waited : (t g : List Item) → took ≡ t ∷ [] → gave ≡ g ∷ [] → Waited (linear book first.stage.work) (begin_work k n.decider first.stage.work) t g
+pub record Moment (book : Book) (k : ℕ) (n : graph.Node) (first : Logic) (v : View) (took gave : List (List Item)) : Type 0 where
+  pub asked : out_at v 0 ≡ Available
+  pub waited : (t g : List Item) → took ≡ t ∷ [] → gave ≡ g ∷ [] → Waited (linear book first.stage.work) (begin_work k n.decider first.stage.work) t g
 
-moment_of : (book : Book) (k : ℕ) (n : graph.Node) (first l : Logic) (v : View) (took gave : List (List Item)) → FirstLinear k n first → LinearPortState l v → LinearLaw book first l v took gave → in_at v 0 ≡ Pulled → Moment book k n first v took gave
+pub moment_of : (book : Book) (k : ℕ) (n : graph.Node) (first l : Logic) (v : View) (took gave : List (List Item)) → FirstLinear k n first → LinearPortState l v → LinearLaw book first l v took gave → in_at v 0 ≡ Pulled → Moment book k n first v took gave
 moment_of book k n first l v took gave f r law waits =
     let o = one_views (port_state_in l.phase l.course l.pending l.stage.work l.ready) v r.ports in
     let s = waits_busy l o.x o.y (linear_ports l.phase l.course l.pending l.stage.work l.ready o.x o.y r.started o.holds) (sym o.inp ∙ waits) in
@@ -74,16 +74,14 @@ moment_of book k n first l v took gave f r law waits =
       waited = λ t g ti gi. linear_waited book k n.kind n.decider first l v took gave t g f.begins law s.0 s.1.1.0 s.1.1.1 waits (o.out ∙ s.1.0) ti gi;
     }
 
-module _ {S D : Type 0} (L H B : Type 0) (sources : S → SourceState) (drains : D → DrainState) (g : Graph) (w : World) (k : ℕ) (n : graph.Node) where
-  -- by its kind, which stays the same
-  moment_by : (first : Logic) (x : IslandNode S D L H B) (v : View) (took gave : List (List Item)) → FirstLinear k n first → node_port_state x v → node_law sources drains w.book (Linear first) x v took gave → in_at v 0 ≡ Pulled → Moment w.book k n first v took gave
-  moment_by first (Linear l) v took gave f r law waits = moment_of w.book k n first l v took gave f r law waits
-  moment_by first x v took gave f r law waits = absurd law
+-- a node that is such a stage, by what it tells of the moment at which it last asked
+module _ {N : Type 0} (state_of : N → View → Type 0) (law_of : N → N → View → List (List Item) → List (List Item) → Type 0) (asking : N → View → Type 0) (moves : N → List ℕ) (ended : N → Bool)
+    (g : Graph) (w : World) (k : ℕ) (n : graph.Node) (start now : N) (first x : Logic) (f : FirstLinear k n first)
+    (moment : (y : N) (v : View) (took gave : List (List Item)) → state_of y v → law_of start y v took gave → in_at v 0 ≡ Pulled → Moment w.book k n first v took gave) where
+  abbrev Laws : List InPort → List OutPort → Type 0
+  Laws is os = PictureLaws state_of law_of asking moves ended g w k n start now is os
 
-  abbrev Laws : IslandNode S D L H B → IslandNode S D L H B → List InPort → List OutPort → Type 0
-  Laws first x is os = PictureLaws node_port_state (node_law sources drains w.book) node_asking node_moves sink_ended g w k n first x is os
-
-  module _ (first x : Logic) (i : InPort) (o : OutPort) (f : FirstLinear k n first) (r : LinearPortState x (record { ins = i.view ∷ []; outs = o.view ∷ [] }))
+  module _ (i : InPort) (o : OutPort) (r : LinearPortState x (record { ins = i.view ∷ []; outs = o.view ∷ [] }))
       (law : LinearLaw w.book first x (record { ins = i.view ∷ []; outs = o.view ∷ [] }) (i.got ∷ []) (o.sent ∷ [])) where
     machine : IsOneMachine n.kind first.stage.work
     machine = linear_machine n.kind first.stage.work f.is_linear f.begins.work
@@ -92,12 +90,12 @@ module _ {S D : Type 0} (L H B : Type 0) (sources : S → SourceState) (drains :
     at = law_at (linear w.book first.stage.work) law.start _ (held w.book x) _ i.view _ o.view _ law.took_list i.got law.gave_list o.sent
         (same_start _ _ (sym law.owes ∙ f.begins.owes w.book)) refl refl refl (one_same _ _ (sym law.took_is)) (one_same _ _ (sym law.gave_is)) law.law
 
-    asked_then : InStands i → OutStands o → Moments {N = IslandNode S D L H B} node_port_state (node_law sources drains w.book) node_asking node_moves (Linear first) (Linear x) (i ∷ []) (o ∷ []) 0 → 1 ≤ demand i.wire
+    asked_then : InStands i → OutStands o → Moments state_of law_of asking moves start now (i ∷ []) (o ∷ []) 0 → 1 ≤ demand i.wire
         → (is_going (run (linear w.book first.stage.work) (begin_work k n.decider first.stage.work) (take (demand i.wire - 1) i.wire.list)).state ≡ true)
         × (length (run (linear w.book first.stage.work) (begin_work k n.decider first.stage.work) (take (demand i.wire - 1) i.wire.list)).gave < wanted o.wire)
     asked_then si so m some =
         let e = m.0 in
-        let t = moment_by first e.old e.knew e.had e.given f e.port_state_held e.law_held e.waited in
+        let t = moment e.old e.knew e.had e.given e.port_state_held e.law_held e.waited in
         let b = began e.had i.got i.want e.took_on e.one_more in
         let q = given_one e.given o.sent o.want e.gave_on (e.wants 0 t.asked) in
         stage_asked (linear w.book first.stage.work) (begin_work k n.decider first.stage.work) i o si so at.in_list at.in_end at.took_is b.part q.0 (t.waited b.part q.0 b.is q.1.0) b.begins b.one_more q.1.1.1 some
@@ -114,7 +112,7 @@ module _ {S D : Type 0} (L H B : Type 0) (sources : S → SourceState) (drains :
         inr (machine.rests g w k n.decider (i.wire ∷ []) (o.wire ∷ []) (inr (inr (holds_first w.book n.kind first.stage.work f.is_linear f.begins.work same, ro.unasked yo, ri.shut (subst InClosed (sym xi) tt)))))
     still si so ri ro (over xi yo) = inl ((ri.shut xi, tt), (ro.shut yo, tt))
 
-    one_picture : Laws (Linear first) (Linear x) (i ∷ []) (o ∷ [])
+    one_picture : Laws (i ∷ []) (o ∷ [])
     one_picture = record {
       lawful = λ si so m. machine.lawful g w k n.decider (i.wire ∷ []) (o.wire ∷ []) (
         stage_given (linear w.book first.stage.work) (begin_work k n.decider first.stage.work) (held w.book x) i o at si.0 so.0,
@@ -124,10 +122,23 @@ module _ {S D : Type 0} (L H B : Type 0) (sources : S → SourceState) (drains :
       matches = λ sink ri. absurd (not_both machine.no_sink sink);
     }
 
+  pub staged_picture : (is : List InPort) (os : List OutPort) → LinearPortState x (record { ins = map (λ (i : InPort). i.view) is; outs = map (λ (o : OutPort). o.view) os })
+      → LinearLaw w.book first x (record { ins = map (λ (i : InPort). i.view) is; outs = map (λ (o : OutPort). o.view) os }) (map (λ (i : InPort). i.got) is) (map (λ (o : OutPort). o.sent) os) → Laws is os
+  staged_picture (i ∷ []) (o ∷ []) r law = one_picture i o r law
+  staged_picture [] os r law = absurd r.ports
+  staged_picture (i ∷ []) [] r law = absurd r.ports
+  staged_picture (i ∷ []) (o ∷ p ∷ os) r law = absurd r.ports
+  staged_picture (i ∷ j ∷ is) os r law = absurd r.ports
+
+module _ {S D : Type 0} (L H B : Type 0) (sources : S → SourceState) (drains : D → DrainState) (g : Graph) (w : World) (k : ℕ) (n : graph.Node) where
+  -- by its kind, which stays the same
+  moment_by : (first : Logic) (x : IslandNode S D L H B) (v : View) (took gave : List (List Item)) → FirstLinear k n first → node_port_state x v → node_law sources drains w.book (Linear first) x v took gave → in_at v 0 ≡ Pulled → Moment w.book k n first v took gave
+  moment_by first (Linear l) v took gave f r law waits = moment_of w.book k n first l v took gave f r law waits
+  moment_by first x v took gave f r law waits = absurd law
+
   pub linear_picture : (first x : Logic) (is : List InPort) (os : List OutPort) → FirstLinear k n first → LinearPortState x (record { ins = map (λ (i : InPort). i.view) is; outs = map (λ (o : OutPort). o.view) os })
-      → LinearLaw w.book first x (record { ins = map (λ (i : InPort). i.view) is; outs = map (λ (o : OutPort). o.view) os }) (map (λ (i : InPort). i.got) is) (map (λ (o : OutPort). o.sent) os) → Laws (Linear first) (Linear x) is os
-  linear_picture first x (i ∷ []) (o ∷ []) f r law = one_picture first x i o f r law
-  linear_picture first x [] os f r law = absurd r.ports
-  linear_picture first x (i ∷ []) [] f r law = absurd r.ports
-  linear_picture first x (i ∷ []) (o ∷ p ∷ os) f r law = absurd r.ports
-  linear_picture first x (i ∷ j ∷ is) os f r law = absurd r.ports
+      → LinearLaw w.book first x (record { ins = map (λ (i : InPort). i.view) is; outs = map (λ (o : OutPort). o.view) os }) (map (λ (i : InPort). i.got) is) (map (λ (o : OutPort). o.sent) os)
+      → PictureLaws {N = IslandNode S D L H B} node_port_state (node_law sources drains w.book) node_asking node_moves sink_ended g w k n (Linear first) (Linear x) is os
+  linear_picture first x is os f r law =
+      staged_picture {N = IslandNode S D L H B} node_port_state (node_law sources drains w.book) node_asking node_moves sink_ended g w k n (Linear first) (Linear x) first x f
+      (λ y v took gave h l waits. moment_by first y v took gave f h l waits) is os r law

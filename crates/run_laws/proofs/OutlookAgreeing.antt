@@ -1,11 +1,12 @@
 -- What was sent on every wire of a run agrees with the outlook of that wire, and so does what every node took.
-use Rattle.std.proofs.Common.{◌≡◌, ◌≢◌, ℕ, ◌<◌, true, List, length, refl, ap, ◌∙◌}
+use Rattle.std.proofs.Common.{◌≡◌, ◌≢◌, ℕ, ◌<◌, Bool, true, false, List, length, refl, ap, ◌∙◌}
 use Rattle.std.specs.Prelude.{slice_get, Some}
 use Rattle.stream_model.specs.Graph.{Graph, Edge}
 use Rattle.stream_model.specs.Outlook.{Outlook}
 use Rattle.stream_model.specs.declared.kind.Kind.TheVariants as kind
 use Rattle.stream_model.specs.Fits.{moves_fit, inputs}
 use Rattle.stream_model.specs.Graph as graph
+use Rattle.stream_model.specs.Listed.{tells_none}
 use Rattle.stream_model.specs.Node.{World}
 use Rattle.stream_model.specs.Composed.{inputs_of, count_from, ports_of, next, composed, IsRanked}
 use Rattle.graph_stage.specs.State.{CustomState}
@@ -41,12 +42,15 @@ module _ {S D L H B : Type 0} (sources : S → SourceState) (drains : D → Drai
   every_move_fits = all_fit node_port_state (node_law sources drains w.book) node_asking node_moves (FirstOf sources g.chains) (λ v k n first now. TellsNode sources v n first now × TellsMoves v k now) g w
       (λ k n first now v took gave made each many law. node_laws sources drains g w k n first now v took gave made each many law) a run.joined run.keeps run.made told rank ranked
 
--- what the world tells of a node that is no source of lines and no custom stage
-neither : {S D L H B : Type 0} (sources : S → SourceState) (chains : List graph.Chain) (w : World) (k : ℕ) (n : graph.Node) (first now : IslandNode S D L H B) → ((name : List ℕ) → n.kind ≢ kind.Lines name) → ((name : List ℕ) → n.kind ≢ kind.Custom name)
-    → FirstOf sources chains k n first → TellsNode sources w n first now
-neither sources chains w k n (Reading first) (Reading now) other hired made = λ name is. absurd (other name is)
-neither sources chains w k n (Custom first) (Custom now) other hired made = absurd (hired made.name made.kind_is)
-neither sources chains w k n _ _ other hired made = tt
+told_not : (b : Bool) → b ≡ false → b ≡ true → ⊥
+told_not b e f = cc
+
+-- what the world tells of a node that is no source of lines and no custom stage that tells no list
+neither : {S D L H B : Type 0} (sources : S → SourceState) (w : World) (n : graph.Node) (first now : IslandNode S D L H B) → ((name : List ℕ) → n.kind ≢ kind.Lines name) → tells_none w.book n.kind ≡ false
+    → TellsNode sources w n first now
+neither sources w n (Reading first) (Reading now) other tells = λ name is. absurd (other name is)
+neither sources w n (Custom first) (Custom now) other tells = record { given = λ untold. absurd (told_not (tells_none w.book n.kind) tells untold) }
+neither sources w n _ _ other tells = tt
 
 -- what it tells of one that is no source of lines, where it tells what a custom stage gave
 no_lines : {S D L H B : Type 0} (sources : S → SourceState) (w : World) (n : graph.Node) (first now : IslandNode S D L H B) → ((name : List ℕ) → n.kind ≢ kind.Lines name) → ((x : CustomState) → now ≡ Custom x → TellsGave w n x)
@@ -65,10 +69,10 @@ module _ {S D L H B : Type 0} (sources : S → SourceState) (drains : D → Drai
       (λ k m first now view took gave made told many law. node_laws sources drains g w k m first now view took gave made told many law) a run.joined run.keeps run.made sent j v n vi ni
       (λ first now fi xi. (tells first now fi xi, chose v.from now xi)) b
 
-  -- from a node that is no source of lines and no custom stage
-  pub given_of : (sent : ℕ → Outlook) (j : ℕ) (v : Edge) (n : graph.Node) → slice_get g.wires j ≡ Some v → slice_get g.nodes v.from ≡ Some n → ((name : List ℕ) → n.kind ≢ kind.Lines name) → ((name : List ℕ) → n.kind ≢ kind.Custom name)
+  -- from a node that is no source of lines and no custom stage that tells no list
+  pub given_of : (sent : ℕ → Outlook) (j : ℕ) (v : Edge) (n : graph.Node) → slice_get g.wires j ≡ Some v → slice_get g.nodes v.from ≡ Some n → ((name : List ℕ) → n.kind ≢ kind.Lines name) → tells_none w.book n.kind ≡ false
       → ((u : ℕ) (x : Edge) → slice_get g.wires u ≡ Some x → x.to ≡ v.from → AgreesWith (sent u) (a.near u).wire.sent) → AgreesWith (next g w sent j) (a.near j).wire.sent
-  given_of sent j v n vi ni other hired b = given_where sent j v n vi ni (λ first now fi xi. neither sources g.chains w v.from n first now other hired (run.made v.from n first ni fi)) b
+  given_of sent j v n vi ni other tells b = given_where sent j v n vi ni (λ first now fi xi. neither sources w n first now other tells) b
 
   -- from one that is no source of lines, where the world tells what custom stages gave
   pub given_told : TellsCustoms g w a → (sent : ℕ → Outlook) (j : ℕ) (v : Edge) (n : graph.Node) → slice_get g.wires j ≡ Some v → slice_get g.nodes v.from ≡ Some n → ((name : List ℕ) → n.kind ≢ kind.Lines name)

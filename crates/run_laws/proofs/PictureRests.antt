@@ -1,5 +1,5 @@
 -- The picture of a run: it is lawful at every moment, and where no event is left it rests and its sinks match.
-use Rattle.std.proofs.Common.{◌≡◌, ℕ, ◌<◌, ◌≤◌, List, None, refl, ap, arith}
+use Rattle.std.proofs.Common.{◌≡◌, ℕ, ◌<◌, ◌≤◌, List, None, ap, arith}
 use Rattle.std.specs.Prelude.{slice_get, Option, Some}
 use Rattle.stream_io.specs.State.{SourceState, DrainState}
 use Rattle.stream_model.specs.Composed.{composed, count_from, inputs_of, ports_of, IsRanked}
@@ -21,7 +21,7 @@ use Rattle.run_laws.specs.Replayed.{Plans, RestsBy, IsLawfulBy, FitsBy}
 use Rattle.run_laws.proofs.Drawing.{first_sent, all_lawful, all_rest, all_match}
 use Rattle.run_laws.specs.Made.{FirstOf}
 use Rattle.run_laws.specs.Runs.{IsRun}
-use Rattle.run_laws.specs.Telling.{AreSettled, FollowsPlans, TellsMoves, TellsPicks, TellsNoList, WorldTells, chosen_world}
+use Rattle.run_laws.specs.Telling.{AreSettled, FollowsPlans, TellsMoves, TellsPicks, WorldTells, chosen_world}
 use Rattle.nodes.specs.Nodes.{node_plan}
 use Rattle.run_laws.proofs.OutlookAgreeing.{every_wire_of, every_move_fits, came_of}
 use Rattle.run_laws.proofs.Choosing.{chosen_told}
@@ -46,26 +46,26 @@ module _ {S D L H B : Type 0} (sources : S → SourceState) (drains : D → Drai
   fits plans follows settled rank tells ranked =
       all_fit_by g w plans (took_at g a) (shown sources drains g w a run plans follows tells.picks settled) (every_move_fits sources drains g w a run tells rank ranked) (few_came sources drains g w a run tells rank ranked)
 
-  module _ (plans : Plans) (follows : FollowsPlans plans a) (chose : TellsPicks w a) (untold : TellsNoList g w) (outlook : ℕ → Outlook) where
+  module _ (plans : Plans) (follows : FollowsPlans plans a) (chose : TellsPicks w a) (outlook : ℕ → Outlook) where
     pub lawful : AreSettled g a → AllPass a g outlook → IsLawfulBy g w plans (picture_counts a g) outlook
     lawful settled passes =
-        all_lawful node_port_state (node_law sources drains w.book) node_asking node_moves sink_ended (FirstOf sources g.chains) (λ k x. TellsMoves w k x) g w plans a run.joined run.keeps run.made chose hears (λ k n first now is os there at. node_picture sources drains g w plans k n (λ name kind. untold k n name there kind) first now is os (follows k first at)) outlook passes orders
+        all_lawful node_port_state (node_law sources drains w.book) node_asking node_moves sink_ended (FirstOf sources g.chains) (λ k x. TellsMoves w k x) g w plans a run.joined run.keeps run.made chose hears (λ k n first now is os there at. node_picture sources drains g w plans k n first now is os (follows k first at)) outlook passes orders
       where
         -- the trip took no more elements than were sent to it
         orders : (k : ℕ) (n : graph.Node) (v : List ℕ × ℕ) → slice_get g.nodes k ≡ Some n → plans k ≡ None → valve_order n.kind (w.moves k) ≡ Some v
             → (trip : ℕ) × (t : graph.Node) × (slice_get g.nodes trip ≡ Some t) × CanTrip v.0 v.1 t.kind (sent_in (ins g (picture_counts a g) outlook trip t))
         orders k n v e free order =
             let t = given_there g w plans (took_at g a) (shown sources drains g w a run plans follows chose settled) k n v e free order in
-            let sent = first_sent node_port_state (node_law sources drains w.book) node_asking node_moves sink_ended (FirstOf sources g.chains) (λ k x. TellsMoves w k x) g w plans a run.joined run.keeps run.made chose hears (λ k n first now is os there at. node_picture sources drains g w plans k n (λ name kind. untold k n name there kind) first now is os (follows k first at)) outlook passes t.0 t.1.0 t.1.1.0 in
+            let sent = first_sent node_port_state (node_law sources drains w.book) node_asking node_moves sink_ended (FirstOf sources g.chains) (λ k x. TellsMoves w k x) g w plans a run.joined run.keeps run.made chose hears (λ k n first now is os there at. node_picture sources drains g w plans k n first now is os (follows k first at)) outlook passes t.0 t.1.0 t.1.1.0 in
             let same = took_there g a t.0 t.1.0 t.1.1.0 in
             let few : took_at g a t.0 ≤ sent_in (ins g (picture_counts a g) outlook t.0 t.1.0) = omega (arith, sent, same) in
             (t.0, t.1.0, t.1.1.0, can_still v.0 v.1 t.1.0.kind (took_at g a t.0) (sent_in (ins g (picture_counts a g) outlook t.0 t.1.0)) few t.1.1.1)
 
     pub rests : IsStill g a → AllAgreeWith a g outlook → RestsBy g w plans (picture_counts a g) outlook
-    rests still agree = all_rest node_port_state (node_law sources drains w.book) node_asking node_moves sink_ended (FirstOf sources g.chains) (λ k x. TellsMoves w k x) g w plans a run.joined run.keeps run.made chose hears (λ k n first now is os there at. node_picture sources drains g w plans k n (λ name kind. untold k n name there kind) first now is os (follows k first at)) outlook still (λ u h. agrees_passes (outlook u) (a.near u).wire.sent (agree u h)) (came_of sources drains g w a run chose outlook agree)
+    rests still agree = all_rest node_port_state (node_law sources drains w.book) node_asking node_moves sink_ended (FirstOf sources g.chains) (λ k x. TellsMoves w k x) g w plans a run.joined run.keeps run.made chose hears (λ k n first now is os there at. node_picture sources drains g w plans k n first now is os (follows k first at)) outlook still (λ u h. agrees_passes (outlook u) (a.near u).wire.sent (agree u h)) (came_of sources drains g w a run chose outlook agree)
 
     pub matches_by : IsStill g a → SinksMatch g w (picture_counts a g) outlook (λ k. ended_there (a.nodes k))
-    matches_by still = all_match node_port_state (node_law sources drains w.book) node_asking node_moves sink_ended (FirstOf sources g.chains) (λ k x. TellsMoves w k x) g w plans a run.joined run.keeps run.made chose hears (λ k n first now is os there at. node_picture sources drains g w plans k n (λ name kind. untold k n name there kind) first now is os (follows k first at)) outlook still (λ k. ended_there (a.nodes k)) (λ k x e. ap ended_there e)
+    matches_by still = all_match node_port_state (node_law sources drains w.book) node_asking node_moves sink_ended (FirstOf sources g.chains) (λ k x. TellsMoves w k x) g w plans a run.joined run.keeps run.made chose hears (λ k n first now is os there at. node_picture sources drains g w plans k n first now is os (follows k first at)) outlook still (λ k. ended_there (a.nodes k)) (λ k x e. ap ended_there e)
 
 -- what a node follows, where there is one
 abbrev plan_of : {S D L H B : Type 0} → Option (IslandNode S D L H B) → Option (List ℕ)
@@ -75,4 +75,4 @@ plan_of (Some x) = node_plan x
 -- how the sinks match has nothing to do with what a world tells
 pub matches : {S D L H B : Type 0} (sources : S → SourceState) (drains : D → DrainState) (book : Book) (g : Graph) (a : Account (IslandNode S D L H B)) → IsRun sources drains book g a → (w : World) (outlook : ℕ → Outlook) → IsStill g a
     → SinksMatch g w (picture_counts a g) outlook (λ k. ended_there (a.nodes k))
-matches sources drains book g a run w outlook still = matches_by sources drains g (chosen_world book w.file a) a run (λ k. plan_of (a.firsts k)) (λ k first at. ap plan_of at) (chosen_told book w.file a) (λ k n name at is. refl) outlook still
+matches sources drains book g a run w outlook still = matches_by sources drains g (chosen_world book w.file a) a run (λ k. plan_of (a.firsts k)) (λ k first at. ap plan_of at) (chosen_told book w.file a) outlook still

@@ -101,10 +101,11 @@ pub record FirstFanOut (k : ℕ) (n : graph.Node) (x : OutLogic) : Type 0 where
   pub is_out : fan_out.IsOut n.kind
   pub begins : fan_out.Begins k n.kind x
 
--- a custom stage that was not started, with the ports that its node has
+-- a custom stage of the name that its node has, which was not started, with the ports of that node
 pub record FirstCustom (k : ℕ) (n : graph.Node) (x : CustomState) : Type 0 where
   pub name : List ℕ
   pub kind_is : n.kind ≡ kind.Custom name
+  pub named : x.name ≡ name
   pub node : x.node ≡ k
   pub fresh : CustomFresh x (unpulled_view n.head.0 n.head.1)
 

@@ -3,12 +3,13 @@
 use Rattle.elem_core.specs.declared.item.Item.{Item}
 use Rattle.graph_stage.specs.State.{CustomState, done_gave}
 use Rattle.run_laws.specs.Items.{passed_so}
-use Rattle.std.specs.Prelude.{◌≡◌, ℕ, false, IsTrue, List, [], replicate, Option, Some, None, slice_get, ⊤}
+use Rattle.std.specs.Prelude.{◌≡◌, ℕ, true, IsTrue, List, [], replicate, Option, Some, None, slice_get, ⊤}
 use Rattle.stage_switch.specs.Public.{SeatState}
 use Rattle.stream_model.specs.declared.kind.Kind.TheVariants as kind
 use Rattle.stream_model.specs.Graph.{Graph}
 use Rattle.stream_model.specs.Graph as graph
-use Rattle.stream_model.specs.Linear.{Book, none_told}
+use Rattle.stream_model.specs.Linear.{Book}
+use Rattle.stream_model.specs.Listed.{tells_none}
 use Rattle.stream_model.specs.Node.{World, nothing}
 use Rattle.stream_model.specs.Sources.{File}
 use Rattle.stream_io.specs.Counts.{Rose}
@@ -49,18 +50,14 @@ ServesPlans {S} {D} {L} {H} {B} g w a = (k : ℕ) (n : graph.Node) (first now : 
 abbrev pub FollowsPlans : {S D L H B : Type 0} → Plans → Account (IslandNode S D L H B) → Type 0
 FollowsPlans {S} {D} {L} {H} {B} plans a = (k : ℕ) (first : IslandNode S D L H B) → a.firsts k ≡ Some first → plans k ≡ node_plan first
 
--- no custom stage of this graph tells a list
-abbrev pub TellsNoList : Graph → World → Type 0
-TellsNoList g w = (k : ℕ) (n : graph.Node) (name : List ℕ) → slice_get g.nodes k ≡ Some n → n.kind ≡ kind.Custom name → w.customs.tells name ≡ false
-
 -- what a custom stage gave, on each output of its node
 abbrev pub given_at : graph.Node → CustomState → List (List Item)
 given_at n now = done_gave now.done (replicate n.head.1 [])
 
--- A custom stage tells no list, and the world tells what it gave.
+-- Choice: docs/DECISIONS.md#told-by-the-law
+-- The world tells what a custom stage gave; of one that tells a list nothing is asked.
 pub record TellsGave (w : World) (n : graph.Node) (now : CustomState) : Type 0 where
-  pub untold : (name : List ℕ) → n.kind ≡ kind.Custom name → w.customs.tells name ≡ false
-  pub given : (p : ℕ) (h : List Item) → slice_get (given_at n now) p ≡ Some h → w.given now.node p ≡ passed_so h
+  pub given : tells_none w.book n.kind ≡ true → (p : ℕ) (h : List Item) → slice_get (given_at n now) p ≡ Some h → w.given now.node p ≡ passed_so h
 
 -- it tells so of every custom stage
 abbrev pub TellsCustoms : {S D L H B : Type 0} → Graph → World → Account (IslandNode S D L H B) → Type 0
@@ -82,7 +79,7 @@ AreSettled g a = AllSettled (kinds_of g) (λ k. seat_at (a.nodes k))
 
 -- the world with these plugs and files in which each node has made the moves of the account's
 abbrev pub chosen_world : {S D L H B : Type 0} → Book → (List ℕ → File) → Account (IslandNode S D L H B) → World
-chosen_world book file a = record { book = book; customs = none_told book; file = file; moves = λ k. moves_at (a.nodes k); given = λ k p. nothing }
+chosen_world book file a = record { book = book; file = file; moves = λ k. moves_at (a.nodes k); given = λ k p. nothing }
 
 module _ {S D L H B : Type 0} (sources : S → SourceState) where
   -- a source's file, by its name, and what a custom stage gave

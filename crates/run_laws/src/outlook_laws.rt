@@ -1,13 +1,14 @@
 // Laws of a run: each function has no body, and its contract is the law. They speak of what a run leaves of its blueprint's
 // nodes and wires, at any moment from its start to its end. The plugs of the run give what a book lists of their names: where a law
 // speaks of a world, what the book of that world lists, and else what `B` lists.
-ghost use Rattle.std.specs.Prelude.{◌≡◌, ◌≢◌, ◌<◌, ◌≤◌, ℕ, List, [], map, length, None, Some, slice_get};
+ghost use Rattle.std.specs.Prelude.{◌≡◌, ◌≢◌, ◌<◌, ◌≤◌, ℕ, false, List, [], map, length, None, Some, slice_get};
 ghost use Rattle.port_core.specs.Cell.{WireState};
 ghost use Rattle.elem_core.specs.Items.{elements};
 ghost use Rattle.stream_model.specs.Blame.{GivenLeads};
 ghost use Rattle.stream_model.specs.Composed.{next, composed, sink_outlook, IsRanked};
 ghost use Rattle.stream_model.specs.Graph as graph;
 ghost use Rattle.stream_model.specs.Graph.{Graph, Edge};
+ghost use Rattle.stream_model.specs.Listed.{tells_none};
 ghost use Rattle.stream_model.specs.Node.{World};
 ghost use Rattle.stream_model.specs.Outlook.{Outlook};
 ghost use Rattle.stream_model.specs.Sources.{whole_lines};
@@ -163,8 +164,9 @@ pub fn every_source_reads_little_ahead<S: Source, D: Drain, L: Logic, H: Handler
 {}
 
 /// Whatever a folder tells of its files, a source of lines sent texts (`lines`), a custom stage sent a list and then an end or none
-/// (`customs`) of elements of the types of its outputs (`typed`), and what any other node sent on a wire agrees with what it gives of all outlooks with which what was sent on the
-/// wires into it agrees, where the world tells what the stages chose (`others`).
+/// (`customs`) of elements of the types of its outputs (`typed`), and what any other node sent on a wire, also a custom stage that tells
+/// a list, agrees with what it gives of all outlooks with which what was sent on the wires into it agrees, where the world tells what the
+/// stages chose (`others`).
 pub fn every_node_gives_of_what_came<S: Source, D: Drain, L: Logic, H: Handlers, B: PlugBook>()
     ensures lines { (g : Graph) (a : Account (IslandNode S D L H B)) → IsRun S.state D.state B.lists g a
         → (u : ℕ) (v : Edge) (n : graph.Node) (name : List ℕ) → slice_get g.wires u ≡ Some v → slice_get g.nodes v.from ≡ Some n → n.kind ≡ kind.Lines name
@@ -177,7 +179,7 @@ pub fn every_node_gives_of_what_came<S: Source, D: Drain, L: Logic, H: Handlers,
         → (first : CustomState) → a.firsts v.from ≡ Some (Custom first) → ItemsTyped (slice_get first.types v.output) (a.near u).wire.sent }
     ensures others { (g : Graph) (w : World) (a : Account (IslandNode S D L H B)) → IsRun S.state D.state w.book g a → TellsPicks w a
         → (sent : ℕ → Outlook) (j : ℕ) (v : Edge) (n : graph.Node) → slice_get g.wires j ≡ Some v → slice_get g.nodes v.from ≡ Some n
-        → ((name : List ℕ) → n.kind ≢ kind.Lines name) → ((name : List ℕ) → n.kind ≢ kind.Custom name)
+        → ((name : List ℕ) → n.kind ≢ kind.Lines name) → tells_none w.book n.kind ≡ false
         → ((u : ℕ) (x : Edge) → slice_get g.wires u ≡ Some x → x.to ≡ v.from → AgreesWith (sent u) (a.near u).wire.sent)
         → AgreesWith (next g w sent j) (a.near j).wire.sent }
 {}

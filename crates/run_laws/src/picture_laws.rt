@@ -14,7 +14,7 @@ ghost use Rattle.run_laws.specs.Items.{AgreesWith, WithinOutlook};
 ghost use Rattle.run_laws.specs.Pictures.{picture_counts, AllAgreeWith, AllPass};
 ghost use Rattle.run_laws.specs.Replayed.{Plans, RestsBy, IsLawfulBy, FitsBy};
 ghost use Rattle.run_laws.specs.Runs.{IsRun};
-ghost use Rattle.run_laws.specs.Telling.{AreSettled, FollowsPlans, TellsPicks, TellsNoList, WorldTells};
+ghost use Rattle.run_laws.specs.Telling.{AreSettled, FollowsPlans, TellsPicks, WorldTells};
 ghost use Rattle.run_laws.specs.Picture.{ended_there};
 
 use graph_stage::handlers::Handlers;
@@ -31,12 +31,10 @@ pub fn what_agrees_passes()
 /// The picture of a graph is lawful: no node gave more than it may, and each asks only while it goes on and where what it was
 /// sent gives less than is wanted of it; and where the seats of its switches were settled, each order by which a valve acted that
 /// follows no moves was given by a trip. So it is by any outlooks of whose lists the wires carried first parts (`any`), and by the
-/// composed outlooks (`composed`), where the world tells what the stages chose, no custom stage tells a
-/// list, and these are the plans of its nodes.
+/// composed outlooks (`composed`), where the world tells what the stages chose, and these are the plans of its nodes.
 pub fn every_picture_is_lawful<S: Source, D: Drain, L: Logic, H: Handlers, B: PlugBook>()
     ensures any { (g : Graph) (w : World) (plans : Plans) (a : Account (IslandNode S D L H B)) (outlook : ℕ → Outlook) → IsRun S.state D.state w.book g a
-        → AreSettled g a → TellsPicks w a → TellsNoList g w → FollowsPlans plans a
-        → AllPass a g outlook → IsLawfulBy g w plans (picture_counts a g) outlook }
+        → AreSettled g a → TellsPicks w a → FollowsPlans plans a → AllPass a g outlook → IsLawfulBy g w plans (picture_counts a g) outlook }
     ensures composed { (g : Graph) (w : World) (plans : Plans) (rank : ℕ → ℕ) (a : Account (IslandNode S D L H B)) → IsRun S.state D.state w.book g a
         → AreSettled g a → WorldTells S.state g w a → FollowsPlans plans a → IsRanked g rank
         → IsLawfulBy g w plans (picture_counts a g) (composed g w) }
@@ -44,12 +42,10 @@ pub fn every_picture_is_lawful<S: Source, D: Drain, L: Logic, H: Handlers, B: Pl
 
 /// Where no event is left, the picture of a graph rests: each node has all its wires shut, or has nothing to do, or follows moves and cannot
 /// make the next of them. So it is by any outlooks with which what the wires carried agrees (`any`), and by the composed outlooks
-/// (`composed`), where no custom
-/// stage tells a list. A sink's input is shut exactly where the sink has ended (`sinks`).
+/// (`composed`). A sink's input is shut exactly where the sink has ended (`sinks`).
 pub fn a_picture_without_events_rests<S: Source, D: Drain, L: Logic, H: Handlers, B: PlugBook>()
     ensures any { (g : Graph) (w : World) (plans : Plans) (a : Account (IslandNode S D L H B)) (outlook : ℕ → Outlook) → IsRun S.state D.state w.book g a
-        → IsStill g a → TellsPicks w a → TellsNoList g w → FollowsPlans plans a
-        → AllAgreeWith a g outlook → RestsBy g w plans (picture_counts a g) outlook }
+        → IsStill g a → TellsPicks w a → FollowsPlans plans a → AllAgreeWith a g outlook → RestsBy g w plans (picture_counts a g) outlook }
     ensures composed { (g : Graph) (w : World) (plans : Plans) (rank : ℕ → ℕ) (a : Account (IslandNode S D L H B)) → IsRun S.state D.state w.book g a
         → IsStill g a → WorldTells S.state g w a → FollowsPlans plans a → IsRanked g rank
         → RestsBy g w plans (picture_counts a g) (composed g w) }

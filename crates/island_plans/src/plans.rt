@@ -6,7 +6,7 @@ ghost use Rattle.materializer.specs.Fit.{CanRun};
 ghost use Rattle.materializer.specs.Files.{inputs_of_nodes, outputs_of_nodes};
 ghost use Rattle.materializer.specs.Seats.{place_plan, place_types};
 ghost use Rattle.island_plans.specs.Plans.{IsPlans, IsFilled, led_plans, made_types};
-ghost use Rattle.materializer.specs.HandedCustoms.{handed_heads, HasGuests, types_by_heads};
+ghost use Rattle.materializer.specs.HandedCustoms.{handed_heads, HasGuests, TellsAsListed, types_by_heads};
 ghost use Rattle.materializer.specs.HandedPlugs.{GivesAsListed};
 
 use crate::ends::end_homes;
@@ -114,6 +114,7 @@ pub fn plans_of<S: Source, D: Drain, L: Logic, H: Handlers, B: PlugBook>(
     requires runs { CanRun b }
     requires has { HasGuests (handed_heads plugs.items customs.items) b.wires.items b.nodes.items }
     requires listed { All (GivesAsListed L.gives B.lists) plugs.items }
+    requires customs { All (TellsAsListed H.tells B.lists) customs.items }
     requires follow { PlansFit (map (λ n. n.kind) b.nodes.items) (map moves_of plans.items) }
     ensures blueprint { IfOk result (λ plans. plans.blueprint.value ≡ b) }
     ensures plans { IfOk result IsPlans }

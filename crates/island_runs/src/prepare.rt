@@ -5,7 +5,7 @@ ghost use Rattle.materializer.specs.Choosers.{PlansFit, moves_of};
 ghost use Rattle.materializer.specs.Fit.{CanRun};
 ghost use Rattle.island_plans.specs.Plans.{led_plans, made_types};
 ghost use Rattle.island_runs.specs.Prepared.{IsPrepared};
-ghost use Rattle.materializer.specs.HandedCustoms.{handed_heads, HasGuests, types_by_heads};
+ghost use Rattle.materializer.specs.HandedCustoms.{handed_heads, HasGuests, TellsAsListed, types_by_heads};
 ghost use Rattle.materializer.specs.HandedPlugs.{GivesAsListed};
 
 use crate::begin_laws::filled_islands_are_seated;
@@ -57,6 +57,7 @@ pub fn prepare<S: Source, D: Drain, L: Logic, H: Handlers, B: PlugBook>(
     requires runs { CanRun b }
     requires has { HasGuests (handed_heads plugs.items customs.items) b.wires.items b.nodes.items }
     requires listed { All (GivesAsListed L.gives B.lists) plugs.items }
+    requires customs { All (TellsAsListed H.tells B.lists) customs.items }
     requires follow { PlansFit (map (λ n. n.kind) b.nodes.items) (map moves_of plans.items) }
     ensures blueprint { IfOk result (λ p. p.plans.blueprint.value ≡ b) }
     ensures prepared { IfOk result IsPrepared }

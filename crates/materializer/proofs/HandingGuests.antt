@@ -17,10 +17,11 @@ use Rattle.stream_model.specs.declared.kind.Kind.{Kind}
 use Rattle.blue_names.specs.CustomPorts.{custom_of, custom_named, custom_head, head_fits, named}
 use Rattle.blue_names.specs.Names.{Claim, hires, same_claim, first_again, plug_of}
 use Rattle.graph_stage.specs.declared.custom.Custom.{Custom}
+use Rattle.graph_stage.specs.Told.{ToldList}
 use Rattle.plug_logic.specs.declared.plug.Plug.{Plug}
 use Rattle.plug_logic.specs.Gives.{Gives}
 use Rattle.materializer.specs.HandedPlugs.{GivesAsListed}
-use Rattle.materializer.specs.HandedCustoms.{custom_names, handed_heads, IsHandedCustom, IsHandedGuest, HasGuests, IsGuest, AreGuests, HasPorts, HaveUsedPorts, guest_types, head_types, types_by_heads}
+use Rattle.materializer.specs.HandedCustoms.{custom_names, handed_heads, TellsAsListed, IsHandedCustom, IsHandedGuest, HasGuests, IsGuest, AreGuests, HasPorts, HaveUsedPorts, guest_types, head_types, types_by_heads}
 use Rattle.materializer.specs.Ports.{used_ports}
 use Rattle.materializer.specs.Handing.{names_of, IsHandedPlug}
 use Rattle.materializer.specs.declared.guest.Guest.{Guest}
@@ -34,7 +35,7 @@ same_some : {A : Type 0} (x y : A) → Some y ≡ Some x → x ≡ y
 same_some x y e = cc
 
 -- an element of a list has what all have
-at_all : {X : Type 0} (P : X → Type 0) (xs : List X) (i : ℕ) (x : X) → slice_get xs i ≡ Some x → All P xs → P x
+pub at_all : {X : Type 0} (P : X → Type 0) (xs : List X) (i : ℕ) (x : X) → slice_get xs i ≡ Some x → All P xs → P x
 at_all P xs i x at all = subst P (get_or_from_slice_get xs i x x at) (all i x (slice_get_within xs i x at))
 
 -- what is left behind a removal was there
@@ -98,9 +99,9 @@ still_hold : {H : Type 0} (P : Node → Custom H → Type 0) (old : List (Custom
 still_hold P old at [] all = tt
 still_hold P old at (n ∷ ns) all = ((λ j c there is. let was = still_there old at j c there in all.0 was.0 c was.1 is), still_hold P old at ns all.1)
 
--- its head fits
-abbrev pub Fits : {H : Type 0} → Node → Custom H → Type 0
-Fits n c = head_fits (Some (head_shape c.head)) ≡ true
+-- its head fits, and it tells what the book has of it
+abbrev pub Fits : {H : Type 0} → (H → ToldList) → Book → Node → Custom H → Type 0
+Fits tells book n c = (head_fits (Some (head_shape c.head)) ≡ true) × TellsAsListed tells book c
 
 -- its ports are those that the wires use
 abbrev pub FitsWires : {H : Type 0} → List WireDecl → Node → Custom H → Type 0
@@ -114,11 +115,12 @@ HasHead heads n c = custom_head heads n.kind ≡ Some (head_shape c.head)
 head_of : {L H : Type 0} (plugs : List (Plug L)) (customs : List (Custom H)) (k : Kind) → HaveOwnNames [] customs → (at : ℕ) (c : Custom H) → slice_get customs at ≡ Some c → custom_of k ≡ Some c.head.name → custom_head (handed_heads plugs customs) k ≡ Some (head_shape c.head)
 head_of plugs customs k own at c there is = ap (λ o. option_and_then (custom_named (handed_heads plugs customs)) o) is ∙ own_head [] customs own at c there
 
-all_fit : {L H : Type 0} (plugs : List (Plug L)) (customs : List (Custom H)) (nodes : List Node) → HaveOwnNames [] customs → ((k : ℕ) (n : Node) → slice_get nodes k ≡ Some n → head_fits (custom_head (handed_heads plugs customs) n.kind) ≡ true) → AllHold Fits customs nodes
-all_fit plugs customs [] own fits = tt
-all_fit plugs customs (n ∷ ns) own fits = (
-  (λ at c there is. subst (λ o. head_fits o ≡ true) (head_of plugs customs n.kind own at c there is) (fits 0 n refl)),
-  all_fit plugs customs ns own (λ k m at. fits (suc k) m at),
+all_fit : {L H : Type 0} (tells : H → ToldList) (book : Book) (plugs : List (Plug L)) (customs : List (Custom H)) (nodes : List Node) → HaveOwnNames [] customs → All (TellsAsListed tells book) customs
+    → ((k : ℕ) (n : Node) → slice_get nodes k ≡ Some n → head_fits (custom_head (handed_heads plugs customs) n.kind) ≡ true) → AllHold (Fits tells book) customs nodes
+all_fit tells book plugs customs [] own told fits = tt
+all_fit tells book plugs customs (n ∷ ns) own told fits = (
+  (λ at c there is. (subst (λ o. head_fits o ≡ true) (head_of plugs customs n.kind own at c there is) (fits 0 n refl), at_all (TellsAsListed tells book) customs at c there told)),
+  all_fit tells book plugs customs ns own told (λ k m at. fits (suc k) m at),
 )
 
 all_fit_wires : {L H : Type 0} (plugs : List (Plug L)) (customs : List (Custom H)) (wires : List WireDecl) (nodes : List Node) → HaveOwnNames [] customs
@@ -135,32 +137,36 @@ all_have_heads plugs customs (n ∷ ns) own = ((λ at c there is. head_of plugs 
 
 -- ---- the custom stages that are left
 
--- What is known before these nodes are handed theirs, of the custom stages that are left.
-pub record IsReadyToHire {H : Type 0} (left : List (Custom H)) (nodes : List Node) : Type 0 where
-  pub known : Known custom_of (custom_names left) nodes
-  pub once : AreOnce custom_of nodes
-  pub fit : AllHold Fits left nodes
+module _ {H : Type 0} (tells : H → ToldList) (book : Book) where
+  -- What is known before these nodes are handed theirs, of the custom stages that are left.
+  pub record IsReadyToHire (left : List (Custom H)) (nodes : List Node) : Type 0 where
+    pub known : Known custom_of (custom_names left) nodes
+    pub once : AreOnce custom_of nodes
+    pub fit : AllHold (Fits tells book) left nodes
 
-hire_next_of : {H : Type 0} (o : Option (List ℕ)) (nodes : List Node) (old new : List (Custom H)) (e : Option (Custom H)) → Known custom_of (custom_names old) nodes → IsOnce custom_of o nodes → AreOnce custom_of nodes → AllHold Fits old nodes → IsHandedCustom o old e new → IsReadyToHire new nodes
-hire_next_of None nodes old new e known once others fit h = record {
-  known = subst (λ left. Known custom_of (custom_names left) nodes) (sym h.1) known;
-  once = others;
-  fit = subst (λ left. AllHold Fits left nodes) (sym h.1) fit;
-}
-hire_next_of (Some name) nodes old new e known once others fit h =
-    let t = h.1.1 in record {
-      known = subst (λ left. Known custom_of (custom_names left) nodes) (sym t.left) (still_known (λ (c : Custom _). c.head.name) custom_of name nodes old t.at h.0 t.there t.named once known);
-      once = others;
-      fit = subst (λ left. AllHold Fits left nodes) (sym t.left) (still_hold Fits old t.at nodes fit);
-    }
+  hire_next_of : (o : Option (List ℕ)) (nodes : List Node) (old new : List (Custom H)) (e : Option (Custom H)) → Known custom_of (custom_names old) nodes → IsOnce custom_of o nodes → AreOnce custom_of nodes → AllHold (Fits tells book) old nodes → IsHandedCustom o old e new → IsReadyToHire new nodes
+  hire_next_of None nodes old new e known once others fit h = record {
+    known = subst (λ left. Known custom_of (custom_names left) nodes) (sym h.1) known;
+    once = others;
+    fit = subst (λ left. AllHold (Fits tells book) left nodes) (sym h.1) fit;
+  }
+  hire_next_of (Some name) nodes old new e known once others fit h =
+      let t = h.1.1 in record {
+        known = subst (λ left. Known custom_of (custom_names left) nodes) (sym t.left) (still_known (λ (c : Custom _). c.head.name) custom_of name nodes old t.at h.0 t.there t.named once known);
+        once = others;
+        fit = subst (λ left. AllHold (Fits tells book) left nodes) (sym t.left) (still_hold (Fits tells book) old t.at nodes fit);
+      }
 
-hire_next : {H : Type 0} (n : Node) (nodes : List Node) (old new : List (Custom H)) (e : Option (Custom H)) → IsReadyToHire old (n ∷ nodes) → IsHandedCustom (custom_of n.kind) old e new → IsReadyToHire new nodes
-hire_next n nodes old new e r h = hire_next_of (custom_of n.kind) nodes old new e r.known.1 r.once.0 r.once.1 r.fit.1 h
+  pub hire_next : (n : Node) (nodes : List Node) (old new : List (Custom H)) (e : Option (Custom H)) → IsReadyToHire old (n ∷ nodes) → IsHandedCustom (custom_of n.kind) old e new → IsReadyToHire new nodes
+  hire_next n nodes old new e r h = hire_next_of (custom_of n.kind) nodes old new e r.known.1 r.once.0 r.once.1 r.fit.1 h
 
-hire_none : {H : Type 0} (n : Node) (nodes : List Node) (old new : List (Custom H)) → IsReadyToHire old (n ∷ nodes) → new ≡ old → IsReadyToHire new nodes
-hire_none n nodes old new r h = subst (λ left. IsReadyToHire left nodes) (sym h) (record { known = r.known.1; once = r.once.1; fit = r.fit.1 })
+  pub hire_none : (n : Node) (nodes : List Node) (old new : List (Custom H)) → IsReadyToHire old (n ∷ nodes) → new ≡ old → IsReadyToHire new nodes
+  hire_none n nodes old new r h = subst (λ left. IsReadyToHire left nodes) (sym h) (record { known = r.known.1; once = r.once.1; fit = r.fit.1 })
 
-module _ {L : Type 0} (gives : L → Gives) (book : Book) where
+  pub hire_here : (nodes : List Node) (i : ℕ) (n : Node) (left : List (Custom H)) → i < length nodes → n ≡ get_or nodes i n → IsReadyToHire left (drop i nodes) → IsReadyToHire left (n ∷ drop (i + 1) nodes)
+  hire_here nodes i n left less is r = subst (λ behind. IsReadyToHire left behind) (here nodes i n less is) r
+
+module _ {L H : Type 0} (gives : L → Gives) (tells : H → ToldList) (book : Book) where
   -- ---- the plugs that are left
 
   -- What is known before these nodes are handed theirs, of the plugs that are left.
@@ -187,73 +193,74 @@ module _ {L : Type 0} (gives : L → Gives) (book : Book) where
 
   -- ---- both
 
-  pub ready_first : {H : Type 0} (plugs : List (Plug L)) (customs : List (Custom H)) (wires : List WireDecl) (nodes : List Node) → HasGuests (handed_heads plugs customs) wires nodes → All (GivesAsListed gives book) plugs → IsReady plugs nodes × IsReadyToHire customs nodes
-  ready_first plugs customs wires nodes has keep =
+  pub ready_first : (plugs : List (Plug L)) (customs : List (Custom H)) (wires : List WireDecl) (nodes : List Node) → HasGuests (handed_heads plugs customs) wires nodes → All (GivesAsListed gives book) plugs → All (TellsAsListed tells book) customs → IsReady plugs nodes × IsReadyToHire tells book customs nodes
+  ready_first plugs customs wires nodes has keep told =
       let names = map (λ (h : PlugHead). h.name) (map (λ (p : Plug _). p.head) plugs) in
       let hired = map (λ (s : CustomShape). s.name) (map (λ (c : Custom _). head_shape c.head) customs) in
       let known = known_all names hired 0 nodes (none_both _ _ has.known).1 in
       let apart = none_both _ _ (none_both _ _ has.once).1 in
       let once = once_all nodes apart.1 in (
         record { known = subst (λ l. Known plug_of l nodes) (names_same plugs) known.0; once = once.0; keep = keep },
-        record { known = subst (λ l. Known custom_of l nodes) (custom_names_same customs) known.1; once = once.1; fit = all_fit plugs customs nodes apart.0 has.fits },
+        record { known = subst (λ l. Known custom_of l nodes) (custom_names_same customs) known.1; once = once.1; fit = all_fit tells book plugs customs nodes apart.0 told has.fits },
       )
 
-  pub ready_next : {H : Type 0} (n : Node) (nodes : List Node) (old new : List (Plug L)) (unhired left : List (Custom H)) (e : Option (Guest L H)) → IsReady old (n ∷ nodes) → IsReadyToHire unhired (n ∷ nodes)
-      → IsHandedGuest n.kind old unhired e new left → IsReady new nodes × IsReadyToHire left nodes
-  ready_next n nodes old new unhired left None r s h = (plug_next n nodes old new None r h.0, hire_next n nodes unhired left None s h.1)
-  ready_next n nodes old new unhired left (Some (guest.Plug p)) r s h = (plug_next n nodes old new (Some p) r h.0, hire_none n nodes unhired left s h.1)
-  ready_next n nodes old new unhired left (Some (guest.Custom c)) r s h = (plug_next n nodes old new None r h.0, hire_next n nodes unhired left (Some c) s h.1)
+  pub ready_next : (n : Node) (nodes : List Node) (old new : List (Plug L)) (unhired left : List (Custom H)) (e : Option (Guest L H)) → IsReady old (n ∷ nodes) → IsReadyToHire tells book unhired (n ∷ nodes)
+      → IsHandedGuest n.kind old unhired e new left → IsReady new nodes × IsReadyToHire tells book left nodes
+  ready_next n nodes old new unhired left None r s h = (plug_next n nodes old new None r h.0, hire_next tells book n nodes unhired left None s h.1)
+  ready_next n nodes old new unhired left (Some (guest.Plug p)) r s h = (plug_next n nodes old new (Some p) r h.0, hire_none tells book n nodes unhired left s h.1)
+  ready_next n nodes old new unhired left (Some (guest.Custom c)) r s h = (plug_next n nodes old new None r h.0, hire_next tells book n nodes unhired left (Some c) s h.1)
 
   -- ---- what a node is handed is its own
 
-  none_is : {H : Type 0} (o c : Option (List ℕ)) (old new : List (Plug L)) (unhired left : List (Custom H)) → IsHandedPlug o old None new → IsHandedCustom c unhired None left → IsGuest {L = L} {H = H} gives book o c None
+  none_is : (o c : Option (List ℕ)) (old new : List (Plug L)) (unhired left : List (Custom H)) → IsHandedPlug o old None new → IsHandedCustom c unhired None left → IsGuest gives tells book o c None
   none_is None None old new unhired left h k = refl
   none_is None (Some name) old new unhired left h k = absurd (none_some k.1.0)
   none_is (Some name) c old new unhired left h k = absurd (none_some h.1.0)
 
-  plug_is : (H : Type 0) (o c : Option (List ℕ)) (old new : List (Plug L)) (p : Plug L) → All (GivesAsListed gives book) old → IsHandedPlug o old (Some p) new → IsGuest {L = L} {H = H} gives book o c (Some (guest.Plug p))
-  plug_is H None c old new p keep h = absurd (none_some (sym h.0))
-  plug_is H (Some name) c old new p keep h =
+  plug_is : (o c : Option (List ℕ)) (old new : List (Plug L)) (p : Plug L) → All (GivesAsListed gives book) old → IsHandedPlug o old (Some p) new → IsGuest gives tells book o c (Some (guest.Plug p))
+  plug_is None c old new p keep h = absurd (none_some (sym h.0))
+  plug_is (Some name) c old new p keep h =
       let t = h.1.1 in
       let same : h.0 ≡ p = same_some h.0 p h.1.0 in
       (ap (λ (q : Plug _). q.head.name) (sym same) ∙ t.named, subst (GivesAsListed gives book) same (at_all (GivesAsListed gives book) old t.at h.0 t.there keep))
 
-  custom_is : {H : Type 0} (n : Node) (o c : Option (List ℕ)) (old new : List (Plug L)) (unhired left : List (Custom H)) (d : Custom H) → HoldsAt Fits unhired n c → IsHandedPlug o old None new → IsHandedCustom c unhired (Some d) left → IsGuest {L = L} {H = H} gives book o c (Some (guest.Custom d))
+  custom_is : (n : Node) (o c : Option (List ℕ)) (old new : List (Plug L)) (unhired left : List (Custom H)) (d : Custom H) → HoldsAt (Fits tells book) unhired n c → IsHandedPlug o old None new → IsHandedCustom c unhired (Some d) left → IsGuest gives tells book o c (Some (guest.Custom d))
   custom_is n None None old new unhired left d fit h k = absurd (none_some (sym k.0))
   custom_is n None (Some name) old new unhired left d fit h k =
       let t = k.1.1 in
       let same : k.0 ≡ d = same_some k.0 d k.1.0 in record {
         named = ap (λ (q : Custom _). q.head.name) (sym same) ∙ t.named;
-        fits = subst (λ (q : Custom _). head_fits (Some (head_shape q.head)) ≡ true) same (fit t.at k.0 t.there (ap Some (sym t.named)));
+        fits = subst (λ (q : Custom _). head_fits (Some (head_shape q.head)) ≡ true) same (fit t.at k.0 t.there (ap Some (sym t.named))).0;
+        told = subst (λ (q : Custom _). TellsAsListed tells book q) same (fit t.at k.0 t.there (ap Some (sym t.named))).1;
       }
   custom_is n (Some name) c old new unhired left d fit h k = absurd (none_some h.1.0)
 
-  pub guest_is : {H : Type 0} (n : Node) (nodes : List Node) (old new : List (Plug L)) (unhired left : List (Custom H)) (e : Option (Guest L H)) → IsReady old (n ∷ nodes) → IsReadyToHire unhired (n ∷ nodes)
-      → IsHandedGuest n.kind old unhired e new left → IsGuest gives book (plug_of n.kind) (custom_of n.kind) e
+  pub guest_is : (n : Node) (nodes : List Node) (old new : List (Plug L)) (unhired left : List (Custom H)) (e : Option (Guest L H)) → IsReady old (n ∷ nodes) → IsReadyToHire tells book unhired (n ∷ nodes)
+      → IsHandedGuest n.kind old unhired e new left → IsGuest gives tells book (plug_of n.kind) (custom_of n.kind) e
   guest_is n nodes old new unhired left None r s h = none_is (plug_of n.kind) (custom_of n.kind) old new unhired left h.0 h.1
-  guest_is n nodes old new unhired left (Some (guest.Plug p)) r s h = plug_is _ (plug_of n.kind) (custom_of n.kind) old new p r.keep h.0
+  guest_is n nodes old new unhired left (Some (guest.Plug p)) r s h = plug_is (plug_of n.kind) (custom_of n.kind) old new p r.keep h.0
   guest_is n nodes old new unhired left (Some (guest.Custom c)) r s h = custom_is n (plug_of n.kind) (custom_of n.kind) old new unhired left c s.fit.0 h.0 h.1
 
   -- ---- all of them
 
   -- those that were handed theirs, with the nodes behind them, are all
-  abbrev pub Completes : {H : Type 0} → List Node → List Node → List (Option (Guest L H)) → Type 0
-  Completes {H} nodes behind handed = (later : List (Option (Guest L H))) → AreGuests gives book (map (λ n. n.kind) behind) later → AreGuests gives book (map (λ n. n.kind) nodes) (handed ++ later)
+  abbrev pub Completes : List Node → List Node → List (Option (Guest L H)) → Type 0
+  Completes nodes behind handed = (later : List (Option (Guest L H))) → AreGuests gives tells book (map (λ n. n.kind) behind) later → AreGuests gives tells book (map (λ n. n.kind) nodes) (handed ++ later)
 
-  pub completes_next : {H : Type 0} (nodes : List Node) (n : Node) (behind : List Node) (old new : List (Option (Guest L H))) (e : Option (Guest L H)) → Completes nodes (n ∷ behind) old → IsGuest gives book (plug_of n.kind) (custom_of n.kind) e → new ≡ old ++ e ∷ [] → Completes nodes behind new
-  completes_next nodes n behind old new e c is more later h = subst (λ (l : List (Option (Guest L _))). AreGuests gives book (map (λ (m : Node). m.kind) nodes) l) (sym (append_assoc old (e ∷ []) later) ∙ ap (λ (l : List (Option (Guest L _))). l ++ later) (sym more)) (c (e ∷ later) (is, h))
+  pub completes_next : (nodes : List Node) (n : Node) (behind : List Node) (old new : List (Option (Guest L H))) (e : Option (Guest L H)) → Completes nodes (n ∷ behind) old → IsGuest gives tells book (plug_of n.kind) (custom_of n.kind) e → new ≡ old ++ e ∷ [] → Completes nodes behind new
+  completes_next nodes n behind old new e c is more later h = subst (λ (l : List (Option (Guest L _))). AreGuests gives tells book (map (λ (m : Node). m.kind) nodes) l) (sym (append_assoc old (e ∷ []) later) ∙ ap (λ (l : List (Option (Guest L _))). l ++ later) (sym more)) (c (e ∷ later) (is, h))
 
-  pub completes_first : {H : Type 0} (nodes : List Node) (none : List (Option (Guest L H))) → none ≡ [] → Completes nodes nodes none
-  completes_first nodes none is later h = subst (λ (l : List (Option (Guest L _))). AreGuests gives book (map (λ (m : Node). m.kind) nodes) (l ++ later)) (sym is) h
+  pub completes_first : (nodes : List Node) (none : List (Option (Guest L H))) → none ≡ [] → Completes nodes nodes none
+  completes_first nodes none is later h = subst (λ (l : List (Option (Guest L _))). AreGuests gives tells book (map (λ (m : Node). m.kind) nodes) (l ++ later)) (sym is) h
 
-  pub completes_last : {H : Type 0} (nodes behind : List Node) (handed : List (Option (Guest L H))) → Completes nodes behind handed → behind ≡ [] → AreGuests gives book (map (λ n. n.kind) nodes) handed
-  completes_last {H} nodes behind handed c is = subst (λ (l : List (Option (Guest L _))). AreGuests gives book (map (λ (m : Node). m.kind) nodes) l) (append-nil handed) (c [] (subst (λ (l : List Node). AreGuests {L = L} {H = H} gives book (map (λ (m : Node). m.kind) l) []) (sym is) tt))
+  pub completes_last : (nodes behind : List Node) (handed : List (Option (Guest L H))) → Completes nodes behind handed → behind ≡ [] → AreGuests gives tells book (map (λ n. n.kind) nodes) handed
+  completes_last nodes behind handed c is = subst (λ (l : List (Option (Guest L _))). AreGuests gives tells book (map (λ (m : Node). m.kind) nodes) l) (append-nil handed) (c [] (subst (λ (l : List Node). AreGuests gives tells book (map (λ (m : Node). m.kind) l) []) (sym is) tt))
 
   -- at the node of this place
   pub ready_here : (nodes : List Node) (i : ℕ) (n : Node) (left : List (Plug L)) → i < length nodes → n ≡ get_or nodes i n → IsReady left (drop i nodes) → IsReady left (n ∷ drop (i + 1) nodes)
   ready_here nodes i n left less is r = subst (λ behind. IsReady left behind) (here nodes i n less is) r
 
-  pub completes_here : {H : Type 0} (nodes : List Node) (i : ℕ) (n : Node) (handed : List (Option (Guest L H))) → i < length nodes → n ≡ get_or nodes i n → Completes nodes (drop i nodes) handed → Completes nodes (n ∷ drop (i + 1) nodes) handed
+  pub completes_here : (nodes : List Node) (i : ℕ) (n : Node) (handed : List (Option (Guest L H))) → i < length nodes → n ≡ get_or nodes i n → Completes nodes (drop i nodes) handed → Completes nodes (n ∷ drop (i + 1) nodes) handed
   completes_here nodes i n handed less is c = subst (λ behind. Completes nodes behind handed) (here nodes i n less is) c
 
 -- ---- the ports of those that are handed out
@@ -306,9 +313,6 @@ ports_none wires nodes none is later h = subst (λ (l : List (Option (Guest _ _)
 
 pub ports_last : {L H : Type 0} (wires : List WireDecl) (nodes behind : List Node) (handed : List (Option (Guest L H))) → CompletesPorts wires nodes behind handed → behind ≡ [] → HaveUsedPorts wires nodes handed
 ports_last {L} {H} wires nodes behind handed c is = subst (λ (l : List (Option (Guest L H))). HaveUsedPorts wires nodes l) (append-nil handed) (c [] (subst (λ (l : List Node). HaveUsedPorts {L = L} {H = H} wires l []) (sym is) tt))
-
-pub hire_here : {H : Type 0} (nodes : List Node) (i : ℕ) (n : Node) (left : List (Custom H)) → i < length nodes → n ≡ get_or nodes i n → IsReadyToHire left (drop i nodes) → IsReadyToHire left (n ∷ drop (i + 1) nodes)
-hire_here nodes i n left less is r = subst (λ behind. IsReadyToHire left behind) (here nodes i n less is) r
 
 -- ---- the types of those that are handed out
 

@@ -57,6 +57,7 @@ module _ {S D L H B : Type 0} (sources : S → SourceState) where
       subst (λ z. FirstOf sources around.chains k (graph_node around.wires n) z) (sym b) (record {
         name = is.0.is_custom.0;
         kind_is = is.0.is_custom.1;
+        named = is.0.named;
         node = is.0.node_is;
         fresh = subst (λ (u : ℕ × ℕ). CustomFresh y (unpulled_view u.0 u.1)) (sym is.1) is.0.fresh;
       })

@@ -1,11 +1,11 @@
 -- The plugs and the custom stages that a caller hands in, and what each node is handed of them.
-use Rattle.std.specs.Prelude.{◌≡◌, ℕ, true, false, List, [], ◌∷◌, map, length, slice_get, Option, Some, None, ⊤}
+use Rattle.std.specs.Prelude.{◌≡◌, ℕ, true, List, [], ◌∷◌, map, length, slice_get, Option, Some, None, ⊤}
 use Rattle.std.specs.List.{remove}
 use Rattle.std.specs.Option.{option_map}
 use Rattle.elem_core.specs.Sort.{Sort}
 use Rattle.elem_core.specs.Values.{same_text}
 use Rattle.stream_model.specs.Known.{CustomShape, head_shape, HeadLists}
-use Rattle.stream_model.specs.Linear.{Book, CustomBook}
+use Rattle.stream_model.specs.Linear.{Book}
 use Rattle.stream_model.specs.declared.blueprint.ChainDecl.{ChainDecl}
 use Rattle.stream_model.specs.declared.blueprint.Node.{Node}
 use Rattle.stream_model.specs.declared.blueprint.WireDecl.{WireDecl}
@@ -14,6 +14,7 @@ use Rattle.blue_names.specs.CustomPorts.{custom_of, custom_head, head_fits}
 use Rattle.blue_names.specs.First.{first_from, when}
 use Rattle.blue_names.specs.Names.{plug_of, unknown_guest, guest_twice}
 use Rattle.graph_stage.specs.declared.custom.Custom.{Custom}
+use Rattle.graph_stage.specs.Told.{ToldList, HandedAs}
 use Rattle.plug_logic.specs.declared.plug.Plug.{Plug}
 use Rattle.plug_logic.specs.Gives.{Gives}
 use Rattle.materializer.specs.HandedPlugs.{GivesAsListed}
@@ -63,24 +64,30 @@ pub record HasGuests (heads : HeadLists) (wires : List WireDecl) (nodes : List N
   pub ports : (k : ℕ) (n : Node) (h : CustomShape) → slice_get nodes k ≡ Some n → custom_head heads n.kind ≡ Some h
       → used_ports wires n.name ≡ (length h.inputs, length h.outputs)
 
--- a custom stage of that name, whose head has at most eight inputs and outputs, and a port
-pub record IsHired {H : Type 0} (name : List ℕ) (c : Custom H) : Type 0 where
+-- where the book has a list of a custom stage's name, it tells that list, of the type of its one output
+abbrev pub TellsAsListed : {H : Type 0} → (H → ToldList) → Book → Custom H → Type 0
+TellsAsListed tells book c = HandedAs (book.tells c.head.name) book c.head.name c.head.inputs.items c.head.outputs.items (tells c.stage)
+
+-- a custom stage of that name, whose head has at most eight inputs and outputs, and a port, and which tells what the book lists of it
+pub record IsHired {H : Type 0} (tells : H → ToldList) (book : Book) (name : List ℕ) (c : Custom H) : Type 0 where
   pub named : c.head.name ≡ name
   pub fits : head_fits (Some (head_shape c.head)) ≡ true
+  pub told : TellsAsListed tells book c
 
--- a node that names a plug, or else a custom stage, is handed one of that name, and any other none; a plug gives what the book lists of it
-abbrev pub IsGuest : {L H : Type 0} → (L → Gives) → Book → Option (List ℕ) → Option (List ℕ) → Option (Guest L H) → Type 0
-IsGuest gives book None None e = e ≡ None
-IsGuest gives book None (Some name) (Some (guest.Custom c)) = IsHired name c
-IsGuest gives book None (Some name) _ = ⊥
-IsGuest gives book (Some name) custom (Some (guest.Plug p)) = (p.head.name ≡ name) × GivesAsListed gives book p
-IsGuest gives book (Some name) custom _ = ⊥
+-- A node that names a plug, or else a custom stage, is handed one of that name, and any other none. A plug gives what the book lists of
+-- it, and a custom stage tells that, where the book lists anything of it.
+abbrev pub IsGuest : {L H : Type 0} → (L → Gives) → (H → ToldList) → Book → Option (List ℕ) → Option (List ℕ) → Option (Guest L H) → Type 0
+IsGuest gives tells book None None e = e ≡ None
+IsGuest gives tells book None (Some name) (Some (guest.Custom c)) = IsHired tells book name c
+IsGuest gives tells book None (Some name) _ = ⊥
+IsGuest gives tells book (Some name) custom (Some (guest.Plug p)) = (p.head.name ≡ name) × GivesAsListed gives book p
+IsGuest gives tells book (Some name) custom _ = ⊥
 
 -- nodes of these kinds are handed these, each its own
-abbrev pub AreGuests : {L H : Type 0} → (L → Gives) → Book → List Kind → List (Option (Guest L H)) → Type 0
-AreGuests gives book [] [] = ⊤
-AreGuests gives book (kind ∷ kinds) (e ∷ ends) = IsGuest gives book (plug_of kind) (custom_of kind) e × AreGuests gives book kinds ends
-AreGuests gives book _ _ = ⊥
+abbrev pub AreGuests : {L H : Type 0} → (L → Gives) → (H → ToldList) → Book → List Kind → List (Option (Guest L H)) → Type 0
+AreGuests gives tells book [] [] = ⊤
+AreGuests gives tells book (kind ∷ kinds) (e ∷ ends) = IsGuest gives tells book (plug_of kind) (custom_of kind) e × AreGuests gives tells book kinds ends
+AreGuests gives tells book _ _ = ⊥
 
 -- a custom stage that is handed has so many inputs and outputs
 abbrev pub HasPorts : {L H : Type 0} → ℕ × ℕ → Option (Guest L H) → Type 0
@@ -105,8 +112,3 @@ head_types heads k = option_map (λ (h : CustomShape). h.outputs) (custom_head h
 -- those of each of these nodes
 abbrev pub types_by_heads : HeadLists → List Node → List (Option (List Sort))
 types_by_heads heads nodes = map (λ (n : Node). head_types heads n.kind) nodes
-
--- Choice: docs/DECISIONS.md#customs-tell-none
--- a custom stage of this name tells no list
-abbrev pub TellsNone : {H : Type 0} → CustomBook → Custom H → Type 0
-TellsNone book c = book.tells c.head.name ≡ false

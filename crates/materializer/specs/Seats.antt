@@ -113,9 +113,10 @@ pub record LeadsOut (k : ℕ) (kind : Kind) (l : OutLogic) (outputs : ℕ) : Typ
   pub begins : fan_out.Begins k kind l
   pub outputs_are : outputs ≡ outputs_by (0, 0) kind
 
--- a custom stage was not started, is that of node k, and has so many ports
+-- a custom stage was not started, is that of node k and of the name that the node has, and has so many ports
 pub record StagesCustom (k : ℕ) (kind : Kind) (x : CustomState) (inputs outputs : ℕ) : Type 0 where
   pub is_custom : (name : List ℕ) × (kind ≡ Custom name)
+  pub named : x.name ≡ is_custom.0
   pub node_is : x.node ≡ k
   pub fresh : CustomFresh x (unpulled_view inputs outputs)
 

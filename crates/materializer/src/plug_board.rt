@@ -3,7 +3,7 @@ ghost use Rattle.std.specs.Prelude.{◌≡◌, [], List, true, None, map, IfOk};
 ghost use Rattle.std.specs.List.{All};
 ghost use Rattle.blue_names.specs.Names.{is_named, plug_of, unknown_plug_at};
 ghost use Rattle.blue_names.specs.CustomPorts.{custom_of};
-ghost use Rattle.materializer.specs.HandedCustoms.{custom_names, handed_heads, HasGuests, IsHandedGuest, AreGuests, HaveUsedPorts, guest_types, types_by_heads};
+ghost use Rattle.materializer.specs.HandedCustoms.{custom_names, handed_heads, TellsAsListed, HasGuests, IsHandedGuest, AreGuests, HaveUsedPorts, guest_types, types_by_heads};
 ghost use Rattle.materializer.specs.HandedPlugs.{GivesAsListed};
 ghost use Rattle.stream_model.specs.declared.blueprint.WireDecl.{WireDecl};
 ghost use Rattle.materializer.specs.Handing.{names_of, plug_place, IsTaken, IsHandedPlug};
@@ -85,7 +85,8 @@ pub fn hand_out<L: Logic, H: Handlers, B: PlugBook>(
 ) -> Result<Vec<Option<Guest<L, H>>>, NoMemory>
     requires has { (wires : List WireDecl) × HasGuests (handed_heads plugs.items customs.items) wires nodes.now }
     requires keep { All (GivesAsListed L.gives B.lists) plugs.items }
-    ensures guests { IfOk result (λ handed. AreGuests L.gives B.lists (map (λ n. n.kind) nodes.now) handed.items) }
+    requires told { All (TellsAsListed H.tells B.lists) customs.items }
+    ensures guests { IfOk result (λ handed. AreGuests L.gives H.tells B.lists (map (λ n. n.kind) nodes.now) handed.items) }
     ensures ports { IfOk result (λ handed. (wires : List WireDecl) → HasGuests (handed_heads plugs.items customs.items) wires nodes.now
         → HaveUsedPorts wires nodes.now handed.items) }
     ensures types { IfOk result (λ handed. map guest_types handed.items ≡ types_by_heads (handed_heads plugs.items customs.items) nodes.now) }

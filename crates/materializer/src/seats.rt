@@ -18,7 +18,7 @@ ghost use Rattle.materializer.specs.Seats.{IsFreeWork, AreSeats, work_seat, plac
 ghost use Rattle.materializer.specs.Choosers.{moves_of, PlanFits, PlansFit};
 ghost use Rattle.materializer.specs.Planned.{IsPlanned, IsFreePlan, IsSeat, ArePlanned, Fills, seat_of_plan, planned_seat, planned_plan, planned_room, planned_types, types_of_planned, PlannedMayFollow, PlannedFollows, reads, writes, reads_in, writes_in};
 ghost use Rattle.materializer.specs.HandedPlugs.{GivesAsListed};
-ghost use Rattle.materializer.specs.HandedCustoms.{IsGuest, AreGuests, HasPorts, HaveUsedPorts, guest_types};
+ghost use Rattle.materializer.specs.HandedCustoms.{TellsAsListed, IsGuest, AreGuests, HasPorts, HaveUsedPorts, guest_types};
 ghost use Rattle.blue_names.specs.CustomPorts.{custom_of, head_fits};
 ghost use Rattle.blue_names.specs.Names.{plug_of};
 ghost use Rattle.stream_model.specs.Known.{head_shape};
@@ -276,7 +276,8 @@ fn hired<S: Source, D: Drain, L: Logic, H: Handlers, B: PlugBook>(
     k: u32,
     custom: Custom<H>,
 ) -> Result<Planned<S, D, L, H, B>, NoMemory>
-    requires { head_fits (Some (head_shape custom.head)) ≡ true }
+    requires fits { head_fits (Some (head_shape custom.head)) ≡ true }
+    requires told { TellsAsListed H.tells B.lists custom }
     ensures planned { IfOk result (λ p. (around : Around) (node : blue.Node) → node.kind ≡ kind.Custom custom.head.name
         → used_ports around.wires node.name ≡ (length custom.head.inputs.items, length custom.head.outputs.items) → IsPlanned around k node p) }
     ensures free { IfOk result (λ p. (chains : List graph.Chain) (node : blue.Node) → node.kind ≡ kind.Custom custom.head.name
@@ -298,7 +299,7 @@ fn invited<S: Source, D: Drain, L: Logic, H: Handlers, B: PlugBook>(
     decider: Decider,
     guest: Guest<L, H>,
 ) -> Result<Planned<S, D, L, H, B>, NoMemory>
-    requires { IsGuest L.gives B.lists (plug_of kind) (custom_of kind) (Some guest) }
+    requires { IsGuest L.gives H.tells B.lists (plug_of kind) (custom_of kind) (Some guest) }
     ensures planned { IfOk result (λ p. (around : Around) (node : blue.Node) → node.kind ≡ kind → node.decider ≡ decider
         → HasPorts (used_ports around.wires node.name) (Some guest) → IsPlanned around k node p) }
     ensures free { IfOk result (λ p. (chains : List graph.Chain) (node : blue.Node) → node.kind ≡ kind → node.decider ≡ decider
@@ -329,7 +330,7 @@ fn stand<S: Source, D: Drain, L: Logic, H: Handlers, B: PlugBook>(
 ) -> Result<Planned<S, D, L, H, B>, NoMemory>
     requires sized { sizes_fit kind ≡ true }
     requires handed { IsHandedAt (switch_of kind) switch }
-    requires guest { IsGuest L.gives B.lists (plug_of kind) (custom_of kind) guest }
+    requires guest { IsGuest L.gives H.tells B.lists (plug_of kind) (custom_of kind) guest }
     ensures planned { IfOk result (λ p. (wires : List WireDecl) (node : blue.Node) → node.kind ≡ kind → node.decider ≡ decider
         → HasPorts (used_ports wires node.name) guest → IsPlanned (record { chains = map graph_chain chains.now; wires = wires }) k node p) }
     ensures free { IfOk result (λ p. (node : blue.Node) → node.kind ≡ kind → node.decider ≡ decider
@@ -399,7 +400,7 @@ fn plan<S: Source, D: Drain, L: Logic, H: Handlers, B: PlugBook>(
 ) -> Result<Seat<S, D, L, H, B>, NoMemory>
     requires sized { sizes_fit node.kind ≡ true }
     requires handed { IsHandedAt (switch_of node.kind) switch }
-    requires guest { IsGuest L.gives B.lists (plug_of node.kind) (custom_of node.kind) guest }
+    requires guest { IsGuest L.gives H.tells B.lists (plug_of node.kind) (custom_of node.kind) guest }
     requires follows { PlanFits node.kind (moves_of moves) }
     ensures planned { IfOk result (λ s. (wires : List WireDecl) → HasPorts (used_ports wires node.name) guest
         → IsSeat (record { chains = map graph_chain chains.now; wires = wires }) k node s) }
@@ -437,7 +438,7 @@ pub fn seat_all<S: Source, D: Drain, L: Logic, H: Handlers, B: PlugBook>(
 ) -> Result<Vec<Seat<S, D, L, H, B>>, NoMemory>
     requires sized { list_all (λ n. sizes_fit n.kind) nodes.items ≡ true }
     requires handed { AreHanded (map (λ n. n.kind) nodes.items) ends.items }
-    requires guests { AreGuests L.gives B.lists (map (λ n. n.kind) nodes.items) guests.items }
+    requires guests { AreGuests L.gives H.tells B.lists (map (λ n. n.kind) nodes.items) guests.items }
     requires follow { PlansFit (map (λ n. n.kind) nodes.items) (map moves_of plans.items) }
     requires rooms { vec_len rooms ≡ vec_len nodes }
     ensures planned { IfOk result (λ seats. (wires : List WireDecl) → HaveUsedPorts wires nodes.items guests.items

@@ -82,7 +82,7 @@ pub hand_out-requires-clause-has : goal.hand_out-requires-clause-has
 hand_out-requires-clause-has g c = (c.args.b.wires.items, subst (λ (l : List Node). HasGuests (handed_heads c.args.plugs.items c.args.customs.items) c.args.b.wires.items l) (sym c.deref-15.ensures.value) c.requires.has)
 
 pub seat_all-requires-clause-guests : goal.seat_all-requires-clause-guests
-seat_all-requires-clause-guests g c = subst (λ (l : List Node). AreGuests g.L.Logic.gives g.B.PlugBook.lists (map (λ (n : Node). n.kind) l) c.in_ok-handed.handed.items) c.deref-15.ensures.value c.in_ok-handed.ensures.guests
+seat_all-requires-clause-guests g c = subst (λ (l : List Node). AreGuests g.L.Logic.gives g.H.Handlers.tells g.B.PlugBook.lists (map (λ (n : Node). n.kind) l) c.in_ok-handed.handed.items) c.deref-15.ensures.value c.in_ok-handed.ensures.guests
 
 pub seat_all-requires-clause-rooms : goal.seat_all-requires-clause-rooms
 seat_all-requires-clause-rooms g c =

@@ -6,32 +6,32 @@ use Rattle.materializer.proofs.plug_board.hand_out.Goals as goal
 
 pub loop-node-init : goal.loop-node-init
 loop-node-init g c =
-    let ready = ready_first g.L.Logic.gives g.B.PlugBook.lists c.args.plugs.items c.args.customs.items c.requires.has.0 c.args.nodes.now c.requires.has.1 c.requires.keep in (
+    let ready = ready_first g.L.Logic.gives g.H.Handlers.tells g.B.PlugBook.lists c.args.plugs.items c.args.customs.items c.requires.has.0 c.args.nodes.now c.requires.has.1 c.requires.keep c.requires.told in (
       ready.0,
       ready.1,
-      completes_first g.L.Logic.gives g.B.PlugBook.lists c.args.nodes.now _ c.new-handed.ensures.items,
+      completes_first g.L.Logic.gives g.H.Handlers.tells g.B.PlugBook.lists c.args.nodes.now _ c.new-handed.ensures.items,
       λ wires has. (ports_first c.args.plugs.items c.args.customs.items wires c.args.nodes.now has, ports_none wires c.args.nodes.now _ c.new-handed.ensures.items),
       heads_first c.args.plugs.items c.args.customs.items c.requires.has.0 c.args.nodes.now c.requires.has.1,
       types_first (handed_heads c.args.plugs.items c.args.customs.items) c.args.nodes.now _ c.new-handed.ensures.items,
     )
 
 pub hand_guest-requires-clause-plugs : goal.hand_guest-requires-clause-plugs
-hand_guest-requires-clause-plugs g c = (ready_here g.L.Logic.gives g.B.PlugBook.lists c.args.nodes.now c.loop-node.node-index c.node-item.result _ c.loop-node-test.true c.node-item.is c.loop-node.invariant.0).known.0
+hand_guest-requires-clause-plugs g c = (ready_here g.L.Logic.gives g.H.Handlers.tells g.B.PlugBook.lists c.args.nodes.now c.loop-node.node-index c.node-item.result _ c.loop-node-test.true c.node-item.is c.loop-node.invariant.0).known.0
 
 pub hand_guest-requires-clause-customs : goal.hand_guest-requires-clause-customs
-hand_guest-requires-clause-customs g c = (hire_here c.args.nodes.now c.loop-node.node-index c.node-item.result _ c.loop-node-test.true c.node-item.is c.loop-node.invariant.1).known.0
+hand_guest-requires-clause-customs g c = (hire_here g.H.Handlers.tells g.B.PlugBook.lists c.args.nodes.now c.loop-node.node-index c.node-item.result _ c.loop-node-test.true c.node-item.is c.loop-node.invariant.1).known.0
 
 pub loop-node-preserved : goal.loop-node-preserved
 loop-node-preserved g c =
-    let ready = ready_here g.L.Logic.gives g.B.PlugBook.lists c.args.nodes.now c.loop-node.node-index c.node-item.result _ c.loop-node-test.true c.node-item.is c.loop-node.invariant.0 in
-    let hire = hire_here c.args.nodes.now c.loop-node.node-index c.node-item.result _ c.loop-node-test.true c.node-item.is c.loop-node.invariant.1 in
-    let completes = completes_here g.L.Logic.gives g.B.PlugBook.lists c.args.nodes.now c.loop-node.node-index c.node-item.result _ c.loop-node-test.true c.node-item.is c.loop-node.invariant.2 in
+    let ready = ready_here g.L.Logic.gives g.H.Handlers.tells g.B.PlugBook.lists c.args.nodes.now c.loop-node.node-index c.node-item.result _ c.loop-node-test.true c.node-item.is c.loop-node.invariant.0 in
+    let hire = hire_here g.H.Handlers.tells g.B.PlugBook.lists c.args.nodes.now c.loop-node.node-index c.node-item.result _ c.loop-node-test.true c.node-item.is c.loop-node.invariant.1 in
+    let completes = completes_here g.L.Logic.gives g.H.Handlers.tells g.B.PlugBook.lists c.args.nodes.now c.loop-node.node-index c.node-item.result _ c.loop-node-test.true c.node-item.is c.loop-node.invariant.2 in
     let heads = handed_heads c.args.plugs.items c.args.customs.items in
     let named = ports_here (HasHead heads) c.args.nodes.now c.loop-node.node-index c.node-item.result _ c.loop-node-test.true c.node-item.is c.loop-node.invariant.4 in
-    let next = ready_next g.L.Logic.gives g.B.PlugBook.lists c.node-item.result _ _ _ _ _ _ ready hire c.hand_guest.ensures in (
+    let next = ready_next g.L.Logic.gives g.H.Handlers.tells g.B.PlugBook.lists c.node-item.result _ _ _ _ _ _ ready hire c.hand_guest.ensures in (
       next.0,
       next.1,
-      completes_next g.L.Logic.gives g.B.PlugBook.lists c.args.nodes.now c.node-item.result _ _ _ _ completes (guest_is g.L.Logic.gives g.B.PlugBook.lists c.node-item.result _ _ _ _ _ _ ready hire c.hand_guest.ensures) c.in_ok-push.ensures.items,
+      completes_next g.L.Logic.gives g.H.Handlers.tells g.B.PlugBook.lists c.args.nodes.now c.node-item.result _ _ _ _ completes (guest_is g.L.Logic.gives g.H.Handlers.tells g.B.PlugBook.lists c.node-item.result _ _ _ _ _ _ ready hire c.hand_guest.ensures) c.in_ok-push.ensures.items,
       λ wires has.
           let old = c.loop-node.invariant.3 wires has in
           let all = ports_here (FitsWires wires) c.args.nodes.now c.loop-node.node-index c.node-item.result _ c.loop-node-test.true c.node-item.is old.0 in
@@ -45,7 +45,7 @@ pub returns-clause-ports : goal.returns-clause-ports
 returns-clause-ports g c = λ wires has. ports_last wires c.args.nodes.now _ _ (c.loop-node.invariant.3 wires has).1 (drop_all _ _ c.loop-node-test.false)
 
 pub returns-clause-guests : goal.returns-clause-guests
-returns-clause-guests g c = completes_last g.L.Logic.gives g.B.PlugBook.lists c.args.nodes.now _ _ c.loop-node.invariant.2 (drop_all _ _ c.loop-node-test.false)
+returns-clause-guests g c = completes_last g.L.Logic.gives g.H.Handlers.tells g.B.PlugBook.lists c.args.nodes.now _ _ c.loop-node.invariant.2 (drop_all _ _ c.loop-node-test.false)
 
 pub returns-clause-types : goal.returns-clause-types
 returns-clause-types g c = types_last (handed_heads c.args.plugs.items c.args.customs.items) c.args.nodes.now _ _ (drop_all _ _ c.loop-node-test.false) c.loop-node.invariant.5

@@ -11,34 +11,37 @@ use Rattle.materializer.proofs.Leading.{free_plan}
 use Rattle.materializer.proofs.seats.invited.Goals as goal
 
 pub plugged-requires : goal.plugged-requires
-plugged-requires g c = (plug_is _ g.L.Logic.gives g.B.PlugBook.lists c.args.kind c.in-Plug.plug (subst (λ e. IsGuest g.L.Logic.gives g.B.PlugBook.lists (plug_of c.args.kind) (custom_of c.args.kind) (Some e)) c.in-Plug.is c.requires)).1
+plugged-requires g c = (plug_is _ g.L.Logic.gives g.H.Handlers.tells g.B.PlugBook.lists c.args.kind c.in-Plug.plug (subst (λ e. IsGuest g.L.Logic.gives g.H.Handlers.tells g.B.PlugBook.lists (plug_of c.args.kind) (custom_of c.args.kind) (Some e)) c.in-Plug.is c.requires)).1
 
 pub returns-in-Plug-clause-planned : goal.returns-in-Plug-clause-planned
 returns-in-Plug-clause-planned g c =
-    let handed = subst (λ e. IsGuest g.L.Logic.gives g.B.PlugBook.lists (plug_of c.args.kind) (custom_of c.args.kind) (Some e)) c.in-Plug.is c.requires in
-    λ around node is same ports. c.plugged.ensures.planned around node (is ∙ (plug_is _ g.L.Logic.gives g.B.PlugBook.lists c.args.kind c.in-Plug.plug handed).0) same
+    let handed = subst (λ e. IsGuest g.L.Logic.gives g.H.Handlers.tells g.B.PlugBook.lists (plug_of c.args.kind) (custom_of c.args.kind) (Some e)) c.in-Plug.is c.requires in
+    λ around node is same ports. c.plugged.ensures.planned around node (is ∙ (plug_is _ g.L.Logic.gives g.H.Handlers.tells g.B.PlugBook.lists c.args.kind c.in-Plug.plug handed).0) same
 
 pub returns-in-Plug-clause-free : goal.returns-in-Plug-clause-free
 returns-in-Plug-clause-free g c =
-    let handed = subst (λ e. IsGuest g.L.Logic.gives g.B.PlugBook.lists (plug_of c.args.kind) (custom_of c.args.kind) (Some e)) c.in-Plug.is c.requires in
+    let handed = subst (λ e. IsGuest g.L.Logic.gives g.H.Handlers.tells g.B.PlugBook.lists (plug_of c.args.kind) (custom_of c.args.kind) (Some e)) c.in-Plug.is c.requires in
     λ chains node is same.
     let around : Around = record { chains = chains; wires = [] } in
-    free_plan around c.args.k node _ (c.plugged.ensures.planned around node (is ∙ (plug_is _ g.L.Logic.gives g.B.PlugBook.lists c.args.kind c.in-Plug.plug handed).0) same)
+    free_plan around c.args.k node _ (c.plugged.ensures.planned around node (is ∙ (plug_is _ g.L.Logic.gives g.H.Handlers.tells g.B.PlugBook.lists c.args.kind c.in-Plug.plug handed).0) same)
 
-pub hired-requires : goal.hired-requires
-hired-requires g c = (custom_is g.L.Logic.gives g.B.PlugBook.lists c.args.kind c.in-Custom.custom (subst (λ e. IsGuest g.L.Logic.gives g.B.PlugBook.lists (plug_of c.args.kind) (custom_of c.args.kind) (Some e)) c.in-Custom.is c.requires)).1
+pub hired-requires-clause-fits : goal.hired-requires-clause-fits
+hired-requires-clause-fits g c = (custom_is g.L.Logic.gives g.H.Handlers.tells g.B.PlugBook.lists c.args.kind c.in-Custom.custom (subst (λ e. IsGuest g.L.Logic.gives g.H.Handlers.tells g.B.PlugBook.lists (plug_of c.args.kind) (custom_of c.args.kind) (Some e)) c.in-Custom.is c.requires)).1
+
+pub hired-requires-clause-told : goal.hired-requires-clause-told
+hired-requires-clause-told g c = (custom_is g.L.Logic.gives g.H.Handlers.tells g.B.PlugBook.lists c.args.kind c.in-Custom.custom (subst (λ e. IsGuest g.L.Logic.gives g.H.Handlers.tells g.B.PlugBook.lists (plug_of c.args.kind) (custom_of c.args.kind) (Some e)) c.in-Custom.is c.requires)).2
 
 pub returns-clause-planned : goal.returns-clause-planned
 returns-clause-planned g c =
-    let handed = subst (λ e. IsGuest g.L.Logic.gives g.B.PlugBook.lists (plug_of c.args.kind) (custom_of c.args.kind) (Some e)) c.in-Custom.is c.requires in
+    let handed = subst (λ e. IsGuest g.L.Logic.gives g.H.Handlers.tells g.B.PlugBook.lists (plug_of c.args.kind) (custom_of c.args.kind) (Some e)) c.in-Custom.is c.requires in
     λ around node is same ports.
-    c.in_ok-planned-in-Custom.ensures.planned around node (is ∙ (custom_is g.L.Logic.gives g.B.PlugBook.lists c.args.kind c.in-Custom.custom handed).0)
+    c.in_ok-planned-in-Custom.ensures.planned around node (is ∙ (custom_is g.L.Logic.gives g.H.Handlers.tells g.B.PlugBook.lists c.args.kind c.in-Custom.custom handed).0)
     (subst (λ e. HasPorts (used_ports around.wires node.name) (Some e)) c.in-Custom.is ports)
 
 pub returns-clause-free : goal.returns-clause-free
 returns-clause-free g c =
-    let handed = subst (λ e. IsGuest g.L.Logic.gives g.B.PlugBook.lists (plug_of c.args.kind) (custom_of c.args.kind) (Some e)) c.in-Custom.is c.requires in
-    λ chains node is same. c.in_ok-planned-in-Custom.ensures.free chains node (is ∙ (custom_is g.L.Logic.gives g.B.PlugBook.lists c.args.kind c.in-Custom.custom handed).0)
+    let handed = subst (λ e. IsGuest g.L.Logic.gives g.H.Handlers.tells g.B.PlugBook.lists (plug_of c.args.kind) (custom_of c.args.kind) (Some e)) c.in-Custom.is c.requires in
+    λ chains node is same. c.in_ok-planned-in-Custom.ensures.free chains node (is ∙ (custom_is g.L.Logic.gives g.H.Handlers.tells g.B.PlugBook.lists c.args.kind c.in-Custom.custom handed).0)
 
 pub returns-in-Plug-clause-types : goal.returns-in-Plug-clause-types
 returns-in-Plug-clause-types g c = c.plugged.ensures.types ∙ ap (λ (e : Guest _ _). guest_types (Some e)) (sym c.in-Plug.is)

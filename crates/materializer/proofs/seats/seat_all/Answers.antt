@@ -35,7 +35,7 @@ loop-node-init g c =
       subst (λ l. AreHanded (kinds_of l) (into_iter_items c.into_iter-unhanded.result)) (sym all) (subst (λ l. AreHanded (kinds_of c.args.nodes.items) l) (sym c.into_iter-unhanded.ensures.rest) c.requires.handed),
       search rules,
       ap (λ l. map planned_seat l ++ map seat_of_end (into_iter_items c.into_iter-unhanded.result)) c.new-seats.ensures.items ∙ ap (map seat_of_end) c.into_iter-unhanded.ensures.rest,
-      subst (λ l. AreGuests g.L.Logic.gives g.B.PlugBook.lists (kinds_of l) (into_iter_items c.into_iter-unhanded_guests.result)) (sym all) (subst (λ l. AreGuests g.L.Logic.gives g.B.PlugBook.lists (kinds_of c.args.nodes.items) l) (sym c.into_iter-unhanded_guests.ensures.rest) c.requires.guests),
+      subst (λ l. AreGuests g.L.Logic.gives g.H.Handlers.tells g.B.PlugBook.lists (kinds_of l) (into_iter_items c.into_iter-unhanded_guests.result)) (sym all) (subst (λ l. AreGuests g.L.Logic.gives g.H.Handlers.tells g.B.PlugBook.lists (kinds_of c.args.nodes.items) l) (sym c.into_iter-unhanded_guests.ensures.rest) c.requires.guests),
       search rules,
       subst (λ l. PlansFit (kinds_of l) (map moves_of (into_iter_items c.into_iter-unmade.result))) (sym all) (subst (λ l. PlansFit (kinds_of c.args.nodes.items) (map moves_of l)) (sym c.into_iter-unmade.ensures.rest) c.requires.follow),
       search rules,
@@ -58,12 +58,12 @@ loop-node-preserved g c =
       (all_next (λ n. sizes_fit n.kind) node _ _ next.0 kept.3).1,
       λ wires used.
           let old = kept.4 wires used in
-          let ports = ports_next g.L.Logic.gives g.B.PlugBook.lists wires node _ _ _ _ _ next.0 c.take_next-guest.ensures.items old.0 in
+          let ports = ports_next g.L.Logic.gives g.H.Handlers.tells g.B.PlugBook.lists wires node _ _ _ _ _ next.0 c.take_next-guest.ensures.items old.0 in
           (ports.1, planned_next _ _ node _ _ _ _ _ _ next.0 at (c.in_ok-plan.ensures.planned wires ports.0) c.in_ok-push.ensures.items old.1),
       (end_next node _ _ _ _ _ next.0 c.take_next-end.ensures.items kept.5).1,
       len_next _ _ _ _ _ c.take_next-end.ensures.items (sym c.take_next-end.ensures.len) kept.6,
       map_next planned_seat seat_of_end _ _ _ _ _ _ _ c.take_next-end.ensures.items c.in_ok-push.ensures.items c.in_ok-plan.ensures.seat kept.7,
-      (guest_next g.L.Logic.gives g.B.PlugBook.lists node _ _ _ _ _ next.0 c.take_next-guest.ensures.items kept.8).1,
+      (guest_next g.L.Logic.gives g.H.Handlers.tells g.B.PlugBook.lists node _ _ _ _ _ next.0 c.take_next-guest.ensures.items kept.8).1,
       len_next _ _ _ _ _ c.take_next-guest.ensures.items (sym c.take_next-guest.ensures.len) kept.9,
       (moves_next node _ _ _ _ _ next.0 c.take_next-moves.ensures.items kept.10).1,
       len_next _ _ _ _ _ c.take_next-moves.ensures.items (sym c.take_next-moves.ensures.len) kept.11,
@@ -78,7 +78,7 @@ pub take_next-end-requires : goal.take_next-end-requires
 take_next-end-requires g c = ends_left c.in-Some.node _ _ _ _ c.in-Some.ensures.steps.0 c.loop-node.invariant.5 c.loop-node.invariant.6
 
 pub take_next-guest-requires : goal.take_next-guest-requires
-take_next-guest-requires g c = guests_left g.L.Logic.gives g.B.PlugBook.lists c.in-Some.node _ _ _ _ c.in-Some.ensures.steps.0 c.loop-node.invariant.8 c.loop-node.invariant.9
+take_next-guest-requires g c = guests_left g.L.Logic.gives g.H.Handlers.tells g.B.PlugBook.lists c.in-Some.node _ _ _ _ c.in-Some.ensures.steps.0 c.loop-node.invariant.8 c.loop-node.invariant.9
 
 pub take_next-moves-requires : goal.take_next-moves-requires
 take_next-moves-requires g c = moves_left c.in-Some.node _ _ _ _ c.in-Some.ensures.steps.0 c.loop-node.invariant.10 c.loop-node.invariant.11
@@ -90,7 +90,7 @@ pub plan-requires-clause-handed : goal.plan-requires-clause-handed
 plan-requires-clause-handed g c = (end_next c.in-Some.node _ _ _ _ _ c.in-Some.ensures.steps.0 c.take_next-end.ensures.items c.loop-node.invariant.5).0
 
 pub plan-requires-clause-guest : goal.plan-requires-clause-guest
-plan-requires-clause-guest g c = (guest_next g.L.Logic.gives g.B.PlugBook.lists c.in-Some.node _ _ _ _ _ c.in-Some.ensures.steps.0 c.take_next-guest.ensures.items c.loop-node.invariant.8).0
+plan-requires-clause-guest g c = (guest_next g.L.Logic.gives g.H.Handlers.tells g.B.PlugBook.lists c.in-Some.node _ _ _ _ _ c.in-Some.ensures.steps.0 c.take_next-guest.ensures.items c.loop-node.invariant.8).0
 
 pub returns-clause-seats : goal.returns-clause-seats
 returns-clause-seats g c =
@@ -118,4 +118,4 @@ returns-clause-rooms g c =
 pub returns-clause-types : goal.returns-clause-types
 returns-clause-types g c =
     let kept = c.loop-node.invariant in
-    map_end planned_types guest_types _ _ _ (no_guests g.L.Logic.gives g.B.PlugBook.lists _ _ (none_left _ _ c.in-None.ensures.steps.0 kept.2) kept.8) kept.16
+    map_end planned_types guest_types _ _ _ (no_guests g.L.Logic.gives g.H.Handlers.tells g.B.PlugBook.lists _ _ (none_left _ _ c.in-None.ensures.steps.0 kept.2) kept.8) kept.16

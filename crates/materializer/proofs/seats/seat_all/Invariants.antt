@@ -25,7 +25,7 @@ invariant-loop-node g l =
     × AreHanded (map (λ n. n.kind) (into_iter_items l.node-iterator)) (into_iter_items l.unhanded)
     × (into_iter_len l.unhanded ≡ length (into_iter_items l.unhanded))
     × (map planned_seat l.seats.items ++ map seat_of_end (into_iter_items l.unhanded) ≡ map seat_of_end l.fn.ends.items)
-    × AreGuests g.L.Logic.gives g.B.PlugBook.lists (map (λ n. n.kind) (into_iter_items l.node-iterator)) (into_iter_items l.unhanded_guests)
+    × AreGuests g.L.Logic.gives g.H.Handlers.tells g.B.PlugBook.lists (map (λ n. n.kind) (into_iter_items l.node-iterator)) (into_iter_items l.unhanded_guests)
     × (into_iter_len l.unhanded_guests ≡ length (into_iter_items l.unhanded_guests))
     × PlansFit (map (λ n. n.kind) (into_iter_items l.node-iterator)) (map moves_of (into_iter_items l.unmade))
     × (into_iter_len l.unmade ≡ length (into_iter_items l.unmade))

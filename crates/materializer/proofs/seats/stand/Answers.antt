@@ -14,13 +14,13 @@ use Rattle.materializer.proofs.Leading.{free_plan, no_types}
 use Rattle.materializer.proofs.seats.stand.Goals as goal
 
 pub invited-requires : goal.invited-requires
-invited-requires g c = subst (λ e. IsGuest g.L.Logic.gives g.B.PlugBook.lists (plug_of c.args.kind) (custom_of c.args.kind) e) c.in-Some.is c.requires.guest
+invited-requires g c = subst (λ e. IsGuest g.L.Logic.gives g.H.Handlers.tells g.B.PlugBook.lists (plug_of c.args.kind) (custom_of c.args.kind) e) c.in-Some.is c.requires.guest
 
 pub unplugged-requires-clause-no_plug : goal.unplugged-requires-clause-no_plug
-unplugged-requires-clause-no_plug g c = (no_guest _ g.L.Logic.gives g.B.PlugBook.lists c.args.kind (subst (λ e. IsGuest g.L.Logic.gives g.B.PlugBook.lists (plug_of c.args.kind) (custom_of c.args.kind) e) c.in-None.is c.requires.guest)).0
+unplugged-requires-clause-no_plug g c = (no_guest _ g.L.Logic.gives g.H.Handlers.tells g.B.PlugBook.lists c.args.kind (subst (λ e. IsGuest g.L.Logic.gives g.H.Handlers.tells g.B.PlugBook.lists (plug_of c.args.kind) (custom_of c.args.kind) e) c.in-None.is c.requires.guest)).0
 
 pub unplugged-requires-clause-no_custom : goal.unplugged-requires-clause-no_custom
-unplugged-requires-clause-no_custom g c = (no_guest _ g.L.Logic.gives g.B.PlugBook.lists c.args.kind (subst (λ e. IsGuest g.L.Logic.gives g.B.PlugBook.lists (plug_of c.args.kind) (custom_of c.args.kind) e) c.in-None.is c.requires.guest)).1
+unplugged-requires-clause-no_custom g c = (no_guest _ g.L.Logic.gives g.H.Handlers.tells g.B.PlugBook.lists c.args.kind (subst (λ e. IsGuest g.L.Logic.gives g.H.Handlers.tells g.B.PlugBook.lists (plug_of c.args.kind) (custom_of c.args.kind) e) c.in-None.is c.requires.guest)).1
 
 pub returns-in_ok-planned-in-Some-clause-planned : goal.returns-in_ok-planned-in-Some-clause-planned
 returns-in_ok-planned-in-Some-clause-planned g c =
@@ -30,7 +30,7 @@ returns-in_ok-planned-in-Some-clause-planned g c =
 
 pub returns-in_ok-planned-in-Some-clause-seat : goal.returns-in_ok-planned-in-Some-clause-seat
 returns-in_ok-planned-in-Some-clause-seat g c =
-    let none = guest_sits_nowhere g.L.Logic.gives g.B.PlugBook.lists c.args.kind c.in-Some.guest c.args.switch (subst (λ e. IsGuest g.L.Logic.gives g.B.PlugBook.lists (plug_of c.args.kind) (custom_of c.args.kind) e) c.in-Some.is c.requires.guest) c.requires.handed in
+    let none = guest_sits_nowhere g.L.Logic.gives g.H.Handlers.tells g.B.PlugBook.lists c.args.kind c.in-Some.guest c.args.switch (subst (λ e. IsGuest g.L.Logic.gives g.H.Handlers.tells g.B.PlugBook.lists (plug_of c.args.kind) (custom_of c.args.kind) e) c.in-Some.is c.requires.guest) c.requires.handed in
     c.in_ok-planned-in-Some.ensures.seat ∙ ap (λ (e : Option SwitchEnd). seat_of_end e) (sym none)
 
 pub returns-in_ok-planned-in-Some-clause-free : goal.returns-in_ok-planned-in-Some-clause-free
@@ -50,6 +50,6 @@ pub returns-in_ok-planned-in-None-clause-types : goal.returns-in_ok-planned-in-N
 returns-in_ok-planned-in-None-clause-types g c =
     let node : Node = record { name = []; kind = c.args.kind; decider = c.args.decider } in
     let around : Around = record { chains = map graph_chain c.args.chains.now; wires = [] } in
-    let none = (no_guest _ g.L.Logic.gives g.B.PlugBook.lists c.args.kind (subst (λ e. IsGuest g.L.Logic.gives g.B.PlugBook.lists (plug_of c.args.kind) (custom_of c.args.kind) e) c.in-None.is c.requires.guest)).1 in
+    let none = (no_guest _ g.L.Logic.gives g.H.Handlers.tells g.B.PlugBook.lists c.args.kind (subst (λ e. IsGuest g.L.Logic.gives g.H.Handlers.tells g.B.PlugBook.lists (plug_of c.args.kind) (custom_of c.args.kind) e) c.in-None.is c.requires.guest)).1 in
     no_types around c.args.k node _ (free_plan around c.args.k node _ (c.in_ok-planned-in-None.ensures.planned [] node refl refl)) none
     ∙ ap (λ (e : Option (Guest _ _)). guest_types e) (sym c.in-None.is)

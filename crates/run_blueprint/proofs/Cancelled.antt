@@ -19,6 +19,7 @@ use Rattle.stage_core.specs.Row.{OutClosed}
 use Rattle.stage_core.specs.Seats.{OneClosed}
 use Rattle.stage_core.specs.declared.phase.Phase.{Phase}
 use Rattle.stage_core.specs.declared.phase.Phase.TheVariants.{New, Open, Closed}
+use Rattle.stage_linear.specs.Handling.{LinearPortState}
 use Rattle.stage_linear.specs.States as linear
 use Rattle.stage_linear.specs.declared.course.Course.{Course}
 use Rattle.stage_linear.specs.declared.course.Course.TheVariants.{Waits, Idles, Leaves, Closes, Ends}
@@ -347,12 +348,12 @@ out_left (fan_out.Machines (Copies l)) v p h e = copy_left l.live l v p h e
 out_left (fan_out.Machines (Deals l)) v p h e = part_left l.live l v p h e
 out_left (fan_out.Balances l) v p h e = balance_left l.core.live l.log.stuck l v p h e
 
--- ---- any node; a custom stage may go on though one of its inputs was cancelled
+-- ---- any node; a custom stage that tells no list may go on though one of its inputs was cancelled
 
 no_input : (y : OutView) (p : ℕ) → slice_get (output_only y).ins p ≡ Some Cancelled → ⊥
 no_input y p e = cc
 
-pub closes_outs : {S D L H B : Type 0} (x : IslandNode S D L H B) (v : View) (p : ℕ) → ((c : CustomState) → x ≡ node.Custom c → ⊥) → node_port_state x v → slice_get v.ins p ≡ Some Cancelled → OutsClosed v.outs
+pub closes_outs : {S D L H B : Type 0} (x : IslandNode S D L H B) (v : View) (p : ℕ) → ((c : CustomState) → x ≡ node.Custom c → (l : linear.Logic) × LinearPortState l v) → node_port_state x v → slice_get v.ins p ≡ Some Cancelled → OutsClosed v.outs
 closes_outs (node.Reading x) v p other h e = source_left (lines_port_state_in x.phase) v.ins v.outs p h e
 closes_outs (node.Making x) v p other h e = source_left (lines_port_state_in x.phase) v.ins v.outs p h e
 closes_outs (node.Linear x) v p other h e = one_left (linear.port_state_in x.phase x.course x.pending x.stage.work x.ready) (linear_left x.phase x.course x.pending x.stage.work x.ready) v.ins v.outs p h.ports e
@@ -360,7 +361,9 @@ closes_outs (node.State x) v p other h e = state_left x v p h e
 closes_outs (node.Sub x) v p other h e = subs_left x.left x v p h.ports e
 closes_outs (node.FanIn x) v p other h e = in_left x v p h e
 closes_outs (node.FanOut x) v p other h e = out_left x v p h e
-closes_outs (node.Custom x) v p other h e = absurd (other x refl)
+closes_outs (node.Custom x) v p other h e =
+    let plug = other x refl in
+    let l = plug.0 in one_left (linear.port_state_in l.phase l.course l.pending l.stage.work l.ready) (linear_left l.phase l.course l.pending l.stage.work l.ready) v.ins v.outs p plug.1.ports e
 closes_outs (node.Writing x) v p other h e = sink_left (sink_port_state_in x.started x.end) v.ins v.outs h
 closes_outs (node.Ignoring x) v p other h e = sink_left (ignore_port_state_in x.started x.end) v.ins v.outs h
 closes_outs (node.Entering x) v p other h e = open_left v (output_only h.0) p h.1 (no_input h.0 p) e

@@ -6,6 +6,7 @@ use Rattle.elem_core.specs.Sort.{Sort, pair_type}
 use Rattle.stream_model.specs.Composed.{inputs_of, count_from, received, wire_loss, incoming, ports_of, given_on, sent_on, next, composed, IsRanked}
 use Rattle.stream_model.specs.Graph.{Graph, Edge, find_wire}
 use Rattle.stream_model.specs.Graph as graph
+use Rattle.stream_model.specs.Linear.{told_book}
 use Rattle.stream_model.specs.Node.{World, custom_by, node_outlook}
 use Rattle.stream_model.specs.Outlook.{Outlook}
 use Rattle.stream_model.specs.declared.kind.Kind.TheVariants.{Custom, Zip}
@@ -31,6 +32,7 @@ use Rattle.run_blueprint.proofs.Rules.{ends_there, Into, into_from, input_there,
 use Rattle.run_blueprint.proofs.Origins.{Origin, by_source, by_round, origin}
 use Rattle.run_blueprint.proofs.Shapes.{one_input, is_zip, hired_is, no_input, joins, stands_apart, whole_source, whole_joining, no_source, source_tries, single_gives, takes, joining_takes, port_takes, Chained, chained, bare, is_chained, single_given}
 use Rattle.run_blueprint.proofs.Chains.{chain_takes}
+use Rattle.run_blueprint.proofs.ToldTypes.{told_typed}
 use Rattle.run_blueprint.proofs.Settling.{all_by_rank, HasSettled, TypedInput, typed_input, every_wire_settles}
 
 pub plain_at : (decls : List WireDecl) (nodes : List Node) (k : ℕ) (n : Node) → slice_get nodes k ≡ Some n → slice_get (map (graph_node decls) nodes) k ≡ Some (graph_node decls n)
@@ -172,18 +174,18 @@ module _ (heads : HeadLists) (chains : List ChainDecl) (nodes : List Node) (g : 
                 (paired_from heads chains (type_on heads nodes g.wires earlier (wire_into nodes g.wires v.from 0)) (type_on heads nodes g.wires earlier (wire_into nodes g.wires v.from 1)) u
                 (subst (λ q. attempt heads chains q (arrivals heads nodes g.wires earlier v.from (0 ∷ 1 ∷ [])) ≡ Some (Gives u)) z of_two))
 
-        -- a custom stage gives what it gave, which is of the types of its head
-        given_by : (name : List ℕ) → n.kind ≡ Custom name → (o : Option Sort) → output_type (custom_named heads name) v.output ≡ o → (b : Bool) → b ≡ false → (os : List Outlook)
+        -- a custom stage gives what it gave, which is of the types of its head, or the list that it tells
+        given_by : (name : List ℕ) → n.kind ≡ Custom name → (o : Option Sort) → output_type (custom_named heads name) v.output ≡ o → (b : Bool) → w.book.tells name ≡ b → (os : List Outlook)
             → AllTyped (unwrap_or o u) (custom_by g w v.from name n.decider os v.output b).list
-        given_by name z (Some t) e false f os = gave.typed j v n name t at is z e
-        given_by name z None e false f os =
+        given_by name z (Some t) e false f os = gave.typed j v n name t at is z f e
+        given_by name z (Some t) e true f os = told_typed (told_book w.book) name t (gave.told name v.output t f e) v.from n.decider os
+        given_by name z None e b f os =
             absurd (has_output_type (custom_named heads name) v.output (subst (λ q. v.output < kind_outputs heads q) z (output_there heads chains nodes g.wires passes.no_unknown passes.no_missing passes.no_open j v n at is)) e)
-        given_by name z o e true f os = absurd cc
 
         hired_gives : (name : List ℕ) × (n.kind ≡ Custom name) → (os : List Outlook) → Gave os
         hired_gives c os =
             subst (λ q. AllTyped (half_type heads q v.output u) (node_outlook g w v.from q n.decider os v.output).list) (sym c.1)
-            (given_by c.0 c.1 (output_type (custom_named heads c.0) v.output) refl (w.customs.tells c.0) (gave.untold v.from n c.0 is c.1) os)
+            (given_by c.0 c.1 (output_type (custom_named heads c.0) v.output) refl (w.book.tells c.0) refl os)
 
         gives_by : (q : Shape) → shape_of n.kind ≡ q → Gave (ins (kind_inputs heads n.kind))
         gives_by source s = source_gives s (ins (kind_inputs heads n.kind))

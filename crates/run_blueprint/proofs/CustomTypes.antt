@@ -28,7 +28,7 @@ some_one x y e = cc
 -- ---- elements
 
 mutual
-  has_type : (t : Sort) (x : Tree) → is_of t x ≡ true → HasType t x
+  pub has_type : (t : Sort) (x : Tree) → is_of t x ≡ true → HasType t x
   has_type num_type (num z) e = tt
   has_type text_type (text bs) e = tt
   has_type (seq_type t) (seq r) e = have_type t r e

@@ -1,6 +1,6 @@
 -- What the sources of a blueprint had drawn at a moment of its run between two events and what its stages had chosen, and the worlds
 -- that tell of it.
-use Rattle.std.proofs.Common.{◌≡◌, ℕ, ◌+◌, List, [], map, length, refl, sym, ap, ◌∙◌, subst, arith}
+use Rattle.std.proofs.Common.{◌≡◌, ℕ, ◌+◌, true, List, [], map, length, refl, sym, ap, ◌∙◌, subst, arith}
 use Rattle.std.specs.Prelude.{slice_get, IsTrue, IsSome, Option, Some, None, unwrap_or}
 use Rattle.stream_model.specs.declared.kind.Kind.TheVariants as kind
 use Rattle.stream_model.specs.Composed.{count_from}
@@ -31,7 +31,7 @@ use Rattle.materializer.specs.Files.{inputs_of_nodes, outputs_of_nodes}
 use Rattle.materializer.specs.Graphs.{graph_node, graph_of, chains_of}
 use Rattle.run_blueprint.specs.Choosing.{pick_places, picked, HasPicks}
 use Rattle.run_blueprint.specs.Opening.{Opens}
-use Rattle.run_blueprint.specs.Drawing.{Drawn, TellNone, IsSource, WasRead, IsWorldOf}
+use Rattle.run_blueprint.specs.Drawing.{Drawn, IsSource, WasRead, IsWorldOf}
 use Rattle.island_runs.specs.Leaving.{Moment}
 use Rattle.run_blueprint.proofs.Choosing.{node_chooses, picked_along, told_along, has_along}
 use Rattle.run_blueprint.proofs.Counts.{rose_by, rose_from_none, is_positive, positive, above_none, not_positive, some_of}
@@ -40,6 +40,7 @@ use Rattle.run_blueprint.proofs.Worlds.{world_of, world_has}
 use Rattle.run_blueprint.proofs.Places.{unmapped_at}
 use Rattle.run_blueprint.proofs.Handles.{HandleLaws, SourceFacts, source_facts, node_facts, reading_same, as_many}
 use Rattle.stream_model.specs.Linear.{Book}
+use Rattle.stream_model.specs.Listed.{tells_none}
 
 -- the state of the source at a place, where one is there
 abbrev blank : SourceState
@@ -143,22 +144,27 @@ module _ {S D L H B : Type 0} (sources : S → SourceState) (drains : D → Drai
   abbrev pub HasFiles : World → Type 0
   HasFiles w = (k : ℕ) (file : List ℕ) → IsSource nodes k file → w.file file ≡ record { bytes = drawn.bytes k; read = drawn.given k; faulted = drawn.faulted k }
 
-  -- the same of every source; and a world that has the files as they were read, and what the custom stages gave that tell no list, tells of them
+  -- and what each custom stage gave that tells no list
+  abbrev pub GaveSo : World → Type 0
+  GaveSo w = (k : ℕ) (n : blue.Node) (p : ℕ) → slice_get nodes k ≡ Some n → tells_none book n.kind ≡ true → w.given k p ≡ drawn.given_by k p
+
+  -- what every source drew; and a world that has the files as they were read, and what the custom stages gave that tell no list, tells of them
   pub record Draws : Type 0 where
     pub source : (k : ℕ) (file : List ℕ) (f : Source k file) → DrawsOf k file f
     pub tells : (w : World) → IsWorldOf book nodes drawn w → WorldTells sources (graph_of b) w left
-    pub files : (w : World) → HasFiles w → ((k p : ℕ) → w.given k p ≡ drawn.given_by k p) → TellNone nodes w.customs → TellsFiles sources (graph_of b) w left
+    pub files : (w : World) → w.book ≡ book → HasFiles w → GaveSo w → TellsFiles sources (graph_of b) w left
     pub has_files : IsWorldOf book nodes drawn (world_of book nodes drawn made_moves)
 
   -- what a custom stage gave, it has
-  pub gave_told : (w : World) → ((k p : ℕ) → w.given k p ≡ drawn.given_by k p) → TellNone nodes w.customs → (k : ℕ) (n : graph.Node) (c : CustomState) → slice_get (graph_of b).nodes k ≡ Some n → left.nodes k ≡ Some (node.Custom c) → TellsGave w n c
-  gave_told w gave untold k n c gi ni =
+  pub gave_told : (w : World) → w.book ≡ book → GaveSo w → (k : ℕ) (n : graph.Node) (c : CustomState) → slice_get (graph_of b).nodes k ≡ Some n → left.nodes k ≡ Some (node.Custom c) → TellsGave w n c
+  gave_told w is gave k n c gi ni =
       let m = unmapped_at (graph_node b.wires.items) nodes k n gi in
       let f = node_facts sources drains book handles b ss ds left last l old mid opens k m.0 (node.Custom c) m.1.0 (sym (l.node_at k) ∙ ni) in
       let place : c.node ≡ k = custom_node sources drains book (chains_of b) k (graph_node b.wires.items m.0) f.first c f.knew f.came f.went f.made f.law in
       record {
-        untold = λ name shape. untold k m.0 name m.1.0 (ap (λ (x : graph.Node). x.kind) (sym m.1.1) ∙ shape);
-        given = λ p h at. ap (λ (j : ℕ). w.given j p) place ∙ gave k p ∙ custom_there (slice_get (graph_of b).nodes k) (left.nodes k) n c p h gi ni at;
+        given = λ untold p h at.
+            let here : tells_none book m.0.kind ≡ true = ap (λ (x : graph.Node). tells_none book x.kind) (sym m.1.1) ∙ ap (λ (x : Book). tells_none x n.kind) (sym is) ∙ untold in
+            ap (λ (j : ℕ). w.given j p) place ∙ gave k m.0 p m.1.0 here ∙ custom_there (slice_get (graph_of b).nodes k) (left.nodes k) n c p h gi ni at;
       }
 
   module _ (tells_was : IsTrue old.tells) where
@@ -196,8 +202,8 @@ module _ {S D L H B : Type 0} (sources : S → SourceState) (drains : D → Drai
           faulted = λ rose. subst IsTrue (sym d.faulted) (positive (sources f.now.reader.source).faults (rose_from_none (sources f.first.reader.source).faults (sources f.now.reader.source).faults f.start.faults rose));
         })
 
-    files_told : (w : World) → HasFiles w → ((k p : ℕ) → w.given k p ≡ drawn.given_by k p) → TellNone nodes w.customs → TellsFiles sources (graph_of b) w left
-    files_told w has gave untold k n first now gi fi ni = tells_node sources w n first now (λ a c name fa nc shape.
+    files_told : (w : World) → w.book ≡ book → HasFiles w → GaveSo w → TellsFiles sources (graph_of b) w left
+    files_told w is has gave k n first now gi fi ni = tells_node sources w n first now (λ a c name fa nc shape.
         let m = unmapped_at (graph_node b.wires.items) nodes k n gi in
         let place : IsSource nodes k name = record { node = m.0; at = m.1.0; kind_is = ap (λ (x : graph.Node). x.kind) (sym m.1.1) ∙ shape } in
         let f = source_facts sources drains book handles b ss ds left last l old mid opens k name place in
@@ -205,10 +211,10 @@ module _ {S D L H B : Type 0} (sources : S → SourceState) (drains : D → Drai
         let now_is : f.now ≡ c = reading_same f.now c now (one_node now (node.Reading f.now) ni f.there.at_last) nc in
         subst (λ (x : Lines S). TellsFile (sources x.reader.source) (sources c.reader.source) (w.file name)) first_is
         (subst (λ (x : Lines S). TellsFile (sources f.first.reader.source) (sources x.reader.source) (w.file name)) now_is (file_told k name f w (has k name place))))
-        (λ c nc. gave_told w gave untold k n c gi (ni ∙ ap (λ (x : IslandNode S D L H B). Some x) nc))
+        (λ c nc. gave_told w is gave k n c gi (ni ∙ ap (λ (x : IslandNode S D L H B). Some x) nc))
 
     world_tells : (w : World) → IsWorldOf book nodes drawn w → WorldTells sources (graph_of b) w left
-    world_tells w is = record { files = files_told w is.files is.gave is.untold; picks = picks_told w is.moves }
+    world_tells w is = record { files = files_told w is.book_is is.files is.gave; picks = picks_told w is.moves }
 
     pub draws_all : Draws
     draws_all = record {

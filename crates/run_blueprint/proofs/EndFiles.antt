@@ -264,7 +264,7 @@ module _ {S D L H B : Type 0} (sources : S → SourceState) (drains : D → Drai
     -- a world that has the moves that the stages follow, where each made all of them or nothing may fail at it
     module _ (w : World) (is : IsReplayOf book nodes plans drawn w) (fits : FitsBy g w (plan_at plans)) (serve : ServesItsMoves b plans drawn.picks w) where
       files_there : TellsFiles sources g w left
-      files_there = drew.files w is.files is.gave is.untold
+      files_there = drew.files w is.book_is is.files is.gave
 
       serves_there : ServesPlans g w left
       serves_there k n first now gi fi ni moves at = by (node_plan first) refl
@@ -326,7 +326,7 @@ module _ {S D L H B : Type 0} (sources : S → SourceState) (drains : D → Drai
     -- what passed each wire agrees with what may pass it, and all is as by all the moves of stages that follow some
     abbrev Carried : List Pick → Type 0
     Carried ps = (c : WiresCarry book b st.end.sinks.items st.wires.items ps) × (AgreesWithFiles drawn c × ((w : World) → IsReplayOf book nodes plans drawn w → FitsBy g w (plan_at plans) → ServesItsMoves b plans ps w
-        → ServesAll book new b ps st.end.sinks.items st.wires.items c w) × ((heads : HeadLists) → HasTypes sources drains book handles laws b can ss ds budget st l old mid opens heads → CustomsTyped heads nodes (blueprint_wires b) c.lists))
+        → ServesAll book new b ps st.end.sinks.items st.wires.items c w) × ((heads : HeadLists) → HasTypes sources drains book handles laws b can ss ds budget st l old mid opens heads → CustomsTyped heads book nodes (blueprint_wires b) c.lists))
 
     carried_so : Carried drawn.picks
     carried_so = (carry, (λ w is i v at. agrees_told (composed g w i) (left.near i).wire.sent (sent_agrees i v at w is), λ w is fits serve. serves_all w is fits serve, λ heads typed. sent_typed sources drains book handles laws b can ss ds budget st l old mid opens heads typed))

@@ -1,12 +1,14 @@
 -- What passed the wires of a blueprint by the end of its run.
 use Rattle.std.proofs.Common.{◌≡◌, ℕ, List, map, slice_get, refl, sym, ap, ◌∙◌, subst}
-use Rattle.std.specs.Prelude.{Option, Some}
+use Rattle.std.specs.Prelude.{not, Option, Some}
 use Rattle.std.specs.Option.{option_map}
 use Rattle.elem_core.specs.Sort.{Sort}
 use Rattle.elem_core.specs.Tree.{Tree}
 use Rattle.stream_model.specs.declared.kind.Kind.{Kind}
+use Rattle.stream_model.specs.declared.kind.Kind.TheVariants as kind
 use Rattle.stream_model.specs.declared.outcome.WireCount.{WireCount}
 use Rattle.stream_model.specs.Graph.{Graph, Edge}
+use Rattle.stream_model.specs.Listed.{tells_none}
 use Rattle.stream_model.specs.Node.{World}
 use Rattle.stream_model.specs.Outlook.{Outlook}
 use Rattle.stream_io.specs.State.{FolderState, SourceState, DrainState}
@@ -24,14 +26,14 @@ use Rattle.stream_model.specs.declared.blueprint.Blueprint.{Blueprint}
 use Rattle.stream_model.specs.declared.blueprint.Node as blue
 use Rattle.blue_check.specs.Wires.{blueprint_wires}
 use Rattle.stream_model.specs.Known.{CustomShape, HeadLists}
-use Rattle.blue_names.specs.CustomPorts.{custom_named}
+use Rattle.blue_names.specs.CustomPorts.{custom_named, output_type}
 use Rattle.graph_stage.specs.Passed.{ItemsTyped}
 use Rattle.materializer.specs.Fit.{CanRun}
 use Rattle.materializer.specs.Files.{inputs_of_nodes, outputs_of_nodes}
 use Rattle.materializer.specs.HandedCustoms.{head_types, types_by_heads}
 use Rattle.materializer.specs.Seats.{place_types}
 use Rattle.materializer.specs.Graphs.{graph_node, graph_of}
-use Rattle.run_blueprint.specs.Plugs.{GivenTyped, CustomsTyped}
+use Rattle.run_blueprint.specs.Plugs.{GivenTyped, ToldTyped, CustomsTyped}
 use Rattle.run_blueprint.specs.Types.{AllTyped}
 use Rattle.run_blueprint.specs.Carrying.{WiresCarry, as_passed}
 use Rattle.run_blueprint.proofs.Carried.{unread, agrees_exactly, passes_exactly, told_sent, carries}
@@ -90,26 +92,27 @@ module _ {S D L H B : Type 0} (sources : S → SourceState) (drains : D → Drai
   given_world = record (unread book moved) { given = drawn.given_by }
 
   pub customs_told : TellsCustoms g given_world left
-  customs_told k n c gi ni = gave_told sources drains book handles b can ss ds left last between old mid opens given_world (λ j p. refl) (λ j m name at is. refl) k n c gi ni
+  customs_told k n c gi ni = gave_told sources drains book handles b can ss ds left last between old mid opens given_world refl (λ j m p at untold. refl) k n c gi ni
 
   -- what a custom stage gave is what was sent on the wire from there
-  pub given_typed : (heads : HeadLists) → CustomsTyped heads nodes (blueprint_wires b) (λ u. list_of (left.near u).wire.sent) → GivenTyped heads nodes (blueprint_wires b) given_world
+  pub given_typed : (heads : HeadLists) → CustomsTyped heads book nodes (blueprint_wires b) (λ u. list_of (left.near u).wire.sent) → GivenTyped heads nodes (blueprint_wires b) given_world
   given_typed heads passed = record {
-    untold = λ k n name at is. refl;
-    typed = λ j v n name t at is custom out.
+    told = passed.told;
+    typed = λ j v n name t at is custom untold out.
         let m = graph_node b.wires.items n in
         let there : slice_get g.nodes v.from ≡ Some m = mapped_at (graph_node b.wires.items) nodes v.from n is in
-        let gave : given_world.given v.from v.output ≡ passed_so (left.near j).wire.sent = custom_gives sources drains g given_world left run (λ k x c gi ni. customs_told k x c gi ni) j v m name at there custom in
-        subst (λ (l : List Tree). AllTyped t l) (sym (ap (λ (o : Outlook). o.list) gave)) (passed j v n name t at is custom out);
+        let gave : given_world.given v.from v.output ≡ passed_so (left.near j).wire.sent = custom_gives sources drains g given_world left run (λ k x c gi ni. customs_told k x c gi ni) j v m name at there custom (ap (tells_none book) custom ∙ ap not untold) in
+        subst (λ (l : List Tree). AllTyped t l) (sym (ap (λ (o : Outlook). o.list) gave)) (passed.came j v n name t at is custom out);
   }
 
-  -- each custom stage has the types that these heads name
+  -- each custom stage has the types that these heads name, and tells elements of those
   abbrev pub HasTypes : HeadLists → Type 0
-  HasTypes heads = map place_types between.places ≡ types_by_heads heads nodes
+  HasTypes heads = (map place_types between.places ≡ types_by_heads heads nodes) × ToldTyped heads book
 
   -- so what it sent is of them
-  pub sent_typed : (heads : HeadLists) → HasTypes heads → CustomsTyped heads nodes (blueprint_wires b) (λ u. list_of (left.near u).wire.sent)
-  sent_typed heads has j v n name t at is custom out =
+  sent_typed_at : (heads : HeadLists) → map place_types between.places ≡ types_by_heads heads nodes → (j : ℕ) (v : Edge) (n : blue.Node) (name : List ℕ) (t : Sort) → slice_get (blueprint_wires b) j ≡ Some v → slice_get nodes v.from ≡ Some n → n.kind ≡ kind.Custom name
+      → output_type (custom_named heads name) v.output ≡ Some t → AllTyped t (list_of (left.near j).wire.sent)
+  sent_typed_at heads has j v n name t at is custom out =
       let m = graph_node b.wires.items n in
       let there : slice_get g.nodes v.from ≡ Some m = mapped_at (graph_node b.wires.items) nodes v.from n is in
       let c = custom_there sources drains book g left run v.from m name there custom in
@@ -121,6 +124,9 @@ module _ {S D L H B : Type 0} (sources : S → SourceState) (drains : D → Drai
       let named : option_map (λ (h : CustomShape). h.outputs) (custom_named heads name) ≡ Some c.0.types = ap (λ (q : Kind). head_types heads q) (sym custom) ∙ same in
       let typed : ItemsTyped (slice_get c.0.types v.output) (left.near j).wire.sent = laws.typed g left run j v m name at there custom c.0 c.1.1.0 in
       list_typed t (left.near j).wire.sent (subst (λ (o : Option Sort). ItemsTyped o (left.near j).wire.sent) (output_found (custom_named heads name) c.0.types v.output t named out) typed)
+
+  pub sent_typed : (heads : HeadLists) → HasTypes heads → CustomsTyped heads book nodes (blueprint_wires b) (λ u. list_of (left.near u).wire.sent)
+  sent_typed heads has = record { came = λ j v n name t at is custom out. sent_typed_at heads has.0 j v n name t at is custom out; told = has.1 }
 
   -- what was sent on each wire is a list, and how it stands
   pub sent_list : (i : ℕ) (v : Edge) → slice_get (blueprint_wires b) i ≡ Some v → IsToldList (left.near i).wire.sent
@@ -135,7 +141,7 @@ module _ {S D L H B : Type 0} (sources : S → SourceState) (drains : D → Drai
       (λ heads taken fit keeps passed i v at.
       let by = laws.ranked b heads taken fit in
       laws.types heads b.chains.items nodes g given_world by.0 left run told_moves customs_told (laws.fits b heads taken g fit refl refl refl) keeps (given_typed heads passed) by.1 i v at)
-      (λ w is has sent j v n at from other hired came. laws.gives g w left (run_at w is) (picks_told sources drains book handles b can ss ds left last between old mid opens w has) sent j v n at from other hired came)
+      (λ w is has sent j v n at from other tells came. laws.gives g w left (run_at w is) (picks_told sources drains book handles b can ss ds left last between old mid opens w has) sent j v n at from other (ap (λ (x : Book). tells_none x n.kind) is ∙ tells) came)
       (λ u v c at is. rw (wire_at sources drains book handles laws b ss ds budget st l old mid opens u v c at is) (record { over = ended_shut sources drains book g left run u v at; asks = lane_asked sources drains book g left run u v at }))
       (left_stood sources drains book handles laws b ss ds budget st l old mid opens) (sink_stood sources drains book handles laws b ss ds budget st l old mid opens) (ended_stood sources drains book handles laws b ss ds budget st l old mid opens) (writer_stood sources drains book handles laws b ss ds budget st l old mid opens) (took_there sources drains book handles laws b ss ds budget st l old mid opens) (ignored_there sources drains book handles laws b ss ds budget st l old mid opens)
 

@@ -6,7 +6,7 @@ use Rattle.stream_model.specs.declared.outcome.WireCount.{WireCount}
 use Rattle.stream_model.specs.declared.outcome.EndState.{EndState}
 use Rattle.stream_model.specs.declared.outcome.EndState.TheVariants.{Ended, Failed, Unended, WriteFault}
 use Rattle.stream_model.specs.Graph.{Graph}
-use Rattle.stream_model.specs.Graph as graph
+use Rattle.stream_model.specs.Listed.{AllTell}
 use Rattle.stream_model.specs.Node.{World}
 use Rattle.stream_model.specs.Shape.{IsPolytree, IsWired}
 use Rattle.run_laws.specs.Picture.{has_ended, ended_there}
@@ -16,7 +16,7 @@ use Rattle.interpreter.specs.Picks.{Pick, pick_of}
 use Rattle.run_laws.specs.Account.{Account, IsStill}
 use Rattle.run_laws.specs.Runs.{IsRun}
 use Rattle.run_laws.specs.Replayed.{IsLawfulBy, RestsBy}
-use Rattle.run_laws.specs.Telling.{TellsNoList, AreSettled}
+use Rattle.run_laws.specs.Telling.{AreSettled}
 use Rattle.run_laws.proofs.Unled.{rests_freely}
 use Rattle.stream_model.specs.declared.blueprint.Blueprint.{Blueprint}
 use Rattle.stream_model.specs.declared.blueprint.Node as blue
@@ -30,16 +30,15 @@ use Rattle.materializer.specs.Seats.{place_plan}
 use Rattle.materializer.specs.Graphs.{graph_node, graph_of}
 use Rattle.run_blueprint.specs.Carrying.{WiresCarry, PictureStands, MisfitByPassed, as_passed}
 use Rattle.run_blueprint.proofs.Carried.{unread}
-use Rattle.run_blueprint.specs.Drawing.{Drawn, TellNone}
+use Rattle.run_blueprint.specs.Drawing.{Drawn}
 use Rattle.island_runs.specs.Leaving.{Moment, RunLeaves}
 use Rattle.run_blueprint.specs.Opening.{Opens}
 use Rattle.run_blueprint.specs.Replaying.{IsMisfit}
-use Rattle.run_blueprint.specs.Running.{HasNoCustom}
 use Rattle.run_blueprint.specs.Stands.{SinkStand, is_unended}
 use Rattle.island_runs.specs.declared.run.Stopped.{Stopped}
 use Rattle.run_blueprint.proofs.Replays.{none_at}
-use Rattle.run_blueprint.proofs.Worlds.{tree_by_wires, all_tell}
-use Rattle.run_blueprint.proofs.Places.{mapped_at, unmapped_at, place_of, place_within}
+use Rattle.run_blueprint.proofs.Worlds.{tree_by_wires}
+use Rattle.run_blueprint.proofs.Places.{mapped_at, place_of, place_within}
 use Rattle.run_blueprint.proofs.Handles.{HandleLaws}
 use Rattle.run_blueprint.proofs.Drawns.{drawn_of, made_moves, picks_told}
 use Rattle.run_blueprint.proofs.RunLaws.{RunLaws}
@@ -121,34 +120,28 @@ module _ {S D L H B : Type 0} (sources : S → SourceState) (drains : D → Drai
       }
 
   -- in a polytree every sink has ended where no event was left
-  pub ending : NoneFollow plans → HasNoCustom b → IsPolytree (wiring (blueprint_wires b)) → IsTrue st.at_rest → list_any (λ (s : SinkStand). is_unended s.2) st.end.sinks.items ≡ false
+  pub ending : NoneFollow plans → AllTell g book → IsPolytree (wiring (blueprint_wires b)) → IsTrue st.at_rest → list_any (λ (s : SinkStand). is_unended s.2) st.end.sinks.items ≡ false
   ending none own tree rest =
       none_unended st.end.sinks.items (λ i s at.
       let h = sink_here sources drains book handles laws b ss ds budget st l old mid opens i s at in
       let n : slice_get g.nodes h.is.to ≡ Some (graph_node b.wires.items h.node) = subst (λ j. slice_get g.nodes j ≡ Some (graph_node b.wires.items h.node)) (sym h.to) (mapped_at (graph_node b.wires.items) nodes s.0 h.node h.at) in
       let over : ended_there (left.nodes h.is.to) ≡ true =
       laws.trees g (unread book moved) (picture sources drains book handles laws b can ss ds budget st l old mid opens) (as_passed carry) picture_wired
-      (rests_freely g (unread book moved) (plan_at plans) (none_at plans none) (picture sources drains book handles laws b can ss ds budget st l old mid opens) (as_passed carry) (laws.rests_by g (unread book moved) (plan_at plans) left (as_passed carry) run (still rest) (told_moves sources drains book handles laws b can ss ds budget st l old mid opens) (λ k n name at is. refl) (follows sources drains book handles laws b can ss ds budget st l plans led old mid opens) (all_agree sources drains book handles laws b can ss ds budget st l old mid opens))) (all_tell b (unread book moved).customs own) (tree_by_wires g tree)
+      (rests_freely g (unread book moved) (plan_at plans) (none_at plans none) (picture sources drains book handles laws b can ss ds budget st l old mid opens) (as_passed carry) (laws.rests_by g (unread book moved) (plan_at plans) left (as_passed carry) run (still rest) (told_moves sources drains book handles laws b can ss ds budget st l old mid opens) (follows sources drains book handles laws b can ss ds budget st l plans led old mid opens) (all_agree sources drains book handles laws b can ss ds budget st l old mid opens))) own (tree_by_wires g tree)
       (λ k. ended_there (left.nodes k)) (laws.match g (unread book moved) left (as_passed carry) run (still rest)) h.wire h.is (graph_node b.wires.items h.node) h.there n h.shape in
       ended_goes s.2 (sym h.ended ∙ ap (λ (k : ℕ). ended_there (left.nodes k)) (sym h.to) ∙ over))
-
-  -- what a world says of the custom stages that are named, it says of those of the graph
-  none_told_of : (w : World) → TellNone nodes w.customs → TellsNoList g w
-  none_told_of w untold k n name at is =
-      let m = unmapped_at (graph_node b.wires.items) nodes k n at in
-      untold k m.0 name m.1.0 (ap (λ (x : graph.Node). x.kind) (sym m.1.1) ∙ is)
 
   -- the picture by what passed
   pictured : (heads : HeadLists) → HasTypes sources drains book handles laws b can ss ds budget st l old mid opens heads → PictureStands book heads b plans st.end.sinks.items drawn.picks st.wires.items st.at_rest
   pictured heads typed = record {
     carries = carry;
     customs = sent_typed sources drains book handles laws b can ss ds budget st l old mid opens heads typed;
-    lawful = λ w is has untold.
+    lawful = λ w is has.
         subst (λ (c : List WireCount). IsLawfulBy g w (plan_at plans) c (as_passed carry)) (sym (wires_are sources drains book handles laws b ss ds budget st l old mid opens))
-        (laws.lawful_by g w (plan_at plans) left (as_passed carry) (run_at w is) settled (picks_told sources drains book handles b can ss ds left last between old mid opens w has) (none_told_of w untold) (follows sources drains book handles laws b can ss ds budget st l plans led old mid opens) (all_pass sources drains book handles laws b can ss ds budget st l old mid opens));
-    rest = λ rest w is has untold.
+        (laws.lawful_by g w (plan_at plans) left (as_passed carry) (run_at w is) settled (picks_told sources drains book handles b can ss ds left last between old mid opens w has) (follows sources drains book handles laws b can ss ds budget st l plans led old mid opens) (all_pass sources drains book handles laws b can ss ds budget st l old mid opens));
+    rest = λ rest w is has.
         subst (λ (c : List WireCount). RestsBy g w (plan_at plans) c (as_passed carry)) (sym (wires_are sources drains book handles laws b ss ds budget st l old mid opens))
-        (laws.rests_by g w (plan_at plans) left (as_passed carry) (run_at w is) (still rest) (picks_told sources drains book handles b can ss ds left last between old mid opens w has) (none_told_of w untold) (follows sources drains book handles laws b can ss ds budget st l plans led old mid opens) (all_agree sources drains book handles laws b can ss ds budget st l old mid opens));
+        (laws.rests_by g w (plan_at plans) left (as_passed carry) (run_at w is) (still rest) (picks_told sources drains book handles b can ss ds left last between old mid opens w has) (follows sources drains book handles laws b can ss ds budget st l plans led old mid opens) (all_agree sources drains book handles laws b can ss ds budget st l old mid opens));
     matching = λ rest w. matched sources drains book handles laws b ss ds budget st l old mid opens rest w (as_passed carry);
   }
 

@@ -52,6 +52,7 @@ use Rattle.run_blueprint.proofs.SinkWires.{left_shut, sink_shut, lane_shut, sink
 use Rattle.run_blueprint.proofs.Shutting.{TakenApart}
 use Rattle.run_blueprint.proofs.RunLaws.{RunLaws}
 use Rattle.stream_model.specs.Linear.{Book}
+use Rattle.stream_model.specs.Listed.{tells_none}
 
 -- ---- the wires' counts
 
@@ -304,11 +305,11 @@ module _ {S D L H B : Type 0} (sources : S → SourceState) (drains : D → Drai
 
   -- one that was cancelled, and those behind it
   pub left_stood : (u : ℕ) (v : Edge) (c : WireCount) → slice_get (blueprint_wires b) u ≡ Some v → slice_get st.wires.items u ≡ Some c → c.shut ≡ true → end_of_items (left.near u).wire.sent ≡ unended
-      → ((n : blue.Node) (name : List ℕ) → slice_get nodes v.to ≡ Some n → n.kind ≢ kind.Custom name)
+      → ((n : blue.Node) → slice_get nodes v.to ≡ Some n → tells_none book n.kind ≡ false)
       → (j : ℕ) (x : Edge) (d : WireCount) → slice_get (blueprint_wires b) j ≡ Some x → x.from ≡ v.to → slice_get st.wires.items j ≡ Some d → d.shut ≡ true
-  left_stood u v c at is shut none hired j x d behind from there =
+  left_stood u v c at is shut none tells j x d behind from there =
       let closed : (wire_count v.lane (left.near u) (left.asked u)).shut ≡ true = subst (λ (w : WireCount). w.shut ≡ true) (wire_at u v c at is) shut in
-      rw (wire_at j x d behind there) (left_shut sources drains book g left run u v at (λ m name here custom. let q = unmapped_at (graph_node b.wires.items) nodes v.to m here in hired q.0 name q.1.0 (ap (λ (y : graph.Node). y.kind) (sym q.1.1) ∙ custom)) l.cancels closed none j x behind from)
+      rw (wire_at j x d behind there) (left_shut sources drains book g left run u v at (λ m here. let q = unmapped_at (graph_node b.wires.items) nodes v.to m here in ap (λ (y : graph.Node). tells_none book y.kind) q.1.1 ∙ tells q.0 q.1.0) l.cancels closed none j x behind from)
 
   -- a sink's input is shut exactly where the sink has ended
   pub matched : IsTrue st.at_rest → (w : World) (outlook : ℕ → Outlook) → SinksMatch g w st.wires.items outlook (has_ended_at st.end.sinks.items)

@@ -1,6 +1,6 @@
 -- The row of a merge hub in a picture, read for each of its producers.
 use Rattle.std.specs.Prelude.{slice_get, if◌then◌else◌, Option, Some, None}
-use Rattle.std.proofs.Common.{◌≡◌, ℕ, zero, suc, ◌+◌, ◌-◌, ◌<◌, ◌≤◌, ◌⊎◌, inl, inr, Bool, true, false, List, [], ◌∷◌, length, map, refl, sym, ap, subst, ◌∙◌, arith}
+use Rattle.std.proofs.Common.{◌≡◌, ℕ, zero, suc, ◌+◌, ◌-◌, ◌<◌, ◌≤◌, ◌⊎◌, inl, inr, Bool, true, false, List, [], ◌∷◌, length, map, sym, ap, subst, ◌∙◌, arith}
 use Rattle.std.proofs.lemmas.Bool.{cases_eq}
 use Rattle.stream_io.specs.State.{FolderState}
 use Rattle.stream_model.specs.Composed.{inputs_by, inputs_of, count_from}
@@ -8,7 +8,7 @@ use Rattle.stream_model.specs.Graph.{Graph, Edge, find_wire}
 use Rattle.stream_model.specs.Graph as graph
 use Rattle.stream_model.specs.Joined.{IsJoined}
 use Rattle.stream_model.specs.Lawful.{MergeInputs, MergeLawful, RowLawful}
-use Rattle.stream_model.specs.Linear.{Book, none_told, role_of}
+use Rattle.stream_model.specs.Linear.{Book, role_of}
 use Rattle.stream_model.specs.Node.{World}
 use Rattle.stream_model.specs.Outlook.{Outlook}
 use Rattle.stream_model.specs.Picks.{count_of}
@@ -119,4 +119,4 @@ pub hub_leaves : (book : Book) (old new : FolderState) (b : Blueprint) (plans : 
     → (k : ℕ) (n : Node) (own producers u : ℕ) (v : Edge) (c : WireCount) (size : ℕ) → slice_get b.nodes.items k ≡ Some n → n.kind ≡ MergeHub own producers → slice_get (blueprint_wires b) u ≡ Some v → v.to ≡ k → hub_size b.nodes.items v.from v.to ≡ Some size → slice_get ran.wires.items u ≡ Some c
     → (count_of v.input (w.moves k) ≤ c.sent) × (c.sent ≤ count_of v.input (w.moves k) + (size + 1))
 hub_leaves book old new b plans trace budget ran known heads taken w runs fit same has k n own producers u v c size at is there to hub count =
-    hub_left b ran.wires.items runs.pays.counted (fit_joined b heads taken fit) (record w { customs = none_told w.book }) (plan_at plans) (as_passed runs.picture.carries) (runs.picture.lawful (record w { customs = none_told w.book }) same has (λ j m name there custom. refl)) k (graph_node b.wires.items n) own producers (mapped_at (graph_node b.wires.items) b.nodes.items k n at) is u v c size there to (hub_wire b u v size there hub).0 count
+    hub_left b ran.wires.items runs.pays.counted (fit_joined b heads taken fit) w (plan_at plans) (as_passed runs.picture.carries) (runs.picture.lawful w same has) k (graph_node b.wires.items n) own producers (mapped_at (graph_node b.wires.items) b.nodes.items k n at) is u v c size there to (hub_wire b u v size there hub).0 count

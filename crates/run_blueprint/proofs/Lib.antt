@@ -2,6 +2,8 @@ pub mod Lists
 pub mod Functions
 pub mod Meeting
 pub mod Keeping
+mod CustomTypes
+mod ToldTypes
 pub mod Works
 pub mod Given
 pub mod Machines
@@ -17,7 +19,6 @@ pub mod Settling
 pub mod Carrying
 pub mod TypeSending
 pub mod Runs
-mod CustomTypes
 pub mod Fit
 pub mod Places
 pub mod Counts

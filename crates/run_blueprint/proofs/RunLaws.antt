@@ -1,5 +1,5 @@
 -- The laws of a run, as the functions of the crates below state them.
-use Rattle.std.proofs.Common.{◌≡◌, ◌≢◌, ◌⊎◌, ℕ, ◌<◌, Bool, true, List, [], map, length, slice_get}
+use Rattle.std.proofs.Common.{◌≡◌, ◌≢◌, ◌⊎◌, ℕ, ◌<◌, Bool, true, false, List, [], map, length, slice_get}
 use Rattle.std.specs.Prelude.{Some}
 use Rattle.elem_core.specs.Prefix.{IsPrefix}
 use Rattle.elem_core.specs.Items.{elements}
@@ -14,7 +14,7 @@ use Rattle.stream_model.specs.Blame.{GivenLeads}
 use Rattle.stream_model.specs.Composed.{next, composed, sink_outlook, IsRanked}
 use Rattle.stream_model.specs.OneWay as oneway
 use Rattle.stream_model.specs.Rests.{Rests, SinksMatch}
-use Rattle.stream_model.specs.Listed.{AllTell}
+use Rattle.stream_model.specs.Listed.{AllTell, tells_none}
 use Rattle.stream_model.specs.Shape.{IsPolytree, IsWired}
 use Rattle.run_laws.specs.Picture.{ended_there}
 use Rattle.stream_io.specs.State.{SourceState, DrainState}
@@ -29,7 +29,7 @@ use Rattle.run_laws.specs.Items.{AgreesWith, IsToldList}
 use Rattle.run_laws.specs.Pictures as pictures
 use Rattle.run_laws.specs.Runs.{IsRun}
 use Rattle.run_laws.specs.Replayed.{Plans, IsAtOnce, FitsBy, IsLawfulBy, RestsBy, MisfitsOver}
-use Rattle.run_laws.specs.Telling.{FollowsPlans, ServesPlans, TellsFiles, TellsPicks, TellsNoList, TellsCustoms, WorldTells, AreSettled}
+use Rattle.run_laws.specs.Telling.{FollowsPlans, ServesPlans, TellsFiles, TellsPicks, TellsCustoms, WorldTells, AreSettled}
 use Rattle.run_laws.specs.Sinks.{TookList, SinkWrote, SentTo, IsSinkAt, IsIgnorerAt}
 use Rattle.run_laws.specs.Reads.{IsSourceAt, SentLines, GivesTexts}
 use Rattle.stream_model.specs.declared.blueprint.Blueprint.{Blueprint}
@@ -79,11 +79,11 @@ module _ {S D : Type 0} (L H B : Type 0) (sources : S → SourceState) (drains :
       → WorldTells sources g w a → FollowsPlans plans a → IsRanked g rank → RestsBy g w plans (pictures.picture_counts a g) (composed g w)
 
   abbrev LawfulByLaw : Type 0
-  LawfulByLaw = (g : Graph) (w : World) (plans : Plans) (a : Account (IslandNode S D L H B)) (outlook : ℕ → Outlook) → IsRun sources drains w.book g a → AreSettled g a → TellsPicks w a → TellsNoList g w → FollowsPlans plans a
+  LawfulByLaw = (g : Graph) (w : World) (plans : Plans) (a : Account (IslandNode S D L H B)) (outlook : ℕ → Outlook) → IsRun sources drains w.book g a → AreSettled g a → TellsPicks w a → FollowsPlans plans a
       → pictures.AllPass a g outlook → IsLawfulBy g w plans (pictures.picture_counts a g) outlook
 
   abbrev RestsByLaw : Type 0
-  RestsByLaw = (g : Graph) (w : World) (plans : Plans) (a : Account (IslandNode S D L H B)) (outlook : ℕ → Outlook) → IsRun sources drains w.book g a → IsStill g a → TellsPicks w a → TellsNoList g w → FollowsPlans plans a
+  RestsByLaw = (g : Graph) (w : World) (plans : Plans) (a : Account (IslandNode S D L H B)) (outlook : ℕ → Outlook) → IsRun sources drains w.book g a → IsStill g a → TellsPicks w a → FollowsPlans plans a
       → pictures.AllAgreeWith a g outlook → RestsBy g w plans (pictures.picture_counts a g) outlook
 
   abbrev MovesLaw : Type 0
@@ -115,7 +115,7 @@ module _ {S D : Type 0} (L H B : Type 0) (sources : S → SourceState) (drains :
       → WorldTells sources g w a → IsRanked g rank → GivenLeads g w
 
   abbrev TreesLaw : Type 0
-  TreesLaw = (g : Graph) (w : World) (counts : List WireCount) (outlook : ℕ → Outlook) → IsWired g counts → Rests g w counts outlook → AllTell g w.customs → IsPolytree g → (ended : ℕ → Bool) → SinksMatch g w counts outlook ended
+  TreesLaw = (g : Graph) (w : World) (counts : List WireCount) (outlook : ℕ → Outlook) → IsWired g counts → Rests g w counts outlook → AllTell g w.book → IsPolytree g → (ended : ℕ → Bool) → SinksMatch g w counts outlook ended
       → (i : ℕ) (v : Edge) (n : graph.Node) → slice_get g.wires i ≡ Some v → slice_get g.nodes v.to ≡ Some n → oneway.is_sink n.kind ≡ true → ended v.to ≡ true
 
   abbrev IgnorerThere : Type 0
@@ -133,7 +133,7 @@ module _ {S D : Type 0} (L H B : Type 0) (sources : S → SourceState) (drains :
 
   abbrev GivesLaw : Type 0
   GivesLaw = (g : Graph) (w : World) (a : Account (IslandNode S D L H B)) → IsRun sources drains w.book g a → TellsPicks w a
-      → (sent : ℕ → Outlook) (j : ℕ) (v : Edge) (n : graph.Node) → slice_get g.wires j ≡ Some v → slice_get g.nodes v.from ≡ Some n → ((name : List ℕ) → n.kind ≢ kind.Lines name) → ((name : List ℕ) → n.kind ≢ kind.Custom name)
+      → (sent : ℕ → Outlook) (j : ℕ) (v : Edge) (n : graph.Node) → slice_get g.wires j ≡ Some v → slice_get g.nodes v.from ≡ Some n → ((name : List ℕ) → n.kind ≢ kind.Lines name) → tells_none w.book n.kind ≡ false
       → ((u : ℕ) (x : Edge) → slice_get g.wires u ≡ Some x → x.to ≡ v.from → AgreesWith (sent u) (a.near u).wire.sent) → AgreesWith (next g w sent j) (a.near j).wire.sent
 
   abbrev TextsLaw : Type 0

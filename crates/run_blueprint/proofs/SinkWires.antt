@@ -18,6 +18,8 @@ use Rattle.stage_core.specs.Held.{told}
 use Rattle.stage_core.specs.Law.{TookAs}
 use Rattle.stage_core.specs.OpenOuts.{OutsClosed}
 use Rattle.stage_core.specs.Row.{InClosed}
+use Rattle.stage_linear.specs.Handling.{LinearPortState}
+use Rattle.stage_linear.specs.States.{Logic}
 use Rattle.stream_io.specs.State.{SourceState, DrainState}
 use Rattle.stream_model.specs.declared.kind.Kind.{Kind}
 use Rattle.stream_model.specs.declared.kind.Kind.TheVariants as kind
@@ -29,6 +31,7 @@ use Rattle.stream_model.specs.Graph.{Graph, Edge, find_wire, find_source}
 use Rattle.stream_model.specs.Graph as graph
 use Rattle.stream_model.specs.Lane.{lane_loss, Carries}
 use Rattle.stream_model.specs.Linear.{Book}
+use Rattle.stream_model.specs.Listed.{tells_none}
 use Rattle.stream_model.specs.Outlook.{End, unended, ended}
 use Rattle.stream_model.proofs.Compositions.{slice_get-below}
 use Rattle.nodes.specs.declared.node.IslandNode.{IslandNode}
@@ -61,7 +64,7 @@ use Rattle.run_laws.proofs.Resting.{in_shut, out_shut}
 use Rattle.run_blueprint.specs.Carrying.{ShutBy, OverBy, AskedBy, LinesWritten, SinkTook, IgnorerTook}
 use Rattle.run_blueprint.specs.Stands.{SinkStand}
 use Rattle.graph_stage.specs.State.{CustomState}
-use Rattle.run_laws.proofs.Blaming.{law_named}
+use Rattle.run_laws.proofs.ToldCustoms.{told_stands}
 use Rattle.run_blueprint.proofs.Cancelled.{closes_outs, closed_there}
 use Rattle.run_blueprint.proofs.EndShuts.{end_shuts, shut_left, out_left, waits_marked}
 use Rattle.run_blueprint.proofs.Profiles.{some_one, stand_in}
@@ -293,9 +296,9 @@ module _ {S D L H B : Type 0} (sources : S → SourceState) (drains : D → Drai
   ended_shut over = let c = came_near in end_shuts (a.near u).wire near_sound.0 near_sound.1 c.0 c.1 c.2 c.3 over
 
   -- where it was cancelled, the wires that go out of the node at its input are shut
-  pub left_shut : ((n : graph.Node) (name : List ℕ) → slice_get g.nodes v.to ≡ Some n → n.kind ≡ kind.Custom name → ⊥) → CancelsCross g a → (wire_count v.lane (a.near u) (a.asked u)).shut ≡ true → end_of_items (a.near u).wire.sent ≡ unended
+  pub left_shut : ((n : graph.Node) → slice_get g.nodes v.to ≡ Some n → tells_none book n.kind ≡ false) → CancelsCross g a → (wire_count v.lane (a.near u) (a.asked u)).shut ≡ true → end_of_items (a.near u).wire.sent ≡ unended
       → (j : ℕ) (x : Edge) → slice_get g.wires j ≡ Some x → x.from ≡ v.to → (wire_count x.lane (a.near j) (a.asked j)).shut ≡ true
-  left_shut hired cancels shut none j x behind from =
+  left_shut tells cancels shut none j x behind from =
       let c = came_near in
       let near : (a.near u).wire.inp ≡ Cancelled = shut_left (a.near u).wire near_sound.0 near_sound.1 c.0 c.1 c.2 c.3 shut none in
       let far : (a.far u).wire.inp ≡ Cancelled = left_by v.keep (a.near u) (a.far u) (a.asked u) near_sound.0 far_sound.0 near_sound.1 far_sound.1 v.lane keeps (λ size lane. cancels u v size at lane) near in
@@ -303,8 +306,8 @@ module _ {S D L H B : Type 0} (sources : S → SourceState) (drains : D → Drai
       let kept = run.keeps.each_node v.to t.0 t.1 in
       let first : 0 + v.input ≡ v.input = omega arith in
       let there : slice_get (knows g a v.to t.0).ins v.input ≡ Some (a.far u).wire.inp = in_there g inp_of a.far v.to 0 (inputs_of t.0) v.input u t.2 (rw first t.3) in
-      let other : (c : CustomState) → kept.now ≡ node.Custom c → ⊥ =
-      λ c is. let named = law_named sources drains book g.chains v.to t.0 kept.first kept.now (knows g a v.to t.0) (took g a v.to t.0) (gave g a v.to t.0) c is (run.made v.to t.0 kept.first t.1 kept.first_at) kept.law_holds in hired t.0 named.0 t.1 named.1 in
+      let other : (c : CustomState) → kept.now ≡ node.Custom c → (l : Logic) × LinearPortState l (knows g a v.to t.0) =
+      λ c is. told_stands sources drains book g.chains v.to t.0 kept.first kept.now (knows g a v.to t.0) (took g a v.to t.0) (gave g a v.to t.0) c is (run.made v.to t.0 kept.first t.1 kept.first_at) kept.law_holds (tells t.0 t.1) in
       let closed : OutsClosed (knows g a v.to t.0).outs = closes_outs kept.now (knows g a v.to t.0) v.input other kept.port_state_holds (there ∙ ap Some far) in
       let s = run.joined.source j x behind in
       let same : s.0 ≡ t.0 = some_one s.0 t.0 (sym s.1 ∙ ap (slice_get g.nodes) from ∙ t.1) in

@@ -1,25 +1,19 @@
 -- The world that has the input files as the sources of a run read them, and walks along the wires of a blueprint.
-use Rattle.std.proofs.Common.{◌≡◌, ℕ, zero, suc, ◌+◌, Bool, true, false, List, [], ◌∷◌, slice_get, refl, sym, ap, ◌∙◌, arith}
+use Rattle.std.proofs.Common.{◌≡◌, ℕ, zero, suc, ◌+◌, Bool, true, false, List, [], ◌∷◌, slice_get, refl, ap, ◌∙◌, arith}
 use Rattle.std.specs.Prelude.{Some, if◌then◌else◌}
 use Rattle.std.specs.Cmp.Lexicographic.{bytes_decides}
 use Rattle.elem_core.specs.Values.{same_text}
 use Rattle.stream_model.specs.declared.kind.Kind.{Kind}
 use Rattle.stream_model.specs.declared.kind.Kind.TheVariants as kind
 use Rattle.stream_model.specs.Graph.{Graph}
-use Rattle.stream_model.specs.Graph as graph
-use Rattle.stream_model.specs.Linear.{Book, CustomBook, none_told}
-use Rattle.stream_model.specs.Listed.{tells_none, AllTell}
+use Rattle.stream_model.specs.Linear.{Book}
 use Rattle.stream_model.specs.Node.{World}
 use Rattle.stream_model.specs.Sources.{File}
 use Rattle.stream_model.specs.Shape.{Walk, stay, along, IsPolytree}
-use Rattle.stream_model.specs.declared.blueprint.Blueprint.{Blueprint}
 use Rattle.stream_model.specs.declared.blueprint.Node as blue
 use Rattle.blue_check.specs.Forest.{wiring}
-use Rattle.materializer.specs.Graphs.{graph_of, graph_node}
 use Rattle.run_blueprint.specs.Choosing.{HasPicks}
 use Rattle.run_blueprint.specs.Drawing.{Drawn, IsWorldOf}
-use Rattle.run_blueprint.specs.Running.{HasNoCustom}
-use Rattle.run_blueprint.proofs.Places.{unmapped_at}
 
 -- a kind that reads the file of that name
 abbrev reads : Kind → List ℕ → Bool
@@ -71,7 +65,7 @@ file_found (m ∷ ms) j (suc k) n d name at is one =
 
 -- the world of a run with these plugs, in which the nodes made these moves
 abbrev pub world_of : Book → List blue.Node → Drawn → (ℕ → List ℕ) → World
-world_of book nodes d moves = record { book = book; customs = none_told book; file = file_of nodes 0 d; moves = moves; given = d.given_by }
+world_of book nodes d moves = record { book = book; file = file_of nodes 0 d; moves = moves; given = d.given_by }
 
 -- has each file as it was read, where no two sources have one
 pub world_has : (book : Book) (nodes : List blue.Node) (d : Drawn) (moves : ℕ → List ℕ) → ((i k : ℕ) (m n : blue.Node) (name : List ℕ) → slice_get nodes i ≡ Some m → slice_get nodes k ≡ Some n → m.kind ≡ kind.Lines name → n.kind ≡ kind.Lines name → i ≡ k) → HasPicks d.picks (world_of book nodes d moves)
@@ -82,8 +76,7 @@ world_has book nodes d moves one picks = record {
       let place : 0 + k ≡ k = omega arith in
       file_found nodes 0 k is.node d name is.at is.kind_is (λ i m at shape. one i k m is.node name at is.at shape is.kind_is) ∙ ap (file_at d) place;
   moves = picks;
-  gave = λ k p. refl;
-  untold = λ k n name at is. refl;
+  gave = λ k n p at untold. refl;
 }
 
 -- ---- walks go by the wires alone
@@ -94,15 +87,3 @@ walk_by g (along j more) = along (record { wire = j.wire; at = j.at; ends = j.en
 
 pub tree_by_wires : (g : Graph) → IsPolytree (wiring g.wires) → IsPolytree g
 tree_by_wires g tree = record { open_walks = λ a is walk new. tree.open_walks a is (walk_by g walk) new }
-
--- ---- where no custom stage is named each of them tells a list
-
-tells_one : (c : CustomBook) (k : Kind) → ((name : List ℕ) → k ≡ kind.Custom name → ⊥) → tells_none c k ≡ false
-tells_one c (kind.Custom name) none = absurd (none name refl)
-tells_one c _ none = refl
-
-pub all_tell : (b : Blueprint) (c : CustomBook) → HasNoCustom b → AllTell (graph_of b) c
-all_tell b c none k n at =
-    let m = unmapped_at (graph_node b.wires.items) b.nodes.items k n at in
-    let same : n.kind ≡ m.0.kind = ap (λ (x : graph.Node). x.kind) m.1.1 in
-    tells_one c n.kind (λ name is. none k m.0 name m.1.0 (sym same ∙ is))

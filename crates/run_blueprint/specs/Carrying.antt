@@ -3,13 +3,14 @@ use Rattle.std.specs.Prelude.{◌≡◌, ◌≢◌, ℕ, ◌+◌, ◌≤◌, Boo
 use Rattle.elem_core.specs.Sort.{Sort}
 use Rattle.elem_core.specs.Tree.{Tree}
 use Rattle.stream_model.specs.declared.kind.Kind.{Kind}
-use Rattle.stream_model.specs.declared.kind.Kind.TheVariants.{Lines, ToLines, Head, Ignore, Custom}
+use Rattle.stream_model.specs.declared.kind.Kind.TheVariants.{Lines, ToLines, Head, Ignore}
 use Rattle.stream_model.specs.declared.outcome.WireCount.{WireCount}
 use Rattle.stream_model.specs.declared.outcome.EndState.{EndState}
 use Rattle.stream_model.specs.declared.outcome.EndState.TheVariants.{Ended, Failed, Unended, WriteFault}
 use Rattle.stream_model.specs.Composed.{next, composed}
 use Rattle.stream_model.specs.Graph.{Edge}
 use Rattle.stream_model.specs.Lane.{lane_loss, Carries}
+use Rattle.stream_model.specs.Listed.{tells_none}
 use Rattle.stream_model.specs.Node.{World}
 use Rattle.stream_model.specs.Outlook.{Outlook, End, unended, Agrees}
 use Rattle.stream_model.specs.Rests.{SinksMatch}
@@ -35,7 +36,7 @@ use Rattle.run_blueprint.specs.Stands.{SinkStand, has_ended_at}
 use Rattle.run_blueprint.specs.Types.{AllTyped}
 use Rattle.interpreter.specs.Picks.{Pick}
 use Rattle.run_blueprint.specs.Choosing.{HasPicks}
-use Rattle.run_blueprint.specs.Drawing.{Drawn, TellNone, IsWorldOf}
+use Rattle.run_blueprint.specs.Drawing.{Drawn, IsWorldOf}
 use Rattle.stream_model.specs.Linear.{Book}
 use Rattle.run_blueprint.specs.Plugs.{KeepsPlugTypes, CustomsTyped}
 
@@ -97,26 +98,27 @@ pub record IgnorerTook (loss : Option ℕ) (list : List Tree) (end : End) (s : S
   pub ends : EndsWith s.2 seen
 
 -- On each wire a list passed, and it stands so: as many elements as the picture counts (`counted`), all of the type that the
--- check settles for the wire, where those of custom stages are of their heads' (`typed`). What a node gave that is no source of lines and no custom stage agrees with what it gives of
--- the lists that passed on its inputs, by every world that has what the stages chose (`given`). A wire on which an end was sent is shut (`shut_is`);
+-- check settles for the wire, where those of custom stages are of their heads' (`typed`). What a node gave that is no source of lines and
+-- no custom stage that tells no list agrees with what it gives of the lists that passed on its inputs, by every world that has what the
+-- stages chose (`given`). A wire on which an end was sent is shut (`shut_is`);
 -- a lane is not asked only where as many elements were sent as it has places (`lane_asks`); and the wire of a sink stands by how the
 -- sink does (`sink_shut`, `sink_asked`): also a lane is shut where its sink has ended, unless that takes one element alone and so may
 -- have cancelled it (`lane_shut`). A wire that is shut though no end was sent on it was cancelled, and then each wire behind it is shut,
--- those that go out of the node to which it leads, where that is no custom stage (`left_shut`). Each sink stands by what came to it of what passed its wire
+-- those that go out of the node to which it leads, where that is no custom stage that tells no list (`left_shut`). Each sink stands by what came to it of what passed its wire
 -- (`sink_took`, `ignorer_took`). What a source of lines gave, `AgreesWithFiles` says.
 pub record WiresCarry (book : Book) (b : Blueprint) (stands : List SinkStand) (wires : List WireCount) (picks : List Pick) : Type 0 where
   pub lists : ℕ → List Tree
   pub ends : ℕ → End
   pub counted : (i : ℕ) (v : Edge) → slice_get (blueprint_wires b) i ≡ Some v → sent_at wires i ≡ length (lists i)
   pub typed : (heads : HeadLists) (taken : List (List ℕ)) → IsFit b heads taken → KeepsPlugTypes heads book
-      → CustomsTyped heads b.nodes.items (blueprint_wires b) lists → (i : ℕ) (v : Edge) → slice_get (blueprint_wires b) i ≡ Some v
+      → CustomsTyped heads book b.nodes.items (blueprint_wires b) lists → (i : ℕ) (v : Edge) → slice_get (blueprint_wires b) i ≡ Some v
       → (t : Sort) × ((settled_type b heads v ≡ Some t) × AllTyped t (lists i))
   pub given : (w : World) → w.book ≡ book → HasPicks picks w → (j : ℕ) (v : Edge) (n : Node) → slice_get (blueprint_wires b) j ≡ Some v
-      → slice_get b.nodes.items v.from ≡ Some n → ((name : List ℕ) → n.kind ≢ Lines name) → ((name : List ℕ) → n.kind ≢ Custom name)
+      → slice_get b.nodes.items v.from ≡ Some n → ((name : List ℕ) → n.kind ≢ Lines name) → tells_none book n.kind ≡ false
       → Agrees (next (graph_of b) w (λ u. exact (lists u) (ends u)) j) (lists j) (ends j)
   pub shut_is : (i : ℕ) (v : Edge) (c : WireCount) → slice_get (blueprint_wires b) i ≡ Some v → slice_get wires i ≡ Some c → ends i ≢ unended → c.shut ≡ true
   pub left_shut : (i : ℕ) (v : Edge) (c : WireCount) → slice_get (blueprint_wires b) i ≡ Some v → slice_get wires i ≡ Some c → c.shut ≡ true → ends i ≡ unended
-      → ((n : Node) (name : List ℕ) → slice_get b.nodes.items v.to ≡ Some n → n.kind ≢ Custom name)
+      → ((n : Node) → slice_get b.nodes.items v.to ≡ Some n → tells_none book n.kind ≡ false)
       → (j : ℕ) (x : Edge) (d : WireCount) → slice_get (blueprint_wires b) j ≡ Some x → x.from ≡ v.to → slice_get wires j ≡ Some d → d.shut ≡ true
   pub lane_asks : (i : ℕ) (v : Edge) (c : WireCount) (s : ℕ) → slice_get (blueprint_wires b) i ≡ Some v → slice_get wires i ≡ Some c → v.lane ≡ Some s
       → c.asked ≡ false → s ≤ c.sent
@@ -155,15 +157,12 @@ MisfitByPassed {book} {b} {stands} {wires} {picks} c plans k n = (w : World) →
     → MisfitsOver (graph_of b) w (plan_at plans) (as_passed c) k (graph_node b.wires.items n)
 
 -- The picture of a run by what passed its wires, whatever the folder tells of its files. What came of custom stages is of the types of these
--- heads. By every world that has the heads of the run
--- and what its stages chose, and in which no custom stage tells a list, it is lawful, and where no event was left it rests, but for the stages that cannot make their next move; then a
--- sink's input is shut exactly where the sink has ended.
+-- heads. By every world that has the book of the run and what its stages chose it is lawful, and where no event was left it rests, but for the
+-- stages that cannot make their next move; then a sink's input is shut exactly where the sink has ended.
 pub record PictureStands (book : Book) (heads : HeadLists) (b : Blueprint) (plans : List (Option (List ℕ))) (sinks : List SinkStand) (picks : List Pick)
     (wires : List WireCount) (at_rest : Bool) : Type 0 where
   pub carries : WiresCarry book b sinks wires picks
-  pub customs : CustomsTyped heads b.nodes.items (blueprint_wires b) carries.lists
-  pub lawful : (w : World) → w.book ≡ book → HasPicks picks w → TellNone b.nodes.items w.customs
-      → IsLawfulBy (graph_of b) w (plan_at plans) wires (as_passed carries)
-  pub rest : IsTrue at_rest → (w : World) → w.book ≡ book → HasPicks picks w → TellNone b.nodes.items w.customs
-      → RestsBy (graph_of b) w (plan_at plans) wires (as_passed carries)
+  pub customs : CustomsTyped heads book b.nodes.items (blueprint_wires b) carries.lists
+  pub lawful : (w : World) → w.book ≡ book → HasPicks picks w → IsLawfulBy (graph_of b) w (plan_at plans) wires (as_passed carries)
+  pub rest : IsTrue at_rest → (w : World) → w.book ≡ book → HasPicks picks w → RestsBy (graph_of b) w (plan_at plans) wires (as_passed carries)
   pub matching : IsTrue at_rest → (w : World) → SinksMatch (graph_of b) w wires (as_passed carries) (has_ended_at sinks)

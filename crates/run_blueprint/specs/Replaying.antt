@@ -1,17 +1,18 @@
 -- A run whose stages follow moves: what they made of them, what it leaves by all of them, and the cause of a misfit.
 -- Choice: docs/DECISIONS.md#replays-by-their-moves
-use Rattle.std.specs.Prelude.{◌≡◌, ◌⊎◌, ◌<◌, ℕ, List, [], length, slice_get, Option, Some, None}
+use Rattle.std.specs.Prelude.{◌≡◌, ◌⊎◌, ◌<◌, ℕ, true, List, [], length, slice_get, Option, Some, None}
 use Rattle.elem_core.specs.Prefix.{IsPrefix}
 use Rattle.stream_model.specs.declared.blueprint.Blueprint.{Blueprint}
 use Rattle.stream_model.specs.declared.blueprint.Node.{Node}
 use Rattle.stream_model.specs.Linear.{Book}
+use Rattle.stream_model.specs.Listed.{tells_none}
 use Rattle.stream_model.specs.Node.{World}
 use Rattle.interpreter.specs.Picks.{Pick}
 use Rattle.materializer.specs.Choosers.{plan_at}
 use Rattle.materializer.specs.Graphs.{graph_of, graph_node}
 use Rattle.run_laws.specs.Replayed.{IsAtOnce}
 use Rattle.run_laws.specs.Serving.{IsSureAt}
-use Rattle.run_blueprint.specs.Drawing.{Drawn, IsSource, TellNone}
+use Rattle.run_blueprint.specs.Drawing.{Drawn, IsSource}
 
 -- the stage that is node k made these moves
 abbrev pub HasMade : List Pick → ℕ → List ℕ → Type 0
@@ -23,15 +24,14 @@ MakesItsMoves b plans picks = (k : ℕ) (n : Node) (plan moves : List ℕ) → s
     → HasMade picks k moves
     → IsPrefix moves plan × (IsAtOnce n.kind → (moves ≡ []) ⊎ (moves ≡ plan))
 
--- The world has the plugs as this book lists them, each input file as it was read, of each stage that follows moves all of those, and of each
--- other stage that chose the moves that it made; no custom stage of it tells a list, and what each gave is as it was.
+-- The world has the plugs and the custom stages as this book lists them, each input file as it was read, of each stage that follows moves
+-- all of those, and of each other stage that chose the moves that it made; and what each custom stage gave that tells no list is as it was.
 pub record IsReplayOf (book : Book) (nodes : List Node) (plans : List (Option (List ℕ))) (d : Drawn) (w : World) : Type 0 where
   pub book_is : w.book ≡ book
   pub files : (k : ℕ) (file : List ℕ) → IsSource nodes k file → w.file file ≡ record { bytes = d.bytes k; read = d.given k; faulted = d.faulted k }
   pub followed : (k : ℕ) (plan : List ℕ) → plan_at plans k ≡ Some plan → w.moves k ≡ plan
   pub chosen : (k : ℕ) (moves : List ℕ) → plan_at plans k ≡ None → HasMade d.picks k moves → w.moves k ≡ moves
-  pub gave : (k p : ℕ) → w.given k p ≡ d.given_by k p
-  pub untold : TellNone nodes w.customs
+  pub gave : (k : ℕ) (n : Node) (p : ℕ) → slice_get nodes k ≡ Some n → tells_none book n.kind ≡ true → w.given k p ≡ d.given_by k p
 
 -- Each stage that follows moves made all of them, or no failure may come on any of its wires.
 abbrev pub ServesItsMoves : Blueprint → List (Option (List ℕ)) → List Pick → World → Type 0

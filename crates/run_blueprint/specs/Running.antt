@@ -7,12 +7,13 @@ use Rattle.stream_model.specs.declared.blueprint.Blueprint.{Blueprint}
 use Rattle.stream_model.specs.declared.blueprint.Node.{Node}
 use Rattle.blue_check.specs.Wires.{blueprint_wires}
 use Rattle.blue_check.specs.Forest.{wiring}
-use Rattle.stream_model.specs.declared.kind.Kind.TheVariants.{ToLines, Ignore, Custom}
+use Rattle.stream_model.specs.declared.kind.Kind.TheVariants.{ToLines, Ignore}
 use Rattle.stream_model.specs.declared.outcome.WireCount.{WireCount}
 use Rattle.stream_model.specs.declared.outcome.EndState.{EndState}
 use Rattle.stream_model.specs.declared.outcome.EndState.TheVariants.{Unended, WriteFault}
 use Rattle.stream_model.specs.Graph.{Edge}
 use Rattle.stream_model.specs.Known.{HeadLists}
+use Rattle.stream_model.specs.Listed.{AllTell}
 use Rattle.stream_model.specs.Node.{World}
 use Rattle.stream_model.specs.Blame.{GivenLeads}
 use Rattle.stream_model.specs.Composed.{composed, sink_outlook}
@@ -41,10 +42,6 @@ use Rattle.run_blueprint.specs.Tracing.{Traces, written_files}
 use Rattle.run_blueprint.specs.Units.{Pays}
 use Rattle.run_blueprint.specs.declared.run.RunResult.{RunResult}
 use Rattle.stream_model.specs.Linear.{Book}
-
--- no node of it is a custom stage
-abbrev pub HasNoCustom : Blueprint → Type 0
-HasNoCustom b = (k : ℕ) (n : Node) (name : List ℕ) → slice_get b.nodes.items k ≡ Some n → n.kind ≡ Custom name → ⊥
 
 -- What is told of the sink with a file that is node k, which stands so: it wrote what the composed outlook of the sink lets it
 -- write, by every world that has the input files as they were read and what the stages chose, and so many whole lines. Where the
@@ -84,7 +81,8 @@ pub record ServesAll (book : Book) (new : FolderState) (b : Blueprint) (picks : 
 -- folder still tells its files. The lines that were
 -- drawn are the first of each input, and little more than those was read. Each wire stands by what was sent on it and by how its sink
 -- stands, and what was sent agrees with its composed outlook; of a custom stage it is of the types of its head. The picture is lawful; and where no event was left it
--- rests, and a sink's input is shut exactly where the sink has ended; in a polytree without custom stages every sink has ended then. The stages chose
+-- rests, and a sink's input is shut exactly where the sink has ended; in a polytree whose custom stages all tell a list every sink has ended
+-- then. The stages chose
 -- these moves, which fit what may come in on their inputs. There is a world that has the input files as they were read, and these
 -- moves.
 -- Choice: docs/DECISIONS.md#polytrees-never-stall
@@ -107,12 +105,12 @@ pub record LeavesFiles (book : Book) (heads : HeadLists) (old new : FolderState)
   pub fits : (w : World) → IsWorldOf book b.nodes.items drawn w → FitsBy (graph_of b) w (plan_at plans)
   pub carries : WiresCarry book b sinks wires picks
   pub passed : AgreesWithFiles drawn carries
-  pub customs : CustomsTyped heads b.nodes.items (blueprint_wires b) carries.lists
+  pub customs : CustomsTyped heads book b.nodes.items (blueprint_wires b) carries.lists
   -- the picture, by the composed outlooks
   pub lawful : (w : World) → IsWorldOf book b.nodes.items drawn w → IsLawfulBy (graph_of b) w (plan_at plans) wires (composed (graph_of b) w)
   pub rest : IsTrue at_rest → (w : World) → IsWorldOf book b.nodes.items drawn w → RestsBy (graph_of b) w (plan_at plans) wires (composed (graph_of b) w)
   pub matching : IsTrue at_rest → (w : World) → SinksMatch (graph_of b) w wires (composed (graph_of b) w) (has_ended_at sinks)
-  pub ending : NoneFollow plans → HasNoCustom b → IsPolytree (wiring (blueprint_wires b)) → IsTrue at_rest → list_any (λ s. is_unended s.2) sinks ≡ false
+  pub ending : NoneFollow plans → AllTell (graph_of b) book → IsPolytree (wiring (blueprint_wires b)) → IsTrue at_rest → list_any (λ s. is_unended s.2) sinks ≡ false
   -- the stages that follow moves made the first of them; and where each made all of them, or nothing may fail at it, and they fit, all is as by
   -- all of them
   pub made : MakesItsMoves b plans picks
@@ -142,7 +140,7 @@ pub record SomeWriteRose (old new : FolderState) (b : Blueprint) : Type 0 where
 -- What is told of a run where the folder told its files before it, and how its counts rose. There is a list of moves for each
 -- stage whose kind chooses, in order of nodes, and no other; the trace's file, where one is wanted, holds the text of these moves, or
 -- a first part where a write to it failed. Whatever the folder tells, the units are within the budget and pay for what passed, the picture
--- stands by what passed, and where no event was left every sink of a polytree without custom stages has ended.
+-- stands by what passed, and where no event was left every sink of a polytree whose custom stages all tell a list has ended.
 pub record Runs (book : Book) (heads : HeadLists) (old new : FolderState) (b : Blueprint) (plans : List (Option (List ℕ))) (trace : Option (List ℕ))
     (budget : ℕ)
     (ran : RunResult) : Type 0 where
@@ -166,7 +164,7 @@ pub record Runs (book : Book) (heads : HeadLists) (old new : FolderState) (b : B
   pub spent : ran.at_rest ≡ false → ran.used ≡ budget
   pub pays : Pays b ran.wires.items ran.used
   pub picture : PictureStands book heads b plans ran.sinks.items (map pick_of ran.picks.items) ran.wires.items ran.at_rest
-  pub ending : NoneFollow plans → HasNoCustom b → IsPolytree (wiring (blueprint_wires b)) → IsTrue ran.at_rest
+  pub ending : NoneFollow plans → AllTell (graph_of b) book → IsPolytree (wiring (blueprint_wires b)) → IsTrue ran.at_rest
       → list_any (λ s. is_unended s.2) ran.sinks.items ≡ false
   pub misfit : (stage place : ℕ) → ran.misfit ≡ Some (stage, place)
       → IsMisfit b plans (map pick_of ran.picks.items) (MisfitByPassed picture.carries plans) stage place

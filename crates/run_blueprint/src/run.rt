@@ -15,12 +15,13 @@ ghost use Rattle.plan_reader.specs.Text.{trace_text};
 ghost use Rattle.run_report.specs.Trace.{moves_in};
 ghost use Rattle.island_runs.specs.Leaving.{RunLeaves, LeavesBroken, HasAsMany};
 ghost use Rattle.run_blueprint.specs.Receipt.{IsReceipt};
+ghost use Rattle.run_blueprint.specs.Plugs.{ToldTyped};
 ghost use Rattle.run_blueprint.specs.Opening.{Opens, OpensAs, WritesAs, ClosesAs};
 ghost use Rattle.run_blueprint.specs.Running.{Runs, Wants, WantsWithin};
 ghost use Rattle.run_blueprint.specs.Tracing.{written_files, IsApart};
 ghost use Rattle.std.specs.List.{All};
 ghost use Rattle.elem_core.specs.declared.count.TheConstants.{MOST_COUNT};
-ghost use Rattle.materializer.specs.HandedCustoms.{handed_heads, HasGuests, types_by_heads};
+ghost use Rattle.materializer.specs.HandedCustoms.{handed_heads, HasGuests, TellsAsListed, types_by_heads};
 ghost use Rattle.materializer.specs.HandedPlugs.{GivesAsListed};
 
 use crate::laws::{every_wire_carries_its_type, fit_blueprints_pass_the_rules};
@@ -167,7 +168,7 @@ fn close<F: Folder, L: Logic, H: Handlers, B: PlugBook>(
         → Opens old (F.state folder.old) (inputs_of_nodes b.nodes.items) (outputs_of_nodes b.nodes.items) (option_to_list trace) (map F.Inp.state ss)
         (map F.Out.state ds) → OpensAs (F.state folder.old) trace (option_map F.Out.state drain)
         → (left : RunLeaves L H B F.Inp.state F.Out.state B.lists b ss ds budget stopped) → map place_plan left.moment.places ≡ plans
-        → (heads : HeadLists) → map place_types left.moment.places ≡ types_by_heads heads b.nodes.items
+        → (heads : HeadLists) → map place_types left.moment.places ≡ types_by_heads heads b.nodes.items → ToldTyped heads B.lists
         → Runs B.lists heads old (F.state folder.new) b plans trace budget result }
     ensures handles { F.handles folder.new ≡ F.handles folder.old - (length stopped.end.readers.items + length stopped.end.writers.items + length
         (option_to_list drain)) }
@@ -289,6 +290,7 @@ pub fn run<
     requires runs { CanRun b }
     requires has { HasGuests (handed_heads plugs.items customs.items) b.wires.items b.nodes.items }
     requires listed { All (GivesAsListed L.gives B.lists) plugs.items }
+    requires customs { All (TellsAsListed H.tells B.lists) customs.items }
     requires follow { PlansFit (map (λ n. n.kind) b.nodes.items) (map moves_of plans.items) }
     requires apart { IsApart b trace }
     requires workers { (0 < workers) × (workers ≤ 64) }

@@ -7,7 +7,7 @@ use Rattle.run_blueprint.proofs.Traces.{traces_of, text_written, name_opened, na
 use Rattle.run_blueprint.proofs.run.close.Goals as goal
 
 pub returns-clause-runs : goal.returns-clause-runs
-returns-clause-runs g c = λ old b plans trace budget ss ds can separate named opens opened leaves led heads typed.
+returns-clause-runs g c = λ old b plans trace budget ss ds can separate named opens opened leaves led heads typed told.
     let wrote = c.write_trace-drain.ensures.writes in
     let shut = c.close_all.ensures.closes in
     let closed = c.close_trace.ensures.closes in
@@ -47,7 +47,7 @@ returns-clause-runs g c = λ old b plans trace budget ss ds can separate named o
     })
     b can ss ds budget _ leaves plans led old _ trace separate opens _
     (shuts_of _ _ _ (option_to_list trace) _ _ _ shut closed (name_written (option_to_list trace) _ _ _ _ wrote (name_opened _ trace _ opened)))
-    heads typed _ _
+    heads (typed, told) _ _
     (traces_of old _ _ _ b _ _ _ trace _ _ _ opened opens.wfaults (text_written b _ _ _ _ _ _ named c.deref.ensures.value wrote) shut closed)
 
 pub returns-clause-all : goal.returns-clause-all

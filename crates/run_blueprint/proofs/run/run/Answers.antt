@@ -14,6 +14,7 @@ use Rattle.run_blueprint.specs.Tracing.{written_files}
 use Rattle.run_blueprint.proofs.Breaking.{unmade, closes_unmade, none_open}
 use Rattle.run_blueprint.proofs.Places.{all_unmapped}
 use Rattle.run_blueprint.proofs.Traces.{opened_apart, as_many_drains, last_there}
+use Rattle.run_blueprint.proofs.ToldTypes.{handed_told}
 use Rattle.run_blueprint.proofs.run.run.Goals as goal
 
 receipt_as : (b : Blueprint) (workers m n : ℕ) (p q : Bool) (r t : Ran) → m ≡ n → p ≡ q → r ≡ t → IsReceipt b workers n q t → IsReceipt b workers m p r
@@ -86,6 +87,7 @@ returns-in-Ok-run-clause-ran g c =
     let leaves = with_plan (λ p. RunLeaves g.row.L.Denot g.row.H.Denot g.row.B.Denot g.F.Inp.Source.state g.F.Out.Drain.state g.B.PlugBook.lists p ss ds c.args.budget c.in-Ok-run.stopped) (λ p l. map place_plan l.moment.places) (λ p l. map place_types l.moment.places) _ _ _ _ c.in-Ok-prepare.ensures.blueprint c.in-Ok-run.ensures.leaves in
     c.close.ensures.runs old c.args.b (map moves_of c.args.plans.items) c.args.trace c.args.budget ss ds c.requires.runs c.requires.apart (c.deref.ensures.value ∙ c.in-Ok.ensures.choosers) both.0 both.1 leaves.0 (leaves.1 ∙ c.in-Ok-prepare.ensures.led)
     (handed_heads c.args.plugs.items c.args.customs.items) (leaves.2 ∙ c.in-Ok-prepare.ensures.types)
+    (handed_told g.H.Handlers.tells g.B.PlugBook.lists c.args.plugs.items c.args.customs.items c.requires.customs)
 
 pub returns-in-Ok-run-clause-handles : goal.returns-in-Ok-run-clause-handles
 returns-in-Ok-run-clause-handles g c =

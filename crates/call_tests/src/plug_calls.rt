@@ -5,8 +5,6 @@ ghost use Rattle.elem_core.specs.Line.{has_no_lf};
 ghost use Rattle.plug_logic.specs.Gives.{listed};
 ghost use Rattle.plug_samples.specs.Samples.{sample_book};
 ghost use Rattle.stage_linear.specs.Plugs.{Is};
-ghost use Rattle.materializer.specs.HandedCustoms.{TellsNone};
-ghost use Rattle.stream_model.specs.Linear.{none_told};
 
 use crate::lines::line_of;
 use elem_core::elem_type::{ElemType, TypeForm};
@@ -71,8 +69,6 @@ pub fn hire(
 ) -> Result<(), AllocError>
     requires short { length name.now ≤ 65536 }
     requires no_lf { IsTrue (has_no_lf name.now) }
-    requires kept { All (TellsNone (none_told sample_book)) customs.old.items }
-    ensures { OnOk result (All (TellsNone (none_told sample_book)) customs.new.items) }
 {
     let mut bytes = Vec::new(alloc);
     bytes.extend_from_slice(name.as_bytes())?;
@@ -146,8 +142,7 @@ pub fn call_with<R: Threads + Wait + Sync>(
     plugs: Vec<Plug>,
     customs: Vec<Custom>,
 ) -> Result<Came, AllocError>
-    requires plugs { All (λ p. Is (gives p.logic) [] (listed sample_book p.head.name)) plugs.items }
-    requires customs { All (TellsNone (none_told sample_book)) customs.items }
+    requires { All (λ p. Is (gives p.logic) [] (listed sample_book p.head.name)) plugs.items }
 {
     let mut files = Vec::new(alloc);
     for (name, held) in [("log.blue", text), ("in.txt", input)] {

@@ -13,6 +13,7 @@ use Rattle.stream_model.specs.declared.kind.Kind.TheVariants.{Lines}
 use Rattle.stream_model.specs.declared.outcome.EndState.TheVariants as state
 use Rattle.stream_model.specs.Composed.{sink_outlook, IsRanked}
 use Rattle.stream_model.specs.Known.{HeadLists}
+use Rattle.stream_model.specs.Linear.{Book}
 use Rattle.stream_model.specs.Listed.{HasLists}
 use Rattle.stream_model.specs.Graph.{Graph}
 use Rattle.stream_model.specs.Graph as graph
@@ -32,7 +33,7 @@ use Rattle.plan_laws.specs.Unread.{AlikeFiles, AlikeSources, with_files}
 use Rattle.plan_laws.proofs.Unread.{sinks_same}
 use Rattle.materializer.specs.Choosers.{plan_at}
 use Rattle.interpreter.specs.Picks.{Pick}
-use Rattle.run_blueprint.specs.Drawing.{IsSource, IsWorldOf, TellNone, WasRead}
+use Rattle.run_blueprint.specs.Drawing.{IsSource, IsWorldOf, WasRead}
 use Rattle.run_blueprint.specs.Replaying.{IsReplayOf}
 use Rattle.run_blueprint.proofs.Places.{unmapped_at}
 use Rattle.run_report.specs.Answer.{Answer}
@@ -86,7 +87,7 @@ alike_at old new before after name bytes others given more first second one two 
 -- ---- the two calls
 
 module _ (ranked : (b : Blueprint) (heads : HeadLists) (taken : List (List ℕ)) → IsFit b heads taken → (rank : ℕ → ℕ) × IsRanked (graph_of b) rank)
-    (apart : (g : Graph) (w : World) (x : ℕ → ℕ → Outlook) (rank : ℕ → ℕ) → IsRanked g rank → (k : ℕ) (n : graph.Node) → HasLists g w.customs k → sink_outlook g (record w { given = x }) k n ≡ sink_outlook g w k n)
+    (apart : (g : Graph) (w : World) (x : ℕ → ℕ → Outlook) (rank : ℕ → ℕ) → IsRanked g rank → (k : ℕ) (n : graph.Node) → HasLists g w.book k → sink_outlook g (record w { given = x }) k n ≡ sink_outlook g w k n)
     (p : Plugged) (a x : Answer) (c e : AskedRun) (old new before after : FolderState) (f : EndedFiles p a c old new) (s : EndedFiles p x e before after) (alike : RunsAlike p a x c e old new before after f) where
   plain_is : plain s.blueprint ≡ plain f.blueprint
   plain_is = plain_same old before c.file e.file f.blueprint s.blueprint alike.text f.ran.said.says s.ran.said.says
@@ -114,7 +115,6 @@ module _ (ranked : (b : Blueprint) (heads : HeadLists) (taken : List (List ℕ))
     files = s.ran.is_one.files;
     moves = λ i q at. f.ran.is_one.moves i q (ap (λ (ps : List Pick). slice_get ps i) (f.by_moves ∙ alike.moves ∙ sym s.by_moves) ∙ at);
     gave = s.ran.is_one.gave;
-    untold = subst (λ (ns : List Node). TellNone ns mine.customs) (sym nodes_are) f.ran.is_one.untold;
   }
 
   same_source : (k : ℕ) (name : List ℕ) → IsSource f.blueprint.nodes.items k name → AlikeFiles (other.file name) (mine.file name)
@@ -131,7 +131,7 @@ module _ (ranked : (b : Blueprint) (heads : HeadLists) (taken : List (List ℕ))
       let u = unmapped_at (graph_node f.blueprint.wires.items) f.blueprint.nodes.items k n at in
       same_source k name (record { node = u.0; at = u.1.0; kind_is = sym (ap (λ (m : graph.Node). m.kind) u.1.1) ∙ is })
 
-  pub same_bytes : (k : ℕ) (n : Node) (file : List ℕ) → AnswersSink a f.blueprint k n file state.Ended → AnswersSink x s.blueprint k n file state.Ended → HasLists (graph_of f.blueprint) mine.customs k → new.file file ≡ after.file file
+  pub same_bytes : (k : ℕ) (n : Node) (file : List ℕ) → AnswersSink a f.blueprint k n file state.Ended → AnswersSink x s.blueprint k n file state.Ended → HasLists (graph_of f.blueprint) p.book k → new.file file ≡ after.file file
   same_bytes k n file here there lists =
       let first = f.ended mine k n file f.ran.is_one here in
       let second = s.ended both k n file is_of_both there in
@@ -140,7 +140,7 @@ module _ (ranked : (b : Blueprint) (heads : HeadLists) (taken : List (List ℕ))
       let wires_are : s.blueprint.wires.items ≡ f.blueprint.wires.items = ap (λ (q : PlainBlueprint). q.wires) plain_is in
       let outlook : sink_outlook (graph_of s.blueprint) both k (graph_node s.blueprint.wires.items n) ≡ sink_outlook (graph_of f.blueprint) mine k m =
       ap (λ (ws : List WireDecl). sink_outlook (graph_of s.blueprint) both k (graph_node ws n)) wires_are ∙ ap (λ (g : Graph). sink_outlook g both k m) (graph_same s.blueprint f.blueprint plain_is)
-      ∙ (apart (graph_of f.blueprint) read_so other.given rank.0 rank.1 k m lists ∙ sinks_same (graph_of f.blueprint) mine other.file sources k m) in
+      ∙ (apart (graph_of f.blueprint) read_so other.given rank.0 rank.1 k m (subst (λ (b : Book). HasLists (graph_of f.blueprint) b k) (sym f.ran.is_one.book_is) lists) ∙ sinks_same (graph_of f.blueprint) mine other.file sources k m) in
       first.text ∙ ap (λ (o : Outlook). Some (text_lines o.list)) (sym outlook) ∙ sym second.text
 
 -- ---- a call whose stages follow the moves of another
@@ -151,7 +151,7 @@ moves_or (Some plan) moves = plan
 moves_or None moves = moves
 
 module _ (ranked : (b : Blueprint) (heads : HeadLists) (taken : List (List ℕ)) → IsFit b heads taken → (rank : ℕ → ℕ) × IsRanked (graph_of b) rank)
-    (apart : (g : Graph) (w : World) (x : ℕ → ℕ → Outlook) (rank : ℕ → ℕ) → IsRanked g rank → (k : ℕ) (n : graph.Node) → HasLists g w.customs k → sink_outlook g (record w { given = x }) k n ≡ sink_outlook g w k n)
+    (apart : (g : Graph) (w : World) (x : ℕ → ℕ → Outlook) (rank : ℕ → ℕ) → IsRanked g rank → (k : ℕ) (n : graph.Node) → HasLists g w.book k → sink_outlook g (record w { given = x }) k n ≡ sink_outlook g w k n)
     (p : Plugged) (a x : Answer) (c e : AskedRun) (old new before after : FolderState) (f : EndedFiles p a c old new) (s : ReplayedFiles p x e before after) (r : ReplaysRun p a x c e old new before after f s) where
   replay_plain : plain s.blueprint ≡ plain f.blueprint
   replay_plain = plain_same old before c.file e.file f.blueprint s.blueprint r.text f.ran.said.says s.ran.said.says
@@ -161,7 +161,7 @@ module _ (ranked : (b : Blueprint) (heads : HeadLists) (taken : List (List ℕ))
 
   -- the world with the files as the second call read them, and all moves that its stages follow
   abbrev led : World
-  led = record { book = p.book; customs = f.ran.world.customs; file = s.ran.world.file; moves = λ k. moves_or (plan_at s.ran.plans k) (s.ran.world.moves k); given = s.ran.world.given }
+  led = record { book = p.book; file = s.ran.world.file; moves = λ k. moves_or (plan_at s.ran.plans k) (s.ran.world.moves k); given = s.ran.world.given }
 
   is_replay : IsReplayOf p.book s.blueprint.nodes.items s.ran.plans s.drawn led
   is_replay = record {
@@ -170,7 +170,6 @@ module _ (ranked : (b : Blueprint) (heads : HeadLists) (taken : List (List ℕ))
     followed = λ k plan at. ap (λ (o : Option (List ℕ)). moves_or o (s.ran.world.moves k)) at;
     chosen = λ k moves none made. ap (λ (o : Option (List ℕ)). moves_or o (s.ran.world.moves k)) none ∙ s.ran.is_one.moves made.0 (k, moves) made.1;
     gave = s.ran.is_one.gave;
-    untold = subst (λ (ns : List Node). TellNone ns f.ran.world.customs) (sym replay_nodes) f.ran.is_one.untold;
   }
 
   -- the same with the files as the first call read them
@@ -187,7 +186,6 @@ module _ (ranked : (b : Blueprint) (heads : HeadLists) (taken : List (List ℕ))
     files = f.ran.is_one.files;
     moves = λ i q at. ap (λ (o : Option (List ℕ)). moves_or o (s.ran.world.moves q.0)) (r.moves q.0 q.1 (i, ap (λ (ps : List Pick). slice_get ps i) (sym f.by_moves) ∙ at));
     gave = f.ran.is_one.gave;
-    untold = f.ran.is_one.untold;
   }
 
   replay_sources : AlikeSources (graph_of f.blueprint) f.ran.world.file s.ran.world.file
@@ -199,7 +197,7 @@ module _ (ranked : (b : Blueprint) (heads : HeadLists) (taken : List (List ℕ))
       (subst (AlikeFiles (record { bytes = f.drawn.bytes k; read = f.drawn.given k; faulted = f.drawn.faulted k })) (sym (s.ran.is_one.files k name here))
       (alike_at old new before after name (f.drawn.bytes k) (s.drawn.bytes k) (f.drawn.given k) (s.drawn.given k) (f.drawn.faulted k) (s.drawn.faulted k) (f.ran.read k name src) (s.ran.read k name here) (r.inputs k name src) (r.calm name) (r.quiet name)))
 
-  pub replay_bytes : (k : ℕ) (n : Node) (file : List ℕ) → AnswersSink a f.blueprint k n file state.Ended → AnswersSink x s.blueprint k n file state.Ended → HasLists (graph_of f.blueprint) f.ran.world.customs k → new.file file ≡ after.file file
+  pub replay_bytes : (k : ℕ) (n : Node) (file : List ℕ) → AnswersSink a f.blueprint k n file state.Ended → AnswersSink x s.blueprint k n file state.Ended → HasLists (graph_of f.blueprint) p.book k → new.file file ≡ after.file file
   replay_bytes k n file here there lists =
       let first = f.ended first_led k n file is_of_first here in
       let second = s.ended led k n file is_replay (r.fits led is_replay) (r.serves led is_replay) there in

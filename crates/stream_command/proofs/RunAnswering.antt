@@ -9,6 +9,7 @@ use Rattle.stream_model.specs.declared.outcome.EndState.{EndState}
 use Rattle.stream_model.specs.declared.outcome.EndState.TheVariants as state
 use Rattle.stream_model.specs.Known.{HeadLists}
 use Rattle.stream_model.specs.Linear.{Book}
+use Rattle.stream_model.specs.Listed.{AllTell}
 use Rattle.stream_model.specs.Node.{World}
 use Rattle.stream_model.specs.Outlook.{Outlook, Entry, failed, Allows, Agrees}
 use Rattle.elem_core.specs.Tree.{Tree}
@@ -34,7 +35,7 @@ use Rattle.run_blueprint.specs.Drawing.{Drawn, IsWorldOf}
 use Rattle.run_blueprint.specs.Replaying.{IsMisfit}
 use Rattle.run_blueprint.specs.Stands.{SinkStand, is_write_fault, is_unended, is_failed}
 use Rattle.run_blueprint.specs.Units.{Pays}
-use Rattle.run_blueprint.specs.Running.{HasNoCustom, SinkLeaves, LeavesFiles, MisfitByFiles, FailedWritesOf, Runs, Wants}
+use Rattle.run_blueprint.specs.Running.{SinkLeaves, LeavesFiles, MisfitByFiles, FailedWritesOf, Runs, Wants}
 use Rattle.run_blueprint.specs.Tracing.{written_files, Traces}
 use Rattle.run_blueprint.specs.declared.run.RunResult.{RunResult}
 use Rattle.run_blueprint.proofs.Places.{contains_at, place_within}
@@ -263,10 +264,10 @@ module _ (plugged : Plugged) (b : Blueprint) (plans : List (Option (List ℕ))) 
       omega (arith, wired, most)
 
   -- in a polytree every sink has ended where no event was left
-  tree_ends : NoneFollow plans → HasNoCustom b → IsPolytree (wiring (blueprint_wires b)) → ran.at_rest ≡ true → some_unended a.sinks ≡ false
+  tree_ends : NoneFollow plans → AllTell (graph_of b) plugged.book → IsPolytree (wiring (blueprint_wires b)) → ran.at_rest ≡ true → some_unended a.sinks ≡ false
   tree_ends none own tree e = unended_told ∙ runs.ending none own tree e
 
-  tree_spent : (rest : Bool) → ran.at_rest ≡ rest → NoneFollow plans → HasNoCustom b → IsPolytree (wiring (blueprint_wires b)) → some_unended a.sinks ≡ true → a.used ≡ turns
+  tree_spent : (rest : Bool) → ran.at_rest ≡ rest → NoneFollow plans → AllTell (graph_of b) plugged.book → IsPolytree (wiring (blueprint_wires b)) → some_unended a.sinks ≡ true → a.used ≡ turns
   tree_spent false e none own tree some = spent e
   tree_spent true e none own tree some = absurd (not_both_bools (some_unended a.sinks) some (tree_ends none own tree e))
 
@@ -295,7 +296,7 @@ module _ (plugged : Plugged) (b : Blueprint) (plans : List (Option (List ℕ))) 
         let most : count_needed (graph_of b) a.wires ≤ need (graph_of b) (composed (graph_of b) w) = leaves_at.needed w is in
         omega (arith, count, most)
 
-    tree_enough : NoneFollow plans → HasNoCustom b → IsPolytree (wiring (blueprint_wires b)) → (w : World) → IsWorldOf plugged.book b.nodes.items leaves_at.drawn w → need (graph_of b) (composed (graph_of b) w) ≤ turns
+    tree_enough : NoneFollow plans → AllTell (graph_of b) plugged.book → IsPolytree (wiring (blueprint_wires b)) → (w : World) → IsWorldOf plugged.book b.nodes.items leaves_at.drawn w → need (graph_of b) (composed (graph_of b) w) ≤ turns
         → (i : ℕ) (s : SinkStand) (n : Node) (file : List ℕ) → slice_get stands i ≡ Some s → slice_get b.nodes.items s.0 ≡ Some n → output_of n.kind ≡ Some file
         → (sink_outlook (graph_of b) w s.0 (graph_node b.wires.items n)).fails ≡ [] → (Rose (old.wfaults file) (new.wfaults file) → ⊥) → s.2 ≡ state.Ended
     tree_enough none own tree w is suffices i s n file at here shape fails calm =

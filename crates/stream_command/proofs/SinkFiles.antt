@@ -17,7 +17,7 @@ use Rattle.stream_model.specs.Listed.{HasLists}
 use Rattle.stream_model.specs.Exact.{LosesNothing, ReachesLast}
 use Rattle.stream_model.specs.Graph.{Graph}
 use Rattle.stream_model.specs.Graph as graph
-use Rattle.stream_model.specs.Linear.{Keeping, every_one, first_one, last_one, sinks, role_of}
+use Rattle.stream_model.specs.Linear.{Book, Keeping, every_one, first_one, last_one, sinks, role_of}
 use Rattle.stream_model.specs.Node.{World}
 use Rattle.stream_model.specs.Outlook.{Outlook, Entry, Agrees, Allows, failed}
 use Rattle.stream_model.specs.Blame.{HasCause, GivenLeads, EndsSink}
@@ -337,7 +337,7 @@ file_role _ file e = absurd cc
 module _ (ranked : (b : Blueprint) (heads : HeadLists) (taken : List (List ℕ)) → IsFit b heads taken → (rank : ℕ → ℕ) × IsRanked (graph_of b) rank)
     (found : (c : Cause) (o : Outlook) (l : List Tree) → LosesNothing c o → Agrees o l (failed c) → l ≡ o.list)
     (reaches : (g : Graph) (w : World) (c : Cause) (rank : ℕ → ℕ) → IsRanked g rank → (k : ℕ) (n : graph.Node) (file : Option (List ℕ)) (keeps : Keeping) → role_of n.kind ≡ sinks file keeps
-    → HasLists g w.customs k → ReachesLast g c k n → LosesNothing c (sink_outlook g w k n)) where
+    → HasLists g w.book k → ReachesLast g c k n → LosesNothing c (sink_outlook g w k n)) where
   whole_between : (new : FolderState) (file : List ℕ) (o : Outlook) (cause : Cause) → LosesNothing cause o → HoldsBetween new file o cause → new.file file ≡ Some (text_lines o.list)
   whole_between new file o cause last holds = holds.text ∙ ap (λ (l : List Tree). Some (text_lines l)) (found cause o holds.list last (holds.most, holds.least))
 
@@ -354,7 +354,7 @@ module _ (ranked : (b : Blueprint) (heads : HeadLists) (taken : List (List ℕ))
         whole = λ w k n file cause is x lists last.
             let role = file_role n.kind file x.writes in
             whole_between new file (sink_outlook (graph_of e.blueprint) w k (graph_node e.blueprint.wires.items n)) cause
-            (reaches (graph_of e.blueprint) w cause rank.0 rank.1 k (graph_node e.blueprint.wires.items n) role.0 role.1.0 role.1.1 lists last) (e.failed w k n file cause is x);
+            (reaches (graph_of e.blueprint) w cause rank.0 rank.1 k (graph_node e.blueprint.wires.items n) role.0 role.1.0 role.1.1 (subst (λ (b : Book). HasLists (graph_of e.blueprint) b k) (sym is.book_is) lists) last) (e.failed w k n file cause is x);
       }
 
 -- ---- the node that a failure blames
@@ -385,12 +385,12 @@ module _ (ranked : (b : Blueprint) (heads : HeadLists) (taken : List (List ℕ))
 -- ---- whatever custom stages gave
 
 module _ (ranked : (b : Blueprint) (heads : HeadLists) (taken : List (List ℕ)) → IsFit b heads taken → (rank : ℕ → ℕ) × IsRanked (graph_of b) rank)
-    (apart : (g : Graph) (w : World) (x : ℕ → ℕ → Outlook) (rank : ℕ → ℕ) → IsRanked g rank → (k : ℕ) (n : graph.Node) → HasLists g w.customs k → sink_outlook g (record w { given = x }) k n ≡ sink_outlook g w k n)
-    (p : Plugged) (a : Answer) (c : AskedRun) (old new : FolderState) (e : EndedFiles p a c old new) (w : World) (x : ℕ → ℕ → Outlook) (k : ℕ) (n : Node) (lists : HasLists (graph_of e.blueprint) w.customs k) where
+    (apart : (g : Graph) (w : World) (x : ℕ → ℕ → Outlook) (rank : ℕ → ℕ) → IsRanked g rank → (k : ℕ) (n : graph.Node) → HasLists g w.book k → sink_outlook g (record w { given = x }) k n ≡ sink_outlook g w k n)
+    (p : Plugged) (a : Answer) (c : AskedRun) (old new : FolderState) (e : EndedFiles p a c old new) (w : World) (x : ℕ → ℕ → Outlook) (k : ℕ) (n : Node) (is : IsWorldOf p.book e.blueprint.nodes.items e.drawn w) (lists : HasLists (graph_of e.blueprint) p.book k) where
   outlook_apart : sink_outlook (graph_of e.blueprint) (record w { given = x }) k (graph_node e.blueprint.wires.items n) ≡ sink_outlook (graph_of e.blueprint) w k (graph_node e.blueprint.wires.items n)
   outlook_apart =
       let rank = ranked e.blueprint p.heads (taken_files c.file c.trace c.replay) e.ran.said.fit in
-      apart (graph_of e.blueprint) w x rank.0 rank.1 k (graph_node e.blueprint.wires.items n) lists
+      apart (graph_of e.blueprint) w x rank.0 rank.1 k (graph_node e.blueprint.wires.items n) (subst (λ (b : Book). HasLists (graph_of e.blueprint) b k) (sym is.book_is) lists)
 
   pub ended_apart : (file : List ℕ) → HoldsWhole new file (sink_outlook (graph_of e.blueprint) w k (graph_node e.blueprint.wires.items n))
       → HoldsWhole new file (sink_outlook (graph_of e.blueprint) (record w { given = x }) k (graph_node e.blueprint.wires.items n))

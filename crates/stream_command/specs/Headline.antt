@@ -55,7 +55,7 @@ pub record RanOver (p : Plugged) (c : AskedRun) (old new : FolderState) (b : Blu
 
 -- The command's file says a blueprint, which ran over its input files by these moves. The file of each of its sinks holds the text of
 -- the whole list that the graph's list functions give, by every world of those files and moves, and of what custom stages gave that tell no
--- list. Where there are no moves and no custom stages that is every world of those files.
+-- list. Where there are no moves and each custom stage tells a list that is every world of those files.
 pub record WholeFiles (p : Plugged) (moves : List Pick) (c : AskedRun) (old new : FolderState) : Type 0 where
   pub blueprint : Blueprint
   pub drawn : Drawn
@@ -134,7 +134,7 @@ pub record FailedWhole (p : Plugged) (a : Answer) (c : AskedRun) (old new : Fold
   pub ran : RanOver p c old new blueprint drawn
   pub every : length a.sinks ≡ length (sink_places 0 blueprint.nodes.items)
   pub whole : (w : World) (k : ℕ) (n : Node) (file : List ℕ) (cause : Cause) → IsWorldOf p.book blueprint.nodes.items drawn w
-      → AnswersSink a blueprint k n file (state.Failed cause) → HasLists (graph_of blueprint) w.customs k
+      → AnswersSink a blueprint k n file (state.Failed cause) → HasLists (graph_of blueprint) p.book k
       → ReachesLast (graph_of blueprint) cause k (graph_node blueprint.wires.items n)
       → new.file file ≡ Some (text_lines (sink_outlook (graph_of blueprint) w k (graph_node blueprint.wires.items n)).list)
 

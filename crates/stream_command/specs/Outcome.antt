@@ -3,6 +3,7 @@ use Rattle.std.specs.Prelude.{◌≡◌, ◌≢◌, ℕ, ◌<◌, ◌≤◌, ◌
 use Rattle.std.specs.Option.{option_to_list}
 use Rattle.std.specs.List.{All, Contains}
 use Rattle.stream_model.specs.declared.outcome.EndState.TheVariants as state
+use Rattle.stream_model.specs.Listed.{AllTell}
 use Rattle.stream_model.specs.Node.{World}
 use Rattle.stream_model.specs.Composed.{composed, sink_outlook}
 use Rattle.stream_model.specs.Shape.{IsPolytree, need, count_needed}
@@ -29,7 +30,7 @@ use Rattle.run_blueprint.specs.Replaying.{IsMisfit}
 use Rattle.run_blueprint.specs.Stands.{SinkStand, sink_places}
 use Rattle.run_blueprint.specs.Tracing.{Traces, written_files}
 use Rattle.run_blueprint.specs.Units.{Pays}
-use Rattle.run_blueprint.specs.Running.{HasNoCustom, LeavesFiles, FailedWritesOf, BreaksFiles, MisfitByFiles}
+use Rattle.run_blueprint.specs.Running.{LeavesFiles, FailedWritesOf, BreaksFiles, MisfitByFiles}
 use Rattle.run_report.specs.Answer.{Answer}
 use Rattle.run_report.specs.declared.outcome.Status.{Status}
 use Rattle.run_report.specs.declared.outcome.Status.TheVariants as status
@@ -86,8 +87,8 @@ pub record RanTo (p : Plugged) (old new : FolderState) (b : Blueprint) (plans : 
       → output_of n.kind ≡ Some file → FailedWritesOf s.2 (old.wfaults file) (new.wfaults file)
   pub within : a.used ≤ turns
   pub pays : Pays b a.wires a.used
-  pub ending : NoneFollow plans → HasNoCustom b → IsPolytree (wiring (blueprint_wires b)) → some_unended a.sinks ≡ true → a.used ≡ turns
-  pub enough : NoneFollow plans → HasNoCustom b → IsPolytree (wiring (blueprint_wires b)) → (w : World) → IsWorldOf p.book b.nodes.items leaves.drawn w
+  pub ending : NoneFollow plans → AllTell (graph_of b) p.book → IsPolytree (wiring (blueprint_wires b)) → some_unended a.sinks ≡ true → a.used ≡ turns
+  pub enough : NoneFollow plans → AllTell (graph_of b) p.book → IsPolytree (wiring (blueprint_wires b)) → (w : World) → IsWorldOf p.book b.nodes.items leaves.drawn w
       → need (graph_of b) (composed (graph_of b) w) ≤ turns
       → (i : ℕ) (s : SinkStand) (n : Node) (file : List ℕ) → slice_get stands i ≡ Some s → slice_get b.nodes.items s.0 ≡ Some n → output_of n.kind ≡ Some file
       → (sink_outlook (graph_of b) w s.0 (graph_node b.wires.items n)).fails ≡ [] → (Rose (old.wfaults file) (new.wfaults file) → ⊥) → s.2 ≡ state.Ended
@@ -195,7 +196,7 @@ EndedRun p status.StreamFailed a b plans trace turns old new = RanTo p old new b
     × (some_fault a.sinks ≡ false)
     × (some_unended a.sinks ≡ false) × (some_failed a.sinks ≡ true)
 EndedRun p status.Stalled a b plans trace turns old new = RanTo p old new b plans trace turns a × Traces old new b trace a.picks false
-    × (NoneFollow plans → HasNoCustom b → IsPolytree (wiring (blueprint_wires b)) → ⊥) × (some_fault a.sinks ≡ false) × (some_unended a.sinks ≡ true)
+    × (NoneFollow plans → AllTell (graph_of b) p.book → IsPolytree (wiring (blueprint_wires b)) → ⊥) × (some_fault a.sinks ≡ false) × (some_unended a.sinks ≡ true)
 EndedRun p status.OutOfTurns a b plans trace turns old new = (ran : RanTo p old new b plans trace turns a) × Traces old new b trace a.picks false
     × FallsShort p b turns a ran.leaves.drawn × (some_fault a.sinks ≡ false) × (some_unended a.sinks ≡ true)
 EndedRun p (status.Misfit stage place) a b plans trace turns old new = (ran : RanTo p old new b plans trace turns a) × Traces old new b trace a.picks false
@@ -244,7 +245,7 @@ pub record SinksWrote (p : Plugged) (old new : FolderState) (b : Blueprint) (pla
   pub within : a.used ≤ turns
   pub pays : Pays b a.wires a.used
   pub picture : PictureStands p.book p.heads b plans stands a.picks a.wires (no_event_left a turns)
-  pub ending : NoneFollow plans → HasNoCustom b → IsPolytree (wiring (blueprint_wires b)) → some_unended a.sinks ≡ true → a.used ≡ turns
+  pub ending : NoneFollow plans → AllTell (graph_of b) p.book → IsPolytree (wiring (blueprint_wires b)) → some_unended a.sinks ≡ true → a.used ≡ turns
 
 -- the units were used up, and were fewer than the count over what was sent
 pub record UsedUp (b : Blueprint) (turns : ℕ) (a : Answer) : Type 0 where
@@ -270,7 +271,7 @@ RunCauses p status.WriteFault a b plans trace turns old new = Quiet old.refusals
     × QuietButAll (inputs_of_nodes b.nodes.items) old.rfaults new.rfaults
     × SomeCountRose old new b trace × QuietButAll (written_files b trace) old.wfaults new.wfaults × SinksWrote p old new b plans turns a
 RunCauses p status.Stalled a b plans trace turns old new = Quiet old.refusals new.refusals × QuietButAll (inputs_of_nodes b.nodes.items) old.rfaults new.rfaults
-    × Quiet old.wfaults new.wfaults × SinksWrote p old new b plans turns a × (NoneFollow plans → HasNoCustom b → IsPolytree (wiring (blueprint_wires b)) → ⊥)
+    × Quiet old.wfaults new.wfaults × SinksWrote p old new b plans turns a × (NoneFollow plans → AllTell (graph_of b) p.book → IsPolytree (wiring (blueprint_wires b)) → ⊥)
 RunCauses p status.OutOfTurns a b plans trace turns old new = Quiet old.refusals new.refusals
     × QuietButAll (inputs_of_nodes b.nodes.items) old.rfaults new.rfaults
     × Quiet old.wfaults new.wfaults × SinksWrote p old new b plans turns a × UsedUp b turns a

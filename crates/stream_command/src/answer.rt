@@ -25,7 +25,7 @@ ghost use Rattle.run_blueprint.specs.Receipt.{HasIslands};
 ghost use Rattle.stream_command.specs.RunReceipts.{Receipts, RanIslands, RanSaid, RanText, RanFile};
 ghost use Rattle.stream_command.specs.Texts.{EndedParsed, EndedSaid, EndedText, CausesChecked, CausesParsed, CausesSaid, CausesText};
 ghost use Rattle.materializer.specs.HandedPlugs.{GivesAsListed};
-ghost use Rattle.materializer.specs.HandedCustoms.{handed_heads, HasGuests, TellsNone};
+ghost use Rattle.materializer.specs.HandedCustoms.{handed_heads, HasGuests, TellsAsListed};
 ghost use Rattle.stream_command.specs.Asked.{plugged_by};
 
 use crate::replays::{PlansEnd, plans_of_file};
@@ -254,16 +254,16 @@ fn run_fit<
     requires runs { CanRun b }
     requires has { HasGuests (handed_heads plugs.items customs.items) b.wires.items b.nodes.items }
     requires listed { All (GivesAsListed L.gives B.lists) plugs.items }
-    requires untold { All (TellsNone B.customs) customs.items }
+    requires customs { All (TellsAsListed H.tells B.lists) customs.items }
     requires apart { IsApart b trace }
     requires follow { PlansFit (map (λ n. n.kind) b.nodes.items) (map moves_of plans.items) }
     requires workers { (0 < workers) × (workers ≤ 64) }
     requires turns { turns ≤ MOST_COUNT }
-    ensures told { IsTrue (F.state folder.old).tells → EndedRun (plugged_by B.lists B.customs plugs.items customs.items) result.status (of_outcome result) b
+    ensures told { IsTrue (F.state folder.old).tells → EndedRun (plugged_by B.lists plugs.items customs.items) result.status (of_outcome result) b
         (map moves_of plans.items) trace turns
         (F.state folder.old) (F.state folder.new) }
     ensures tells { IsTrue (F.state folder.new).tells → IsTrue (F.state folder.old).tells }
-    ensures causes { RunCauses (plugged_by B.lists B.customs plugs.items customs.items) result.status (of_outcome result) b
+    ensures causes { RunCauses (plugged_by B.lists plugs.items customs.items) result.status (of_outcome result) b
         (map moves_of plans.items) trace turns
         (F.state folder.old) (F.state folder.new) }
     ensures sinks { SinksOf result.status (of_outcome result) trace }
@@ -322,17 +322,17 @@ fn run_checked<
     customs: Vec<Custom<H>>,
 ) -> CallEnd
     requires listed { All (GivesAsListed L.gives B.lists) plugs.items }
-    requires untold { All (TellsNone B.customs) customs.items }
+    requires customs { All (TellsAsListed H.tells B.lists) customs.items }
     requires fit { (taken : List (List ℕ)) × IsFit (checked_blueprint checked) (handed_heads plugs.items customs.items) taken }
     requires apart { IsApart (checked_blueprint checked) trace }
     requires other { IsReadApart (checked_blueprint checked) replay }
     requires few { length (checked_blueprint checked).nodes.items ≤ 1024 }
     requires workers { (0 < workers) × (workers ≤ 64) }
     requires turns { turns ≤ MOST_COUNT }
-    ensures told { IsTrue (F.state folder.old).tells → EndedChecked (plugged_by B.lists B.customs plugs.items customs.items) result.status (of_outcome result)
+    ensures told { IsTrue (F.state folder.old).tells → EndedChecked (plugged_by B.lists plugs.items customs.items) result.status (of_outcome result)
         (checked_blueprint checked) trace replay turns (F.state folder.old) (F.state folder.new) }
     ensures tells { IsTrue (F.state folder.new).tells → IsTrue (F.state folder.old).tells }
-    ensures causes { CausesChecked (plugged_by B.lists B.customs plugs.items customs.items) result.status (of_outcome result)
+    ensures causes { CausesChecked (plugged_by B.lists plugs.items customs.items) result.status (of_outcome result)
         (checked_blueprint checked) trace replay turns
         (F.state folder.old)
         (F.state folder.new) }
@@ -343,7 +343,7 @@ fn run_checked<
     ensures reads_moves { ReadsMost replay (F.state folder.old).read (F.state folder.new).read }
     ensures ran { Receipts result.status workers result.used result.ran }
     ensures islands { (taken : List (List ℕ)) → IsFit (checked_blueprint checked) (handed_heads plugs.items customs.items) taken
-        → IfSome result.ran (λ r. RanIslands (plugged_by B.lists B.customs plugs.items customs.items) (checked_blueprint checked) taken r) }
+        → IfSome result.ran (λ r. RanIslands (plugged_by B.lists plugs.items customs.items) (checked_blueprint checked) taken r) }
     ensures handles { F.handles folder.new ≡ F.handles folder.old }
 {
     let b = checked.into_blueprint();
@@ -377,17 +377,17 @@ fn run_parsed<
     customs: Vec<Custom<H>>,
 ) -> CallEnd
     requires listed { All (GivesAsListed L.gives B.lists) plugs.items }
-    requires untold { All (TellsNone B.customs) customs.items }
+    requires customs { All (TellsAsListed H.tells B.lists) customs.items }
     requires taken { (t : List ℕ) → trace ≡ Some t → Contains taken.now t }
     requires moves { (t : List ℕ) → replay ≡ Some t → Contains taken.now t }
     requires few { length b.nodes.items ≤ 1024 }
     requires workers { (0 < workers) × (workers ≤ 64) }
     requires turns { turns ≤ MOST_COUNT }
-    ensures told { IsTrue (F.state folder.old).tells → EndedParsed (plugged_by B.lists B.customs plugs.items customs.items) result.status
+    ensures told { IsTrue (F.state folder.old).tells → EndedParsed (plugged_by B.lists plugs.items customs.items) result.status
         (of_outcome result) b taken.now trace replay turns
         (F.state folder.old) (F.state folder.new) }
     ensures tells { IsTrue (F.state folder.new).tells → IsTrue (F.state folder.old).tells }
-    ensures causes { CausesParsed (plugged_by B.lists B.customs plugs.items customs.items) result.status (of_outcome result) b taken.now trace replay turns
+    ensures causes { CausesParsed (plugged_by B.lists plugs.items customs.items) result.status (of_outcome result) b taken.now trace replay turns
         (F.state folder.old)
         (F.state folder.new) }
     ensures sinks { SinksOf result.status (of_outcome result) trace }
@@ -395,7 +395,7 @@ fn run_parsed<
     ensures reads { QuietAmong taken.now replay (F.state folder.old).read (F.state folder.new).read }
     ensures reads_moves { ReadsMost replay (F.state folder.old).read (F.state folder.new).read }
     ensures ran { Receipts result.status workers result.used result.ran }
-    ensures islands { IfSome result.ran (λ r. RanIslands (plugged_by B.lists B.customs plugs.items customs.items) b taken.now r) }
+    ensures islands { IfSome result.ran (λ r. RanIslands (plugged_by B.lists plugs.items customs.items) b taken.now r) }
     ensures handles { F.handles folder.new ≡ F.handles folder.old }
 {
     let Ok(heads) = heads_of(alloc, &plugs) else {
@@ -442,15 +442,15 @@ fn run_said<
     customs: Vec<Custom<H>>,
 ) -> CallEnd
     requires listed { All (GivesAsListed L.gives B.lists) plugs.items }
-    requires untold { All (TellsNone B.customs) customs.items }
+    requires customs { All (TellsAsListed H.tells B.lists) customs.items }
     requires taken { (t : List ℕ) → trace ≡ Some t → Contains taken.now t }
     requires moves { (t : List ℕ) → replay ≡ Some t → Contains taken.now t }
     requires workers { (0 < workers) × (workers ≤ 64) }
     requires turns { turns ≤ MOST_COUNT }
-    ensures told { IsTrue (F.state folder.old).tells → EndedSaid (plugged_by B.lists B.customs plugs.items customs.items) result.status
+    ensures told { IsTrue (F.state folder.old).tells → EndedSaid (plugged_by B.lists plugs.items customs.items) result.status
         (of_outcome result) (plain_text text) taken.now trace replay turns (F.state folder.old) (F.state folder.new) }
     ensures tells { IsTrue (F.state folder.new).tells → IsTrue (F.state folder.old).tells }
-    ensures causes { CausesSaid (plugged_by B.lists B.customs plugs.items customs.items) result.status (of_outcome result)
+    ensures causes { CausesSaid (plugged_by B.lists plugs.items customs.items) result.status (of_outcome result)
         (plain_text text) taken.now trace replay turns
         (F.state folder.old)
         (F.state folder.new) }
@@ -459,7 +459,7 @@ fn run_said<
     ensures reads { QuietAmong taken.now replay (F.state folder.old).read (F.state folder.new).read }
     ensures reads_moves { ReadsMost replay (F.state folder.old).read (F.state folder.new).read }
     ensures ran { Receipts result.status workers result.used result.ran }
-    ensures islands { RanSaid (plugged_by B.lists B.customs plugs.items customs.items) (plain_text text) taken.now result.ran }
+    ensures islands { RanSaid (plugged_by B.lists plugs.items customs.items) (plain_text text) taken.now result.ran }
     ensures handles { F.handles folder.new ≡ F.handles folder.old }
 {
     match blueprint_of(alloc, text) {
@@ -492,15 +492,15 @@ fn run_text<
     customs: Vec<Custom<H>>,
 ) -> CallEnd
     requires listed { All (GivesAsListed L.gives B.lists) plugs.items }
-    requires untold { All (TellsNone B.customs) customs.items }
+    requires customs { All (TellsAsListed H.tells B.lists) customs.items }
     requires taken { (t : List ℕ) → trace ≡ Some t → Contains taken.now t }
     requires moves { (t : List ℕ) → replay ≡ Some t → Contains taken.now t }
     requires workers { (0 < workers) × (workers ≤ 64) }
     requires turns { turns ≤ MOST_COUNT }
-    ensures told { IsTrue (F.state folder.old).tells → EndedText (plugged_by B.lists B.customs plugs.items customs.items) result.status
+    ensures told { IsTrue (F.state folder.old).tells → EndedText (plugged_by B.lists plugs.items customs.items) result.status
         (of_outcome result) text.now taken.now trace replay turns (F.state folder.old) (F.state folder.new) }
     ensures tells { IsTrue (F.state folder.new).tells → IsTrue (F.state folder.old).tells }
-    ensures causes { CausesText (plugged_by B.lists B.customs plugs.items customs.items) result.status (of_outcome result) text.now taken.now trace replay turns
+    ensures causes { CausesText (plugged_by B.lists plugs.items customs.items) result.status (of_outcome result) text.now taken.now trace replay turns
         (F.state folder.old)
         (F.state folder.new) }
     ensures sinks { SinksOf result.status (of_outcome result) trace }
@@ -508,7 +508,7 @@ fn run_text<
     ensures reads { QuietAmong taken.now replay (F.state folder.old).read (F.state folder.new).read }
     ensures reads_moves { ReadsMost replay (F.state folder.old).read (F.state folder.new).read }
     ensures ran { Receipts result.status workers result.used result.ran }
-    ensures islands { RanText (plugged_by B.lists B.customs plugs.items customs.items) text.now taken.now result.ran }
+    ensures islands { RanText (plugged_by B.lists plugs.items customs.items) text.now taken.now result.ran }
     ensures handles { F.handles folder.new ≡ F.handles folder.old }
 {
     match parse(alloc, text) {
@@ -599,13 +599,13 @@ pub fn run_file<
     customs: Vec<Custom<H>>,
 ) -> CallEnd
     requires listed { All (GivesAsListed L.gives B.lists) plugs.items }
-    requires untold { All (TellsNone B.customs) customs.items }
+    requires customs { All (TellsAsListed H.tells B.lists) customs.items }
     requires workers { (0 < workers) × (workers ≤ 64) }
     requires turns { turns ≤ MOST_COUNT }
-    ensures told { IsTrue (F.state folder.old).tells → Told (plugged_by B.lists B.customs plugs.items customs.items) (of_outcome result)
+    ensures told { IsTrue (F.state folder.old).tells → Told (plugged_by B.lists plugs.items customs.items) (of_outcome result)
         (record { file = file.now; trace = option_copied trace.entry; replay = option_copied replay.entry; turns = turns }) (F.state folder.old)
         (F.state folder.new) }
-    ensures causes { Causes (plugged_by B.lists B.customs plugs.items customs.items) result.status (of_outcome result) file.now (option_copied trace.entry)
+    ensures causes { Causes (plugged_by B.lists plugs.items customs.items) result.status (of_outcome result) file.now (option_copied trace.entry)
         (option_copied replay.entry) turns (F.state folder.old)
         (F.state folder.new) }
     ensures sinks { SinksOf result.status (of_outcome result) (option_copied trace.entry) }
@@ -617,7 +617,7 @@ pub fn run_file<
     ensures reads_moves { (t : List ℕ) → option_copied replay.entry ≡ Some t → t ≢ file.now
         → GrewAtMost ((F.state folder.old).read t) plan_limit ((F.state folder.new).read t) }
     ensures ran { Receipts result.status workers result.used result.ran }
-    ensures islands { IsTrue (F.state folder.old).tells → RanFile (plugged_by B.lists B.customs plugs.items customs.items) (F.state folder.old) file.now
+    ensures islands { IsTrue (F.state folder.old).tells → RanFile (plugged_by B.lists plugs.items customs.items) (F.state folder.old) file.now
         (option_copied trace.entry) (option_copied replay.entry) result.ran }
     ensures handles { F.handles folder.new ≡ F.handles folder.old }
 {

@@ -31,7 +31,7 @@ pub fn done_means_whole_files()
 {}
 
 /// Where no kind of the blueprint chooses, the same is said without moves: the input files and the plugs alone tell the text, with what
-/// custom stages gave where some are named.
+/// custom stages gave where some are named that tell no list.
 pub fn done_without_choice_means_whole_files()
     ensures { (p : Plugged) (a : Answer) (c : AskedRun) (old new : FolderState) (b : Blueprint) → Told p a c old new → a.status ≡ Status.Done → IsTrue new.tells
         → SaysFile old c.file b → needs_picks b.nodes.items ≡ false → WholeFiles p [] c old new }
@@ -50,12 +50,12 @@ pub fn files_are_apart_from_customs()
     ensures ended { (p : Plugged) (a : Answer) (c : AskedRun) (old new : FolderState) → (e : EndedFiles p a c old new)
         → (w : World) (x : ℕ → ℕ → Outlook) (k : ℕ) (n : Node)
         (file : List ℕ) → IsWorldOf p.book e.blueprint.nodes.items e.drawn w → AnswersSink a e.blueprint k n file Ended
-        → HasLists (graph_of e.blueprint) w.customs k
+        → HasLists (graph_of e.blueprint) p.book k
         → HoldsWhole new file (sink_outlook (graph_of e.blueprint) (record w { given = x }) k (graph_node e.blueprint.wires.items n)) }
     ensures failed { (p : Plugged) (a : Answer) (c : AskedRun) (old new : FolderState) → (e : EndedFiles p a c old new)
         → (w : World) (x : ℕ → ℕ → Outlook) (k : ℕ) (n : Node)
         (file : List ℕ) (cause : Cause) → IsWorldOf p.book e.blueprint.nodes.items e.drawn w → AnswersSink a e.blueprint k n file (Failed cause)
-        → HasLists (graph_of e.blueprint) w.customs k
+        → HasLists (graph_of e.blueprint) p.book k
         → HoldsBetween new file (sink_outlook (graph_of e.blueprint) (record w { given = x }) k (graph_node e.blueprint.wires.items n)) cause }
 {
     fit_blueprints_are_whole();
@@ -63,13 +63,13 @@ pub fn files_are_apart_from_customs()
 }
 
 /// Two calls that ran what one text says over input files of the same bytes, by the same moves, where no read of a file failed: each
-/// sink that ended in both, to which no way leads from a custom stage, wrote the same bytes. So does a replay that made all moves of a
-/// run's own trace.
+/// sink that ended in both, to which no way leads from a custom stage that tells no list, wrote the same bytes. So does a replay that made
+/// all moves of a run's own trace.
 pub fn the_same_moves_write_the_same()
     ensures { (p : Plugged) (a x : Answer) (c e : AskedRun) (old new before after : FolderState) → (first : EndedFiles p a c old new)
         → (second : EndedFiles p x e before after)
         → RunsAlike p a x c e old new before after first → (k : ℕ) (n : Node) (file : List ℕ) → AnswersSink a first.blueprint k n file Ended
-        → AnswersSink x second.blueprint k n file Ended → HasLists (graph_of first.blueprint) first.ran.world.customs k → new.file file ≡ after.file file }
+        → AnswersSink x second.blueprint k n file Ended → HasLists (graph_of first.blueprint) p.book k → new.file file ≡ after.file file }
 {
     fit_blueprints_are_whole();
     lists_are_apart_from_customs();
@@ -83,12 +83,12 @@ pub fn each_replay_tells_its_files()
 {}
 
 /// A replay of the moves that another run made, of the same text over the same bytes: each sink that ended in both, to which no way leads
-/// from a custom stage, wrote the same bytes.
+/// from a custom stage that tells no list, wrote the same bytes.
 pub fn a_replay_writes_what_was_written()
     ensures { (p : Plugged) (a x : Answer) (c e : AskedRun) (old new before after : FolderState) → (first : EndedFiles p a c old new)
         → (second : ReplayedFiles p x e before after) → ReplaysRun p a x c e old new before after first second → (k : ℕ) (n : Node) (file : List ℕ)
         → AnswersSink a first.blueprint k n file Ended → AnswersSink x second.blueprint k n file Ended
-        → HasLists (graph_of first.blueprint) first.ran.world.customs k → new.file file ≡ after.file file }
+        → HasLists (graph_of first.blueprint) p.book k → new.file file ≡ after.file file }
 {
     fit_blueprints_are_whole();
     lists_are_apart_from_customs();

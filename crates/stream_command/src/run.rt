@@ -15,8 +15,9 @@ ghost use Rattle.stream_command.specs.Receipts.{ReceiptsOf, ReceiptsFor, Islands
 ghost use Rattle.stream_command.specs.RunReceipts.{Receipts, RanFile};
 ghost use Rattle.plug_logic.specs.Gives.{listed};
 ghost use Rattle.stage_linear.specs.Plugs.{Is};
+ghost use Rattle.graph_stage.specs.Told.{HandedAs};
 ghost use Rattle.materializer.specs.HandedPlugs.{GivesAsListed};
-ghost use Rattle.materializer.specs.HandedCustoms.{TellsNone};
+ghost use Rattle.materializer.specs.HandedCustoms.{TellsAsListed};
 ghost use Rattle.stream_command.specs.Asked.{plugged_by};
 
 use crate::top::{RunEnd, end_before_run, run_file};
@@ -46,23 +47,25 @@ pub fn run_streams<R: Threads + Wait + Sync, F: Folder, C: Drain, B: PlugBook + 
     customs: Vec<Custom>,
 ) -> RunEnd
     requires listed { All (λ p. Is (gives p.logic) [] (listed B.lists p.head.name)) plugs.items }
-    requires untold { All (TellsNone B.customs) customs.items }
+    // A custom stage of which the book has a list tells that, of the type of its one output; of the others nothing is asked.
+    requires customs { All (λ c. HandedAs (B.lists.tells c.head.name) B.lists c.head.name c.head.inputs.items c.head.outputs.items
+        (tells c.stage)) customs.items }
     // Words that are no command, and no others, have this answer, or memory was wanting.
     ensures usage { result.status ≢ Status.NoMemory → (result.status ≡ Status.Usage ↔ asked_of words.now ≡ None) }
 
     // What is answered and left, by what the words ask for.
-    ensures answers { AnswersCommand (plugged_by B.lists B.customs plugs.items customs.items) (asked_of words.now) (answer_of result) (F.state folder.old)
+    ensures answers { AnswersCommand (plugged_by B.lists plugs.items customs.items) (asked_of words.now) (answer_of result) (F.state folder.old)
         (F.state folder.new) }
 
     // A valid blueprint and no fault give a run, or memory was wanting.
     ensures complete { (c : Asked) → asked_of words.now ≡ Some c
-        → IsValidFor (plugged_by B.lists B.customs plugs.items customs.items) c.generated c.file c.trace c.replay
+        → IsValidFor (plugged_by B.lists plugs.items customs.items) c.generated c.file c.trace c.replay
         (F.state folder.old)
         (F.state folder.new) → RoseNowhere (F.state folder.old) (F.state folder.new) → RanWithoutFault result.status }
 
     // After a run, and only there, there is a receipt, of the command's workers and as many islands as the file's blueprint has.
     ensures ran { ReceiptsOf (asked_of words.now) (answer_of result) result.ran }
-    ensures islands { IslandsOf (plugged_by B.lists B.customs plugs.items customs.items) (asked_of words.now) result.ran (F.state folder.old)
+    ensures islands { IslandsOf (plugged_by B.lists plugs.items customs.items) (asked_of words.now) result.ran (F.state folder.old)
         (F.state folder.new) }
 
     // Reading the blueprint's file stops after so many bytes.
@@ -102,23 +105,23 @@ fn run_words<
     customs: Vec<Custom<H>>,
 ) -> RunEnd
     requires listed { All (GivesAsListed L.gives B.lists) plugs.items }
-    requires untold { All (TellsNone B.customs) customs.items }
+    requires customs { All (TellsAsListed H.tells B.lists) customs.items }
     // Words that are no command, and no others, have this answer, or memory was wanting.
     ensures usage { result.status ≢ Status.NoMemory → (result.status ≡ Status.Usage ↔ asked_of words.now ≡ None) }
 
     // What is answered and left, by what the words ask for.
-    ensures answers { AnswersCommand (plugged_by B.lists B.customs plugs.items customs.items) (asked_of words.now) (answer_of result) (F.state folder.old)
+    ensures answers { AnswersCommand (plugged_by B.lists plugs.items customs.items) (asked_of words.now) (answer_of result) (F.state folder.old)
         (F.state folder.new) }
 
     // A valid blueprint and no fault give a run, or memory was wanting.
     ensures complete { (c : Asked) → asked_of words.now ≡ Some c
-        → IsValidFor (plugged_by B.lists B.customs plugs.items customs.items) c.generated c.file c.trace c.replay
+        → IsValidFor (plugged_by B.lists plugs.items customs.items) c.generated c.file c.trace c.replay
         (F.state folder.old)
         (F.state folder.new) → RoseNowhere (F.state folder.old) (F.state folder.new) → RanWithoutFault result.status }
 
     // After a run, and only there, there is a receipt, of the command's workers and as many islands as the file's blueprint has.
     ensures ran { ReceiptsOf (asked_of words.now) (answer_of result) result.ran }
-    ensures islands { IslandsOf (plugged_by B.lists B.customs plugs.items customs.items) (asked_of words.now) result.ran (F.state folder.old)
+    ensures islands { IslandsOf (plugged_by B.lists plugs.items customs.items) (asked_of words.now) result.ran (F.state folder.old)
         (F.state folder.new) }
 
     // Reading the blueprint's file stops after so many bytes.
@@ -162,13 +165,13 @@ fn run_command<
     customs: Vec<Custom<H>>,
 ) -> RunEnd
     requires listed { All (GivesAsListed L.gives B.lists) plugs.items }
-    requires untold { All (TellsNone B.customs) customs.items }
+    requires customs { All (TellsAsListed H.tells B.lists) customs.items }
     requires workers { (0 < command.now.workers) × (command.now.workers ≤ 64) }
     requires turns { command.now.turns ≤ MOST_COUNT }
-    ensures answers { AnswersCommand (plugged_by B.lists B.customs plugs.items customs.items) (Some (asked command.now)) (answer_of result) (F.state folder.old)
+    ensures answers { AnswersCommand (plugged_by B.lists plugs.items customs.items) (Some (asked command.now)) (answer_of result) (F.state folder.old)
         (F.state folder.new) }
     ensures ran { ReceiptsOf (Some (asked command.now)) (answer_of result) result.ran }
-    ensures islands { IslandsOf (plugged_by B.lists B.customs plugs.items customs.items) (Some (asked command.now)) result.ran (F.state folder.old)
+    ensures islands { IslandsOf (plugged_by B.lists plugs.items customs.items) (Some (asked command.now)) result.ran (F.state folder.old)
         (F.state folder.new) }
     ensures handles { F.handles folder.new ≡ F.handles folder.old }
     ensures console { (Puts (C.state console.old) (C.state console.new) (report_of (answer_of result)) × (result.code ≡ code_of result.status))
@@ -203,15 +206,15 @@ fn run_command_file<
     customs: Vec<Custom<H>>,
 ) -> RunEnd
     requires listed { All (GivesAsListed L.gives B.lists) plugs.items }
-    requires untold { All (TellsNone B.customs) customs.items }
+    requires customs { All (TellsAsListed H.tells B.lists) customs.items }
     requires workers { (0 < command.now.workers) × (command.now.workers ≤ 64) }
     requires turns { command.now.turns ≤ MOST_COUNT }
-    ensures runs { RunsFile (plugged_by B.lists B.customs plugs.items customs.items) command.now.file command.now.trace command.now.replay command.now.turns
+    ensures runs { RunsFile (plugged_by B.lists plugs.items customs.items) command.now.file command.now.trace command.now.replay command.now.turns
         (answer_of result)
         (F.state folder.old)
         (F.state folder.new) }
     ensures ran { Receipts result.status command.now.workers result.used result.ran }
-    ensures islands { IsTrue (F.state folder.old).tells → RanFile (plugged_by B.lists B.customs plugs.items customs.items)
+    ensures islands { IsTrue (F.state folder.old).tells → RanFile (plugged_by B.lists plugs.items customs.items)
         (F.state folder.old) command.now.file command.now.trace command.now.replay result.ran }
     ensures handles { F.handles folder.new ≡ F.handles folder.old }
     ensures console { (Puts (C.state console.old) (C.state console.new) (report_of (answer_of result)) × (result.code ≡ code_of result.status))
@@ -253,13 +256,13 @@ fn run_generated<
     customs: Vec<Custom<H>>,
 ) -> RunEnd
     requires listed { All (GivesAsListed L.gives B.lists) plugs.items }
-    requires untold { All (TellsNone B.customs) customs.items }
+    requires customs { All (TellsAsListed H.tells B.lists) customs.items }
     requires workers { (0 < command.now.workers) × (command.now.workers ≤ 64) }
     requires turns { command.now.turns ≤ MOST_COUNT }
-    ensures answers { AnswersTo (plugged_by B.lists B.customs plugs.items customs.items) (Some n) (asked command.now) (answer_of result) (F.state folder.old)
+    ensures answers { AnswersTo (plugged_by B.lists plugs.items customs.items) (Some n) (asked command.now) (answer_of result) (F.state folder.old)
         (F.state folder.new) }
     ensures ran { ReceiptsFor (Some n) (answer_of result) command.now.workers result.ran }
-    ensures islands { IslandsFor (plugged_by B.lists B.customs plugs.items customs.items)
+    ensures islands { IslandsFor (plugged_by B.lists plugs.items customs.items)
         (Some n) command.now.file command.now.trace command.now.replay result.ran (F.state folder.old)
         (F.state folder.new) }
     ensures handles { F.handles folder.new ≡ F.handles folder.old }

@@ -6,7 +6,7 @@ ghost use Rattle.elem_core.specs.declared.count.TheConstants.{MOST_COUNT};
 ghost use Rattle.stream_command.specs.RunCalls.{answer_of};
 ghost use Rattle.stream_command.specs.Outcome.{IsValid, Told, RanWithoutFault};
 ghost use Rattle.materializer.specs.HandedPlugs.{GivesAsListed};
-ghost use Rattle.materializer.specs.HandedCustoms.{TellsNone};
+ghost use Rattle.materializer.specs.HandedCustoms.{TellsAsListed};
 ghost use Rattle.stream_command.specs.Asked.{plugged_by};
 
 use crate::top::{RunEnd, run_file};
@@ -43,15 +43,15 @@ pub fn run_surely<
     customs: Vec<Custom<H>>,
 ) -> RunEnd
     requires listed { All (GivesAsListed L.gives B.lists) plugs.items }
-    requires untold { All (TellsNone B.customs) customs.items }
+    requires customs { All (TellsAsListed H.tells B.lists) customs.items }
     requires workers { (0 < workers) × (workers ≤ 64) }
     requires turns { turns ≤ MOST_COUNT }
-    ensures told { IsTrue (⟦<SureFolder as Folder>⟧.state folder.old).tells → Told (plugged_by B.lists B.customs plugs.items customs.items) (answer_of result)
+    ensures told { IsTrue (⟦<SureFolder as Folder>⟧.state folder.old).tells → Told (plugged_by B.lists plugs.items customs.items) (answer_of result)
         (record { file = file.now; trace = option_copied trace.entry; replay = option_copied replay.entry; turns = turns })
         (⟦<SureFolder as Folder>⟧.state folder.old)
         (⟦<SureFolder as Folder>⟧.state folder.new) }
     ensures runs { IsTrue (⟦<SureFolder as Folder>⟧.state folder.old).tells
-        → IsValid (plugged_by B.lists B.customs plugs.items customs.items) file.now
+        → IsValid (plugged_by B.lists plugs.items customs.items) file.now
         (option_copied trace.entry) (option_copied replay.entry)
         (⟦<SureFolder as Folder>⟧.state folder.old) → RanWithoutFault result.status }
 {

@@ -11,7 +11,7 @@ ghost use Rattle.stream_command.specs.RunReceipts.{Receipts, RanFile};
 ghost use Rattle.run_report.specs.Report.{detail_of, report_of, code_of};
 ghost use Rattle.stream_io.specs.Putting.{Puts, PutsPart};
 ghost use Rattle.materializer.specs.HandedPlugs.{GivesAsListed};
-ghost use Rattle.materializer.specs.HandedCustoms.{TellsNone};
+ghost use Rattle.materializer.specs.HandedCustoms.{TellsAsListed};
 ghost use Rattle.stream_command.specs.Asked.{plugged_by};
 
 use crate::answer::{self, CallEnd};
@@ -67,30 +67,30 @@ pub fn run_file<
     customs: Vec<Custom<H>>,
 ) -> RunEnd
     requires listed { All (GivesAsListed L.gives B.lists) plugs.items }
-    requires untold { All (TellsNone B.customs) customs.items }
+    requires customs { All (TellsAsListed H.tells B.lists) customs.items }
     requires workers { (0 < workers) × (workers ≤ 64) }
     requires turns { turns ≤ MOST_COUNT }
 
     // What is answered and left where the folder told its files before. What files hold then is said where it still tells them.
     ensures tells { IsTrue (F.state folder.new).tells → IsTrue (F.state folder.old).tells }
-    ensures told { IsTrue (F.state folder.old).tells → Told (plugged_by B.lists B.customs plugs.items customs.items) (answer_of result)
+    ensures told { IsTrue (F.state folder.old).tells → Told (plugged_by B.lists plugs.items customs.items) (answer_of result)
         (record { file = file.now; trace = option_copied trace.entry; replay = option_copied replay.entry; turns = turns }) (F.state folder.old)
         (F.state folder.new) }
 
     // A valid text and inputs and no fault give a run, or memory was wanting.
-    ensures complete { IsTrue (F.state folder.old).tells → IsValid (plugged_by B.lists B.customs plugs.items customs.items) file.now (option_copied trace.entry)
+    ensures complete { IsTrue (F.state folder.old).tells → IsValid (plugged_by B.lists plugs.items customs.items) file.now (option_copied trace.entry)
         (option_copied replay.entry) (F.state folder.old)
         → RoseNowhere (F.state folder.old) (F.state folder.new) → RanWithoutFault result.status }
 
     // Which counts rose, and what the units and the picture of the run are, whether it tells them or not.
-    ensures causes { Causes (plugged_by B.lists B.customs plugs.items customs.items) result.status (answer_of result) file.now (option_copied trace.entry)
+    ensures causes { Causes (plugged_by B.lists plugs.items customs.items) result.status (answer_of result) file.now (option_copied trace.entry)
         (option_copied replay.entry) turns (F.state folder.old)
         (F.state folder.new) }
     ensures sinks { SinksOf result.status (answer_of result) (option_copied trace.entry) }
 
     // After a run, and only there, there is a receipt, of so many workers and as many islands as the blueprint of the file has.
     ensures ran { Receipts result.status workers result.used result.ran }
-    ensures islands { IsTrue (F.state folder.old).tells → RanFile (plugged_by B.lists B.customs plugs.items customs.items) (F.state folder.old) file.now
+    ensures islands { IsTrue (F.state folder.old).tells → RanFile (plugged_by B.lists plugs.items customs.items) (F.state folder.old) file.now
         (option_copied trace.entry) (option_copied replay.entry) result.ran }
 
     // A file is no want of words.

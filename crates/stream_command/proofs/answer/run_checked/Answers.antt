@@ -33,50 +33,50 @@ run_fit-requires-clause-follow g c = λ κs lives. subst (λ (ns : List Node). P
 
 pub returns-clause-told : goal.returns-clause-told
 returns-clause-told g c =
-    run_told (plugged_by g.B.PlugBook.lists g.B.PlugBook.customs c.args.plugs.items c.args.customs.items) (g.F.Folder.state c.args.folder.now) (g.F.Folder.state c.plans_of_file.new.folder) (g.F.Folder.state c.run_fit.new.folder) _ (checked_blueprint c.args.checked) c.args.trace _ c.args.replay _ c.args.turns (of_outcome c.run_fit.result) c.run_fit.result.status c.into_blueprint-b.ensures c.as_ref.ensures.value c.deref.ensures.value c.in-Ok.plans c.in-Ok.ensures.reads
+    run_told (plugged_by g.B.PlugBook.lists c.args.plugs.items c.args.customs.items) (g.F.Folder.state c.args.folder.now) (g.F.Folder.state c.plans_of_file.new.folder) (g.F.Folder.state c.run_fit.new.folder) _ (checked_blueprint c.args.checked) c.args.trace _ c.args.replay _ c.args.turns (of_outcome c.run_fit.result) c.run_fit.result.status c.into_blueprint-b.ensures c.as_ref.ensures.value c.deref.ensures.value c.in-Ok.plans c.in-Ok.ensures.reads
     c.requires.other c.run_fit.ensures.told
 
 pub returns-clause-tells : goal.returns-clause-tells
 returns-clause-tells g c = λ tells.
-    run_tells (plugged_by g.B.PlugBook.lists g.B.PlugBook.customs c.args.plugs.items c.args.customs.items) (g.F.Folder.state c.args.folder.now) (g.F.Folder.state c.plans_of_file.new.folder) (g.F.Folder.state c.run_fit.new.folder) _ (checked_blueprint c.args.checked) c.args.trace _ c.args.replay _ c.args.turns (of_outcome c.run_fit.result) c.run_fit.result.status c.into_blueprint-b.ensures c.as_ref.ensures.value c.deref.ensures.value c.in-Ok.plans c.in-Ok.ensures.reads
+    run_tells (plugged_by g.B.PlugBook.lists c.args.plugs.items c.args.customs.items) (g.F.Folder.state c.args.folder.now) (g.F.Folder.state c.plans_of_file.new.folder) (g.F.Folder.state c.run_fit.new.folder) _ (checked_blueprint c.args.checked) c.args.trace _ c.args.replay _ c.args.turns (of_outcome c.run_fit.result) c.run_fit.result.status c.into_blueprint-b.ensures c.as_ref.ensures.value c.deref.ensures.value c.in-Ok.plans c.in-Ok.ensures.reads
     (c.run_fit.ensures.tells tells)
 
 pub returns-clause-causes : goal.returns-clause-causes
 returns-clause-causes g c =
-    run_raised (plugged_by g.B.PlugBook.lists g.B.PlugBook.customs c.args.plugs.items c.args.customs.items) (g.F.Folder.state c.args.folder.now) (g.F.Folder.state c.plans_of_file.new.folder) (g.F.Folder.state c.run_fit.new.folder) _ (checked_blueprint c.args.checked) c.args.trace _ c.args.replay _ c.args.turns (of_outcome c.run_fit.result) c.run_fit.result.status c.into_blueprint-b.ensures c.as_ref.ensures.value c.deref.ensures.value c.in-Ok.plans c.in-Ok.ensures.reads
+    run_raised (plugged_by g.B.PlugBook.lists c.args.plugs.items c.args.customs.items) (g.F.Folder.state c.args.folder.now) (g.F.Folder.state c.plans_of_file.new.folder) (g.F.Folder.state c.run_fit.new.folder) _ (checked_blueprint c.args.checked) c.args.trace _ c.args.replay _ c.args.turns (of_outcome c.run_fit.result) c.run_fit.result.status c.into_blueprint-b.ensures c.as_ref.ensures.value c.deref.ensures.value c.in-Ok.plans c.in-Ok.ensures.reads
     c.run_fit.ensures.reads c.run_fit.ensures.causes
 
 pub returns-clause-reads : goal.returns-clause-reads
 returns-clause-reads g c =
-    run_reads (plugged_by g.B.PlugBook.lists g.B.PlugBook.customs c.args.plugs.items c.args.customs.items) (g.F.Folder.state c.args.folder.now) (g.F.Folder.state c.plans_of_file.new.folder) (g.F.Folder.state c.run_fit.new.folder) _ (checked_blueprint c.args.checked) c.args.trace _ c.args.replay _ c.args.turns (of_outcome c.run_fit.result) c.run_fit.result.status c.into_blueprint-b.ensures c.as_ref.ensures.value c.deref.ensures.value c.in-Ok.plans c.in-Ok.ensures.reads
+    run_reads (plugged_by g.B.PlugBook.lists c.args.plugs.items c.args.customs.items) (g.F.Folder.state c.args.folder.now) (g.F.Folder.state c.plans_of_file.new.folder) (g.F.Folder.state c.run_fit.new.folder) _ (checked_blueprint c.args.checked) c.args.trace _ c.args.replay _ c.args.turns (of_outcome c.run_fit.result) c.run_fit.result.status c.into_blueprint-b.ensures c.as_ref.ensures.value c.deref.ensures.value c.in-Ok.plans c.in-Ok.ensures.reads
     c.run_fit.ensures.reads
 
 pub returns-clause-reads_moves : goal.returns-clause-reads_moves
 returns-clause-reads_moves g c =
-    run_moves (plugged_by g.B.PlugBook.lists g.B.PlugBook.customs c.args.plugs.items c.args.customs.items) (g.F.Folder.state c.args.folder.now) (g.F.Folder.state c.plans_of_file.new.folder) (g.F.Folder.state c.run_fit.new.folder) _ (checked_blueprint c.args.checked) c.args.trace _ c.args.replay _ c.args.turns (of_outcome c.run_fit.result) c.run_fit.result.status c.into_blueprint-b.ensures c.as_ref.ensures.value c.deref.ensures.value c.in-Ok.plans c.in-Ok.ensures.reads
+    run_moves (plugged_by g.B.PlugBook.lists c.args.plugs.items c.args.customs.items) (g.F.Folder.state c.args.folder.now) (g.F.Folder.state c.plans_of_file.new.folder) (g.F.Folder.state c.run_fit.new.folder) _ (checked_blueprint c.args.checked) c.args.trace _ c.args.replay _ c.args.turns (of_outcome c.run_fit.result) c.run_fit.result.status c.into_blueprint-b.ensures c.as_ref.ensures.value c.deref.ensures.value c.in-Ok.plans c.in-Ok.ensures.reads
     c.in-Ok.ensures.most c.requires.other c.run_fit.ensures.reads
 
 pub returns-in-Err-clause-told : goal.returns-in-Err-clause-told
 returns-in-Err-clause-told g c =
     let made = c.without_plans in
-    without_told (plugged_by g.B.PlugBook.lists g.B.PlugBook.customs c.args.plugs.items c.args.customs.items) (g.F.Folder.state c.args.folder.now) (g.F.Folder.state c.plans_of_file.new.folder) (g.F.Folder.state c.plans_of_file.new.folder) _ (checked_blueprint c.args.checked) c.args.trace _ c.args.replay _ c.args.turns (of_outcome made.result) made.result.status c.into_blueprint-b.ensures c.as_ref.ensures.value c.deref.ensures.value c.in-Err.end c.in-Err.ensures.reads
+    without_told (plugged_by g.B.PlugBook.lists c.args.plugs.items c.args.customs.items) (g.F.Folder.state c.args.folder.now) (g.F.Folder.state c.plans_of_file.new.folder) (g.F.Folder.state c.plans_of_file.new.folder) _ (checked_blueprint c.args.checked) c.args.trace _ c.args.replay _ c.args.turns (of_outcome made.result) made.result.status c.into_blueprint-b.ensures c.as_ref.ensures.value c.deref.ensures.value c.in-Err.end c.in-Err.ensures.reads
     made.ensures.blank made.ensures.status
 
 pub returns-in-Err-clause-tells : goal.returns-in-Err-clause-tells
 returns-in-Err-clause-tells g c =
     let made = c.without_plans in
-    without_tells (plugged_by g.B.PlugBook.lists g.B.PlugBook.customs c.args.plugs.items c.args.customs.items) (g.F.Folder.state c.args.folder.now) (g.F.Folder.state c.plans_of_file.new.folder) (g.F.Folder.state c.plans_of_file.new.folder) _ (checked_blueprint c.args.checked) c.args.trace _ c.args.replay _ c.args.turns (of_outcome made.result) made.result.status c.into_blueprint-b.ensures c.as_ref.ensures.value c.deref.ensures.value c.in-Err.end c.in-Err.ensures.reads
+    without_tells (plugged_by g.B.PlugBook.lists c.args.plugs.items c.args.customs.items) (g.F.Folder.state c.args.folder.now) (g.F.Folder.state c.plans_of_file.new.folder) (g.F.Folder.state c.plans_of_file.new.folder) _ (checked_blueprint c.args.checked) c.args.trace _ c.args.replay _ c.args.turns (of_outcome made.result) made.result.status c.into_blueprint-b.ensures c.as_ref.ensures.value c.deref.ensures.value c.in-Err.end c.in-Err.ensures.reads
 
 pub returns-in-Err-clause-causes : goal.returns-in-Err-clause-causes
 returns-in-Err-clause-causes g c =
     let made = c.without_plans in
-    without_raised (plugged_by g.B.PlugBook.lists g.B.PlugBook.customs c.args.plugs.items c.args.customs.items) (g.F.Folder.state c.args.folder.now) (g.F.Folder.state c.plans_of_file.new.folder) (g.F.Folder.state c.plans_of_file.new.folder) _ (checked_blueprint c.args.checked) c.args.trace _ c.args.replay _ c.args.turns (of_outcome made.result) made.result.status c.into_blueprint-b.ensures c.as_ref.ensures.value c.deref.ensures.value c.in-Err.end c.in-Err.ensures.reads
+    without_raised (plugged_by g.B.PlugBook.lists c.args.plugs.items c.args.customs.items) (g.F.Folder.state c.args.folder.now) (g.F.Folder.state c.plans_of_file.new.folder) (g.F.Folder.state c.plans_of_file.new.folder) _ (checked_blueprint c.args.checked) c.args.trace _ c.args.replay _ c.args.turns (of_outcome made.result) made.result.status c.into_blueprint-b.ensures c.as_ref.ensures.value c.deref.ensures.value c.in-Err.end c.in-Err.ensures.reads
     made.ensures.status
 
 pub returns-in-Err-clause-reads : goal.returns-in-Err-clause-reads
 returns-in-Err-clause-reads g c =
     let made = c.without_plans in
-    without_reads (plugged_by g.B.PlugBook.lists g.B.PlugBook.customs c.args.plugs.items c.args.customs.items) (g.F.Folder.state c.args.folder.now) (g.F.Folder.state c.plans_of_file.new.folder) (g.F.Folder.state c.plans_of_file.new.folder) _ (checked_blueprint c.args.checked) c.args.trace _ c.args.replay _ c.args.turns (of_outcome made.result) made.result.status c.into_blueprint-b.ensures c.as_ref.ensures.value c.deref.ensures.value c.in-Err.end c.in-Err.ensures.reads
+    without_reads (plugged_by g.B.PlugBook.lists c.args.plugs.items c.args.customs.items) (g.F.Folder.state c.args.folder.now) (g.F.Folder.state c.plans_of_file.new.folder) (g.F.Folder.state c.plans_of_file.new.folder) _ (checked_blueprint c.args.checked) c.args.trace _ c.args.replay _ c.args.turns (of_outcome made.result) made.result.status c.into_blueprint-b.ensures c.as_ref.ensures.value c.deref.ensures.value c.in-Err.end c.in-Err.ensures.reads
 
 pub returns-in-Err-clause-reads_moves : goal.returns-in-Err-clause-reads_moves
 returns-in-Err-clause-reads_moves g c = λ t e. c.in-Err.ensures.most t (c.as_ref.ensures.value ∙ e)

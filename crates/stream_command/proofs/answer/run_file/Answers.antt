@@ -24,7 +24,7 @@ run_text-requires-clause-moves g c =
 
 pub returns-in-Ok-read_file-clause-told : goal.returns-in-Ok-read_file-clause-told
 returns-in-Ok-read_file-clause-told g c =
-    let plugged = plugged_by g.B.PlugBook.lists g.B.PlugBook.customs c.args.plugs.items c.args.customs.items in
+    let plugged = plugged_by g.B.PlugBook.lists c.args.plugs.items c.args.customs.items in
     let old = g.F.Folder.state c.args.folder.now in
     let mid = g.F.Folder.state c.read_file.new.folder in
     let new = g.F.Folder.state c.run_text.new.folder in
@@ -42,7 +42,7 @@ returns-in-Ok-read_file-clause-told g c =
 
 pub returns-in-Ok-read_file-clause-causes : goal.returns-in-Ok-read_file-clause-causes
 returns-in-Ok-read_file-clause-causes g c =
-    let plugged = plugged_by g.B.PlugBook.lists g.B.PlugBook.customs c.args.plugs.items c.args.customs.items in
+    let plugged = plugged_by g.B.PlugBook.lists c.args.plugs.items c.args.customs.items in
     let mid = g.F.Folder.state c.read_file.new.folder in
     let new = g.F.Folder.state c.run_text.new.folder in
     let a = of_outcome c.run_text.result in
@@ -74,7 +74,7 @@ returns-in-Ok-read_file-clause-reads_moves g c =
 
 pub returns-in-Ok-read_file-clause-islands : goal.returns-in-Ok-read_file-clause-islands
 returns-in-Ok-read_file-clause-islands g c =
-    let plugged = plugged_by g.B.PlugBook.lists g.B.PlugBook.customs c.args.plugs.items c.args.customs.items in
+    let plugged = plugged_by g.B.PlugBook.lists c.args.plugs.items c.args.customs.items in
     let taken = c.deref-in-Ok-read_file.ensures.value ∙ c.in-Ok.ensures.taken in
     λ tells. of_file plugged (g.F.Folder.state c.args.folder.now) (g.F.Folder.state c.read_file.new.folder) c.args.file.now c.in-Ok-read_file.text.items (option_copied c.args.trace) (option_copied c.args.replay) c.deref-in-Ok-read_file.result.now c.run_text.result.ran tells c.in-Ok-read_file.ensures.ok taken
     (subst (λ x. RanText plugged x c.deref-in-Ok-read_file.result.now c.run_text.result.ran) c.deref.ensures.value c.run_text.ensures.islands)
@@ -83,19 +83,19 @@ pub returns-in-Err-Missing-clause-causes : goal.returns-in-Err-Missing-clause-ca
 returns-in-Err-Missing-clause-causes g c =
     let h = c.in-Err-Missing.ensures.missing (ap Err c.in-Err-Missing.field-0-is) in
     let made = c.without_run-in-Err-Missing in
-    causes_before (plugged_by g.B.PlugBook.lists g.B.PlugBook.customs c.args.plugs.items c.args.customs.items) made.result.status (status.Missing c.args.file.now) (of_outcome made.result) c.args.file.now (option_copied c.args.trace) (option_copied c.args.replay) c.args.turns _ _
+    causes_before (plugged_by g.B.PlugBook.lists c.args.plugs.items c.args.customs.items) made.result.status (status.Missing c.args.file.now) (of_outcome made.result) c.args.file.now (option_copied c.args.trace) (option_copied c.args.replay) c.args.turns _ _
     (made.ensures.status ∙ ap status.Missing c.in-Ok.ensures.file) ((0, omega arith, refl), h.why, h.refusals, h.rfaults, h.wfaults, unread_or c.args.file.now (option_copied c.args.replay) _ _ (λ n differs. h.read n))
 
 pub returns-in-Err-Fault-clause-causes : goal.returns-in-Err-Fault-clause-causes
 returns-in-Err-Fault-clause-causes g c =
     let h = c.in-Err-Fault.ensures.fault (ap Err c.in-Err-Fault.field-0-is) in
     let made = c.without_run-in-Err-Fault in
-    causes_before (plugged_by g.B.PlugBook.lists g.B.PlugBook.customs c.args.plugs.items c.args.customs.items) made.result.status status.ReadFault (of_outcome made.result) c.args.file.now (option_copied c.args.trace) (option_copied c.args.replay) c.args.turns _ _
+    causes_before (plugged_by g.B.PlugBook.lists c.args.plugs.items c.args.customs.items) made.result.status status.ReadFault (of_outcome made.result) c.args.file.now (option_copied c.args.trace) (option_copied c.args.replay) c.args.turns _ _
     made.ensures.status (h.refusals, (c.args.file.now, ((0, omega arith, refl), h.rose, h.rfaults)), h.wfaults, unread_or c.args.file.now (option_copied c.args.replay) _ _ h.read)
 
 pub returns-clause-causes : goal.returns-clause-causes
 returns-clause-causes g c =
     let h = c.in-Err-NoMemory.ensures.no_memory (ap Err c.in-Err-NoMemory.field-0-is) in
     let made = c.without_run-in-Err-NoMemory in
-    causes_before (plugged_by g.B.PlugBook.lists g.B.PlugBook.customs c.args.plugs.items c.args.customs.items) made.result.status status.NoMemory (of_outcome made.result) c.args.file.now (option_copied c.args.trace) (option_copied c.args.replay) c.args.turns _ _
+    causes_before (plugged_by g.B.PlugBook.lists c.args.plugs.items c.args.customs.items) made.result.status status.NoMemory (of_outcome made.result) c.args.file.now (option_copied c.args.trace) (option_copied c.args.replay) c.args.turns _ _
     made.ensures.status (h.refusals, h.rfaults, h.wfaults, unread_or c.args.file.now (option_copied c.args.replay) _ _ h.read)

@@ -17,24 +17,24 @@ after_run-requires-clause-as_many g c =
 
 pub returns-in-Ok-run-clause-told : goal.returns-in-Ok-run-clause-told
 returns-in-Ok-run-clause-told g c =
-    run_told (plugged_by g.B.PlugBook.lists g.B.PlugBook.customs c.args.plugs.items c.args.customs.items) c.args.b (map moves_of c.args.plans.items) c.args.trace c.in-Ok-run.ran c.args.turns (of_outcome c.after_run.result) (g.F.Folder.state c.args.folder.now) (g.F.Folder.state c.run.new.folder)
+    run_told (plugged_by g.B.PlugBook.lists c.args.plugs.items c.args.customs.items) c.args.b (map moves_of c.args.plans.items) c.args.trace c.in-Ok-run.ran c.args.turns (of_outcome c.after_run.result) (g.F.Folder.state c.args.folder.now) (g.F.Folder.state c.run.new.folder)
     (subst (λ names. AfterRun names c.in-Ok-run.ran (of_outcome c.after_run.result)) c.in-Ok.ensures.names c.after_run.ensures.run) c.in-Ok-run.ensures.ran
 
 pub returns-in-Ok-run-clause-causes : goal.returns-in-Ok-run-clause-causes
 returns-in-Ok-run-clause-causes g c =
-    run_causes (plugged_by g.B.PlugBook.lists g.B.PlugBook.customs c.args.plugs.items c.args.customs.items) c.args.b (map moves_of c.args.plans.items) c.args.trace c.in-Ok-run.ran c.args.turns (of_outcome c.after_run.result) (g.F.Folder.state c.args.folder.now) (g.F.Folder.state c.run.new.folder)
+    run_causes (plugged_by g.B.PlugBook.lists c.args.plugs.items c.args.customs.items) c.args.b (map moves_of c.args.plans.items) c.args.trace c.in-Ok-run.ran c.args.turns (of_outcome c.after_run.result) (g.F.Folder.state c.args.folder.now) (g.F.Folder.state c.run.new.folder)
     (subst (λ names. AfterRun names c.in-Ok-run.ran (of_outcome c.after_run.result)) c.in-Ok.ensures.names c.after_run.ensures.run) c.in-Ok-run.ensures.ran
 
 pub returns-in-Ok-run-clause-sinks : goal.returns-in-Ok-run-clause-sinks
 returns-in-Ok-run-clause-sinks g c =
-    run_sinks (plugged_by g.B.PlugBook.lists g.B.PlugBook.customs c.args.plugs.items c.args.customs.items) c.args.b (map moves_of c.args.plans.items) c.args.trace c.in-Ok-run.ran c.args.turns (of_outcome c.after_run.result) (g.F.Folder.state c.args.folder.now) (g.F.Folder.state c.run.new.folder)
+    run_sinks (plugged_by g.B.PlugBook.lists c.args.plugs.items c.args.customs.items) c.args.b (map moves_of c.args.plans.items) c.args.trace c.in-Ok-run.ran c.args.turns (of_outcome c.after_run.result) (g.F.Folder.state c.args.folder.now) (g.F.Folder.state c.run.new.folder)
     (subst (λ names. AfterRun names c.in-Ok-run.ran (of_outcome c.after_run.result)) c.in-Ok.ensures.names c.after_run.ensures.run) c.in-Ok-run.ensures.ran
 
 pub returns-in-Err-MissingInput-clause-told : goal.returns-in-Err-MissingInput-clause-told
 returns-in-Err-MissingInput-clause-told g c =
     let e = c.in-Err-MissingInput in
     let made = c.without_run-in-Err-MissingInput in
-    missing_input (plugged_by g.B.PlugBook.lists g.B.PlugBook.customs c.args.plugs.items c.args.customs.items) _ _ c.args.b (map moves_of c.args.plans.items) c.args.trace e.name c.args.turns (of_outcome made.result) (e.ensures.no_input e.name (ap Err e.field-0-is)) made.ensures.status made.ensures.blank
+    missing_input (plugged_by g.B.PlugBook.lists c.args.plugs.items c.args.customs.items) _ _ c.args.b (map moves_of c.args.plans.items) c.args.trace e.name c.args.turns (of_outcome made.result) (e.ensures.no_input e.name (ap Err e.field-0-is)) made.ensures.status made.ensures.blank
 
 pub returns-in-Err-MissingInput-clause-tells : goal.returns-in-Err-MissingInput-clause-tells
 returns-in-Err-MissingInput-clause-tells g c =
@@ -44,13 +44,13 @@ returns-in-Err-MissingInput-clause-tells g c =
 pub returns-in-Err-MissingInput-clause-causes : goal.returns-in-Err-MissingInput-clause-causes
 returns-in-Err-MissingInput-clause-causes g c =
     let e = c.in-Err-MissingInput in
-    missing_causes (plugged_by g.B.PlugBook.lists g.B.PlugBook.customs c.args.plugs.items c.args.customs.items) _ _ c.args.b (map moves_of c.args.plans.items) c.args.trace c.args.turns e.name c.without_run-in-Err-MissingInput.result.status (of_outcome c.without_run-in-Err-MissingInput.result) (inl (e.ensures.no_input e.name (ap Err e.field-0-is))) c.without_run-in-Err-MissingInput.ensures.status
+    missing_causes (plugged_by g.B.PlugBook.lists c.args.plugs.items c.args.customs.items) _ _ c.args.b (map moves_of c.args.plans.items) c.args.trace c.args.turns e.name c.without_run-in-Err-MissingInput.result.status (of_outcome c.without_run-in-Err-MissingInput.result) (inl (e.ensures.no_input e.name (ap Err e.field-0-is))) c.without_run-in-Err-MissingInput.ensures.status
 
 pub returns-in-Err-MissingOutput-clause-told : goal.returns-in-Err-MissingOutput-clause-told
 returns-in-Err-MissingOutput-clause-told g c =
     let e = c.in-Err-MissingOutput in
     let made = c.without_run-in-Err-MissingOutput in
-    missing_output (plugged_by g.B.PlugBook.lists g.B.PlugBook.customs c.args.plugs.items c.args.customs.items) _ _ c.args.b (map moves_of c.args.plans.items) c.args.trace e.name c.args.turns (of_outcome made.result) (e.ensures.no_output e.name (ap Err e.field-0-is)) made.ensures.status made.ensures.blank
+    missing_output (plugged_by g.B.PlugBook.lists c.args.plugs.items c.args.customs.items) _ _ c.args.b (map moves_of c.args.plans.items) c.args.trace e.name c.args.turns (of_outcome made.result) (e.ensures.no_output e.name (ap Err e.field-0-is)) made.ensures.status made.ensures.blank
 
 pub returns-in-Err-MissingOutput-clause-tells : goal.returns-in-Err-MissingOutput-clause-tells
 returns-in-Err-MissingOutput-clause-tells g c =
@@ -60,7 +60,7 @@ returns-in-Err-MissingOutput-clause-tells g c =
 pub returns-in-Err-MissingOutput-clause-causes : goal.returns-in-Err-MissingOutput-clause-causes
 returns-in-Err-MissingOutput-clause-causes g c =
     let e = c.in-Err-MissingOutput in
-    missing_causes (plugged_by g.B.PlugBook.lists g.B.PlugBook.customs c.args.plugs.items c.args.customs.items) _ _ c.args.b (map moves_of c.args.plans.items) c.args.trace c.args.turns e.name c.without_run-in-Err-MissingOutput.result.status (of_outcome c.without_run-in-Err-MissingOutput.result) (inr (e.ensures.no_output e.name (ap Err e.field-0-is))) c.without_run-in-Err-MissingOutput.ensures.status
+    missing_causes (plugged_by g.B.PlugBook.lists c.args.plugs.items c.args.customs.items) _ _ c.args.b (map moves_of c.args.plans.items) c.args.trace c.args.turns e.name c.without_run-in-Err-MissingOutput.result.status (of_outcome c.without_run-in-Err-MissingOutput.result) (inr (e.ensures.no_output e.name (ap Err e.field-0-is))) c.without_run-in-Err-MissingOutput.ensures.status
 
 pub returns-in-Ok-run-clause-reads : goal.returns-in-Ok-run-clause-reads
 returns-in-Ok-run-clause-reads g c = c.in-Ok-run.ensures.ran.other_draws
@@ -79,23 +79,23 @@ pub returns-clause-told : goal.returns-clause-told
 returns-clause-told g c =
     let e = c.in-Err-NoMemory in
     let made = c.without_run-in-Err-NoMemory in
-    wanted (plugged_by g.B.PlugBook.lists g.B.PlugBook.customs c.args.plugs.items c.args.customs.items) _ _ c.args.b (map moves_of c.args.plans.items) c.args.trace c.args.turns (of_outcome made.result) (e.ensures.no_memory (ap Err e.field-0-is)) made.ensures.status made.ensures.blank
+    wanted (plugged_by g.B.PlugBook.lists c.args.plugs.items c.args.customs.items) _ _ c.args.b (map moves_of c.args.plans.items) c.args.trace c.args.turns (of_outcome made.result) (e.ensures.no_memory (ap Err e.field-0-is)) made.ensures.status made.ensures.blank
 
 pub returns-clause-tells : goal.returns-clause-tells
 returns-clause-tells g c =
     let e = c.in-Err-NoMemory in
-    wanted_tells (plugged_by g.B.PlugBook.lists g.B.PlugBook.customs c.args.plugs.items c.args.customs.items) _ _ c.args.b c.args.trace (e.ensures.no_memory (ap Err e.field-0-is))
+    wanted_tells (plugged_by g.B.PlugBook.lists c.args.plugs.items c.args.customs.items) _ _ c.args.b c.args.trace (e.ensures.no_memory (ap Err e.field-0-is))
 
 pub returns-clause-causes : goal.returns-clause-causes
 returns-clause-causes g c =
     let e = c.in-Err-NoMemory in
     let made = c.without_run-in-Err-NoMemory in
-    wanted_causes (plugged_by g.B.PlugBook.lists g.B.PlugBook.customs c.args.plugs.items c.args.customs.items) _ _ c.args.b (map moves_of c.args.plans.items) c.args.trace c.args.turns made.result.status (of_outcome made.result) (e.ensures.no_memory (ap Err e.field-0-is)) made.ensures.status
+    wanted_causes (plugged_by g.B.PlugBook.lists c.args.plugs.items c.args.customs.items) _ _ c.args.b (map moves_of c.args.plans.items) c.args.trace c.args.turns made.result.status (of_outcome made.result) (e.ensures.no_memory (ap Err e.field-0-is)) made.ensures.status
 
 pub returns-clause-reads : goal.returns-clause-reads
 returns-clause-reads g c =
     let e = c.in-Err-NoMemory in
-    wanted_draws (plugged_by g.B.PlugBook.lists g.B.PlugBook.customs c.args.plugs.items c.args.customs.items) _ _ c.args.b c.args.trace (e.ensures.no_memory (ap Err e.field-0-is))
+    wanted_draws (plugged_by g.B.PlugBook.lists c.args.plugs.items c.args.customs.items) _ _ c.args.b c.args.trace (e.ensures.no_memory (ap Err e.field-0-is))
 
 pub returns-in-Ok-run-clause-ran : goal.returns-in-Ok-run-clause-ran
 returns-in-Ok-run-clause-ran g c =

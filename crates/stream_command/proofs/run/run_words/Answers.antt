@@ -9,11 +9,11 @@ use Rattle.stream_command.proofs.run.run_words.Goals as goal
 
 pub returns-in-Ok-clause-complete : goal.returns-in-Ok-clause-complete
 returns-in-Ok-clause-complete g c =
-    completes (plugged_by g.B.PlugBook.lists g.B.PlugBook.customs c.args.plugs.items c.args.customs.items) _ (answer_of c.run_command.result) _ _ (as_asked (plugged_by g.B.PlugBook.lists g.B.PlugBook.customs c.args.plugs.items c.args.customs.items) c.args.words.now (asked c.in-Ok.command) (answer_of c.run_command.result) _ _ c.in-Ok.ensures.command c.run_command.ensures.answers)
+    completes (plugged_by g.B.PlugBook.lists c.args.plugs.items c.args.customs.items) _ (answer_of c.run_command.result) _ _ (as_asked (plugged_by g.B.PlugBook.lists c.args.plugs.items c.args.customs.items) c.args.words.now (asked c.in-Ok.command) (answer_of c.run_command.result) _ _ c.in-Ok.ensures.command c.run_command.ensures.answers)
 
 pub returns-in-Ok-clause-reads : goal.returns-in-Ok-clause-reads
 returns-in-Ok-clause-reads g c = λ x e.
-    reads_little (plugged_by g.B.PlugBook.lists g.B.PlugBook.customs c.args.plugs.items c.args.customs.items) _ (answer_of c.run_command.result) _ _ (as_asked (plugged_by g.B.PlugBook.lists g.B.PlugBook.customs c.args.plugs.items c.args.customs.items) c.args.words.now (asked c.in-Ok.command) (answer_of c.run_command.result) _ _ c.in-Ok.ensures.command c.run_command.ensures.answers)
+    reads_little (plugged_by g.B.PlugBook.lists c.args.plugs.items c.args.customs.items) _ (answer_of c.run_command.result) _ _ (as_asked (plugged_by g.B.PlugBook.lists c.args.plugs.items c.args.customs.items) c.args.words.now (asked c.in-Ok.command) (answer_of c.run_command.result) _ _ c.in-Ok.ensures.command c.run_command.ensures.answers)
     x e (follows_another c.args.words.now x e)
 
 pub returns-clause-ran : goal.returns-clause-ran
@@ -24,4 +24,4 @@ returns-clause-ran g c =
 pub returns-clause-islands : goal.returns-clause-islands
 returns-clause-islands g c =
     let made = c.end_before_run-in-Err-NoMemory in
-    no_islands (plugged_by g.B.PlugBook.lists g.B.PlugBook.customs c.args.plugs.items c.args.customs.items) (asked_of c.args.words.now) made.result.ran _ _ made.ensures.ran
+    no_islands (plugged_by g.B.PlugBook.lists c.args.plugs.items c.args.customs.items) (asked_of c.args.words.now) made.result.ran _ _ made.ensures.ran

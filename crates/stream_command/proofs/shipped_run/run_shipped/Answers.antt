@@ -1,7 +1,6 @@
 -- The goals of `run::run_shipped` that the search leaves: memory was wanting before the call.
 use Rattle.std.proofs.Common.{◌≡◌, Some, rules, subst}
 use Rattle.plug_logic.specs.Shipped.{shipped_book}
-use Rattle.stream_model.specs.Linear.{none_told}
 use Rattle.run_report.specs.Asking.{Asked, asked_of}
 use Rattle.stream_command.proofs.Answering.{gave_up}
 use Rattle.stream_command.specs.Answers.{IsValidFor}
@@ -44,6 +43,6 @@ pub returns-clause-complete : goal.returns-clause-complete
 returns-clause-complete g c =
     let old = g.F.Folder.state c.args.folder.now in
     let new = g.F.Folder.state c.run_streams.new.folder in
-    let same : plugged_by shipped_book (none_told shipped_book) c.add_both.new.plugs.items c.hire_both.new.customs.items ≡ shipped_plugs = search rules in
+    let same : plugged_by shipped_book c.add_both.new.plugs.items c.hire_both.new.customs.items ≡ shipped_plugs = search rules in
     subst (λ (p : Plugged). (a : Asked) → asked_of c.args.words.now ≡ Some a → IsValidFor p a.generated a.file a.trace a.replay old new → RoseNowhere old new → WasRun c.run_streams.result.status)
     same c.run_streams.ensures.complete

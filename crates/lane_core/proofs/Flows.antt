@@ -209,16 +209,28 @@ module _ (keep : Bool) (s : ℕ) (T G L : List Item) (W : List Tree) (E : List I
       by_few old true e = let l = ap length (lets_go e).0 in let w = ap length (lets_go e).1 in let a = length-append L (told W unended) in let b = length_told W in omega (arith, l, w, a, b, old)
 
   -- where it is open, the end that came waits; and where it is not, nothing does
-  pub pending_some : (x : Item) (E' : List Item) → over ≡ false → S ≡ Flowing → E' ≡ E ++ x ∷ [] → option_to_list (Some x) ≡ pending_by S E'
+  pending_some : (x : Item) (E' : List Item) → over ≡ false → S ≡ Flowing → E' ≡ E ++ x ∷ [] → option_to_list (Some x) ≡ pending_by S E'
   pending_some x E' o fl en = sym (ap (λ (z : State). pending_by z E') fl ∙ (en ∙ ap (λ (l : List Item). l ++ x ∷ []) (no_end o)))
 
-  pub pending_none : (E' : List Item) → S ≢ Flowing → option_to_list P ≡ pending_by S E'
+  pending_none : (E' : List Item) → S ≢ Flowing → option_to_list P ≡ pending_by S E'
   pending_none E' n = by S refl
     where
       by : (z : State) → S ≡ z → option_to_list P ≡ pending_by S E'
       by Flowing e = absurd (n e)
       by Closed e = f.pending_is ∙ (ap (λ (z : State). pending_by z E) e ∙ sym (ap (λ (z : State). pending_by z E') e))
       by Cancelled e = f.pending_is ∙ (ap (λ (z : State). pending_by z E) e ∙ sym (ap (λ (z : State). pending_by z E') e))
+
+  -- the end that came waits exactly where it is open
+  pub pending_end : (x : Item) (E' : List Item) (P' : Option Item) → over ≡ false → E' ≡ E ++ x ∷ [] → (S ≡ Flowing → P' ≡ Some x) → (S ≢ Flowing → P' ≡ P) → option_to_list P' ≡ pending_by S E'
+  pending_end x E' P' o en flows stays = by S refl
+    where
+      still : S ≢ Flowing → option_to_list P' ≡ pending_by S E'
+      still n = ap option_to_list (stays n) ∙ pending_none E' n
+
+      by : (z : State) → S ≡ z → option_to_list P' ≡ pending_by S E'
+      by Flowing is = ap option_to_list (flows is) ∙ pending_some x E' o is en
+      by Closed is = still (λ x. let two : Closed ≡ Flowing = sym is ∙ x in cc)
+      by Cancelled is = still (λ x. let two : Cancelled ≡ Flowing = sym is ∙ x in cc)
 
   -- it is open while an element waits
   pub flows_on : (e : Tree) (V : List Tree) → W ≡ e ∷ V → S ≡ Flowing

@@ -10,7 +10,7 @@ ghost use Rattle.lane_core.specs.Meeting.{KeepsIn, KeepsOut, AreTold};
 ghost use Rattle.lane_core.specs.Flow.{Flow, AsksByHalves};
 ghost use Rattle.lane_core.specs.declared.state.State.TheVariants.{Flowing, Closed, Cancelled};
 
-use crate::held::{drop_all, hold, make_way, next_held};
+use crate::held::{drop_all, drop_one, end_with, hold, next_held};
 use crate::lane::meet;
 use crate::lane_in::LaneIn;
 use crate::lane_out::LaneOut;
@@ -118,17 +118,21 @@ impl InputBoundary {
             Some(Item::Elem(e)) => {
                 match self.state {
                     State::Flowing => hold(&mut self.buffer, e),
-                    _ => self.lost = self.lost.and(&Item::Elem(e)),
+                    _ => drop_one(e, &mut self.lost),
                 }
                 true
             }
             Some(end) => {
                 self.over = true;
                 self.ending = self.ending.and(&end);
-                make_way(self.keep, &end, &mut self.buffer, &mut self.lost);
-                if let State::Flowing = self.state {
-                    self.pending = Some(end);
-                }
+                end_with(
+                    self.keep,
+                    self.state,
+                    end,
+                    &mut self.buffer,
+                    &mut self.pending,
+                    &mut self.lost,
+                );
                 true
             }
         }

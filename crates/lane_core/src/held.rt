@@ -1,9 +1,12 @@
 // The elements that wait, first come first.
-ghost use Rattle.std.specs.Prelude.{◌≡◌, ◌<◌, ◌++◌, [], ◌∷◌, true, false, IfSome, IfNone, length};
+ghost use Rattle.std.specs.Prelude.{◌≡◌, ◌≢◌, ◌<◌, ◌++◌, [], ◌∷◌, true, false, Some, IfSome, IfNone, length};
+ghost use Rattle.elem_core.specs.declared.item.Item.TheVariants as item;
 ghost use Rattle.stage_core.specs.Held.{told};
 ghost use Rattle.lane_core.specs.Flow.{drops};
+ghost use Rattle.lane_core.specs.declared.state.State.TheVariants.{Flowing};
 ghost use Rattle.stream_model.specs.Outlook.{unended};
 
+use crate::state::State;
 use circular_buffer::HeapCircularBuffer;
 use elem_core::elem::Elem;
 use elem_core::item::Item;
@@ -14,7 +17,10 @@ pub(crate) fn hold(held: &mut HeapCircularBuffer<Elem>, e: Elem)
     requires { length held.old.items < held.old.capacity }
     ensures { (held.new.items ≡ held.old.items ++ e ∷ []) × (held.new.capacity ≡ held.old.capacity) }
 {
-    held.push_back(e);
+    match held.try_push_back(e) {
+        Ok(()) => {}
+        Err(_) => unreachable!(),
+    }
 }
 
 // Takes out the first that waits.
@@ -24,6 +30,14 @@ pub(crate) fn next_held(held: &mut HeapCircularBuffer<Elem>) -> Option<Elem>
     ensures none { IfNone result ((held.old.items ≡ []) × (held.new ≡ held.old)) }
 {
     held.pop_front()
+}
+
+// Drops an element that is not wanted any more, and notes it as dropped. Out of line, since it comes only behind a cancel.
+#[inline(never)]
+pub(crate) fn drop_one(e: Elem, lost: &mut Trace<Item>)
+    ensures { lost.new.items ≡ lost.old.items ++ item.Elem e ∷ [] }
+{
+    *lost = lost.and(&Item::Elem(e));
 }
 
 // Drops all that wait, and notes them as dropped.
@@ -38,21 +52,29 @@ pub(crate) fn drop_all(held: &mut HeapCircularBuffer<Elem>, lost: &mut Trace<Ite
     }
 }
 
-// An end came: behind a normal one what waits goes on waiting, and a failure drops it, unless the lane keeps it.
-pub(crate) fn make_way(
+// An end came, and waits where what comes is handed on. Behind a normal one the elements that wait go on waiting, and a failure drops
+// them, unless the lane keeps them. Out of line, since it comes once.
+#[inline(never)]
+pub(crate) fn end_with(
     keep: bool,
-    end: &Item,
+    state: State,
+    end: Item,
     held: &mut HeapCircularBuffer<Elem>,
+    pending: &mut Option<Item>,
     lost: &mut Trace<Item>,
 )
     ensures capacity { held.new.capacity ≡ held.old.capacity }
-    ensures normal { drops keep (end.now ∷ []) ≡ false → (lost.new.items ≡ lost.old.items) × (held.new.items ≡ held.old.items) }
-    ensures failure { drops keep (end.now ∷ []) ≡ true → (lost.new.items ≡ lost.old.items ++ told held.old.items unended) × (held.new.items ≡ []) }
+    ensures normal { drops keep (end ∷ []) ≡ false → (lost.new.items ≡ lost.old.items) × (held.new.items ≡ held.old.items) }
+    ensures failure { drops keep (end ∷ []) ≡ true → (lost.new.items ≡ lost.old.items ++ told held.old.items unended) × (held.new.items ≡ []) }
+    ensures flows { state ≡ Flowing → pending.new ≡ Some end }
+    ensures stays { state ≢ Flowing → pending.new ≡ pending.old }
 {
-    if keep {
-        return;
+    if !keep {
+        if let Item::Failed(_) = &end {
+            drop_all(held, lost);
+        }
     }
-    if let Item::Failed(_) = end {
-        drop_all(held, lost);
+    if let State::Flowing = state {
+        *pending = Some(end);
     }
 }

@@ -96,10 +96,15 @@ impl LaneIn {
             × (told_sent self.old ≤ found_sent self.new)) }
         ensures told { told_sent self.new ≡ told_sent self.old }
     {
-        let item = fetch(&self.table.shared, &mut self.seat, self.taken, self.place)?;
-        self.taken += 1;
-        self.place = next_place(self.place, self.size);
-        Some(item)
+        // Not by `?`, which moves the item once more.
+        match fetch(&self.table.shared, &mut self.seat, self.taken, self.place) {
+            None => None,
+            Some(item) => {
+                self.taken += 1;
+                self.place = next_place(self.place, self.size);
+                Some(item)
+            }
+        }
     }
 
     // Choice: docs/DECISIONS.md#asked-by-calls

@@ -99,7 +99,8 @@ impl Leaving {
         }
     }
 
-    // Takes out the first that waits.
+    // Takes out the first that waits. Out of line, since `hand_out` takes most out itself.
+    #[inline(never)]
     fn pop(&mut self) -> Option<Item>
         ensures none { IfNone result ((self.old.waits ≡ []) × (self.new ≡ self.old)) }
         ensures some { IfSome result (λ x. (self.old.waits ≡ x ∷ self.new.waits)
@@ -196,8 +197,15 @@ impl Stage for Leaving {
         Ok(())
     }
 
+    // The first place is looked at here: what waits nearly always lies in it, and one more call would move it once more.
     fn hand_out(&mut self) -> Option<Item> {
-        self.pop()
+        match self.first.take() {
+            Some(item) => {
+                self.gone = self.gone.and(&item);
+                Some(item)
+            }
+            None => self.pop(),
+        }
     }
 
     fn let_go(&mut self) {

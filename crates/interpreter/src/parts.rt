@@ -232,7 +232,7 @@ pub fn build_all<S: Source, D: Drain, L: Logic, H: Handlers, B: PlugBook>(
 pub fn all_ends(alloc: Global, links: &[Link]) -> Result<Vec<WireEnds>, NoMemory>
     ensures { IfOk result (λ ends. ends.items ≡ map ends_of links.now) }
 {
-    let mut ends = Vec::new(alloc);
+    let mut ends = Vec::with_capacity(alloc, links.len())?;
     for link in links {
         ends.push(WireEnds {
             from: link.from,
@@ -248,7 +248,7 @@ pub fn all_ends(alloc: Global, links: &[Link]) -> Result<Vec<WireEnds>, NoMemory
 pub fn all_numbers(alloc: Global, links: &[Link]) -> Result<Vec<u32>, NoMemory>
     ensures { IfOk result (λ numbers. numbers.items ≡ map wire_number links.now) }
 {
-    let mut numbers = Vec::new(alloc);
+    let mut numbers = Vec::with_capacity(alloc, links.len())?;
     for link in links {
         numbers.push(link.wire)?;
     }
@@ -259,7 +259,7 @@ pub fn all_numbers(alloc: Global, links: &[Link]) -> Result<Vec<u32>, NoMemory>
 pub fn all_places(alloc: Global, places: &[Place]) -> Result<Vec<u32>, NoMemory>
     ensures { IfOk result (λ numbers. numbers.items ≡ map (λ (p : Place). p.node) places.now) }
 {
-    let mut numbers = Vec::new(alloc);
+    let mut numbers = Vec::with_capacity(alloc, places.len())?;
     for place in places {
         numbers.push(place.node)?;
     }
@@ -278,7 +278,7 @@ fn blank_row(alloc: Global, place: Place) -> Result<Ports, NoMemory>
 pub fn blank_ports(alloc: Global, places: &[Place]) -> Result<Vec<Ports>, NoMemory>
     ensures { IfOk result (λ ports. IsSized (input_count_at places.now) (output_count_at places.now) (length places.now) ports.items) }
 {
-    let mut ports = Vec::new(alloc);
+    let mut ports = Vec::with_capacity(alloc, places.len())?;
     for n in 0..places.len() {
         ports.push(blank_row(alloc, places[n])?)?;
     }

@@ -65,7 +65,7 @@ pub fn spaces_of<S: Source, D: Drain, L: Logic, H: Handlers, B: PlugBook>(
     requires few { (k : ℕ) → length (items_at links.items k) < 2 ^ 32 }
     ensures { IfOk result (λ spaces. AreSpaces places.now links.items spaces.items) }
 {
-    let mut spaces = Vec::new(alloc);
+    let mut spaces = Vec::with_capacity(alloc, links.len())?;
     let mut k = 0;
     for list in links {
         spaces.push(space_of(alloc, &places[k], list)?)?;

@@ -70,7 +70,7 @@ fn ports_of(wires: &[WireDecl], node: &Node) -> Result<(u32, u32), NoMemory>
 pub fn places_of(alloc: Global, nodes: &[Node], wires: &[WireDecl]) -> Result<Vec<Place>, NoMemory>
     ensures { IfOk result (λ places. places.items ≡ places_from wires.now 0 nodes.now) }
 {
-    let mut places = Vec::new(alloc);
+    let mut places = Vec::with_capacity(alloc, nodes.len())?;
     for (i, node) in nodes.iter().enumerate() {
         let ports = ports_of(wires, node)?;
         places.push(Place {

@@ -1,6 +1,8 @@
 // The answer of a call, from the blueprint's file to the status and what is told of a run.
 ghost use Rattle.std.specs.Prelude.{ℕ, List, ◌≡◌, ◌<◌, ◌≤◌, ◌||◌, ◌++◌, ◌≢◌, [], ◌⊎◌, Option, map, length, IfOk, IfSome, IsTrue, Some, None, Err, vec_len, vec_capacity};
 ghost use Rattle.blue_modules.specs.Plain.{plain};
+ghost use Rattle.blue_lang.specs.Texts.{Says, text_fault};
+ghost use Rattle.blue_words.specs.declared.fault.BlueFault.{BlueFault};
 ghost use Rattle.blue_modules.specs.Text.{plain_text};
 ghost use Rattle.blue_modules.specs.Fitness.{IsFlat};
 ghost use Rattle.blue_check.specs.declared.fault.CheckFault.{CheckFault};
@@ -471,6 +473,14 @@ fn run_said<
     }
 }
 
+/// What a text says, as `parse` tells it. The text is let go, so that a run does not hold it.
+fn parse_all(alloc: Global, text: Vec<u8>) -> Result<BlueText, ParseEnd>
+    ensures ok { IfOk result (λ t. Says text.items (plain_text t)) }
+    ensures fault { (f : BlueFault) → result ≡ Err (ParseEnd.Fault f) → text_fault text.items ≡ Some f }
+{
+    parse(alloc, &text)
+}
+
 /// Runs the blueprint of a text, where these files are taken.
 fn run_text<
     R: Threads + Wait + Sync,
@@ -482,7 +492,7 @@ fn run_text<
     rt: &R,
     alloc: Global,
     folder: &mut F,
-    text: &[u8],
+    text: Vec<u8>,
     taken: &[Line],
     trace: Option<Line>,
     replay: Option<Line>,
@@ -498,9 +508,9 @@ fn run_text<
     requires workers { (0 < workers) × (workers ≤ 64) }
     requires turns { turns ≤ MOST_COUNT }
     ensures told { IsTrue (F.state folder.old).tells → EndedText (plugged_by B.lists plugs.items customs.items) result.status
-        (of_outcome result) text.now taken.now trace replay turns (F.state folder.old) (F.state folder.new) }
+        (of_outcome result) text.items taken.now trace replay turns (F.state folder.old) (F.state folder.new) }
     ensures tells { IsTrue (F.state folder.new).tells → IsTrue (F.state folder.old).tells }
-    ensures causes { CausesText (plugged_by B.lists plugs.items customs.items) result.status (of_outcome result) text.now taken.now trace replay turns
+    ensures causes { CausesText (plugged_by B.lists plugs.items customs.items) result.status (of_outcome result) text.items taken.now trace replay turns
         (F.state folder.old)
         (F.state folder.new) }
     ensures sinks { SinksOf result.status (of_outcome result) trace }
@@ -508,10 +518,10 @@ fn run_text<
     ensures reads { QuietAmong taken.now replay (F.state folder.old).read (F.state folder.new).read }
     ensures reads_moves { ReadsMost replay (F.state folder.old).read (F.state folder.new).read }
     ensures ran { Receipts result.status workers result.used result.ran }
-    ensures islands { RanText (plugged_by B.lists plugs.items customs.items) text.now taken.now result.ran }
+    ensures islands { RanText (plugged_by B.lists plugs.items customs.items) text.items taken.now result.ran }
     ensures handles { F.handles folder.new ≡ F.handles folder.old }
 {
-    match parse(alloc, text) {
+    match parse_all(alloc, text) {
         Ok(said) => run_said::<R, F, L, H, B>(
             rt, alloc, folder, said, taken, trace, replay, workers, turns, plugs, customs,
         ),
@@ -632,7 +642,7 @@ pub fn run_file<
     } = names;
     match read_file(alloc, folder, file) {
         Ok(text) => run_text::<R, F, L, H, B>(
-            rt, alloc, folder, &text, &taken, path, moves, workers, turns, plugs, customs,
+            rt, alloc, folder, text, &taken, path, moves, workers, turns, plugs, customs,
         ),
         Err(ReadEnd::Missing) => without_run(alloc, Status::Missing(name)),
         Err(ReadEnd::Fault) => without_run(alloc, Status::ReadFault),

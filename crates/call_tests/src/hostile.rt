@@ -152,78 +152,84 @@ fn run<R: Threads + Wait + Sync>(
     call_with(rt, alloc, text, "a\nb\n", "2", Vec::new(alloc), customs)
 }
 
+/// Each deed: the blueprint, and what a run of it says and leaves. What the other stage gives is looked at where both end.
 #[test]
-fn a_push_of_another_type_fails(rt: HostRuntime) -> Result<(), Fail> {
-    let came = run(&rt, rt.alloc(), BESIDE, Deed::OtherType)?;
-    assert!(rt; came.says("failed\nsink out failed 0 stage 1 nth 1 why 16/4\nsink far ended 3\n"));
-    assert!(rt; came.holds(rt.alloc(), "out.txt", "")?);
-    assert!(rt; came.holds(rt.alloc(), "far.txt", "1\n2\n3\n")?);
-    Ok(())
-}
-
-#[test]
-fn a_push_where_no_output_is_fails(rt: HostRuntime) -> Result<(), Fail> {
-    let came = run(&rt, rt.alloc(), BESIDE, Deed::NoSuchOutput)?;
-    assert!(rt; came.says("failed\nsink out failed 0 stage 1 nth 1 why 16/3\nsink far ended 3\n"));
-    assert!(rt; came.holds(rt.alloc(), "far.txt", "1\n2\n3\n")?);
-    Ok(())
-}
-
-#[test]
-fn a_pull_where_no_input_is_fails(rt: HostRuntime) -> Result<(), Fail> {
-    let came = run(&rt, rt.alloc(), BESIDE, Deed::NoSuchInput)?;
-    assert!(rt; came.says("failed\nsink out failed 0 stage 1 nth 1 why 16/3\nsink far ended 3\n"));
-    assert!(rt; came.holds(rt.alloc(), "far.txt", "1\n2\n3\n")?);
-    Ok(())
-}
-
-#[test]
-fn a_second_pull_fails(rt: HostRuntime) -> Result<(), Fail> {
-    let came = run(&rt, rt.alloc(), BESIDE, Deed::TwicePulled)?;
-    assert!(rt; came.says("failed\nsink out failed 0 stage 1 nth 1 why 16/1\nsink far ended 3\n"));
-    assert!(rt; came.holds(rt.alloc(), "far.txt", "1\n2\n3\n")?);
-    Ok(())
-}
-
-#[test]
-fn no_failure_is_passed_on_that_did_not_come(rt: HostRuntime) -> Result<(), Fail> {
-    let came = run(&rt, rt.alloc(), BESIDE, Deed::PassesNothing)?;
-    assert!(rt; came.says("failed\nsink out failed 0 stage 1 nth 1 why 16/5\nsink far ended 3\n"));
-    assert!(rt; came.holds(rt.alloc(), "far.txt", "1\n2\n3\n")?);
-    Ok(())
-}
-
-#[test]
-fn a_thousand_asks_complete_once(rt: HostRuntime) -> Result<(), Fail> {
-    let came = run(&rt, rt.alloc(), BESIDE, Deed::ThousandAsks)?;
-    assert!(rt; came.says("done\nsink out ended 1\nsink far ended 3\n"));
-    assert!(rt; came.holds(rt.alloc(), "out.txt", "a\n")?);
-    assert!(rt; came.holds(rt.alloc(), "far.txt", "1\n2\n3\n")?);
-    Ok(())
-}
-
-#[test]
-fn a_push_behind_the_end_changes_nothing(rt: HostRuntime) -> Result<(), Fail> {
-    let came = run(&rt, rt.alloc(), BESIDE, Deed::PushesBehindEnd)?;
-    assert!(rt; came.says("done\nsink out ended 0\nsink far ended 3\n"));
-    assert!(rt; came.holds(rt.alloc(), "far.txt", "1\n2\n3\n")?);
-    Ok(())
-}
-
-#[test]
-fn one_that_asks_nothing_stalls(rt: HostRuntime) -> Result<(), Fail> {
-    let came = run(&rt, rt.alloc(), ALONE, Deed::AsksNothing)?;
-    assert!(rt;
-        came.says(
-            "stalled\nsink out unended 0\nwire 0 sent 0 unasked live\nwire 1 sent 0 asked live\n"
-        )
-    );
-    Ok(())
-}
-
-#[test]
-fn a_want_of_memory_is_the_run_s(rt: HostRuntime) -> Result<(), Fail> {
-    let came = run(&rt, rt.alloc(), BESIDE, Deed::WantsMemory)?;
-    assert!(rt; came.says("no memory\n"));
+fn a_hostile_stage_harms_no_other(rt: HostRuntime) -> Result<(), Fail> {
+    let alloc = rt.alloc();
+    for (deed, text, said, out, far) in [
+        // A push of another type fails it.
+        (
+            Deed::OtherType,
+            BESIDE,
+            "failed\nsink out failed 0 stage 1 nth 1 why 16/4\nsink far ended 3\n",
+            "",
+            Some("1\n2\n3\n"),
+        ),
+        // So does a push where no output is,
+        (
+            Deed::NoSuchOutput,
+            BESIDE,
+            "failed\nsink out failed 0 stage 1 nth 1 why 16/3\nsink far ended 3\n",
+            "",
+            Some("1\n2\n3\n"),
+        ),
+        // a pull where no input is,
+        (
+            Deed::NoSuchInput,
+            BESIDE,
+            "failed\nsink out failed 0 stage 1 nth 1 why 16/3\nsink far ended 3\n",
+            "",
+            Some("1\n2\n3\n"),
+        ),
+        // a second pull,
+        (
+            Deed::TwicePulled,
+            BESIDE,
+            "failed\nsink out failed 0 stage 1 nth 1 why 16/1\nsink far ended 3\n",
+            "",
+            Some("1\n2\n3\n"),
+        ),
+        // and passing on a failure that did not come.
+        (
+            Deed::PassesNothing,
+            BESIDE,
+            "failed\nsink out failed 0 stage 1 nth 1 why 16/5\nsink far ended 3\n",
+            "",
+            Some("1\n2\n3\n"),
+        ),
+        // A thousand asks complete once.
+        (
+            Deed::ThousandAsks,
+            BESIDE,
+            "done\nsink out ended 1\nsink far ended 3\n",
+            "a\n",
+            Some("1\n2\n3\n"),
+        ),
+        // A push behind the end changes nothing.
+        (
+            Deed::PushesBehindEnd,
+            BESIDE,
+            "done\nsink out ended 0\nsink far ended 3\n",
+            "",
+            Some("1\n2\n3\n"),
+        ),
+        // One that asks nothing stalls.
+        (
+            Deed::AsksNothing,
+            ALONE,
+            "stalled\nsink out unended 0\nwire 0 sent 0 unasked live\nwire 1 sent 0 asked live\n",
+            "",
+            None,
+        ),
+        // A want of memory is the run's.
+        (Deed::WantsMemory, BESIDE, "no memory\n", "", None),
+    ] {
+        let came = run(&rt, alloc, text, deed)?;
+        assert!(rt; came.says(said));
+        assert!(rt; came.holds(alloc, "out.txt", out)?);
+        if let Some(far) = far {
+            assert!(rt; came.holds(alloc, "far.txt", far)?);
+        }
+    }
     Ok(())
 }

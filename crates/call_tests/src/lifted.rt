@@ -2,12 +2,14 @@
 use crate::plug_calls::{call_with, hire};
 use elem_core::elem_type::{ElemType, TypeForm};
 use graph_stage::custom::Custom;
+use graph_stage::handlers::Handlers;
 use plug_logic::dedup::Dedup;
 use plug_logic::pair_sum::PairSum;
 use plug_samples::halts::Halts;
 use plug_samples::spoils::Spoils;
 use plug_samples::tail::Tail;
 use plug_samples::twin::Twin;
+use std::alloc::{AllocError, Global};
 use std::test::Fail;
 use told_stage::lift::Lift;
 
@@ -23,194 +25,137 @@ const NUMBERS: &str =
 const AMONG_THREADS: &str =
     "streams 1\nsource src lines in.txt\nstage p custom lifted\nsink out lines out.txt\nwire src.0 -> p.0 async 2\nwire p.0 -> out.0 async 1\n";
 
-#[test]
-fn a_dedup_leaves_out_what_repeats(rt: HostRuntime) -> Result<(), Fail> {
-    let alloc = rt.alloc();
-    let mut customs: Vec<Custom> = Vec::new(alloc);
-    let lift = Lift::of(ElemType::of(TypeForm::Text), Dedup::new());
-    hire(
-        alloc,
-        &mut customs,
-        "lifted",
-        (1, 1),
-        false,
-        Box::new(alloc, lift)?,
-    )?;
-    let came = call_with(
-        &rt,
-        alloc,
-        TEXTS,
-        "a\na\nb\na\n",
-        "1",
-        Vec::new(alloc),
-        customs,
-    )?;
-    assert!(rt; came.says("done\nsink out ended 3\n"));
-    assert!(rt; came.holds(alloc, "out.txt", "a\nb\na\n")?);
-    Ok(())
+/// The plug that is lifted.
+#[derive(Clone, Copy)]
+enum Lifted {
+    Dedup,
+    /// The only one of numbers.
+    PairSum,
+    Twin,
+    Tail,
+    Halts,
+    Spoils,
 }
 
-#[test]
-fn a_failure_passes_a_dedup(rt: HostRuntime) -> Result<(), Fail> {
-    let alloc = rt.alloc();
-    let mut customs: Vec<Custom> = Vec::new(alloc);
-    let lift = Lift::of(ElemType::of(TypeForm::Text), Dedup::new());
-    hire(
-        alloc,
-        &mut customs,
-        "lifted",
-        (1, 1),
-        false,
-        Box::new(alloc, lift)?,
-    )?;
-    let came = call_with(&rt, alloc, LIMITED, "a\nb\n", "1", Vec::new(alloc), customs)?;
-    assert!(rt; came.says("failed\nsink out failed 1 stage 1 nth 2 why 6\n"));
-    assert!(rt; came.holds(alloc, "out.txt", "a\n")?);
-    Ok(())
+impl Lifted {
+    /// Whether it is one of numbers.
+    fn takes_numbers(self) -> bool {
+        match self {
+            Lifted::PairSum => true,
+            _ => false,
+        }
+    }
+
+    /// It as a custom stage.
+    fn boxed(self, alloc: Global) -> Result<Box<dyn Handlers + Send>, AllocError> {
+        let form = if self.takes_numbers() {
+            TypeForm::Num
+        } else {
+            TypeForm::Text
+        };
+        let input = ElemType::of(form);
+        Ok(match self {
+            Lifted::Dedup => Box::new(alloc, Lift::of(input, Dedup::new()))?,
+            Lifted::PairSum => Box::new(alloc, Lift::of(input, PairSum::new()))?,
+            Lifted::Twin => Box::new(alloc, Lift::of(input, Twin::new()))?,
+            Lifted::Tail => Box::new(alloc, Lift::of(input, Tail::new()))?,
+            Lifted::Halts => Box::new(alloc, Lift::of(input, Halts::new()))?,
+            Lifted::Spoils => Box::new(alloc, Lift::of(input, Spoils::new()))?,
+        })
+    }
 }
 
+/// Each row: the plug, a blueprint with it, its input, the workers, and what the run says and leaves.
 #[test]
-fn a_sum_without_a_value_is_the_plug_s_own_failure(rt: HostRuntime) -> Result<(), Fail> {
+fn a_lifted_plug_gives_what_it_gives_as_a_plug(rt: HostRuntime) -> Result<(), Fail> {
     let alloc = rt.alloc();
-    let mut customs: Vec<Custom> = Vec::new(alloc);
-    let lift = Lift::of(ElemType::of(TypeForm::Num), PairSum::new());
-    hire(
-        alloc,
-        &mut customs,
-        "lifted",
-        (1, 1),
-        true,
-        Box::new(alloc, lift)?,
-    )?;
-    let came = call_with(
-        &rt,
-        alloc,
-        NUMBERS,
-        "1\n2\n9223372036854775807\n1\n",
-        "1",
-        Vec::new(alloc),
-        customs,
-    )?;
-    assert!(rt; came.says("failed\nsink out failed 1 stage 2 nth 4 why 15/1\n"));
-    assert!(rt; came.holds(alloc, "out.txt", "3\n")?);
-    Ok(())
-}
-
-#[test]
-fn a_lift_that_finishes_gives_both_outputs(rt: HostRuntime) -> Result<(), Fail> {
-    let alloc = rt.alloc();
-    let mut customs: Vec<Custom> = Vec::new(alloc);
-    let lift = Lift::of(ElemType::of(TypeForm::Text), Twin::new());
-    hire(
-        alloc,
-        &mut customs,
-        "lifted",
-        (1, 1),
-        false,
-        Box::new(alloc, lift)?,
-    )?;
-    let came = call_with(
-        &rt,
-        alloc,
-        TEXTS,
-        "a\nb\nc\n",
-        "1",
-        Vec::new(alloc),
-        customs,
-    )?;
-    assert!(rt; came.says("done\nsink out ended 2\n"));
-    assert!(rt; came.holds(alloc, "out.txt", "a\na\n")?);
-    Ok(())
-}
-
-#[test]
-fn a_failure_behind_the_finish_is_not_heard(rt: HostRuntime) -> Result<(), Fail> {
-    let alloc = rt.alloc();
-    let mut customs: Vec<Custom> = Vec::new(alloc);
-    let lift = Lift::of(ElemType::of(TypeForm::Text), Twin::new());
-    hire(
-        alloc,
-        &mut customs,
-        "lifted",
-        (1, 1),
-        false,
-        Box::new(alloc, lift)?,
-    )?;
-    let came = call_with(&rt, alloc, LIMITED, "a\nb\n", "1", Vec::new(alloc), customs)?;
-    assert!(rt; came.says("done\nsink out ended 2\n"));
-    assert!(rt; came.holds(alloc, "out.txt", "a\na\n")?);
-    Ok(())
-}
-
-#[test]
-fn last_outputs_go_out_across_threads(rt: HostRuntime) -> Result<(), Fail> {
-    let alloc = rt.alloc();
-    let mut customs: Vec<Custom> = Vec::new(alloc);
-    let lift = Lift::of(ElemType::of(TypeForm::Text), Tail::new());
-    hire(
-        alloc,
-        &mut customs,
-        "lifted",
-        (1, 1),
-        false,
-        Box::new(alloc, lift)?,
-    )?;
-    let came = call_with(
-        &rt,
-        alloc,
-        AMONG_THREADS,
-        "a\nb\nc\n",
-        "4",
-        Vec::new(alloc),
-        customs,
-    )?;
-    assert!(rt; came.says("done\nsink out ended 2\n"));
-    assert!(rt; came.holds(alloc, "out.txt", "c\nc\n")?);
-    Ok(())
-}
-
-#[test]
-fn a_lift_that_fails_drops_what_it_put_out(rt: HostRuntime) -> Result<(), Fail> {
-    let alloc = rt.alloc();
-    let mut customs: Vec<Custom> = Vec::new(alloc);
-    let lift = Lift::of(ElemType::of(TypeForm::Text), Halts::new());
-    hire(
-        alloc,
-        &mut customs,
-        "lifted",
-        (1, 1),
-        false,
-        Box::new(alloc, lift)?,
-    )?;
-    let came = call_with(
-        &rt,
-        alloc,
-        TEXTS,
-        "a\nb\nc\n",
-        "1",
-        Vec::new(alloc),
-        customs,
-    )?;
-    assert!(rt; came.says("failed\nsink out failed 1 stage 1 nth 2 why 15/7\n"));
-    assert!(rt; came.holds(alloc, "out.txt", "a\n")?);
-    Ok(())
-}
-
-#[test]
-fn a_lift_that_fails_at_its_end_fails_behind_all(rt: HostRuntime) -> Result<(), Fail> {
-    let alloc = rt.alloc();
-    let mut customs: Vec<Custom> = Vec::new(alloc);
-    let lift = Lift::of(ElemType::of(TypeForm::Text), Spoils::new());
-    hire(
-        alloc,
-        &mut customs,
-        "lifted",
-        (1, 1),
-        false,
-        Box::new(alloc, lift)?,
-    )?;
-    let came = call_with(&rt, alloc, TEXTS, "a\nb\n", "1", Vec::new(alloc), customs)?;
-    assert!(rt; came.says("failed\nsink out failed 2 stage 1 nth 0 why 15/9\n"));
-    assert!(rt; came.holds(alloc, "out.txt", "a\nb\n")?);
+    for (plug, text, input, workers, said, left) in [
+        // A dedup leaves out what repeats,
+        (
+            Lifted::Dedup,
+            TEXTS,
+            "a\na\nb\na\n",
+            "1",
+            "done\nsink out ended 3\n",
+            "a\nb\na\n",
+        ),
+        // and a failure passes it.
+        (
+            Lifted::Dedup,
+            LIMITED,
+            "a\nb\n",
+            "1",
+            "failed\nsink out failed 1 stage 1 nth 2 why 6\n",
+            "a\n",
+        ),
+        // A sum without a value is the plug's own failure.
+        (
+            Lifted::PairSum,
+            NUMBERS,
+            "1\n2\n9223372036854775807\n1\n",
+            "1",
+            "failed\nsink out failed 1 stage 2 nth 4 why 15/1\n",
+            "3\n",
+        ),
+        // One that finishes gives both outputs,
+        (
+            Lifted::Twin,
+            TEXTS,
+            "a\nb\nc\n",
+            "1",
+            "done\nsink out ended 2\n",
+            "a\na\n",
+        ),
+        // and a failure behind the finish is not heard.
+        (
+            Lifted::Twin,
+            LIMITED,
+            "a\nb\n",
+            "1",
+            "done\nsink out ended 2\n",
+            "a\na\n",
+        ),
+        // Last outputs go out across threads.
+        (
+            Lifted::Tail,
+            AMONG_THREADS,
+            "a\nb\nc\n",
+            "4",
+            "done\nsink out ended 2\n",
+            "c\nc\n",
+        ),
+        // One that fails drops what it put out,
+        (
+            Lifted::Halts,
+            TEXTS,
+            "a\nb\nc\n",
+            "1",
+            "failed\nsink out failed 1 stage 1 nth 2 why 15/7\n",
+            "a\n",
+        ),
+        // and one that fails at its end does so behind all that it gave.
+        (
+            Lifted::Spoils,
+            TEXTS,
+            "a\nb\n",
+            "1",
+            "failed\nsink out failed 2 stage 1 nth 0 why 15/9\n",
+            "a\nb\n",
+        ),
+    ] {
+        let mut customs: Vec<Custom> = Vec::new(alloc);
+        let stage = plug.boxed(alloc)?;
+        hire(
+            alloc,
+            &mut customs,
+            "lifted",
+            (1, 1),
+            plug.takes_numbers(),
+            stage,
+        )?;
+        let came = call_with(&rt, alloc, text, input, workers, Vec::new(alloc), customs)?;
+        assert!(rt; came.says(said));
+        assert!(rt; came.holds(alloc, "out.txt", left)?);
+    }
     Ok(())
 }

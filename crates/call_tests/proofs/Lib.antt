@@ -1,1 +1,2 @@
 pub mod Islands
+pub mod Telling

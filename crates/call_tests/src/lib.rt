@@ -38,6 +38,8 @@ mod sure_run;
 #[cfg(test)]
 mod switches;
 #[cfg(test)]
+mod told;
+#[cfg(test)]
 mod turns;
 #[cfg(test)]
 mod walks;

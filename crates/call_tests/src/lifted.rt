@@ -13,10 +13,10 @@ use std::alloc::{AllocError, Global};
 use std::test::Fail;
 use told_stage::lift::Lift;
 
-const TEXTS: &str =
+pub const TEXTS: &str =
     "streams 1\nsource src lines in.txt\nstage p custom lifted\nsink out lines out.txt\nwire src.0 -> p.0\nwire p.0 -> out.0\n";
 
-const LIMITED: &str =
+pub const LIMITED: &str =
     "streams 1\nsource src lines in.txt\nstage l limit 1\nstage p custom lifted\nsink out lines out.txt\nwire src.0 -> l.0\nwire l.0 -> p.0 async 1\nwire p.0 -> out.0\n";
 
 const NUMBERS: &str =

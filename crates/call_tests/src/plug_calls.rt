@@ -2,6 +2,7 @@
 ghost use Rattle.std.specs.Prelude.{◌≡◌, ◌≤◌, ◌++◌, ◌∷◌, [], IsTrue, OnOk, length};
 ghost use Rattle.std.specs.List.{All};
 ghost use Rattle.elem_core.specs.Line.{has_no_lf};
+ghost use Rattle.graph_stage.specs.Told.{HandedAs};
 ghost use Rattle.plug_logic.specs.Gives.{listed};
 ghost use Rattle.plug_samples.specs.Samples.{sample_book};
 ghost use Rattle.stage_linear.specs.Plugs.{Is};
@@ -11,6 +12,7 @@ use elem_core::elem_type::{ElemType, TypeForm};
 use elem_core::line::Line;
 use graph_stage::custom::Custom;
 use graph_stage::handlers::Handlers;
+use plug_logic::book::PlugBook;
 use plug_logic::logic::Logic;
 use plug_logic::plug::Plug;
 use plug_samples::book::Samples;
@@ -132,7 +134,8 @@ pub fn call<R: Threads + Wait + Sync>(
     call_with(rt, alloc, text, input, workers, plugs, Vec::new(alloc))
 }
 
-/// Runs the blueprint of this text, by so many workers, over a folder whose `in.txt` holds this input.
+/// Runs the blueprint of this text, by so many workers, over a folder whose `in.txt` holds this input. Of no custom stage the book of
+/// samples has a list.
 pub fn call_with<R: Threads + Wait + Sync>(
     rt: &R,
     alloc: Global,
@@ -143,6 +146,23 @@ pub fn call_with<R: Threads + Wait + Sync>(
     customs: Vec<Custom>,
 ) -> Result<Came, AllocError>
     requires { All (λ p. Is (gives p.logic) [] (listed sample_book p.head.name)) plugs.items }
+{
+    call_by::<R, Samples>(rt, alloc, text, input, workers, plugs, customs)
+}
+
+/// The same by any book of lists.
+pub fn call_by<R: Threads + Wait + Sync, B: PlugBook + Send>(
+    rt: &R,
+    alloc: Global,
+    text: &str,
+    input: &str,
+    workers: &str,
+    plugs: Vec<Plug>,
+    customs: Vec<Custom>,
+) -> Result<Came, AllocError>
+    requires listed { All (λ p. Is (gives p.logic) [] (listed B.lists p.head.name)) plugs.items }
+    requires customs { All (λ c. HandedAs (B.lists.tells c.head.name) B.lists c.head.name c.head.inputs.items c.head.outputs.items
+        (tells c.stage)) customs.items }
 {
     let mut files = Vec::new(alloc);
     for (name, held) in [("log.blue", text), ("in.txt", input)] {
@@ -157,7 +177,7 @@ pub fn call_with<R: Threads + Wait + Sync>(
     words.push(line_of(alloc, workers)?)?;
     let mut folder = MemFolder::new(files, Vec::new(alloc), 4096, 1000);
     let mut console = MemDrain::new(alloc, Vec::new(alloc), 4096, 1000)?;
-    let _ = run_streams::<R, MemFolder, MemDrain, Samples>(
+    let _ = run_streams::<R, MemFolder, MemDrain, B>(
         rt,
         alloc,
         &words,

@@ -11,6 +11,7 @@ pub mod Calls
 pub mod Laws
 pub mod Making
 pub mod Samples
+pub mod Shipped
 pub mod Lifted
 pub mod Told
 pub mod Plugged

@@ -1,5 +1,6 @@
 // One of the two custom stages that the program ships.
-ghost use Rattle.std.specs.Prelude.{⊤};
+ghost use Rattle.std.specs.Prelude.{◌≡◌, ◌++◌, false, OnOk};
+ghost use Rattle.graph_stage.specs.Shipped.{alternate_asks, output_in_turn, pull_for, turn_after};
 ghost use Rattle.graph_stage.specs.Told.{no_list};
 
 use crate::ask::Ask;
@@ -19,17 +20,23 @@ pub struct Alternate {
 
 impl Alternate {
     /// It begins with the first output. It takes no memory.
-    pub fn new() -> Alternate {
+    pub fn new() -> Alternate
+        ensures { result.second ≡ false }
+    {
         Alternate { second: false }
     }
 
     // The output whose turn it is.
-    fn turn(&self) -> u8 {
+    fn turn(&self) -> u8
+        ensures { result ≡ output_in_turn self.now.second }
+    {
         if self.second { 1 } else { 0 }
     }
 
     // Pulls where that output is asked and the input is open and not pulled yet.
-    fn pull(&self, sight: &Sight, asks: &mut Asks) -> Result<(), NoMemory> {
+    fn pull(&self, sight: &Sight, asks: &mut Asks) -> Result<(), NoMemory>
+        ensures { OnOk result (asks.new ≡ asks.old ++ pull_for (output_in_turn self.now.second) sight.now) }
+    {
         let input = sight.input(0);
         if sight.output(self.turn()).asked && !input.asked && !input.closed {
             asks.add(Ask::Pull(0))?;
@@ -39,7 +46,8 @@ impl Alternate {
 }
 
 impl Handlers for Alternate {
-    ghost does = { λ old heard asks new. ⊤ };
+    ghost does = { λ old heard asks new. (asks ≡ alternate_asks old.second heard.sight heard.call)
+        × (new.second ≡ turn_after old.second heard.call) };
 
     ghost tells = { λ x. no_list };
 

@@ -1,5 +1,6 @@
 // One of the two custom stages that the program ships.
-ghost use Rattle.std.specs.Prelude.{⊤};
+ghost use Rattle.std.specs.Prelude.{◌≡◌};
+ghost use Rattle.graph_stage.specs.Shipped.{rude_asks};
 ghost use Rattle.graph_stage.specs.Told.{no_list};
 
 use crate::ask::Ask;
@@ -16,7 +17,7 @@ use std::alloc::Global;
 pub struct Rude {}
 
 impl Handlers for Rude {
-    ghost does = { λ old heard asks new. ⊤ };
+    ghost does = { λ old heard asks new. asks ≡ rude_asks heard.call };
 
     ghost tells = { λ x. no_list };
 

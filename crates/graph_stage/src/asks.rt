@@ -1,4 +1,4 @@
-ghost use Rattle.std.specs.Prelude.{◌≡◌, [], ◌∷◌, ◌++◌, OnOk, OnErr, IfSome, IfNone, IsNone, ◌↔◌};
+ghost use Rattle.std.specs.Prelude.{◌≡◌, [], ◌∷◌, ◌++◌, length, OnOk, OnErr, IfSome, IfNone, IsNone, ◌↔◌};
 
 use crate::ask::Ask;
 use std::alloc::{AllocError, Global};
@@ -41,6 +41,13 @@ impl Asks {
     {
         self.queue.push_back(a)?;
         Ok(())
+    }
+
+    /// How many they are: fewer than 2^64, so a handler that asks without end is refused memory. It takes no memory.
+    pub fn len(&self) -> usize
+        ensures { result ≡ length self.now }
+    {
+        self.queue.len()
     }
 
     /// Drops all of them. It takes no memory.

@@ -1,9 +1,10 @@
 // What a custom stage can do that breaks its rules: it fails by the rule, and the sink of another stage has what it had without it.
-ghost use Rattle.std.specs.Prelude.{⊤};
+ghost use Rattle.std.specs.Prelude.{⊤, IsErr};
 ghost use Rattle.graph_stage.specs.Told.{no_list};
 
 use crate::plug_calls::{Came, call_with, hire};
 use elem_core::elem::{Elem, Form};
+use elem_core::line::Line;
 use elem_core::why::{Cause, NoMemory};
 use graph_stage::ask::Ask;
 use graph_stage::asks::Asks;
@@ -36,12 +37,30 @@ enum Deed {
     PassesNothing,
     /// It completes its output a thousand times.
     ThousandAsks,
+    /// It asks without end.
+    EndlessAsks,
     /// It finishes, and then pushes.
     PushesBehindEnd,
     /// It never asks for anything.
     AsksNothing,
     /// It says that there is no memory.
     WantsMemory,
+}
+
+/// Asks for pushes without end, of texts that have twice the room of the one before, so that a machine has no more of it while nothing is
+/// written there. It is refused, since no list of asks is longer than the turns of its loop.
+fn push_without_end(alloc: Global, asks: &mut Asks) -> Result<(), NoMemory>
+    ensures { IsErr result }
+{
+    let mut room = 1024usize;
+    for _i in 0..u64::MAX {
+        let bytes = Vec::with_capacity(alloc, room)?;
+        asks.add(Ask::Push(0, Elem::of(Form::Text(Line::of(bytes)))))?;
+        room = room.saturating_mul(2);
+    }
+    let asked = asks.add(Ask::Finish);
+    let _count = asks.len();
+    asked
 }
 
 #[derive(Drop)]
@@ -60,7 +79,7 @@ impl Handlers for Hostile {
 
     fn on_push(
         &mut self,
-        _alloc: Global,
+        alloc: Global,
         _port: u8,
         e: Elem,
         _sight: &Sight,
@@ -82,6 +101,7 @@ impl Handlers for Hostile {
                 }
                 Ok(())
             }
+            Deed::EndlessAsks => push_without_end(alloc, asks),
             Deed::PushesBehindEnd => {
                 asks.add(Ask::Finish)?;
                 asks.add(Ask::Push(0, e))
@@ -221,8 +241,10 @@ fn a_hostile_stage_harms_no_other(rt: HostRuntime) -> Result<(), Fail> {
             "",
             None,
         ),
-        // A want of memory is the run's.
+        // A want of memory is the run's,
         (Deed::WantsMemory, BESIDE, "no memory\n", "", None),
+        // and asks without end are one.
+        (Deed::EndlessAsks, BESIDE, "no memory\n", "", None),
     ] {
         let came = run(&rt, alloc, text, deed)?;
         assert!(rt; came.says(said));

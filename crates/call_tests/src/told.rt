@@ -17,7 +17,6 @@ use plug_logic::dedup::Dedup;
 use std::alloc::{AllocError, Global};
 use std::test::Fail;
 use stream_model::head::CustomHead;
-use told_stage::laws::a_lifted_plug_can_be_handed_in;
 use told_stage::lift::Lift;
 
 /// The book in which each custom stage tells what a lifted dedup of texts gives.
@@ -56,7 +55,6 @@ fn only(alloc: Global, stage: Box<dyn Handlers + Send>) -> Result<Vec<Custom>, A
     ensures { IfOk result (λ customs. All (λ c. HandedAs (told_dedups.tells c.head.name) told_dedups c.head.name c.head.inputs.items c.head.outputs.items
         (tells c.stage)) customs.items) }
 {
-    a_lifted_plug_can_be_handed_in();
     let head = CustomHead {
         name: line_of(alloc, "lifted")?,
         inputs: only_text(alloc)?,

@@ -2,7 +2,7 @@
 
 .PHONY: build blueprint example proved picture test listed cases definitions help
 
-# Proves and builds ./streams. Both programs are built from the lowest crate up; what is proved is kept for `make test` too.
+# Proves and builds ./streams. Both programs are built from the lowest crate up; what is proved is kept for `make test` too, where the kit does so.
 build:
 	@tools/prove stream_main streams
 
@@ -43,7 +43,7 @@ picture:
 FIRST_RUN = some 175 processor minutes, so 56 minutes on four processors
 
 test: listed
-	@echo "The first run proves every crate that this machine has not proved yet ($(FIRST_RUN)); later runs prove only what changed."
+	@echo "The first run proves every crate that this machine has not proved yet ($(FIRST_RUN)); later runs prove only what changed, where the kit keeps what is proved."
 	bash .ci/run
 
 # Writes the cases of the pages and of examples/ anew, and how many cases there are.

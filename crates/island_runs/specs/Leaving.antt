@@ -26,7 +26,7 @@ use Rattle.run_laws.specs.Runs.{IsRun}
 use Rattle.run_laws.specs.Telling.{AreSettled}
 use Rattle.materializer.specs.Graphs.{graph_of, around_of}
 use Rattle.materializer.specs.Seats.{AreSeats, gather_of}
-use Rattle.bodies_run.specs.Counts.{all_sent, taken_off}
+pub use Rattle.bodies_run.specs.Counts.{all_sent, taken_off}
 use Rattle.island_runs.specs.declared.run.Stopped.{Stopped}
 use Rattle.island_runs.specs.declared.run.Broken.{Broken}
 use Rattle.island_runs.specs.declared.run.Broken.TheVariants.{Unmade, Within}

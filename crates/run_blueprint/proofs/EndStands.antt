@@ -39,10 +39,9 @@ use Rattle.materializer.specs.Graphs.{graph_node, graph_of}
 use Rattle.materializer.specs.Seats.{gather_of}
 use Rattle.run_laws.proofs.Nodes.{one_input}
 use Rattle.run_blueprint.specs.Carrying.{ShutBy, OverBy, AskedBy, SinkTook, IgnorerTook}
-use Rattle.island_runs.specs.Leaving.{Moment, RunLeaves}
+use Rattle.island_runs.specs.Leaving.{Moment, RunLeaves, all_sent, taken_off}
 use Rattle.run_blueprint.specs.Opening.{Opens}
 use Rattle.run_blueprint.specs.Stands.{SinkStand, has_ended_at}
-use Rattle.bodies_run.specs.Counts.{all_sent, taken_off}
 use Rattle.run_blueprint.specs.Units.{Pays}
 use Rattle.island_runs.specs.declared.run.Stopped.{Stopped}
 use Rattle.run_blueprint.proofs.Places.{mapped_at, unmapped_at, unfiltered_at, place_of, place_one, place_within}

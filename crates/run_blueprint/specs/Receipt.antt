@@ -1,7 +1,7 @@
 -- The receipt of a run, as island_runs says it, for those above, who then name this crate alone.
 use Rattle.std.specs.Prelude.{ℕ, Bool}
 use Rattle.stream_model.specs.declared.blueprint.Blueprint.{Blueprint}
-use Rattle.island_runs.specs.declared.ran.Ran.{Ran}
+pub use Rattle.island_runs.specs.declared.ran.Ran.{Ran}
 use Rattle.island_runs.specs.Receipt as islands
 
 -- the blueprint has so many islands

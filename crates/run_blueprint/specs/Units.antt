@@ -5,7 +5,7 @@ use Rattle.blue_check.specs.Wires.{blueprint_wires}
 use Rattle.stream_model.specs.declared.outcome.WireCount.{WireCount}
 use Rattle.stream_model.specs.Shape.{count_needed}
 use Rattle.materializer.specs.Graphs.{graph_of}
-use Rattle.bodies_run.specs.Counts.{all_sent, taken_off}
+use Rattle.island_runs.specs.Leaving.{all_sent, taken_off}
 
 -- The picture has a count for each wire. Each element that was pushed took a unit of its own, that of the ask before it, and each that
 -- was taken off a lane another: all that were sent there were taken, but for as many at most as the lane has places. And each wire

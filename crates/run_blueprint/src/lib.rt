@@ -6,3 +6,5 @@
 
 pub mod laws;
 pub mod run;
+
+pub use island_runs::ran::Ran;

@@ -16,7 +16,7 @@ use Rattle.stream_io.proofs.Quiets.{read_none}
 use Rattle.stream_command.specs.Answers.{AnswersCommand, AnswersTo, RunsFile, StopsBefore, IsValidFor}
 use Rattle.stream_command.specs.Asked.{Plugged}
 use Rattle.stream_command.specs.Receipts.{ReceiptsBy, ReceiptsOf, IslandsFor, IslandsOf}
-use Rattle.island_runs.specs.declared.ran.Ran.{Ran}
+use Rattle.run_blueprint.specs.Receipt.{Ran}
 
 none_some : (c : Asked) (o : Option Asked) → o ≡ None → o ≡ Some c → ⊥
 none_some c o e f = cc

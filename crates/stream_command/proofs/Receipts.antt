@@ -10,9 +10,8 @@ use Rattle.blue_modules.specs.Fitness.{IsFlat}
 use Rattle.blue_check.specs.Meaning.{Denotes}
 use Rattle.blue_lang.specs.Texts as language
 use Rattle.run_blueprint.specs.Stands.{SinkStand, is_write_fault, is_unended, is_failed}
-use Rattle.island_runs.specs.declared.ran.Ran.{Ran}
 use Rattle.stream_io.specs.Text.{ReadsFile}
-use Rattle.run_blueprint.specs.Receipt.{HasIslands, IsReceipt}
+use Rattle.run_blueprint.specs.Receipt.{HasIslands, IsReceipt, Ran}
 use Rattle.run_report.specs.declared.outcome.Status.{Status}
 use Rattle.run_report.specs.declared.outcome.Status.TheVariants as status
 use Rattle.stream_io.specs.State.{FolderState}

@@ -1,7 +1,7 @@
 -- The receipt of the command's run.
 use Rattle.std.specs.Prelude.{◌≡◌, ℕ, ◌⊎◌, IsTrue, List, Option, Some, None}
 use Rattle.run_report.specs.Asking.{Asked}
-use Rattle.island_runs.specs.declared.ran.Ran.{Ran}
+use Rattle.run_blueprint.specs.Receipt.{Ran}
 use Rattle.run_report.specs.Generated.{Generates}
 use Rattle.run_report.specs.Answer.{Answer}
 use Rattle.run_report.specs.declared.outcome.Status.{Status}

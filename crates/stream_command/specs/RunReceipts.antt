@@ -7,8 +7,7 @@ use Rattle.blue_modules.specs.Text.{PlainText}
 use Rattle.blue_lang.specs.Texts as language
 use Rattle.blue_modules.specs.Fitness.{IsFlat}
 use Rattle.blue_check.specs.Meaning.{Denotes}
-use Rattle.island_runs.specs.declared.ran.Ran.{Ran}
-use Rattle.run_blueprint.specs.Receipt.{HasIslands}
+use Rattle.run_blueprint.specs.Receipt.{HasIslands, Ran}
 use Rattle.run_report.specs.declared.outcome.Status.{Status}
 use Rattle.run_report.specs.declared.outcome.Status.TheVariants as status
 use Rattle.stream_io.specs.State.{FolderState}

@@ -255,3 +255,13 @@ fn a_hostile_stage_harms_no_other(rt: HostRuntime) -> Result<(), Fail> {
     }
     Ok(())
 }
+
+/// Asks without end are taken while there is memory, of which eleven need two megabytes, and then refused.
+#[test]
+fn asks_without_end_are_taken_while_memory_lasts(rt: HostRuntime) -> Result<(), Fail> {
+    let alloc = rt.alloc();
+    let mut asks = Asks::new(alloc);
+    assert!(rt; push_without_end(alloc, &mut asks).is_err());
+    assert!(rt; asks.len() > 10);
+    Ok(())
+}

@@ -11,3 +11,4 @@ pub mod Receipts
 pub mod Heads
 pub mod Headline
 pub mod Process
+pub mod Behaviours

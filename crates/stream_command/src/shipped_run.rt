@@ -15,6 +15,7 @@ ghost use Rattle.stream_command.specs.Receipts.{ReceiptsOf, IslandsOf};
 ghost use Rattle.stream_model.specs.Heads.{shipped_heads, shipped_shapes};
 ghost use Rattle.stream_model.specs.Known.{head_shape};
 ghost use Rattle.stream_command.specs.Heads.{shipped_plugs};
+ghost use Rattle.stream_command.specs.Behaviours.{Behaves, alternate_behaviour, rude_behaviour, shipped_behaviour};
 
 use crate::run::run_streams;
 use crate::{RunEnd, end_before_run};
@@ -66,13 +67,16 @@ fn add_both(
     Ok(())
 }
 
-/// One more custom stage.
+/// One more custom stage, which behaves as the program's stage of its name.
 fn hire(
     customs: &mut Vec<Custom>,
     head: CustomHead,
     stage: Box<dyn Handlers + Send>,
 ) -> Result<(), NoMemory>
-    ensures { OnOk result (map (λ c. head_shape c.head) customs.new.items ≡ map (λ c. head_shape c.head) customs.old.items ++ head_shape head ∷ []) }
+    requires kept { All (λ c. Behaves (Handlers-box c.stage).does c.stage.value (shipped_behaviour c.head.name)) customs.old.items }
+    requires behaves { Behaves (Handlers-box stage).does stage.value (shipped_behaviour head.name) }
+    ensures kept { OnOk result (All (λ c. Behaves (Handlers-box c.stage).does c.stage.value (shipped_behaviour c.head.name)) customs.new.items) }
+    ensures heads { OnOk result (map (λ c. head_shape c.head) customs.new.items ≡ map (λ c. head_shape c.head) customs.old.items ++ head_shape head ∷ []) }
 {
     customs.push(Custom { head, stage })?;
     Ok(())
@@ -86,6 +90,9 @@ fn hire_both(
     rude: Box<dyn Handlers + Send>,
 ) -> Result<(), NoMemory>
     requires none { customs.old.items ≡ [] }
+    requires alternate { Behaves (Handlers-box alternate).does alternate.value alternate_behaviour }
+    requires rude { Behaves (Handlers-box rude).does rude.value rude_behaviour }
+    ensures kept { OnOk result (All (λ c. Behaves (Handlers-box c.stage).does c.stage.value (shipped_behaviour c.head.name)) customs.new.items) }
     ensures heads { OnOk result (map (λ c. head_shape c.head) customs.new.items ≡ shipped_shapes) }
 {
     hire(customs, alternate_head(alloc)?, alternate)?;

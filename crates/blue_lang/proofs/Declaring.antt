@@ -1,11 +1,11 @@
 -- Declarations are read again from their canonical words.
-use Rattle.std.proofs.Common.{◌≡◌, ℕ, ◌+◌, ◌≤◌, ◌<◌, ◌^◌, Bool, true, false, cond, ltb, leb, List, [], ◌∷◌, ◌++◌, length, Option, Some, None, Ok, Err, refl, sym, ap, subst, ◌∙◌, ⊎_elim, append_assoc, append-nil, length-append, arith}
+use Rattle.std.proofs.Common.{◌≡◌, ℕ, ◌+◌, ◌≤◌, ◌<◌, ◌^◌, Bool, true, false, cond, ltb, leb, List, [], ◌∷◌, ◌++◌, length, Option, Some, None, Ok, Err, refl, sym, ap, subst, ◌∙◌, append-nil, length-append, arith}
 use Rattle.std.specs.Prelude.{if◌then◌else◌, codes}
 use Rattle.std.specs.Char.{is_ascii_alphabetic, is_ascii_digit, is_ascii_graphic, is_ascii_lowercase, is_ascii_uppercase}
 use Rattle.std.specs.Fmt.{decimal}
 use Rattle.std.specs.List.{list_all}
 use Rattle.std.specs.Str.{bytes_eq}
-use Rattle.std.proofs.lemmas.Bool.{cases_Bool, and_parts, and_from, and_left, or_from, or_right, lt-ltb, leb-true, true≢false, false_from_ne_true}
+use Rattle.std.proofs.lemmas.Bool.{and_parts, and_from, and_left, or_from, or_right, lt-ltb, leb-true, true≢false, false_from_ne_true}
 use Rattle.std.proofs.lemmas.List.Folds.{list_all-append}
 use Rattle.std.proofs.lemmas.Slice.Eq.{bytes_eq-Decides}
 use Rattle.elem_core.specs.declared.why.Decider.{Decider}
@@ -19,7 +19,6 @@ use Rattle.blue_modules.specs.declared.text.NodeText.{NodeText}
 use Rattle.blue_modules.specs.declared.text.UseText.{UseText}
 use Rattle.blue_modules.specs.declared.text.WireText.{WireText}
 use Rattle.blue_modules.specs.declared.text.Entry.TheVariants.{Node, Instance, Wire}
-use Rattle.blue_modules.specs.declared.text.PortDecl.{PortDecl}
 use Rattle.blue_modules.specs.declared.text.StepText.{StepText}
 use Rattle.blue_modules.specs.Text.{PlainChainText}
 use Rattle.blue_words.specs.declared.fault.BlueKind.TheVariants.{BadLine, BadName}
@@ -37,7 +36,7 @@ use Rattle.blue_kinds.specs.Steps.{read_chain}
 use Rattle.blue_lang.specs.Spaced.{spaced}
 use Rattle.blue_lang.specs.Kinds.{kind_words, sort_word, decider_words}
 use Rattle.blue_lang.specs.Canonical.{attrs_words, mark_word, place_word, keep_words, lane_words, steps_words, direction_word, declaration_words}
-use Rattle.blue_lang.specs.Declarations.{Declaration, sets, switch, chain, opens, port, part, ends, is_nil, set_decider, read_attrs, read_some_attrs, read_mark, cut_place, read_port_place, bare_lane, is_keep, read_keep, read_lane_size, read_lane, read_end, wire_from, read_wire, undecided, read_decided, read_node, read_use, read_behind, port_from, read_port, chain_words, read_opening, inner_declaration, module_declaration, later_declaration, declaration, read_whole, declared_by}
+use Rattle.blue_lang.specs.Declarations.{Declaration, sets, switch, chain, opens, port, part, ends, is_nil, set_decider, read_attrs, read_some_attrs, read_mark, cut_place, read_port_place, bare_lane, is_keep, read_keep, read_lane_size, read_lane, read_end, wire_from, read_wire, undecided, read_decided, read_node, read_use, read_behind, port_from, read_port, chain_words, read_opening, inner_declaration, later_declaration, declaration, read_whole, declared_by}
 use Rattle.blue_lang.proofs.Respelling.{Words, AllWords, Tabled, behind_word_respelled, made_of, made_place, then_of, both_of, same_value, same_rest, same_place, some_if_read}
 use Rattle.blue_lang.proofs.Lexical.{name_respelled, size_respelled, count_decimal, size_below, name_ok, length-name-le, decimal_digits, graphic_digits}
 use Rattle.blue_lang.proofs.KindTables.{source_tabled, sink_tabled, stage_tabled}

@@ -4,7 +4,7 @@ use Rattle.std.specs.Prelude.{is_some, count_by}
 use Rattle.std.specs.List.{flat_map, list_any}
 use Rattle.std.specs.Option.{option_map}
 use Rattle.std.proofs.lemmas.Bool.{and_from, lt-ltb}
-use Rattle.std.proofs.lemmas.List.Sums.{sum_by-append, sum_by-cons}
+use Rattle.std.proofs.lemmas.List.Sums.{sum_by-cons}
 use Rattle.blue_modules.specs.declared.text.Attrs.{Attrs}
 use Rattle.blue_modules.specs.declared.text.Entry.{Entry}
 use Rattle.blue_modules.specs.declared.text.Entry.TheVariants.{Node, Instance, Wire}
@@ -13,7 +13,7 @@ use Rattle.blue_modules.specs.Text.{PlainChainText, PlainModule, PlainText}
 use Rattle.blue_lang.specs.Declarations.{Declaration, sets, switch, chain, opens, port, part, ends}
 use Rattle.blue_lang.specs.Texts.{Context, context_of, has_room, few_ports, open_ports, is_default, is_switch, is_chain, is_opening, is_node, is_use, is_wire}
 use Rattle.blue_lang.specs.Progress.{defaulted_with}
-use Rattle.blue_lang.specs.Canonical.{sets_some, default_lines, module_lines, canonical_declarations}
+use Rattle.blue_lang.specs.Canonical.{sets_some, module_lines, canonical_declarations}
 use Rattle.blue_lang.proofs.Reading.{any_push, defaulted_step, count_push}
 use Rattle.blue_lang.proofs.Rebuilding.{module_split}
 

@@ -1,9 +1,9 @@
 -- What lines without fault declare: declarations that are read again, within the limits.
-use Rattle.std.proofs.Common.{◌≡◌, ℕ, suc, ◌+◌, ◌≤◌, ◌<◌, Bool, true, false, not, cond, ltb, leb, List, [], ◌∷◌, ◌++◌, length, map, Option, Some, None, Ok, Err, refl, sym, ap, subst, ◌∙◌, append_assoc, append-nil, arith}
+use Rattle.std.proofs.Common.{◌≡◌, ℕ, suc, ◌+◌, ◌≤◌, ◌<◌, Bool, true, false, cond, ltb, leb, List, [], ◌∷◌, ◌++◌, length, map, Option, Some, None, Ok, Err, refl, sym, ap, subst, ◌∙◌, append_assoc, append-nil, arith}
 use Rattle.std.specs.Prelude.{is_some, count_by}
 use Rattle.std.specs.List.{filter_map, flat_map, cons_option}
 use Rattle.std.specs.Option.{option_map}
-use Rattle.std.proofs.lemmas.Bool.{cases_Bool, and_parts, ltb-true, ltb-false}
+use Rattle.std.proofs.lemmas.Bool.{and_parts, ltb-true, ltb-false}
 use Rattle.std.proofs.lemmas.List.Sums.{sum_by-append}
 use Rattle.elem_core.specs.Text.{words}
 use Rattle.blue_modules.specs.declared.text.Attrs.{Attrs}
@@ -18,7 +18,7 @@ use Rattle.blue_words.specs.declared.fault.Version.{Version}
 use Rattle.blue_words.specs.Line.{is_plain, is_passed_over}
 use Rattle.blue_words.specs.Reading.{At}
 use Rattle.blue_lang.specs.Declarations.{Declaration, sets, switch, chain, opens, port, part, ends, declared_by, declared_in, is_misplaced}
-use Rattle.blue_lang.specs.Texts.{Context, context_of, ports_said, body_said, modules_said, own_entries, default_of, switch_in, declared_chain, text_of, open_ports, few_ports, has_room, is_switch, is_chain, is_opening, is_node, is_use, is_wire, declaration_fault, words_fault, said_fault, line_fault, version_behind, version_from, version_in, declaration_at, declares, declarations_from, declarations, fault_behind, fault_or, first_fault}
+use Rattle.blue_lang.specs.Texts.{Context, context_of, ports_said, body_said, modules_said, own_entries, default_of, switch_in, declared_chain, text_of, open_ports, few_ports, has_room, is_switch, is_chain, is_opening, is_node, is_use, is_wire, declaration_fault, words_fault, said_fault, line_fault, version_behind, version_in, declaration_at, declares, declarations_from, declarations, fault_behind, fault_or, first_fault}
 use Rattle.blue_lang.specs.Canonical.{sets_some, default_lines, module_lines, canonical_declarations}
 use Rattle.blue_lang.proofs.Respelling.{Words}
 use Rattle.blue_lang.proofs.Reading.{count_push, version_push, declarations_push}

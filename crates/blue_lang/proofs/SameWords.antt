@@ -4,14 +4,12 @@ use Rattle.std.specs.Prelude.{nat_lt}
 use Rattle.std.specs.List.{filter, cons_option}
 use Rattle.elem_core.specs.Text.{words, lines}
 use Rattle.blue_modules.specs.Text.{PlainText}
-use Rattle.blue_words.specs.declared.fault.BlueKind.{BlueKind}
-use Rattle.blue_words.specs.declared.fault.BlueKind.TheVariants.{BadVersion, BadLine, TooLong}
+use Rattle.blue_words.specs.declared.fault.BlueKind.TheVariants.{BadLine, TooLong}
 use Rattle.blue_words.specs.declared.fault.Version.{Version}
 use Rattle.blue_words.specs.Line.{is_plain, is_passed_over}
 use Rattle.blue_lang.specs.Declarations.{Declaration, declared_by}
-use Rattle.blue_lang.specs.Texts.{Says, Context, context_of, text_of, version_of_words, version_of, words_fault, version_fault, behind_version, line_fault, version_behind, version_in, declaration_at, declares, declarations_from, declarations, fault_behind, first_fault, said_words}
+use Rattle.blue_lang.specs.Texts.{Says, Context, context_of, text_of, version_of_words, version_of, words_fault, version_fault, behind_version, line_fault, version_in, declaration_at, declarations_from, declarations, fault_behind, first_fault, said_words}
 use Rattle.blue_lang.proofs.Respelling.{Words}
-use Rattle.blue_lang.proofs.Reading.{version_push}
 use Rattle.blue_lang.proofs.Limits.{Each, none_after, fault_or_none}
 
 -- a line that says something is plain

@@ -12,7 +12,7 @@ use Rattle.blue_modules.specs.declared.text.Entry.{Entry}
 use Rattle.blue_modules.specs.declared.text.Entry.TheVariants.{Node, Instance, Wire}
 use Rattle.blue_modules.specs.declared.text.PortDecl.{PortDecl}
 use Rattle.blue_modules.specs.declared.text.StepText.{StepText}
-use Rattle.blue_modules.specs.Text.{PlainChainText, PlainModule, PlainText}
+use Rattle.blue_modules.specs.Text.{PlainModule, PlainText}
 use Rattle.blue_lang.specs.Spaced.{spaced}
 use Rattle.blue_lang.specs.Kinds.{kind_words, sort_word, decider_words}
 use Rattle.blue_lang.specs.Declarations.{Declaration, sets, switch, chain, opens, port, part, ends}

@@ -5,7 +5,6 @@ use Rattle.blue_modules.specs.declared.text.Attrs.{Attrs}
 use Rattle.blue_modules.specs.declared.text.Entry.{Entry}
 use Rattle.blue_modules.specs.Text.{no_attrs, PlainChainText, PlainModule, plain_chain_text, plain_module}
 use Rattle.blue_words.specs.declared.fault.Version.{Version}
-use Rattle.blue_words.specs.Reading.{At}
 use Rattle.blue_lang.specs.declared.progress.Progress.{Progress}
 use Rattle.blue_lang.specs.Declarations.{Declaration, sets, switch, chain, opens, port, part, ends, declared_by, declared_in}
 use Rattle.blue_lang.specs.Texts.{Context, is_node, is_use, is_wire, line_fault, said_fault, words_fault, version_behind, declares, declaration_at}

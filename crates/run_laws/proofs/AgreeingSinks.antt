@@ -17,7 +17,7 @@ use Rattle.stream_model.specs.Outlook.{Outlook, End, unended, ended, failed, Agr
 use Rattle.stream_model.specs.Graph.{Graph, Edge}
 use Rattle.stream_model.specs.Graph as graph
 use Rattle.stream_model.specs.Node.{World, nothing, head_of, of_work}
-use Rattle.stream_model.specs.Composed.{inputs_by, inputs_of, count_from, ports_of, composed, sink_outlook, IsRanked}
+use Rattle.stream_model.specs.Composed.{inputs_by, inputs_of, count_from, ports_of, composed, sink_outlook}
 use Rattle.stream_model.proofs.Compositions.{slice_get-below}
 use Rattle.stream_io.specs.State.{SourceState, DrainState}
 use Rattle.stream_model.specs.Linear.{Book, Work, passing, work_of}

@@ -9,7 +9,6 @@ use Rattle.elem_core.specs.Items.{elements}
 use Rattle.elem_core.specs.declared.item.Item.{Item}
 use Rattle.elem_core.proofs.Prefixes.{prefix_length}
 use Rattle.elem_core.specs.declared.why.Decider.{Decider}
-use Rattle.port_core.specs.View as port
 use Rattle.port_core.specs.View.{View, in_at, out_at, output_closed}
 use Rattle.port_core.specs.declared.view.InView.{InView}
 use Rattle.port_core.specs.declared.view.InView.TheVariants.{Idle, Pulled, Finished, Cancelled}
@@ -17,17 +16,16 @@ use Rattle.port_core.specs.declared.view.OutView.{OutView}
 use Rattle.port_core.specs.declared.view.OutView.TheVariants as outlet
 use Rattle.stream_model.specs.declared.kind.Kind.{Kind}
 use Rattle.stream_model.specs.declared.kind.Kind.TheVariants.{Balance}
-use Rattle.stream_model.specs.FanIn.{Inflow}
 use Rattle.stream_model.specs.Fits.{moves_fit}
 use Rattle.stream_model.specs.Graph.{Graph}
 use Rattle.stream_model.specs.Graph as graph
 use Rattle.stream_model.specs.Node.{World, head_of, node_outlook}
 use Rattle.stream_model.specs.Outlook.{Outlook, End, Agrees}
-use Rattle.stream_model.specs.Picks.{count_of, balance_fits, sent_to, BalanceStands}
+use Rattle.stream_model.specs.Picks.{count_of, balance_fits, BalanceStands}
 use Rattle.stream_model.specs.OneWay.{is_sink}
 use Rattle.stream_model.specs.View as picture
 use Rattle.stream_model.specs.View.{EachWire, demand, wanted, total}
-use Rattle.stream_model.specs.Lawful.{RowLawful, BalanceOutputs, BalanceLawful}
+use Rattle.stream_model.specs.Lawful.{RowLawful, BalanceLawful}
 use Rattle.stream_model.specs.Rests.{IsShut, OneToMany, BalanceRests, RowRests}
 use Rattle.stage_core.specs.Held.{told}
 use Rattle.stage_core.specs.OpenOuts.{want_view, OneInClosed, OutsClosed}
@@ -35,18 +33,18 @@ use Rattle.stage_core.specs.Row.{OutClosed}
 use Rattle.stage_core.specs.declared.outs.OutputState.{OutputState}
 use Rattle.stage_core.specs.declared.outs.OutputState.TheVariants.{Quiet, Asks, Gone}
 use Rattle.stage_out.specs.Outs.{SomeAsked, own_ins, own_outs}
-use Rattle.port_core.specs.Picks.{IsFreeLog, next_move, planned}
+use Rattle.port_core.specs.Picks.{next_move, planned}
 use Rattle.port_core.specs.declared.pick_log.Next.{Next}
 use Rattle.port_core.specs.declared.pick_log.Next.TheVariants.{Free}
 use Rattle.stage_out.specs.Balances.{BalanceKeeps}
 use Rattle.stage_out.specs.BalanceRows.{BalanceRestsBy, BalanceRestsOwn}
-use Rattle.stage_out.specs.Balancings.{Balancing, Core, is_gone, input_of, Holding, port_state_by, port_state, held_by, held, lacks, Begins, BalancesAs}
+use Rattle.stage_out.specs.Balancings.{Balancing, Core, is_gone, input_of, Holding, port_state_by, port_state, held_by, lacks, Begins, BalancesAs}
 use Rattle.stage_out.specs.Dealings.{DealStands}
 use Rattle.stage_out.proofs.Balances.{drop_length}
 use Rattle.stage_out.proofs.BalanceNodes as node
 use Rattle.stage_out.specs.OutLogics.{BeginsBalance}
 use Rattle.run_laws.specs.Account.{Earlier}
-use Rattle.run_laws.specs.Items.{MayPass, AllMayPass, AgreesWith}
+use Rattle.run_laws.specs.Items.{AllMayPass, AgreesWith}
 use Rattle.run_laws.specs.Replayed.{Plans, left, BalanceCause, FollowedOutputs}
 use Rattle.run_laws.proofs.Freely.{left_is}
 use Rattle.run_laws.specs.KindLaws.{IsHistoryOf, HearsAll, Moments, PictureLaws, RunLaws}

@@ -1,7 +1,6 @@
 -- What a stage that may follow moves tells of a picture: one that follows none tells what its kind does, and one that follows some what
 -- `Led` has.
 use Rattle.std.proofs.Common.{◌≡◌, ◌∙◌, ℕ, List, Option, None, Some, refl}
-use Rattle.port_core.specs.View.{View}
 use Rattle.stream_model.specs.Graph.{Graph}
 use Rattle.stream_model.specs.Graph as graph
 use Rattle.stream_model.specs.Node.{World}

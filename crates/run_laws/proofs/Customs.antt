@@ -23,7 +23,7 @@ use Rattle.graph_stage.specs.Laws.{CustomLaw}
 use Rattle.graph_stage.proofs.Done.{gave_by_done}
 use Rattle.graph_stage.proofs.Passing.{outputs_pass}
 use Rattle.graph_stage.proofs.Pushes.{stays}
-use Rattle.run_laws.specs.Items.{AllMayPass, AgreesWith, list_of, end_of_items, passed_so}
+use Rattle.run_laws.specs.Items.{AllMayPass, AgreesWith, passed_so}
 use Rattle.run_laws.specs.KindLaws.{RunLaws}
 use Rattle.run_laws.specs.Made.{FirstCustom}
 use Rattle.run_laws.specs.Telling.{TellsGave, given_at}

@@ -17,7 +17,7 @@ use Rattle.stream_model.specs.Node.{World}
 use Rattle.stream_model.specs.Composed.{inputs_of, count_from, ports_of}
 use Rattle.stream_model.specs.Fits.{CanTrip, valve_order}
 use Rattle.stream_model.proofs.Compositions.{slice_get-below}
-use Rattle.stream_model.specs.View.{outputs_of, EachWire, ins, outs, ins_at, outs_at}
+use Rattle.stream_model.specs.View.{outputs_of, EachWire, ins, outs}
 use Rattle.stream_model.specs.View as picture
 use Rattle.stream_model.specs.Lawful.{WireLawful, sent_in}
 use Rattle.stream_model.specs.Linear.{role_of}

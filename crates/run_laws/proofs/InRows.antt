@@ -9,13 +9,12 @@ use Rattle.elem_core.specs.Items.{elements}
 use Rattle.elem_core.proofs.Prefixes.{prefix_length, prefix_is_take, prefix_take_le}
 use Rattle.elem_core.specs.declared.item.Item.{Item}
 use Rattle.port_core.specs.View as port
-use Rattle.port_core.specs.View.{in_at}
 use Rattle.port_core.specs.declared.view.InView.{InView}
 use Rattle.port_core.specs.declared.view.InView.TheVariants.{Cancelled}
 use Rattle.stream_model.specs.FanIn.{Tagged, Inflow, flow, pairs, FanStands, ZipStands, concat_taken, interleave_taken, sorted_taken, turns_of}
 use Rattle.stream_model.specs.Outlook.{Outlook, End, unended, ended, failed}
 use Rattle.stream_model.specs.View as picture
-use Rattle.stream_model.specs.View.{EachWire, demand, wanted, total}
+use Rattle.stream_model.specs.View.{demand, wanted, total}
 use Rattle.stream_model.specs.Lawful.{sent_in, ConcatLawful, InterleaveLawful, SortedLawful, ZipLawful, taken_or_wanted}
 use Rattle.stage_core.specs.Fans.{FanKeeps, used}
 use Rattle.stage_core.specs.Held.{told}

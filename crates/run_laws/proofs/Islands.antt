@@ -2,7 +2,7 @@
 use Rattle.std.specs.Prelude.{slice_get}
 use Rattle.std.proofs.Common.{◌≡◌, false, ℕ, zero, suc, ◌+◌, ◌<◌, List, [], ◌∷◌, map, length, get_or, Option, None, Some, refl, sym, subst, ◌∙◌, arith}
 use Rattle.port_core.specs.Joint.{IsSound}
-use Rattle.stream_model.specs.Graph.{Graph, Edge, find_wire, find_source}
+use Rattle.stream_model.specs.Graph.{Graph, Edge}
 use Rattle.stream_model.specs.Graph as graph
 use Rattle.stream_model.specs.Composed.{inputs_of}
 use Rattle.stream_model.proofs.Compositions.{slice_get-below}

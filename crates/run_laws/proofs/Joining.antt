@@ -9,10 +9,10 @@ use Rattle.port_core.specs.declared.view.InView.{InView}
 use Rattle.port_core.specs.declared.view.OutView.{OutView}
 use Rattle.port_core.specs.Cell.{WireState}
 use Rattle.port_core.specs.Marks.{wanted}
-use Rattle.stream_model.specs.Graph.{Graph, Edge, find_wire, find_source}
+use Rattle.stream_model.specs.Graph.{Graph, Edge}
 use Rattle.stream_model.specs.Graph as graph
 use Rattle.port_core.specs.Reading.{inp_of, out_of, got_of, sent_of}
-use Rattle.fused_net.specs.Net.{Net, read_all, end_at, ports_at, wire_at, view_of}
+use Rattle.fused_net.specs.Net.{Net, ports_at, view_of}
 use Rattle.fused_net.specs.Net as net
 use Rattle.fused_net.specs.Laws.{Settled}
 use Rattle.fused_net.proofs.Reading.{get_there, read_at}

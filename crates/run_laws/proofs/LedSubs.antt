@@ -14,9 +14,9 @@ use Rattle.port_core.specs.View.{View, OneOneOf, in_at, out_at}
 use Rattle.port_core.specs.declared.pick_log.Next.{Next}
 use Rattle.port_core.specs.declared.pick_log.Next.TheVariants.{Free, Move, UsedUp}
 use Rattle.port_core.specs.declared.view.InView.{InView}
-use Rattle.port_core.specs.declared.view.InView.TheVariants.{Idle, Pulled, Finished}
+use Rattle.port_core.specs.declared.view.InView.TheVariants.{Pulled}
 use Rattle.port_core.specs.declared.view.OutView.{OutView}
-use Rattle.port_core.specs.declared.view.OutView.TheVariants.{Unpulled, Available}
+use Rattle.port_core.specs.declared.view.OutView.TheVariants.{Available}
 use Rattle.stream_io.specs.State.{SourceState, DrainState}
 use Rattle.stream_model.specs.declared.kind.Joining.{Joining}
 use Rattle.stream_model.specs.declared.kind.Joining.TheVariants as joining
@@ -25,10 +25,10 @@ use Rattle.stream_model.specs.Fits.{moves_fit}
 use Rattle.stream_model.specs.Graph.{Graph, steps_of}
 use Rattle.stream_model.specs.Graph as graph
 use Rattle.stream_model.specs.Linear.{Book, role_of}
-use Rattle.stream_model.specs.Machine.{State, going, Run, Machine, Given, run, close_at, close, whole, input_end, is_going, Stands}
+use Rattle.stream_model.specs.Machine.{State, Run, Machine, Given, run, close_at, close, whole, input_end, is_going, Stands}
 use Rattle.stream_model.specs.Node.{World, chain_of, head_of, node_outlook}
 use Rattle.plan_laws.proofs.Substreams.{subs_serve}
-use Rattle.stream_model.specs.Outlook.{Outlook, End, unended, ended, failed, Agrees}
+use Rattle.stream_model.specs.Outlook.{Outlook, End, unended, ended, Agrees}
 use Rattle.stream_model.specs.Picks.{count_of}
 use Rattle.stream_model.specs.Substreams.{Chain, Opening, Subs, through, substreams, begin_subs, of_sub, merge_subs, subs_fit, MergedStands}
 use Rattle.stream_model.proofs.Agreeing.{sub_moves_fit}
@@ -36,15 +36,14 @@ use Rattle.stream_model.proofs.PickTraces.{agrees_prefix}
 use Rattle.stream_model.proofs.SubTraces.{merged_trace}
 use Rattle.stream_model.specs.Lawful.{StageLawful, SubsLawful}
 use Rattle.stream_model.specs.OneWay.{of_machine}
-use Rattle.stream_model.specs.Rests.{IsShut, IsUnasked, StageRests, RowRests}
+use Rattle.stream_model.specs.Rests.{IsShut, StageRests, RowRests}
 use Rattle.stream_model.specs.View.{EachWire, demand, wanted}
-use Rattle.stream_model.specs.View as picture
 use Rattle.stage_core.proofs.Flags.{same}
 use Rattle.stage_core.specs.Fans.{untagged}
 use Rattle.stage_core.specs.Held.{told, owing}
 use Rattle.stage_core.specs.Law.{TookAs}
 use Rattle.stage_core.specs.PortsLaws.{InPortsLaw}
-use Rattle.stage_core.specs.Row.{InClosed, OutClosed, BothClosed}
+use Rattle.stage_core.specs.Row.{InClosed}
 use Rattle.stage_core.specs.Seats.{wish}
 use Rattle.stage_core.specs.declared.phase.Phase.{Phase}
 use Rattle.stage_core.specs.declared.phase.Phase.TheVariants.{New, Open, Closed}
@@ -56,7 +55,7 @@ use Rattle.stage_sub.specs.KeptSubs.{opening_of}
 use Rattle.stage_sub.specs.States.{Logic, Owes}
 use Rattle.stage_sub.specs.Handling.{ports_given, new_log}
 use Rattle.stage_sub.specs.Picking.{first_of_sub, of_number}
-use Rattle.stage_sub.specs.Leds.{Led, made_moves, sub_plan, led_input, LedRests, led_at, led_in}
+use Rattle.stage_sub.specs.Leds.{Led, sub_plan, led_input, LedRests, led_at, led_in}
 use Rattle.stage_sub.specs.LedLaws.{BeginsEach, led_ready, CannotGive, held_back, no_more, MisfitBy, GivenBy, StandsAt, LedServes, keeps_by, LedKeeps, LedPortState, LedLaw, SubsLaw}
 use Rattle.stage_sub.proofs.Beginning.{begun_owes}
 use Rattle.stage_sub.proofs.LedCalls.{led_state}

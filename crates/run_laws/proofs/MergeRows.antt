@@ -1,6 +1,6 @@
 -- A merge in a picture: it gave an element for each of its moves, and of each input at most one more is asked for than its moves took there.
 use Rattle.std.specs.Prelude.{slice_index_or, cond, ◌==◌}
-use Rattle.std.proofs.Common.{◌≡◌, ℕ, zero, suc, ◌+◌, ◌<◌, ◌≤◌, ◌⊎◌, inl, inr, Bool, true, false, List, [], ◌∷◌, length, get_or, refl, sym, ap, subst, ◌∙◌, arith}
+use Rattle.std.proofs.Common.{◌≡◌, ℕ, zero, suc, ◌+◌, ◌≤◌, inl, inr, Bool, true, false, List, [], ◌∷◌, length, get_or, refl, sym, ap, subst, ◌∙◌, arith}
 use Rattle.std.proofs.lemmas.List.{length-map}
 use Rattle.std.proofs.lemmas.List.Sums.{sum_by-append}
 use Rattle.elem_core.specs.Prefix.{IsPrefix}
@@ -11,7 +11,7 @@ use Rattle.port_core.specs.View as port
 use Rattle.port_core.specs.View.{in_at}
 use Rattle.port_core.specs.declared.view.InView.{InView}
 use Rattle.port_core.specs.declared.view.InView.TheVariants.{Pulled, Cancelled}
-use Rattle.stream_model.specs.FanIn.{Tagged, Inflow, merge_of, Finds}
+use Rattle.stream_model.specs.FanIn.{Tagged, Inflow, merge_of}
 use Rattle.stream_model.specs.Picks.{count_of, MergeStands, softened_by}
 use Rattle.stream_model.proofs.Fitting.{count_le}
 use Rattle.stream_model.proofs.MergeTraces.{length-merge_of}

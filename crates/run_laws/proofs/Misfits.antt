@@ -1,5 +1,5 @@
 -- A stage that stopped has the cause of a misfit, over the outlooks of what it took.
-use Rattle.std.proofs.Common.{◌≡◌, ℕ, List, sym, subst}
+use Rattle.std.proofs.Common.{ℕ, List, sym, subst}
 use Rattle.elem_core.specs.declared.item.Item.{Item}
 use Rattle.port_core.specs.View.{View}
 use Rattle.port_core.specs.Picks.{next_move}

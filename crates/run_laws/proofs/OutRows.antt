@@ -15,7 +15,7 @@ use Rattle.stream_model.specs.Machine.{going, is_going, Run, run}
 use Rattle.stream_model.specs.Linear.{Book, Stage}
 use Rattle.stream_model.proofs.MachineLaws.{gave_prefix}
 use Rattle.stream_model.specs.View as picture
-use Rattle.stream_model.specs.View.{EachWire, demand, wanted, total}
+use Rattle.stream_model.specs.View.{EachWire, wanted, total}
 use Rattle.stream_model.specs.Lawful.{most_wanted}
 use Rattle.stream_model.specs.Rests.{IsShut}
 use Rattle.stage_core.specs.Held.{told, owing}

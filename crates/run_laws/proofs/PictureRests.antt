@@ -1,8 +1,8 @@
 -- The picture of a run: it is lawful at every moment, and where no event is left it rests and its sinks match.
-use Rattle.std.proofs.Common.{◌≡◌, ℕ, ◌<◌, ◌≤◌, List, None, ap, arith}
+use Rattle.std.proofs.Common.{◌≡◌, ℕ, ◌≤◌, List, None, ap, arith}
 use Rattle.std.specs.Prelude.{slice_get, Option, Some}
 use Rattle.stream_io.specs.State.{SourceState, DrainState}
-use Rattle.stream_model.specs.Composed.{composed, count_from, inputs_of, ports_of, IsRanked}
+use Rattle.stream_model.specs.Composed.{composed, IsRanked}
 use Rattle.stream_model.specs.Fits.{CanTrip, valve_order}
 use Rattle.stream_model.specs.Graph.{Graph}
 use Rattle.stream_model.specs.Graph as graph
@@ -15,7 +15,6 @@ use Rattle.nodes.specs.declared.node.IslandNode.{IslandNode}
 use Rattle.nodes.specs.Nodes.{node_port_state, node_law, node_asking, node_moves}
 use Rattle.run_laws.specs.Account.{Account, knows, took, gave, IsStill}
 use Rattle.run_laws.specs.KindLaws.{HearsAll}
-use Rattle.run_laws.specs.Items.{AllMayPass}
 use Rattle.run_laws.specs.Pictures.{picture_counts, AllAgreeWith, AllPass}
 use Rattle.run_laws.specs.Replayed.{Plans, RestsBy, IsLawfulBy, FitsBy}
 use Rattle.run_laws.proofs.Drawing.{first_sent, all_lawful, all_rest, all_match}

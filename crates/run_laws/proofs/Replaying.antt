@@ -1,27 +1,24 @@
 -- What was sent on every wire agrees with the composed outlook by a world of which each node serves the moves.
 use Rattle.std.specs.Prelude.{slice_get, ⊤}
-use Rattle.std.proofs.Common.{◌≡◌, ℕ, ◌+◌, ◌<◌, List, length, Option, None, Some, sym, subst, ◌∙◌, arith}
-use Rattle.elem_core.specs.declared.item.Item.{Item}
+use Rattle.std.proofs.Common.{◌≡◌, ℕ, ◌+◌, ◌<◌, length, Some, subst, arith}
 use Rattle.port_core.specs.Reading.{got_of, sent_of}
 use Rattle.stream_model.specs.Composed.{inputs_of, count_from, ports_of, next, composed, IsRanked}
 use Rattle.stream_model.specs.Fits.{inputs}
 use Rattle.stream_model.specs.Graph.{Graph, Edge}
 use Rattle.stream_model.specs.Graph as graph
-use Rattle.stream_model.specs.Node.{World, node_outlook}
+use Rattle.stream_model.specs.Node.{World}
 use Rattle.stream_model.specs.Outlook.{Outlook, Agrees}
 use Rattle.stream_model.specs.View.{outputs_of}
 use Rattle.stream_model.proofs.AllWires.{all_agree}
 use Rattle.stream_model.proofs.Compositions.{slice_get-below, composed_composes}
 use Rattle.stream_io.specs.State.{SourceState, DrainState}
-use Rattle.fused_net.proofs.Reading.{get_there, some_same}
-use Rattle.nodes.specs.Nodes.{node_port_state, node_law, node_asking, node_moves, node_plan}
+use Rattle.fused_net.proofs.Reading.{get_there}
+use Rattle.nodes.specs.Nodes.{node_port_state, node_law, node_asking, node_moves}
 use Rattle.nodes.specs.declared.node.IslandNode.{IslandNode}
 use Rattle.run_laws.specs.Account.{Account, knows, took, gave}
 use Rattle.run_laws.specs.Items.{list_of, end_of_items, AllMayPass, AgreesWith}
-use Rattle.run_laws.specs.Made.{FirstOf}
 use Rattle.run_laws.specs.Runs.{IsRun}
-use Rattle.run_laws.specs.Serving.{ServesPlan}
-use Rattle.run_laws.specs.Telling.{TellsNode, TellsFiles, ServesPlans}
+use Rattle.run_laws.specs.Telling.{TellsFiles, ServesPlans}
 use Rattle.run_laws.proofs.Agreeing.{inputs_pass, read_there, list_agrees}
 use Rattle.run_laws.proofs.Reading.{length_ins}
 use Rattle.run_laws.proofs.ServingNodes.{node_serves}

@@ -1,7 +1,7 @@
 -- What a sink with a file took and wrote, by its outlook.
 use Rattle.std.specs.Prelude.{Option}
 use Rattle.std.specs.Option.{option_map}
-use Rattle.std.proofs.Common.{◌≡◌, ◌≢◌, ℕ, List, [], ◌∷◌, ◌++◌, Some, refl, sym, ap, subst, ◌∙◌}
+use Rattle.std.proofs.Common.{◌≡◌, ◌≢◌, ℕ, List, [], ◌++◌, Some, refl, sym, ap, subst, ◌∙◌}
 use Rattle.elem_core.specs.Prefix.{IsPrefix}
 use Rattle.elem_core.specs.Text.{text_lines}
 use Rattle.elem_core.specs.Tree.{Tree}
@@ -12,7 +12,6 @@ use Rattle.stream_model.specs.Outlook.{Outlook, End, unended, ended, failed, Agr
 use Rattle.stream_model.specs.declared.outcome.EndState.{EndState}
 use Rattle.stream_model.specs.declared.outcome.EndState.TheVariants.{Ended, Failed, Unended, WriteFault}
 use Rattle.stream_io.specs.State.{DrainState}
-use Rattle.stage_core.specs.Held.{told}
 use Rattle.nodes.specs.declared.sink.Writes.{Writes}
 use Rattle.nodes.specs.declared.sink.Writes.TheVariants.{Each, First, Last}
 use Rattle.nodes.specs.Sink.{Gathered, Sink, WroteAll, WroteFirst, SinkStandsAs, end_seen, WritesOf, SinkLaw}

@@ -7,7 +7,7 @@ use Rattle.elem_core.specs.Prefix.{IsPrefix}
 use Rattle.elem_core.specs.Tree.{Tree}
 use Rattle.elem_core.specs.declared.item.Item.{Item}
 use Rattle.port_core.specs.View.{View, unpulled_ports}
-use Rattle.port_core.specs.Picks.{next_move, second_move, plan_of, planned, misfit_by}
+use Rattle.port_core.specs.Picks.{next_move, plan_of, misfit_by}
 use Rattle.stream_io.specs.State.{SourceState, DrainState}
 use Rattle.stream_model.specs.declared.kind.Kind.{Kind}
 use Rattle.stream_model.specs.declared.kind.Kind.TheVariants as kind
@@ -67,7 +67,7 @@ use Rattle.run_laws.proofs.Freely.{left_is}
 use Rattle.run_laws.proofs.LedSubs.{some_followed, moves_of, moves_are, led_stops, cause_role}
 use Rattle.run_laws.proofs.Misfits.{ins_stop, states_stop}
 use Rattle.run_laws.proofs.OutlookAgreeing.{came_of}
-use Rattle.run_laws.proofs.StateChoices.{DropsFirst, drops_first, IsRecover, recovers_first}
+use Rattle.run_laws.proofs.StateChoices.{DropsFirst, drops_first, recovers_first}
 use Rattle.run_laws.proofs.StateSwitches.{ValveFirst, valve_first}
 use Rattle.run_laws.proofs.Subs.{yields_of}
 use Rattle.run_laws.proofs.SwitchRows.{order_cause}

@@ -1,6 +1,6 @@
 -- What a lifted plug owes in a call, by what its logic replied.
-use Rattle.std.specs.Prelude.{◌&&◌, ◌↔◌, ◌≢◌, Result, Ok, Err, OnOk, ⊤}
-use Rattle.std.proofs.Common.{◌≡◌, ℕ, Bool, true, false, List, [], ◌∷◌, ◌++◌, refl, sym, ap, ◌∙◌, subst}
+use Rattle.std.specs.Prelude.{◌&&◌, ◌≢◌, Result, Ok, Err, OnOk, ⊤}
+use Rattle.std.proofs.Common.{◌≡◌, ℕ, Bool, true, false, List, [], ◌∷◌, ◌++◌, refl, sym, ap, ◌∙◌}
 use Rattle.elem_core.specs.Sort.{Sort}
 use Rattle.elem_core.specs.Tree.{Tree}
 use Rattle.elem_core.specs.Typed.{is_of}
@@ -12,9 +12,9 @@ use Rattle.plug_logic.specs.Gives.{Gives, after}
 use Rattle.stage_linear.specs.declared.course.Course.{Course}
 use Rattle.stage_linear.specs.declared.course.Course.TheVariants.{Waits, Idles, Leaves, Closes, Ends}
 use Rattle.graph_stage.specs.declared.ask.Ask.{Ask}
-use Rattle.graph_stage.specs.declared.ask.Ask.TheVariants.{Pull, Push, Cancel, Finish, Fail, Pass}
+use Rattle.graph_stage.specs.declared.ask.Ask.TheVariants.{Pull, Push, Finish, Fail, Pass}
 use Rattle.graph_stage.specs.Lifted.{Telling, over, may_reply, asked_course, course_behind_end, failed_asks, failed_course, cancelled_asks, spread_asks, spread_to, leaving_asks, leaving_to, ended_to, replied_asks, replied_to, came_asks, came_to, closing_asks, closing_to, closed_asks, closed_to, behind_last_asks, behind_last_to, lifted_asks, lifted_to, gives_then}
-use Rattle.graph_stage.specs.Told.{ToldList, list_of, ListsOn, all_of, reply_if, typed_gives}
+use Rattle.graph_stage.specs.Told.{list_of, ListsOn, all_of, reply_if, typed_gives}
 
 -- what holds of an answer by what else does
 pub on_ok : {T E : Type 0} {A B : Type 0} (r : Result T E) → OnOk r A → (A → B) → OnOk r B

@@ -1,4 +1,4 @@
-use Rattle.std.proofs.Common.{◌≡◌, ◌∙◌, ◌++◌, ◌∷◌, [], List, refl, sym, ap}
+use Rattle.std.proofs.Common.{◌∙◌, ◌++◌, ◌∷◌, [], List, refl, sym, ap}
 use Rattle.graph_stage.specs.declared.ask.Ask.{Ask}
 use Rattle.graph_stage.specs.declared.ask.Ask.TheVariants.{Pass}
 use Rattle.told_stage.proofs.Lifting.{on_ok, on_ok_none, failed_leaving, failed_other}

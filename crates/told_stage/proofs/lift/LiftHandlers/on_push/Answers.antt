@@ -1,4 +1,4 @@
-use Rattle.std.proofs.Common.{◌≡◌, ◌∙◌, ◌++◌, ◌∷◌, [], List, refl, sym, ap}
+use Rattle.std.proofs.Common.{◌∙◌, ◌++◌, ◌∷◌, [], List, refl, sym, ap}
 use Rattle.graph_stage.specs.declared.ask.Ask.{Ask}
 use Rattle.graph_stage.specs.declared.ask.Ask.TheVariants.{Fail}
 use Rattle.told_stage.proofs.Lifting.{on_ok, on_ok_all, refused_over, refused_typed, came_go, came_finish, came_fail}

@@ -40,7 +40,7 @@ picture:
 
 # The merge gate. The pages are compared first too, which takes a second; a line is printed for each step.
 # How long a first run took; README.md says so too.
-FIRST_RUN = some 175 processor minutes, so 56 minutes on four processors
+FIRST_RUN = some 180 processor minutes, so about an hour, on four free processors; nearly twice that on a slower machine beside other work
 
 test: listed
 	@echo "The first run proves every crate that this machine has not proved yet ($(FIRST_RUN)); later runs prove only what changed, where the kit keeps what is proved."

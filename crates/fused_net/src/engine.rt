@@ -38,7 +38,7 @@ use std::snapshot::Snapshot;
 
 /// Nodes joined by wires, and the wires that have an event.
 #[derive(Drop)]
-pub struct Engine<S: Stage> {
+pub struct Engine<S> {
     nodes: Vec<S>,
     wires: Vec<Wire>,
     ends: Vec<WireEnds>,
@@ -47,7 +47,7 @@ pub struct Engine<S: Stage> {
     firsts: Snapshot<Vec<S>>,
 }
 
-impl<S: Stage> Model for Engine<S> {
+impl<S> Model for Engine<S> {
     ghost use Rattle.std.specs.Prelude.{◌≡◌, length};
     ghost use Rattle.fused_net.specs.Net.{Net};
     ghost use Rattle.fused_net.specs.Queue.{waiting};
@@ -675,22 +675,6 @@ impl<S: Stage> Engine<S> {
         })
     }
 
-    /// What is known of wire w.
-    pub fn wire(&self, w: u32) -> &Wire
-        requires { w < length self.now.wires }
-        ensures { result.now ≡ wire_at self.now w }
-    {
-        &self.wires[w as usize]
-    }
-
-    /// The ports at the ends of wire w.
-    pub fn ends(&self, w: u32) -> WireEnds
-        requires { w < length self.now.ends }
-        ensures { result ≡ end_at self.now.ends w }
-    {
-        self.ends[w as usize]
-    }
-
     /// Whether nothing waits at node n to leave the graph.
     pub fn is_clear(&self, n: u32) -> bool
         requires { n < length self.now.nodes }
@@ -820,13 +804,6 @@ impl<S: Stage> Engine<S> {
         }
     }
 
-    /// Whether no event is left.
-    pub fn is_at_rest(&self) -> bool
-        ensures { IsTrue result ↔ (self.now.queue ≡ []) }
-    {
-        self.queue.is_empty()
-    }
-
     // Whether wire w was asked, and the node at its output may wait for a read then.
     fn awaits_read_at(&self, w: usize) -> bool {
         let (Some(wire), Some(ends)) = (self.wires.get(w), self.ends.get(w)) else {
@@ -846,6 +823,31 @@ impl<S: Stage> Engine<S> {
             }
         }
         false
+    }
+}
+
+impl<S> Engine<S> {
+    /// What is known of wire w.
+    pub fn wire(&self, w: u32) -> &Wire
+        requires { w < length self.now.wires }
+        ensures { result.now ≡ wire_at self.now w }
+    {
+        &self.wires[w as usize]
+    }
+
+    /// The ports at the ends of wire w.
+    pub fn ends(&self, w: u32) -> WireEnds
+        requires { w < length self.now.ends }
+        ensures { result ≡ end_at self.now.ends w }
+    {
+        self.ends[w as usize]
+    }
+
+    /// Whether no event is left.
+    pub fn is_at_rest(&self) -> bool
+        ensures { IsTrue result ↔ (self.now.queue ≡ []) }
+    {
+        self.queue.is_empty()
     }
 
     /// The most events that were chased for one that waited for its turn: handled at once, since a handler that had just been called

@@ -10,10 +10,10 @@ use std::rt::Env;
 use std::sync::Wait;
 use std::test::Fail;
 use std::thread::Threads;
-use stream_command::process::call_shipped;
 use stream_io::mem_drain::MemDrain;
 use stream_io::outside::Folder;
 use stream_io::real::DirFolder;
+use stream_notes::process::call_shipped;
 
 const USAGE: &[u8] = b"usage: streams (FILE | --gen N) [--workers N] [--turns N] [--trace FILE]\n";
 

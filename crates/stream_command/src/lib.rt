@@ -5,7 +5,7 @@
 //! - `run`: The command: its words are read, files are generated where they ask for it, the file is run, and the report is written.
 //! - `laws`, `shipped_run`: The whole call with the plugs that the program ships.
 //! - `headline`: What the sinks' files hold after a call, in three short laws.
-//! - `process`: The call that the program makes, from the words of its process to the exit code.
+//! - `process`: What the words of a process come to, which is what the program answers.
 #![tactic(auto)]
 
 mod answer;

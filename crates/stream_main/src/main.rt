@@ -3,8 +3,8 @@
 
 use process_words::words::words_of;
 use std::process::ExitCode;
-use stream_command::process::call_shipped;
 use stream_io::real::{DirFolder, StdConsole};
+use stream_notes::process::call_shipped;
 
 fn main(rt: HostRuntime) -> ExitCode {
     let alloc = rt.alloc();

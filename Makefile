@@ -1,6 +1,6 @@
 # `make help` lists the words. Nothing is needed but the Rattle kit, whose command is `rt`.
 
-.PHONY: build blueprint example proved picture test listed cases definitions help
+.PHONY: build blueprint quick example proved picture test listed cases definitions help
 
 # Proves and builds ./streams. Both programs are built from the lowest crate up; what is proved is kept for `make test` too, where the kit does so.
 build:
@@ -9,6 +9,10 @@ build:
 # Proves and builds ./blueprint.
 blueprint:
 	@tools/prove workbench_main blueprint
+
+# Builds out/quick/streams and out/quick/blueprint without any proof, in some three minutes; nothing is done where no source has changed since.
+quick:
+	@tools/quick
 
 # A first look, in three minutes and without any proof: the reports, and every file that the sinks wrote. `make example` runs examples/log,
 # `make example NAME=split` another of examples/, `make example FROM=../logs` every blueprint of a folder, with NAME=sum its sum.blue alone.
@@ -61,6 +65,7 @@ listed:
 	@tools/pages_stand
 
 help:
+	@echo "make quick                          builds out/quick/streams and out/quick/blueprint without any proof, in some three minutes"
 	@echo "make example                        a first look, in three minutes, nothing proved: the report of examples/log, and the files that it wrote"
 	@echo "make example NAME=split             another of examples/"
 	@echo "make example FROM=../logs           every blueprint of a folder, over copies of its files; with NAME=sum its sum.blue alone"

@@ -18,16 +18,18 @@ use Rattle.port_core.specs.Cell.{brought_in, Brings, Brought}
 use Rattle.fused_net.specs.declared.engine.Delivered.{Delivered}
 use Rattle.fused_net.specs.declared.engine.Delivered.TheVariants as brings
 use Rattle.fused_net.specs.Net.{Net, end_at, wire_at, target, call_of, IsBrought, node_for, call_for, put, acted_all, event_told, with_node, before}
-use Rattle.fused_net.specs.Laws.{HaveRoom, AnyRow, AnyLaw, Settled, Busy, NetGoesOn, AllKept}
-use Rattle.fused_net.specs.Costs.{all_asks, Uses}
+use Rattle.fused_net.specs.Laws.{HaveRoom, AnyRow, AnyLaw, Settled, Busy, AllKept}
+use Rattle.fused_net.specs.Costs.{all_asks}
 use Rattle.fused_net.specs.Poking.{AtNode}
-use Rattle.fused_net.specs.Outside.{StandsStill, Untouched, touched}
+use Rattle.fused_net.specs.Outside.{StandsStill}
+use Rattle.fused_net.specs.Events.{EventHandled}
 use Rattle.fused_net.proofs.Delivering.{brings_elem, told_brought, told_brings, target_within, Called, call_at}
-use Rattle.fused_net.proofs.Going.{handled}
+use Rattle.fused_net.proofs.Going.{handled, handled_nothing}
 use Rattle.fused_net.proofs.Responding.{node_is, the_ends, awaited, responded, few_told}
 use Rattle.fused_net.proofs.Keeping.{kept_called}
 use Rattle.fused_net.proofs.Poking.{gone_acts}
-use Rattle.fused_net.proofs.Still.{still_told, still_trans, still_acts, heard_acts, called_still, handle_untouched}
+use Rattle.fused_net.proofs.Events.{step_before}
+use Rattle.fused_net.proofs.Still.{still_told, still_trans, still_acts, heard_acts, called_still, handle_untouched, untouched_nothing}
 
 -- the ends of a wire, as they were read behind the telling of its event
 told_ends : {N : Type 0} (net told u : Net N) (w : ℕ) (x : WireEnds) → length net.ends ≡ length net.wires → w < length net.wires → told ≡ put net w (wire_at told w) false → u ≡ told → x ≡ get_or u.ends w x → x ≡ end_at net.ends w
@@ -112,21 +114,12 @@ module _ {N : Type 0} (port_state : N → View → Type 0) (law : N → N → Vi
   calling_closing (brings.Arrived i) net told heard u v w n ends x laws within absent tells is at brought after node same read =
       calling net heard v w n (arrived i brought.0) ends x laws within absent (sym brought.1) (λ none. cc) after (told_ends net told u w ends laws.wired.each_wire within tells is at) node same read
 
-  -- what is left once the node did what it wants done, and said whether it is passive
-  pub record Answered (gone : N → List Item) (passive : N → Bool) (net new : Net N) (w : ℕ) (is_passive : Bool) : Type 0 where
-    pub laws : Settled port_state law asking moves new
-    pub on : NetGoesOn net new
-    pub uses : Uses (before net w) new 1
-    pub gone_is : map gone new.nodes ≡ map gone net.nodes
-    pub still : StandsStill passive net new
-    pub untouched : Untouched passive (touched is_passive w) net new
-
   module _ (gone : N → List Item) (passive : N → Bool) where
     pub call_still : (net heard v : Net N) (w n : ℕ) (call : Call) (ends : WireEnds) (x y : N) (acts : List Act) → Calling net heard v w n call ends x → StaysPassive (passive x) (passive y) acts → AtNode (with_node v n y) n (λ z. passive z ≡ true → acts ≡ [])
     call_still net heard v w n call ends x y acts c stays = called_still passive heard v n x y acts c.same (called_at net heard v w n call ends x c).within c.read stays
 
     pub answered : (net heard v new : Net N) (w n : ℕ) (call : Call) (ends : WireEnds) (x y : N) (acts : List Act) (b : Bool) → Calling net heard v w n call ends x → Handles port_state law call x y acts → PullsAs call (port_state x) (asking y) acts → IsPrefix (moves x) (moves y)
-        → StaysPassive (passive x) (passive y) acts → gone y ≡ gone x → new ≡ acted_all (with_node v n y) n acts → AtNode new n (λ z. b ≡ passive z) → Answered gone passive net new w b
+        → StaysPassive (passive x) (passive y) acts → gone y ≡ gone x → new ≡ acted_all (with_node v n y) n acts → AtNode new n (λ z. b ≡ passive z) → EventHandled port_state law asking moves gone passive net new w b
     answered net heard v new w n call ends x y acts b c handles asks grows stays gone_same on known =
         let k = called_at net heard v w n call ends x c in
         let busy : Busy AnyRow AnyLaw (with_node v n y) n acts = awaited port_state law call heard v n x y acts c.same k.within c.read k.awaits handles in
@@ -134,12 +127,18 @@ module _ {N : Type 0} (port_state : N → View → Type 0) (law : N → N → Vi
         (responded port_state law asking moves call heard v new n x y acts c.same k.within c.read k.awaits k.tells handles asks grows on) in
         let stood : StandsStill passive heard new = still_acts passive heard v new n x y acts c.same k.within c.read busy stays on in
         record {
-          laws = done.laws;
-          on = done.on;
-          uses = done.uses;
-          gone_is = gone_acts gone heard v new n x y acts c.same k.within c.read gone_same on ∙ ap (λ (a : Net N). map gone a.nodes) c.after;
-          still = still_trans passive net heard new (ap (λ (a : Net N). a.ends) c.after) (still_told passive net heard w c.within c.after) stood;
+          step = step_before port_state law asking moves gone passive net new w done.laws done.on done.uses (gone_acts gone heard v new n x y acts c.same k.within c.read gone_same on ∙ ap (λ (a : Net N). map gone a.nodes) c.after)
+              (still_trans passive net heard new (ap (λ (a : Net N). a.ends) c.after) (still_told passive net heard w c.within c.after) stood);
           untouched = handle_untouched passive net heard new w n (delivery_of (wire_at net w).wire) ends b c.laws.wired c.within c.after refl c.some c.ends_are c.node (heard_acts passive heard v new n x y acts c.same k.within c.read busy stays on) stood.kinds k.within known;
+        }
+
+    -- the event brought nothing
+    pub answered_nothing : (net new : Net N) (w : ℕ) → Settled port_state law asking moves (before net w) → w < length net.wires → is_queued net.queue w ≡ false → delivery_of (wire_at net w).wire ≡ nothing → new ≡ event_told net w → EventHandled port_state law asking moves gone passive net new w false
+    answered_nothing net new w laws within absent none after =
+        let done = handled_nothing port_state law asking moves net new w laws within absent none after in
+        record {
+          step = step_before port_state law asking moves gone passive net new w done.laws done.on done.uses (ap (λ (a : Net N). map gone a.nodes) after) (still_told passive net new w within after);
+          untouched = untouched_nothing passive net new w within after none;
         }
 
     pub call_kept : (keeps : N → N → Type 0) (net heard v : Net N) (w n : ℕ) (call : Call) (ends : WireEnds) (x y : N) → Calling net heard v w n call ends x → keeps x y → AllKept keeps net.nodes (slice_set v.nodes n y)

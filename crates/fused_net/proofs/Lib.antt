@@ -15,4 +15,5 @@ pub mod Keeping
 pub mod Poking
 pub mod Still
 pub mod Settling
+pub mod Events
 pub mod Handling

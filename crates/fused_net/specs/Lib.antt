@@ -5,3 +5,4 @@ pub mod Laws
 pub mod Costs
 pub mod Poking
 pub mod Outside
+pub mod Events

@@ -19,7 +19,8 @@ ghost use Rattle.fused_net.specs.declared.queue.TheConstants.{MOST_CHASES};
 ghost use Rattle.fused_net.specs.Laws.{AnyRow, AnyLaw, Wired, first_view, Settled, Busy, Starting, NetGoesOn, AllKept, BreaksOff, IsMinded, HaveRoom};
 ghost use Rattle.fused_net.specs.Costs.{all_asks, Uses};
 ghost use Rattle.fused_net.specs.Poking.{AtNode, HandsAt, TellsPoked};
-ghost use Rattle.fused_net.specs.Outside.{BreaksAside, StandsStill, Untouched, touched};
+ghost use Rattle.fused_net.specs.Outside.{BreaksAside, StandsStill, Untouched};
+ghost use Rattle.fused_net.specs.Events.{EventsLead, EventHandled};
 
 use crate::net::{Ports, WireEnds};
 use crate::queue::EventQueue;
@@ -493,12 +494,7 @@ impl<S: Stage> Engine<S> {
         requires empty { acts.old.items ≡ [] }
         requires room { LEAST_ACTS ≤ acts.old.room }
         requires ports { HaveRoom self.old.ports acts.old.room }
-        ensures laws { OnOk result (Settled S.port_state S.law S.asking S.moves self.new) }
-        ensures on { OnOk result (NetGoesOn self.old self.new) }
-        ensures uses { OnOk result (Uses (before self.old w) self.new 1) }
-        ensures gone { OnOk result (map S.gone self.new.nodes ≡ map S.gone self.old.nodes) }
-        ensures still { OnOk result (StandsStill S.passive self.old self.new) }
-        ensures untouched { IfOk result (λ heard. Untouched S.passive (touched heard w) self.old self.new) }
+        ensures answered { IfOk result (λ heard. EventHandled S.port_state S.law S.asking S.moves S.gone S.passive self.old self.new w heard) }
         ensures acts { OnOk result (acts.new ≡ acts.old) }
         ensures kept { OnErr result (AllKept S.keeps self.old.nodes self.new.nodes) }
     {
@@ -563,12 +559,7 @@ impl<S: Stage> Engine<S> {
         requires empty { acts.old.items ≡ [] }
         requires room { LEAST_ACTS ≤ acts.old.room }
         requires ports { HaveRoom since.value.ports acts.old.room }
-        ensures laws { OnOk result (Settled S.port_state S.law S.asking S.moves self.new) }
-        ensures on { OnOk result (NetGoesOn since.value self.new) }
-        ensures uses { OnOk result (Uses (before since.value w) self.new 1) }
-        ensures gone { OnOk result (map S.gone self.new.nodes ≡ map S.gone since.value.nodes) }
-        ensures still { OnOk result (StandsStill S.passive since.value self.new) }
-        ensures untouched { IfOk result (λ heard. Untouched S.passive (touched heard w) since.value self.new) }
+        ensures answered { IfOk result (λ heard. EventHandled S.port_state S.law S.asking S.moves S.gone S.passive since.value self.new w heard) }
         ensures acts { OnOk result (acts.new ≡ acts.old) }
         ensures kept { OnErr result (AllKept S.keeps since.value.nodes self.new.nodes) }
     {
@@ -608,6 +599,7 @@ impl<S: Stage> Engine<S> {
         ensures laws { OnOk result (Settled S.port_state S.law S.asking S.moves self.new) }
         ensures on { OnOk result (NetGoesOn self.old self.new) }
         ensures uses { IfOk result (λ used. Uses self.old self.new used) }
+        ensures steps { IfOk result (λ used. EventsLead S.port_state S.law S.asking S.moves S.gone S.passive self.old self.new used) }
         ensures within { IfOk result (λ used. used ≤ limit) }
         ensures rest { IfOk result (λ used. used < limit → self.new.queue ≡ []) }
         ensures gone { OnOk result (map S.gone self.new.nodes ≡ map S.gone self.old.nodes) }
@@ -646,6 +638,7 @@ impl<S: Stage> Engine<S> {
         ensures laws { OnOk result (Settled S.port_state S.law S.asking S.moves self.new) }
         ensures on { OnOk result (NetGoesOn self.old self.new) }
         ensures uses { IfOk result (λ a. Uses self.old self.new a.used) }
+        ensures steps { IfOk result (λ a. EventsLead S.port_state S.law S.asking S.moves S.gone S.passive self.old self.new a.used) }
         ensures within { IfOk result (λ a. a.used ≤ limit) }
         ensures rest { IfOk result (λ a. a.used < limit → a.heard ≡ None → self.new.queue ≡ []) }
         ensures gone { OnOk result (map S.gone self.new.nodes ≡ map S.gone self.old.nodes) }

@@ -1,9 +1,8 @@
 -- The loop of `engine::Engine::advance`.
-use Rattle.std.proofs.Common.{◌≡◌, None, map}
-use Rattle.fused_net.specs.Laws.{Settled, NetGoesOn}
-use Rattle.fused_net.specs.Costs.{Uses}
-use Rattle.fused_net.specs.Outside.{StandsStill, Untouched}
+use Rattle.std.proofs.Common.{◌≡◌, None}
+use Rattle.fused_net.specs.Outside.{Untouched}
+use Rattle.fused_net.specs.Events.{EventsLead}
 use Rattle.fused_net.proofs.engine.Engine.advance.Given as goal
 
 abbrev pub invariant-loop-used : goal.invariant-loop-used
-invariant-loop-used g l = Settled g.S.Stage.port_state g.S.Stage.law g.S.Stage.asking g.S.Stage.moves l.self × NetGoesOn l.fn.self l.self × Uses l.fn.self l.self l.used × (l.acts ≡ l.initial.acts) × (map g.S.Stage.gone l.self.nodes ≡ map g.S.Stage.gone l.fn.self.nodes) × StandsStill g.S.Stage.passive l.fn.self l.self × Untouched g.S.Stage.passive None l.fn.self l.self × (l.used ≡ 0 → l.self ≡ l.fn.self)
+invariant-loop-used g l = EventsLead g.S.Stage.port_state g.S.Stage.law g.S.Stage.asking g.S.Stage.moves g.S.Stage.gone g.S.Stage.passive l.fn.self l.self l.used × (l.acts ≡ l.initial.acts) × Untouched g.S.Stage.passive None l.fn.self l.self × (l.used ≡ 0 → l.self ≡ l.fn.self)

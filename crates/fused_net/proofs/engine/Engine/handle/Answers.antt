@@ -21,23 +21,8 @@ perform_after_push-requires-clause-few g c = call_few g.S.Stage.port_state g.S.S
 pub perform_after_push-requires-clause-still : goal.perform_after_push-requires-clause-still
 perform_after_push-requires-clause-still g c = call_still g.S.Stage.port_state g.S.Stage.law g.S.Stage.asking g.S.Stage.moves g.S.Stage.gone g.S.Stage.passive _ _ _ _ _ _ _ _ _ _ (calling_push g.S.Stage.port_state g.S.Stage.law g.S.Stage.asking g.S.Stage.moves c.args.self.now c.tell.new.self c.take-e.new.self _ _ c.args.w c.take-e.result _ _ c.requires.laws c.requires.within c.requires.absent c.in-Push.ensures.tells c.tell.ensures.after c.take-e.ensures.value c.take-e.ensures.after c.self.view_is c.index-ends.ensures c.self-in-Push.view_is c.index_mut.ensures.value) c.in_ok-on_push-in-Push.ensures.passive
 
-pub returns-in_ok-on_push-in-Push-clause-laws : goal.returns-in_ok-on_push-in-Push-clause-laws
-returns-in_ok-on_push-in-Push-clause-laws g c = (answered g.S.Stage.port_state g.S.Stage.law g.S.Stage.asking g.S.Stage.moves g.S.Stage.gone g.S.Stage.passive _ _ _ _ _ _ _ _ _ _ c.on_push.new.acts.items _ (calling_push g.S.Stage.port_state g.S.Stage.law g.S.Stage.asking g.S.Stage.moves c.args.self.now c.tell.new.self c.take-e.new.self _ _ c.args.w c.take-e.result _ _ c.requires.laws c.requires.within c.requires.absent c.in-Push.ensures.tells c.tell.ensures.after c.take-e.ensures.value c.take-e.ensures.after c.self.view_is c.index-ends.ensures c.self-in-Push.view_is c.index_mut.ensures.value) c.in_ok-on_push-in-Push.ensures.handles c.in_ok-on_push-in-Push.ensures.pulls c.in_ok-on_push-in-Push.ensures.grows c.in_ok-on_push-in-Push.ensures.passive c.in_ok-on_push-in-Push.ensures.gone c.perform_after_push.ensures.after c.perform_after_push.ensures.passive).laws
-
-pub returns-in_ok-on_push-in-Push-clause-on : goal.returns-in_ok-on_push-in-Push-clause-on
-returns-in_ok-on_push-in-Push-clause-on g c = (answered g.S.Stage.port_state g.S.Stage.law g.S.Stage.asking g.S.Stage.moves g.S.Stage.gone g.S.Stage.passive _ _ _ _ _ _ _ _ _ _ c.on_push.new.acts.items _ (calling_push g.S.Stage.port_state g.S.Stage.law g.S.Stage.asking g.S.Stage.moves c.args.self.now c.tell.new.self c.take-e.new.self _ _ c.args.w c.take-e.result _ _ c.requires.laws c.requires.within c.requires.absent c.in-Push.ensures.tells c.tell.ensures.after c.take-e.ensures.value c.take-e.ensures.after c.self.view_is c.index-ends.ensures c.self-in-Push.view_is c.index_mut.ensures.value) c.in_ok-on_push-in-Push.ensures.handles c.in_ok-on_push-in-Push.ensures.pulls c.in_ok-on_push-in-Push.ensures.grows c.in_ok-on_push-in-Push.ensures.passive c.in_ok-on_push-in-Push.ensures.gone c.perform_after_push.ensures.after c.perform_after_push.ensures.passive).on
-
-pub returns-in_ok-on_push-in-Push-clause-uses : goal.returns-in_ok-on_push-in-Push-clause-uses
-returns-in_ok-on_push-in-Push-clause-uses g c = (answered g.S.Stage.port_state g.S.Stage.law g.S.Stage.asking g.S.Stage.moves g.S.Stage.gone g.S.Stage.passive _ _ _ _ _ _ _ _ _ _ c.on_push.new.acts.items _ (calling_push g.S.Stage.port_state g.S.Stage.law g.S.Stage.asking g.S.Stage.moves c.args.self.now c.tell.new.self c.take-e.new.self _ _ c.args.w c.take-e.result _ _ c.requires.laws c.requires.within c.requires.absent c.in-Push.ensures.tells c.tell.ensures.after c.take-e.ensures.value c.take-e.ensures.after c.self.view_is c.index-ends.ensures c.self-in-Push.view_is c.index_mut.ensures.value) c.in_ok-on_push-in-Push.ensures.handles c.in_ok-on_push-in-Push.ensures.pulls c.in_ok-on_push-in-Push.ensures.grows c.in_ok-on_push-in-Push.ensures.passive c.in_ok-on_push-in-Push.ensures.gone c.perform_after_push.ensures.after c.perform_after_push.ensures.passive).uses
-
-pub returns-in_ok-on_push-in-Push-clause-gone : goal.returns-in_ok-on_push-in-Push-clause-gone
-returns-in_ok-on_push-in-Push-clause-gone g c = (answered g.S.Stage.port_state g.S.Stage.law g.S.Stage.asking g.S.Stage.moves g.S.Stage.gone g.S.Stage.passive _ _ _ _ _ _ _ _ _ _ c.on_push.new.acts.items _ (calling_push g.S.Stage.port_state g.S.Stage.law g.S.Stage.asking g.S.Stage.moves c.args.self.now c.tell.new.self c.take-e.new.self _ _ c.args.w c.take-e.result _ _ c.requires.laws c.requires.within c.requires.absent c.in-Push.ensures.tells c.tell.ensures.after c.take-e.ensures.value c.take-e.ensures.after c.self.view_is c.index-ends.ensures c.self-in-Push.view_is c.index_mut.ensures.value) c.in_ok-on_push-in-Push.ensures.handles c.in_ok-on_push-in-Push.ensures.pulls c.in_ok-on_push-in-Push.ensures.grows c.in_ok-on_push-in-Push.ensures.passive c.in_ok-on_push-in-Push.ensures.gone c.perform_after_push.ensures.after c.perform_after_push.ensures.passive).gone_is
-
-pub returns-in_ok-on_push-in-Push-clause-still : goal.returns-in_ok-on_push-in-Push-clause-still
-returns-in_ok-on_push-in-Push-clause-still g c = (answered g.S.Stage.port_state g.S.Stage.law g.S.Stage.asking g.S.Stage.moves g.S.Stage.gone g.S.Stage.passive _ _ _ _ _ _ _ _ _ _ c.on_push.new.acts.items _ (calling_push g.S.Stage.port_state g.S.Stage.law g.S.Stage.asking g.S.Stage.moves c.args.self.now c.tell.new.self c.take-e.new.self _ _ c.args.w c.take-e.result _ _ c.requires.laws c.requires.within c.requires.absent c.in-Push.ensures.tells c.tell.ensures.after c.take-e.ensures.value c.take-e.ensures.after c.self.view_is c.index-ends.ensures c.self-in-Push.view_is c.index_mut.ensures.value) c.in_ok-on_push-in-Push.ensures.handles c.in_ok-on_push-in-Push.ensures.pulls c.in_ok-on_push-in-Push.ensures.grows c.in_ok-on_push-in-Push.ensures.passive c.in_ok-on_push-in-Push.ensures.gone c.perform_after_push.ensures.after c.perform_after_push.ensures.passive).still
-
-pub returns-in_ok-on_push-in-Push-clause-untouched : goal.returns-in_ok-on_push-in-Push-clause-untouched
-returns-in_ok-on_push-in-Push-clause-untouched g c = (answered g.S.Stage.port_state g.S.Stage.law g.S.Stage.asking g.S.Stage.moves g.S.Stage.gone g.S.Stage.passive _ _ _ _ _ _ _ _ _ _ c.on_push.new.acts.items _ (calling_push g.S.Stage.port_state g.S.Stage.law g.S.Stage.asking g.S.Stage.moves c.args.self.now c.tell.new.self c.take-e.new.self _ _ c.args.w c.take-e.result _ _ c.requires.laws c.requires.within c.requires.absent c.in-Push.ensures.tells c.tell.ensures.after c.take-e.ensures.value c.take-e.ensures.after c.self.view_is c.index-ends.ensures c.self-in-Push.view_is c.index_mut.ensures.value) c.in_ok-on_push-in-Push.ensures.handles c.in_ok-on_push-in-Push.ensures.pulls c.in_ok-on_push-in-Push.ensures.grows c.in_ok-on_push-in-Push.ensures.passive c.in_ok-on_push-in-Push.ensures.gone c.perform_after_push.ensures.after c.perform_after_push.ensures.passive).untouched
+pub returns-in_ok-on_push-in-Push-clause-answered : goal.returns-in_ok-on_push-in-Push-clause-answered
+returns-in_ok-on_push-in-Push-clause-answered g c = answered g.S.Stage.port_state g.S.Stage.law g.S.Stage.asking g.S.Stage.moves g.S.Stage.gone g.S.Stage.passive _ _ _ _ _ _ _ _ _ _ c.on_push.new.acts.items _ (calling_push g.S.Stage.port_state g.S.Stage.law g.S.Stage.asking g.S.Stage.moves c.args.self.now c.tell.new.self c.take-e.new.self _ _ c.args.w c.take-e.result _ _ c.requires.laws c.requires.within c.requires.absent c.in-Push.ensures.tells c.tell.ensures.after c.take-e.ensures.value c.take-e.ensures.after c.self.view_is c.index-ends.ensures c.self-in-Push.view_is c.index_mut.ensures.value) c.in_ok-on_push-in-Push.ensures.handles c.in_ok-on_push-in-Push.ensures.pulls c.in_ok-on_push-in-Push.ensures.grows c.in_ok-on_push-in-Push.ensures.passive c.in_ok-on_push-in-Push.ensures.gone c.perform_after_push.ensures.after c.perform_after_push.ensures.passive
 
 pub on_pull-requires-clause-meets : goal.on_pull-requires-clause-meets
 on_pull-requires-clause-meets g c = call_meets g.S.Stage.port_state g.S.Stage.law g.S.Stage.asking g.S.Stage.moves _ _ _ _ _ _ _ _ (calling_pull g.S.Stage.port_state g.S.Stage.law g.S.Stage.asking g.S.Stage.moves c.args.self.now c.tell.new.self _ _ c.args.w _ _ c.requires.laws c.requires.within c.requires.absent c.in-Pull.ensures.tells c.tell.ensures.after c.self.view_is c.index-ends.ensures c.self-in-Pull.view_is c.index_mut-in-Pull.ensures.value)
@@ -57,20 +42,5 @@ perform_after_pull-requires-clause-few g c = call_few g.S.Stage.port_state g.S.S
 pub perform_after_pull-requires-clause-still : goal.perform_after_pull-requires-clause-still
 perform_after_pull-requires-clause-still g c = call_still g.S.Stage.port_state g.S.Stage.law g.S.Stage.asking g.S.Stage.moves g.S.Stage.gone g.S.Stage.passive _ _ _ _ _ _ _ _ _ _ (calling_pull g.S.Stage.port_state g.S.Stage.law g.S.Stage.asking g.S.Stage.moves c.args.self.now c.tell.new.self _ _ c.args.w _ _ c.requires.laws c.requires.within c.requires.absent c.in-Pull.ensures.tells c.tell.ensures.after c.self.view_is c.index-ends.ensures c.self-in-Pull.view_is c.index_mut-in-Pull.ensures.value) c.in_ok-on_pull-in-Pull.ensures.passive
 
-pub returns-in_ok-on_pull-in-Pull-clause-laws : goal.returns-in_ok-on_pull-in-Pull-clause-laws
-returns-in_ok-on_pull-in-Pull-clause-laws g c = (answered g.S.Stage.port_state g.S.Stage.law g.S.Stage.asking g.S.Stage.moves g.S.Stage.gone g.S.Stage.passive _ _ _ _ _ _ _ _ _ _ c.on_pull.new.acts.items _ (calling_pull g.S.Stage.port_state g.S.Stage.law g.S.Stage.asking g.S.Stage.moves c.args.self.now c.tell.new.self _ _ c.args.w _ _ c.requires.laws c.requires.within c.requires.absent c.in-Pull.ensures.tells c.tell.ensures.after c.self.view_is c.index-ends.ensures c.self-in-Pull.view_is c.index_mut-in-Pull.ensures.value) c.in_ok-on_pull-in-Pull.ensures.handles c.in_ok-on_pull-in-Pull.ensures.pulls c.in_ok-on_pull-in-Pull.ensures.grows c.in_ok-on_pull-in-Pull.ensures.passive c.in_ok-on_pull-in-Pull.ensures.gone c.perform_after_pull.ensures.after c.perform_after_pull.ensures.passive).laws
-
-pub returns-in_ok-on_pull-in-Pull-clause-on : goal.returns-in_ok-on_pull-in-Pull-clause-on
-returns-in_ok-on_pull-in-Pull-clause-on g c = (answered g.S.Stage.port_state g.S.Stage.law g.S.Stage.asking g.S.Stage.moves g.S.Stage.gone g.S.Stage.passive _ _ _ _ _ _ _ _ _ _ c.on_pull.new.acts.items _ (calling_pull g.S.Stage.port_state g.S.Stage.law g.S.Stage.asking g.S.Stage.moves c.args.self.now c.tell.new.self _ _ c.args.w _ _ c.requires.laws c.requires.within c.requires.absent c.in-Pull.ensures.tells c.tell.ensures.after c.self.view_is c.index-ends.ensures c.self-in-Pull.view_is c.index_mut-in-Pull.ensures.value) c.in_ok-on_pull-in-Pull.ensures.handles c.in_ok-on_pull-in-Pull.ensures.pulls c.in_ok-on_pull-in-Pull.ensures.grows c.in_ok-on_pull-in-Pull.ensures.passive c.in_ok-on_pull-in-Pull.ensures.gone c.perform_after_pull.ensures.after c.perform_after_pull.ensures.passive).on
-
-pub returns-in_ok-on_pull-in-Pull-clause-uses : goal.returns-in_ok-on_pull-in-Pull-clause-uses
-returns-in_ok-on_pull-in-Pull-clause-uses g c = (answered g.S.Stage.port_state g.S.Stage.law g.S.Stage.asking g.S.Stage.moves g.S.Stage.gone g.S.Stage.passive _ _ _ _ _ _ _ _ _ _ c.on_pull.new.acts.items _ (calling_pull g.S.Stage.port_state g.S.Stage.law g.S.Stage.asking g.S.Stage.moves c.args.self.now c.tell.new.self _ _ c.args.w _ _ c.requires.laws c.requires.within c.requires.absent c.in-Pull.ensures.tells c.tell.ensures.after c.self.view_is c.index-ends.ensures c.self-in-Pull.view_is c.index_mut-in-Pull.ensures.value) c.in_ok-on_pull-in-Pull.ensures.handles c.in_ok-on_pull-in-Pull.ensures.pulls c.in_ok-on_pull-in-Pull.ensures.grows c.in_ok-on_pull-in-Pull.ensures.passive c.in_ok-on_pull-in-Pull.ensures.gone c.perform_after_pull.ensures.after c.perform_after_pull.ensures.passive).uses
-
-pub returns-in_ok-on_pull-in-Pull-clause-gone : goal.returns-in_ok-on_pull-in-Pull-clause-gone
-returns-in_ok-on_pull-in-Pull-clause-gone g c = (answered g.S.Stage.port_state g.S.Stage.law g.S.Stage.asking g.S.Stage.moves g.S.Stage.gone g.S.Stage.passive _ _ _ _ _ _ _ _ _ _ c.on_pull.new.acts.items _ (calling_pull g.S.Stage.port_state g.S.Stage.law g.S.Stage.asking g.S.Stage.moves c.args.self.now c.tell.new.self _ _ c.args.w _ _ c.requires.laws c.requires.within c.requires.absent c.in-Pull.ensures.tells c.tell.ensures.after c.self.view_is c.index-ends.ensures c.self-in-Pull.view_is c.index_mut-in-Pull.ensures.value) c.in_ok-on_pull-in-Pull.ensures.handles c.in_ok-on_pull-in-Pull.ensures.pulls c.in_ok-on_pull-in-Pull.ensures.grows c.in_ok-on_pull-in-Pull.ensures.passive c.in_ok-on_pull-in-Pull.ensures.gone c.perform_after_pull.ensures.after c.perform_after_pull.ensures.passive).gone_is
-
-pub returns-in_ok-on_pull-in-Pull-clause-still : goal.returns-in_ok-on_pull-in-Pull-clause-still
-returns-in_ok-on_pull-in-Pull-clause-still g c = (answered g.S.Stage.port_state g.S.Stage.law g.S.Stage.asking g.S.Stage.moves g.S.Stage.gone g.S.Stage.passive _ _ _ _ _ _ _ _ _ _ c.on_pull.new.acts.items _ (calling_pull g.S.Stage.port_state g.S.Stage.law g.S.Stage.asking g.S.Stage.moves c.args.self.now c.tell.new.self _ _ c.args.w _ _ c.requires.laws c.requires.within c.requires.absent c.in-Pull.ensures.tells c.tell.ensures.after c.self.view_is c.index-ends.ensures c.self-in-Pull.view_is c.index_mut-in-Pull.ensures.value) c.in_ok-on_pull-in-Pull.ensures.handles c.in_ok-on_pull-in-Pull.ensures.pulls c.in_ok-on_pull-in-Pull.ensures.grows c.in_ok-on_pull-in-Pull.ensures.passive c.in_ok-on_pull-in-Pull.ensures.gone c.perform_after_pull.ensures.after c.perform_after_pull.ensures.passive).still
-
-pub returns-in_ok-on_pull-in-Pull-clause-untouched : goal.returns-in_ok-on_pull-in-Pull-clause-untouched
-returns-in_ok-on_pull-in-Pull-clause-untouched g c = (answered g.S.Stage.port_state g.S.Stage.law g.S.Stage.asking g.S.Stage.moves g.S.Stage.gone g.S.Stage.passive _ _ _ _ _ _ _ _ _ _ c.on_pull.new.acts.items _ (calling_pull g.S.Stage.port_state g.S.Stage.law g.S.Stage.asking g.S.Stage.moves c.args.self.now c.tell.new.self _ _ c.args.w _ _ c.requires.laws c.requires.within c.requires.absent c.in-Pull.ensures.tells c.tell.ensures.after c.self.view_is c.index-ends.ensures c.self-in-Pull.view_is c.index_mut-in-Pull.ensures.value) c.in_ok-on_pull-in-Pull.ensures.handles c.in_ok-on_pull-in-Pull.ensures.pulls c.in_ok-on_pull-in-Pull.ensures.grows c.in_ok-on_pull-in-Pull.ensures.passive c.in_ok-on_pull-in-Pull.ensures.gone c.perform_after_pull.ensures.after c.perform_after_pull.ensures.passive).untouched
+pub returns-in_ok-on_pull-in-Pull-clause-answered : goal.returns-in_ok-on_pull-in-Pull-clause-answered
+returns-in_ok-on_pull-in-Pull-clause-answered g c = answered g.S.Stage.port_state g.S.Stage.law g.S.Stage.asking g.S.Stage.moves g.S.Stage.gone g.S.Stage.passive _ _ _ _ _ _ _ _ _ _ c.on_pull.new.acts.items _ (calling_pull g.S.Stage.port_state g.S.Stage.law g.S.Stage.asking g.S.Stage.moves c.args.self.now c.tell.new.self _ _ c.args.w _ _ c.requires.laws c.requires.within c.requires.absent c.in-Pull.ensures.tells c.tell.ensures.after c.self.view_is c.index-ends.ensures c.self-in-Pull.view_is c.index_mut-in-Pull.ensures.value) c.in_ok-on_pull-in-Pull.ensures.handles c.in_ok-on_pull-in-Pull.ensures.pulls c.in_ok-on_pull-in-Pull.ensures.grows c.in_ok-on_pull-in-Pull.ensures.passive c.in_ok-on_pull-in-Pull.ensures.gone c.perform_after_pull.ensures.after c.perform_after_pull.ensures.passive

@@ -2,19 +2,11 @@
 use Rattle.std.proofs.Common.{arith}
 use Rattle.std.proofs.lemmas.List.{length-set}
 use Rattle.fused_net.proofs.Keeping.{on_err}
-use Rattle.fused_net.proofs.Going.{handled_nothing}
-use Rattle.fused_net.proofs.Handling.{closing_within, calling_closing, call_meets, call_fits, call_busy, call_few, call_still, call_kept, answered}
-use Rattle.fused_net.proofs.Still.{still_told}
+use Rattle.fused_net.proofs.Handling.{closing_within, calling_closing, call_meets, call_fits, call_busy, call_few, call_still, call_kept, answered, answered_nothing}
 use Rattle.fused_net.proofs.engine.Engine.handle_closing.Goals as goal
 
-pub returns-in_default-clause-laws : goal.returns-in_default-clause-laws
-returns-in_default-clause-laws g c = (handled_nothing g.S.Stage.port_state g.S.Stage.law g.S.Stage.asking g.S.Stage.moves _ _ _ c.requires.laws c.requires.within c.requires.absent c.in_default.ensures.none c.deliver.ensures.after).laws
-
-pub returns-in_default-clause-uses : goal.returns-in_default-clause-uses
-returns-in_default-clause-uses g c = (handled_nothing g.S.Stage.port_state g.S.Stage.law g.S.Stage.asking g.S.Stage.moves _ _ _ c.requires.laws c.requires.within c.requires.absent c.in_default.ensures.none c.deliver.ensures.after).uses
-
-pub returns-in_default-clause-still : goal.returns-in_default-clause-still
-returns-in_default-clause-still g c = still_told g.S.Stage.passive _ _ c.args.w c.requires.within c.deliver.ensures.after
+pub returns-in_default-clause-answered : goal.returns-in_default-clause-answered
+returns-in_default-clause-answered g c = answered_nothing g.S.Stage.port_state g.S.Stage.law g.S.Stage.asking g.S.Stage.moves g.S.Stage.gone g.S.Stage.passive _ _ _ c.requires.laws c.requires.within c.requires.absent c.in_default.ensures.none c.deliver.ensures.after
 
 pub index_mut-requires : goal.index_mut-requires
 index_mut-requires g c = omega (arith, closing_within g.S.Stage.port_state g.S.Stage.law g.S.Stage.asking g.S.Stage.moves c.in-Some.event _ _ _ _ _ c.args.w _ _ c.requires.laws c.requires.within c.requires.after c.self.view_is c.index-ends.ensures c.deliver.ensures.after c.node_of-n.ensures c.self-2.view_is, c.self-2.inside.nodes.ok.0)
@@ -40,20 +32,5 @@ perform-requires-clause-few g c = call_few g.S.Stage.port_state g.S.Stage.law g.
 pub perform-requires-clause-still : goal.perform-requires-clause-still
 perform-requires-clause-still g c = call_still g.S.Stage.port_state g.S.Stage.law g.S.Stage.asking g.S.Stage.moves g.S.Stage.gone g.S.Stage.passive _ _ _ _ _ _ _ _ _ _ (calling_closing g.S.Stage.port_state g.S.Stage.law g.S.Stage.asking g.S.Stage.moves c.in-Some.event _ _ _ _ _ c.args.w _ _ _ c.requires.laws c.requires.within c.requires.absent c.requires.after c.self.view_is c.index-ends.ensures c.in-Some.ensures.some c.deliver.ensures.after c.node_of-n.ensures c.self-2.view_is c.index_mut.ensures.value) c.in_ok-call.ensures.passive
 
-pub returns-clause-laws : goal.returns-clause-laws
-returns-clause-laws g c = (answered g.S.Stage.port_state g.S.Stage.law g.S.Stage.asking g.S.Stage.moves g.S.Stage.gone g.S.Stage.passive _ _ _ _ _ _ _ _ _ _ c.call.new.acts.items _ (calling_closing g.S.Stage.port_state g.S.Stage.law g.S.Stage.asking g.S.Stage.moves c.in-Some.event _ _ _ _ _ c.args.w _ _ _ c.requires.laws c.requires.within c.requires.absent c.requires.after c.self.view_is c.index-ends.ensures c.in-Some.ensures.some c.deliver.ensures.after c.node_of-n.ensures c.self-2.view_is c.index_mut.ensures.value) c.in_ok-call.ensures.handles c.in_ok-call.ensures.pulls c.in_ok-call.ensures.grows c.in_ok-call.ensures.passive c.in_ok-call.ensures.gone c.perform.ensures.after c.perform.ensures.passive).laws
-
-pub returns-clause-on : goal.returns-clause-on
-returns-clause-on g c = (answered g.S.Stage.port_state g.S.Stage.law g.S.Stage.asking g.S.Stage.moves g.S.Stage.gone g.S.Stage.passive _ _ _ _ _ _ _ _ _ _ c.call.new.acts.items _ (calling_closing g.S.Stage.port_state g.S.Stage.law g.S.Stage.asking g.S.Stage.moves c.in-Some.event _ _ _ _ _ c.args.w _ _ _ c.requires.laws c.requires.within c.requires.absent c.requires.after c.self.view_is c.index-ends.ensures c.in-Some.ensures.some c.deliver.ensures.after c.node_of-n.ensures c.self-2.view_is c.index_mut.ensures.value) c.in_ok-call.ensures.handles c.in_ok-call.ensures.pulls c.in_ok-call.ensures.grows c.in_ok-call.ensures.passive c.in_ok-call.ensures.gone c.perform.ensures.after c.perform.ensures.passive).on
-
-pub returns-clause-uses : goal.returns-clause-uses
-returns-clause-uses g c = (answered g.S.Stage.port_state g.S.Stage.law g.S.Stage.asking g.S.Stage.moves g.S.Stage.gone g.S.Stage.passive _ _ _ _ _ _ _ _ _ _ c.call.new.acts.items _ (calling_closing g.S.Stage.port_state g.S.Stage.law g.S.Stage.asking g.S.Stage.moves c.in-Some.event _ _ _ _ _ c.args.w _ _ _ c.requires.laws c.requires.within c.requires.absent c.requires.after c.self.view_is c.index-ends.ensures c.in-Some.ensures.some c.deliver.ensures.after c.node_of-n.ensures c.self-2.view_is c.index_mut.ensures.value) c.in_ok-call.ensures.handles c.in_ok-call.ensures.pulls c.in_ok-call.ensures.grows c.in_ok-call.ensures.passive c.in_ok-call.ensures.gone c.perform.ensures.after c.perform.ensures.passive).uses
-
-pub returns-clause-gone : goal.returns-clause-gone
-returns-clause-gone g c = (answered g.S.Stage.port_state g.S.Stage.law g.S.Stage.asking g.S.Stage.moves g.S.Stage.gone g.S.Stage.passive _ _ _ _ _ _ _ _ _ _ c.call.new.acts.items _ (calling_closing g.S.Stage.port_state g.S.Stage.law g.S.Stage.asking g.S.Stage.moves c.in-Some.event _ _ _ _ _ c.args.w _ _ _ c.requires.laws c.requires.within c.requires.absent c.requires.after c.self.view_is c.index-ends.ensures c.in-Some.ensures.some c.deliver.ensures.after c.node_of-n.ensures c.self-2.view_is c.index_mut.ensures.value) c.in_ok-call.ensures.handles c.in_ok-call.ensures.pulls c.in_ok-call.ensures.grows c.in_ok-call.ensures.passive c.in_ok-call.ensures.gone c.perform.ensures.after c.perform.ensures.passive).gone_is
-
-pub returns-clause-still : goal.returns-clause-still
-returns-clause-still g c = (answered g.S.Stage.port_state g.S.Stage.law g.S.Stage.asking g.S.Stage.moves g.S.Stage.gone g.S.Stage.passive _ _ _ _ _ _ _ _ _ _ c.call.new.acts.items _ (calling_closing g.S.Stage.port_state g.S.Stage.law g.S.Stage.asking g.S.Stage.moves c.in-Some.event _ _ _ _ _ c.args.w _ _ _ c.requires.laws c.requires.within c.requires.absent c.requires.after c.self.view_is c.index-ends.ensures c.in-Some.ensures.some c.deliver.ensures.after c.node_of-n.ensures c.self-2.view_is c.index_mut.ensures.value) c.in_ok-call.ensures.handles c.in_ok-call.ensures.pulls c.in_ok-call.ensures.grows c.in_ok-call.ensures.passive c.in_ok-call.ensures.gone c.perform.ensures.after c.perform.ensures.passive).still
-
-pub returns-clause-untouched : goal.returns-clause-untouched
-returns-clause-untouched g c = (answered g.S.Stage.port_state g.S.Stage.law g.S.Stage.asking g.S.Stage.moves g.S.Stage.gone g.S.Stage.passive _ _ _ _ _ _ _ _ _ _ c.call.new.acts.items _ (calling_closing g.S.Stage.port_state g.S.Stage.law g.S.Stage.asking g.S.Stage.moves c.in-Some.event _ _ _ _ _ c.args.w _ _ _ c.requires.laws c.requires.within c.requires.absent c.requires.after c.self.view_is c.index-ends.ensures c.in-Some.ensures.some c.deliver.ensures.after c.node_of-n.ensures c.self-2.view_is c.index_mut.ensures.value) c.in_ok-call.ensures.handles c.in_ok-call.ensures.pulls c.in_ok-call.ensures.grows c.in_ok-call.ensures.passive c.in_ok-call.ensures.gone c.perform.ensures.after c.perform.ensures.passive).untouched
+pub returns-clause-answered : goal.returns-clause-answered
+returns-clause-answered g c = answered g.S.Stage.port_state g.S.Stage.law g.S.Stage.asking g.S.Stage.moves g.S.Stage.gone g.S.Stage.passive _ _ _ _ _ _ _ _ _ _ c.call.new.acts.items _ (calling_closing g.S.Stage.port_state g.S.Stage.law g.S.Stage.asking g.S.Stage.moves c.in-Some.event _ _ _ _ _ c.args.w _ _ _ c.requires.laws c.requires.within c.requires.absent c.requires.after c.self.view_is c.index-ends.ensures c.in-Some.ensures.some c.deliver.ensures.after c.node_of-n.ensures c.self-2.view_is c.index_mut.ensures.value) c.in_ok-call.ensures.handles c.in_ok-call.ensures.pulls c.in_ok-call.ensures.grows c.in_ok-call.ensures.passive c.in_ok-call.ensures.gone c.perform.ensures.after c.perform.ensures.passive

@@ -14,8 +14,9 @@ blueprint:
 quick:
 	@tools/quick
 
-# A first look, in three minutes and without any proof: the reports, and every file that the sinks wrote. `make example` runs examples/log,
-# `make example NAME=split` another of examples/, `make example FROM=../logs` every blueprint of a folder, with NAME=sum its sum.blue alone.
+# A first look, without any proof: each blueprint, its inputs, its report and every file that its sinks wrote, by out/quick/streams, which
+# the first call builds. `make example` runs examples/log, `make example NAME=split` another of examples/, `make example FROM=../logs` every
+# blueprint of a folder over copies of its files, with NAME=sum its sum.blue alone.
 NAME =
 FROM =
 
@@ -66,7 +67,7 @@ listed:
 
 help:
 	@echo "make quick                          builds out/quick/streams and out/quick/blueprint without any proof, in some three minutes"
-	@echo "make example                        a first look, in three minutes, nothing proved: the report of examples/log, and the files that it wrote"
+	@echo "make example                        a first look, nothing proved: examples/log, its input, its report and the files that it wrote"
 	@echo "make example NAME=split             another of examples/"
 	@echo "make example FROM=../logs           every blueprint of a folder, over copies of its files; with NAME=sum its sum.blue alone"
 	@echo "make                                proves and builds ./streams"

@@ -1,0 +1,2 @@
+" Files that end with .blue are blueprints of streams.
+autocmd BufRead,BufNewFile *.blue setfiletype blue

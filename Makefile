@@ -1,6 +1,6 @@
 # `make help` lists the words. Nothing is needed but the Rattle kit, whose command is `rt`.
 
-.PHONY: build blueprint quick example proved picture test listed cases definitions help
+.PHONY: build blueprint quick example proved picture install uninstall test listed cases definitions help
 
 # Proves and builds ./streams. Both programs are built from the lowest crate up; what is proved is kept for `make test` too, where the kit does so.
 build:
@@ -43,6 +43,15 @@ picture:
 	./blueprint draw "$(FILE)" > picture.dot || test $$? -eq 2
 	dot -Tsvg -o picture.svg picture.dot
 
+# Installs ./streams and ./blueprint with their man pages, completions, colours for editors, examples, and the HTML book if it was made:
+# `make install PREFIX=~/.local`. UNPROVED=1 takes the programs of `make quick`. docs/INSTALL.md says what goes where.
+PREFIX = /usr/local
+DESTDIR =
+UNPROVED =
+
+install uninstall:
+	@PREFIX="$(PREFIX)" DESTDIR="$(DESTDIR)" UNPROVED="$(UNPROVED)" tools/install $@
+
 # The merge gate. The pages are compared first too, which takes a second; a line is printed for each step.
 # How long a first run took; README.md says so too.
 FIRST_RUN = some 180 processor minutes, so about an hour, on four free processors; nearly twice that on a slower machine beside other work
@@ -74,6 +83,7 @@ help:
 	@echo "make proved NAME=split              that, and runs an example by it, beside what it is to leave"
 	@echo "make blueprint                      proves and builds ./blueprint, which checks, draws and explains blueprints"
 	@echo "make picture FILE=log.blue          draws a blueprint of this folder as picture.svg, by ./blueprint and dot"
+	@echo "make install PREFIX=~/.local        installs both programs, man pages, completions, colours for editors, and examples; make uninstall"
 	@echo "make test                           the gate: every proof, must-fail edit, test and program, and pages beside what they speak of"
 	@echo "make cases                          writes the cases of the pages anew; make listed compares them"
 	@echo "make definitions                    writes the rows of docs/DEFINITIONS.md anew, from the comments of specs/; make listed compares them"

@@ -52,6 +52,12 @@ UNPROVED =
 install uninstall:
 	@PREFIX="$(PREFIX)" DESTDIR="$(DESTDIR)" UNPROVED="$(UNPROVED)" tools/install $@
 
+# Makes out/page/index.html, a page that runs both programs in a browser, of what `make quick` builds. It opens as a file, and sends nothing
+# anywhere. page/try_cases and page/try_page try it in a headless Chromium, where one is installed.
+.PHONY: page
+page: quick
+	@page/make_page
+
 # The merge gate. The pages are compared first too, which takes a second; a line is printed for each step.
 # How long a first run took; README.md says so too.
 FIRST_RUN = some 180 processor minutes, so about an hour, on four free processors; nearly twice that on a slower machine beside other work
@@ -84,6 +90,7 @@ help:
 	@echo "make blueprint                      proves and builds ./blueprint, which checks, draws and explains blueprints"
 	@echo "make picture FILE=log.blue          draws a blueprint of this folder as picture.svg, by ./blueprint and dot"
 	@echo "make install PREFIX=~/.local        installs both programs, man pages, completions, colours for editors, and examples; make uninstall"
+	@echo "make page                           makes out/page/index.html, a page that runs both programs in a browser, not proved"
 	@echo "make test                           the gate: every proof, must-fail edit, test and program, and pages beside what they speak of"
 	@echo "make cases                          writes the cases of the pages anew; make listed compares them"
 	@echo "make definitions                    writes the rows of docs/DEFINITIONS.md anew, from the comments of specs/; make listed compares them"

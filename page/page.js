@@ -1,0 +1,434 @@
+"use strict";
+// The page: it runs `blueprint` and `streams` over the text and the files that stand in it.
+
+const find = (id) => document.getElementById(id);
+const BLUEPRINT = "main.blue", TRACE = "trace.txt", MOVES = "moves.txt";
+const MOST_TURNS = 4000000000;
+// A run that took longer is counted unit by unit only where that is asked for: it runs some sixty times then.
+const QUICK = 400;
+const AFTER_TYPING = 250;
+
+let streams, workbench, editor, inputs;
+let drawing = ""; // what `blueprint draw` said last
+let isRunning = false;
+let session = 0; // rises with each run, so that what belongs to an older one is dropped
+let shown = null; // the last run: { units, turnsWords, files }
+let wantedUnit = null; // the unit that the slider asks for, while another is being shown
+let typing = 0;
+
+const say = (text) => { find("status").textContent = text; };
+function notice(text) {
+  find("notice").textContent = text;
+  find("notice").hidden = text === "";
+}
+
+// ---- What is run
+
+const blueprintFile = () => ({ [BLUEPRINT]: new TextEncoder().encode(editor.text) });
+
+/** The files of a run, and the words behind the program's name, all but `--turns`. */
+function asked() {
+  const files = { ...inputs.contents, ...blueprintFile() }, words = [BLUEPRINT];
+  if (find("trace").checked) words.push("--trace", TRACE);
+  if (find("replay").checked) {
+    words.push("--replay", MOVES);
+    files[MOVES] = new TextEncoder().encode(find("moves").value);
+  }
+  return { files, words };
+}
+
+function turnsWords() {
+  const turns = find("turns").value.trim();
+  return turns === "" ? [] : ["--turns", turns];
+}
+
+const reservedNames = () => [BLUEPRINT, ...(find("trace").checked ? [TRACE] : []), ...(find("replay").checked ? [MOVES] : [])];
+
+// ---- What the blueprint is: checked and drawn as it is typed
+
+async function look() {
+  clearTimeout(typing);
+  const text = editor.text;
+  try {
+    const checked = await workbench.run(["check", BLUEPRINT], blueprintFile());
+    const drawn = await workbench.run(["draw", BLUEPRINT], blueprintFile());
+    if (text !== editor.text) return;
+    showFault(checked);
+    const dot = textShown(drawn.output);
+    drawing = dot.startsWith("digraph") ? dot : "";
+    showPicture(null);
+  } catch (error) {
+    if (!(error instanceof Stopped)) notice(`The blueprint could not be looked at: ${error.message}`);
+  }
+}
+
+/** Shows what `blueprint check` said: the rule, the line, and the cure. */
+function showFault(checked) {
+  const told = checked.fault ? wordsOfFault(checked.fault) : textShown(checked.errors).trimEnd();
+  const line = Number((told.match(/^line (\d+)/m) ?? [])[1] ?? 0);
+  const isFit = checked.code === 0;
+  find("fault").className = isFit ? "dim" : "bad";
+  find("fault").textContent = isFit ? "✓ No fault: this blueprint can be run." : told;
+  find("go").hidden = isFit || line === 0;
+  find("go").textContent = `Go to line ${line}`;
+  find("go").onclick = () => editor.goTo(line);
+  editor.show(isFit ? 0 : line);
+}
+
+function changed() {
+  clearTimeout(typing);
+  typing = setTimeout(look, AFTER_TYPING);
+  forgetRun();
+}
+
+/** What was shown of a run is not that of the text that stands there now. */
+function forgetRun() {
+  session++;
+  shown = null;
+  find("stepper").hidden = find("count").hidden = true;
+  find("legend").textContent = "";
+  document.body.classList.add("old");
+}
+
+// ---- The picture
+
+function showPicture(run) {
+  const place = find("picture");
+  try {
+    if (drawing === "") throw new Error("There is no picture: the text is no blueprint yet. The fault stands below it.");
+    const made = pictureOf(drawing, run);
+    place.replaceChildren(made.picture);
+    fillTable(find("table"), made.drawing);
+  } catch (error) {
+    place.replaceChildren(element("p", { className: "dim", textContent: error.message }));
+    find("table").replaceChildren();
+  }
+  const hasCounts = run?.wires.length > 0;
+  find("legend").textContent = hasCounts ? "At each wire: how many elements it carried. ◂ more is asked for; ▪ shut; dashed with a box: a lane and its size." : "";
+}
+
+// ---- A run
+
+async function run() {
+  if (isRunning) return;
+  if (inputs.fault) return say(`Nothing was run. ${inputs.fault}`);
+  const mine = ++session;
+  setRunning(true);
+  notice("");
+  say("Running.");
+  try {
+    await look();
+    const { files, words } = asked();
+    const end = await streams.run([...words, ...turnsWords()], files);
+    if (mine === session) await showEnd(end, mine);
+  } catch (error) {
+    if (mine === session) showFailure(error);
+  } finally {
+    setRunning(false);
+  }
+  if (mine === session && shown) await showUnits(mine);
+}
+
+function setRunning(is) {
+  isRunning = is;
+  find("stop").setAttribute("aria-disabled", String(!is));
+  find("run").setAttribute("aria-disabled", String(is));
+}
+
+function stop() {
+  if (!isRunning) return;
+  session++;
+  clearResults();
+  streams.stop();
+  say("Stopped. The run left no report and no file.");
+  find("run").focus();
+}
+
+function showFailure(error) {
+  clearResults();
+  const words = error instanceof Stopped ? "Stopped." : wordsOfFault(error.message);
+  say(words);
+  if (!(error instanceof Stopped)) find("report").textContent = `${words}\n(${error.message})`;
+}
+
+function clearResults() {
+  for (const id of ["report", "words", "errors", "outputs", "code", "legend"]) find(id).textContent = "";
+  find("errors_part").hidden = find("stepper").hidden = find("count").hidden = true;
+  shown = null;
+}
+
+async function showEnd(end, mine) {
+  clearResults();
+  document.body.classList.remove("old");
+  if (end.fault) return showFailure(new Error(end.fault));
+  const report = textShown(end.output), limits = wordsOfLimits(end);
+  find("report").textContent = report;
+  find("code").textContent = `(exit code ${end.code})`;
+  const explained = await workbench.run(["explain", BLUEPRINT], blueprintFile(), end.output);
+  if (mine !== session) return;
+  find("words").replaceChildren(...[limits, textShown(explained.output)].filter(Boolean).map((text) => element("p", { textContent: text.trimEnd() })));
+  showErrors(end.errors);
+  showWritten(end.files);
+  showPicture(runOfReport(report));
+  say(`The run has ended: ${report.split("\n")[0]}, exit code ${end.code}; ${end.milliseconds.toFixed(1)} ms, ${sizeInWords(end.memory)}.`);
+  const canStep = [0, 3, 4, OUT_OF_TURNS].includes(end.code) && /^sink /m.test(report);
+  shown = canStep ? { ...asked(), turns: turnsWords(), end, report } : null;
+}
+
+function showErrors(errors) {
+  find("errors").textContent = textShown(errors);
+  find("errors_part").hidden = errors.length === 0;
+}
+
+function showWritten(files) {
+  const names = Object.keys(files);
+  find("outputs").replaceChildren(...names.map((name) => writtenFile(name, files[name])));
+  if (!names.length) find("outputs").append(element("p", { className: "dim", textContent: "None." }));
+  const trace = find("outputs").querySelector(`[data-name="${TRACE}"] .head`);
+  if (!trace || !find("trace").checked) return;
+  const use = element("button", { type: "button", textContent: "Use as choices" });
+  use.addEventListener("click", () => {
+    find("moves").value = textShown(files[TRACE]);
+    find("replay").checked = true;
+    optionsChanged();
+    find("moves").focus();
+  });
+  trace.append(use);
+}
+
+// ---- A run unit by unit
+
+/** Runs what is shown with at most this many units. */
+const runTo = (units) => streams.run([...shown.words.filter((word, i, all) => word !== "--trace" && all[i - 1] !== "--trace"), "--turns", String(units)], shown.files);
+
+/** Finds how many units the run uses: the least number with which it does not end early. */
+async function leastUnits(mine) {
+  const endsEarly = async (units) => (await runTo(units)).code === OUT_OF_TURNS;
+  let few = 0, enough = 1;
+  while (enough < MOST_TURNS && (await endsEarly(enough))) {
+    few = enough;
+    enough = Math.min(2 * enough, MOST_TURNS);
+    if (mine !== session) return 0;
+  }
+  while (enough - few > 1) {
+    const middle = Math.floor((few + enough) / 2);
+    if (await endsEarly(middle)) few = middle;
+    else enough = middle;
+    if (mine !== session) return 0;
+  }
+  return enough;
+}
+
+async function showUnits(mine, isAskedFor = false) {
+  if (shown.end.milliseconds > QUICK && !isAskedFor) {
+    find("count").hidden = false;
+    return;
+  }
+  find("count").hidden = true;
+  const outOf = shown.report.match(/^out of turns (\d+)/);
+  find("at").textContent = "";
+  try {
+    const units = outOf ? Number(outOf[1]) : await leastUnits(mine);
+    if (mine !== session || units === 0) return;
+    shown.units = units;
+    Object.assign(find("unit"), { min: 0, max: units, value: units });
+    find("stepper").hidden = false;
+    await step();
+  } catch (error) {
+    if (mine === session && !(error instanceof Stopped)) say(`The run cannot be shown unit by unit. ${wordsOfFault(error.message)}`);
+  }
+}
+
+async function countUnits() {
+  const mine = session;
+  setRunning(true);
+  say("Counting the units of the run.");
+  try {
+    await showUnits(mine, true);
+  } finally {
+    setRunning(false);
+  }
+  if (mine === session) say(shown.units ? `The run uses ${shown.units} units.` : "The units were not counted.");
+}
+
+/** Shows the unit that the slider is at. While one is being run, only the last that was asked for is kept. */
+async function step() {
+  const isBusy = wantedUnit !== null;
+  wantedUnit = Number(find("unit").value);
+  if (isBusy) return;
+  try {
+    for (let unit = -1; shown?.units && unit !== wantedUnit;) {
+      unit = wantedUnit;
+      await showUnit(unit, session);
+    }
+  } finally {
+    wantedUnit = null;
+  }
+}
+
+async function showUnit(unit, mine) {
+  const { units, report } = shown, isEnd = unit === units;
+  // A report tells of wires only where the run has not ended: behind the last unit the counts are those of the unit before.
+  const hasWires = /^wire /m.test(report);
+  const counted = isEnd && hasWires ? report : unit === 0 || (isEnd && units === 1) ? "" : textShown((await runTo(isEnd ? unit - 1 : unit)).output);
+  if (mine !== session) return;
+  const seen = runOfReport(counted);
+  if (isEnd) seen.sinks = runOfReport(report).sinks;
+  showPicture(seen);
+  const end = isEnd ? `: ${report.split("\n")[0]}` : "";
+  const before = isEnd && !hasWires && counted ? `; the counts are those after unit ${unit - 1}` : "";
+  find("at").textContent = `After ${unit} of ${units} units${end}${before}`;
+  find("unit").setAttribute("aria-valuetext", find("at").textContent);
+}
+
+function moveTo(unit) {
+  find("unit").value = unit;
+  step();
+}
+
+// ---- Examples and links
+
+/** Puts a state into the page: { blueprint, files, turns, moves, trace }. */
+async function open(state) {
+  forgetRun();
+  if (isRunning) stop();
+  notice("");
+  inputs.clear();
+  for (const [name, bytes] of Object.entries(state.files)) inputs.add(name, bytes);
+  find("turns").value = state.turns ?? "";
+  find("trace").checked = state.trace === true;
+  find("replay").checked = typeof state.moves === "string";
+  find("moves").value = state.moves ?? "";
+  optionsChanged();
+  editor.text = state.blueprint;
+  clearResults();
+  await look();
+}
+
+async function openExample(number) {
+  const example = EXAMPLES[number], files = {};
+  for (const [name, base64] of Object.entries(example.files)) files[name] = fromBase64(base64);
+  find("example").value = number;
+  await open({ blueprint: example.blueprint, files });
+  if (example.isRun) await run();
+  else say("Run starts this example, and Stop ends it.");
+}
+
+/** Opens what the address says: a state, an example by its name, or the first example. */
+async function openAddress() {
+  const words = new URLSearchParams(location.hash.slice(1));
+  try {
+    const state = await stateOfFragment(location.hash);
+    if (state) {
+      find("example").value = "";
+      await open(state);
+      return say("The link is open. Nothing was run yet.");
+    }
+  } catch (error) {
+    await openExample(0);
+    return notice(`The link is damaged: ${error.message}. The first example stands here instead.`);
+  }
+  const named = EXAMPLES.findIndex((it) => it.name === words.get("example"));
+  if (words.has("example") && named < 0) notice(`There is no example ${words.get("example")}.`);
+  await openExample(Math.max(0, named));
+  if (words.has("unit") && shown?.units) moveTo(Number(words.get("unit")));
+}
+
+async function share() {
+  const state = { blueprint: editor.text, files: inputs.contents, turns: find("turns").value.trim(), trace: find("trace").checked, moves: find("replay").checked ? find("moves").value : undefined };
+  const fragment = await fragmentOf(state);
+  find("link").hidden = false;
+  if (fragment.length > MOST_LINK) {
+    find("address").value = "";
+    find("linked").textContent = `The text and the files are too large for a link: it would have ${fragment.length} characters, and ${MOST_LINK} is the most that each browser takes.`;
+    return;
+  }
+  find("address").value = location.href.replace(/#.*/, "") + fragment;
+  find("linked").textContent = "The link holds the blueprint, the files and the options, all behind its #. A browser sends that part to nobody.";
+  find("address").focus();
+  find("address").select();
+}
+
+async function copy() {
+  find("address").select();
+  try {
+    await navigator.clipboard.writeText(find("address").value);
+    find("linked").textContent = "The link was copied.";
+  } catch {
+    find("linked").textContent = "This browser does not let the page copy. The link is selected: Ctrl+C copies it.";
+    find("address").focus();
+  }
+}
+
+// ---- The beginning
+
+function optionsChanged() {
+  find("moves").hidden = !find("replay").checked;
+  inputs.changed();
+}
+
+async function upload() {
+  for (const file of find("upload").files) inputs.put(file.name, new Uint8Array(await file.arrayBuffer()));
+  find("upload").value = "";
+}
+
+/** Says what this browser lacks, in words; an empty text where nothing is. */
+function lackOfBrowser() {
+  // A module with a memory and a table of 64 bits.
+  const module = new Uint8Array([0, 97, 115, 109, 1, 0, 0, 0, 4, 4, 1, 112, 4, 1, 5, 3, 1, 4, 1]);
+  const lacks = [];
+  if (typeof WebAssembly !== "object" || !WebAssembly.validate(module)) lacks.push("WebAssembly with 64-bit memory (memory64)");
+  if (typeof Worker !== "function") lacks.push("workers");
+  if (typeof DecompressionStream !== "function") lacks.push("DecompressionStream");
+  return lacks.length ? `This browser cannot run the programs: it lacks ${lacks.join(" and ")}. A current Chromium, Chrome or Edge has all of it.` : "";
+}
+
+function listen() {
+  find("run").addEventListener("click", run);
+  find("stop").addEventListener("click", stop);
+  find("share").addEventListener("click", share);
+  find("copy").addEventListener("click", copy);
+  find("count").addEventListener("click", countUnits);
+  find("example").addEventListener("change", () => openExample(Number(find("example").value)));
+  find("add").addEventListener("click", () => inputs.add(inputs.freeName(), new Uint8Array()).nameField.focus());
+  find("upload").addEventListener("change", upload);
+  for (const id of ["trace", "replay", "turns", "moves"]) find(id).addEventListener("input", optionsChanged);
+  find("unit").addEventListener("input", step);
+  find("first").addEventListener("click", () => moveTo(0));
+  find("back").addEventListener("click", () => moveTo(Number(find("unit").value) - 1));
+  find("on").addEventListener("click", () => moveTo(Number(find("unit").value) + 1));
+  find("last").addEventListener("click", () => moveTo(Number(find("unit").max)));
+  find("blueprint").addEventListener("input", () => {
+    editor.show(0);
+    changed();
+  });
+  addEventListener("keydown", (event) => {
+    if ((event.ctrlKey || event.metaKey) && event.key === "Enter") run();
+  });
+  addEventListener("hashchange", () => {
+    if (/^#(page|example)=/.test(location.hash)) openAddress();
+  });
+}
+
+async function begin() {
+  addEventListener("error", (event) => notice(`The page has a fault: ${event.message}`));
+  addEventListener("unhandledrejection", (event) => notice(`The page has a fault: ${event.reason?.message ?? event.reason}`));
+  find("made").textContent = MADE_OF;
+  editor = new Editor(find("blueprint"), find("colours"), find("numbers"));
+  inputs = new InputFiles(find("inputs"), reservedNames, changed);
+  for (const [i, example] of EXAMPLES.entries()) find("example").append(new Option(example.title, i));
+  const lack = lackOfBrowser();
+  if (lack) {
+    notice(lack);
+    say("Nothing can be run here.");
+    return;
+  }
+  const [streamsBytes, workbenchBytes] = await Promise.all([unpack(PROGRAMS.streams), unpack(PROGRAMS.blueprint)]);
+  workbench = new Program("blueprint", workbenchBytes);
+  streams = new Program("streams", streamsBytes);
+  listen();
+  await openAddress();
+  document.body.classList.add("ready");
+}
+
+addEventListener("DOMContentLoaded", begin);

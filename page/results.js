@@ -1,0 +1,78 @@
+"use strict";
+// What comes of a run, as the page shows it: what a report says, files that were written, the picture as a table, and words for
+// runs that a page cannot hold.
+
+const OUT_OF_TURNS = 5, NO_MEMORY = 9, WRITE_FAULT = 8;
+const MOST_SHOWN = 20000;
+
+const textShown = (bytes) => new TextDecoder().decode(bytes);
+
+/** Returns what a report says of the wires and the sinks, as `pictureOf` takes it. */
+function runOfReport(report) {
+  const wires = [], sinks = {};
+  for (const [, number, sent, asked, shut] of report.matchAll(/^wire (\d+) sent (\d+) (\w+) (\w+)$/gm)) wires[number] = { sent: Number(sent), isAsked: asked === "asked", isShut: shut === "shut" };
+  for (const [, name, said] of report.matchAll(/^sink (\S+) (.*)$/gm)) sinks[name] = said;
+  return { wires, sinks };
+}
+
+/** Says in words what stopped a program that did not end by itself. */
+function wordsOfFault(fault) {
+  if (/stack/i.test(fault)) return "The run needed a deeper stack than a page has, and was ended.";
+  if (/memory|allocation|RangeError/i.test(fault)) return "The run wanted more memory than this page has, and was ended.";
+  return "The program stopped in the middle of the run, and left no report. This is a fault of this build or of this page.";
+}
+
+/** Says in words what a page has less of than a machine, where the run met it; else nothing. */
+function wordsOfLimits(end) {
+  if (end.code === NO_MEMORY) return "This page gives a run 1 GB of memory, and the run wanted more. The program that `make` builds has no such limit.";
+  if (end.code === WRITE_FAULT && end.isFull) return `This page keeps at most ${MOST_WRITTEN_WORDS} of what a run writes, and the run wrote more. The program that \`make\` builds has no such limit.`;
+  return "";
+}
+const MOST_WRITTEN_WORDS = "64 MB";
+
+function element(name, properties = {}, ...children) {
+  const made = Object.assign(document.createElement(name), properties);
+  made.append(...children);
+  return made;
+}
+
+/** Returns a file that was written: its name, its size, a link that saves it, and its first part. */
+function writtenFile(name, bytes) {
+  const text = textShown(bytes.subarray(0, MOST_SHOWN));
+  const save = element("button", { type: "button", textContent: "Save" });
+  save.setAttribute("aria-label", `Save ${name}`);
+  save.addEventListener("click", () => saveFile(name, bytes));
+  const size = sizeInWords(bytes.length) + (bytes.length > MOST_SHOWN ? `; the first ${sizeInWords(MOST_SHOWN)} are shown` : "");
+  const contents = element("pre", { textContent: text, tabIndex: 0 });
+  contents.setAttribute("role", "region");
+  contents.setAttribute("aria-label", `Contents of ${name}`);
+  const file = element("div", { className: "file" }, element("div", { className: "head" }, element("b", { textContent: name }), save, element("span", { className: "dim", textContent: size })), contents);
+  file.dataset.name = name;
+  return file;
+}
+
+function saveFile(name, bytes) {
+  const address = URL.createObjectURL(new Blob([bytes]));
+  element("a", { href: address, download: name }).click();
+  setTimeout(() => URL.revokeObjectURL(address), 10000);
+}
+
+/** Fills a table with the nodes and the wires of a picture. */
+function fillTable(table, { nodes, wires }) {
+  const row = (cell, texts) => element("tr", {}, ...texts.map((text) => element(cell, { textContent: text })));
+  const nodeRows = nodes.map((node) => row("td", [node.name, ROLE_WORDS[node.role], node.rows.map((it) => it.text).join(" ")]));
+  const wireRows = wires.map((wire, i) => {
+    const count = wire.count;
+    const state = count ? stateOf(count).words : "";
+    return row("td", [i, `${wire.from}${wire.output && ` (${wire.output})`}`, `${wire.to}${wire.input && ` (${wire.input})`}`, wire.type, wire.lane, count ? count.sent : "", state, wire.rule ?? ""]);
+  });
+  table.replaceChildren(
+    element("tbody", {}, row("th", ["Node", "Role", "What it does"]), ...nodeRows),
+    element("tbody", {}, row("th", ["Wire", "From (output)", "To (input)", "Type", "Lane", "Sent", "State", "Rule"]), ...wireRows),
+  );
+}
+
+const ROLE_WORDS = {
+  source: "source", sink: "sink", stage: "stage", fan: "several inputs or outputs", hub: "hub", holds: "holds elements",
+  substreams: "substreams", stop: "kill switch", handed: "handed in",
+};

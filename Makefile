@@ -1,6 +1,6 @@
 # `make help` lists the words. Nothing is needed but the Rattle kit, whose command is `rt`.
 
-.PHONY: build blueprint quick example proved picture install uninstall test listed cases definitions help
+.PHONY: build blueprint quick example proved picture install uninstall page book test listed cases definitions help
 
 # Proves and builds ./streams. Both programs are built from the lowest crate up; what is proved is kept for `make test` too, where the kit does so.
 build:
@@ -40,7 +40,7 @@ picture:
 	@test -n "$(FILE)" || { echo "make picture FILE=.."; exit 1; }
 	@test -f "$(FILE)" || { echo "There is no file $(FILE)."; exit 1; }
 	@$(MAKE) --no-print-directory blueprint
-	./blueprint draw "$(FILE)" > picture.dot || test $$? -eq 2
+	./blueprint draw "$(FILE)" > picture.dot < /dev/null || test $$? -eq 2
 	dot -Tsvg -o picture.svg picture.dot
 
 # Installs ./streams and ./blueprint with their man pages, completions, colours for editors, examples, and the HTML book if it was made:
@@ -54,9 +54,13 @@ install uninstall:
 
 # Makes out/page/index.html, a page that runs both programs in a browser, of what `make quick` builds. It opens as a file, and sends nothing
 # anywhere. page/try_cases and page/try_page try it in a headless Chromium, where one is installed.
-.PHONY: page
 page: quick
 	@page/make_page
+
+# The user's book and the pages of reference as HTML, out/book/index.html, by pandoc. A blueprint there has its picture where there are `dot` and
+# a program blueprint (./blueprint, or out/quick/blueprint), and a link that opens it where there is out/page. Proves nothing.
+book:
+	@tools/make_book
 
 # The merge gate. The pages are compared first too, which takes a second; a line is printed for each step.
 # How long a first run took; README.md says so too.
@@ -91,6 +95,7 @@ help:
 	@echo "make picture FILE=log.blue          draws a blueprint of this folder as picture.svg, by ./blueprint and dot"
 	@echo "make install PREFIX=~/.local        installs both programs, man pages, completions, colours for editors, and examples; make uninstall"
 	@echo "make page                           makes out/page/index.html, a page that runs both programs in a browser, not proved"
+	@echo "make book                           writes the user's book as HTML, out/book/index.html, by pandoc, with pictures and search"
 	@echo "make test                           the gate: every proof, must-fail edit, test and program, and pages beside what they speak of"
 	@echo "make cases                          writes the cases of the pages anew; make listed compares them"
 	@echo "make definitions                    writes the rows of docs/DEFINITIONS.md anew, from the comments of specs/; make listed compares them"

@@ -4,9 +4,9 @@
 _streams_files() {
     local file
     COMPREPLY=()
-    for file in "$1"*"$2"; do
-        [[ -f $file && $file =~ ^[A-Za-z0-9][A-Za-z0-9._-]{0,63}$ ]] && COMPREPLY+=("$file")
-    done
+    while IFS= read -r file; do
+        [[ -f $file && $file == *"$2" && $file =~ ^[A-Za-z0-9][A-Za-z0-9._-]{0,63}$ ]] && COMPREPLY+=("$file")
+    done < <(compgen -f -- "$1")
 }
 
 # The options of streams that may follow the words $1, each with a space on both sides.

@@ -25,7 +25,7 @@ function part(name, text) {
 }
 
 /** Returns the parts of a line, each in its colour. */
-function colouredLine(line) {
+function colouredParts(line) {
   if (/^ *#/.test(line)) return [part("comment", line)];
   const words = [];
   return line.split(/( +)/).filter(Boolean).map((text) => {
@@ -36,9 +36,19 @@ function colouredLine(line) {
   });
 }
 
+/** Returns the element of a line, with its end. */
+function lineElement({ text, isFault, isColoured }) {
+  const parts = isColoured ? colouredParts(text) : [text];
+  const line = part(isFault ? "fault" : "", "");
+  line.append(...parts, "\n");
+  return line;
+}
+
+const areSame = (a, b) => a.text === b.text && a.isFault === b.isFault && a.isColoured === b.isColoured;
+
 class Editor {
   constructor(area, colours, numbers) {
-    Object.assign(this, { area, colours, numbers, faultLine: 0 });
+    Object.assign(this, { area, colours, numbers, faultLine: 0, lines: [] });
     area.addEventListener("scroll", () => this.follow());
   }
 
@@ -51,19 +61,27 @@ class Editor {
   /** Shows the colours, and marks line `faultLine`, counted from 1; 0 marks none. */
   show(faultLine = this.faultLine) {
     this.faultLine = faultLine;
-    const lines = this.text.split("\n");
-    const areColoured = this.text.length <= MOST_COLOURED;
-    this.colours.replaceChildren(...lines.flatMap((line, i) => {
-      const parts = areColoured ? colouredLine(line) : [line];
-      if (i + 1 !== faultLine) return [...parts, "\n"];
-      const marked = part("fault", "");
-      marked.append(...(line ? parts : [" "]));
-      return [marked, "\n"];
-    }));
+    const isColoured = this.text.length <= MOST_COLOURED;
+    const lines = this.text.split("\n").map((text, i) => ({ text, isFault: i + 1 === faultLine, isColoured }));
+    this.showLines(lines);
     const digits = String(lines.length).length;
-    this.numbers.textContent = lines.map((_, i) => (i + 1 === faultLine ? "✗" : " ") + String(i + 1).padStart(digits)).join("\n") + "\n";
+    this.numbers.textContent = lines.map((line, i) => (line.isFault ? "✗" : " ") + String(i + 1).padStart(digits)).join("\n") + "\n";
     this.area.setAttribute("aria-invalid", String(faultLine > 0));
     this.follow();
+  }
+
+  /** Makes only those lines anew that are others than before, so that typing stays quick in a long text. */
+  showLines(lines) {
+    const old = this.lines, least = Math.min(old.length, lines.length);
+    let before = 0, after = 0;
+    while (before < least && areSame(old[before], lines[before])) before++;
+    while (after < least - before && areSame(old[old.length - 1 - after], lines[lines.length - 1 - after])) after++;
+    const shown = [...this.colours.children];
+    for (const line of shown.slice(before, old.length - after)) line.remove();
+    const made = lines.slice(before, lines.length - after).map(lineElement);
+    if (before === 0) this.colours.prepend(...made);
+    else shown[before - 1].after(...made);
+    this.lines = lines;
   }
 
   /** Keeps the colours and the numbers where the text is. */

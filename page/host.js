@@ -6,7 +6,7 @@
 const NO_SUCH_FILE = 2, BAD_HANDLE = 9, TOO_LARGE = 27;
 // Flags of `open` on Linux.
 const CREATES = 0x40, EMPTIES = 0x200;
-// How many bytes a run may write into all files and streams together.
+// How many bytes a run may write into all its files together.
 const MOST_WRITTEN = 64 * 1024 * 1024;
 
 /** Thrown where the program ends by itself. */
@@ -91,13 +91,13 @@ class Folder {
   write(handle, from) {
     const open = this.handles.get(handle);
     if (!open) return -BAD_HANDLE;
-    const roomHere = handle > 2 ? this.roomOfFile - open.at : Infinity;
-    const length = Math.min(from.length, roomHere, MOST_WRITTEN - this.written);
+    const isStream = handle <= 2; // (a report that says that a file has no room has room itself)
+    const length = isStream ? from.length : Math.min(from.length, this.roomOfFile - open.at, MOST_WRITTEN - this.written);
     if (length < from.length) this.isFull = true;
     if (length <= 0 && from.length > 0) return -TOO_LARGE;
     open.file.put(from.subarray(0, length), open.at);
     open.at += length;
-    this.written += length;
+    if (!isStream) this.written += length;
     return length;
   }
 

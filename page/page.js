@@ -4,15 +4,15 @@
 const find = (id) => document.getElementById(id);
 const BLUEPRINT = "main.blue", TRACE = "trace.txt", MOVES = "moves.txt";
 const MOST_TURNS = 4000000000;
-// A run that took longer is counted unit by unit only where that is asked for: it runs some sixty times then.
-const QUICK = 400;
+// The units of a run are counted by running it some sixty times; where that takes longer, it is done only where it is asked for.
+const COUNTING = 2000;
 const AFTER_TYPING = 250;
 
 let streams, workbench, editor, inputs;
 let drawing = ""; // what `blueprint draw` said last
-let isRunning = false;
+let activity = null; // "run" or "count" while Stop has something to end
 let session = 0; // rises with each run, so that what belongs to an older one is dropped
-let shown = null; // the last run: { units, turnsWords, files }
+let shown = null; // the last run, where it can be shown unit by unit: { files, words, end, report, units }
 let wantedUnit = null; // the unit that the slider asks for, while another is being shown
 let typing = 0;
 
@@ -81,13 +81,13 @@ function changed() {
   forgetRun();
 }
 
-/** What was shown of a run is not that of the text that stands there now. */
+/** What is shown of a run is not that of the text that stands there now. */
 function forgetRun() {
   session++;
   shown = null;
   find("stepper").hidden = find("count").hidden = true;
   find("legend").textContent = "";
-  document.body.classList.add("old");
+  if (find("report").textContent && !activity) say("Something was changed since the last run.");
 }
 
 // ---- The picture
@@ -110,37 +110,44 @@ function showPicture(run) {
 // ---- A run
 
 async function run() {
-  if (isRunning) return;
+  if (activity) return;
   if (inputs.fault) return say(`Nothing was run. ${inputs.fault}`);
   const mine = ++session;
-  setRunning(true);
+  setActivity("run");
   notice("");
   say("Running.");
   try {
     await look();
-    const { files, words } = asked();
-    const end = await streams.run([...words, ...turnsWords()], files);
-    if (mine === session) await showEnd(end, mine);
+    if (mine === session) await runNow(mine);
+    if (mine !== session) say("Something was changed while it ran. Run shows what it does now.");
   } catch (error) {
     if (mine === session) showFailure(error);
   } finally {
-    setRunning(false);
+    setActivity(null);
   }
-  if (mine === session && shown) await showUnits(mine);
+  if (mine === session && shown) await showUnits(mine, COUNTING);
 }
 
-function setRunning(is) {
-  isRunning = is;
-  find("stop").setAttribute("aria-disabled", String(!is));
-  find("run").setAttribute("aria-disabled", String(is));
+async function runNow(mine) {
+  const { files, words } = asked();
+  const end = await streams.run([...words, ...turnsWords()], files);
+  if (mine === session) await showEnd(end, mine);
+}
+
+function setActivity(what) {
+  activity = what;
+  find("stop").setAttribute("aria-disabled", String(!what));
+  find("run").setAttribute("aria-disabled", String(Boolean(what)));
 }
 
 function stop() {
-  if (!isRunning) return;
+  if (!activity) return;
   session++;
-  clearResults();
   streams.stop();
-  say("Stopped. The run left no report and no file.");
+  if (activity === "run") {
+    clearResults();
+    say("Stopped. The run left no report and no file.");
+  } else say("Stopped. The units were not counted.");
   find("run").focus();
 }
 
@@ -159,7 +166,6 @@ function clearResults() {
 
 async function showEnd(end, mine) {
   clearResults();
-  document.body.classList.remove("old");
   if (end.fault) return showFailure(new Error(end.fault));
   const report = textShown(end.output), limits = wordsOfLimits(end);
   find("report").textContent = report;
@@ -172,7 +178,7 @@ async function showEnd(end, mine) {
   showPicture(runOfReport(report));
   say(`The run has ended: ${report.split("\n")[0]}, exit code ${end.code}; ${end.milliseconds.toFixed(1)} ms, ${sizeInWords(end.memory)}.`);
   const canStep = [0, 3, 4, OUT_OF_TURNS].includes(end.code) && /^sink /m.test(report);
-  shown = canStep ? { ...asked(), turns: turnsWords(), end, report } : null;
+  shown = canStep ? { ...asked(), end, report } : null;
 }
 
 function showErrors(errors) {
@@ -198,39 +204,40 @@ function showWritten(files) {
 
 // ---- A run unit by unit
 
-/** Runs what is shown with at most this many units. */
-const runTo = (units) => streams.run([...shown.words.filter((word, i, all) => word !== "--trace" && all[i - 1] !== "--trace"), "--turns", String(units)], shown.files);
+/** Runs what `it`, a run that is shown, ran, with at most this many units. */
+const runTo = (it, units) => streams.run([...it.words, "--turns", String(units)], it.files);
 
-/** Finds how many units the run uses: the least number with which it does not end early. */
-async function leastUnits(mine) {
-  const endsEarly = async (units) => (await runTo(units)).code === OUT_OF_TURNS;
+/** Finds how many units a run uses: the least number with which it does not end early. Returns 0 where the time was up before. */
+async function leastUnits(it, mine, milliseconds) {
+  const until = performance.now() + milliseconds;
+  const isOver = () => mine !== session || performance.now() > until;
+  const endsEarly = async (units) => (await runTo(it, units)).code === OUT_OF_TURNS;
   let few = 0, enough = 1;
   while (enough < MOST_TURNS && (await endsEarly(enough))) {
     few = enough;
     enough = Math.min(2 * enough, MOST_TURNS);
-    if (mine !== session) return 0;
+    if (isOver()) return 0;
   }
   while (enough - few > 1) {
     const middle = Math.floor((few + enough) / 2);
     if (await endsEarly(middle)) few = middle;
     else enough = middle;
-    if (mine !== session) return 0;
+    if (isOver()) return 0;
   }
   return enough;
 }
 
-async function showUnits(mine, isAskedFor = false) {
-  if (shown.end.milliseconds > QUICK && !isAskedFor) {
-    find("count").hidden = false;
-    return;
-  }
+/** Shows the slider over the units of the run. Where counting them takes longer than so many milliseconds, a button asks for it. */
+async function showUnits(mine, milliseconds) {
+  const it = shown, outOf = it.report.match(/^out of turns (\d+)/);
   find("count").hidden = true;
-  const outOf = shown.report.match(/^out of turns (\d+)/);
   find("at").textContent = "";
   try {
-    const units = outOf ? Number(outOf[1]) : await leastUnits(mine);
-    if (mine !== session || units === 0) return;
-    shown.units = units;
+    const units = outOf ? Number(outOf[1]) : await leastUnits(it, mine, milliseconds);
+    if (mine !== session) return;
+    it.units = units;
+    find("count").hidden = units > 0;
+    if (units === 0) return;
     Object.assign(find("unit"), { min: 0, max: units, value: units });
     find("stepper").hidden = false;
     await step();
@@ -240,15 +247,16 @@ async function showUnits(mine, isAskedFor = false) {
 }
 
 async function countUnits() {
+  if (activity) return;
   const mine = session;
-  setRunning(true);
+  setActivity("count");
   say("Counting the units of the run.");
   try {
-    await showUnits(mine, true);
+    await showUnits(mine, Infinity);
   } finally {
-    setRunning(false);
+    setActivity(null);
   }
-  if (mine === session) say(shown.units ? `The run uses ${shown.units} units.` : "The units were not counted.");
+  if (mine === session && shown?.units) say(`The run uses ${shown.units} units.`);
 }
 
 /** Shows the unit that the slider is at. While one is being run, only the last that was asked for is kept. */
@@ -267,10 +275,10 @@ async function step() {
 }
 
 async function showUnit(unit, mine) {
-  const { units, report } = shown, isEnd = unit === units;
+  const it = shown, { units, report } = it, isEnd = unit === units;
   // A report tells of wires only where the run has not ended: behind the last unit the counts are those of the unit before.
   const hasWires = /^wire /m.test(report);
-  const counted = isEnd && hasWires ? report : unit === 0 || (isEnd && units === 1) ? "" : textShown((await runTo(isEnd ? unit - 1 : unit)).output);
+  const counted = isEnd && hasWires ? report : unit === 0 || (isEnd && units === 1) ? "" : textShown((await runTo(it, isEnd ? unit - 1 : unit)).output);
   if (mine !== session) return;
   const seen = runOfReport(counted);
   if (isEnd) seen.sinks = runOfReport(report).sinks;
@@ -290,8 +298,9 @@ function moveTo(unit) {
 
 /** Puts a state into the page: { blueprint, files, turns, moves, trace }. */
 async function open(state) {
+  clearResults();
   forgetRun();
-  if (isRunning) stop();
+  if (activity) stop();
   notice("");
   inputs.clear();
   for (const [name, bytes] of Object.entries(state.files)) inputs.add(name, bytes);
@@ -301,7 +310,6 @@ async function open(state) {
   find("moves").value = state.moves ?? "";
   optionsChanged();
   editor.text = state.blueprint;
-  clearResults();
   await look();
 }
 
@@ -329,9 +337,11 @@ async function openAddress() {
     return notice(`The link is damaged: ${error.message}. The first example stands here instead.`);
   }
   const named = EXAMPLES.findIndex((it) => it.name === words.get("example"));
-  if (words.has("example") && named < 0) notice(`There is no example ${words.get("example")}.`);
   await openExample(Math.max(0, named));
-  if (words.has("unit") && shown?.units) moveTo(Number(words.get("unit")));
+  if (words.has("example") && named < 0) notice(`There is no example ${words.get("example")}. The first one stands here instead.`);
+  if (!words.has("unit") || !shown) return;
+  if (!shown.units) await countUnits();
+  if (shown?.units) moveTo(Number(words.get("unit")));
 }
 
 async function share() {

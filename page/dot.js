@@ -130,11 +130,13 @@ class DotReader {
 
 const HTML_NAMES = { lt: "<", gt: ">", amp: "&", quot: '"', apos: "'", nbsp: " " };
 
-/** Returns the text of an HTML label: each row of a table and each `<br/>` ends a line. */
+/** Returns the text of an HTML label: each row of a table and each `<br/>` ends a line. Cells that are ports are no text of it. */
 function textOfHtml(html) {
   return html
+    .replace(/<td [^>]*port=.*?<\/td>/gi, "")
     .replace(/<br[^>]*>|<\/tr>/gi, "\n")
     .replace(/<[^>]*>/g, "")
+    .replace(/\\\\/g, "\\")
     .replace(/&(#x?[0-9a-f]+|\w+);/gi, (whole, name) => {
       if (name[0] !== "#") return HTML_NAMES[name] ?? whole;
       return String.fromCodePoint(name[1] === "x" ? parseInt(name.slice(2), 16) : parseInt(name.slice(1), 10));
@@ -149,9 +151,11 @@ function labelLines(value) {
 }
 
 const valueOf = (attributes, name) => attributes[name]?.word ?? "";
+// What a drawing of a run says of a wire. The page says it by itself, from the report.
+const isCount = (line) => /^\d+( shut|\W+asked)?$/.test(line);
 const isRule = (line) => /^(unfit|refused) \d/.test(line);
-// A lane's size stands behind the word `lane`, or alone between marks.
-const LANE = /,? ?\blane (\d+)( keep)?|^\W*(\d+)( keep)?\W*$/;
+// A lane's size is behind the word `lane`, in a line of its own or behind the type.
+const LANE = /,? ?\blane (\d+(?: keep)?)/;
 
 /** Returns a node of the drawing: its name, the lines below the name, and the rule that it breaks. */
 function nodeOf(name, attributes) {
@@ -160,16 +164,21 @@ function nodeOf(name, attributes) {
   return { name, shape: valueOf(attributes, "shape"), lines: lines.filter((line) => !isRule(line)), rule: lines.find(isRule) ?? null };
 }
 
+/** Returns the number of a wire's port: in a label of its end, or in the name of the port, as `o0:e`; empty where neither is. */
+function portOf(attributes, end) {
+  return labelLines(attributes[`${end}label`])[0] ?? (valueOf(attributes, `${end}port`).match(/^[io](\d+)/) ?? [])[1] ?? "";
+}
+
 /** Returns a wire of the drawing: its ends, the type on it, the size of its lane, and the rule that it breaks. */
 function wireOf({ from, to, attributes }) {
-  const wire = { from, to, type: "", lane: "", rule: null, output: labelLines(attributes.taillabel)[0] ?? "", input: labelLines(attributes.headlabel)[0] ?? "" };
-  for (const line of labelLines(attributes.label)) {
+  const wire = { from, to, type: "", lane: "", rule: null, output: portOf(attributes, "tail"), input: portOf(attributes, "head") };
+  for (const line of labelLines(attributes.label).filter((it) => !isCount(it))) {
     if (isRule(line)) {
       wire.rule = line;
       continue;
     }
     const lane = line.match(LANE);
-    if (lane) wire.lane = (lane[1] ?? lane[3]) + (lane[2] ?? lane[4] ?? "");
+    if (lane) wire.lane = lane[1];
     const rest = lane ? line.replace(lane[0], "") : line;
     wire.type = [wire.type, rest].filter((it) => it !== "").join(" ");
   }

@@ -2,7 +2,7 @@
 // Finds a place for each node of a graph: columns by the longest way from a source, rows by the middle of the neighbours. A wire
 // over several columns has a bend in each column between. Lengths are in pixels.
 
-const LAYOUT = { between: 24, betweenAreas: 50, column: 54, port: 14, rounds: 12, settling: 60, mostBends: 4000 };
+const LAYOUT = { between: 24, betweenAreas: 50, column: 46, port: 14, rounds: 12, settling: 60, mostBends: 4000 };
 
 /** Marks the wires that close a walk, so that columns are found without them. */
 function markBackWires(nodes) {

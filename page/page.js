@@ -399,7 +399,7 @@ function listen() {
   find("share").addEventListener("click", share);
   find("copy").addEventListener("click", copy);
   find("count").addEventListener("click", countUnits);
-  find("example").addEventListener("change", () => openExample(Number(find("example").value)));
+  find("example").addEventListener("change", () => find("example").value !== "" && openExample(Number(find("example").value)));
   find("add").addEventListener("click", () => inputs.add(inputs.freeName(), new Uint8Array()).nameField.focus());
   find("upload").addEventListener("change", upload);
   for (const id of ["trace", "replay", "turns", "moves"]) find(id).addEventListener("input", optionsChanged);
@@ -409,6 +409,7 @@ function listen() {
   find("on").addEventListener("click", () => moveTo(Number(find("unit").value) + 1));
   find("last").addEventListener("click", () => moveTo(Number(find("unit").max)));
   find("blueprint").addEventListener("input", () => {
+    find("example").value = "";
     editor.show(0);
     changed();
   });
@@ -426,6 +427,7 @@ async function begin() {
   find("made").textContent = MADE_OF;
   editor = new Editor(find("blueprint"), find("colours"), find("numbers"));
   inputs = new InputFiles(find("inputs"), reservedNames, changed);
+  find("example").append(new Option("(your own text)", ""));
   for (const [i, example] of EXAMPLES.entries()) find("example").append(new Option(example.title, i));
   const lack = lackOfBrowser();
   if (lack) {

@@ -62,7 +62,8 @@ function measureNode(node, run) {
   const ports = Math.max(node.incoming.length, node.outgoing.length);
   const textWidth = Math.max(node.name.length * TEXT.name, ...node.rows.map((row) => row.text.length * TEXT.line), 40);
   node.width = textWidth + (node.role === "substreams" || node.role === "stop" ? 34 : 26);
-  node.height = Math.max(27 + TEXT.lineHeight * node.rows.length, ports * LAYOUT.port + 8);
+  node.lid = node.role === "holds" ? 6 : 0; // (the text stands below the lid of a cylinder)
+  node.height = Math.max(27 + TEXT.lineHeight * node.rows.length + 2 * node.lid, ports * LAYOUT.port + 8);
   for (const [wires, shift] of [[node.incoming, "inputShift"], [node.outgoing, "outputShift"]]) {
     wires.forEach((wire, i) => (wire[shift] = (i - (wires.length - 1) / 2) * LAYOUT.port));
   }
@@ -72,7 +73,8 @@ function measureWire(wire) {
   const lane = wire.lane ? wire.lane.length * TEXT.wire + 18 : 0;
   const said = wire.type.length * TEXT.wire + lane;
   const ports = (wire.output ? 20 : 0) + (wire.input ? 20 : 0);
-  wire.room = Math.max(LAYOUT.column, Math.max(said, 44, (wire.rule || "").length * TEXT.wire) + ports + 34);
+  const beside = wire.source.outgoing.filter((it) => it.target === wire.target).length;
+  wire.room = Math.max(LAYOUT.column, Math.max(said, 44, (wire.rule || "").length * TEXT.wire) * beside + ports + 22);
 }
 
 // ---- The forms of nodes
@@ -82,12 +84,13 @@ const FORMS = {
   note: ({ left, top, width, height }) => `M${left} ${top}h${width - 9}l9 9v${height - 9}h${-width}zM${left + width - 9} ${top}v9h9`,
   box: (b) => roundBox(b, 9),
   bars: (b) => `${roundBox(b, 3)}M${b.left + 6} ${b.top}v${b.height}M${b.left + b.width - 6} ${b.top}v${b.height}`,
-  drum: (b) => `${roundBox(b, 9)}M${b.left + 1} ${b.top + b.height - 4}h${b.width - 2}`,
+  double: (b) => `${roundBox(b, 0)}M${b.left - 4} ${b.top - 4}h${b.width + 8}v${b.height + 8}h${-b.width - 8}z`,
+  cylinder: ({ left, top, width, height }) => `M${left} ${top + 5}a${width / 2} 5 0 0 1 ${width} 0v${height - 10}a${width / 2} 5 0 0 1 ${-width} 0zM${left} ${top + 5}a${width / 2} 5 0 0 0 ${width} 0`,
   stack: (b) => `M${b.left + 6} ${b.top}v-5h${b.width}v${b.height}h-6${roundBox(b, 3)}`,
   octagon: ({ left, top, width, height }) => `M${left + 11} ${top}h${width - 22}l11 11v${height - 22}l-11 11h${22 - width}l-11 -11v${22 - height}z`,
   tab: (b) => `${roundBox(b, 0)}M${b.left} ${b.top}v-5h26v5`,
 };
-const FORM_OF_ROLE = { source: "arrow", sink: "note", stage: "box", fan: "bars", hub: "bars", holds: "drum", substreams: "stack", stop: "octagon", handed: "tab" };
+const FORM_OF_ROLE = { source: "arrow", sink: "note", stage: "box", fan: "bars", hub: "double", holds: "cylinder", substreams: "stack", stop: "octagon", handed: "tab" };
 
 function roundBox({ left, top, width, height }, r) {
   return `M${left + r} ${top}h${width - 2 * r}q${r} 0 ${r} ${r}v${height - 2 * r}q0 ${r} ${-r} ${r}h${2 * r - width}q${-r} 0 ${-r} ${-r}v${2 * r - height}q0 ${-r} ${r} ${-r}z`;
@@ -97,7 +100,7 @@ function nodeElement(node) {
   const box = { left: node.x - node.width / 2, top: node.y - node.height / 2, width: node.width, height: node.height };
   const shape = node.isPoint ? svg("circle", { cx: box.left + 8, cy: node.y, r: 7 }) : svg("path", { d: FORMS[FORM_OF_ROLE[node.role]](box) });
   const group = svg("g", { class: `node ${node.role}${node.rule ? " fault" : ""}` }, svg("title", {}, [node.name, ...node.rows.map((row) => row.text)].join(", ")), shape);
-  const first = node.y - (TEXT.lineHeight * node.rows.length) / 2 + 5;
+  const first = node.y - (TEXT.lineHeight * node.rows.length) / 2 + 5 + node.lid / 2;
   group.append(svg("text", { class: "name", x: node.x, y: first }, node.name));
   node.rows.forEach((row, i) => group.append(svg("text", { class: `row ${row.state}`, x: node.x, y: first + TEXT.lineHeight * (i + 1) }, ...rowParts(row.text))));
   return group;
@@ -128,9 +131,16 @@ function curve(points) {
   return path;
 }
 
-/** The place for what is said of a wire: where it is apart from the others that leave or reach the same node. */
+/** How far along a wire its words are: where it is apart from the others that leave or reach the same node. */
+function shareOf(wire) {
+  const beside = wire.source.outgoing.filter((it) => it.target === wire.target);
+  if (beside.length > 1) return (beside.indexOf(wire) + 1) / (beside.length + 1);
+  return wire.source.outgoing.length > 1 ? 0.62 : wire.target.incoming.length > 1 ? 0.38 : 0.5;
+}
+
+/** The place for what is said of a wire. */
 function labelPoint(wire, points) {
-  const share = wire.source.outgoing.length > 1 ? 0.62 : wire.target.incoming.length > 1 ? 0.38 : 0.5;
+  const share = shareOf(wire);
   const [a, b] = share < 0.5 ? points.slice(-2) : points;
   const rest = 1 - share;
   return { x: a.x + (b.x - a.x) * share, y: rest * rest * (rest + 3 * share) * a.y + share * share * (share + 3 * rest) * b.y };
@@ -206,7 +216,7 @@ function pictureOf(text, run = null) {
   const words = `${drawing.nodes.length} nodes and ${drawing.wires.length} wires`;
   const picture = svg("svg", { class: "graph", viewBox: `${left} ${top} ${width} ${height}`, role: "img", "aria-label": `The graph of the blueprint: ${words}. The table below the picture has them in words.` }, arrowHead());
   picture.style.maxWidth = `${width}px`;
-  picture.style.minWidth = `${0.8 * width}px`; // (a narrow page scrolls it, so that its words can be read)
+  picture.style.setProperty("--natural", `${width}px`); // (a narrow page scrolls it, so that its words can be read)
   const most = Math.max(1, ...drawing.wires.map((wire) => wire.count?.sent ?? 0));
   picture.append(...drawing.areas.map(areaElement), ...drawing.wires.map((wire, i) => wireElement(wire, i, most)));
   picture.append(...drawing.orders.map(orderElement).filter(Boolean), ...drawing.nodes.map(nodeElement));

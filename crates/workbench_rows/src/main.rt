@@ -6,9 +6,11 @@ mod attempt;
 use attempt::{Came, attempt};
 use case_files::case::{Case, read_cases};
 use case_files::text::Fault;
-use std::alloc::{AllocError, Global};
+use std::alloc::AllocError;
 use std::process::ExitCode;
 use std::rt::{Env, Files};
+use std::sync::Wait;
+use std::thread::Threads;
 use std::{env, fs, io};
 
 /// How many cases went as they should, how many did not, and what is told of those.
@@ -41,8 +43,13 @@ impl Count {
     }
 
     /// Tries a case of this file. One that is to fail passes where it fails.
-    fn add(&mut self, alloc: Global, file: &str, case: &Case) -> Result<(), AllocError> {
-        let came = attempt(alloc, case)?;
+    fn add<R: AllocGlobal + Threads + Wait + Sync>(
+        &mut self,
+        rt: &R,
+        file: &str,
+        case: &Case,
+    ) -> Result<(), AllocError> {
+        let came = attempt(rt, rt.alloc(), case)?;
         let is_wanted = match case.wanted.as_slice() {
             [wanted] => came.is(wanted),
             _ => false,
@@ -56,7 +63,11 @@ impl Count {
     }
 
     /// Tries the cases of a file. One that can't be read, or has no case, fails.
-    fn add_file<R: Files + AllocGlobal>(&mut self, rt: &R, file: &str) -> Result<(), Fault> {
+    fn add_file<R: Files + AllocGlobal + Threads + Wait + Sync>(
+        &mut self,
+        rt: &R,
+        file: &str,
+    ) -> Result<(), Fault> {
         let alloc = rt.alloc();
         let Ok(text) = fs::read(rt, file) else {
             return Ok(self.fail(file, b"the file cannot be read")?);
@@ -66,14 +77,14 @@ impl Count {
             self.fail(file, b"the file has no case")?;
         }
         for case in &cases {
-            self.add(alloc, file, case)?;
+            self.add(rt, file, case)?;
         }
         Ok(())
     }
 }
 
 /// Tries the cases of all files that the words name.
-fn count_all<R: Env + Files + AllocGlobal>(rt: &R) -> io::Result<Count> {
+fn count_all<R: Env + Files + AllocGlobal + Threads + Wait + Sync>(rt: &R) -> io::Result<Count> {
     let mut count = Count {
         passed: 0,
         failed: 0,

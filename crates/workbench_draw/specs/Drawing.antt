@@ -13,7 +13,7 @@ lines_text lines = flat_map (λ line. line.items) lines
 -- the first lines: from left to right, outputs in their order, and how nodes and wires look
 abbrev pub drawing_head : List ℕ
 drawing_head =
-    codes "digraph blueprint {\n  rankdir=LR; ordering=out; nodesep=0.35; ranksep=0.7;\n  graph [fontname=Helvetica, fontsize=10];\n  node [shape=box, style=rounded, fontname=Helvetica, fontsize=12];\n  edge [fontname=Helvetica, fontsize=10, labeldistance=1.8];\n"
+    codes "digraph blueprint {\n  rankdir=LR; ordering=out; nodesep=0.3; ranksep=0.6;\n  graph [fontname=Helvetica, fontsize=10, fontcolor=\"#5b6675\"];\n  node [shape=box, style=\"rounded,filled\", fillcolor=\"#eaf1fb\", color=\"#33639c\", fontname=Helvetica, fontsize=12, fontcolor=\"#1d2430\", margin=\"0.12,0.06\"];\n  edge [fontname=Helvetica, fontsize=9, fontcolor=\"#5b6675\", color=\"#5b6675\", arrowsize=0.7];\n"
 
 -- the lines of a drawing in its braces
 abbrev pub drawing_text : Drawing → List ℕ

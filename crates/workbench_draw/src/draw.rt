@@ -5,14 +5,16 @@ ghost use Rattle.blue_check.specs.Checked.{checked_blueprint};
 ghost use Rattle.workbench_draw.specs.Drawing.{IsDrawingOf, drawing_head, drawing_text};
 
 use crate::frames::frame_lines;
-use crate::lines::{Blamed, island_lines, node_lines, other_lines, wire_lines};
+use crate::known::{Blamed, Known};
+use crate::lines::{island_lines, node_lines, other_lines};
+use crate::marks::RunMarks;
 use crate::place::place_of;
 use crate::types::types_of;
+use crate::wires::wire_lines;
 use blue_check::checked::Checked;
 use blue_check::fault::CheckFault;
 use blue_check::islands::islands;
 use blue_check::plan::IslandPlan;
-use elem_core::elem_type::ElemType;
 use elem_core::line::Line;
 use elem_core::why::NoMemory;
 use std::alloc::Global;
@@ -43,7 +45,7 @@ fn put_head(out: &mut Vec<u8>) -> Result<(), NoMemory>
     ensures { OnOk result (out.new.items ≡ out.old.items ++ drawing_head) }
 {
     out.extend_from_slice(
-        b"digraph blueprint {\n  rankdir=LR; ordering=out; nodesep=0.35; ranksep=0.7;\n  graph [fontname=Helvetica, fontsize=10];\n  node [shape=box, style=rounded, fontname=Helvetica, fontsize=12];\n  edge [fontname=Helvetica, fontsize=10, labeldistance=1.8];\n",
+        b"digraph blueprint {\n  rankdir=LR; ordering=out; nodesep=0.3; ranksep=0.6;\n  graph [fontname=Helvetica, fontsize=10, fontcolor=\"#5b6675\"];\n  node [shape=box, style=\"rounded,filled\", fillcolor=\"#eaf1fb\", color=\"#33639c\", fontname=Helvetica, fontsize=12, fontcolor=\"#1d2430\", margin=\"0.12,0.06\"];\n  edge [fontname=Helvetica, fontsize=9, fontcolor=\"#5b6675\", color=\"#5b6675\", arrowsize=0.7];\n",
     )
 }
 
@@ -85,34 +87,39 @@ fn area_lines(
     }
 }
 
-/// The text of a drawing with an area round each island where there are several, and the types on wires as far as they are known.
+/// The text of a drawing with a box round each island where there are several, and what is known beside the blueprint.
 fn draw_all(
     alloc: Global,
     b: &Blueprint,
     islands: &[IslandPlan],
-    types: &[Option<ElemType>],
-    blamed: Option<Blamed<'_>>,
+    known: &Known<'_, '_, '_>,
 ) -> Result<Vec<u8>, NoMemory>
     ensures { IfOk result (λ text. IsDrawingOf b.now text.items) }
 {
     let drawing = Drawing {
         areas: area_lines(alloc, &b.nodes, islands)?,
-        nodes: node_lines(alloc, b, blamed)?,
-        wires: wire_lines(alloc, b, types, blamed)?,
-        others: other_lines(alloc, &b.nodes, blamed)?,
+        nodes: node_lines(alloc, b, known)?,
+        wires: wire_lines(alloc, b, known)?,
+        others: other_lines(alloc, &b.nodes, known.blamed)?,
     };
     drawn(alloc, b, &drawing)
 }
 
-/// The graph of a checked blueprint in the DOT language: a line for each node with its kind and the chain that it runs, files as notes,
-/// and one for each wire with its type and the numbers of its ports, a lane dashed and with its size; a dotted line from each trip to
-/// the valves of its switch; and where there are several islands an area round each, else a frame round each instance of a module.
-pub fn draw(alloc: Global, c: &Checked) -> Result<Vec<u8>, NoMemory>
+/// The graph of a checked blueprint in the DOT language: a line for each node, with the form and the colours of its role, its kind and
+/// the chain that it runs; and one for each wire with its type, a lane dashed and with its size. Ports have their numbers where a node
+/// has several. A dotted line leads from each trip to the valves of its switch. Where there are several islands a box is round each,
+/// else a frame round each instance of a module. `marks` is what a report says of a run: how each sink ended, and what passed each wire.
+pub fn draw(alloc: Global, c: &Checked, marks: Option<&RunMarks>) -> Result<Vec<u8>, NoMemory>
     ensures { IfOk result (λ text. IsDrawingOf (checked_blueprint c.now) text.items) }
 {
     let plan = islands(alloc, c)?;
     let types = types_of(alloc, c)?;
-    draw_all(alloc, c.blueprint(), &plan.islands, &types, None)
+    let known = Known {
+        types: &types,
+        blamed: None,
+        marks,
+    };
+    draw_all(alloc, c.blueprint(), &plan.islands, &known)
 }
 
 /// The graph of a blueprint that breaks a rule: the same without islands and types, and the place of the fault is red and has the
@@ -130,5 +137,10 @@ pub fn draw_unfit(
         Some(place) => Some(Blamed { place, fault: told }),
         None => None,
     };
-    draw_all(alloc, b, &[], &[], blamed)
+    let known = Known {
+        types: &[],
+        blamed,
+        marks: None,
+    };
+    draw_all(alloc, b, &[], &known)
 }

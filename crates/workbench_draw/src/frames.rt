@@ -1,5 +1,5 @@
 // The frames of a drawing: one for each instance of a module, round the nodes of its body.
-use crate::lines::put_quoted;
+use crate::look::{AREA, put_quoted};
 use elem_core::why::NoMemory;
 use std::alloc::Global;
 use stream_model::blueprint::Node;
@@ -40,7 +40,9 @@ fn frame_line(alloc: Global, instance: &[u8]) -> Result<Vec<u8>, NoMemory> {
     put_quoted(&mut out, &cluster)?;
     out.extend_from_slice(b" { label=")?;
     put_quoted(&mut out, instance)?;
-    out.extend_from_slice(b"; style=rounded; color=gray60; margin=14;\n")?;
+    out.extend_from_slice(b"; ")?;
+    out.extend_from_slice(AREA)?;
+    out.push(b'\n')?;
     Ok(out)
 }
 

@@ -1,7 +1,7 @@
 // Standard input and standard error, which tell no contents.
 ghost use Rattle.std.specs.Prelude.{[], None};
 
-use std::io::{Read, Write};
+use std::io::{IsTerminal, Read, Write};
 use stream_io::outside::{Drain, Failed, Source};
 
 // Choice: docs/DECISIONS.md#standard-streams
@@ -9,15 +9,18 @@ use stream_io::outside::{Drain, Failed, Source};
 #[derive(Drop)]
 pub struct Input<R> {
     reader: R,
+    is_terminal: bool,
     given: u64,
     faults: u64,
 }
 
-impl<R: Read + Drop> Input<R> {
+impl<R: Read + IsTerminal + Drop> Input<R> {
     /// The source of this reader. It takes no memory.
     pub fn new(reader: R) -> Input<R> {
+        let is_terminal = reader.is_terminal();
         Input {
             reader,
+            is_terminal,
             given: 0,
             faults: 0,
         }
@@ -36,6 +39,11 @@ impl<R: Read + Drop> Source for Input<R> {
         }
         self.faults = self.faults.saturating_add(1);
         Err(Failed)
+    }
+
+    /// Whether it is a terminal, where a read waits until someone types.
+    fn may_wait(&self) -> bool {
+        self.is_terminal
     }
 }
 

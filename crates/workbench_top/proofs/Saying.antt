@@ -8,7 +8,7 @@ use Rattle.stream_model.specs.declared.blueprint.Blueprint.{Blueprint}
 use Rattle.workbench_draw.specs.Judging.{IsFitText}
 use Rattle.workbench_draw.specs.Drawing.{IsDrawingOf}
 use Rattle.workbench_draw.specs.Turns.{Suffices}
-use Rattle.workbench_top.specs.Answer.{Checks, Counts, DrawsFit}
+use Rattle.workbench_top.specs.Answer.{Checks, Counts, DrawsFit, DrawsAnswer, DrawsInput, RefusesReport}
 use Rattle.workbench_top.specs.Rows.{SaysRow}
 use Rattle.workbench_top.specs.declared.answer.Answer.{Answer}
 use Rattle.workbench_top.specs.declared.answer.Ending.TheVariants as ending
@@ -20,6 +20,13 @@ passes text file b a fit done said told = inl (record { ending = done; blueprint
 -- a drawing is said
 pub draws_fit : (text file drawing : List ℕ) (b : Blueprint) (a : Answer) → IsFitText text file b → a.ending ≡ ending.Done → a.said.items ≡ drawing → IsDrawingOf b drawing → DrawsFit text file a
 draws_fit text file drawing b a fit done said draws = record { ending = done; blueprint = b; fit = fit; said = subst (λ t. IsDrawingOf b t) (sym said) draws }
+
+-- a drawing is said, or a fault told, of the text, or a report that was read is told to be none of it
+pub draws_input : (text file report : List ℕ) (a : Answer) → DrawsAnswer text file a ⊎ RefusesReport report a → DrawsInput text file a
+draws_input text file report a answers = elim answers [
+  | inl drawn ↦ inl drawn
+  | inr refused ↦ inr (inl refused.tells)
+]
 
 -- the units are said
 pub says_units : (text file counts units : List ℕ) (b : Blueprint) (a : Answer) → IsFitText text file b → a.ending ≡ ending.Done → a.said.items ≡ units → Suffices b counts units → Counts text file counts a

@@ -1,5 +1,5 @@
 -- What the workbench answers to a work on the text of a blueprint's file.
-use Rattle.std.specs.Prelude.{◌≡◌, ℕ, ◌⊎◌, List, [], Some}
+use Rattle.std.specs.Prelude.{◌≡◌, ◌<◌, ℕ, ◌⊎◌, List, [], Some, length, codes}
 use Rattle.stream_model.specs.declared.blueprint.Blueprint.{Blueprint}
 use Rattle.blue_words.specs.declared.fault.BlueFault.{BlueFault}
 use Rattle.blue_lang.specs.Texts.{Says, text_fault}
@@ -94,6 +94,21 @@ pub record DrawsUnfit (text file : List ℕ) (a : Answer) : Type 0 where
 abbrev pub DrawsAnswer : List ℕ → List ℕ → Answer → Type 0
 DrawsAnswer text file a = DrawsFit text file a ⊎ (DrawsUnfit text file a ⊎ Blames text file a)
 
+-- it is told that the report is none of the blueprint, and nothing is said
+pub record TellsNoReport (a : Answer) : Type 0 where
+  pub ending : a.ending ≡ ending.Faulty
+  pub said : a.said.items ≡ []
+  pub told : a.told.items ≡ codes "this is no report of this blueprint\n"
+
+-- a report is given, and told to be none of the blueprint
+pub record RefusesReport (report : List ℕ) (a : Answer) : Type 0 where
+  pub given : 0 < length report
+  pub tells : TellsNoReport a
+
+-- the answer to `draw` of a text and of what the input gives: that to the text, or that the report is none of it, or could not be read
+abbrev pub DrawsInput : List ℕ → List ℕ → Answer → Type 0
+DrawsInput text file a = DrawsAnswer text file a ⊎ (TellsNoReport a ⊎ ((a.ending ≡ ending.ReadFault) ⊎ (a.ending ≡ ending.NoMemory)))
+
 -- the units are said that suffice for the blueprint that the text says, where the sources give so many elements
 pub record SaysUnits (text file counts : List ℕ) (a : Answer) : Type 0 where
   pub ending : a.ending ≡ ending.Done
@@ -116,6 +131,6 @@ Counts text file counts a = SaysUnits text file counts a ⊎ (MissesCounts text 
 abbrev pub AnswersText : TaskKind → List ℕ → List ℕ → List ℕ → Answer → Type 0
 AnswersText Check text file counts a = Checks text file a
 AnswersText Format text file counts a = Formats text a
-AnswersText Draw text file counts a = DrawsAnswer text file a
+AnswersText Draw text file counts a = DrawsInput text file a
 AnswersText Explain text file counts a = Unit {0}
 AnswersText Turns text file counts a = Counts text file counts a

@@ -1,15 +1,16 @@
 // What is answered to a work on the text of a blueprint's file.
-ghost use Rattle.std.specs.Prelude.{◌≡◌, ◌⊎◌, [], IfOk, IfSome, Some};
+ghost use Rattle.std.specs.Prelude.{◌≡◌, ◌<◌, ◌⊎◌, [], IfOk, IfSome, Some, length};
 ghost use Rattle.blue_check.specs.Checked.{checked_blueprint};
 ghost use Rattle.workbench_draw.specs.Judging.{IsFitText, IsUnready};
 ghost use Rattle.blue_lang.specs.Texts.{Says, text_fault};
 ghost use Rattle.blue_modules.specs.Text.{plain_text};
 ghost use Rattle.blue_check.specs.Meaning.{Denotes};
 ghost use Rattle.workbench_draw.specs.Message.{BeginsWithReport};
-ghost use Rattle.workbench_top.specs.Answer.{IsBlame, Blames, Checks, RefusesText, SaysCanonical, Formats, DrawsFit, DrawsUnfit, DrawsAnswer, Counts};
+ghost use Rattle.workbench_top.specs.Answer.{IsBlame, Blames, Checks, RefusesText, SaysCanonical, Formats, DrawsFit, DrawsUnfit, DrawsAnswer, TellsNoReport, RefusesReport, Counts};
 
 use crate::answer::{Answer, Ending};
 use crate::explain::explain;
+use crate::marks::marks_of;
 use blue_check::checked::Checked;
 use blue_check::fault::CheckFault;
 use blue_lang::parse::{ParseEnd, parse};
@@ -24,6 +25,7 @@ use std::alloc::Global;
 use stream_model::blueprint::Blueprint;
 use workbench_draw::draw::{draw, draw_unfit};
 use workbench_draw::judge::{Unready, blueprint_of, judge_text};
+use workbench_draw::marks::RunMarks;
 use workbench_draw::message::message_of;
 use workbench_draw::turns::{TurnsEnd, count_units};
 
@@ -125,13 +127,67 @@ fn first_line(message: &[u8]) -> &[u8] {
     }
 }
 
-/// The answer that says the drawing of a checked blueprint.
-fn drawn_fit(alloc: Global, text: &[u8], file: &Line, c: &Checked) -> Result<Answer, NoMemory>
+/// What is told of a report that is none of a blueprint.
+fn no_report(alloc: Global) -> Result<Answer, NoMemory>
+    ensures { IfOk result TellsNoReport }
+{
+    let told = Vec::from_slice(alloc, b"this is no report of this blueprint\n")?;
+    Ok(Answer::telling(alloc, Ending::Faulty, told))
+}
+
+/// The answer that says the drawing of a checked blueprint, with what a report says of its run.
+fn drawn_fit(
+    alloc: Global,
+    text: &[u8],
+    file: &Line,
+    c: &Checked,
+    marks: Option<&RunMarks>,
+) -> Result<Answer, NoMemory>
     requires { IsFitText text.now file.now (checked_blueprint c.now) }
     ensures { IfOk result (DrawsFit text.now file.now) }
 {
-    let said = draw(alloc, c)?;
+    let said = draw(alloc, c, marks)?;
     Ok(Answer::saying(alloc, said))
+}
+
+/// The answer that says the drawing of a checked blueprint with what a report says of its run, or that the report is none of it.
+fn drawn_run(
+    alloc: Global,
+    text: &[u8],
+    file: &Line,
+    report: &[u8],
+    c: &Checked,
+) -> Result<Answer, NoMemory>
+    requires fit { IsFitText text.now file.now (checked_blueprint c.now) }
+    requires given { 0 < length report.now }
+    ensures { IfOk result (λ answer. DrawsAnswer text.now file.now answer ⊎ RefusesReport report.now answer) }
+{
+    if explain(alloc, text, file, report)?.is_none() {
+        let answer = no_report(alloc)?;
+        return Ok(answer);
+    }
+    let marks = marks_of(alloc, c.blueprint(), report)?;
+    let answer = drawn_fit(alloc, text, file, c, Some(&marks))?;
+    Ok(answer)
+}
+
+/// The same where the report may be empty, which is none.
+fn drawn_checked(
+    alloc: Global,
+    text: &[u8],
+    file: &Line,
+    report: &[u8],
+    c: &Checked,
+) -> Result<Answer, NoMemory>
+    requires { IsFitText text.now file.now (checked_blueprint c.now) }
+    ensures { IfOk result (λ answer. DrawsAnswer text.now file.now answer ⊎ RefusesReport report.now answer) }
+{
+    if report.is_empty() {
+        let answer = drawn_fit(alloc, text, file, c, None)?;
+        Ok(answer)
+    } else {
+        drawn_run(alloc, text, file, report, c)
+    }
 }
 
 /// The answer that says the drawing of a blueprint that breaks a rule, which is told.
@@ -176,13 +232,13 @@ fn drawn_again(
     }
 }
 
-/// The answer to `draw`: the graph; where the blueprint breaks a rule the graph, in red at its place, and the rule; or the first fault
-/// of the text or of its modules.
-pub fn draw_text(alloc: Global, text: &[u8], file: &Line) -> Answer
-    ensures { DrawsAnswer text.now file.now result }
+/// The answer to `draw`: the graph, with what a report of its run says, or that the report is none of it; an empty report is none. Where
+/// the blueprint breaks a rule the graph, in red at its place, and the rule; or the first fault of the text or of its modules.
+pub fn draw_text(alloc: Global, text: &[u8], file: &Line, report: &[u8]) -> Answer
+    ensures { DrawsAnswer text.now file.now result ⊎ RefusesReport report.now result }
 {
     match judge_text(alloc, text, file) {
-        Ok(c) => match drawn_fit(alloc, text, file, &c) {
+        Ok(c) => match drawn_checked(alloc, text, file, report, &c) {
             Ok(answer) => answer,
             Err(_) => blaming(alloc, text, file, &Unready::NoMemory),
         },
@@ -198,8 +254,8 @@ pub fn draw_text(alloc: Global, text: &[u8], file: &Line) -> Answer
 pub fn explain_text(alloc: Global, text: &[u8], file: &Line, report: &[u8]) -> Answer {
     match explain(alloc, text, file, report) {
         Ok(Some(said)) => Answer::saying(alloc, said),
-        Ok(None) => match Vec::from_slice(alloc, b"this is no report of this blueprint\n") {
-            Ok(told) => Answer::telling(alloc, Ending::Faulty, told),
+        Ok(None) => match no_report(alloc) {
+            Ok(answer) => answer,
             Err(_) => Answer::without_memory(alloc),
         },
         Err(_) => Answer::without_memory(alloc),

@@ -2,7 +2,7 @@
 ghost use Rattle.std.specs.Prelude.{◌≡◌, ◌⊎◌, IfOk, None};
 ghost use Rattle.stream_io.specs.State.{SameFiles};
 ghost use Rattle.workbench_top.specs.Task.{Asks, TaskEnds, row_in};
-ghost use Rattle.workbench_top.specs.Answer.{AnswersText};
+ghost use Rattle.workbench_top.specs.Answer.{AnswersText, DrawsInput};
 ghost use Rattle.workbench_top.specs.Call.{AnswersTask, AnswersNothing, AnswersWords, IsAnswerPut, IsMissing, Works, missing_text};
 
 use crate::answer::{Answer, Ending, code};
@@ -48,16 +48,36 @@ fn missing(alloc: Global, file: &Line) -> Answer
     }
 }
 
+/// The answer where the report was not read.
+fn unread(alloc: Global, end: &ReportEnd) -> Answer
+    ensures { (result.ending ≡ Ending.ReadFault) ⊎ (result.ending ≡ Ending.NoMemory) }
+{
+    match end {
+        ReportEnd::Fault => telling(alloc, Ending::ReadFault, b"the report could not be read\n"),
+        ReportEnd::NoMemory => Answer::without_memory(alloc),
+    }
+}
+
 /// The answer to a report that is read from the input.
 fn explain_input<S: Source>(alloc: Global, text: &[u8], file: &Line, input: &mut S) -> Answer {
     match read_report(alloc, input) {
         Ok(report) => explain_text(alloc, text, file, &report),
-        Err(ReportEnd::Fault) => telling(
-            alloc,
-            Ending::ReadFault,
-            b"the report could not be read\n",
-        ),
-        Err(ReportEnd::NoMemory) => Answer::without_memory(alloc),
+        Err(end) => unread(alloc, &end),
+    }
+}
+
+// Choice: docs/DECISIONS.md#report-of-a-drawing
+/// The answer to `draw`, with what a report says that is read from the input. None is read where a read may wait.
+#[tactic(auto, using(crate::proofs::Saying::draws_input))]
+fn draw_input<S: Source>(alloc: Global, text: &[u8], file: &Line, input: &mut S) -> Answer
+    ensures { DrawsInput text.now file.now result }
+{
+    if input.may_wait() {
+        return draw_text(alloc, text, file, &[]);
+    }
+    match read_report(alloc, input) {
+        Ok(report) => draw_text(alloc, text, file, &report),
+        Err(end) => unread(alloc, &end),
     }
 }
 
@@ -68,7 +88,7 @@ fn answer_text<S: Source>(alloc: Global, task: &Task, text: &[u8], input: &mut S
     match task.work {
         TaskKind::Check => check_text(alloc, text, &task.file),
         TaskKind::Format => format_text(alloc, text, &task.file),
-        TaskKind::Draw => draw_text(alloc, text, &task.file),
+        TaskKind::Draw => draw_input(alloc, text, &task.file, input),
         TaskKind::Explain => explain_input(alloc, text, &task.file, input),
         TaskKind::Turns => count_text(alloc, text, &task.file, &task.counts),
     }
@@ -154,8 +174,8 @@ pub(crate) fn put_answer<C: Drain, D: Drain>(answer: &Answer, console: &mut C, f
 }
 
 /// A call of the workbench: `check FILE`, `fmt FILE`, `draw FILE`, `explain FILE`, `turns FILE N..` or `row ROW`. It reads the blueprint
-/// of that file, and for `explain` a report from the input, and for `row` nothing; it changes no file. What was wanted goes to the console, faults go where faults
-/// are told. The exit code is 0, 1 for the words, 2 for the blueprint, and those of `streams` for the outside and for memory: 6, 7, 8
+/// of that file, for `explain` a report from the input, for `draw` one too, unless that may wait or is empty, and for `row` nothing; it
+/// changes no file. What was wanted goes to the console, faults go where faults are told. The exit code is 0, 1 for the words, 2 for the blueprint, and those of `streams` for the outside and for memory: 6, 7, 8
 /// and 9.
 pub fn run_workbench<S: Source, F: Folder, C: Drain, D: Drain>(
     alloc: Global,

@@ -50,7 +50,11 @@ fn workbench<'a>(alloc: Global) -> Result<Command<'a>, AllocError> {
         .subcommand_required(true)
         .subcommand(command(alloc, "check", "Tells the first fault, or nothing")?)?
         .subcommand(command(alloc, "fmt", "Prints the canonical text")?)?
-        .subcommand(command(alloc, "draw", "Prints the graph in the DOT language")?)?
+        .subcommand(command(
+            alloc,
+            "draw",
+            "Prints the graph in the DOT language, with a run where its report is on standard input",
+        )?)?
         .subcommand(command(
             alloc,
             "explain",

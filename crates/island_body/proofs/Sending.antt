@@ -73,8 +73,6 @@ use Rattle.nodes.specs.contracts.ignoring.IgnoreSink as ignorer
 use Rattle.nodes.specs.contracts.source.LinesSource as reading
 use Rattle.nodes.specs.contracts.sink.FileSink as writing
 use Rattle.nodes.specs.contracts.node.IslandNode as node
-use Rattle.nodes.specs.contracts.node.IslandNodeStage.TheImpl as node_stage
-use Rattle.stage_core.specs.declared.stage.Stage as stage
 use Rattle.port_core.specs.contracts.conn.Conn as conn
 use Rattle.port_core.specs.contracts.wire.Wire as wire
 use Rattle.fused_net.specs.contracts.engine.Engine.TheInside as engine_inside
@@ -283,9 +281,9 @@ wire_send = search (conn_send, plain_rules) depth 60 fits 20000
 queue_send : IsSend queue.the_row
 queue_send = search rings depth 60 fits 20000
 
-engine_send : (N : RattleType) (g : stage.Ghosts N.Denot) → IsSend N → IsSend (engine_inside.the_row N g)
-engine_send N g n =
-    let t = engine_inside.the_type N g in
+engine_send : (N : RattleType) → IsSend N → IsSend (engine_inside.the_row N)
+engine_send N n =
+    let t = engine_inside.the_type N in
     recorded_send (declared.field t).row _ _ t.to_one
     (struct_send (declared.shape t) (
       search (n, rings) depth 60 fits 20000,
@@ -306,17 +304,13 @@ end_send S D s d p q =
       ),
     )
 
--- what a stage is to a node
-abbrev staged : (S D L H B : RattleType) (s : source.Ghosts S.Denot) (d : drain.Ghosts D.Denot) (l : logic.Ghosts L.Denot) (h : handlers.Ghosts H.Denot) (b : plug_book.Ghosts B.Denot) → stage.Ghosts (node.the_row (param 0 S) (param 1 D) (param 2 L) (param 3 H) (param 4 B) s d l h b).Denot
-staged S D L H B s d l h b = node_stage.ghosts (param 0 S) (param 1 D) (param 2 L) (param 3 H) (param 4 B) s node_stage.no_dict d node_stage.no_dict l node_stage.no_dict h node_stage.no_dict b node_stage.no_dict node_stage.no_dict node_stage.no_dict node_stage.no_dict node_stage.no_dict
-
 island_send : (S D L H B : RattleType) (s : source.Ghosts S.Denot) (d : drain.Ghosts D.Denot) (l : logic.Ghosts L.Denot) (h : handlers.Ghosts H.Denot) (b : plug_book.Ghosts B.Denot) → IsSend (param 0 S) → IsSend (param 1 D) → IsSend (param 2 L) → IsSend (param 3 H) → IsSend (param 4 B) → IsSend (island.the_row (param 0 S) (param 1 D) (param 2 L) (param 3 H) (param 4 B) s d l h b)
 island_send S D L H B s d l h b p q u x v =
     let t = island_inside.the_type (param 0 S) (param 1 D) (param 2 L) (param 3 H) (param 4 B) s d l h b in
     view_send (island_inside.the_row (param 0 S) (param 1 D) (param 2 L) (param 3 H) (param 4 B) s d l h b) _ _ _ _
     (recorded_send (declared.field t).row _ _ t.to_one
     (struct_send (declared.shape t) (
-      view_send (engine_inside.the_row (node.the_row (param 0 S) (param 1 D) (param 2 L) (param 3 H) (param 4 B) s d l h b) (staged S D L H B s d l h b)) _ _ _ _ (engine_send (node.the_row (param 0 S) (param 1 D) (param 2 L) (param 3 H) (param 4 B) s d l h b) (staged S D L H B s d l h b) (node_send S D L H B s d l h b p q u x v)),
+      view_send (engine_inside.the_row (node.the_row (param 0 S) (param 1 D) (param 2 L) (param 3 H) (param 4 B) s d l h b)) _ _ _ _ (engine_send (node.the_row (param 0 S) (param 1 D) (param 2 L) (param 3 H) (param 4 B) s d l h b) (node_send S D L H B s d l h b p q u x v)),
       (
         search rings depth 60 fits 20000,
         (

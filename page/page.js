@@ -98,10 +98,10 @@ function showPicture(run) {
     if (drawing === "") throw new Error("There is no picture: the text is no blueprint yet. The fault stands below it.");
     const made = pictureOf(drawing, run);
     place.replaceChildren(made.picture);
-    fillTable(find("table"), made.drawing);
+    find("tables").replaceChildren(...tablesOf(made.drawing));
   } catch (error) {
     place.replaceChildren(element("p", { className: "dim", textContent: error.message }));
-    find("table").replaceChildren();
+    find("tables").replaceChildren();
   }
   const hasCounts = run?.wires.length > 0;
   find("legend").textContent = hasCounts ? "At each wire: how many elements it carried. ◂ more is asked for; ▪ shut; dashed with a box: a lane and its size." : "";
@@ -269,6 +269,8 @@ async function step() {
       unit = wantedUnit;
       await showUnit(unit, session);
     }
+  } catch (error) {
+    if (!(error instanceof Stopped)) say(`This unit cannot be shown. ${wordsOfFault(error.message)}`);
   } finally {
     wantedUnit = null;
   }

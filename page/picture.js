@@ -2,7 +2,8 @@
 // A drawing of `blueprint draw` as a picture (SVG) of the page: a form and a colour for each role, never a colour alone, and, where
 // a run is given, how many elements each wire carried.
 
-const ROLE_OF_KIND = {};
+// (without a prototype: a file may have the name `constructor`)
+const ROLE_OF_KIND = Object.create(null);
 for (const [role, kinds] of Object.entries({
   fan: "merge concat interleave merge_sorted zip broadcast balance partition unzip",
   hub: "merge_hub broadcast_hub",
@@ -70,7 +71,8 @@ function measureNode(node, run) {
 }
 
 function measureWire(wire) {
-  const lane = wire.lane ? wire.lane.length * TEXT.wire + 18 : 0;
+  // (a lane leads from one frame to another mostly, and has its words between them)
+  const lane = wire.lane ? wire.lane.length * TEXT.wire + 44 : 0;
   const said = wire.type.length * TEXT.wire + lane;
   const ports = (wire.output ? 20 : 0) + (wire.input ? 20 : 0);
   const beside = wire.source.outgoing.filter((it) => it.target === wire.target).length;

@@ -52,7 +52,9 @@ class Program {
 
   /** Runs the program with these words after its name; the rest as `runProgram` has it. */
   async run(words, files, input) {
-    await this.isReady;
+    await this.isReady.catch((error) => {
+      throw error instanceof Stopped ? error : new Error(`${this.name} could not be loaded: ${error.message}`);
+    });
     return this.ask({ run: { words: [this.name, ...words], files, input } });
   }
 

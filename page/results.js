@@ -9,7 +9,7 @@ const textShown = (bytes) => new TextDecoder().decode(bytes);
 
 /** Returns what a report says of the wires and the sinks, as `pictureOf` takes it. */
 function runOfReport(report) {
-  const wires = [], sinks = {};
+  const wires = [], sinks = Object.create(null); // (a sink may have the name `constructor`)
   for (const [, number, sent, asked, shut] of report.matchAll(/^wire (\d+) sent (\d+) (\w+) (\w+)$/gm)) wires[number] = { sent: Number(sent), isAsked: asked === "asked", isShut: shut === "shut" };
   for (const [, name, said] of report.matchAll(/^sink (\S+) (.*)$/gm)) sinks[name] = said;
   return { wires, sinks };
@@ -17,8 +17,9 @@ function runOfReport(report) {
 
 /** Says in words what stopped a program that did not end by itself. */
 function wordsOfFault(fault) {
+  if (/could not be loaded/.test(fault)) return "This browser could not load the program.";
   if (/stack/i.test(fault)) return "The run needed a deeper stack than a page has, and was ended.";
-  if (/memory|allocation|RangeError/i.test(fault)) return "The run wanted more memory than this page has, and was ended.";
+  if (/out of memory|allocat/i.test(fault)) return "The run wanted more memory than this page has, and was ended.";
   return "The program stopped in the middle of the run, and left no report. This is a fault of this build or of this page.";
 }
 
@@ -57,19 +58,25 @@ function saveFile(name, bytes) {
   setTimeout(() => URL.revokeObjectURL(address), 10000);
 }
 
-/** Fills a table with the nodes and the wires of a picture. */
-function fillTable(table, { nodes, wires }) {
-  const row = (cell, texts) => element("tr", {}, ...texts.map((text) => element(cell, { textContent: text })));
-  const nodeRows = nodes.map((node) => row("td", [node.name, ROLE_WORDS[node.role], node.rows.map((it) => it.text).join(" ")]));
+/** Returns a table with a caption, the heads of its columns, and its rows. */
+function tableOf(caption, heads, rows) {
+  const headCells = heads.map((text) => element("th", { textContent: text, scope: "col" }));
+  const bodyRows = rows.map((texts) => element("tr", {}, ...texts.map((text) => element("td", { textContent: text }))));
+  return element("table", {}, element("caption", { textContent: caption }), element("thead", {}, element("tr", {}, ...headCells)), element("tbody", {}, ...bodyRows));
+}
+
+/** Returns the tables of the nodes and of the wires of a picture. */
+function tablesOf({ nodes, wires }) {
+  const place = (name, port) => (port ? `${name} (${port})` : name);
+  const nodeRows = nodes.map((node) => [node.name, ROLE_WORDS[node.role], node.rows.map((it) => it.text).join(" ")]);
   const wireRows = wires.map((wire, i) => {
     const count = wire.count;
-    const state = count ? stateOf(count).words : "";
-    return row("td", [i, `${wire.from}${wire.output && ` (${wire.output})`}`, `${wire.to}${wire.input && ` (${wire.input})`}`, wire.type, wire.lane, count ? count.sent : "", state, wire.rule ?? ""]);
+    return [i, place(wire.from, wire.output), place(wire.to, wire.input), wire.type, wire.lane, count ? count.sent : "", count ? stateOf(count).words : "", wire.rule ?? ""];
   });
-  table.replaceChildren(
-    element("tbody", {}, row("th", ["Node", "Role", "What it does"]), ...nodeRows),
-    element("tbody", {}, row("th", ["Wire", "From (output)", "To (input)", "Type", "Lane", "Sent", "State", "Rule"]), ...wireRows),
-  );
+  return [
+    tableOf("Nodes", ["Node", "Role", "What it does"], nodeRows),
+    tableOf("Wires", ["Wire", "From (output)", "To (input)", "Type", "Lane", "Sent", "State", "Rule"], wireRows),
+  ];
 }
 
 const ROLE_WORDS = {

@@ -87,7 +87,9 @@ function forgetRun() {
   shown = null;
   find("stepper").hidden = find("count").hidden = true;
   find("legend").textContent = "";
-  if (find("report").textContent && !activity) say("Something was changed since the last run.");
+  if (find("report").textContent === "" || activity) return;
+  find("code").textContent = "(of what stood here before)";
+  say("Something was changed since the last run.");
 }
 
 // ---- The picture

@@ -14,7 +14,11 @@ function textOfBytes(bytes) {
   }
 }
 
-const sizeInWords = (bytes) => (bytes === 1 ? "1 byte" : bytes < 10000 ? `${bytes} bytes` : bytes < 1e7 ? `${Math.round(bytes / 1000)} KB` : `${Math.round(bytes / 1e6)} MB`);
+function sizeInWords(bytes) {
+  if (bytes === 1) return "1 byte";
+  if (bytes < 10000) return `${bytes} bytes`;
+  return bytes < 1e7 ? `${Math.round(bytes / 1000)} KB` : `${Math.round(bytes / 1e6)} MB`;
+}
 
 class InputFile {
   constructor(list, name, bytes) {

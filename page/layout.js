@@ -174,8 +174,9 @@ function frameOf(area) {
 /** Says whether a frame has a node in it that is not its own. */
 function isCrossed(area, nodes) {
   const frame = frameOf(area), own = new Set(area.nodes);
-  const isIn = (node) => node.x + node.width / 2 > frame.left && node.x - node.width / 2 < frame.right && node.y + node.height / 2 > frame.top && node.y - node.height / 2 < frame.bottom;
-  return nodes.some((node) => !own.has(node) && isIn(node));
+  const isBeside = (node) => node.x + node.width / 2 <= frame.left || node.x - node.width / 2 >= frame.right;
+  const isAboveOrBelow = (node) => node.y + node.height / 2 <= frame.top || node.y - node.height / 2 >= frame.bottom;
+  return nodes.some((node) => !own.has(node) && !isBeside(node) && !isAboveOrBelow(node));
 }
 
 function place(graph, areBanded) {

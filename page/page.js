@@ -94,6 +94,8 @@ function forgetRun() {
 
 // ---- The picture
 
+const LEGEND = "At each wire: how many elements it carried. ◂ more is asked for; ▪ shut; dashed with a box: a lane and its size.";
+
 function showPicture(run) {
   const place = find("picture");
   try {
@@ -105,8 +107,7 @@ function showPicture(run) {
     place.replaceChildren(element("p", { className: "dim", textContent: error.message }));
     find("tables").replaceChildren();
   }
-  const hasCounts = run?.wires.length > 0;
-  find("legend").textContent = hasCounts ? "At each wire: how many elements it carried. ◂ more is asked for; ▪ shut; dashed with a box: a lane and its size." : "";
+  find("legend").textContent = run?.wires.length > 0 ? LEGEND : "";
 }
 
 // ---- A run
@@ -240,7 +241,7 @@ async function showUnits(mine, milliseconds) {
     it.units = units;
     find("count").hidden = units > 0;
     if (units === 0) return;
-    Object.assign(find("unit"), { min: 0, max: units, value: units });
+    Object.assign(find("unit"), { max: units, value: units });
     find("stepper").hidden = false;
     await step();
   } catch (error) {
@@ -282,13 +283,16 @@ async function showUnit(unit, mine) {
   const it = shown, { units, report } = it, isEnd = unit === units;
   // A report tells of wires only where the run has not ended: behind the last unit the counts are those of the unit before.
   const hasWires = /^wire /m.test(report);
-  const counted = isEnd && hasWires ? report : unit === 0 || (isEnd && units === 1) ? "" : textShown((await runTo(it, isEnd ? unit - 1 : unit)).output);
+  const told = isEnd && !hasWires ? unit - 1 : unit;
+  let counted = "";
+  if (isEnd && hasWires) counted = report;
+  else if (told > 0) counted = textShown((await runTo(it, told)).output);
   if (mine !== session) return;
   const seen = runOfReport(counted);
   if (isEnd) seen.sinks = runOfReport(report).sinks;
   showPicture(seen);
   const end = isEnd ? `: ${report.split("\n")[0]}` : "";
-  const before = isEnd && !hasWires && counted ? `; the counts are those after unit ${unit - 1}` : "";
+  const before = isEnd && !hasWires && counted ? `; the counts are those after unit ${told}` : "";
   find("at").textContent = `After ${unit} of ${units} units${end}${before}`;
   find("unit").setAttribute("aria-valuetext", find("at").textContent);
 }
@@ -349,12 +353,18 @@ async function openAddress() {
 }
 
 async function share() {
-  const state = { blueprint: editor.text, files: inputs.contents, turns: find("turns").value.trim(), trace: find("trace").checked, moves: find("replay").checked ? find("moves").value : undefined };
-  const fragment = await fragmentOf(state);
+  const fragment = await fragmentOf({
+    blueprint: editor.text,
+    files: inputs.contents,
+    turns: find("turns").value.trim(),
+    trace: find("trace").checked,
+    moves: find("replay").checked ? find("moves").value : undefined,
+  });
   find("link").hidden = false;
   if (fragment.length > MOST_LINK) {
     find("address").value = "";
-    find("linked").textContent = `The text and the files are too large for a link: it would have ${fragment.length} characters, and ${MOST_LINK} is the most that each browser takes.`;
+    const lengths = `it would have ${fragment.length} characters, and ${MOST_LINK} is the most that each browser takes`;
+    find("linked").textContent = `The text and the files are too large for a link: ${lengths}.`;
     return;
   }
   find("address").value = location.href.replace(/#.*/, "") + fragment;

@@ -47,7 +47,8 @@ function prepare(drawing, run) {
     wire.target.incoming.push(wire);
   });
   drawing.orders = drawing.orders.map((order) => ({ ...order, source: byName.get(order.from), target: byName.get(order.to) }));
-  drawing.areas = drawing.areas.map((area) => ({ ...area, nodes: area.names.map((name) => byName.get(name)).filter(Boolean) })).filter((area) => area.nodes.length);
+  const nodesOf = (area) => area.names.map((name) => byName.get(name)).filter(Boolean);
+  drawing.areas = drawing.areas.map((area) => ({ ...area, nodes: nodesOf(area) })).filter((area) => area.nodes.length);
   const deepest = Math.max(0, ...drawing.areas.map((area) => area.depth));
   for (const area of drawing.areas) area.inner = deepest - area.depth;
   for (const node of drawing.nodes) measureNode(node, run);
@@ -95,22 +96,29 @@ const FORMS = {
 const FORM_OF_ROLE = { source: "arrow", sink: "note", stage: "box", fan: "bars", hub: "double", holds: "cylinder", substreams: "stack", stop: "octagon", handed: "tab" };
 
 function roundBox({ left, top, width, height }, r) {
-  return `M${left + r} ${top}h${width - 2 * r}q${r} 0 ${r} ${r}v${height - 2 * r}q0 ${r} ${-r} ${r}h${2 * r - width}q${-r} 0 ${-r} ${-r}v${2 * r - height}q0 ${-r} ${r} ${-r}z`;
+  const across = width - 2 * r, down = height - 2 * r;
+  return `M${left + r} ${top}h${across}q${r} 0 ${r} ${r}v${down}q0 ${r} ${-r} ${r}h${-across}q${-r} 0 ${-r} ${-r}v${-down}q0 ${-r} ${r} ${-r}z`;
 }
 
 function nodeElement(node) {
   const box = { left: node.x - node.width / 2, top: node.y - node.height / 2, width: node.width, height: node.height };
-  const shape = node.isPoint ? svg("circle", { cx: box.left + 8, cy: node.y, r: 7 }) : svg("path", { d: FORMS[FORM_OF_ROLE[node.role]](box) });
-  const group = svg("g", { class: `node ${node.role}${node.rule ? " fault" : ""}` }, svg("title", {}, [node.name, ...node.rows.map((row) => row.text)].join(", ")), shape);
+  const point = () => svg("circle", { cx: box.left + 8, cy: node.y, r: 7 });
+  const form = () => svg("path", { d: FORMS[FORM_OF_ROLE[node.role]](box) });
+  const words = svg("title", {}, [node.name, ...node.rows.map((row) => row.text)].join(", "));
+  const group = svg("g", { class: `node ${node.role}${node.rule ? " fault" : ""}` }, words, node.isPoint ? point() : form());
   const first = node.y - (TEXT.lineHeight * node.rows.length) / 2 + 5 + node.lid / 2;
   group.append(svg("text", { class: "name", x: node.x, y: first }, node.name));
-  node.rows.forEach((row, i) => group.append(svg("text", { class: `row ${row.state}`, x: node.x, y: first + TEXT.lineHeight * (i + 1) }, ...rowParts(row.text))));
+  node.rows.forEach((row, i) => {
+    const y = first + TEXT.lineHeight * (i + 1);
+    group.append(svg("text", { class: `row ${row.state}`, x: node.x, y }, ...rowParts(row.text)));
+  });
   return group;
 }
 
 /** The text of a row, with its decider in a part of its own. */
 function rowParts(text) {
-  return text.split(/(decider \w+)/).filter(Boolean).map((part) => (part.startsWith("decider ") ? svg("tspan", { class: "decider" }, part) : part));
+  const parts = text.split(/(decider \w+)/).filter(Boolean);
+  return parts.map((part) => (part.startsWith("decider ") ? svg("tspan", { class: "decider" }, part) : part));
 }
 
 // ---- Wires
@@ -119,7 +127,7 @@ function rowParts(text) {
 function pointsOf(wire) {
   return wire.way.map((place, i) => {
     if (i === 0) return { x: place.x + place.width / 2, y: place.y + wire.outputShift };
-    if (i === wire.way.length - 1) return { x: place.isPoint ? place.x - place.width / 2 : place.x - place.width / 2 - 1, y: place.y + wire.inputShift };
+    if (i === wire.way.length - 1) return { x: place.x - place.width / 2 - 1, y: place.y + wire.inputShift };
     return { x: place.x, y: place.y };
   });
 }
@@ -163,7 +171,8 @@ function laneElements(lane, x, y) {
 function wireElement(wire, number, most) {
   const points = pointsOf(wire), at = labelPoint(wire, points), count = wire.count, state = count && stateOf(count);
   const group = svg("g", { class: `wire${wire.lane ? " lane" : ""}${wire.rule ? " fault" : ""}${state ? ` ${state.name}` : ""}` });
-  const said = [`wire ${number}, ${wire.from} to ${wire.to}`, wire.type, wire.lane && `a lane of ${wire.lane}`, count && `${count.sent} sent, ${state.words}`, wire.rule];
+  const counted = count && `${count.sent} sent, ${state.words}`;
+  const said = [`wire ${number}, ${wire.from} to ${wire.to}`, wire.type, wire.lane && `a lane of ${wire.lane}`, counted, wire.rule];
   group.append(svg("title", {}, said.filter(Boolean).join(": ")));
   const width = count ? 1.2 + (3.2 * count.sent) / most : wire.lane ? 2.2 : 1.4;
   group.append(svg("path", { d: curve(points), "marker-end": "url(#arrow)", "stroke-width": width.toFixed(1) }));
@@ -187,12 +196,13 @@ function orderElement({ source, target, text }) {
 
 function areaElement(area) {
   const { left, right, top, bottom } = frameOf(area);
-  return svg("g", { class: "area" }, svg("rect", { x: left, y: top, width: right - left, height: bottom - top, rx: 10 }), svg("text", { x: left + 9, y: top + 15 }, area.text));
+  const frame = svg("rect", { x: left, y: top, width: right - left, height: bottom - top, rx: 10 });
+  return svg("g", { class: "area" }, frame, svg("text", { x: left + 9, y: top + 15 }, area.text));
 }
 
 function arrowHead() {
-  const marker = svg("marker", { id: "arrow", viewBox: "0 0 8 8", refX: 7, refY: 4, markerWidth: 8, markerHeight: 8, markerUnits: "userSpaceOnUse", orient: "auto" }, svg("path", { d: "M0 0L8 4L0 8z" }));
-  return svg("defs", {}, marker);
+  const size = { viewBox: "0 0 8 8", refX: 7, refY: 4, markerWidth: 8, markerHeight: 8, markerUnits: "userSpaceOnUse" };
+  return svg("defs", {}, svg("marker", { id: "arrow", orient: "auto", ...size }, svg("path", { d: "M0 0L8 4L0 8z" })));
 }
 
 /** The rectangle that holds all that is drawn. */
@@ -215,8 +225,8 @@ function pictureOf(text, run = null) {
   prepare(drawing, run);
   layOut(drawing);
   const { left, top, width, height } = boundsOf(drawing);
-  const words = `${drawing.nodes.length} nodes and ${drawing.wires.length} wires`;
-  const picture = svg("svg", { class: "graph", viewBox: `${left} ${top} ${width} ${height}`, role: "img", "aria-label": `The graph of the blueprint: ${words}. The table below the picture has them in words.` }, arrowHead());
+  const words = `The graph of the blueprint: ${drawing.nodes.length} nodes and ${drawing.wires.length} wires. The tables below have them in words.`;
+  const picture = svg("svg", { class: "graph", viewBox: `${left} ${top} ${width} ${height}`, role: "img", "aria-label": words }, arrowHead());
   picture.style.maxWidth = `${width}px`;
   picture.style.setProperty("--natural", `${width}px`); // (a narrow page scrolls it, so that its words can be read)
   const most = Math.max(1, ...drawing.wires.map((wire) => wire.count?.sent ?? 0));

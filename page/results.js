@@ -10,7 +10,9 @@ const textShown = (bytes) => new TextDecoder().decode(bytes);
 /** Returns what a report says of the wires and the sinks, as `pictureOf` takes it. */
 function runOfReport(report) {
   const wires = [], sinks = Object.create(null); // (a sink may have the name `constructor`)
-  for (const [, number, sent, asked, shut] of report.matchAll(/^wire (\d+) sent (\d+) (\w+) (\w+)$/gm)) wires[number] = { sent: Number(sent), isAsked: asked === "asked", isShut: shut === "shut" };
+  for (const [, number, sent, asked, shut] of report.matchAll(/^wire (\d+) sent (\d+) (\w+) (\w+)$/gm)) {
+    wires[number] = { sent: Number(sent), isAsked: asked === "asked", isShut: shut === "shut" };
+  }
   for (const [, name, said] of report.matchAll(/^sink (\S+) (.*)$/gm)) sinks[name] = said;
   return { wires, sinks };
 }
@@ -25,11 +27,11 @@ function wordsOfFault(fault) {
 
 /** Says in words what a page has less of than a machine, where the run met it; else nothing. */
 function wordsOfLimits(end) {
-  if (end.code === NO_MEMORY) return "This page gives a run 1 GB of memory, and the run wanted more. The program that `make` builds has no such limit.";
-  if (end.code === WRITE_FAULT && end.isFull) return `This page keeps at most ${MOST_WRITTEN_WORDS} of what a run writes, and the run wrote more. The program that \`make\` builds has no such limit.`;
+  const elsewhere = "The program that `make` builds has no such limit.";
+  if (end.code === NO_MEMORY) return `This page gives a run 1 GB of memory, and the run wanted more. ${elsewhere}`;
+  if (end.code === WRITE_FAULT && end.isFull) return `This page keeps at most 64 MB of what a run writes, and the run wrote more. ${elsewhere}`;
   return "";
 }
-const MOST_WRITTEN_WORDS = "64 MB";
 
 function element(name, properties = {}, ...children) {
   const made = Object.assign(document.createElement(name), properties);
@@ -47,7 +49,8 @@ function writtenFile(name, bytes) {
   const contents = element("pre", { textContent: text, tabIndex: 0 });
   contents.setAttribute("role", "region");
   contents.setAttribute("aria-label", `Contents of ${name}`);
-  const file = element("div", { className: "file" }, element("div", { className: "head" }, element("b", { textContent: name }), save, element("span", { className: "dim", textContent: size })), contents);
+  const head = element("div", { className: "head" }, element("b", { textContent: name }), save, element("span", { className: "dim", textContent: size }));
+  const file = element("div", { className: "file" }, head, contents);
   file.dataset.name = name;
   return file;
 }
@@ -62,7 +65,8 @@ function saveFile(name, bytes) {
 function tableOf(caption, heads, rows) {
   const headCells = heads.map((text) => element("th", { textContent: text, scope: "col" }));
   const bodyRows = rows.map((texts) => element("tr", {}, ...texts.map((text) => element("td", { textContent: text }))));
-  return element("table", {}, element("caption", { textContent: caption }), element("thead", {}, element("tr", {}, ...headCells)), element("tbody", {}, ...bodyRows));
+  const head = element("thead", {}, element("tr", {}, ...headCells));
+  return element("table", {}, element("caption", { textContent: caption }), head, element("tbody", {}, ...bodyRows));
 }
 
 /** Returns the tables of the nodes and of the wires of a picture. */
@@ -71,7 +75,8 @@ function tablesOf({ nodes, wires }) {
   const nodeRows = nodes.map((node) => [node.name, ROLE_WORDS[node.role], node.rows.map((it) => it.text).join(" ")]);
   const wireRows = wires.map((wire, i) => {
     const count = wire.count;
-    return [i, place(wire.from, wire.output), place(wire.to, wire.input), wire.type, wire.lane, count ? count.sent : "", count ? stateOf(count).words : "", wire.rule ?? ""];
+    const counted = count ? [count.sent, stateOf(count).words] : ["", ""];
+    return [i, place(wire.from, wire.output), place(wire.to, wire.input), wire.type, wire.lane, ...counted, wire.rule ?? ""];
   });
   return [
     tableOf("Nodes", ["Node", "Role", "What it does"], nodeRows),

@@ -39,7 +39,8 @@ function stateOfJson(json) {
   const files = {};
   for (const [name, text] of Object.entries(json.files ?? {})) files[name] = new TextEncoder().encode(text);
   for (const [name, text] of Object.entries(json.bytes ?? {})) files[name] = fromBase64(text);
-  return { blueprint: json.blueprint, files, turns: isText(json.turns) ? json.turns : "", moves: isText(json.moves) ? json.moves : null, trace: json.trace === true };
+  const turns = isText(json.turns) ? json.turns : "", moves = isText(json.moves) ? json.moves : null;
+  return { blueprint: json.blueprint, files, turns, moves, trace: json.trace === true };
 }
 
 /** Returns the state that a fragment holds, or null where it holds none. Throws an Error with words where it is damaged. */

@@ -18,7 +18,7 @@ const STEPS: &[u8] =
 
 /// The stages that a chain may not have.
 const STAGES: &[u8] =
-    b"buffer N^ POLICY, recover VALUE, valve NAME, trip NAME ORDER, plug NAME, group_by N^ F each NAME merge, split_when P each NAME JOINING, split_after P each NAME JOINING, merge N^, concat N^, interleave N^ N^, merge_sorted, zip, broadcast N^, balance N^, partition N^ F, unzip";
+    b"buffer N^ POLICY, recover VALUE, valve NAME, trip NAME ORDER, plug NAME, custom NAME, group_by N^ F each NAME merge, split_when P each NAME JOINING, split_after P each NAME JOINING, merge N^, concat N^, interleave N^ N^, merge_sorted, zip, broadcast N^, balance N^, partition N^ F, unzip";
 
 /// The stages that only a text of version 2 may have.
 const LATER_STAGES: &[u8] = b"merge_hub N^ N^, broadcast_hub N^ N^";

@@ -4,11 +4,15 @@ ghost use Rattle.std.specs.Fmt.{decimal};
 ghost use Rattle.elem_core.specs.Prefix.{IsPrefix};
 ghost use Rattle.workbench_draw.specs.Message.{report_line, BeginsWithReport};
 
+use crate::hints::{
+    put_default_again, put_endless, put_foreign, put_later, put_misplaced, put_path,
+};
 use crate::judge::Unready;
+use crate::lacks::put_lacking;
 use crate::modules::broken_at;
 use crate::origins::{TextPlace, origin};
 use crate::place::{FaultPlace, Sort, place_of};
-use crate::sayings::{Saying, of_rule, of_text};
+use crate::sayings::{Saying, of_missing, of_rule, of_text};
 use crate::source::{SourceLine, is_second, line_numbered, line_of};
 use crate::walk::put_misfit;
 use blue_check::check::CheckEnd;
@@ -85,19 +89,6 @@ fn unfit_line(alloc: Global, fault: &CheckFault) -> Result<Vec<u8>, NoMemory>
     Ok(out)
 }
 
-/// Appends where a fault is, what it means and what to do.
-pub fn put_saying(
-    out: &mut Vec<u8>,
-    line: Option<SourceLine<'_>>,
-    saying: Saying,
-) -> Result<(), NoMemory> {
-    if let Some(line) = line {
-        put_source_line(out, &line)?;
-        out.push(b'\n')?;
-    }
-    put_words(out, saying)
-}
-
 /// Appends what a fault means and what to do.
 fn put_words(out: &mut Vec<u8>, saying: Saying) -> Result<(), NoMemory> {
     out.extend_from_slice(saying.means)?;
@@ -115,11 +106,14 @@ fn words_of_rule(
     fault: &CheckFault,
 ) -> Result<Vec<u8>, NoMemory> {
     let mut out = Vec::new(alloc);
+    let mut saying = of_rule(fault);
     if let Ok(said) = parse(alloc, text) {
         match flatten(alloc, &said) {
             Ok(b) => {
                 if let Some(place) = place_of(&b, file, fault) {
                     put_declared(alloc, &mut out, text, &said, &b, place)?;
+                    put_detail_of(alloc, &mut out, text, &said, &b, fault)?;
+                    saying = saying_at(&b, place, fault, saying);
                 }
             }
             Err(CheckEnd::Fault(_same)) => {
@@ -128,8 +122,54 @@ fn words_of_rule(
             Err(CheckEnd::NoMemory) => {}
         }
     }
-    put_words(&mut out, of_rule(fault))?;
+    put_words(&mut out, saying)?;
     Ok(out)
+}
+
+/// Appends what a rule's words can't say of every place: which ports a node has.
+fn put_detail_of(
+    alloc: Global,
+    out: &mut Vec<u8>,
+    text: &[u8],
+    said: &BlueText,
+    b: &Blueprint,
+    fault: &CheckFault,
+) -> Result<(), NoMemory> {
+    match fault {
+        CheckFault::NoSuchPort(i) => put_lacking(alloc, out, text, said, b, *i as usize),
+        _ => Ok(()),
+    }
+}
+
+/// What a fault means at its place: of an unknown name also what it was to name.
+fn saying_at(b: &Blueprint, place: FaultPlace, fault: &CheckFault, general: Saying) -> Saying {
+    match (fault, place.sort) {
+        (CheckFault::NoSuchName(_), Sort::Node) => match b.nodes.get(place.number) {
+            Some(node) => of_missing(&node.kind),
+            None => general,
+        },
+        _ => general,
+    }
+}
+
+/// Appends the line in which a part of a blueprint is declared, in parentheses, if it has one.
+pub(crate) fn put_part_line(
+    alloc: Global,
+    out: &mut Vec<u8>,
+    text: &[u8],
+    said: &BlueText,
+    place: FaultPlace,
+) -> Result<(), NoMemory> {
+    let book = book_of(alloc, &said.modules)?;
+    let Some(declared) = declared_at(&book, said, place) else {
+        return Ok(());
+    };
+    if let Some(line) = line_of(text, declared) {
+        out.extend_from_slice(b" (")?;
+        put_source_line(out, &line)?;
+        out.push(b')')?;
+    }
+    Ok(())
 }
 
 /// Appends the line of a declaration, where it has one.
@@ -202,30 +242,93 @@ fn put_instance(out: &mut Vec<u8>, b: &Blueprint, place: FaultPlace) -> Result<(
     Ok(())
 }
 
-/// Appends at which word of its line a fault is, where it is at a word, and what may stand there in a text of version 1, or of 2.
-fn put_word_at(
+/// Appends what is wrong in a line that is no declaration, or may not be where it is: at which word no form was left, and the
+/// commonest mistakes. Nothing if each word fits.
+fn put_bad_line(
     alloc: Global,
     out: &mut Vec<u8>,
-    line: Option<SourceLine<'_>>,
-    second: bool,
+    text: &[u8],
+    line: &SourceLine<'_>,
+) -> Result<(), NoMemory> {
+    let second = is_second(text);
+    if second && put_misplaced(out, text, line)? {
+        return Ok(());
+    }
+    let before = out.len();
+    put_misfit(alloc, out, line.bytes, second, false)?;
+    if out.len() == before {
+        return put_default_again(out, line.bytes);
+    }
+    if !second {
+        put_later(out, line.bytes)?;
+    }
+    put_foreign(out, line.bytes)
+}
+
+/// Appends at which word of a line a name, a file or a number is none.
+fn put_bad_place(
+    alloc: Global,
+    out: &mut Vec<u8>,
+    text: &[u8],
+    line: &SourceLine<'_>,
     kind: BlueKind,
 ) -> Result<(), NoMemory> {
-    let Some(line) = line else {
-        return Ok(());
-    };
+    put_misfit(alloc, out, line.bytes, is_second(text), true)?;
     match kind {
-        BlueKind::BadLine => put_misfit(alloc, out, line.bytes, second, false),
-        BlueKind::BadName | BlueKind::BadNumber => put_misfit(alloc, out, line.bytes, second, true),
+        BlueKind::BadName => put_path(out, line.bytes),
         _ => Ok(()),
     }
 }
 
+/// Appends what is said of a fault at a line: the line, what is wrong in it, and in general words what that does not say.
+fn put_fault_at(
+    alloc: Global,
+    out: &mut Vec<u8>,
+    text: &[u8],
+    line: &SourceLine<'_>,
+    kind: BlueKind,
+) -> Result<(), NoMemory> {
+    put_source_line(out, line)?;
+    out.push(b'\n')?;
+    let before = out.len();
+    let is_line = matches!(kind, BlueKind::BadLine);
+    if is_line {
+        put_bad_line(alloc, out, text, line)?;
+    } else if matches!(kind, BlueKind::BadName | BlueKind::BadNumber) {
+        put_bad_place(alloc, out, text, line, kind)?;
+    }
+    let saying = of_text(kind);
+    if out.len() == before {
+        put_words(out, saying)
+    } else if is_line {
+        Ok(())
+    } else {
+        out.extend_from_slice(saying.advice)?;
+        out.extend_from_slice(b"\n")
+    }
+}
+
+/// Appends what is said of a fault of a whole text.
+fn put_fault_of(out: &mut Vec<u8>, text: &[u8], kind: BlueKind) -> Result<(), NoMemory> {
+    let before = out.len();
+    if matches!(kind, BlueKind::BadLine) {
+        put_endless(out, text)?;
+    }
+    if out.len() == before {
+        put_words(out, of_text(kind))
+    } else {
+        Ok(())
+    }
+}
+
+// Choice: docs/DECISIONS.md#words-that-help-first
 /// What is said of a fault of a text behind the line of the report.
 fn words_of_text(alloc: Global, text: &[u8], fault: BlueFault) -> Result<Vec<u8>, NoMemory> {
     let mut out = Vec::new(alloc);
-    let line = line_numbered(text, fault.line);
-    put_saying(&mut out, line, of_text(fault.kind))?;
-    put_word_at(alloc, &mut out, line, is_second(text), fault.kind)?;
+    match line_numbered(text, fault.line) {
+        Some(line) => put_fault_at(alloc, &mut out, text, &line, fault.kind)?,
+        None => put_fault_of(&mut out, text, fault.kind)?,
+    }
     Ok(out)
 }
 

@@ -1,6 +1,7 @@
 // What each fault means and what to do about it, in words.
 use blue_check::fault::CheckFault;
 use blue_words::fault::BlueKind;
+use stream_model::kind::Kind;
 
 /// What a fault means, and what to do about it.
 #[derive(Clone, Copy)]
@@ -61,6 +62,20 @@ fn of_names(fault: &CheckFault) -> Option<Saying> {
             advice: b"Name each plug and each custom stage once.",
         }),
         _ => None,
+    }
+}
+
+/// What it means that a stage of this kind names what is not declared: a switch, or else a chain.
+pub(crate) fn of_missing(kind: &Kind) -> Saying {
+    match kind {
+        Kind::Valve(_) | Kind::TripShutdown(_, _) | Kind::TripAbort(_, _) => Saying {
+            means: b"No switch of this name is declared.",
+            advice: b"Declare it by a line `switch NAME`, or mend its spelling.",
+        },
+        _ => Saying {
+            means: b"No chain of this name is declared.",
+            advice: b"Declare it by a line `chain NAME STEP`, or mend its spelling.",
+        },
     }
 }
 

@@ -44,13 +44,17 @@ fn module_sort_of(word: &[u8]) -> Option<Sort> {
     }
 }
 
-/// What a line declares.
-fn declared(line: &[u8]) -> Option<Sort> {
+/// The first word of a line, if it has one that can be read.
+pub fn first_word(line: &[u8]) -> Option<&[u8]> {
     if line.len() > MAX_TEXT_LINE || !is_plain(line) {
         return None;
     }
-    let mut words = Words::of(line);
-    sort_of(words.next()?)
+    Words::of(line).next()
+}
+
+/// What a line declares.
+fn declared(line: &[u8]) -> Option<Sort> {
+    sort_of(first_word(line)?)
 }
 
 /// Where the lines of a text are: in which module, if in one, and how many modules have begun.
@@ -138,4 +142,28 @@ pub fn line_numbered(text: &[u8], number: u32) -> Option<SourceLine<'_>> {
         rest = after;
     }
     None
+}
+
+/// The first line of the module that is open where the line of that number begins; none if no module is open there, or if there
+/// is no line of that number and each module has its end.
+pub(crate) fn open_before(text: &[u8], number: usize) -> Option<SourceLine<'_>> {
+    let mut rest = text;
+    let mut at: usize = 0;
+    let mut open: Option<SourceLine<'_>> = None;
+    while let Some((line, after)) = next_line(rest) {
+        at = at.saturating_add(1);
+        if at == number {
+            return open;
+        }
+        open = match declared(line) {
+            Some(Sort::Module) => Some(SourceLine {
+                number: at,
+                bytes: line,
+            }),
+            Some(Sort::End) => None,
+            _ => open,
+        };
+        rest = after;
+    }
+    open
 }

@@ -41,7 +41,7 @@ pub struct Task {
 /// Why the words ask for nothing.
 #[derive(Drop)]
 pub enum TaskEnd {
-    /// They ask for help, which is this text.
+    /// They ask for help or for the version, which is this text.
     Help(String),
     /// They are no command; this text says so.
     Usage(String),

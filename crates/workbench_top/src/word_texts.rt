@@ -9,6 +9,10 @@ use std::alloc::{AllocError, Global};
 const NO_PLACE: &str =
     "FILE is the name of a file in this folder (a letter or a digit, and letters, digits, `.`, `_` and `-`), N a number, and ROW a source, stages and a sink with `|` between them";
 
+/// What `--version` says behind the program's name. The kit's line is that of `README.md`, which `tools/versions_agree` compares.
+const VERSION: &str =
+    "0.1, for texts of `streams 1` and `streams 2`\nThe sources of this version are proved with rattle-kit-13f logic dac8208d650f15bf; docs/PROVED.md says what is proved of them.\n`make blueprint` builds what it has proved. `make quick` builds the same sources without their proof.";
+
 /// A command on one file.
 fn command<'a>(alloc: Global, name: &'a str, about: &'a str) -> Result<Command<'a>, AllocError> {
     let file = Arg::new(alloc, "FILE")
@@ -47,6 +51,7 @@ fn workbench<'a>(alloc: Global) -> Result<Command<'a>, AllocError> {
         .bin_name("blueprint")?
         .no_binary_name(true)
         .about("Looks at the blueprints that streams runs")
+        .version(VERSION)
         .subcommand_required(true)
         .subcommand(command(alloc, "check", "Tells the first fault, or nothing")?)?
         .subcommand(command(alloc, "fmt", "Prints the canonical text")?)?
@@ -89,7 +94,7 @@ fn end_of(alloc: Global, error: &Error) -> Result<TaskEnd, AllocError> {
     let text = format!(in alloc; "{error}")?;
     match error.kind() {
         ErrorKind::OutOfMemory => Ok(TaskEnd::NoMemory),
-        ErrorKind::DisplayHelp => Ok(TaskEnd::Help(text)),
+        ErrorKind::DisplayHelp | ErrorKind::DisplayVersion => Ok(TaskEnd::Help(text)),
         _ => Ok(TaskEnd::Usage(text)),
     }
 }

@@ -1,4 +1,6 @@
 // A report in words.
+use crate::report::words_of;
+use crate::ring::put_ring;
 use crate::scene::Scene;
 use crate::sinks::put_sink_line;
 use crate::statuses::put_status;
@@ -23,10 +25,7 @@ fn put_line(
     scene: Scene<'_>,
     line: &[u8],
 ) -> Result<bool, NoMemory> {
-    let mut words = Vec::new(alloc);
-    for word in line.split(|byte| *byte == b' ') {
-        words.push(word)?;
-    }
+    let words = words_of(alloc, line)?;
     match words.as_slice() {
         [first, rest @ ..] => {
             if is_word(first, b"sink") {
@@ -98,13 +97,15 @@ fn of_run(
         blueprint: b,
     };
     let mut out = Vec::new(alloc);
-    if put_status(alloc, &mut out, Some(scene), line)?
-        && put_lines(alloc, &mut out, scene, later)?
+    if !put_status(alloc, &mut out, Some(scene), line)?
+        || !put_lines(alloc, &mut out, scene, later)?
     {
-        Ok(Some(out))
-    } else {
-        Ok(None)
+        return Ok(None);
     }
+    if is_word(line, b"stalled") {
+        put_ring(alloc, &mut out, scene, later)?;
+    }
+    Ok(Some(out))
 }
 
 /// What is said of a report where the text says no blueprint.
@@ -118,8 +119,8 @@ fn of_words(alloc: Global, line: &[u8], later: &[u8]) -> Result<Option<Vec<u8>>,
 }
 
 /// A report of the run of that name's file, of which this is the text, in words: how it ended, for each sink its line, what its file
-/// holds and who is to blame, and for each wire how many elements passed and which node waits for which. None where it is no report
-/// of this text.
+/// holds and who is to blame, for each wire how many elements passed and which node waits for which, and of a stalled run the nodes
+/// that wait for each other in a ring. None where it is no report of this text.
 pub fn explain(
     alloc: Global,
     text: &[u8],

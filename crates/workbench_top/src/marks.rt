@@ -1,4 +1,5 @@
 // What a report says of nodes and wires, for the drawing of its blueprint.
+use crate::report::words_of;
 use crate::wires::read_wire;
 use blue_words::lines::next_line;
 use blue_words::places::count_place;
@@ -53,10 +54,7 @@ fn note_line(
     nodes: &[Node],
     line: &[u8],
 ) -> Result<(), NoMemory> {
-    let mut words = Vec::new(alloc);
-    for word in line.split(|byte| *byte == b' ') {
-        words.push(word)?;
-    }
+    let words = words_of(alloc, line)?;
     let [first, rest @ ..] = words.as_slice() else {
         return Ok(());
     };

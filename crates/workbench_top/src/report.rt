@@ -1,6 +1,7 @@
 // The report that is read from the input.
 ghost use Rattle.std.specs.Prelude.{◌<◌, ◌≤◌, vec_len, IfOk, IsTrue};
 
+use elem_core::why::NoMemory;
 use std::alloc::Global;
 use stream_io::outside::Source;
 
@@ -16,6 +17,15 @@ pub(crate) enum ReportEnd {
     /// A read failed.
     Fault,
     NoMemory,
+}
+
+/// The words of a line of a report, which are parted by one space each.
+pub(crate) fn words_of(alloc: Global, line: &[u8]) -> Result<Vec<&[u8]>, NoMemory> {
+    let mut words = Vec::new(alloc);
+    for word in line.split(|byte| *byte == b' ') {
+        words.push(word)?;
+    }
+    Ok(words)
 }
 
 /// Reads one piece behind the report, and says whether there was one.

@@ -16,9 +16,12 @@ pub(crate) struct Scene<'a> {
     pub(crate) blueprint: &'a Blueprint,
 }
 
-/// Appends the line of the text in which a node is declared, in parentheses.
-fn put_line(out: &mut Vec<u8>, scene: Scene<'_>, number: usize) -> Result<(), NoMemory> {
-    let place = FaultPlace::of(Sort::Node, number);
+/// Appends the line of the text in which a part is declared, in parentheses.
+pub(crate) fn put_line(
+    out: &mut Vec<u8>,
+    scene: Scene<'_>,
+    place: FaultPlace,
+) -> Result<(), NoMemory> {
     let Some(declared) = declared_at(scene.book, scene.said, place) else {
         return Ok(());
     };
@@ -61,7 +64,7 @@ pub(crate) fn put_node(
     match scene.node(number) {
         Some(node) => {
             out.extend_from_slice(node.name.bytes())?;
-            put_line(out, scene, number)?;
+            put_line(out, scene, FaultPlace::of(Sort::Node, number))?;
             Ok(true)
         }
         None => Ok(false),

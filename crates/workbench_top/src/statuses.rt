@@ -1,4 +1,5 @@
 // The first line of a report, in words.
+use crate::report::words_of;
 use crate::scene::{Scene, put_node};
 use blue_check::picks::picks;
 use blue_names::claims::file_of;
@@ -117,10 +118,7 @@ fn put_misfit(
     let Some(scene) = scene else {
         return Ok(false);
     };
-    let mut words = Vec::new(alloc);
-    for word in rest.split(|byte| *byte == b' ') {
-        words.push(word)?;
-    }
+    let words = words_of(alloc, rest)?;
     match words.as_slice() {
         [stage, pick, place] if is_word(pick, b"pick") => {
             let (Ok(stage), Ok(place)) = (count_place(stage), count_place(place)) else {

@@ -8,7 +8,7 @@ use workbench_draw::marks::WireMark;
 use workbench_draw::message::put_number;
 
 /// Appends a wire as `stage.output -> stage.input`.
-fn put_wire(out: &mut Vec<u8>, wire: &WireDecl) -> Result<(), NoMemory> {
+pub(crate) fn put_wire(out: &mut Vec<u8>, wire: &WireDecl) -> Result<(), NoMemory> {
     out.extend_from_slice(wire.from.bytes())?;
     out.push(b'.')?;
     put_number(out, u64::from(wire.output))?;

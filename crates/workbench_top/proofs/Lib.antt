@@ -1,3 +1,4 @@
 mod Saying
 mod Parting
 mod Answering
+mod Commenting

@@ -1,5 +1,5 @@
 -- What the workbench answers to a work on the text of a blueprint's file.
-use Rattle.std.specs.Prelude.{◌≡◌, ◌<◌, ℕ, ◌⊎◌, List, [], Some, length, codes}
+use Rattle.std.specs.Prelude.{◌≡◌, ◌<◌, ℕ, ◌⊎◌, true, List, [], Some, length, codes}
 use Rattle.stream_model.specs.declared.blueprint.Blueprint.{Blueprint}
 use Rattle.blue_words.specs.declared.fault.BlueFault.{BlueFault}
 use Rattle.blue_lang.specs.Texts.{Says, text_fault}
@@ -14,6 +14,7 @@ use Rattle.workbench_draw.specs.Judging.{IsFitText, IsUnready}
 use Rattle.workbench_draw.specs.Message.{BeginsWithReport}
 use Rattle.workbench_draw.specs.Drawing.{IsDrawingOf}
 use Rattle.workbench_draw.specs.Turns.{Suffices}
+use Rattle.workbench_top.specs.Comments.{has_notes, IsCommented}
 use Rattle.workbench_top.specs.declared.answer.Answer.{Answer}
 use Rattle.workbench_top.specs.declared.answer.Ending.{Ending}
 use Rattle.workbench_top.specs.declared.answer.Ending.TheVariants as ending
@@ -56,12 +57,12 @@ pub record PassesAnswer (text file : List ℕ) (a : Answer) : Type 0 where
 abbrev pub Checks : List ℕ → List ℕ → Answer → Type 0
 Checks text file a = PassesAnswer text file a ⊎ Blames text file a
 
--- the canonical text of what the text says is said
+-- the canonical text of what the text says is said; if the text has comments, it may be said with them
 pub record SaysCanonical (text : List ℕ) (a : Answer) : Type 0 where
   pub ending : a.ending ≡ ending.Done
   pub meant : PlainText
   pub says : Says text meant
-  pub said : a.said.items ≡ canonical meant
+  pub said : (a.said.items ≡ canonical meant) ⊎ ((has_notes text ≡ true) × IsCommented meant a.said.items)
 
 -- the first fault of the text is told
 pub record RefusesText (text : List ℕ) (a : Answer) : Type 0 where

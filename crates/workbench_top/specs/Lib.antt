@@ -1,4 +1,5 @@
 pub mod Task
+pub mod Comments
 pub mod Answer
 pub mod Rows
 pub mod Call

@@ -9,6 +9,7 @@ ghost use Rattle.workbench_draw.specs.Message.{BeginsWithReport};
 ghost use Rattle.workbench_top.specs.Answer.{IsBlame, Blames, Checks, RefusesText, SaysCanonical, Formats, DrawsFit, DrawsUnfit, DrawsAnswer, TellsNoReport, RefusesReport, Counts};
 
 use crate::answer::{Answer, Ending};
+use crate::comments::{commented, has_notes};
 use crate::explain::explain;
 use crate::marks::marks_of;
 use blue_check::checked::Checked;
@@ -17,7 +18,7 @@ use blue_lang::parse::{ParseEnd, parse};
 use blue_lang::print::print;
 use blue_modules::text::BlueText;
 use blue_words::fault::BlueFault;
-use blue_words::lines::{is_passed_over, next_line};
+use blue_words::lines::next_line;
 use elem_core::line::Line;
 use elem_core::why::NoMemory;
 use itoa::Buffer;
@@ -69,43 +70,29 @@ pub fn check_text(alloc: Global, text: &[u8], file: &Line) -> Answer
     }
 }
 
-/// How many comments a text has: lines that are passed over and have a word.
-fn comments_in(text: &[u8]) -> usize {
-    let mut rest = text;
-    let mut count: usize = 0;
-    while let Some((line, after)) = next_line(rest) {
-        if is_passed_over(line) && line.iter().any(|byte| byte.is_ascii_graphic()) {
-            count = count.saturating_add(1);
-        }
-        rest = after;
-    }
-    count
-}
-
-/// What is told of comments that are lost.
-fn lost_comments(alloc: Global, text: &[u8]) -> Result<Vec<u8>, NoMemory> {
-    match comments_in(text) {
-        0 => Ok(Vec::new(alloc)),
-        1 => Vec::from_slice(alloc, b"a comment is lost\n"),
-        _ => Vec::from_slice(alloc, b"comments are lost\n"),
-    }
-}
-
-/// The answer that says the canonical text of what a text says.
+/// The answer that says the canonical text of what a text says, with the comments of the text.
 fn formatted(alloc: Global, text: &[u8], meant: &BlueText) -> Result<Answer, NoMemory>
     requires { Says text.now (plain_text meant.now) }
     ensures { IfOk result (SaysCanonical text.now) }
 {
-    let said = print(alloc, meant)?;
-    let told = lost_comments(alloc, text)?;
-    Ok(Answer {
-        ending: Ending::Done,
-        said,
-        told,
-    })
+    let canonical = print(alloc, meant)?;
+    if !has_notes(text) {
+        return Ok(Answer::saying(alloc, canonical));
+    }
+    match commented(alloc, text, meant, &canonical)? {
+        Some(said) => Ok(Answer::saying(alloc, said)),
+        None => Ok(Answer {
+            ending: Ending::Done,
+            said: canonical,
+            told: Vec::from_slice(
+                alloc,
+                b"the comments are lost: with them the text is too long\n",
+            )?,
+        }),
+    }
 }
 
-/// The answer to `fmt`: the canonical text, or the first fault of the text.
+/// The answer to `fmt`: the canonical text with the comments of the text, or the first fault of the text.
 pub fn format_text(alloc: Global, text: &[u8], file: &Line) -> Answer
     ensures { Formats text.now result }
 {

@@ -1,5 +1,5 @@
 use Rattle.std.proofs.Common.{length}
-use Rattle.workbench_top.proofs.texts.comments_in.Given as goal
+use Rattle.workbench_top.proofs.comments.lines_of.Given as goal
 
 abbrev pub decreases-loop-line : goal.decreases-loop-line
 decreases-loop-line l = length l.rest

@@ -5,6 +5,9 @@ use Rattle.blue_lang.specs.Texts.{Says}
 use Rattle.blue_lang.specs.Canonical.{canonical}
 use Rattle.blue_modules.specs.Text.{PlainText}
 use Rattle.stream_model.specs.declared.blueprint.Blueprint.{Blueprint}
+use Rattle.stream_model.specs.Shape.{IsPolytree}
+use Rattle.blue_check.specs.Forest.{wiring}
+use Rattle.blue_check.specs.Wires.{blueprint_wires}
 use Rattle.workbench_draw.specs.Judging.{IsFitText}
 use Rattle.workbench_draw.specs.Drawing.{IsDrawingOf}
 use Rattle.workbench_draw.specs.Turns.{Suffices}
@@ -13,9 +16,10 @@ use Rattle.workbench_top.specs.Rows.{SaysRow}
 use Rattle.workbench_top.specs.declared.answer.Answer.{Answer}
 use Rattle.workbench_top.specs.declared.answer.Ending.TheVariants as ending
 
--- nothing is said and told
-pub passes : (text file : List ℕ) (b : Blueprint) (a : Answer) → IsFitText text file b → a.ending ≡ ending.Done → a.said.items ≡ [] → a.told.items ≡ [] → Checks text file a
-passes text file b a fit done said told = inl (record { ending = done; blueprint = b; fit = fit; said = said; told = told })
+-- nothing is said, and warnings are told at most
+pub passes : (text file told : List ℕ) (b : Blueprint) (a : Answer) → IsFitText text file b → a.ending ≡ ending.Done → a.said.items ≡ [] → a.told.items ≡ told
+    → (IsPolytree (wiring (blueprint_wires b)) → told ≡ []) → Checks text file a
+passes text file told b a fit done said is none = inl (record { ending = done; blueprint = b; fit = fit; said = said; told = λ tree. is ∙ none tree })
 
 -- a drawing is said
 pub draws_fit : (text file drawing : List ℕ) (b : Blueprint) (a : Answer) → IsFitText text file b → a.ending ≡ ending.Done → a.said.items ≡ drawing → IsDrawingOf b drawing → DrawsFit text file a

@@ -5,6 +5,9 @@ use Rattle.blue_words.specs.declared.fault.BlueFault.{BlueFault}
 use Rattle.blue_lang.specs.Texts.{Says, text_fault}
 use Rattle.blue_lang.specs.Canonical.{canonical}
 use Rattle.blue_modules.specs.Text.{PlainText}
+use Rattle.stream_model.specs.Shape.{IsPolytree}
+use Rattle.blue_check.specs.Forest.{wiring}
+use Rattle.blue_check.specs.Wires.{blueprint_wires}
 use Rattle.blue_check.specs.Meaning.{Denotes}
 use Rattle.workbench_top.specs.declared.task.TaskKind.{TaskKind}
 use Rattle.workbench_top.specs.declared.task.TaskKind.TheVariants.{Check, Format, Draw, Explain, Turns}
@@ -45,13 +48,14 @@ pub record Blames (text file : List ℕ) (a : Answer) : Type 0 where
   pub is : IsUnready text file why
   pub blame : IsBlame why a
 
--- the text and its blueprint break no rule, and nothing is said or told
+-- the text and its blueprint break no rule, and nothing is said; warnings are told only if its wires have a closed walk, directions
+-- ignored
 pub record PassesAnswer (text file : List ℕ) (a : Answer) : Type 0 where
   pub ending : a.ending ≡ ending.Done
   pub blueprint : Blueprint
   pub fit : IsFitText text file blueprint
   pub said : a.said.items ≡ []
-  pub told : a.told.items ≡ []
+  pub told : IsPolytree (wiring (blueprint_wires blueprint)) → a.told.items ≡ []
 
 -- the answer to `check`
 abbrev pub Checks : List ℕ → List ℕ → Answer → Type 0

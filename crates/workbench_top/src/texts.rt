@@ -29,6 +29,7 @@ use workbench_draw::judge::{Unready, blueprint_of, judge_text};
 use workbench_draw::marks::RunMarks;
 use workbench_draw::message::message_of;
 use workbench_draw::turns::{TurnsEnd, count_units};
+use workbench_draw::ways::warnings_of;
 
 /// The answer that tells of a fault of a text.
 fn faulty(alloc: Global, text: &[u8], file: &Line, why: &Unready) -> Answer
@@ -60,12 +61,23 @@ fn blaming(alloc: Global, text: &[u8], file: &Line, why: &Unready) -> Answer
     faulty(alloc, text, file, why)
 }
 
-/// The answer to `check`: nothing, or the first fault.
+/// The answer to `check` of a checked blueprint: warnings, or nothing.
+fn passed(alloc: Global, text: &[u8], file: &Line, c: &Checked) -> Answer
+    requires { IsFitText text.now file.now (checked_blueprint c.now) }
+    ensures { Checks text.now file.now result }
+{
+    match warnings_of(alloc, text, c) {
+        Ok(told) => Answer::telling(alloc, Ending::Done, told),
+        Err(_) => blaming(alloc, text, file, &Unready::NoMemory),
+    }
+}
+
+/// The answer to `check`: nothing or warnings, or the first fault.
 pub fn check_text(alloc: Global, text: &[u8], file: &Line) -> Answer
     ensures { Checks text.now file.now result }
 {
     match judge_text(alloc, text, file) {
-        Ok(_) => Answer::saying(alloc, Vec::new(alloc)),
+        Ok(c) => passed(alloc, text, file, &c),
         Err(why) => blaming(alloc, text, file, &why),
     }
 }

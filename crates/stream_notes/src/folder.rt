@@ -96,6 +96,20 @@ fn meter_of<W: Watch>(
     }
 }
 
+/// Keeps the bytes that a source handed out, if they were kept.
+fn keep_text(text: &mut Option<Vec<u8>>, kept: Option<Vec<u8>>) {
+    if kept.is_some() {
+        *text = kept;
+    }
+}
+
+/// Counts a file as closed, if it was counted.
+fn close_meter<W: Watch>(meter: Option<Meter<W>>) {
+    if let Some(meter) = meter {
+        meter.close();
+    }
+}
+
 impl<F, W: Watch> NotedFolder<F, W> {
     /// Returns this folder with what the environment wishes of progress, which is told by `watch`. If memory is wanting, there is no
     /// progress.
@@ -174,20 +188,14 @@ impl<F: Folder, W: Watch + Send> Folder for NotedFolder<F, W> {
             kept,
             meter,
         } = h;
-        if kept.is_some() {
-            self.text = kept;
-        }
-        if let Some(meter) = meter {
-            meter.close();
-        }
+        keep_text(&mut self.text, kept);
+        close_meter(meter);
         self.folder.close_in(source);
     }
 
     fn close_out(&mut self, h: NotedDrain<F::Out, W>) {
         let NotedDrain { drain, meter } = h;
-        if let Some(meter) = meter {
-            meter.close();
-        }
+        close_meter(meter);
         self.folder.close_out(drain);
     }
 }

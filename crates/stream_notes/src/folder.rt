@@ -12,7 +12,7 @@ pub struct NotedSource<S, W> {
     source: S,
     // What it handed out, if it is to be kept.
     kept: Option<Vec<u8>>,
-    meter: Option<Meter<W>>,
+    meter: Option<Box<Meter<W>>>,
 }
 
 /// Keeps a piece. If memory is wanting, what was kept is let go.
@@ -29,6 +29,7 @@ fn keep(kept: &mut Option<Vec<u8>>, piece: &[u8]) {
 impl<S: Source, W: Watch> Source for NotedSource<S, W> {
     ghost state = { λ s. S.state s.source };
 
+    #[inline]
     fn next_piece(&mut self, buf: &mut [u8]) -> Result<usize, Failed> {
         let size = match self.source.next_piece(buf) {
             Ok(size) => size,
@@ -50,12 +51,13 @@ impl<S: Source, W: Watch> Source for NotedSource<S, W> {
 #[derive(Drop)]
 pub struct NotedDrain<D, W> {
     drain: D,
-    meter: Option<Meter<W>>,
+    meter: Option<Box<Meter<W>>>,
 }
 
 impl<D: Drain, W: Watch> Drain for NotedDrain<D, W> {
     ghost state = { λ d. D.state d.drain };
 
+    #[inline]
     fn put(&mut self, piece: &[u8]) -> Result<usize, Failed> {
         let size = match self.drain.put(piece) {
             Ok(size) => size,
@@ -89,7 +91,7 @@ fn meter_of<W: Watch>(
     alloc: Global,
     name: &Line,
     is_read: bool,
-) -> Option<Meter<W>> {
+) -> Option<Box<Meter<W>>> {
     match progress {
         Some(progress) => progress.enter(alloc, name, is_read).unwrap_or(None),
         None => None,
@@ -104,7 +106,7 @@ fn keep_text(text: &mut Option<Vec<u8>>, kept: Option<Vec<u8>>) {
 }
 
 /// Counts a file as closed, if it was counted.
-fn close_meter<W: Watch>(meter: Option<Meter<W>>) {
+fn close_meter<W: Watch>(meter: Option<Box<Meter<W>>>) {
     if let Some(meter) = meter {
         meter.close();
     }

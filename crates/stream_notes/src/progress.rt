@@ -228,32 +228,31 @@ impl<W: Watch> Progress<W> {
         })
     }
 
-    /// Enters a file that was opened, and returns its meter.
+    /// Enters a file that was opened, and returns its meter. It is boxed, so that an island's nodes stay small without it.
     pub(crate) fn enter(
         &self,
         alloc: Global,
         name: &Line,
         is_read: bool,
-    ) -> Result<Option<Meter<W>>, NoMemory> {
+    ) -> Result<Option<Box<Meter<W>>>, NoMemory> {
         let name = name.copy(alloc)?;
         let lines = Arc::new(alloc, AtomicU64::new(0))?;
-        let own = Arc::try_clone(&lines)?;
-        let board = Arc::try_clone(&self.board)?;
-        let reads = Arc::try_clone(&self.reads)?;
-        let Some(mut open) = self.board.try_lock() else {
-            return Ok(None);
-        };
-        let number = open.enter(name, is_read, lines)?;
-        drop(open);
-        Ok(Some(Meter {
-            board,
-            reads,
-            lines: own,
-            number,
+        let meter = Meter {
+            board: Arc::try_clone(&self.board)?,
+            reads: Arc::try_clone(&self.reads)?,
+            lines: Arc::try_clone(&lines)?,
+            number: 0,
             count: 0,
             writes: 0,
             seen: 0,
-        }))
+        };
+        let mut meter = Box::new(alloc, meter)?;
+        let Some(mut open) = self.board.try_lock() else {
+            return Ok(None);
+        };
+        meter.number = open.enter(name, is_read, lines)?;
+        drop(open);
+        Ok(Some(meter))
     }
 }
 
@@ -288,7 +287,7 @@ impl<W: Watch> Meter<W> {
     }
 
     /// Strikes out the file, which was closed.
-    pub(crate) fn close(self) {
+    pub(crate) fn close(&self) {
         if let Some(mut board) = self.board.try_lock() {
             board.leave(self.number);
         }

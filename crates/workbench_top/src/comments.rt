@@ -240,11 +240,11 @@ fn is_same(first: &[u8], second: &[u8]) -> bool
 }
 
 /// Whether what a text says has that canonical text.
-fn prints_as(alloc: Global, again: &BlueText, canonical: &[u8]) -> Result<bool, NoMemory>
-    ensures { IfOk result (λ is. is ≡ true → canonical (plain_text again.now) ≡ canonical.now) }
+fn prints_as(alloc: Global, again: &BlueText, wanted: &[u8]) -> Result<bool, NoMemory>
+    ensures { IfOk result (λ is. is ≡ true → canonical (plain_text again.now) ≡ wanted.now) }
 {
     let printed = print(alloc, again)?;
-    Ok(is_same(&printed, canonical))
+    Ok(is_same(&printed, wanted))
 }
 
 /// Whether a text says what is meant, whose canonical text is given.
@@ -253,18 +253,18 @@ fn says_same(
     text: &[u8],
     said: &[u8],
     meant: &BlueText,
-    canonical: &[u8],
+    wanted: &[u8],
 ) -> Result<bool, NoMemory>
     requires says { Says text.now (plain_text meant.now) }
-    requires canonical { canonical.now ≡ canonical (plain_text meant.now) }
+    requires canonical { wanted.now ≡ canonical (plain_text meant.now) }
     ensures { IfOk result (λ is. is ≡ true → Says said.now (plain_text meant.now)) }
 {
-    if canonical.len() > MAX_TEXT {
+    if wanted.len() > MAX_TEXT {
         return Ok(false);
     }
     match parse(alloc, said) {
         Ok(again) => {
-            let is = prints_as(alloc, &again, canonical)?;
+            let is = prints_as(alloc, &again, wanted)?;
             Ok(is)
         }
         Err(ParseEnd::Fault(_)) => Ok(false),
@@ -279,15 +279,15 @@ pub(crate) fn commented(
     alloc: Global,
     text: &[u8],
     meant: &BlueText,
-    canonical: &[u8],
+    wanted: &[u8],
 ) -> Result<Option<Vec<u8>>, NoMemory>
     requires says { Says text.now (plain_text meant.now) }
-    requires canonical { canonical.now ≡ canonical (plain_text meant.now) }
+    requires canonical { wanted.now ≡ canonical (plain_text meant.now) }
     ensures { IfOk result (λ said. IfSome said (λ said. IsCommented (plain_text meant.now) said.items)) }
 {
-    let said = merged(alloc, text, canonical)?;
+    let said = merged(alloc, text, wanted)?;
     let left = uncommented(alloc, &said)?;
-    if is_same(&left, canonical) && says_same(alloc, text, &said, meant, canonical)? {
+    if is_same(&left, wanted) && says_same(alloc, text, &said, meant, wanted)? {
         Ok(Some(said))
     } else {
         Ok(None)

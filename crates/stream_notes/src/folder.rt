@@ -57,7 +57,7 @@ pub struct NotedDrain<D, W> {
 impl<D: Drain, W: Watch> Drain for NotedDrain<D, W> {
     ghost state = { λ d. D.state d.drain };
 
-    #[inline]
+    #[inline(always)]
     fn put(&mut self, piece: &[u8]) -> Result<usize, Failed> {
         let size = match self.drain.put(piece) {
             Ok(size) => size,

@@ -123,6 +123,14 @@ int rattle_errno(void) { return error; }
 void rattle_set_errno(int number) { error = number; }
 long rattle_arg(size_t index, void *into, size_t room) { return host_word(index, into, room); }
 
+/* A page has no environment, and a program here no clock: progress is never asked for. */
+#define NO_DEVICE 19
+long rattle_env(const char *name, void *into, size_t room) { return -1; }
+int clock_gettime(int clock, void *into) {
+    error = NO_DEVICE;
+    return -1;
+}
+
 static long answer(long result) {
     if (result >= 0) return result;
     error = (int)-result;

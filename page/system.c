@@ -123,8 +123,13 @@ int rattle_errno(void) { return error; }
 void rattle_set_errno(int number) { error = number; }
 long rattle_arg(size_t index, void *into, size_t room) { return host_word(index, into, room); }
 
-/* A page has no environment, and a program here no clock: progress is never asked for. */
+/* A page has no environment, and a program here no clock: progress is never asked for. Nor is anything a terminal. */
 #define NO_DEVICE 19
+#define NO_TERMINAL 25
+int isatty(int handle) {
+    error = NO_TERMINAL;
+    return 0;
+}
 long rattle_env(const char *name, void *into, size_t room) { return -1; }
 int clock_gettime(int clock, void *into) {
     error = NO_DEVICE;

@@ -1,4 +1,4 @@
-"""The crates of crates.txt below a program, their files and a checksum of them, for the tools that build a program."""
+"""The crates of crates.txt below a program, their files, a checksum of them and their commit, for the tools that build a program."""
 import hashlib
 import os
 import re
@@ -6,6 +6,8 @@ import subprocess
 from pathlib import Path
 
 TOP = Path(__file__).resolve().parent.parent
+# The crate whose program prints its commit, and the line of its src/main.rt that has it.
+COMMIT_CRATE, COMMIT_LINE = "workbench_main", 'const COMMIT: &str = "%s";'
 
 
 def crates_below(name):
@@ -32,9 +34,40 @@ def files_below(folder, without=()):
     return found
 
 
-def sum_of(lines, paths):
-    """A checksum of the kit's line, of these lines of crates.txt, and of the names and contents of these files."""
+def said_by_git(*words):
+    """What git says of the repository, as lines; None if it fails, or is not there."""
+    try:
+        ran = subprocess.run(["git", *words], cwd=TOP, stdout=subprocess.PIPE, stderr=subprocess.DEVNULL, text=True)
+    except OSError:
+        return None
+    return None if ran.returncode else ran.stdout.splitlines()
+
+
+def commit_of(lines):
+    """The commit of the sources of a program with these lines of crates.txt, with `-changed` behind it if a file differs from it; `unknown`
+    if git does not tell. None if the program prints no commit."""
+    if COMMIT_CRATE not in lines:
+        return None
+    # (the prefix is empty if the repository begins at TOP)
+    head = said_by_git("rev-parse", "--show-prefix", "--short", "HEAD")
+    changed = said_by_git("status", "--porcelain", "--", "crates.txt", "HANDLES", *[f"crates/{it}" for it in lines])
+    if changed is None or head is None or len(head) != 2 or head[0]:
+        return "unknown"
+    return head[1] + ("-changed" if changed else "")
+
+
+def put_commit(folder, commit):
+    """Puts a commit into src/main.rt of a copy of the crate that prints it."""
+    file = folder / "src/main.rt"
+    before, line, after = file.read_text().partition(COMMIT_LINE % "unknown")
+    assert line, f"{file} has no line of the commit"
+    file.write_text(before + COMMIT_LINE % commit + after)
+
+
+def sum_of(lines, paths, commit):
+    """A checksum of the kit's line, of these lines of crates.txt, of the names and contents of these files, and of the commit if there is one."""
     found = hashlib.sha256(subprocess.run(["rt", "version"], stdout=subprocess.PIPE).stdout)
+    found.update((commit or "").encode())
     found.update("\n".join(lines.values()).encode())
     for path in paths:
         found.update(f"{path.relative_to(TOP)}\0{path.stat().st_size}\0".encode())

@@ -9,6 +9,10 @@ use stream_io::real::{DirFolder, StdConsole};
 use streams::{Input, WriterDrain};
 use workbench_top::process::call_workbench;
 
+// Choice: docs/DECISIONS.md#commit-is-put-in
+/// The commit of the sources, as `--version` prints it. `tools/prove` and `tools/quick` put it here, in the copy that they build.
+const COMMIT: &str = "unknown";
+
 fn main(rt: HostRuntime) -> ExitCode {
     let alloc = rt.alloc();
     let words = words_of(&rt, alloc);
@@ -19,6 +23,7 @@ fn main(rt: HostRuntime) -> ExitCode {
     call_workbench(
         alloc,
         words,
+        COMMIT,
         &mut input,
         &mut folder,
         &mut console,

@@ -97,6 +97,7 @@ fn attempt_workbench(alloc: Global, case: &Case) -> Result<Came, AllocError> {
     let code = run_workbench(
         alloc,
         &case.words,
+        "unknown",
         &mut input,
         &mut folder,
         &mut console,

@@ -23,6 +23,7 @@ fn put_no_memory<C: Drain, D: Drain>(alloc: Global, console: &mut C, faults: &mu
 fn answer_process<S: Source, F: Folder, C: Drain, D: Drain>(
     alloc: Global,
     words: &[Vec<u8>],
+    commit: &str,
     input: &mut S,
     folder: &mut F,
     console: &mut C,
@@ -32,7 +33,7 @@ fn answer_process<S: Source, F: Folder, C: Drain, D: Drain>(
         (D.state faults.old) (D.state faults.new) result }
 {
     match command_lines(alloc, words) {
-        Ok(lines) => run_workbench(alloc, &lines, input, folder, console, faults),
+        Ok(lines) => run_workbench(alloc, &lines, commit, input, folder, console, faults),
         Err(_) => put_no_memory(alloc, console, faults),
     }
 }
@@ -43,6 +44,7 @@ fn answer_process<S: Source, F: Folder, C: Drain, D: Drain>(
 pub fn call_workbench<S: Source, F: Folder, C: Drain, D: Drain>(
     alloc: Global,
     words: Result<Vec<Vec<u8>>, NoMemory>,
+    commit: &str,
     input: &mut S,
     folder: &mut F,
     console: &mut C,
@@ -52,7 +54,7 @@ pub fn call_workbench<S: Source, F: Folder, C: Drain, D: Drain>(
         (D.state faults.new) (exit_status result) }
 {
     ExitCode::from(match words {
-        Ok(words) => answer_process(alloc, &words, input, folder, console, faults),
+        Ok(words) => answer_process(alloc, &words, commit, input, folder, console, faults),
         Err(_) => put_no_memory(alloc, console, faults),
     })
 }

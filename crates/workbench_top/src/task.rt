@@ -165,13 +165,14 @@ pub fn read_row(words: &[Line]) -> Option<(&[u8], &[u8])>
 }
 
 /// What the words ask for: `check FILE`, `fmt FILE`, `draw FILE`, `explain FILE` or `turns FILE N..`, where FILE is the name of a
-/// file and each N a number of 64 bits. For all other words the parser of commands says what is wrong, or helps.
-pub fn read_words(alloc: Global, words: &[Line]) -> Result<Task, TaskEnd>
+/// file and each N a number of 64 bits. For all other words the parser of commands says what is wrong, or
+/// helps; the version that it gives has this commit.
+pub fn read_words(alloc: Global, words: &[Line], commit: &str) -> Result<Task, TaskEnd>
     ensures task { IfOk result (Asks words.now) }
     ensures end { IfErr result (TaskEnds words.now) }
 {
     match task_in(alloc, words)? {
         Some(task) => Ok(task),
-        None => Err(no_task(alloc, words)),
+        None => Err(no_task(alloc, words, commit)),
     }
 }

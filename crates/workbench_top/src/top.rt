@@ -133,6 +133,7 @@ fn answer_end(alloc: Global, words: &[Line], end: TaskEnd) -> Answer
 fn answer_no_row<S: Source, F: Folder>(
     alloc: Global,
     words: &[Line],
+    commit: &str,
     input: &mut S,
     folder: &mut F,
 ) -> Answer
@@ -140,7 +141,7 @@ fn answer_no_row<S: Source, F: Folder>(
     ensures answers { AnswersWords words.now (F.state folder.old) (F.state folder.new) result }
     ensures files { SameFiles (F.state folder.old) (F.state folder.new) }
 {
-    match read_words(alloc, words) {
+    match read_words(alloc, words, commit) {
         Ok(task) => answer_task(alloc, &task, input, folder),
         Err(end) => answer_end(alloc, words, end),
     }
@@ -151,6 +152,7 @@ fn answer_no_row<S: Source, F: Folder>(
 fn answer_words<S: Source, F: Folder>(
     alloc: Global,
     words: &[Line],
+    commit: &str,
     input: &mut S,
     folder: &mut F,
 ) -> Answer
@@ -159,7 +161,7 @@ fn answer_words<S: Source, F: Folder>(
 {
     match read_row(words) {
         Some((source, parts)) => answer_row(alloc, source, parts),
-        None => answer_no_row(alloc, words, input, folder),
+        None => answer_no_row(alloc, words, commit, input, folder),
     }
 }
 
@@ -175,11 +177,13 @@ pub(crate) fn put_answer<C: Drain, D: Drain>(answer: &Answer, console: &mut C, f
 
 /// A call of the workbench: `check FILE`, `fmt FILE`, `draw FILE`, `explain FILE`, `turns FILE N..` or `row ROW`. It reads the blueprint
 /// of that file, for `explain` a report from the input, for `draw` one too, unless that may wait or is empty, and for `row` nothing; it
-/// changes no file. What was wanted goes to the console, faults go where faults are told. The exit code is 0, 1 for the words, 2 for the blueprint, and those of `streams` for the outside and for memory: 6, 7, 8
-/// and 9.
+/// changes no file. What was wanted goes to the console, faults go where faults are told. The version that
+/// it gives has this commit. The exit code is 0, 1 for the words, 2 for the blueprint, and those of `streams` for the outside and for
+/// memory: 6, 7, 8 and 9.
 pub fn run_workbench<S: Source, F: Folder, C: Drain, D: Drain>(
     alloc: Global,
     words: &[Line],
+    commit: &str,
     input: &mut S,
     folder: &mut F,
     console: &mut C,
@@ -188,6 +192,6 @@ pub fn run_workbench<S: Source, F: Folder, C: Drain, D: Drain>(
     ensures { Works words.now (F.state folder.old) (F.state folder.new) (C.state console.old) (C.state console.new) (D.state faults.old)
         (D.state faults.new) result }
 {
-    let answer = answer_words(alloc, words, input, folder);
+    let answer = answer_words(alloc, words, commit, input, folder);
     put_answer(&answer, console, faults)
 }

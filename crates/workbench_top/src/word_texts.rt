@@ -9,9 +9,9 @@ use std::alloc::{AllocError, Global};
 const NO_PLACE: &str =
     "FILE is the name of a file in this folder (a letter or a digit, and letters, digits, `.`, `_` and `-`), N a number, and ROW a source, stages and a sink with `|` between them";
 
-/// What `--version` says behind the program's name. The kit's line is that of `README.md`, which `tools/versions_agree` compares.
+/// What `--version` says behind the commit. The kit's line is that of `README.md`, which `tools/versions_agree` compares.
 const VERSION: &str =
-    "0.1, for texts of `streams 1` and `streams 2`\nThe sources of this version are proved with rattle-kit-13f logic dac8208d650f15bf; docs/PROVED.md says what is proved of them.\n`make blueprint` builds what it has proved. `make quick` builds the same sources without their proof.";
+    "for texts of `streams 1` and `streams 2`\nThe sources of this version are proved with rattle-kit-13f logic dac8208d650f15bf; docs/PROVED.md says what is proved of them.\n`make blueprint` builds what it has proved. `make quick` builds the same sources without their proof.";
 
 /// A command on one file.
 fn command<'a>(alloc: Global, name: &'a str, about: &'a str) -> Result<Command<'a>, AllocError> {
@@ -45,13 +45,18 @@ fn row<'a>(alloc: Global) -> Result<Command<'a>, AllocError> {
         .arg(row)
 }
 
-/// The workbench as clap is told of it.
-fn workbench<'a>(alloc: Global) -> Result<Command<'a>, AllocError> {
+/// What `--version` says behind the program's name.
+fn version_of(alloc: Global, commit: &str) -> Result<String, AllocError> {
+    format!(in alloc; "0.1, commit {commit}, {VERSION}")
+}
+
+/// The workbench of that version as clap is told of it.
+fn workbench<'a>(alloc: Global, version: &'a str) -> Result<Command<'a>, AllocError> {
     Command::new(alloc, "blueprint")
         .bin_name("blueprint")?
         .no_binary_name(true)
         .about("Looks at the blueprints that streams runs")
-        .version(VERSION)
+        .version(version)
         .subcommand_required(true)
         .subcommand(command(alloc, "check", "Tells the first fault, or nothing")?)?
         .subcommand(command(alloc, "fmt", "Prints the canonical text")?)?
@@ -82,9 +87,9 @@ fn texts_of(alloc: Global, words: &[Line]) -> Result<Option<Vec<&str>>, AllocErr
 }
 
 /// What clap says of texts.
-fn said<'a>(alloc: Global, texts: &'a [&'a str]) -> Result<Error, AllocError> {
-    match workbench(alloc)?.try_get_matches_from(texts) {
-        Ok(_) => workbench(alloc)?.error(ErrorKind::ValueValidation, NO_PLACE),
+fn said<'a>(alloc: Global, texts: &'a [&'a str], version: &'a str) -> Result<Error, AllocError> {
+    match workbench(alloc, version)?.try_get_matches_from(texts) {
+        Ok(_) => workbench(alloc, version)?.error(ErrorKind::ValueValidation, NO_PLACE),
         Err(error) => Ok(error),
     }
 }
@@ -100,19 +105,20 @@ fn end_of(alloc: Global, error: &Error) -> Result<TaskEnd, AllocError> {
 }
 
 /// The same of words.
-fn said_of_words(alloc: Global, words: &[Line]) -> Result<TaskEnd, AllocError> {
+fn said_of_words(alloc: Global, words: &[Line], commit: &str) -> Result<TaskEnd, AllocError> {
+    let version = version_of(alloc, commit)?;
     match texts_of(alloc, words)? {
-        Some(texts) => end_of(alloc, &said(alloc, &texts)?),
+        Some(texts) => end_of(alloc, &said(alloc, &texts, &version)?),
         None => end_of(
             alloc,
-            &workbench(alloc)?.error(ErrorKind::InvalidValue, NO_PLACE)?,
+            &workbench(alloc, &version)?.error(ErrorKind::InvalidValue, NO_PLACE)?,
         ),
     }
 }
 
 /// How a reading of such words ends: with help where they ask for it, else with what is wrong.
-pub(crate) fn no_task(alloc: Global, words: &[Line]) -> TaskEnd {
-    match said_of_words(alloc, words) {
+pub(crate) fn no_task(alloc: Global, words: &[Line], commit: &str) -> TaskEnd {
+    match said_of_words(alloc, words, commit) {
         Ok(end) => end,
         Err(_) => TaskEnd::NoMemory,
     }

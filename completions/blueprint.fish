@@ -8,4 +8,5 @@ complete -c blueprint -n __fish_use_subcommand -a turns -d 'print how many units
 complete -c blueprint -n __fish_use_subcommand -a row -d 'print the blueprint of a row'
 complete -c blueprint -l help -s h -d 'print help'
 complete -c blueprint -l version -s V -d 'print the version, and what is proved'
+complete -c blueprint -n '__fish_seen_subcommand_from check' -l files -d 'look for the files of the sources'
 complete -c blueprint -n '__fish_seen_subcommand_from check fmt draw explain turns' -a '(for file in *; string match -r "^[A-Za-z0-9][A-Za-z0-9._-]*\.blue\$" -- $file; end)'

@@ -48,7 +48,13 @@ _blueprint() {
         COMPREPLY=($(compgen -W "check fmt draw explain turns row --help --version" -- "$current"))
     elif ((COMP_CWORD == 2)); then
         case ${COMP_WORDS[1]} in
-            check | fmt | draw | explain | turns) _streams_files "$current" .blue ;;
+            check) [[ $current == -* ]] && COMPREPLY=($(compgen -W "--files --help" -- "$current")) || _streams_files "$current" .blue ;;
+            fmt | draw | explain | turns) _streams_files "$current" .blue ;;
+        esac
+    elif ((COMP_CWORD == 3)) && [[ ${COMP_WORDS[1]} == check ]]; then
+        case ${COMP_WORDS[2]} in
+            --files) _streams_files "$current" .blue ;;
+            *) COMPREPLY=($(compgen -W "--files" -- "$current")) ;;
         esac
     fi
 }

@@ -2,3 +2,4 @@ mod Saying
 mod Parting
 mod Answering
 mod Commenting
+mod Looking

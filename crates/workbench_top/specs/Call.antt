@@ -4,11 +4,12 @@ use Rattle.std.specs.Option.{option_map}
 use Rattle.stream_io.specs.State.{FolderState, DrainState, SameFiles}
 use Rattle.stream_io.specs.Text.{text_of_file, StaysMissing, FailsToRead}
 use Rattle.stream_io.specs.Putting.{Puts}
-use Rattle.workbench_top.specs.Task.{Asks, is_task, row_in}
+use Rattle.workbench_top.specs.Task.{Asks, is_task, row_in, files_in}
 use Rattle.workbench_top.specs.declared.task.Task.{Task}
 use Rattle.workbench_top.specs.declared.task.TaskKind.TheVariants.{Explain}
 use Rattle.workbench_top.specs.Answer.{AnswersText, code_of}
 use Rattle.workbench_top.specs.Rows.{PrintsRow, row_text}
+use Rattle.workbench_top.specs.Files.{ChecksRead}
 use Rattle.workbench_top.specs.declared.answer.Answer.{Answer}
 use Rattle.workbench_top.specs.declared.answer.Ending.TheVariants as ending
 
@@ -27,6 +28,11 @@ pub record IsMissing (file : List ℕ) (a : Answer) : Type 0 where
   pub ending : a.ending ≡ ending.Missing
   pub said : a.said.items ≡ []
   pub told : a.told.items ≡ missing_text file
+
+-- the blueprint's file is not there, or could not be read, or memory was wanting
+abbrev pub IsUnread : List ℕ → FolderState → FolderState → Answer → Type 0
+IsUnread file old new a =
+    (IsMissing file a × StaysMissing old new file) ⊎ (((a.ending ≡ ending.ReadFault) × FailsToRead old new file) ⊎ (a.ending ≡ ending.NoMemory))
 
 -- The file is not there; it, or the report, could not be read; memory was wanting; or the text is answered.
 abbrev pub AnswersTask : Task → FolderState → FolderState → Answer → Type 0
@@ -48,15 +54,22 @@ pub record AnswersRow (words : List (List ℕ)) (a : Answer) : Type 0 where
   pub asks : row_in words ≡ Some (source, parts)
   pub prints : PrintsRow (row_text source parts) a
 
+-- the answer where the words ask to check a blueprint with the files that it names
+pub record AnswersFiles (words : List (List ℕ)) (old new : FolderState) (a : Answer) : Type 0 where
+  pub file : List ℕ
+  pub asks : files_in words ≡ Some file
+  pub answers : IsUnread file old new a ⊎ ChecksRead file old new a
+
 -- the words are no command: help is said, or what is wrong is told
 pub record AnswersNothing (words : List (List ℕ)) (a : Answer) : Type 0 where
   pub row : row_in words ≡ None
+  pub files : files_in words ≡ None
   pub grammar : is_task words ≡ false
   pub ending : (a.ending ≡ ending.Done) ⊎ (a.ending ≡ ending.Words)
 
 -- what is answered to words; memory may be wanting at any words
 abbrev pub AnswersWords : List (List ℕ) → FolderState → FolderState → Answer → Type 0
-AnswersWords words old new a = AnswersNothing words a ⊎ ((a.ending ≡ ending.NoMemory) ⊎ (AnswersRow words a ⊎ AnswersAsked words old new a))
+AnswersWords words old new a = AnswersNothing words a ⊎ ((a.ending ≡ ending.NoMemory) ⊎ (AnswersRow words a ⊎ (AnswersFiles words old new a ⊎ AnswersAsked words old new a)))
 
 -- the answer is put: what is said on the console, and what is told where faults are told; or a write failed, which is code 8
 abbrev pub IsAnswerPut : Answer → DrainState → DrainState → DrainState → DrainState → ℕ → Type 0

@@ -21,6 +21,25 @@ abbrev pub row_in : List (List ℕ) → Option (List ℕ × List ℕ)
 row_in (name ∷ row ∷ []) = row_named name row
 row_in _ = None
 
+-- the word, if it is the name of a file
+abbrev pub named_file : List ℕ → Option (List ℕ)
+named_file word = if is_file_name word then Some word else None
+
+-- the file behind or before the option that looks for files
+abbrev pub files_behind : List ℕ → List ℕ → Option (List ℕ)
+files_behind first second =
+    if bytes_eq first (codes "--files") then named_file second
+    else (if bytes_eq second (codes "--files") then named_file first else None)
+
+-- the same of the command `check`
+abbrev pub files_named : List ℕ → List ℕ → List ℕ → Option (List ℕ)
+files_named name first second = if bytes_eq name (codes "check") then files_behind first second else None
+
+-- the blueprint's file that words ask to check with the files that it names
+abbrev pub files_in : List (List ℕ) → Option (List ℕ)
+files_in (name ∷ first ∷ second ∷ []) = files_named name first second
+files_in _ = None
+
 -- the work of that name
 abbrev pub task_named : List ℕ → Option TaskKind
 task_named word =

@@ -1,7 +1,7 @@
 // What the words of the workbench ask for.
 ghost use Rattle.std.specs.Prelude.{◌≡◌, false, true, map, IfOk, IfErr, IfSome, MatchOption, Ok, None, Some};
 ghost use Rattle.blue_words.specs.Numbers.{read_count};
-ghost use Rattle.workbench_top.specs.Task.{Asks, TaskEnds, row_named, row_in, task_named, are_numbers, allows, is_rest, is_task};
+ghost use Rattle.workbench_top.specs.Task.{Asks, TaskEnds, row_named, row_in, named_file, files_behind, files_named, files_in, task_named, are_numbers, allows, is_rest, is_task};
 
 use crate::word_texts::no_task;
 use blue_words::lines::cut_at;
@@ -160,6 +160,52 @@ pub fn read_row(words: &[Line]) -> Option<(&[u8], &[u8])>
 {
     match words {
         [name, row] => row_named(name, row),
+        _ => None,
+    }
+}
+
+/// The word, if it is the name of a file.
+fn named_file(word: &Line) -> Option<&Line>
+    ensures { MatchOption result (named_file word.now ≡ None) (λ f. named_file word.now ≡ Some f.now) }
+{
+    if is_file_name(word.bytes()) {
+        Some(word)
+    } else {
+        None
+    }
+}
+
+/// The file behind or before the option that looks for files.
+fn files_behind<'a>(first: &'a Line, second: &'a Line) -> Option<&'a Line>
+    ensures { MatchOption result (files_behind first.now second.now ≡ None) (λ f. files_behind first.now second.now ≡ Some f.now) }
+{
+    if is_word(first.bytes(), b"--files") {
+        named_file(second)
+    } else if is_word(second.bytes(), b"--files") {
+        named_file(first)
+    } else {
+        None
+    }
+}
+
+/// The same where the command's name is `check`.
+fn files_named<'a>(name: &Line, first: &'a Line, second: &'a Line) -> Option<&'a Line>
+    ensures { MatchOption result (files_named name.now first.now second.now ≡ None)
+        (λ f. files_named name.now first.now second.now ≡ Some f.now) }
+{
+    if is_word(name.bytes(), b"check") {
+        files_behind(first, second)
+    } else {
+        None
+    }
+}
+
+/// The blueprint's file that the words ask to check with the files that it names, by `check --files FILE` or `check FILE --files`.
+pub fn read_files(words: &[Line]) -> Option<&Line>
+    ensures { MatchOption result (files_in words.now ≡ None) (λ f. files_in words.now ≡ Some f.now) }
+{
+    match words {
+        [name, first, second] => files_named(name, first, second),
         _ => None,
     }
 }

@@ -54,7 +54,7 @@ pub(crate) fn refused(alloc: Global, text: &[u8], fault: BlueFault) -> Answer
 }
 
 /// The same where it is the fault of the text.
-fn blaming(alloc: Global, text: &[u8], file: &Line, why: &Unready) -> Answer
+pub(crate) fn blaming(alloc: Global, text: &[u8], file: &Line, why: &Unready) -> Answer
     requires { IsUnready text.now file.now why.now }
     ensures { Blames text.now file.now result }
 {

@@ -1,14 +1,17 @@
 // A call of the workbench.
-ghost use Rattle.std.specs.Prelude.{◌≡◌, ◌⊎◌, IfOk, None};
+ghost use Rattle.std.specs.Prelude.{◌≡◌, ◌⊎◌, IfErr, IfOk, None};
 ghost use Rattle.stream_io.specs.State.{SameFiles};
-ghost use Rattle.workbench_top.specs.Task.{Asks, TaskEnds, row_in};
+ghost use Rattle.stream_io.specs.Text.{ReadsFile};
+ghost use Rattle.workbench_top.specs.Task.{Asks, TaskEnds, row_in, files_in};
 ghost use Rattle.workbench_top.specs.Answer.{AnswersText, DrawsInput};
-ghost use Rattle.workbench_top.specs.Call.{AnswersTask, AnswersNothing, AnswersWords, IsAnswerPut, IsMissing, Works, missing_text};
+ghost use Rattle.workbench_top.specs.Files.{ChecksRead};
+ghost use Rattle.workbench_top.specs.Call.{AnswersTask, AnswersNothing, AnswersWords, IsAnswerPut, IsMissing, IsUnread, Works, missing_text};
 
 use crate::answer::{Answer, Ending, code};
+use crate::files::check_files;
 use crate::report::{ReportEnd, read_report};
 use crate::rows::answer_row;
-use crate::task::{Task, TaskEnd, TaskKind, read_row, read_words};
+use crate::task::{Task, TaskEnd, TaskKind, read_files, read_row, read_words};
 use crate::texts::{check_text, count_text, draw_text, explain_text, format_text};
 use elem_core::line::Line;
 use elem_core::why::NoMemory;
@@ -94,7 +97,26 @@ fn answer_text<S: Source>(alloc: Global, task: &Task, text: &[u8], input: &mut S
     }
 }
 
+/// The text of a blueprint's file, or the answer where it was not read.
+fn read_blueprint<F: Folder>(alloc: Global, folder: &mut F, file: &Line) -> Result<Vec<u8>, Answer>
+    ensures ok { IfOk result (λ text. ReadsFile (F.state folder.old) (F.state folder.new) file.now text.items) }
+    ensures unread { IfErr result (IsUnread file.now (F.state folder.old) (F.state folder.new)) }
+    ensures files { SameFiles (F.state folder.old) (F.state folder.new) }
+{
+    match read_file(alloc, folder, file) {
+        Ok(text) => Ok(text),
+        Err(ReadEnd::Missing) => Err(missing(alloc, file)),
+        Err(ReadEnd::Fault) => Err(telling(
+            alloc,
+            Ending::ReadFault,
+            b"the blueprint's file could not be read\n",
+        )),
+        Err(ReadEnd::NoMemory) => Err(Answer::without_memory(alloc)),
+    }
+}
+
 /// The answer to a task.
+#[tactic(auto, using(crate::proofs::Answering::unread))]
 fn answer_task<S: Source, F: Folder>(
     alloc: Global,
     task: &Task,
@@ -104,21 +126,29 @@ fn answer_task<S: Source, F: Folder>(
     ensures answers { AnswersTask task.now (F.state folder.old) (F.state folder.new) result }
     ensures files { SameFiles (F.state folder.old) (F.state folder.new) }
 {
-    match read_file(alloc, folder, &task.file) {
+    match read_blueprint(alloc, folder, &task.file) {
         Ok(text) => answer_text(alloc, task, &text, input),
-        Err(ReadEnd::Missing) => missing(alloc, &task.file),
-        Err(ReadEnd::Fault) => telling(
-            alloc,
-            Ending::ReadFault,
-            b"the blueprint's file could not be read\n",
-        ),
-        Err(ReadEnd::NoMemory) => Answer::without_memory(alloc),
+        Err(answer) => answer,
+    }
+}
+
+/// The answer where the words ask to check the blueprint of this file with the files that it names.
+#[tactic(auto, using(crate::proofs::Answering::read_checked))]
+fn answer_files<F: Folder>(alloc: Global, file: &Line, folder: &mut F) -> Answer
+    ensures answers { IsUnread file.now (F.state folder.old) (F.state folder.new) result
+        ⊎ ChecksRead file.now (F.state folder.old) (F.state folder.new) result }
+    ensures files { SameFiles (F.state folder.old) (F.state folder.new) }
+{
+    match read_blueprint(alloc, folder, file) {
+        Ok(text) => check_files(alloc, &text, file, folder),
+        Err(answer) => answer,
     }
 }
 
 /// The answer to words that ask for nothing.
 fn answer_end(alloc: Global, words: &[Line], end: TaskEnd) -> Answer
     requires row { row_in words.now ≡ None }
+    requires files { files_in words.now ≡ None }
     requires end { TaskEnds words.now end }
     ensures { AnswersNothing words.now result ⊎ (result.ending ≡ Ending.NoMemory) }
 {
@@ -129,7 +159,27 @@ fn answer_end(alloc: Global, words: &[Line], end: TaskEnd) -> Answer
     }
 }
 
+/// The answer to words that ask for no row, and not for `check` with the option that looks for files.
+fn answer_plain<S: Source, F: Folder>(
+    alloc: Global,
+    words: &[Line],
+    commit: &str,
+    input: &mut S,
+    folder: &mut F,
+) -> Answer
+    requires row { row_in words.now ≡ None }
+    requires files { files_in words.now ≡ None }
+    ensures answers { AnswersWords words.now (F.state folder.old) (F.state folder.new) result }
+    ensures files { SameFiles (F.state folder.old) (F.state folder.new) }
+{
+    match read_words(alloc, words, commit) {
+        Ok(task) => answer_task(alloc, &task, input, folder),
+        Err(end) => answer_end(alloc, words, end),
+    }
+}
+
 /// The answer to words that ask for no row.
+#[tactic(auto, using(crate::proofs::Answering::files_asked))]
 fn answer_no_row<S: Source, F: Folder>(
     alloc: Global,
     words: &[Line],
@@ -141,9 +191,9 @@ fn answer_no_row<S: Source, F: Folder>(
     ensures answers { AnswersWords words.now (F.state folder.old) (F.state folder.new) result }
     ensures files { SameFiles (F.state folder.old) (F.state folder.new) }
 {
-    match read_words(alloc, words, commit) {
-        Ok(task) => answer_task(alloc, &task, input, folder),
-        Err(end) => answer_end(alloc, words, end),
+    match read_files(words) {
+        Some(file) => answer_files(alloc, file, folder),
+        None => answer_plain(alloc, words, commit, input, folder),
     }
 }
 
@@ -175,7 +225,7 @@ pub(crate) fn put_answer<C: Drain, D: Drain>(answer: &Answer, console: &mut C, f
     code(answer.ending)
 }
 
-/// A call of the workbench: `check FILE`, `fmt FILE`, `draw FILE`, `explain FILE`, `turns FILE N..` or `row ROW`. It reads the blueprint
+/// A call of the workbench: `check FILE`, `check --files FILE`, `fmt FILE`, `draw FILE`, `explain FILE`, `turns FILE N..` or `row ROW`. It reads the blueprint
 /// of that file, for `explain` a report from the input, for `draw` one too, unless that may wait or is empty, and for `row` nothing; it
 /// changes no file. What was wanted goes to the console, faults go where faults are told. The version that
 /// it gives has this commit. The exit code is 0, 1 for the words, 2 for the blueprint, and those of `streams` for the outside and for

@@ -21,6 +21,15 @@ fn command<'a>(alloc: Global, name: &'a str, about: &'a str) -> Result<Command<'
     Command::new(alloc, name).about(about).arg(file)
 }
 
+/// The command that tells faults.
+fn check<'a>(alloc: Global) -> Result<Command<'a>, AllocError> {
+    let files = Arg::new(alloc, "files")
+        .long("files")
+        .action(ArgAction::SetTrue)
+        .help("Looks too whether the files of the sources can be opened");
+    command(alloc, "check", "Tells the first fault, or nothing")?.arg(files)
+}
+
 /// The command that counts units.
 fn turns<'a>(alloc: Global) -> Result<Command<'a>, AllocError> {
     let counts = Arg::new(alloc, "N")
@@ -58,7 +67,7 @@ fn workbench<'a>(alloc: Global, version: &'a str) -> Result<Command<'a>, AllocEr
         .about("Looks at the blueprints that streams runs")
         .version(version)
         .subcommand_required(true)
-        .subcommand(command(alloc, "check", "Tells the first fault, or nothing")?)?
+        .subcommand(check(alloc)?)?
         .subcommand(command(alloc, "fmt", "Prints the canonical text")?)?
         .subcommand(command(
             alloc,

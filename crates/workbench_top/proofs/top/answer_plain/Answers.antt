@@ -1,6 +1,6 @@
 use Rattle.std.proofs.Common.{rules}
 use Rattle.workbench_top.proofs.Answering.{asked, nothing_asked}
-use Rattle.workbench_top.proofs.top.answer_no_row.Goals as goal
+use Rattle.workbench_top.proofs.top.answer_plain.Goals as goal
 
 pub returns-in-Ok-clause-answers : goal.returns-in-Ok-clause-answers
 returns-in-Ok-clause-answers g c = asked c.args.words.now c.in-Ok.task _ _ c.answer_task.result (search rules) c.answer_task.ensures.answers

@@ -2,7 +2,7 @@ ghost use Rattle.std.specs.Prelude.{◌≡◌, ◌↔◌, IsTrue, true, false, n
 ghost use Rattle.elem_core.specs.Tree.{Tree, num};
 ghost use Rattle.port_core.specs.Connection.{unasked, pushed};
 ghost use Rattle.port_core.specs.PortRules as rule;
-ghost use Rattle.port_core.specs.PortRules.{Allowed, Rule};
+ghost use Rattle.port_core.specs.PortRules.{Allowed, Rule, after_move};
 ghost use Rattle.port_core.specs.Word.{word_of};
 ghost use Rattle.port_core.specs.Decoding.{can_pull, can_push, is_at_rest, is_open, event_of, arrived_by, delivered, Decodes};
 
@@ -143,6 +143,27 @@ impl Conn {
         // A number stands there, which owns nothing: so no push has to look for what it would drop.
         mem::forget(mem::replace(&mut self.elem, e));
         true
+    }
+
+    /// The input pulls, and that comes to the output at once: what `pull` and the delivery of its event do. Nothing has to be queued.
+    #[inline(always)]
+    pub fn ask(&mut self)
+        requires { IsTrue (can_pull self.old) }
+        ensures pulled { Allowed rule.pull self.old }
+        ensures after { self.new ≡ after_move rule.on_pull (after_move rule.pull self.old) }
+    {
+        self.word = OUT_READY;
+    }
+
+    /// The output gives an element that goes past the connection to the input at once: what `push`, the delivery of its event and `grab`
+    /// do. Nothing has to be queued.
+    #[inline(always)]
+    pub fn pass(&mut self)
+        requires { IsTrue (can_push self.old) }
+        ensures pushed { (e : Tree) → Allowed (rule.push e) self.old }
+        ensures after { (e : Tree) → self.new ≡ after_move (rule.grab e) (after_move (rule.on_push e) (after_move (rule.push e) self.old)) }
+    {
+        self.word = IN_READY;
     }
 
     /// The element that was delivered. It is there once.

@@ -1,8 +1,10 @@
 ghost use Rattle.std.specs.Prelude.{◌≡◌, ◌↔◌, ◌+◌, ◌<◌, ◌^◌, not, false, true, IsTrue, IsSome, Some};
 ghost use Rattle.port_core.specs.Decoding.{can_pull, can_push, is_at_rest, is_open};
-ghost use Rattle.port_core.specs.Wire.{end_item};
+ghost use Rattle.elem_core.specs.Tree.{Tree};
+ghost use Rattle.elem_core.specs.declared.item.Item.TheVariants as item;
+ghost use Rattle.port_core.specs.Wire.{end_item, pull, arrived, delivery_of};
 ghost use Rattle.port_core.specs.declared.act.Act.TheVariants as act;
-ghost use Rattle.port_core.specs.Cell.{new_cell, moved_by, brought_in, Tells};
+ghost use Rattle.port_core.specs.Cell.{new_cell, moved_by, brought_in, delivered, Tells};
 ghost use Rattle.port_core.specs.View.{output_closed, input_closed};
 ghost use Rattle.port_core.specs.Closes.{output_cancelled};
 ghost use Rattle.elem_core.specs.Items.{elements};
@@ -173,6 +175,38 @@ impl Wire {
             Item::Elem(e) => self.conn.push(e),
             _ => unreachable!(),
         }
+    }
+
+    /// The stage at its input pulls, and the stage at its output hears of that at once: what `pull` and `tell` do.
+    #[inline(always)]
+    pub fn ask(&mut self)
+        requires { can_pull self.old.wire.conn ≡ true }
+        ensures brings { delivery_of (moved_by (act.Pull 0) self.old).wire ≡ pull }
+        ensures after { self.new ≡ delivered (moved_by (act.Pull 0) self.old) }
+    {
+        self.inp = Snapshot::of(&InView::Pulled);
+        self.out = Snapshot::of(&OutView::Available);
+        self.asked = true;
+        self.conn.ask();
+    }
+
+    /// The stage at its output gives an element, which goes to the stage at its input at once: what `push`, `tell` and `take` do.
+    #[inline(always)]
+    #[tactic(auto, using(crate::proofs::Counting::elements_elem))]
+    pub fn pass(&mut self, given: &Item)
+        requires elem { (e : Tree) × (given.now ≡ item.Elem e) }
+        requires count { elements self.old.wire.sent + 1 < 2 ^ 64 }
+        requires free { can_push self.old.wire.conn ≡ true }
+        ensures brings { (e : Tree) → given.now ≡ item.Elem e → delivery_of (moved_by (act.Push 0 e) self.old).wire ≡ arrived given.now false }
+        ensures after { (e : Tree) → given.now ≡ item.Elem e → self.new ≡ delivered (moved_by (act.Push 0 e) self.old) }
+    {
+        self.out = Snapshot::of(&OutView::Unpulled);
+        self.inp = Snapshot::of(&InView::Idle);
+        self.asked = false;
+        self.pushed += 1;
+        self.sent = self.sent.and(given);
+        self.got = self.got.and(given);
+        self.conn.pass();
     }
 
     /// The stage at its output completes it. The answer says whether the wire has to be queued.

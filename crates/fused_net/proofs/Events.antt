@@ -1,5 +1,6 @@
 -- Events one behind another: what they make of a graph composes, and an event may be taken from either end of the queue.
 use Rattle.std.proofs.Common.{◌≡◌, ℕ, ◌+◌, Bool, List, map, refl, ◌∙◌}
+use Rattle.elem_core.specs.Tree.{Tree}
 use Rattle.elem_core.specs.declared.item.Item.{Item}
 use Rattle.port_core.specs.View.{View}
 use Rattle.fused_net.specs.Net.{Net, before, Takes}
@@ -7,10 +8,19 @@ use Rattle.fused_net.specs.Laws.{NetGoesOn, Settled}
 use Rattle.fused_net.specs.Costs.{Uses}
 use Rattle.fused_net.specs.Outside.{StandsStill}
 use Rattle.fused_net.specs.Events.{EventsLead}
+use Rattle.fused_net.specs.Hand.{in_hand}
+use Rattle.fused_net.specs.declared.hand.Hand.{Hand}
+use Rattle.fused_net.specs.declared.hand.Hand.TheVariants.{Empty, Down, Up}
 use Rattle.fused_net.proofs.Going.{uses_none, uses_trans}
 use Rattle.fused_net.proofs.Ongoing.{goes_same, goes_trans}
 use Rattle.fused_net.proofs.Still.{still_same, still_trans, still_taken}
 use Rattle.fused_net.proofs.Taking.{taken_goes, taken_uses, taken_read}
+
+-- what is in hand is done at a wire, and not at a node
+pub hand_nodes : {N : Type 0} (h : Hand) (e : Tree) (net : Net N) → (in_hand h e net).nodes ≡ net.nodes
+hand_nodes Empty e net = refl
+hand_nodes (Down w) e net = refl
+hand_nodes (Up w) e net = refl
 
 module _ {N : Type 0} (port_state : N → View → Type 0) (law : N → N → View → List (List Item) → List (List Item) → Type 0) (asking : N → View → Type 0) (moves : N → List ℕ) (gone : N → List Item) (passive : N → Bool) where
   -- no event changes nothing

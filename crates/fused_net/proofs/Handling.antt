@@ -1,5 +1,5 @@
 -- An event is handled: its node was called over the graph in which the event is told, and did what it wants done.
-use Rattle.std.proofs.Common.{◌≡◌, ◌≢◌, ℕ, ◌+◌, ◌<◌, ◌≤◌, Bool, false, true, Some, List, [], length, map, get_or, slice_set, refl, sym, ap, ◌∙◌, subst}
+use Rattle.std.proofs.Common.{◌≡◌, ◌≢◌, ℕ, ◌+◌, ◌<◌, ◌≤◌, Bool, false, true, Some, List, [], length, map, get_or, slice_set, set-set, get_or-set_same, inr, refl, sym, ap, ◌∙◌, subst}
 use Rattle.std.proofs.lemmas.List.{length-set}
 use Rattle.elem_core.specs.Prefix.{IsPrefix}
 use Rattle.elem_core.specs.Tree.{Tree}
@@ -9,15 +9,16 @@ use Rattle.elem_core.specs.declared.count.TheConstants.{MOST_COUNT}
 use Rattle.port_core.specs.Ring.{is_queued}
 use Rattle.port_core.specs.View.{View}
 use Rattle.port_core.specs.Call.{Call, pulls, arrives, Meets}
-use Rattle.port_core.specs.Wire.{Delivery, nothing, pull, cancel, arrived, delivery_of}
+use Rattle.port_core.specs.Reading.{no_wire}
+use Rattle.port_core.specs.Wire.{Delivery, nothing, pull, cancel, arrived, delivery_of, again}
 use Rattle.port_core.specs.declared.act.Act.{Act}
 use Rattle.stage_core.specs.Rooms.{HasRoom}
 use Rattle.stage_core.specs.Handling.{PullsAs, StaysPassive, Handles}
 use Rattle.fused_net.specs.declared.net.WireEnds.{WireEnds}
-use Rattle.port_core.specs.Cell.{brought_in, Brings, Brought}
+use Rattle.port_core.specs.Cell.{WireState, brought_in, delivered, Brings, Brought}
 use Rattle.fused_net.specs.declared.engine.Delivered.{Delivered}
 use Rattle.fused_net.specs.declared.engine.Delivered.TheVariants as brings
-use Rattle.fused_net.specs.Net.{Net, end_at, wire_at, target, call_of, IsBrought, node_for, call_for, put, acted_all, event_told, with_node, before}
+use Rattle.fused_net.specs.Net.{Net, end_at, wire_at, target, call_of, IsBrought, node_for, call_for, told_by, put, acted_all, event_told, with_node, before}
 use Rattle.fused_net.specs.Laws.{HaveRoom, AnyRow, AnyLaw, Settled, Busy, AllKept}
 use Rattle.fused_net.specs.Costs.{all_asks}
 use Rattle.fused_net.specs.Poking.{AtNode}
@@ -29,6 +30,7 @@ use Rattle.fused_net.proofs.Responding.{node_is, the_ends, awaited, responded, f
 use Rattle.fused_net.proofs.Keeping.{kept_called}
 use Rattle.fused_net.proofs.Poking.{gone_acts}
 use Rattle.fused_net.proofs.Events.{step_before}
+use Rattle.fused_net.proofs.Taking.{taken_settled}
 use Rattle.fused_net.proofs.Still.{still_told, still_trans, still_acts, heard_acts, called_still, handle_untouched, untouched_nothing}
 
 -- the ends of a wire, as they were read behind the telling of its event
@@ -113,6 +115,16 @@ module _ {N : Type 0} (port_state : N → View → Type 0) (law : N → N → Vi
       calling net heard v w n cancel ends x laws within absent (sym brought) (λ none. cc) after (told_ends net told u w ends laws.wired.each_wire within tells is at) node same read
   calling_closing (brings.Arrived i) net told heard u v w n ends x laws within absent tells is at brought after node same read =
       calling net heard v w n (arrived i brought.0) ends x laws within absent (sym brought.1) (λ none. cc) after (told_ends net told u w ends laws.wired.each_wire within tells is at) node same read
+
+  -- what was done at an open wire is told at once
+  pub calling_held : (self heard u v : Net N) (w : ℕ) (c : WireState) (d : Delivery) (ends : WireEnds) (x : N) → Settled port_state law asking moves (put self w c true) → w < length self.wires → self.queue ≡ [] → delivery_of c.wire ≡ d → d ≢ nothing → again d ≡ false
+      → heard ≡ put self w (delivered c) false → u ≡ self → ends ≡ get_or u.ends w ends → v ≡ heard → x ≡ get_or v.nodes (target d ends) x → Calling (put self w c false) heard v w (target d ends) (call_of d ends) ends x
+  calling_held self heard u v w c d ends x laws within none brings some once after is at same read =
+      let net : Net N = put self w c false in
+      let there : wire_at net w ≡ c = get_or-set_same self.wires w c no_wire within in
+      let told : event_told net w ≡ put self w (delivered c) false = rw (there, brings, once, set-set self.wires w c (told_by d c)) refl in
+      calling net heard v w (target d ends) d ends x (taken_settled port_state law asking moves (put self w c true) net w (record { is = refl; stood = inr refl }) laws) (rw length-set within) (ap (λ (q : List ℕ). is_queued q w) none)
+      (sym (ap (λ (z : WireState). delivery_of z.wire) there ∙ brings)) some (after ∙ sym told) (the_ends self u w ends is (laws.wired.each_wire ∙ length-set _ _ _) within at) refl same read
 
   module _ (gone : N → List Item) (passive : N → Bool) where
     pub call_still : (net heard v : Net N) (w n : ℕ) (call : Call) (ends : WireEnds) (x y : N) (acts : List Act) → Calling net heard v w n call ends x → StaysPassive (passive x) (passive y) acts → AtNode (with_node v n y) n (λ z. passive z ≡ true → acts ≡ [])

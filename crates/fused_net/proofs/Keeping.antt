@@ -1,6 +1,6 @@
 -- What each node keeps through a handler that wants memory.
-use Rattle.std.proofs.Common.{◌≡◌, inl, inr, ℕ, zero, suc, ◌<◌, Some, List, [], ◌∷◌, length, get_or, slice_get, slice_set, refl, sym, ap, ◌∙◌, arith}
-use Rattle.std.specs.Prelude.{Result, Ok, Err, OnErr}
+use Rattle.std.proofs.Common.{◌≡◌, inl, inr, ℕ, zero, suc, ◌<◌, Option, Some, List, [], ◌∷◌, length, get_or, slice_get, slice_set, refl, sym, ap, ◌∙◌, subst, arith}
+use Rattle.std.specs.Prelude.{Result, Ok, Err, OnErr, IfSome}
 use Rattle.std.proofs.lemmas.Option.{slice_get_within}
 use Rattle.elem_core.specs.declared.item.Item.{Item}
 use Rattle.port_core.specs.View.{View}
@@ -15,6 +15,10 @@ use Rattle.fused_net.proofs.Responding.{node_is}
 pub on_err : {T E P : Type 0} (r : Result T E) → P → OnErr r P
 on_err (Ok x) p = tt
 on_err (Err e) p = p
+
+-- what holds of an answer, if there is one, holds of this one
+pub of_some : {T : Type 0} (P : T → Type 0) (o : Option T) (x : T) → o ≡ Some x → IfSome o P → P x
+of_some {T} P o x is h = subst (λ (a : Option T). IfSome a P) is h
 
 module _ {N : Type 0} (keeps : N → N → Type 0) where
   -- nothing was done

@@ -417,14 +417,14 @@ module _ {N : Type 0} (passive : N → Bool) where
   untouched_taken : (at : Option ℕ) (old net new : Net N) (w : ℕ) → Takes old w net → Untouched passive at net new → Untouched passive at old new
   untouched_taken at old net new w t s = subst (λ (a : Net N). Untouched passive at a new) (sym t.is) (record { outs = s.outs; ins = s.ins; nodes = s.nodes })
 
-  untouched_as : (b c : Bool) (w : ℕ) (old new : Net N) → b ≡ c → Untouched passive (touched b w) old new → Untouched passive (touched c w) old new
+  pub untouched_as : (b c : Bool) (w : ℕ) (old new : Net N) → b ≡ c → Untouched passive (touched b w) old new → Untouched passive (touched c w) old new
   untouched_as b c w old new e u = subst (λ (z : Bool). Untouched passive (touched z w) old new) e u
 
   pub untouched_next : (b c : Bool) (w : ℕ) (old net new : Net N) → b ≡ c → Takes old w net → Untouched passive (touched b w) net new → Untouched passive (touched c w) old new
   untouched_next b c w old net new e t u = untouched_taken (touched c w) old net new w t (untouched_as b c w net new e u)
 
   -- who looks at a wire of which no passive node heard has the more to look at
-  untouched_more : (b : Bool) (w : ℕ) (old new : Net N) → Untouched passive (touched b w) old new → Untouched passive (touched true w) old new
+  pub untouched_more : (b : Bool) (w : ℕ) (old new : Net N) → Untouched passive (touched b w) old new → Untouched passive (touched true w) old new
   untouched_more true w old new u = u
   untouched_more false w old new u = record { outs = λ k e p. u.outs k tt p; ins = λ k e p. u.ins k tt p; nodes = λ k n e p o. u.nodes k n tt p o }
 

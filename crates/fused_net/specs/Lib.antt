@@ -6,3 +6,4 @@ pub mod Costs
 pub mod Poking
 pub mod Outside
 pub mod Events
+pub mod Hand

@@ -40,11 +40,11 @@ use std::snapshot::Snapshot;
 /// Nodes joined by wires, and the wires that have an event.
 #[derive(Drop)]
 pub struct Engine<S> {
-    nodes: Vec<S>,
-    wires: Vec<Wire>,
-    ends: Vec<WireEnds>,
-    ports: Vec<Ports>,
-    queue: EventQueue,
+    pub(crate) nodes: Vec<S>,
+    pub(crate) wires: Vec<Wire>,
+    pub(crate) ends: Vec<WireEnds>,
+    pub(crate) ports: Vec<Ports>,
+    pub(crate) queue: EventQueue,
     firsts: Snapshot<Vec<S>>,
 }
 
@@ -136,14 +136,6 @@ fn call<S: Stage>(
         Delivered::Arrived(Item::Ended) => node.on_finish(alloc, ends.input, acts),
         Delivered::Arrived(Item::Failed(cause)) => node.on_fail(alloc, ends.input, cause, acts),
     }
-}
-
-// Whether `advance` stops behind an event: where a passive node heard of it, or a source may wait at its next ask.
-#[inline(always)]
-fn is_to_stop(heard: bool, drained: bool) -> bool
-    ensures { result ≡ false → heard ≡ false }
-{
-    heard || drained
 }
 
 impl<S: Stage> Engine<S> {
@@ -253,7 +245,7 @@ impl<S: Stage> Engine<S> {
 
     // The node at the input of wire w pulls there.
     #[inline(always)]
-    fn pull_at(&mut self, w: u32)
+    pub(crate) fn pull_at(&mut self, w: u32)
         requires within { w < length self.old.wires }
         requires free { can_pull (wire_at self.old w).wire.conn ≡ true → is_queued self.old.queue w ≡ false }
         ensures { self.new ≡ put self.old w (moved_by (act.Pull 0) (wire_at self.old w)) (can_pull (wire_at self.old w).wire.conn) }
@@ -275,7 +267,7 @@ impl<S: Stage> Engine<S> {
 
     // The node at the output of wire w pushes an element there.
     #[inline(always)]
-    fn push_at(&mut self, w: u32, e: Elem)
+    pub(crate) fn push_at(&mut self, w: u32, e: Elem)
         requires within { w < length self.old.wires }
         requires free { can_push (wire_at self.old w).wire.conn ≡ true → is_queued self.old.queue w ≡ false }
         requires count { elements (wire_at self.old w).wire.sent + 1 < 2 ^ 64 }
@@ -316,89 +308,9 @@ impl<S: Stage> Engine<S> {
         self.queue.close(w, queued);
     }
 
-    // Node n does what it wants done once an element came, which mostly is to push one. The answer says whether it is passive: one
-    // with an action is not.
-    // Choice: docs/DECISIONS.md#commonest-action-first
-    #[inline(always)]
-    fn perform_after_push(&mut self, n: usize, acts: &mut Acts) -> bool
-        requires within { n < length self.old.nodes }
-        requires busy { Busy AnyRow AnyLaw self.old n acts.old.items }
-        requires few { all_asks self.old ≤ MOST_COUNT }
-        requires still { AtNode self.old n (λ x. S.passive x ≡ true → acts.old.items ≡ []) }
-        ensures after { self.new ≡ acted_all self.old n acts.old.items }
-        ensures acts { acts.new ≡ record acts.old { items = [] } }
-        ensures passive { AtNode self.new n (λ x. result ≡ S.passive x) }
-    {
-        if let Some((j, e)) = acts.only_push() {
-            self.push(n, j, e);
-            return false;
-        }
-        self.perform_pull(n, acts)
-    }
-
-    // The same where it does not push: then it mostly pulls, or is passive, as at the end of a lane, and wants nothing done.
-    #[inline(always)]
-    fn perform_pull(&mut self, n: usize, acts: &mut Acts) -> bool
-        requires within { n < length self.old.nodes }
-        requires busy { Busy AnyRow AnyLaw self.old n acts.old.items }
-        requires few { all_asks self.old ≤ MOST_COUNT }
-        requires still { AtNode self.old n (λ x. S.passive x ≡ true → acts.old.items ≡ []) }
-        ensures after { self.new ≡ acted_all self.old n acts.old.items }
-        ensures acts { acts.new ≡ record acts.old { items = [] } }
-        ensures passive { AtNode self.new n (λ x. result ≡ S.passive x) }
-    {
-        if let Some(i) = acts.only_pull() {
-            self.pull(n, i);
-            return false;
-        }
-        if self.nodes[n].is_passive() {
-            return true;
-        }
-        self.perform(n, acts)
-    }
-
-    // The same once it was pulled: then it mostly pulls, or is passive.
-    #[inline(always)]
-    fn perform_after_pull(&mut self, n: usize, acts: &mut Acts) -> bool
-        requires within { n < length self.old.nodes }
-        requires busy { Busy AnyRow AnyLaw self.old n acts.old.items }
-        requires few { all_asks self.old ≤ MOST_COUNT }
-        requires still { AtNode self.old n (λ x. S.passive x ≡ true → acts.old.items ≡ []) }
-        ensures after { self.new ≡ acted_all self.old n acts.old.items }
-        ensures acts { acts.new ≡ record acts.old { items = [] } }
-        ensures passive { AtNode self.new n (λ x. result ≡ S.passive x) }
-    {
-        if let Some(i) = acts.only_pull() {
-            self.pull(n, i);
-            return false;
-        }
-        if self.nodes[n].is_passive() {
-            return true;
-        }
-        self.perform_push(n, acts)
-    }
-
-    // The same where it does not pull and is not passive: then it mostly pushes.
-    #[inline(never)]
-    fn perform_push(&mut self, n: usize, acts: &mut Acts) -> bool
-        requires within { n < length self.old.nodes }
-        requires busy { Busy AnyRow AnyLaw self.old n acts.old.items }
-        requires few { all_asks self.old ≤ MOST_COUNT }
-        requires still { AtNode self.old n (λ x. S.passive x ≡ true → acts.old.items ≡ []) }
-        ensures after { self.new ≡ acted_all self.old n acts.old.items }
-        ensures acts { acts.new ≡ record acts.old { items = [] } }
-        ensures passive { AtNode self.new n (λ x. result ≡ S.passive x) }
-    {
-        if let Some((j, e)) = acts.only_push() {
-            self.push(n, j, e);
-            return false;
-        }
-        self.perform(n, acts)
-    }
-
     // The same, whatever it is that it wants done.
     #[inline(never)]
-    fn perform(&mut self, n: usize, acts: &mut Acts) -> bool
+    pub(crate) fn perform(&mut self, n: usize, acts: &mut Acts) -> bool
         requires within { n < length self.old.nodes }
         requires busy { Busy AnyRow AnyLaw self.old n acts.old.items }
         requires few { all_asks self.old ≤ MOST_COUNT }
@@ -458,7 +370,7 @@ impl<S: Stage> Engine<S> {
 
     // Tells an end of the event of a wire that was taken out of the queue.
     #[inline(always)]
-    fn tell(&mut self, w: u32) -> Event
+    pub(crate) fn tell(&mut self, w: u32) -> Event
         requires { w < length self.old.wires }
         ensures tells { Tells result (wire_at self.old w) (wire_at self.new w) }
         ensures after { self.new ≡ put self.old w (wire_at self.new w) false }
@@ -468,7 +380,7 @@ impl<S: Stage> Engine<S> {
 
     // Hands out the element that waits at a wire, which has to be queued again or not.
     #[inline(always)]
-    fn take(&mut self, w: u32, more: bool) -> Elem
+    pub(crate) fn take(&mut self, w: u32, more: bool) -> Elem
         requires within { w < length self.old.wires }
         requires absent { more ≡ true → is_queued self.old.queue w ≡ false }
         requires there { IsSome (wire_at self.old w).wire.conn.to_grab }
@@ -481,39 +393,6 @@ impl<S: Stage> Engine<S> {
             self.queue.enqueue(w);
         }
         e
-    }
-
-    // Handles the event of a wire that was taken out of the queue, and says whether the node that heard of it is passive. An element
-    // with nothing behind it and a pull come first, since nearly all events are these.
-    #[inline(always)]
-    fn handle(&mut self, alloc: Global, w: u32, acts: &mut Acts) -> Result<bool, NoMemory>
-        requires within { w < length self.old.wires }
-        requires absent { is_queued self.old.queue w ≡ false }
-        requires laws { Settled S.port_state S.law S.asking S.moves (before self.old w) }
-        requires few { all_asks self.old + 1 ≤ MOST_COUNT }
-        requires empty { acts.old.items ≡ [] }
-        requires room { LEAST_ACTS ≤ acts.old.room }
-        requires ports { HaveRoom self.old.ports acts.old.room }
-        ensures answered { IfOk result (λ heard. EventHandled S.port_state S.law S.asking S.moves S.gone S.passive self.old self.new w heard) }
-        ensures acts { OnOk result (acts.new ≡ acts.old) }
-        ensures kept { OnErr result (AllKept S.keeps self.old.nodes self.new.nodes) }
-    {
-        let since = Snapshot::of(&*self);
-        let ends = self.ends[w as usize];
-        match self.tell(w) {
-            Event::Push => {
-                let e = self.take(w, false);
-                let n = ends.to as usize;
-                self.nodes[n].on_push(alloc, ends.input, e, acts)?;
-                Ok(self.perform_after_push(n, acts))
-            }
-            Event::Pull => {
-                let n = ends.from as usize;
-                self.nodes[n].on_pull(alloc, ends.output, acts)?;
-                Ok(self.perform_after_pull(n, acts))
-            }
-            event => self.handle_closing(alloc, w, event, since, acts),
-        }
     }
 
     // Delivers any other event, which an end of wire w was told of, and says what it brings: `since` is the graph before that.
@@ -540,7 +419,7 @@ impl<S: Stage> Engine<S> {
 
     // Handles such an event.
     #[inline(never)]
-    fn handle_closing(
+    pub(crate) fn handle_closing(
         &mut self,
         alloc: Global,
         w: u32,
@@ -572,100 +451,11 @@ impl<S: Stage> Engine<S> {
         Ok(self.perform(n, acts))
     }
 
-    // Takes out the wire whose event comes next: the one that waits first, or the one that was queued last, where it is chased.
-    fn next(&mut self) -> Option<u32>
-        ensures none { IfNone result ((self.old.queue ≡ []) × (self.new ≡ self.old)) }
-        ensures some { IfSome result (λ w. (w < length self.new.wires) × ((is_queued self.new.queue w ≡ false) × Takes self.old w self.new)) }
-    {
-        self.queue.next()
-    }
-
     /// Each wire that has an event waits for its turn: only what is caused from now on is chased. It takes no memory.
     pub fn settle(&mut self)
         ensures { self.new ≡ self.old }
     {
         self.queue.settle();
-    }
-
-    // Choice: docs/DECISIONS.md#no-step-between
-    /// Handles at most `limit` events, one unit each, and fewer only where none is left. It answers how many. After `NoMemory`
-    /// each node has kept what outlives that since the last moment between two events, and the graph is only taken apart.
-    pub fn execute(&mut self, alloc: Global, limit: u32, acts: &mut Acts) -> Result<u32, NoMemory>
-        requires laws { Settled S.port_state S.law S.asking S.moves self.old }
-        requires few { all_asks self.old + limit ≤ MOST_COUNT }
-        requires empty { acts.old.items ≡ [] }
-        requires room { LEAST_ACTS ≤ acts.old.room }
-        requires ports { HaveRoom self.old.ports acts.old.room }
-        ensures laws { OnOk result (Settled S.port_state S.law S.asking S.moves self.new) }
-        ensures on { OnOk result (NetGoesOn self.old self.new) }
-        ensures uses { IfOk result (λ used. Uses self.old self.new used) }
-        ensures steps { IfOk result (λ used. EventsLead S.port_state S.law S.asking S.moves S.gone S.passive self.old self.new used) }
-        ensures within { IfOk result (λ used. used ≤ limit) }
-        ensures rest { IfOk result (λ used. used < limit → self.new.queue ≡ []) }
-        ensures gone { OnOk result (map S.gone self.new.nodes ≡ map S.gone self.old.nodes) }
-        ensures still { OnOk result (StandsStill S.passive self.old self.new) }
-        ensures acts { OnOk result (acts.new ≡ acts.old) }
-        ensures breaks { OnErr result (BreaksOff S.port_state S.law S.asking S.moves S.keeps self.old self.new.nodes) }
-        ensures count { length self.new.nodes ≡ length self.old.nodes }
-    {
-        self.settle();
-        for used in 0..limit {
-            let Some(w) = self.next() else {
-                return Ok(used);
-            };
-            self.handle(alloc, w, acts)?;
-        }
-        Ok(limit)
-    }
-
-    /// Handles events as `execute` does, but stops behind one that a passive node has heard of, and says on which wire that was: so
-    /// whoever acts for the passive nodes has to look at that wire alone. It stops behind any other event too where a source may wait at
-    /// its next ask. Fewer than `limit` without such a wire only where no event is left. What was pushed or pulled outside of the handlers
-    /// since the last event counts as caused by it, and may be chased: whoever does not want that settles before.
-    // Out of line, so that its registers are its own.
-    #[inline(never)]
-    pub fn advance(
-        &mut self,
-        alloc: Global,
-        limit: u32,
-        acts: &mut Acts,
-    ) -> Result<Advance, NoMemory>
-        requires laws { Settled S.port_state S.law S.asking S.moves self.old }
-        requires few { all_asks self.old + limit ≤ MOST_COUNT }
-        requires empty { acts.old.items ≡ [] }
-        requires room { LEAST_ACTS ≤ acts.old.room }
-        requires ports { HaveRoom self.old.ports acts.old.room }
-        ensures laws { OnOk result (Settled S.port_state S.law S.asking S.moves self.new) }
-        ensures on { OnOk result (NetGoesOn self.old self.new) }
-        ensures uses { IfOk result (λ a. Uses self.old self.new a.used) }
-        ensures steps { IfOk result (λ a. EventsLead S.port_state S.law S.asking S.moves S.gone S.passive self.old self.new a.used) }
-        ensures within { IfOk result (λ a. a.used ≤ limit) }
-        ensures rest { IfOk result (λ a. a.used < limit → a.heard ≡ None → self.new.queue ≡ []) }
-        ensures gone { OnOk result (map S.gone self.new.nodes ≡ map S.gone self.old.nodes) }
-        ensures still { OnOk result (StandsStill S.passive self.old self.new) }
-        ensures untouched { IfOk result (λ a. Untouched S.passive a.heard self.old self.new) }
-        ensures acts { OnOk result (acts.new ≡ acts.old) }
-        ensures none { IfOk result (λ a. a.used ≡ 0 → self.new ≡ self.old) }
-        ensures heard { IfOk result (λ a. (w : ℕ) → a.heard ≡ Some w → (1 ≤ a.used) × (w < length self.new.wires)) }
-        ensures breaks { OnErr result (BreaksAside S.port_state S.law S.asking S.moves S.gone S.passive S.keeps self.old self.new.nodes) }
-        ensures count { length self.new.nodes ≡ length self.old.nodes }
-    {
-        for used in 0..limit {
-            let Some(w) = self.next() else {
-                return Ok(Advance { used, heard: None });
-            };
-            let heard = self.handle(alloc, w, acts)?;
-            if is_to_stop(heard, acts.any_drained()) {
-                return Ok(Advance {
-                    used: used + 1,
-                    heard: Some(w),
-                });
-            }
-        }
-        Ok(Advance {
-            used: limit,
-            heard: None,
-        })
     }
 
     /// Whether nothing waits at node n to leave the graph.

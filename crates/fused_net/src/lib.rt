@@ -2,5 +2,6 @@
 #![tactic(auto)]
 
 pub mod engine;
+mod hand;
 pub mod net;
 pub mod queue;

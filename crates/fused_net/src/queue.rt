@@ -1,4 +1,4 @@
-ghost use Rattle.std.specs.Prelude.{◌≡◌, ◌<◌, ◌≤◌, ◌∷◌, [], ◌++◌, false, true, None, Some, if◌then◌else◌, IsTrue, IfNone, IfSome, ◌↔◌, ◌⊎◌, max};
+ghost use Rattle.std.specs.Prelude.{◌≡◌, ℕ, ◌<◌, ◌≤◌, ◌∷◌, [], ◌++◌, false, true, None, Some, if◌then◌else◌, IsTrue, IfNone, IfSome, ◌↔◌, ◌⊎◌, max};
 ghost use Rattle.port_core.specs.Ring.{is_queued};
 ghost use Rattle.fused_net.specs.Queue.{waiting, chase_queued, pushed_on, Chases, Dequeues};
 ghost use Rattle.fused_net.specs.declared.queue.TheConstants.{MOST_CHASES};
@@ -174,6 +174,26 @@ impl EventQueue {
         }
         self.settle();
         self.first()
+    }
+
+    /// Counts an event that is handled at once, since no wire has an event: as if its wire was put in by `pull` or by `push` and was taken
+    /// out by `next`.
+    #[inline(always)]
+    pub fn chase(&mut self, pulls: bool)
+        requires empty { waiting self.old ≡ [] }
+        ensures next { (w : ℕ) → Chases (record self.old { chased = Some w; pulling = pulls }) w self.new
+            ⊎ Dequeues (record self.old { chased = Some w; pulling = pulls }) w self.new }
+        ensures waits { waiting self.new ≡ waiting self.old }
+        ensures size { self.new.size ≡ self.old.size }
+    {
+        if self.chases < MOST_CHASES {
+            self.chases += 1;
+            self.pulling = pulls;
+        } else {
+            self.longest = MOST_CHASES;
+            self.chases = 0;
+            self.pulling = false;
+        }
     }
 
     // Takes out the first of the ring.

@@ -1,7 +1,0 @@
--- The goals of `engine::Engine::perform_pull` that the search leaves.
-use Rattle.fused_net.specs.Laws.{AnyRow, AnyLaw}
-use Rattle.fused_net.proofs.Acting.{next_able}
-use Rattle.fused_net.proofs.engine.Engine.perform_pull.Goals as goal
-
-pub pull-requires : goal.pull-requires
-pull-requires g c = next_able AnyRow AnyLaw _ _ _ _ _ c.in-Some.ensures.one.0 c.requires.busy c.requires.few

@@ -4,7 +4,8 @@
 -- the moments at which it pulls: what it knows of its ports whenever it has just pulled (`asking`), and the moves that it has
 -- recorded, which only grow (`moves`). One is told of whether it acts by itself at all (`passive`). And one is told of want of memory: what a stage keeps of itself through a call that
 -- answers it (`keeps`).
-use Rattle.std.specs.Prelude.{◌≡◌, Bool, true, false, List, [], ◌∷◌, length, ⊤}
+use Rattle.std.specs.Prelude.{◌≡◌, ℕ, Bool, true, false, List, [], ◌∷◌, length, ⊤}
+use Rattle.elem_core.specs.Prefix.{IsPrefix}
 use Rattle.elem_core.specs.declared.item.Item.{Item}
 use Rattle.port_core.specs.declared.act.Act.{Act}
 use Rattle.port_core.specs.declared.act.Act.TheVariants.{Pull, Push, Complete, FailOut, Cancel}
@@ -46,3 +47,14 @@ module _ {N : Type 0} (port_state : N → View → Type 0) (law : N → N → Vi
     pub stands : PullsStand acts
     pub keeps : (first : N) (v : View) (took gave : List (List Item)) → CallAllowed call v → port_state old v → law first old v took gave
         → law first new (acted_all (seen call v) acts) (brought_by call took) (given_all acts gave)
+
+module _ {N : Type 0} (port_state : N → View → Type 0) (law : N → N → View → List (List Item) → List (List Item) → Type 0) (asking : N → View → Type 0)
+    (moves : N → List ℕ) (passive : N → Bool) (gone : N → List Item) where
+  -- The call was handled by these actions, and all holds besides that a handler owes: what the stage tells whenever it has just pulled, its
+  -- moves, whether it is passive, and what left it.
+  pub record Reacts (call : Call) (old new : N) (acts : List Act) : Type 0 where
+    pub handles : Handles port_state law call old new acts
+    pub pulls : PullsAs call (port_state old) (asking new) acts
+    pub grows : IsPrefix (moves old) (moves new)
+    pub stays : StaysPassive (passive old) (passive new) acts
+    pub none_gone : gone new ≡ gone old

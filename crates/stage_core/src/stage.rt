@@ -1,4 +1,4 @@
-ghost use Rattle.std.specs.Prelude.{◌≡◌, ◌≤◌, ◌↔◌, ◌⊎◌, ℕ, Bool, false, List, [], ◌∷◌, OnOk, OnErr, IfNone, IfSome, IsTrue};
+ghost use Rattle.std.specs.Prelude.{◌≡◌, ◌≤◌, ◌↔◌, ◌⊎◌, ℕ, Bool, true, false, List, [], ◌∷◌, OnOk, OnErr, IfNone, IfSome, IsTrue};
 ghost use Rattle.elem_core.specs.Prefix.{IsPrefix};
 ghost use Rattle.elem_core.specs.declared.item.Item.{Item};
 ghost use Rattle.elem_core.specs.declared.item.Item.TheVariants as item;
@@ -6,7 +6,9 @@ ghost use Rattle.port_core.specs.View.{View};
 ghost use Rattle.port_core.specs.Call.{Meets, starts, pulls, arrives, cancels};
 ghost use Rattle.stage_core.specs.declared.stage.TheConstants.{LEAST_ACTS};
 ghost use Rattle.stage_core.specs.Rooms.{HasRoom};
-ghost use Rattle.stage_core.specs.Handling.{PullsAs, StaysPassive, Starts, Handles};
+ghost use Rattle.stage_core.specs.Handling.{PullsAs, StaysPassive, Starts, Handles, Reacts};
+ghost use Rattle.stage_core.specs.declared.stage.Swift.TheVariants as swift;
+ghost use Rattle.port_core.specs.declared.act.Act.TheVariants as act;
 ghost use Rattle.stage_core.specs.Handing.{Hands, PutsOff, cancel_first};
 
 use elem_core::elem::Elem;
@@ -19,6 +21,19 @@ use std::alloc::Global;
 /// The most actions that one call of a stage with one input and one output appends: two for each of its ports. There is room for so
 /// many at each call.
 pub const LEAST_ACTS: u32 = 4;
+
+/// What an element or an ask came to at once.
+#[derive(Clone, Copy, PartialEq, Eq)]
+pub enum Swift {
+    /// One element goes on at output 0, in the place of the one that came.
+    Gives,
+    /// Input 0 is pulled.
+    Asks,
+    /// The list of actions says it.
+    Acts,
+    /// Nothing: the handler has to be called.
+    Rests,
+}
 
 // Choice: docs/DECISIONS.md#handlers-have-two-clauses
 /// A node of a fused graph: a source, a stage or a sink. Each call is a handler; what it wants done at its ports it appends
@@ -162,6 +177,34 @@ pub trait Stage: Drop {
 
     /// Whether it may wait for a read where it is asked next. A hint, on which no clause rests. It takes no memory.
     fn may_wait(&self) -> bool {
+        false
+    }
+
+    /// An element came to input `port`: does what `on_push` does, if that takes no memory. The element that goes on stands in the place of
+    /// the one that came. Rests leaves the stage and the element as they were.
+    fn push_at_once(&mut self, _port: u8, _e: &mut Elem, _acts: &mut Acts) -> Swift
+        requires meets { Meets (arrives _port (item.Elem _e.old)) (port_state self.old) }
+        requires empty { _acts.old.items ≡ [] }
+        requires room { LEAST_ACTS ≤ _acts.old.room }
+        ensures gives { result ≡ swift.Gives → Reacts port_state law asking moves passive gone (arrives _port (item.Elem _e.old)) self.old self.new
+            (act.Push 0 _e.new ∷ []) }
+        ensures asks { result ≡ swift.Asks → Reacts port_state law asking moves passive gone (arrives _port (item.Elem _e.old)) self.old self.new
+            (act.Pull 0 ∷ []) }
+        ensures acts { result ≡ swift.Acts → Reacts port_state law asking moves passive gone (arrives _port (item.Elem _e.old)) self.old self.new
+            _acts.new.items }
+        ensures rests { result ≡ swift.Rests → (self.new ≡ self.old) × (_e.new ≡ _e.old) }
+        ensures none { (result ≡ swift.Acts → ⊥) → _acts.new ≡ _acts.old }
+        ensures room { _acts.new.room ≡ _acts.old.room }
+    {
+        Swift::Rests
+    }
+
+    /// Output `port` was asked: whether it asks input 0 for that alone, as `on_pull` would. False leaves the stage as it was.
+    fn pull_at_once(&mut self, _port: u8) -> bool
+        requires meets { Meets (pulls _port) (port_state self.old) }
+        ensures asks { result ≡ true → Reacts port_state law asking moves passive gone (pulls _port) self.old self.new (act.Pull 0 ∷ []) }
+        ensures rests { result ≡ false → self.new ≡ self.old }
+    {
         false
     }
 }

@@ -1,6 +1,6 @@
 -- Each call of a linear stage keeps the law of its output.
-use Rattle.std.specs.Prelude.{Result, OnOk}
-use Rattle.std.proofs.Common.{ℕ, ◌+◌, Bool, ◌≡◌, List, [], ◌∷◌, ◌++◌, length, refl, sym, ap, subst, ◌∙◌}
+use Rattle.std.specs.Prelude.{Result, OnOk, ⊤}
+use Rattle.std.proofs.Common.{ℕ, ◌+◌, Bool, false, ◌≡◌, List, [], ◌∷◌, ◌++◌, length, refl, sym, ap, subst, ◌∙◌}
 use Rattle.elem_core.specs.Tree.{Tree}
 use Rattle.elem_core.specs.declared.item.Item.{Item}
 use Rattle.elem_core.specs.declared.item.Item.TheVariants as item
@@ -12,7 +12,7 @@ use Rattle.port_core.specs.declared.view.OutView.TheVariants as outlet
 use Rattle.port_core.specs.View.{View, in_at, out_at, ActsAllowed, acted_all}
 use Rattle.port_core.specs.Call.{Call, starts, arrives, CallAllowed, Meets, seen, brought_to, given_on, Obeys}
 use Rattle.stage_core.specs.Histories as histories
-use Rattle.stage_core.specs.Handling.{Starts, Handles}
+use Rattle.stage_core.specs.Handling.{Starts, Handles, Reacts}
 use Rattle.stage_core.proofs.OneOnes.{given_one, brought_one, one_input, at_first, first_port, fresh_ports}
 use Rattle.stage_core.proofs.OnOks.{on_ok_two}
 use Rattle.stream_model.specs.Outlook.{unended}
@@ -82,6 +82,10 @@ handles_came book p t k old new acts m e came =
     let h : old.phase ≡ Open = called_open old (arrives p (item.Elem t)) m.0 m.1.1.started (λ e. cc) m.1.0 m.1.1.ports in
     let w = waits old t h (met_first (arrives p (item.Elem t)) old m) in
     handles_at book (arrives p (item.Elem t)) old new acts m (came_obeys book old new acts t k h w came) (came_turned book old new acts t k h w e came)
+
+-- a linear stage makes no moves, is not passive, and nothing leaves it
+pub reacts_by : (book : Book) (call : Call) (old new : Logic) (acts : List Act) → Handles LinearPortState (LinearLaw book) call old new acts → Reacts LinearPortState (LinearLaw book) (λ l v. ⊤) (λ l. []) (λ l. false) (λ l. []) call old new acts
+reacts_by book call old new acts h = record { handles = h; pulls = λ v may before asks. tt; grows = record { rest = []; is = refl }; stays = refl; none_gone = refl }
 
 -- ---- the run begins
 

@@ -10,7 +10,7 @@ use elem_core::why::{Cause, NoMemory};
 use plug_logic::book::PlugBook;
 use plug_logic::logic::Logic;
 use port_core::acts::Acts;
-use stage_core::stage::Stage;
+use stage_core::stage::{Stage, Swift};
 use std::alloc::Global;
 
 impl<L: Logic, B: PlugBook> Stage for LinearLogic<L, B> {
@@ -101,6 +101,28 @@ impl<L: Logic, B: PlugBook> Stage for LinearLogic<L, B> {
     }
 
     fn put_off(&mut self) -> bool {
+        false
+    }
+
+    #[inline(always)]
+    fn push_at_once(&mut self, _port: u8, _e: &mut Elem, _acts: &mut Acts) -> Swift {
+        a_called_stage_is_open();
+        let Ok(taken) = self.next_number() else {
+            return Swift::Rests;
+        };
+        match self.at_once(_e) {
+            Some(said) => self.answer_in_place(taken, said, _e, _acts),
+            None => Swift::Rests,
+        }
+    }
+
+    #[inline(always)]
+    fn pull_at_once(&mut self, _port: u8) -> bool {
+        a_called_stage_is_open();
+        if self.holds_none() {
+            self.wait();
+            return true;
+        }
         false
     }
 }

@@ -3,6 +3,7 @@ ghost use Rattle.elem_core.specs.declared.item.Item.TheVariants as item;
 ghost use Rattle.port_core.specs.declared.act.Act.TheVariants as act;
 ghost use Rattle.port_core.specs.Call.{Obeys, Meets, starts, pulls, arrives, cancels};
 ghost use Rattle.stage_core.specs.declared.phase.Phase.TheVariants.{New, Open, Closed};
+ghost use Rattle.stage_core.specs.declared.stage.Swift.TheVariants as swift;
 ghost use Rattle.plug_logic.specs.Gives.{listed};
 ghost use Rattle.stream_model.specs.Linear.{finish_of};
 ghost use Rattle.stream_model.specs.declared.kind.Kind.TheVariants as kind;
@@ -26,8 +27,10 @@ use port_core::act::Act;
 use port_core::acts::Acts;
 use port_core::pick_log::PickLog;
 use stage_core::phase::Phase;
+use stage_core::stage::Swift;
 use std::alloc::{AllocError, Global};
 use std::marker::Model;
+use std::mem;
 use step_work::task::{AtOnce, LinearEnd, LinearReaction, LinearWork};
 use stream_model::kind::Kind;
 
@@ -154,6 +157,18 @@ impl<L: Logic, B: PlugBook> LinearLogic<L, B> {
     {
         self.course = Course::Waits;
         acts.add(Act::Pull(port));
+    }
+
+    /// Nothing is held that could be given: the input is asked, without a list of actions.
+    #[inline(always)]
+    pub(crate) fn wait(&mut self)
+        requires open { self.old.phase ≡ Open }
+        requires meets { Meets (pulls 0) (port_state self.old) }
+        requires none { self.old.pending ≡ [] }
+        ensures ports { Obeys (pulls 0) (port_state self.old) (port_state self.new) (act.Pull 0 ∷ []) }
+        ensures gives { Turned B.lists (pulls 0) self.old (act.Pull 0 ∷ []) self.new }
+    {
+        self.course = Course::Waits;
     }
 
     /// The output was asked.
@@ -286,6 +301,67 @@ impl<L: Logic, B: PlugBook> LinearLogic<L, B> {
                 self.complete(acts);
             }
             AtOnce::Blames(why) => self.decide(taken, why, acts),
+        }
+    }
+
+    // Element number `taken` gave one, which stands in its place.
+    #[inline(always)]
+    fn note_given(&mut self, taken: u64)
+        ensures { self.new ≡ counted self.old taken }
+    {
+        self.taken = taken;
+        self.course = Course::Idles;
+    }
+
+    // Element number `taken` gave nothing.
+    #[inline(always)]
+    fn note_skipped(&mut self, taken: u64)
+        ensures { self.new ≡ skipped self.old taken }
+    {
+        self.taken = taken;
+        self.course = Course::Waits;
+    }
+
+    /// What element number `taken` came to at once. One that is given stands in its place; what is more than one push or pull is in the
+    /// list.
+    #[inline(always)]
+    pub(crate) fn answer_in_place(
+        &mut self,
+        taken: u64,
+        said: AtOnce,
+        e: &mut Elem,
+        acts: &mut Acts,
+    ) -> Swift
+        requires empty { acts.old.items ≡ [] }
+        requires room { 4 ≤ acts.old.room }
+        ensures stage { self.new ≡ answered self.old taken (outcome_of said e.old) }
+        ensures gives { result ≡ swift.Gives → act.Push 0 e.new ∷ [] ≡ answer_acts self.old taken (outcome_of said e.old) }
+        ensures asks { result ≡ swift.Asks → act.Pull 0 ∷ [] ≡ answer_acts self.old taken (outcome_of said e.old) }
+        ensures acts { result ≡ swift.Acts → acts.new.items ≡ answer_acts self.old taken (outcome_of said e.old) }
+        ensures some { result ≡ swift.Rests → ⊥ }
+        ensures none { (result ≡ swift.Acts → ⊥) → acts.new ≡ acts.old }
+        ensures room { acts.new.room ≡ acts.old.room }
+    {
+        match said {
+            AtOnce::Passes => {
+                self.note_given(taken);
+                Swift::Gives
+            }
+            AtOnce::Gives(z) => {
+                let_go(mem::replace(e, Elem::of(Form::Num(z))));
+                self.note_given(taken);
+                Swift::Gives
+            }
+            AtOnce::Skips => {
+                let_go(mem::replace(e, Elem::of(Form::Num(0))));
+                self.note_skipped(taken);
+                Swift::Asks
+            }
+            said => {
+                let x = mem::replace(e, Elem::of(Form::Num(0)));
+                self.answer_at_once(taken, said, x, acts);
+                Swift::Acts
+            }
         }
     }
 

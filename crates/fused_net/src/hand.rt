@@ -13,7 +13,11 @@ ghost use Rattle.fused_net.specs.Costs.{all_asks, Uses};
 ghost use Rattle.fused_net.specs.Poking.{AtNode};
 ghost use Rattle.fused_net.specs.Outside.{BreaksAside, StandsStill, Untouched, touched};
 ghost use Rattle.fused_net.specs.Events.{EventsLead, EventHandled};
-ghost use Rattle.fused_net.specs.Hand.{in_hand, IsHeld};
+ghost use Rattle.fused_net.specs.Hand.{acts_of, acts_asked, in_hand, IsHeld};
+ghost use Rattle.port_core.specs.Call.{Meets, arrives, pulls};
+ghost use Rattle.stage_core.specs.Rooms.{HasRoom};
+ghost use Rattle.stage_core.specs.Handling.{Reacts};
+ghost use Rattle.stage_core.specs.declared.stage.Swift.TheVariants as swifts;
 ghost use Rattle.fused_net.specs.declared.hand.Hand.TheVariants as hands;
 
 use crate::engine::{Advance, Engine};
@@ -22,7 +26,7 @@ use elem_core::item::Item;
 use elem_core::why::NoMemory;
 use port_core::acts::Acts;
 use port_core::conn::Event;
-use stage_core::stage::Stage;
+use stage_core::stage::{Stage, Swift};
 use std::alloc::Global;
 use std::mem;
 use std::snapshot::Snapshot;
@@ -88,6 +92,61 @@ fn is_to_stop(heard: bool, drained: bool) -> bool
     ensures { result ≡ false → heard ≡ false }
 {
     heard || drained
+}
+
+// Calls a node to which an element came, at once if it answers so.
+#[inline(always)]
+fn push_to<S: Stage>(
+    node: &mut S,
+    alloc: Global,
+    port: u8,
+    e: &mut Elem,
+    acts: &mut Acts,
+) -> Result<Swift, NoMemory>
+    requires meets { Meets (arrives port (item.Elem e.old)) (S.port_state node.old) }
+    requires empty { acts.old.items ≡ [] }
+    requires room { LEAST_ACTS ≤ acts.old.room }
+    requires ports { HasRoom (arrives port (item.Elem e.old)) (S.port_state node.old) acts.old.room }
+    ensures reacts { IfOk result (λ s. Reacts S.port_state S.law S.asking S.moves S.passive S.gone (arrives port (item.Elem e.old)) node.old node.new
+        (acts_of s e.new acts.new.items)) }
+    ensures none { IfOk result (λ s. s ≡ swifts.Gives → acts.new.items ≡ []) }
+    ensures none_asked { IfOk result (λ s. s ≡ swifts.Asks → acts.new.items ≡ []) }
+    ensures room { OnOk result (acts.new.room ≡ acts.old.room) }
+    ensures kept { OnErr result (S.keeps node.old node.new) }
+{
+    match node.push_at_once(port, e, acts) {
+        Swift::Rests => {
+            let x = mem::replace(e, no_elem());
+            node.on_push(alloc, port, x, acts)?;
+            Ok(Swift::Rests)
+        }
+        swift => Ok(swift),
+    }
+}
+
+// Calls a node whose output was asked, at once if it asks its input for that alone.
+#[inline(always)]
+fn pull_from<S: Stage>(
+    node: &mut S,
+    alloc: Global,
+    port: u8,
+    acts: &mut Acts,
+) -> Result<bool, NoMemory>
+    requires meets { Meets (pulls port) (S.port_state node.old) }
+    requires empty { acts.old.items ≡ [] }
+    requires room { LEAST_ACTS ≤ acts.old.room }
+    requires ports { HasRoom (pulls port) (S.port_state node.old) acts.old.room }
+    ensures reacts { IfOk result (λ asks. Reacts S.port_state S.law S.asking S.moves S.passive S.gone (pulls port) node.old node.new
+        (acts_asked asks acts.new.items)) }
+    ensures none { IfOk result (λ asks. asks ≡ true → acts.new.items ≡ []) }
+    ensures room { OnOk result (acts.new.room ≡ acts.old.room) }
+    ensures kept { OnErr result (S.keeps node.old node.new) }
+{
+    if node.pull_at_once(port) {
+        return Ok(true);
+    }
+    node.on_pull(alloc, port, acts)?;
+    Ok(false)
 }
 
 impl<S: Stage> Engine<S> {
@@ -289,25 +348,24 @@ impl<S: Stage> Engine<S> {
     {
         let ends = self.ends[w as usize];
         let n = ends.to as usize;
-        let x = self.pass(w, e);
-        self.nodes[n].on_push(alloc, ends.input, x, acts)?;
-        Ok(self.answer_push(n, acts, e))
+        self.pass(w, e);
+        let swift = push_to(&mut self.nodes[n], alloc, ends.input, e, acts)?;
+        Ok(self.answer_at_once(n, swift, acts, e))
     }
 
     // An element passes wire w, which is open.
     #[inline(always)]
-    fn pass(&mut self, w: u32, e: &mut Elem) -> Elem
+    fn pass(&mut self, w: u32, e: &mut Elem)
         requires held { IsHeld (hands.Down w) self.old }
-        ensures value { result ≡ e.old }
+        ensures same { e.new ≡ e.old }
         ensures brings { delivery_of (moved_by (act.Push 0 e.old) (wire_at self.old w)).wire ≡ arrived (item.Elem e.old) false }
         ensures after { self.new ≡ put self.old w (delivered (moved_by (act.Push 0 e.old) (wire_at self.old w))) false }
     {
         self.queue.chase(false);
         let given = Item::Elem(mem::replace(e, no_elem()));
         self.wires[w as usize].pass(&given);
-        match given {
-            Item::Elem(x) => x,
-            _ => unreachable!(),
+        if let Item::Elem(x) = given {
+            put_beside(e, x);
         }
     }
 
@@ -335,8 +393,8 @@ impl<S: Stage> Engine<S> {
         let ends = self.ends[w as usize];
         let n = ends.from as usize;
         self.ask(w);
-        self.nodes[n].on_pull(alloc, ends.output, acts)?;
-        Ok(self.answer_pull(n, acts, e))
+        let asks = pull_from(&mut self.nodes[n], alloc, ends.output, acts)?;
+        Ok(self.answer_asked(n, asks, acts, e))
     }
 
     // The node at the output of wire w, which is open, hears that it was asked.
@@ -348,6 +406,76 @@ impl<S: Stage> Engine<S> {
     {
         self.queue.chase(true);
         self.wires[w as usize].ask();
+    }
+
+    // Node n pushes the element that stands beside the hand at its first output, in hand where nothing waits.
+    #[inline(always)]
+    fn push_beside(&mut self, n: usize, e: &mut Elem) -> Hand
+        requires { Able self.old n (act.Push 0 e.old) }
+        ensures after { in_hand result e.new self.new ≡ acted self.old n (act.Push 0 e.old) }
+        ensures held { IsHeld result self.new }
+        ensures nodes { self.new.nodes ≡ self.old.nodes }
+    {
+        let w = self.ports[n].output(0);
+        if self.queue.is_empty() && self.wires[w as usize].can_push() {
+            return Hand::Down(w);
+        }
+        self.push_at(w, mem::replace(e, no_elem()));
+        Hand::Empty
+    }
+
+    // Node n does what it wants done once it answered at once.
+    #[inline(always)]
+    fn answer_at_once(&mut self, n: usize, swift: Swift, acts: &mut Acts, e: &mut Elem) -> Answer
+        requires within { n < length self.old.nodes }
+        requires busy { Busy AnyRow AnyLaw self.old n (acts_of swift e.old acts.old.items) }
+        requires few { all_asks self.old ≤ MOST_COUNT }
+        requires still { AtNode self.old n (λ x. S.passive x ≡ true → acts_of swift e.old acts.old.items ≡ []) }
+        requires none { swift ≡ swifts.Gives → acts.old.items ≡ [] }
+        requires none_asked { swift ≡ swifts.Asks → acts.old.items ≡ [] }
+        ensures after { in_hand result.hand e.new self.new ≡ acted_all self.old n (acts_of swift e.old acts.old.items) }
+        ensures held { IsHeld result.hand self.new }
+        ensures acts { acts.new ≡ record acts.old { items = [] } }
+        ensures passive { AtNode (in_hand result.hand e.new self.new) n (λ x. result.heard ≡ S.passive x) }
+    {
+        match swift {
+            Swift::Gives => {
+                let hand = self.push_beside(n, e);
+                Answer { heard: false, hand }
+            }
+            Swift::Asks => {
+                let hand = self.pull_held(n, 0, e);
+                Answer { heard: false, hand }
+            }
+            Swift::Rests => self.answer_push(n, acts, e),
+            Swift::Acts => {
+                let heard = self.perform(n, acts);
+                Answer {
+                    heard,
+                    hand: Hand::Empty,
+                }
+            }
+        }
+    }
+
+    // The same once it was asked, and asked its input for that alone, or not.
+    #[inline(always)]
+    fn answer_asked(&mut self, n: usize, asks: bool, acts: &mut Acts, e: &mut Elem) -> Answer
+        requires within { n < length self.old.nodes }
+        requires busy { Busy AnyRow AnyLaw self.old n (acts_asked asks acts.old.items) }
+        requires few { all_asks self.old ≤ MOST_COUNT }
+        requires still { AtNode self.old n (λ x. S.passive x ≡ true → acts_asked asks acts.old.items ≡ []) }
+        requires none { asks ≡ true → acts.old.items ≡ [] }
+        ensures after { in_hand result.hand e.new self.new ≡ acted_all self.old n (acts_asked asks acts.old.items) }
+        ensures held { IsHeld result.hand self.new }
+        ensures acts { acts.new ≡ record acts.old { items = [] } }
+        ensures passive { AtNode (in_hand result.hand e.new self.new) n (λ x. result.heard ≡ S.passive x) }
+    {
+        if asks {
+            let hand = self.pull_held(n, 0, e);
+            return Answer { heard: false, hand };
+        }
+        self.answer_pull(n, acts, e)
     }
 
     // Does at its wire what is in hand, which then has its place in the queue.

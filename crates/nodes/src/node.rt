@@ -26,7 +26,7 @@ use plug_logic::book::PlugBook;
 use plug_logic::logic::Logic;
 use port_core::acts::Acts;
 use port_core::pick_log::PickLog;
-use stage_core::stage::Stage;
+use stage_core::stage::{Stage, Swift};
 use stage_in::logic::InLogic;
 use stage_linear::logic::LinearLogic;
 use stage_out::logic::OutLogic;
@@ -349,6 +349,22 @@ impl<S: Source, D: Drain, L: Logic, H: Handlers, B: PlugBook> Stage for IslandNo
         match self {
             IslandNode::Leaving(stage) => stage.is_clear(),
             _ => true,
+        }
+    }
+
+    #[inline(always)]
+    fn push_at_once(&mut self, _port: u8, _e: &mut Elem, _acts: &mut Acts) -> Swift {
+        match self {
+            IslandNode::Linear(logic) => Stage::push_at_once(logic, _port, _e, _acts),
+            _ => Swift::Rests,
+        }
+    }
+
+    #[inline(always)]
+    fn pull_at_once(&mut self, _port: u8) -> bool {
+        match self {
+            IslandNode::Linear(logic) => Stage::pull_at_once(logic, _port),
+            _ => false,
         }
     }
 

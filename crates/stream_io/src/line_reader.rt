@@ -106,7 +106,9 @@ impl<S: Source> LineReader<S> {
     }
 
     /// Draws the next line: lines end in LF, a last line without LF counts, CR is kept. `None` comes only at the end, `LineTooLong` only where the next line has more than 65,536 bytes, and each comes there unless the source's count of failed reads rose in this call; `ReadFault` comes only where it rose. After an error nothing that was left to draw is lost.
-    pub fn next(&mut self) -> Result<Option<Line>, LineEnd>
+    ///
+    /// `drawn` says how many lines were drawn before, for the source's own use.
+    pub fn next(&mut self, drawn: u64) -> Result<Option<Line>, LineEnd>
         ensures draws { IfOk result (λ next. IfSome next (λ line. IsSome (S.state self.old.source).whole
             → Draws (rest (S.state self.old.source) self.old.kept) line (rest (S.state self.new.source) self.new.kept))) }
         ensures line { IfOk result (λ next. IfSome next (λ line. IsSome (S.state self.old.source).whole
@@ -137,7 +139,7 @@ impl<S: Source> LineReader<S> {
         ensures name { (S.state self.new.source).name ≡ (S.state self.old.source).name }
         ensures whole { (S.state self.new.source).whole ≡ (S.state self.old.source).whole }
     {
-        match self.fill()? {
+        match self.fill(drawn)? {
             Some(at) => Ok(Some(self.draw(at, at + 1)?)),
             None => {
                 let kept = self.kept_len();
@@ -178,8 +180,8 @@ impl<S: Source> LineReader<S> {
         self.end - self.start
     }
 
-    // Reads one piece behind the kept bytes, all of which were searched; 0 is the end of the source.
-    fn read(&mut self) -> Result<usize, LineEnd>
+    // Reads one piece behind the kept bytes, all of which were searched; 0 is the end of the source. So many lines were drawn before.
+    fn read(&mut self, drawn: u64) -> Result<usize, LineEnd>
         requires searched { NoEnd self.old.kept }
         requires short { length self.old.kept ≤ 65536 }
         ensures kept { IfOk result (λ n. length self.new.kept ≡ length self.old.kept + n) }
@@ -203,13 +205,13 @@ impl<S: Source> LineReader<S> {
         self.scanned = self.end;
         self.start = 0;
         room?;
-        let n = read_at(&mut self.source, &mut self.bytes, self.end)?;
+        let n = read_at(&mut self.source, &mut self.bytes, self.end, drawn)?;
         self.end += n;
         Ok(n)
     }
 
     // Reads until the kept bytes hold a whole line, and says where it ends; None where the source ended before.
-    fn fill(&mut self) -> Result<Option<usize>, LineEnd>
+    fn fill(&mut self, drawn: u64) -> Result<Option<usize>, LineEnd>
         ensures reads { Fetched (S.state self.old.source) self.old.kept (S.state self.new.source) self.new.kept }
         ensures untouched { HoldsEnd self.old.kept → self.new ≡ self.old }
         ensures no_fault { OnOk result ((S.state self.new.source).faults ≡ (S.state self.old.source).faults) }
@@ -230,7 +232,7 @@ impl<S: Source> LineReader<S> {
             if self.kept_len() > LONGEST {
                 return Err(LineEnd::LineTooLong);
             }
-            if self.read()? == 0 {
+            if self.read(drawn)? == 0 {
                 return Ok(None);
             }
         }
@@ -277,8 +279,13 @@ fn make_room(bytes: &mut Vec<u8>, start: usize, end: usize) -> Result<(), AllocE
     Ok(())
 }
 
-// Reads one piece into the buffer at a place.
-fn read_at<S: Source>(source: &mut S, bytes: &mut [u8], at: usize) -> Result<usize, Failed>
+// Reads one piece into the buffer at a place. So many lines were drawn before.
+fn read_at<S: Source>(
+    source: &mut S,
+    bytes: &mut [u8],
+    at: usize,
+    drawn: u64,
+) -> Result<usize, Failed>
     requires { at + 4096 ≤ length bytes.old }
     ensures front { take at bytes.new ≡ take at bytes.old }
     ensures piece { IfOk result (λ n. n ≤ 4096) }
@@ -293,5 +300,6 @@ fn read_at<S: Source>(source: &mut S, bytes: &mut [u8], at: usize) -> Result<usi
     ensures name { (S.state source.new).name ≡ (S.state source.old).name }
     ensures whole { (S.state source.new).whole ≡ (S.state source.old).whole }
 {
+    source.note_lines(drawn);
     source.next_piece(&mut bytes[at..at + PIECE])
 }

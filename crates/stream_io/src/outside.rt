@@ -53,6 +53,11 @@ pub trait Source: Drop {
     fn may_wait(&self) -> bool {
         false
     }
+
+    /// Is told, before a read, how many lines were drawn of what it handed out. A hint, on which no clause rests (own).
+    fn note_lines(&mut self, _lines: u64)
+        ensures { state self.new ≡ state self.old }
+    {}
 }
 
 /// A drain that takes bytes and keeps them in order.
@@ -71,6 +76,11 @@ pub trait Drain: Drop {
         ensures failed { OnErr result ((state self.new).holds ≡ (state self.old).holds) }
         ensures never_falls { (state self.old).faults ≤ (state self.new).faults }
         ensures name { (state self.new).name ≡ (state self.old).name };
+
+    /// Is told, behind the writes of lines, how many whole lines it was given. A hint, on which no clause rests (own).
+    fn note_lines(&mut self, _lines: u64)
+        ensures { state self.new ≡ state self.old }
+    {}
 }
 
 // Choice: docs/DECISIONS.md#open-handles-are-counted

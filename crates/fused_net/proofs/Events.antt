@@ -8,7 +8,7 @@ use Rattle.fused_net.specs.Laws.{NetGoesOn, Settled}
 use Rattle.fused_net.specs.Costs.{Uses}
 use Rattle.fused_net.specs.Outside.{StandsStill}
 use Rattle.fused_net.specs.Events.{EventsLead}
-use Rattle.fused_net.specs.Hand.{in_hand}
+use Rattle.fused_net.specs.Hand.{done_in_hand}
 use Rattle.fused_net.specs.declared.hand.Hand.{Hand}
 use Rattle.fused_net.specs.declared.hand.Hand.TheVariants.{Empty, Down, Up}
 use Rattle.fused_net.proofs.Going.{uses_none, uses_trans}
@@ -17,7 +17,7 @@ use Rattle.fused_net.proofs.Still.{still_same, still_trans, still_taken}
 use Rattle.fused_net.proofs.Taking.{taken_goes, taken_uses, taken_read}
 
 -- what is in hand is done at a wire, and not at a node
-pub hand_nodes : {N : Type 0} (h : Hand) (e : Tree) (net : Net N) → (in_hand h e net).nodes ≡ net.nodes
+pub hand_nodes : {N : Type 0} (h : Hand) (e : Tree) (net : Net N) → (done_in_hand h e net).nodes ≡ net.nodes
 hand_nodes Empty e net = refl
 hand_nodes (Down w) e net = refl
 hand_nodes (Up w) e net = refl

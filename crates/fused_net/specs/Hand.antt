@@ -13,11 +13,11 @@ use Rattle.fused_net.specs.declared.hand.Hand.{Hand}
 use Rattle.fused_net.specs.declared.hand.Hand.TheVariants.{Empty, Down, Up}
 
 -- what a stage that answered at once wants done: e is the element that stands in the place of the one that came
-abbrev pub acts_of : Swift → Tree → List Act → List Act
-acts_of Gives e acts = Push 0 e ∷ []
-acts_of Asks e acts = Pull 0 ∷ []
-acts_of Acts e acts = acts
-acts_of Rests e acts = acts
+abbrev pub acts_at_once : Swift → Tree → List Act → List Act
+acts_at_once Gives e acts = Push 0 e ∷ []
+acts_at_once Asks e acts = Pull 0 ∷ []
+acts_at_once Acts e acts = acts
+acts_at_once Rests e acts = acts
 
 -- the same of one that was asked, and asked its input for that alone, or not
 abbrev pub acts_asked : Bool → List Act → List Act
@@ -26,10 +26,10 @@ acts_asked false acts = acts
 
 module _ {N : Type 0} where
   -- the graph in which what is in hand was done at its wire, which waits last: e is the element that goes down
-  abbrev pub in_hand : Hand → Tree → Net N → Net N
-  in_hand Empty e net = net
-  in_hand (Down w) e net = put net w (moved_by (Push 0 e) (wire_at net w)) true
-  in_hand (Up w) e net = put net w (moved_by (Pull 0) (wire_at net w)) true
+  abbrev pub done_in_hand : Hand → Tree → Net N → Net N
+  done_in_hand Empty e net = net
+  done_in_hand (Down w) e net = put net w (moved_by (Push 0 e) (wire_at net w)) true
+  done_in_hand (Up w) e net = put net w (moved_by (Pull 0) (wire_at net w)) true
 
   -- What is in hand may be done at its wire, which is open, and no wire waits.
   abbrev pub IsHeld : Hand → Net N → Type 0

@@ -13,7 +13,7 @@ ghost use Rattle.fused_net.specs.Costs.{all_asks, Uses};
 ghost use Rattle.fused_net.specs.Poking.{AtNode};
 ghost use Rattle.fused_net.specs.Outside.{BreaksAside, StandsStill, Untouched, touched};
 ghost use Rattle.fused_net.specs.Events.{EventsLead, EventHandled};
-ghost use Rattle.fused_net.specs.Hand.{acts_of, acts_asked, in_hand, IsHeld};
+ghost use Rattle.fused_net.specs.Hand.{acts_at_once, acts_asked, done_in_hand, IsHeld};
 ghost use Rattle.port_core.specs.Call.{Meets, arrives, pulls};
 ghost use Rattle.stage_core.specs.Rooms.{HasRoom};
 ghost use Rattle.stage_core.specs.Handling.{Reacts};
@@ -31,6 +31,7 @@ use std::alloc::Global;
 use std::mem;
 use std::snapshot::Snapshot;
 
+// Choice: docs/DECISIONS.md#in-hand
 // What is handled next without a place in the queue, because nothing waits there.
 #[derive(Clone, Copy, PartialEq, Eq)]
 pub(crate) enum Hand {
@@ -108,7 +109,7 @@ fn push_to<S: Stage>(
     requires room { LEAST_ACTS ≤ acts.old.room }
     requires ports { HasRoom (arrives port (item.Elem e.old)) (S.port_state node.old) acts.old.room }
     ensures reacts { IfOk result (λ s. Reacts S.port_state S.law S.asking S.moves S.passive S.gone (arrives port (item.Elem e.old)) node.old node.new
-        (acts_of s e.new acts.new.items)) }
+        (acts_at_once s e.new acts.new.items)) }
     ensures none { IfOk result (λ s. s ≡ swifts.Gives → acts.new.items ≡ []) }
     ensures none_asked { IfOk result (λ s. s ≡ swifts.Asks → acts.new.items ≡ []) }
     ensures room { OnOk result (acts.new.room ≡ acts.old.room) }
@@ -154,7 +155,7 @@ impl<S: Stage> Engine<S> {
     #[inline(always)]
     fn push_held(&mut self, n: usize, j: u8, x: Elem, e: &mut Elem) -> Hand
         requires { Able self.old n (act.Push j x) }
-        ensures after { in_hand result e.new self.new ≡ acted self.old n (act.Push j x) }
+        ensures after { done_in_hand result e.new self.new ≡ acted self.old n (act.Push j x) }
         ensures held { IsHeld result self.new }
         ensures nodes { self.new.nodes ≡ self.old.nodes }
     {
@@ -171,7 +172,7 @@ impl<S: Stage> Engine<S> {
     #[inline(always)]
     fn pull_held(&mut self, n: usize, i: u8, e: &Elem) -> Hand
         requires { Able self.old n (act.Pull i) }
-        ensures after { in_hand result e.now self.new ≡ acted self.old n (act.Pull i) }
+        ensures after { done_in_hand result e.now self.new ≡ acted self.old n (act.Pull i) }
         ensures held { IsHeld result self.new }
         ensures nodes { self.new.nodes ≡ self.old.nodes }
     {
@@ -192,10 +193,10 @@ impl<S: Stage> Engine<S> {
         requires busy { Busy AnyRow AnyLaw self.old n acts.old.items }
         requires few { all_asks self.old ≤ MOST_COUNT }
         requires still { AtNode self.old n (λ x. S.passive x ≡ true → acts.old.items ≡ []) }
-        ensures after { in_hand result.hand e.new self.new ≡ acted_all self.old n acts.old.items }
+        ensures after { done_in_hand result.hand e.new self.new ≡ acted_all self.old n acts.old.items }
         ensures held { IsHeld result.hand self.new }
         ensures acts { acts.new ≡ record acts.old { items = [] } }
-        ensures passive { AtNode (in_hand result.hand e.new self.new) n (λ x. result.heard ≡ S.passive x) }
+        ensures passive { AtNode (done_in_hand result.hand e.new self.new) n (λ x. result.heard ≡ S.passive x) }
     {
         if let Some((j, x)) = acts.only_push() {
             let hand = self.push_held(n, j, x, e);
@@ -211,10 +212,10 @@ impl<S: Stage> Engine<S> {
         requires busy { Busy AnyRow AnyLaw self.old n acts.old.items }
         requires few { all_asks self.old ≤ MOST_COUNT }
         requires still { AtNode self.old n (λ x. S.passive x ≡ true → acts.old.items ≡ []) }
-        ensures after { in_hand result.hand e.new self.new ≡ acted_all self.old n acts.old.items }
+        ensures after { done_in_hand result.hand e.new self.new ≡ acted_all self.old n acts.old.items }
         ensures held { IsHeld result.hand self.new }
         ensures acts { acts.new ≡ record acts.old { items = [] } }
-        ensures passive { AtNode (in_hand result.hand e.new self.new) n (λ x. result.heard ≡ S.passive x) }
+        ensures passive { AtNode (done_in_hand result.hand e.new self.new) n (λ x. result.heard ≡ S.passive x) }
     {
         if let Some(i) = acts.only_pull() {
             let hand = self.pull_held(n, i, e);
@@ -234,10 +235,10 @@ impl<S: Stage> Engine<S> {
         requires busy { Busy AnyRow AnyLaw self.old n acts.old.items }
         requires few { all_asks self.old ≤ MOST_COUNT }
         requires still { AtNode self.old n (λ x. S.passive x ≡ true → acts.old.items ≡ []) }
-        ensures after { in_hand result.hand e.new self.new ≡ acted_all self.old n acts.old.items }
+        ensures after { done_in_hand result.hand e.new self.new ≡ acted_all self.old n acts.old.items }
         ensures held { IsHeld result.hand self.new }
         ensures acts { acts.new ≡ record acts.old { items = [] } }
-        ensures passive { AtNode (in_hand result.hand e.new self.new) n (λ x. result.heard ≡ S.passive x) }
+        ensures passive { AtNode (done_in_hand result.hand e.new self.new) n (λ x. result.heard ≡ S.passive x) }
     {
         if let Some(i) = acts.only_pull() {
             let hand = self.pull_held(n, i, e);
@@ -296,7 +297,7 @@ impl<S: Stage> Engine<S> {
         requires empty { acts.old.items ≡ [] }
         requires room { LEAST_ACTS ≤ acts.old.room }
         requires ports { HaveRoom self.old.ports acts.old.room }
-        ensures answered { IfOk result (λ a. EventHandled S.port_state S.law S.asking S.moves S.gone S.passive self.old (in_hand a.hand e.new self.new) w a.heard) }
+        ensures answered { IfOk result (λ a. EventHandled S.port_state S.law S.asking S.moves S.gone S.passive self.old (done_in_hand a.hand e.new self.new) w a.heard) }
         ensures held { IfOk result (λ a. IsHeld a.hand self.new) }
         ensures acts { OnOk result (acts.new ≡ acts.old) }
         ensures kept { OnErr result (AllKept S.keeps self.old.nodes self.new.nodes) }
@@ -335,13 +336,13 @@ impl<S: Stage> Engine<S> {
         e: &mut Elem,
     ) -> Result<Answer, NoMemory>
         requires held { IsHeld (hands.Down w) self.old }
-        requires laws { Settled S.port_state S.law S.asking S.moves (in_hand (hands.Down w) e.old self.old) }
-        requires few { all_asks (in_hand (hands.Down w) e.old self.old) + 1 ≤ MOST_COUNT }
+        requires laws { Settled S.port_state S.law S.asking S.moves (done_in_hand (hands.Down w) e.old self.old) }
+        requires few { all_asks (done_in_hand (hands.Down w) e.old self.old) + 1 ≤ MOST_COUNT }
         requires empty { acts.old.items ≡ [] }
         requires room { LEAST_ACTS ≤ acts.old.room }
         requires ports { HaveRoom self.old.ports acts.old.room }
         ensures answered { IfOk result (λ a. EventHandled S.port_state S.law S.asking S.moves S.gone S.passive
-            (put self.old w (moved_by (act.Push 0 e.old) (wire_at self.old w)) false) (in_hand a.hand e.new self.new) w a.heard) }
+            (put self.old w (moved_by (act.Push 0 e.old) (wire_at self.old w)) false) (done_in_hand a.hand e.new self.new) w a.heard) }
         ensures held { IfOk result (λ a. IsHeld a.hand self.new) }
         ensures acts { OnOk result (acts.new ≡ acts.old) }
         ensures kept { OnErr result (AllKept S.keeps self.old.nodes self.new.nodes) }
@@ -379,13 +380,13 @@ impl<S: Stage> Engine<S> {
         e: &mut Elem,
     ) -> Result<Answer, NoMemory>
         requires held { IsHeld (hands.Up w) self.old }
-        requires laws { Settled S.port_state S.law S.asking S.moves (in_hand (hands.Up w) e.old self.old) }
-        requires few { all_asks (in_hand (hands.Up w) e.old self.old) + 1 ≤ MOST_COUNT }
+        requires laws { Settled S.port_state S.law S.asking S.moves (done_in_hand (hands.Up w) e.old self.old) }
+        requires few { all_asks (done_in_hand (hands.Up w) e.old self.old) + 1 ≤ MOST_COUNT }
         requires empty { acts.old.items ≡ [] }
         requires room { LEAST_ACTS ≤ acts.old.room }
         requires ports { HaveRoom self.old.ports acts.old.room }
         ensures answered { IfOk result (λ a. EventHandled S.port_state S.law S.asking S.moves S.gone S.passive
-            (put self.old w (moved_by (act.Pull 0) (wire_at self.old w)) false) (in_hand a.hand e.new self.new) w a.heard) }
+            (put self.old w (moved_by (act.Pull 0) (wire_at self.old w)) false) (done_in_hand a.hand e.new self.new) w a.heard) }
         ensures held { IfOk result (λ a. IsHeld a.hand self.new) }
         ensures acts { OnOk result (acts.new ≡ acts.old) }
         ensures kept { OnErr result (AllKept S.keeps self.old.nodes self.new.nodes) }
@@ -412,7 +413,7 @@ impl<S: Stage> Engine<S> {
     #[inline(always)]
     fn push_beside(&mut self, n: usize, e: &mut Elem) -> Hand
         requires { Able self.old n (act.Push 0 e.old) }
-        ensures after { in_hand result e.new self.new ≡ acted self.old n (act.Push 0 e.old) }
+        ensures after { done_in_hand result e.new self.new ≡ acted self.old n (act.Push 0 e.old) }
         ensures held { IsHeld result self.new }
         ensures nodes { self.new.nodes ≡ self.old.nodes }
     {
@@ -428,15 +429,15 @@ impl<S: Stage> Engine<S> {
     #[inline(always)]
     fn answer_at_once(&mut self, n: usize, swift: Swift, acts: &mut Acts, e: &mut Elem) -> Answer
         requires within { n < length self.old.nodes }
-        requires busy { Busy AnyRow AnyLaw self.old n (acts_of swift e.old acts.old.items) }
+        requires busy { Busy AnyRow AnyLaw self.old n (acts_at_once swift e.old acts.old.items) }
         requires few { all_asks self.old ≤ MOST_COUNT }
-        requires still { AtNode self.old n (λ x. S.passive x ≡ true → acts_of swift e.old acts.old.items ≡ []) }
+        requires still { AtNode self.old n (λ x. S.passive x ≡ true → acts_at_once swift e.old acts.old.items ≡ []) }
         requires none { swift ≡ swifts.Gives → acts.old.items ≡ [] }
         requires none_asked { swift ≡ swifts.Asks → acts.old.items ≡ [] }
-        ensures after { in_hand result.hand e.new self.new ≡ acted_all self.old n (acts_of swift e.old acts.old.items) }
+        ensures after { done_in_hand result.hand e.new self.new ≡ acted_all self.old n (acts_at_once swift e.old acts.old.items) }
         ensures held { IsHeld result.hand self.new }
         ensures acts { acts.new ≡ record acts.old { items = [] } }
-        ensures passive { AtNode (in_hand result.hand e.new self.new) n (λ x. result.heard ≡ S.passive x) }
+        ensures passive { AtNode (done_in_hand result.hand e.new self.new) n (λ x. result.heard ≡ S.passive x) }
     {
         match swift {
             Swift::Gives => {
@@ -466,10 +467,10 @@ impl<S: Stage> Engine<S> {
         requires few { all_asks self.old ≤ MOST_COUNT }
         requires still { AtNode self.old n (λ x. S.passive x ≡ true → acts_asked asks acts.old.items ≡ []) }
         requires none { asks ≡ true → acts.old.items ≡ [] }
-        ensures after { in_hand result.hand e.new self.new ≡ acted_all self.old n (acts_asked asks acts.old.items) }
+        ensures after { done_in_hand result.hand e.new self.new ≡ acted_all self.old n (acts_asked asks acts.old.items) }
         ensures held { IsHeld result.hand self.new }
         ensures acts { acts.new ≡ record acts.old { items = [] } }
-        ensures passive { AtNode (in_hand result.hand e.new self.new) n (λ x. result.heard ≡ S.passive x) }
+        ensures passive { AtNode (done_in_hand result.hand e.new self.new) n (λ x. result.heard ≡ S.passive x) }
     {
         if asks {
             let hand = self.pull_held(n, 0, e);
@@ -481,7 +482,7 @@ impl<S: Stage> Engine<S> {
     // Does at its wire what is in hand, which then has its place in the queue.
     fn put_down(&mut self, hand: Hand, e: Elem)
         requires { IsHeld hand self.old }
-        ensures { self.new ≡ in_hand hand e self.old }
+        ensures { self.new ≡ done_in_hand hand e self.old }
     {
         match hand {
             Hand::Empty => {}
@@ -500,16 +501,16 @@ impl<S: Stage> Engine<S> {
         e: &mut Elem,
     ) -> Result<Option<Came>, NoMemory>
         requires held { IsHeld hand self.old }
-        requires laws { Settled S.port_state S.law S.asking S.moves (in_hand hand e.old self.old) }
-        requires few { all_asks (in_hand hand e.old self.old) + 1 ≤ MOST_COUNT }
+        requires laws { Settled S.port_state S.law S.asking S.moves (done_in_hand hand e.old self.old) }
+        requires few { all_asks (done_in_hand hand e.old self.old) + 1 ≤ MOST_COUNT }
         requires empty { acts.old.items ≡ [] }
         requires room { LEAST_ACTS ≤ acts.old.room }
         requires ports { HaveRoom self.old.ports acts.old.room }
         ensures none { result ≡ Ok None → (hand ≡ hands.Empty) × ((self.old.queue ≡ []) × (self.new ≡ self.old)) }
         ensures steps { IfOk result (λ o. IfSome o (λ a. EventsLead S.port_state S.law S.asking S.moves S.gone S.passive
-            (in_hand hand e.old self.old) (in_hand a.hand e.new self.new) 1)) }
+            (done_in_hand hand e.old self.old) (done_in_hand a.hand e.new self.new) 1)) }
         ensures untouched { IfOk result (λ o. IfSome o (λ a. Untouched S.passive (touched a.heard a.wire)
-            (in_hand hand e.old self.old) (in_hand a.hand e.new self.new))) }
+            (done_in_hand hand e.old self.old) (done_in_hand a.hand e.new self.new))) }
         ensures within { IfOk result (λ o. IfSome o (λ a. a.wire < length self.new.wires)) }
         ensures held { IfOk result (λ o. IfSome o (λ a. IsHeld a.hand self.new)) }
         ensures acts { OnOk result (acts.new ≡ acts.old) }

@@ -6,7 +6,7 @@
 //!
 //! # The islands of a blueprint's parts
 //!
-//! The islands of its nodes come from `traversal`, their places and links from `island_parts`, and what stands at the places of its nodes
+//! The islands of its nodes come from `blue_check`, their places and links from `island_parts`, and what stands at the places of its nodes
 //! from `materializer`: `Standing` shows that wires of a fit blueprint join every port of its nodes, so that the law of `island_parts`
 //! speaks of them. All memory is taken while nodes hold no handles; `fill` then puts the handles into the places, the ends of lanes behind
 //! them, and shares all places out. What each island's end lists, as the sinks, is later brought back into the order of the blueprint: so a

@@ -4,7 +4,7 @@
 //! - `replays`: The moves that the stages of a blueprint follow, by the file of moves.
 //! - `run`: The command: its words are read, files are generated where they ask for it, the file is run, and the report is written.
 //! - `laws`, `shipped_run`: The whole call with the plugs that the program ships.
-//! - `headline`: What the sinks' files hold after a call, in three short laws.
+//! - `headline`: What the files of sinks hold after a call, as short laws.
 //! - `process`: What the words of a process come to, which is what the program answers.
 #![tactic(auto)]
 

@@ -1,4 +1,4 @@
-// A folder that keeps the text of the blueprint, and counts lines for progress.
+// A folder that keeps the text of the blueprint, and shows how many lines were read and written.
 use crate::progress::{Meter, Progress, Watch};
 use crate::wish::Wish;
 use elem_core::line::Line;
@@ -35,15 +35,18 @@ impl<S: Source, W: Watch> Source for NotedSource<S, W> {
             Ok(size) => size,
             Err(Failed) => return Err(Failed),
         };
-        if let Some(meter) = &self.meter {
-            meter.count_read(&buf[..size]);
-        }
         keep(&mut self.kept, &buf[..size]);
         Ok(size)
     }
 
     fn may_wait(&self) -> bool {
         self.source.may_wait()
+    }
+
+    fn note_lines(&mut self, lines: u64) {
+        if let Some(meter) = &self.meter {
+            meter.note_read(lines);
+        }
     }
 }
 
@@ -59,19 +62,19 @@ impl<D: Drain, W: Watch> Drain for NotedDrain<D, W> {
 
     #[inline(always)]
     fn put(&mut self, piece: &[u8]) -> Result<usize, Failed> {
-        let size = match self.drain.put(piece) {
-            Ok(size) => size,
-            Err(Failed) => return Err(Failed),
-        };
+        self.drain.put(piece)
+    }
+
+    #[inline(always)]
+    fn note_lines(&mut self, lines: u64) {
         if let Some(meter) = &mut self.meter {
-            meter.count_written(&piece[..size]);
+            meter.note_written(lines);
         }
-        Ok(size)
     }
 }
 
 /// A folder, of whose first source the bytes are kept, so that they need not be read again, and of whose other files the lines are
-/// counted if progress is wanted.
+/// shown if progress is wanted.
 #[derive(Drop)]
 pub struct NotedFolder<F, W> {
     /// The folder itself, which tells what this one tells.

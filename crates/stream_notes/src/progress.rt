@@ -11,10 +11,7 @@ use std::sync::{Arc, Mutex};
 use stream_io::outside::Drain;
 use stream_io::put::put_all;
 
-/// How many bytes are counted at once: fewer than a byte can count.
-const BLOCK: usize = 192;
-
-/// After how many writes a sink shows its count and looks at the time, at the latest. A source does both at each read.
+/// After how many writes a sink looks at the time. A source does so at each read.
 const WRITES: u32 = 64;
 
 /// The time, and a place for lines of progress.
@@ -72,27 +69,6 @@ pub(crate) struct Board<W> {
     next: u64,
     rows: Vec<Row>,
     text: Vec<u8>,
-}
-
-/// How many lines end in a block of at most 192 bytes.
-fn ends_in(block: &[u8]) -> u8 {
-    let mut count: u8 = 0;
-    for byte in block {
-        count = count.wrapping_add(u8::from(*byte == b'\n'));
-    }
-    count
-}
-
-/// How many lines end in a piece.
-fn lines_in(piece: &[u8]) -> u64 {
-    if piece.len() <= BLOCK {
-        return u64::from(ends_in(piece));
-    }
-    let mut count: u64 = 0;
-    for block in piece.chunks(BLOCK) {
-        count = count.wrapping_add(u64::from(ends_in(block)));
-    }
-    count
 }
 
 /// Appends a number in decimal.
@@ -190,23 +166,16 @@ impl<W: Watch> Board<W> {
 #[derive(Drop)]
 pub(crate) struct Progress<W> {
     board: Arc<Mutex<Board<W>>>,
-    reads: Arc<AtomicU64>,
 }
 
 // Choice: docs/DECISIONS.md#progress-is-told-by-those-who-work
-/// The lines of one open file. A sink shows its count at its first write after a read of any source, so that a slow run is told as it
-/// is, and a fast one pays for a count at few of its writes.
+/// What shows the lines of one open file. Its source or sink knows how many there are.
 #[derive(Drop)]
 pub(crate) struct Meter<W> {
     board: Arc<Mutex<Board<W>>>,
-    // How many reads all sources made.
-    reads: Arc<AtomicU64>,
-    // What is shown.
     lines: Arc<AtomicU64>,
     number: u64,
-    count: u64,
     writes: u32,
-    seen: u64,
 }
 
 impl<W: Watch> Progress<W> {
@@ -224,7 +193,6 @@ impl<W: Watch> Progress<W> {
         };
         Ok(Progress {
             board: Arc::new(alloc, Mutex::new(board))?,
-            reads: Arc::new(alloc, AtomicU64::new(0))?,
         })
     }
 
@@ -239,12 +207,9 @@ impl<W: Watch> Progress<W> {
         let lines = Arc::new(alloc, AtomicU64::new(0))?;
         let meter = Meter {
             board: Arc::try_clone(&self.board)?,
-            reads: Arc::try_clone(&self.reads)?,
             lines: Arc::try_clone(&lines)?,
             number: 0,
-            count: 0,
             writes: 0,
-            seen: 0,
         };
         let mut meter = Box::new(alloc, meter)?;
         let Some(mut open) = self.board.try_lock() else {
@@ -264,24 +229,17 @@ impl<W: Watch> Meter<W> {
         }
     }
 
-    /// Counts the lines of a piece that was read.
-    pub(crate) fn count_read(&self, piece: &[u8]) {
-        self.reads.fetch_add(1, Ordering::SeqCst);
-        self.lines.fetch_add(lines_in(piece), Ordering::SeqCst);
+    /// Shows how many lines were read.
+    pub(crate) fn note_read(&self, lines: u64) {
+        self.lines.store(lines, Ordering::Relaxed);
         self.look();
     }
 
-    /// Counts the lines of a piece that was written.
-    pub(crate) fn count_written(&mut self, piece: &[u8]) {
-        self.count = self.count.wrapping_add(lines_in(piece));
+    /// Shows how many lines were written.
+    pub(crate) fn note_written(&mut self, lines: u64) {
+        self.lines.store(lines, Ordering::Relaxed);
         self.writes = self.writes.wrapping_add(1);
-        let is_last = self.writes % WRITES == 0;
-        let reads = self.reads.load(Ordering::SeqCst);
-        if is_last || reads != self.seen {
-            self.seen = reads;
-            self.lines.store(self.count, Ordering::SeqCst);
-        }
-        if is_last {
+        if self.writes % WRITES == 0 {
             self.look();
         }
     }

@@ -3,12 +3,13 @@ ghost use Rattle.std.specs.Prelude.{◌≡◌, true, [], IsOk, ⊤};
 ghost use Rattle.port_core.specs.declared.view.OutView.TheVariants.{Unpulled};
 ghost use Rattle.nodes.specs.OnePort.{output_only};
 ghost use Rattle.nodes.specs.Entering.{EnteringFresh, EnteringPortState, EnteringLaw};
+ghost use Rattle.stage_core.specs.declared.stage.Swift.TheVariants as swift;
 
 use elem_core::elem::Elem;
 use elem_core::item::Item;
 use elem_core::why::{Cause, NoMemory};
 use port_core::acts::Acts;
-use stage_core::stage::Stage;
+use stage_core::stage::{Stage, Swift};
 use std::alloc::Global;
 use std::marker::Model;
 
@@ -93,6 +94,13 @@ impl Stage for Entering {
         ensures answers { IsOk result }
     {
         Ok(())
+    }
+
+    fn push_at_once(&mut self, _port: u8, _e: &mut Elem, _acts: &mut Acts) -> Swift
+        ensures rests { result ≡ swift.Rests }
+        ensures same { (self.new ≡ self.old) × ((_e.new ≡ _e.old) × (_acts.new ≡ _acts.old)) }
+    {
+        Swift::Rests
     }
 
     fn on_finish(&mut self, _alloc: Global, _port: u8, _acts: &mut Acts) -> Result<(), NoMemory>

@@ -1,5 +1,5 @@
 // The boundary stage at the output end of a lane.
-ghost use Rattle.std.specs.Prelude.{◌≡◌, ◌≤◌, ◌++◌, true, [], ◌∷◌, IsOk, IfSome, IfNone, length, ⊤};
+ghost use Rattle.std.specs.Prelude.{◌≡◌, ◌≤◌, ◌++◌, true, [], ◌∷◌, IsOk, IfSome, IfNone, length, false, ⊤};
 ghost use Rattle.elem_core.specs.declared.item.Item.TheVariants as item;
 ghost use Rattle.port_core.specs.declared.view.InView.TheVariants.{Idle};
 ghost use Rattle.nodes.specs.OnePort.{input_only};
@@ -146,6 +146,13 @@ impl Stage for Leaving {
         ensures answers { IsOk result }
     {
         Ok(())
+    }
+
+    fn pull_at_once(&mut self, _port: u8) -> bool
+        ensures rests { result ≡ false }
+        ensures same { self.new ≡ self.old }
+    {
+        false
     }
 
     fn on_push(
